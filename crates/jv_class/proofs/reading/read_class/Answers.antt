@@ -1,0 +1,20 @@
+use Rattle.std.proofs.Common.{arith}
+use Rattle.jv_class.specs.ClassFile.{IsClassFile}
+use Rattle.jv_class.specs.Reading.{IsBehindVersion}
+use Rattle.jv_class.proofs.Whole.{other_version, not_52_0, class_from_behind, behind_class, if_ok}
+use Rattle.jv_class.proofs.reading.read_class.Goals as goal
+
+pub returns-then-minor-ne0-clause-version : goal.returns-then-minor-ne0-clause-version
+returns-then-minor-ne0-clause-version c = λ e.
+    other_version c.args.bytes.now c.in-Some.rest.now c.in-Some.minor c.in-Some.major (λ i. omega (arith, c.type_inv.bytes i)) c.in-Some.ensures
+    (not_52_0 c.in-Some.minor c.in-Some.major c.then-minor-ne0.either)
+
+pub returns-clause-ok : goal.returns-clause-ok
+returns-clause-ok c =
+    if_ok c.class_behind.result (λ x. IsBehindVersion c.in-Some.rest.now x) (λ x. IsClassFile c.args.bytes.now x)
+    (class_from_behind c.args.bytes.now c.in-Some.rest.now c.in-Some.minor c.in-Some.major (λ i. omega (arith, c.type_inv.bytes i)) c.in-Some.ensures (c.if-minor-ne0.false, c.if-major-ne52.false))
+    c.class_behind.ensures.ok
+
+pub returns-clause-format_no_class : goal.returns-clause-format_no_class
+returns-clause-format_no_class c = λ e d h.
+    c.class_behind.ensures.format e d (behind_class c.args.bytes.now c.in-Some.rest.now c.in-Some.minor c.in-Some.major c.in-Some.ensures d h)

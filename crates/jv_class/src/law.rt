@@ -1,0 +1,8 @@
+//! The law of class files.
+
+ghost use Rattle.jv_class.specs.ClassFile.{OneStructure};
+
+/// The bytes of a file have one structure at most, and none where they begin with another version.
+pub fn one_structure()
+    ensures { OneStructure }
+{}

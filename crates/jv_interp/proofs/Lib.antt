@@ -1,0 +1,4 @@
+pub mod Stacks
+pub mod Steps
+pub mod Lines
+pub mod Accepting

@@ -1,0 +1,4 @@
+pub mod Words
+pub mod GuestState
+pub mod Acts
+pub mod Lines

@@ -1,0 +1,95 @@
+//! What an instruction does to a stack of words.
+
+ghost use Rattle.std.specs.Prelude.{◌≡◌, ◌≤◌, ◌<◌, ◌^◌, IfSome, IfNone, IsErr, Ok, length, reverse};
+ghost use Rattle.std.specs.Int.{w32, cast_signed, cast_unsigned, int_wrapping_neg};
+ghost use Rattle.jv_meaning.specs.Thin.Machine.{compute, execute, names_write};
+ghost use Rattle.jv_pool.specs.Constants.{method_reference_at};
+ghost use Rattle.jv_interp.specs.Thin.Words.{words, effect_of, taken_by};
+
+use crate::thin::stack::top_of;
+use jv_meaning::thin::{Insn, Operator};
+use jv_pool::Pool;
+
+/// What an instruction does.
+#[derive(Clone, Copy)]
+pub(crate) enum Change {
+    /// So many words at the top give way to this one.
+    Replace(usize, u32),
+    /// The word at the top is taken away.
+    Discard,
+    /// The word at the top is taken away, and its low byte written.
+    Write(u32),
+    /// The method is left.
+    Leave,
+}
+
+/// What an operator computes of two words.
+pub(crate) fn compute(operator: Operator, first: u32, second: u32) -> u32
+    ensures { cast_signed w32 result ≡ compute operator (cast_signed w32 first) (cast_signed w32 second) }
+{
+    match operator {
+        Operator::Add => first.wrapping_add(second),
+        Operator::Subtract => first.wrapping_sub(second),
+        Operator::Multiply => first.wrapping_mul(second),
+        Operator::ShiftLeft => first.wrapping_shl(second),
+        Operator::ShiftRight => first.cast_signed().wrapping_shr(second).cast_unsigned(),
+        Operator::UnsignedShiftRight => first.wrapping_shr(second),
+        Operator::And => first & second,
+        Operator::Or => first | second,
+        Operator::Xor => first ^ second,
+    }
+}
+
+/// The negative of a word.
+pub(crate) fn negate(word: u32) -> u32
+    ensures { cast_signed w32 result ≡ int_wrapping_neg w32 (cast_signed w32 word) }
+{
+    word.cast_signed().wrapping_neg().cast_unsigned()
+}
+
+/// Whether the constant of this index names the method that writes a byte.
+pub(crate) fn names_write(pool: &Pool<'_>, index: u16) -> bool
+    ensures { result ≡ names_write (method_reference_at pool.now index) }
+{
+    match pool.method_reference(index) {
+        Some(method) => {
+            method.class == b"host/Io".as_slice()
+                && method.name == b"write".as_slice()
+                && method.descriptor == b"(I)V".as_slice()
+        }
+        None => false,
+    }
+}
+
+/// What an instruction does to a stack, or `None` where it doesn't fit the stack or its constant is
+/// of another kind.
+pub(crate) fn change_of(pool: &Pool<'_>, insn: Insn, stack: &[u32]) -> Option<Change>
+    ensures some { IfSome result (λ c. execute pool.now insn (words stack.now) ≡ Ok (effect_of (words stack.now) c)) }
+    ensures taken { IfSome result (λ c. taken_by c ≤ length stack.now) }
+    ensures none { IfNone result (IsErr (execute pool.now insn (words stack.now))) }
+{
+    match insn {
+        Insn::Constant(value) => Some(Change::Replace(0, value.cast_unsigned())),
+        Insn::Pop => {
+            let (_top, _below) = top_of(stack)?;
+            Some(Change::Discard)
+        }
+        Insn::Negate => {
+            let (top, _below) = top_of(stack)?;
+            Some(Change::Replace(1, negate(top)))
+        }
+        Insn::Binary(operator) => {
+            let (second, below) = top_of(stack)?;
+            let (first, _below) = top_of(below)?;
+            Some(Change::Replace(2, compute(operator, first, second)))
+        }
+        Insn::Invokestatic(index) => {
+            if !names_write(pool, index) {
+                return None;
+            }
+            let (top, _below) = top_of(stack)?;
+            Some(Change::Write(top))
+        }
+        Insn::Return => Some(Change::Leave),
+    }
+}

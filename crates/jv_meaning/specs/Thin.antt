@@ -1,0 +1,4 @@
+pub mod Instructions
+pub mod Machine
+pub mod Accepted
+pub mod Alone

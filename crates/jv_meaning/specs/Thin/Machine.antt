@@ -1,0 +1,216 @@
+-- The thin machine: a class is initialized, and then its main method runs (2.6, 2.11, 5.5).
+-- It is defensive: before it takes a word it looks at the word's tag, and what doesn't fit is a fault.
+use Rattle.std.specs.Prelude.{ℕ, zero, suc, ◌+◌, ◌-◌, ◌*◌, ◌/◌, ◌%◌, ◌^◌, min, ℤ, Bool, true, false, ◌&&◌, not, nat_le, ◌==◌, if◌then◌else◌, List, [], ◌∷◌, ◌++◌, length, drop, replicate, Option, Some, None, Result, Ok, Err, bit_and, codes}
+use Rattle.std.specs.Int.{w32, cast_signed, cast_unsigned, int_wrapping_add, int_wrapping_sub, int_wrapping_mul, int_wrapping_neg, int_shl, int_shr, int_bit_and, int_bit_or, int_bit_xor}
+use Rattle.std.specs.Str.{bytes_eq}
+use Rattle.jv_pool.specs.Constants.{Entry, utf8_at, MemberReference, method_reference_at}
+use Rattle.jv_class.specs.Structure.{ClassStructure, MethodInfo, MethodAttribute, CodeAttribute}
+use Rattle.jv_class.specs.Structure.MethodAttribute.{Code, Other}
+use Rattle.jv_class.specs.ClassFile.{class_name}
+use Rattle.jv_meaning.specs.declared.observation.End.{End}
+use Rattle.jv_meaning.specs.declared.observation.End.TheVariants as ends
+use Rattle.jv_meaning.specs.declared.thin.insn.Insn.{Insn}
+use Rattle.jv_meaning.specs.declared.thin.insn.Insn.TheVariants as insns
+use Rattle.jv_meaning.specs.declared.thin.insn.Operator.{Operator}
+use Rattle.jv_meaning.specs.declared.thin.insn.Operator.TheVariants as operators
+use Rattle.jv_meaning.specs.Thin.Instructions.{first_insn}
+
+-- ---- values, frames and states (2.3, 2.4, 2.6)
+
+-- a word of a frame: an int, a reference to the object with a number, or nothing yet
+pub data Word : Type 0 where
+  Int : (value : ℤ) → Word
+  Reference : (object : ℕ) → Word
+  Unset : Word
+
+-- what a guest is at: initializing its main class, running its main method, or over, since that returned, an object of a
+-- class was thrown or there was nothing to run
+pub data Activity : Type 0 where
+  Initialization : Activity
+  Method : (offset : ℕ) → (locals stack : List Word) → Activity
+  Returned : Activity
+  Threw : (class : List ℕ) → Activity
+  NoMain : Activity
+
+-- Cells and words are not counted here: the objects of the start take 4 cells and a frame of an accepted class at most
+-- 36 words, and every budget has 64 of each.
+pub record State : Type 0 where
+  pub activity : Activity
+  pub output : List ℕ
+  pub output_left : ℕ
+  pub throws : ℕ
+  pub last : Option (List ℕ)
+
+-- what a defensive machine refuses: no instruction starts here or its constant is of another kind, the stack is too
+-- low or too high, a word has another tag than the instruction takes
+pub data Fault : Type 0 where
+  Offset : Fault
+  Stack : Fault
+  Tag : Fault
+
+infixl 10 ◌>>=◌
+abbrev pub ◌>>=◌ : {A B : Type 0} → Result A Fault → (A → Result B Fault) → Result B Fault
+(Ok x) >>= f = f x
+(Err e) >>= f = Err e
+
+-- ---- what runs
+
+-- the code of a main method, and the constants that it names
+pub record Program : Type 0 where
+  pub constant_pool : List Entry
+  pub code : CodeAttribute
+
+abbrev pub is_named : List ℕ → Option (List ℕ) → Bool
+is_named name None = false
+is_named name (Some text) = bytes_eq text name
+
+-- a `public static` method `main` that takes an array of String and gives nothing (4.6)
+abbrev pub is_main : List Entry → MethodInfo → Bool
+is_main pool m =
+    not (bit_and m.access_flags 1 == 0) && not (bit_and m.access_flags 8 == 0)
+    && is_named (codes "main") (utf8_at pool m.name_index)
+    && is_named (codes "([Ljava/lang/String;)V") (utf8_at pool m.descriptor_index)
+
+abbrev pub code_in : List MethodAttribute → Option CodeAttribute
+code_in [] = None
+code_in (Code name code ∷ attributes) = Some code
+code_in (Other attribute ∷ attributes) = code_in attributes
+
+-- the code of the first method that is the main method
+abbrev pub main_code : List Entry → List MethodInfo → Option CodeAttribute
+main_code pool [] = None
+main_code pool (m ∷ methods) = if is_main pool m then code_in m.attributes else main_code pool methods
+
+abbrev pub program_with : List Entry → Option CodeAttribute → Option Program
+program_with pool None = None
+program_with pool (Some code) = Some (record { constant_pool = pool; code = code })
+
+-- what runs for the name of a main class: nothing, where the loaded class has another name or declares no main method
+abbrev pub program_of : List ℕ → Option ClassStructure → Option Program
+program_of main None = None
+program_of main (Some c) =
+    if is_named main (class_name c) then program_with c.constant_pool (main_code c.constant_pool c.methods) else None
+
+-- ---- instructions (6.5)
+
+-- the result of two ints; a shift counts by the low five bits of the second
+abbrev pub compute : Operator → ℤ → ℤ → ℤ
+compute operators.Add a b = int_wrapping_add w32 a b
+compute operators.Subtract a b = int_wrapping_sub w32 a b
+compute operators.Multiply a b = int_wrapping_mul w32 a b
+compute operators.ShiftLeft a b = int_shl w32 a (cast_unsigned w32 b % 32)
+compute operators.ShiftRight a b = int_shr a (cast_unsigned w32 b % 32)
+compute operators.UnsignedShiftRight a b = cast_signed w32 (cast_unsigned w32 a / 2 ^ (cast_unsigned w32 b % 32))
+compute operators.And a b = int_bit_and w32 a b
+compute operators.Or a b = int_bit_or w32 a b
+compute operators.Xor a b = int_bit_xor w32 a b
+
+-- the method `static void write(int)` of `host/Io`, which is built in
+abbrev pub names_write : Option MemberReference → Bool
+names_write None = false
+names_write (Some m) = bytes_eq m.class (codes "host/Io") && bytes_eq m.name (codes "write") && bytes_eq m.descriptor (codes "(I)V")
+
+-- what an instruction does: it goes on with a stack, it writes the low byte of an int first, or it leaves the method
+pub data Effect : Type 0 where
+  Goes : (stack : List Word) → Effect
+  Writes : (value : ℤ) → (stack : List Word) → Effect
+  Leaves : Effect
+
+abbrev pub pop : List Word → Result (Word × List Word) Fault
+pop [] = Err Stack
+pop (word ∷ stack) = Ok (word, stack)
+
+abbrev pub pop_int : List Word → Result (ℤ × List Word) Fault
+pop_int [] = Err Stack
+pop_int (Int value ∷ stack) = Ok (value, stack)
+pop_int (Reference object ∷ stack) = Err Tag
+pop_int (Unset ∷ stack) = Err Tag
+
+-- an instruction on a stack, whose top stands first
+abbrev pub execute : List Entry → Insn → List Word → Result Effect Fault
+execute pool (insns.Constant value) stack = Ok (Goes (Int value ∷ stack))
+execute pool insns.Pop stack = pop stack >>= λ a. Ok (Goes a.1)
+execute pool insns.Negate stack = pop_int stack >>= λ a. Ok (Goes (Int (int_wrapping_neg w32 a.0) ∷ a.1))
+execute pool (insns.Binary operator) stack =
+    pop_int stack >>= λ b. pop_int b.1 >>= λ a. Ok (Goes (Int (compute operator a.0 b.0) ∷ a.1))
+execute pool (insns.Invokestatic index) stack =
+    if names_write (method_reference_at pool index) then (pop_int stack >>= λ a. Ok (Writes a.0 a.1)) else Err Offset
+execute pool insns.Return stack = Ok Leaves
+
+-- ---- steps
+
+-- the locals of main: the array of its arguments, which is object 1, and nothing yet in the others
+abbrev pub main_locals : CodeAttribute → List Word
+main_locals code = Reference 1 ∷ replicate (code.max_locals - 1) Unset
+
+abbrev pub out_of_memory : List ℕ
+out_of_memory = codes "java/lang/OutOfMemoryError"
+
+-- an object of a class is thrown: nothing catches it, and the guest is over. The number of throws stays at 2^64 - 1.
+abbrev pub thrown : List ℕ → State → State
+thrown name s = record s { activity = Threw name; throws = min (s.throws + 1) (2 ^ 64 - 1); last = Some name }
+
+-- a byte is written, where the budget has room for it; else the OutOfMemoryError of the start is thrown
+abbrev pub written : ℤ → Activity → State → State
+written value next s =
+    if s.output_left == 0 then thrown out_of_memory s
+    else record s { activity = next; output = s.output ++ (cast_unsigned w32 value % 256) ∷ []; output_left = s.output_left - 1 }
+
+-- the stack stays within max_stack
+abbrev pub test_stack : CodeAttribute → List Word → Result (List Word) Fault
+test_stack code stack = if nat_le (length stack) code.max_stack then Ok stack else Err Stack
+
+-- what an instruction's effect makes of the state, where the next one has an offset
+abbrev pub act : CodeAttribute → ℕ → List Word → State → Effect → Result State Fault
+act code next locals s (Goes stack) = test_stack code stack >>= λ stack. Ok (record s { activity = Method next locals stack })
+act code next locals s (Writes value stack) = Ok (written value (Method next locals stack) s)
+act code next locals s Leaves = Ok (record s { activity = Returned })
+
+-- the instruction at an offset
+abbrev pub fetched : Option (Insn × ℕ) → Result (Insn × ℕ) Fault
+fetched None = Err Offset
+fetched (Some insn) = Ok insn
+
+abbrev pub fetch : CodeAttribute → ℕ → Result (Insn × ℕ) Fault
+fetch code offset = fetched (first_insn (drop offset code.code))
+
+-- One step: the end of the initialization, which has no task, enters main; or one instruction. What is over stays.
+abbrev pub step_at : Program → State → Activity → Result State Fault
+step_at p s Initialization = Ok (record s { activity = Method 0 (main_locals p.code) [] })
+step_at p s (Method offset locals stack) =
+    fetch p.code offset >>= λ i. execute p.constant_pool i.0 stack >>= λ effect. act p.code (offset + i.1) locals s effect
+step_at p s Returned = Ok s
+step_at p s (Threw class) = Ok s
+step_at p s NoMain = Ok s
+
+abbrev pub step : Program → State → Result State Fault
+step p s = step_at p s s.activity
+
+-- ---- runs
+
+-- nothing written and nothing thrown, with this much output allowed
+abbrev pub begun : Activity → ℕ → State
+begun activity output = record { activity = activity; output = []; output_left = output; throws = 0; last = None }
+
+-- the start: the initialization of the main class, or the end where there is nothing to run
+abbrev pub start : Option Program → ℕ → State
+start None output = begun NoMain output
+start (Some p) output = begun Initialization output
+
+-- a step of what runs; nothing goes on where nothing runs
+abbrev pub next : Option Program → State → Result State Fault
+next None s = Ok s
+next (Some p) s = step p s
+
+-- the state after so many steps from the start
+abbrev pub after : Option Program → ℕ → ℕ → Result State Fault
+after p output zero = Ok (start p output)
+after p output (suc n) = after p output n >>= next p
+
+-- how a guest ended, if it did
+abbrev pub end_of : Activity → End (List ℕ)
+end_of Initialization = ends.Running
+end_of (Method offset locals stack) = ends.Running
+end_of Returned = ends.Returned
+end_of (Threw class) = ends.Threw class
+end_of NoMain = ends.NoMain

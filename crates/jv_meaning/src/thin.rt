@@ -1,0 +1,6 @@
+//! The machine of a class with one static method in a straight line.
+
+pub mod insn;
+pub mod law;
+
+pub use insn::{Insn, Operator};

@@ -1,0 +1,3 @@
+pub mod Constants
+pub mod Rules
+pub mod Reading

@@ -1,0 +1,96 @@
+-- Which lists of constants are pools (JVMS 4.4).
+use Rattle.std.specs.Prelude.{◌≡◌, ◌⊎◌, ℕ, ◌+◌, ◌<◌, Bool, true, false, ◌&&◌, ◌==◌, List, [], ◌∷◌, ◌++◌, length, Option, is_none, IsSome, IsTrue, codes, if◌then◌else◌}
+use Rattle.std.specs.List.{All, list_all}
+use Rattle.std.specs.Option.{IsSomeAnd}
+use Rattle.std.specs.Str.{bytes_eq}
+use Rattle.jv_text.specs.declared.descriptor.FieldTypeOf.{FieldTypeOf}
+use Rattle.jv_text.specs.Text.{IsText}
+use Rattle.jv_text.specs.Name.{is_unqualified_name, is_class_name, is_method_name}
+use Rattle.jv_text.specs.Descriptor.{IsField, MethodDescriptor, IsMethod}
+use Rattle.jv_pool.specs.declared.constant.Constant.TheVariants.{Utf8, Class, Methodref, NameAndType}
+use Rattle.jv_pool.specs.Constants.{Entry, NameAndDescriptor, constant_fits, pool_bytes, utf8_at, class_name_at, name_and_type_at}
+
+-- ---- texts
+
+abbrev pub begins_with : ℕ → List ℕ → Bool
+begins_with byte [] = false
+begins_with byte (first ∷ rest) = first == byte
+
+-- the descriptor of an array type begins with `[` (91), and no class name does (4.3.2)
+abbrev pub is_array_name : List ℕ → Bool
+is_array_name text = begins_with 91 text
+
+-- `<init>` (2.9)
+abbrev pub is_init : List ℕ → Bool
+is_init name = bytes_eq name (codes "<init>")
+
+abbrev pub IsFieldDescriptor : List ℕ → Type 0
+IsFieldDescriptor text = (type : FieldTypeOf (List ℕ)) × IsField text type
+
+abbrev pub IsMethodDescriptor : List ℕ → Type 0
+IsMethodDescriptor text = (type : MethodDescriptor) × IsMethod text type
+
+-- ---- the rules
+
+-- what a Class constant names: a class, or an array type by its descriptor (4.4.1)
+pub record IsArrayDescriptor (text : List ℕ) : Type 0 where
+  pub array : IsTrue (is_array_name text)
+  pub described : IsFieldDescriptor text
+
+abbrev pub NamesClass : List ℕ → Type 0
+NamesClass text = IsTrue (is_class_name text) ⊎ IsArrayDescriptor text
+
+-- what a NameAndType constant names: an unqualified name, and the descriptor of a field or a method (4.4.6)
+abbrev pub IsUnqualified : List ℕ → Type 0
+IsUnqualified text = IsTrue (is_unqualified_name text)
+
+abbrev pub IsDescriptor : List ℕ → Type 0
+IsDescriptor text = IsFieldDescriptor text ⊎ IsMethodDescriptor text
+
+-- a name that begins with `<` (60) is `<init>`, whose result is void (4.4.2)
+abbrev pub special_name_right : List ℕ → Option (FieldTypeOf (List ℕ)) → Bool
+special_name_right name result = if begins_with 60 name then is_init name && is_none result else true
+
+-- what a Methodref constant names beside its class: a method name, and the descriptor of a method (4.4.2)
+pub record IsMethodMember (name descriptor : List ℕ) : Type 0 where
+  pub named : IsTrue (is_method_name name)
+  pub type : MethodDescriptor
+  pub described : IsMethod descriptor type
+  pub special : IsTrue (special_name_right name type.result)
+
+abbrev pub NamesMethod : NameAndDescriptor → Type 0
+NamesMethod member = IsMethodMember member.name member.descriptor
+
+-- a Class constant's index names a Utf8 constant (4.4.1)
+abbrev pub IsClassIn : List Entry → ℕ → Type 0
+IsClassIn pool name = IsSomeAnd (utf8_at pool name) NamesClass
+
+-- a Methodref constant's indices name a Class and a NameAndType constant (4.4.2)
+pub record IsMethodrefIn (pool : List Entry) (class name_and_type : ℕ) : Type 0 where
+  pub owner : IsSome (class_name_at pool class)
+  pub member : IsSomeAnd (name_and_type_at pool name_and_type) NamesMethod
+
+-- a NameAndType constant's indices name Utf8 constants (4.4.6)
+pub record IsNameAndTypeIn (pool : List Entry) (name descriptor : ℕ) : Type 0 where
+  pub named : IsSomeAnd (utf8_at pool name) IsUnqualified
+  pub described : IsSomeAnd (utf8_at pool descriptor) IsDescriptor
+
+-- a constant keeps the rules of its kind: a Utf8 constant is text (4.4.7), and so on
+abbrev pub KeepsRules : List Entry → Entry → Type 0
+KeepsRules pool (Utf8 text) = IsText text
+KeepsRules pool (Class name) = IsClassIn pool name
+KeepsRules pool (Methodref class name_and_type) = IsMethodrefIn pool class name_and_type
+KeepsRules pool (NameAndType name descriptor) = IsNameAndTypeIn pool name descriptor
+
+-- ---- pools
+
+-- the bytes are the pool's, its count and numbers fit their fields, and each constant keeps its rules
+pub record IsPool (bytes : List ℕ) (pool : List Entry) : Type 0 where
+  pub spelled : bytes ≡ pool_bytes pool
+  pub few : length pool + 1 < 65536
+  pub fit : IsTrue (list_all constant_fits pool)
+  pub rules : All (KeepsRules pool) pool
+
+-- A law: bytes begin with one pool at most, and so are cut there in one way.
+abbrev pub OnePool : Type 0
+OnePool = (front other rest after : List ℕ) (p q : List Entry) → front ++ rest ≡ other ++ after → IsPool front p → IsPool other q → (p ≡ q) × (front ≡ other) × (rest ≡ after)

@@ -1,0 +1,30 @@
+-- What values of the code stand for in the definitions on descriptors (JVMS 4.3): the same types, with
+-- lists of bytes in place of slices.
+use Rattle.std.specs.Prelude.{◌≡◌, ℕ, List, map, Option, Some, None}
+use Rattle.std.specs.Borrow.{Bor}
+use Rattle.jv_text.specs.declared.descriptor.Element.{Element}
+use Rattle.jv_text.specs.declared.descriptor.Element.TheVariants as elements
+use Rattle.jv_text.specs.declared.descriptor.FieldTypeOf.{FieldTypeOf}
+use Rattle.jv_text.specs.declared.descriptor.MethodType.{MethodType}
+use Rattle.jv_text.specs.Descriptor.{MethodDescriptor, slots, IsMethod}
+
+abbrev pub seen_element : Element (Bor (List ℕ)) → Element (List ℕ)
+seen_element (elements.Base base) = elements.Base base
+seen_element (elements.Class name) = elements.Class name.now
+
+abbrev pub seen_field : FieldTypeOf (Bor (List ℕ)) → FieldTypeOf (List ℕ)
+seen_field t = record { dimensions = t.dimensions; element = seen_element t.element }
+
+abbrev pub seen_result : Option (FieldTypeOf (Bor (List ℕ))) → Option (FieldTypeOf (List ℕ))
+seen_result None = None
+seen_result (Some t) = Some (seen_field t)
+
+abbrev pub seen_method : MethodType → MethodDescriptor
+seen_method m = record { parameters = map seen_field m.parameters.items; result = seen_result m.result }
+
+-- The text is the descriptor of a method type with these slots and this result.
+pub record HasShape (text : List ℕ) (count : ℕ) (result : Option (FieldTypeOf (List ℕ))) : Type 0 where
+  pub method : MethodDescriptor
+  pub described : IsMethod text method
+  pub counted : count ≡ slots method
+  pub given : result ≡ method.result

@@ -1,0 +1,76 @@
+//! The types that descriptors describe (JVMS 4.3).
+
+ghost use Rattle.std.specs.Prelude.{◌≡◌};
+
+use std::alloc::AllocFailed;
+
+/// A primitive type.
+#[derive(Clone, Copy, PartialEq, Eq)]
+pub enum Base {
+    Byte,
+    Char,
+    Double,
+    Float,
+    Int,
+    Long,
+    Short,
+    Boolean,
+}
+
+/// A type that is no array. `T` is a class's name: its bytes in the code, their list in
+/// definitions.
+#[derive(Clone, Copy)]
+pub enum Element<T> {
+    Base(Base),
+    Class(T),
+}
+
+/// The type of a field, a parameter or a result: an array of so many dimensions, or its element
+/// itself where there are none.
+#[derive(Clone, Copy)]
+pub struct FieldTypeOf<T> {
+    pub dimensions: u8,
+    pub element: Element<T>,
+}
+
+/// A type whose class name is a part of the descriptor that it was read from.
+pub type FieldType<'a> = FieldTypeOf<&'a [u8]>;
+
+/// The parameters of a method without its receiver, and its result, `None` for void.
+#[derive(Drop)]
+pub struct MethodType<'a> {
+    pub parameters: Vec<FieldType<'a>>,
+    pub result: Option<FieldType<'a>>,
+}
+
+/// What a method's descriptor comes to without a list of its parameters: the local variables that
+/// they fill (1 each, 2 for a long and a double; the receiver is not counted), and its result,
+/// `None` for void.
+#[derive(Clone, Copy)]
+pub struct MethodShape<'a> {
+    pub slots: u8,
+    pub result: Option<FieldType<'a>>,
+}
+
+/// The bytes are no descriptor of the kind that was asked for.
+#[derive(Clone, Copy, Debug)]
+pub struct BadDescriptor;
+
+/// Why there is no method type.
+#[derive(Clone, Copy, Debug)]
+pub enum DescFault {
+    /// The bytes are no method descriptor.
+    BadDescriptor,
+    /// No memory was left for the parameters.
+    Memory,
+}
+
+impl<T: Drop> From<AllocFailed<T>> for DescFault {
+    ghost use Rattle.jv_text.specs.declared.descriptor.DescFault.TheVariants.{Memory};
+
+    ghost from_gives = { λ _ e. e ≡ Memory };
+
+    fn from(_e: AllocFailed<T>) -> DescFault {
+        DescFault::Memory
+    }
+}

@@ -1,0 +1,83 @@
+//! Modified UTF-8 (JVMS 4.4.7).
+
+ghost use Rattle.std.specs.Prelude.{◌≡◌, ◌≢◌, ◌<◌, ◌^◌, ◌++◌, ◌↔◌, ℕ, List, IfSome, IfNone, IfOk, IsTrue, Err};
+ghost use Rattle.jv_text.specs.Text.{unit_bytes, Spells, IsText};
+ghost use Rattle.jv_text.specs.declared.text.TextFault.TheVariants.{Memory, BadText};
+
+use std::alloc::{AllocFailed, Global};
+
+/// Why there are no units.
+#[derive(Clone, Copy, Debug)]
+pub enum TextFault {
+    /// The bytes spell no units.
+    BadText,
+    /// No memory was left for the units.
+    Memory,
+}
+
+impl<T: Drop> From<AllocFailed<T>> for TextFault {
+    ghost from_gives = { λ _ e. e ≡ Memory };
+
+    fn from(_e: AllocFailed<T>) -> TextFault {
+        TextFault::Memory
+    }
+}
+
+/// Reads the unit at the front, in its shortest form alone, and gives what follows it.
+fn unit_at(bytes: &[u8]) -> Option<(u16, &[u8])>
+    ensures fits { IfSome result (λ x. x.0 < 2 ^ 16) }
+    ensures found { IfSome result (λ x. bytes.now ≡ unit_bytes x.0 ++ x.1.now) }
+    ensures none { IfNone result ((unit : ℕ) (rest : List ℕ) → unit < 2 ^ 16 → bytes.now ≢ unit_bytes unit ++ rest) }
+{
+    match bytes {
+        [a, rest @ ..] if 0 < *a && *a < 128 => Some((u16::from(*a), rest)),
+        [a, b, rest @ ..] if 192 <= *a && *a < 224 && 128 <= *b && *b < 192 => {
+            let unit = u16::from(*a - 192) * 64 + u16::from(*b - 128);
+            if 0 < unit && unit < 128 {
+                return None;
+            }
+            Some((unit, rest))
+        }
+        [a, b, c, rest @ ..]
+            if 224 <= *a && *a < 240 && 128 <= *b && *b < 192 && 128 <= *c && *c < 192 => {
+            let unit = u16::from(*a - 224) * 4096 + u16::from(*b - 128) * 64 + u16::from(*c - 128);
+            if unit < 2048 {
+                return None;
+            }
+            Some((unit, rest))
+        }
+        _ => None,
+    }
+}
+
+/// The UTF-16 units that the bytes spell. `BadText` where they spell none, also where a unit is
+/// not in its shortest form; lone surrogates are units like others.
+pub fn decode(alloc: Global, bytes: &[u8]) -> Result<Vec<u16>, TextFault>
+    ensures ok { IfOk result (λ units. Spells units.items bytes.now) }
+    ensures bad { result ≡ Err BadText → IsText bytes.now → ⊥ }
+{
+    let mut units = Vec::new(alloc);
+    let mut rest = bytes;
+    while !rest.is_empty() {
+        let Some((unit, after)) = unit_at(rest) else {
+            return Err(TextFault::BadText);
+        };
+        units.push(unit)?;
+        rest = after;
+    }
+    Ok(units)
+}
+
+/// Whether the bytes are modified UTF-8.
+pub fn is_text(bytes: &[u8]) -> bool
+    ensures { IsTrue result ↔ IsText bytes.now }
+{
+    let mut rest = bytes;
+    while !rest.is_empty() {
+        let Some((_unit, after)) = unit_at(rest) else {
+            return false;
+        };
+        rest = after;
+    }
+    true
+}

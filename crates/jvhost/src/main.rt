@@ -1,0 +1,6 @@
+//! Runs a guest's class files.
+#![tactic(auto)]
+
+pub mod thin;
+
+fn main() {}
