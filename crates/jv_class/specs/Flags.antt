@@ -50,7 +50,7 @@ acc_enum = 16384
 abbrev pub has : ℕ → ℕ → Bool
 has flags mask = not (bit_and flags mask == 0)
 
--- an interface is abstract, and not final, super or an enum; no class is final and abstract, and only an interface is an annotation (4.1)
+-- an interface is abstract, and not final, super or an enum; no other class is final and abstract, or an annotation (4.1)
 abbrev pub class_flags_right : ℕ → Bool
 class_flags_right flags =
     if has flags acc_interface then has flags acc_abstract && not (has flags (acc_final + acc_super + acc_enum))
@@ -63,17 +63,21 @@ visibility flags = bit_and flags (acc_public + acc_private + acc_protected)
 -- at most one of them is set (4.6)
 abbrev pub visibility_right : ℕ → Bool
 visibility_right flags =
-    visibility flags == 0 || visibility flags == acc_public || visibility flags == acc_private || visibility flags == acc_protected
+    visibility flags == 0 || visibility flags == acc_public
+    || visibility flags == acc_private || visibility flags == acc_protected
 
 -- an abstract method is not private, static, final, synchronized, native or strict (4.6)
 abbrev pub abstract_right : ℕ → Bool
 abstract_right flags =
-    if has flags acc_abstract then not (has flags (acc_private + acc_static + acc_final + acc_synchronized + acc_native + acc_strict)) else true
+    if has flags acc_abstract
+    then not (has flags (acc_private + acc_static + acc_final + acc_synchronized + acc_native + acc_strict))
+    else true
 
 -- a method of an interface is public or private, and not final, synchronized or native (4.6)
 abbrev pub interface_method_right : ℕ → Bool
 interface_method_right flags =
-    (visibility flags == acc_public || visibility flags == acc_private) && not (has flags (acc_final + acc_synchronized + acc_native))
+    (visibility flags == acc_public || visibility flags == acc_private)
+    && not (has flags (acc_final + acc_synchronized + acc_native))
 
 -- `<init>` has at most a visibility, varargs, strict and synthetic (4.6)
 abbrev pub init_flags_right : ℕ → Bool

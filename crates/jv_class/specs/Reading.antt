@@ -80,7 +80,16 @@ abbrev pub code_of : CodeBody → CodeAttribute
 code_of c = record { max_stack = c.0.0; max_locals = c.0.1; code = c.1.0; exception_table = []; attributes = [] }
 
 abbrev pub method_of : MethodBody → MethodInfo
-method_of m = record { access_flags = m.0.0; name_index = m.0.1.0; descriptor_index = m.0.1.1; attributes = Code m.1.1.0 (code_of m.1.1.1) ∷ [] }
+method_of m = record {
+  access_flags = m.0.0;
+  name_index = m.0.1.0;
+  descriptor_index = m.0.1.1;
+  attributes = Code m.1.1.0 (code_of m.1.1.1) ∷ [];
+}
+
+-- the structure of a method that was read
+abbrev pub info_of : MethodParts → MethodInfo
+info_of m = method_of (seen_method m)
 
 abbrev pub structure_of : List Entry → ClassBody → ClassStructure
 structure_of pool c = record {

@@ -33,10 +33,14 @@ method_attribute_fits (Code name code) = half.fits name && quad.fits (length (co
 method_attribute_fits (Other attribute) = attribute_fits attribute
 
 abbrev pub field_fits : FieldInfo → Bool
-field_fits f = half.fits f.access_flags && half.fits f.name_index && half.fits f.descriptor_index && table_fits attribute_fits f.attributes
+field_fits f =
+    half.fits f.access_flags && half.fits f.name_index && half.fits f.descriptor_index
+    && table_fits attribute_fits f.attributes
 
 abbrev pub method_fits : MethodInfo → Bool
-method_fits m = half.fits m.access_flags && half.fits m.name_index && half.fits m.descriptor_index && table_fits method_attribute_fits m.attributes
+method_fits m =
+    half.fits m.access_flags && half.fits m.name_index && half.fits m.descriptor_index
+    && table_fits method_attribute_fits m.attributes
 
 -- those behind the constant pool
 abbrev pub class_fits : ClassStructure → Bool

@@ -4,7 +4,7 @@ ghost use Rattle.std.specs.Prelude.{◌≡◌, ◌↔◌, ℕ, List, IsTrue, IfS
 ghost use Rattle.std.specs.List.{list_all};
 ghost use Rattle.jv_text.specs.Seen.{seen_result};
 ghost use Rattle.jv_pool.specs.Constants.{utf8_at};
-ghost use Rattle.jv_class.specs.Reading.{seen_method, method_of};
+ghost use Rattle.jv_class.specs.Reading.{info_of};
 ghost use Rattle.jv_class.specs.Rules.{some_and, is_code_name, interface_flags_right, named_flags_right, method_flags_right, init_right, clinit_right, slots_right, is_bodiless, code_length_right, attribute_right, IsMethodRight, HasTexts, IsMethodWith, KeepsMethodRules};
 
 use crate::flags::{
@@ -123,14 +123,14 @@ fn is_code_length(code: &[u8]) -> bool
 
 /// Whether the code may stand there, behind the index of its name.
 fn is_right_code(pool: &Pool<'_>, method: MethodParts<'_>) -> bool
-    ensures { result ≡ list_all (attribute_right pool.now) (method_of (seen_method method.entry)).attributes }
+    ensures { result ≡ list_all (attribute_right pool.now) (info_of method.entry).attributes }
 {
     names_code(pool, method.code_name_index) && is_code_length(method.code)
 }
 
 fn texts_of<'a>(pool: &Pool<'a>, method: MethodParts<'_>) -> Option<MethodTexts<'a>>
-    ensures found { IfSome result (λ t. HasTexts pool.now (method_of (seen_method method.entry)) t.name.now t.descriptor.now) }
-    ensures none { IfNone result ((name descriptor : List ℕ) → HasTexts pool.now (method_of (seen_method method.entry)) name descriptor → ⊥) }
+    ensures found { IfSome result (λ t. HasTexts pool.now (info_of method.entry) t.name.now t.descriptor.now) }
+    ensures none { IfNone result ((name descriptor : List ℕ) → HasTexts pool.now (info_of method.entry) name descriptor → ⊥) }
 {
     let name = pool.utf8(method.name_index)?;
     let descriptor = pool.utf8(method.descriptor_index)?;
@@ -143,7 +143,8 @@ fn keeps_rules(
     method: MethodParts<'_>,
     texts: MethodTexts<'_>,
 ) -> bool
-    ensures { IsTrue result ↔ IsMethodWith pool.now class_flags (method_of (seen_method method.entry)) texts.entry.name.now texts.entry.descriptor.now }
+    ensures { IsTrue result
+        ↔ IsMethodWith pool.now class_flags (info_of method.entry) texts.entry.name.now texts.entry.descriptor.now }
 {
     is_right_method(class_flags, method.access_flags, texts)
         && !is_bodiless(texts.name, method.access_flags)
@@ -156,9 +157,9 @@ pub(crate) fn right_method<'a>(
     class_flags: u16,
     method: MethodParts<'_>,
 ) -> Option<MethodTexts<'a>>
-    ensures found { IfSome result (λ t. HasTexts pool.now (method_of (seen_method method.entry)) t.name.now t.descriptor.now) }
-    ensures right { IfSome result (λ t. KeepsMethodRules pool.now class_flags (method_of (seen_method method.entry))) }
-    ensures none { IfNone result (KeepsMethodRules pool.now class_flags (method_of (seen_method method.entry)) → ⊥) }
+    ensures found { IfSome result (λ t. HasTexts pool.now (info_of method.entry) t.name.now t.descriptor.now) }
+    ensures right { IfSome result (λ t. KeepsMethodRules pool.now class_flags (info_of method.entry)) }
+    ensures none { IfNone result (KeepsMethodRules pool.now class_flags (info_of method.entry) → ⊥) }
 {
     let texts = texts_of(pool, method)?;
     if keeps_rules(pool, class_flags, method, texts) {

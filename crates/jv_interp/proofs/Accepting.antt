@@ -16,7 +16,7 @@ module _ (c : ClassStructure) (m : Method) (is : c.methods ≡ method_info m ∷
       → (1 ≤ m.max_locals) × (m.max_locals + m.max_stack ≤ 32) → HasLine c.constant_pool m.max_stack 0 m.code.now → IsAccepted c
   accepted name named described free flags descriptor small line =
       let like : IsMainLike c.constant_pool (method_info m) =
-          record { static = flags.0; unlocked = flags.1; descriptor = described ∙ ap (λ (t : List ℕ). Some t) descriptor } in
+      record { static = flags.0; unlocked = flags.1; descriptor = described ∙ ap (λ (t : List ℕ). Some t) descriptor } in
       let short : IsShortLine c.constant_pool (code_attribute m) = record { arguments = small.0; small = small.1; line = line } in
       record { name = (name, named, free); method = (method_info m, is, like, (code_attribute m, refl, short)) }
 

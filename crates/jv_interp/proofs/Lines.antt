@@ -1,5 +1,5 @@
 -- A line from an instruction on, and behind it.
-use Rattle.std.proofs.Common.{◌≡◌, ℕ, ◌+◌, ◌-◌, ◌≤◌, List, [], ◌∷◌, length, drop, Option, Some, None, refl, sym, ap, subst, ◌∙◌}
+use Rattle.std.proofs.Common.{◌≡◌, ℕ, ◌+◌, ◌-◌, List, [], ◌∷◌, length, drop, Option, Some, None, sym, ap, subst, ◌∙◌}
 use Rattle.std.specs.Prelude.{unwrap_or}
 use Rattle.jv_pool.specs.Constants.{Entry}
 use Rattle.jv_meaning.specs.declared.thin.insn.Insn.{Insn}
@@ -26,9 +26,10 @@ module _ (pool : List Entry) (max_stack depth : ℕ) (bytes : List ℕ) where
       let same = same_insn j i line.0 size (first_insn bytes) line.1 e in
       let keeps : KeepsTo pool max_stack depth j = record { in_line = line.2; low = line.3; high = line.4 } in
       let rest : IsLine pool max_stack (depth - takes j + gives j) (drop size bytes) insns =
-          subst (λ (n : ℕ). IsLine pool max_stack (depth - takes j + gives j) (drop n bytes) insns) same.1 line.5 in
-      (subst (λ (k : Insn). KeepsTo pool max_stack depth k) same.0 keeps,
-       subst (λ (k : Insn). HasLine pool max_stack (depth - takes k + gives k) (drop size bytes)) same.0 (insns, rest))
+      subst (λ (n : ℕ). IsLine pool max_stack (depth - takes j + gives j) (drop n bytes) insns) same.1 line.5 in (
+        subst (λ (k : Insn). KeepsTo pool max_stack depth k) same.0 keeps,
+        subst (λ (k : Insn). HasLine pool max_stack (depth - takes k + gives k) (drop size bytes)) same.0 (insns, rest),
+      )
 
   -- behind an instruction other than a return a line goes on
   pub rest_from_line : (i : Insn) (size : ℕ) → first_insn bytes ≡ Some (i, size) → (i ≡ Return → ⊥) → HasLine pool max_stack depth bytes

@@ -1,5 +1,5 @@
 -- Words at the end of a list are those at the top of the stack.
-use Rattle.std.proofs.Common.{◌≡◌, ℕ, suc, ◌+◌, ◌-◌, ◌<◌, ◌≤◌, List, [], ◌∷◌, ◌++◌, length, take, drop, refl, sym, ap, ◌∙◌, arith}
+use Rattle.std.proofs.Common.{◌≡◌, ℕ, ◌+◌, ◌-◌, ◌<◌, ◌≤◌, List, [], ◌∷◌, ◌++◌, length, take, drop, refl, sym, ap, ◌∙◌, arith}
 use Rattle.std.specs.Prelude.{map, reverse, slice_set}
 use Rattle.std.proofs.lemmas.List.{take-append-drop, length-reverse, length-map, length-drop, drop_at, reverse-append, map-append}
 use Rattle.std.proofs.lemmas.Grind.{take-set_at}
@@ -27,6 +27,6 @@ pub replaced : (xs : List ℕ) (taken word top : ℕ) → top ≡ length xs - ta
 replaced xs taken word top e lt le =
     let below : top < length xs = omega arith in
     let put : slice_set (take (top + 1) xs) top word ≡ take top xs ++ word ∷ [] =
-        sym (take-set-lt (top + 1) xs top word (omega arith)) ∙ take-set_at xs top (top + 1) word refl below in
+    sym (take-set-lt (top + 1) xs top word (omega arith)) ∙ take-set_at xs top (top + 1) word refl below in
     ap words put ∙ words-append (take top xs) (word ∷ [])
     ∙ ap (λ (ws : List Word). int_of word ∷ ws) (ap (λ (n : ℕ). words (take n xs)) e ∙ sym (drop-words xs taken le))

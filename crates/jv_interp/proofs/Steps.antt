@@ -1,13 +1,12 @@
 -- A step of the code's machine is a step of the thin machine.
-use Rattle.std.proofs.Common.{◌≡◌, ℕ, ◌+◌, ◌-◌, ◌<◌, List, [], ◌∷◌, drop, Option, Some, None, Result, Ok, Err, refl, sym, ap, ◌∙◌, arith}
-use Rattle.std.specs.Prelude.{IsErr}
+use Rattle.std.proofs.Common.{◌≡◌, ℕ, ◌+◌, ◌-◌, ◌<◌, List, [], ◌∷◌, drop, Option, Some, None, Result, Ok, Err, sym, ap, ◌∙◌, arith}
 use Rattle.jv_pool.specs.Constants.{Entry}
 use Rattle.jv_class.specs.Structure.{ClassStructure}
 use Rattle.jv_class.specs.Seen.{method_info, code_attribute}
 use Rattle.jv_class.specs.declared.method.Method.{Method}
 use Rattle.jv_meaning.specs.declared.thin.insn.Insn.{Insn}
 use Rattle.jv_meaning.specs.Thin.Instructions.{first_insn}
-use Rattle.jv_meaning.specs.Thin.Machine.{Word, Activity, State, Fault, Program, Effect, ◌>>=◌, fetched, fetch, execute, act, step, step_at, next}
+use Rattle.jv_meaning.specs.Thin.Machine.{State, Fault, Program, Effect, ◌>>=◌, fetched, fetch, execute, act, step, step_at, next}
 use Rattle.jv_meaning.specs.Thin.Machine.Activity.{Method as InMethod}
 use Rattle.jv_meaning.specs.Thin.Machine.Fault.{Offset}
 use Rattle.jv_interp.specs.declared.thin.machine.Machine.{Machine}
@@ -71,5 +70,5 @@ module _ (p : Option Program) (q : Program) (is : p ≡ Some q) (m : Machine) wh
   insn_steps raw offset after insn change pool stack same at lt e pools stacks done =
       let at_raw : m.stage ≡ stages.Method raw = at ∙ ap stages.Method (sym same) in
       let executes : execute q.constant_pool insn (words m.stack.items) ≡ Ok (effect_of (words m.stack.items) change) =
-          ap (λ (ps : List Entry). execute ps insn (words m.stack.items)) (sym pools) ∙ ap (λ (xs : List ℕ). execute pool insn (words xs)) (sym stacks) ∙ done ∙ ap (λ (xs : List ℕ). ok_effect (effect_of (words xs) change)) stacks in
+      ap (λ (ps : List Entry). execute ps insn (words m.stack.items)) (sym pools) ∙ ap (λ (xs : List ℕ). execute pool insn (words xs)) (sym stacks) ∙ done ∙ ap (λ (xs : List ℕ). ok_effect (effect_of (words xs) change)) stacks in
       insn_acts raw after insn (effect_of (words m.stack.items) change) at_raw lt e executes

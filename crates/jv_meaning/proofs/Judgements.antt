@@ -1,7 +1,7 @@
 -- A file is judged in one way.
 use Rattle.std.proofs.Common.{◌≡◌, ℕ, List, [], ◌∷◌, Result, Ok, refl, sym, ap, subst, ◌∙◌}
 use Rattle.jv_class.specs.Structure.{ClassStructure}
-use Rattle.jv_class.specs.ClassFile.{IsClassFile, IsOtherVersion, OneStructure}
+use Rattle.jv_class.specs.ClassFile.{OneStructure}
 use Rattle.jv_meaning.specs.declared.guest.Budget.{Budget}
 use Rattle.jv_meaning.specs.Guest.{Guest, Observed}
 use Rattle.jv_meaning.specs.Thin.Accepted.{IsAccepted}

@@ -2,3 +2,4 @@ pub mod Instructions
 pub mod Machine
 pub mod Accepted
 pub mod Alone
+pub mod Rows

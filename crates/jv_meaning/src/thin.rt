@@ -2,5 +2,6 @@
 
 pub mod insn;
 pub mod law;
+pub mod rows;
 
 pub use insn::{Insn, Operator};

@@ -70,7 +70,8 @@ abbrev pub name_and_descriptor : List ℕ → List ℕ → NameAndDescriptor
 name_and_descriptor name descriptor = record { name = name; descriptor = descriptor }
 
 abbrev pub named_at : List Entry → ℕ → ℕ → Option NameAndDescriptor
-named_at pool name descriptor = utf8_at pool name >>= λ n. utf8_at pool descriptor >>= λ d. Some (name_and_descriptor n d)
+named_at pool name descriptor =
+    utf8_at pool name >>= λ n. utf8_at pool descriptor >>= λ d. Some (name_and_descriptor n d)
 
 -- the texts that the NameAndType constant at an index names (4.4.6)
 abbrev pub name_and_type_in : List Entry → Option Entry → Option NameAndDescriptor
@@ -90,7 +91,8 @@ abbrev pub member_of : List ℕ → NameAndDescriptor → MemberReference
 member_of class member = record { class = class; name = member.name; descriptor = member.descriptor }
 
 abbrev pub member_at : List Entry → ℕ → ℕ → Option MemberReference
-member_at pool class name_and_type = class_name_at pool class >>= λ c. name_and_type_at pool name_and_type >>= λ m. Some (member_of c m)
+member_at pool class name_and_type =
+    class_name_at pool class >>= λ c. name_and_type_at pool name_and_type >>= λ m. Some (member_of c m)
 
 -- the method that the Methodref constant at an index names (4.4.2)
 abbrev pub method_reference_in : List Entry → Option Entry → Option MemberReference

@@ -93,4 +93,6 @@ pub record IsPool (bytes : List ℕ) (pool : List Entry) : Type 0 where
 
 -- A law: bytes begin with one pool at most, and so are cut there in one way.
 abbrev pub OnePool : Type 0
-OnePool = (front other rest after : List ℕ) (p q : List Entry) → front ++ rest ≡ other ++ after → IsPool front p → IsPool other q → (p ≡ q) × (front ≡ other) × (rest ≡ after)
+OnePool =
+    (front other rest after : List ℕ) (p q : List Entry) → front ++ rest ≡ other ++ after
+    → IsPool front p → IsPool other q → (p ≡ q) × (front ≡ other) × (rest ≡ after)

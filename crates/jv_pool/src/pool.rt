@@ -47,7 +47,8 @@ pub fn read_pool<'a>(alloc: Global, bytes: &'a [u8]) -> Result<(Pool<'a>, usize)
     ensures ok { IfOk result (λ x. IsPool (take x.1 bytes.now) x.0) }
 
     // A refusal says that no front of the bytes is a pool.
-    ensures bad { result ≡ Err BadPool → (pool : List Entry) (front rest : List ℕ) → bytes.now ≡ front ++ rest → IsPool front pool → ⊥ }
+    ensures bad { result ≡ Err BadPool
+        → (pool : List Entry) (front rest : List ℕ) → bytes.now ≡ front ++ rest → IsPool front pool → ⊥ }
 {
     let (constants, rest) = constants_at(alloc, bytes)?;
     if !keep_rules(&constants) {

@@ -1,7 +1,7 @@
 -- No field descriptor begins another one, so types are read from the front.
-use Rattle.std.proofs.Common.{◌≡◌, ℕ, zero, suc, ◌≤◌, true, List, [], ◌∷◌, ◌++◌, length, drop, get_or, refl, sym, ap, ◌∙◌, append_assoc, arith, Option, Some, None}
+use Rattle.std.proofs.Common.{◌≡◌, ℕ, zero, suc, ◌≤◌, List, [], ◌∷◌, ◌++◌, length, drop, get_or, refl, sym, ap, ◌∙◌, append_assoc, arith, Option, Some, None}
 use Rattle.std.specs.Prelude.{◌≢◌, IsTrue, nat_le, replicate, ◌==◌, if◌then◌else◌}
-use Rattle.std.proofs.lemmas.Bool.{and_parts, and_from}
+use Rattle.std.proofs.lemmas.Bool.{and_parts}
 use Rattle.std.proofs.lemmas.List.{append-nil}
 use Rattle.jv_text.specs.declared.descriptor.Base.{Base}
 use Rattle.jv_text.specs.declared.descriptor.Base.TheVariants.{Byte, Char, Double, Float, Int, Long, Short, Boolean}
@@ -88,11 +88,6 @@ dimensions_fit : (t : FieldTypeOf (List ℕ)) → IsTrue (is_field_type t) → t
 dimensions_fit t h =
     let both = and_parts (nat_le t.dimensions 255) (is_element t.element) h in
     grind (arith, both.0)
-
-pub fits_field : (t : FieldTypeOf (List ℕ)) → t.dimensions ≤ 255 → IsTrue (is_element t.element) → IsTrue (is_field_type t)
-fits_field t few fits =
-    let small : nat_le t.dimensions 255 ≡ true = grind arith in
-    and_from (nat_le t.dimensions 255) (is_element t.element) small fits
 
 -- unlike types are spelled unlike
 pub one_front : (a b : FieldTypeOf (List ℕ)) (x y : List ℕ) → IsTrue (is_field_type a) → IsTrue (is_field_type b) → field_text a ++ x ≡ field_text b ++ y → (a ≡ b) × (x ≡ y)

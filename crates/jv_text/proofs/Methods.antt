@@ -56,9 +56,6 @@ pub record Front (before : List (FieldTypeOf (List ℕ))) (count : ℕ) (text re
   pub few : count ≤ 255
   pub spelled : text ≡ 40 ∷ (flat_map field_text before ++ rest)
 
-pub Front-nil : (text rest : List ℕ) → text ≡ 40 ∷ rest → Front [] 0 text rest
-Front-nil text rest e = record { fit = refl; counted = refl; few = omega arith; spelled = e }
-
 pub Front-push : (before : List (FieldTypeOf (List ℕ))) (count : ℕ) (text rest : List ℕ) (t : FieldTypeOf (List ℕ)) (total : ℕ) (after : List ℕ)
     → IsTrue (is_field_type t) → total ≡ count + field_slots t → total ≤ 255 → rest ≡ field_text t ++ after → Front before count text rest → Front (before ++ t ∷ []) total text after
 Front-push before count text rest t total after fits counts few e front = record {
@@ -113,10 +110,6 @@ Front-no_result before count text rest front tail end none m h =
     first : (more : List (FieldTypeOf (List ℕ))) → rest ≡ flat_map field_text more ++ (41 ∷ result_text m.result) → ⊥
     first [] e = none m.result h.result e
     first (t ∷ ts) e = no_close t (flat_map field_text ts ++ (41 ∷ result_text m.result)) tail (sym (append_assoc (field_text t) (flat_map field_text ts) (41 ∷ result_text m.result)) ∙ sym e ∙ end)
-
--- a method's text begins with `(`
-pub no_open : (text : List ℕ) → ((rest : List ℕ) → text ≢ 40 ∷ rest) → (m : MethodDescriptor) → IsMethod text m → ⊥
-no_open text none m h = none (flat_map field_text m.parameters ++ (41 ∷ result_text m.result)) h.spelled
 
 -- a parameter whose slots are too many for the descriptor stands where no other one does
 pub no_room : (text rest : List ℕ) (t : FieldTypeOf (List ℕ)) (count : ℕ) → IsTrue (is_field_type t) → text ≡ field_text t ++ rest → 255 < count + field_slots t

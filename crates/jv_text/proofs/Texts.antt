@@ -51,9 +51,6 @@ pub record Front (units bytes rest : List ℕ) : Type 0 where
   pub fit : IsTrue (list_all is_unit units)
   pub spelled : bytes ≡ text_bytes units ++ rest
 
-pub Front-nil : (bytes : List ℕ) → Front [] bytes bytes
-Front-nil bytes = record { fit = refl; spelled = refl }
-
 pub Front-push : (units bytes rest : List ℕ) (u : ℕ) (after : List ℕ) → u < 2 ^ 16 → rest ≡ unit_bytes u ++ after → Front units bytes rest → Front (units ++ u ∷ []) bytes after
 Front-push units bytes rest u after lt e front = record {
   fit = list_all-append is_unit units (u ∷ []) ∙ and_from (list_all is_unit units) (list_all is_unit (u ∷ [])) front.fit (and_from (is_unit u) _ (is_unit-from_fits u lt) refl);

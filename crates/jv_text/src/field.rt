@@ -70,7 +70,8 @@ fn split_at_end(text: &[u8]) -> Option<(&[u8], &[u8])>
 fn class_at(text: &[u8]) -> Option<(&[u8], &[u8])>
     ensures found { IfSome result (λ x. text.now ≡ x.0.now ++ (59 ∷ x.1.now)) }
     ensures class { IfSome result (λ x. IsTrue (is_class_name x.0.now)) }
-    ensures none { IfNone result ((name rest : List ℕ) → IsTrue (is_class_name name) → text.now ≢ name ++ (59 ∷ rest)) }
+    ensures none { IfNone result ((name rest : List ℕ) → IsTrue (is_class_name name)
+        → text.now ≢ name ++ (59 ∷ rest)) }
 {
     let (name, rest) = split_at_end(text)?;
     if is_class_name(name) {
@@ -84,8 +85,10 @@ fn class_at(text: &[u8]) -> Option<(&[u8], &[u8])>
 fn element_at(text: &[u8]) -> Option<(Element<&[u8]>, &[u8])>
     ensures found { IfSome result (λ x. text.now ≡ element_text (seen_element x.0) ++ x.1.now) }
     ensures fits { IfSome result (λ x. IsTrue (is_element (seen_element x.0))) }
-    ensures no_base { IfNone result ((base : Base) (rest : List ℕ) → text.now ≢ base_letter base ∷ rest) }
-    ensures no_class { IfNone result ((name rest : List ℕ) → IsTrue (is_class_name name) → text.now ≢ 76 ∷ (name ++ (59 ∷ rest))) }
+    ensures no_base { IfNone result ((base : Base) (rest : List ℕ)
+        → text.now ≢ base_letter base ∷ rest) }
+    ensures no_class { IfNone result ((name rest : List ℕ) → IsTrue (is_class_name name)
+        → text.now ≢ 76 ∷ (name ++ (59 ∷ rest))) }
 {
     match text {
         [b'L', after @ ..] => {
@@ -104,7 +107,8 @@ fn element_at(text: &[u8]) -> Option<(Element<&[u8]>, &[u8])>
 pub(crate) fn field_at(text: &[u8]) -> Option<(FieldType<'_>, &[u8])>
     ensures found { IfSome result (λ x. text.now ≡ field_text (seen_field x.0) ++ x.1.now) }
     ensures fits { IfSome result (λ x. IsTrue (is_field_type (seen_field x.0))) }
-    ensures none { IfNone result ((t : FieldTypeOf (List ℕ)) (rest : List ℕ) → IsTrue (is_field_type t) → text.now ≢ field_text t ++ rest) }
+    ensures none { IfNone result ((t : FieldTypeOf (List ℕ)) (rest : List ℕ)
+        → IsTrue (is_field_type t) → text.now ≢ field_text t ++ rest) }
 {
     let (dimensions, rest) = dimensions_at(text)?;
     let (element, rest) = element_at(rest)?;
@@ -117,7 +121,9 @@ pub(crate) fn field_at(text: &[u8]) -> Option<(FieldType<'_>, &[u8])>
     ))
 }
 
-/// The type that a field descriptor describes.
+/// The type that a field descriptor describes, an array of at most 255 dimensions.
+///
+/// What stands between `L` and `;` is a class name whatever it is: `LF;` is a class named F.
 pub fn field_type(text: &[u8]) -> Result<FieldType<'_>, BadDescriptor>
     ensures ok { IfOk result (λ t. IsField text.now (seen_field t)) }
     ensures bad { IfErr result (λ _. (t : FieldTypeOf (List ℕ)) → IsField text.now t → ⊥) }

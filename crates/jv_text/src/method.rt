@@ -29,7 +29,9 @@ fn parameter_at(text: &[u8], slots: u8) -> Option<(FieldType<'_>, u8, &[u8])>
     ensures fits { IfSome result (λ x. IsTrue (is_field_type (seen_field x.0))) }
     ensures total { IfSome result (λ x. x.1 ≡ slots + field_slots (seen_field x.0)) }
     ensures few { IfSome result (λ x. x.1 ≤ 255) }
-    ensures none { IfNone result ((t : FieldTypeOf (List ℕ)) (rest : List ℕ) → IsTrue (is_field_type t) → slots + field_slots t ≤ 255 → text.now ≢ field_text t ++ rest) }
+    ensures none { IfNone result ((t : FieldTypeOf (List ℕ)) (rest : List ℕ)
+        → IsTrue (is_field_type t) → slots + field_slots t ≤ 255
+        → text.now ≢ field_text t ++ rest) }
 {
     let (t, rest) = field_at(text)?;
     let total = slots.checked_add(slots_of(t))?;
@@ -48,7 +50,8 @@ fn is_at_end(text: &[u8]) -> bool
 fn result_type(text: &[u8]) -> Option<Option<FieldType<'_>>>
     ensures found { IfSome result (λ r. text.now ≡ 41 ∷ result_text (seen_result r)) }
     ensures fits { IfSome result (λ r. IsTrue (is_result_type (seen_result r))) }
-    ensures none { IfNone result ((r : Option (FieldTypeOf (List ℕ))) → IsTrue (is_result_type r) → text.now ≢ 41 ∷ result_text r) }
+    ensures none { IfNone result ((r : Option (FieldTypeOf (List ℕ))) → IsTrue (is_result_type r)
+        → text.now ≢ 41 ∷ result_text r) }
 {
     match text {
         [b')', b'V'] => Some(None),
@@ -93,7 +96,8 @@ pub fn method_shape(text: &[u8]) -> Result<MethodShape<'_>, BadDescriptor>
 /// counts it. `Memory` comes where a growth was refused, and then at once.
 pub fn method_type(alloc: Global, text: &[u8]) -> Result<MethodType<'_>, DescFault>
     ensures ok { IfOk result (λ m. IsMethod text.now (seen_method m)) }
-    ensures bad { result ≡ Err DescFault.BadDescriptor → (m : MethodDescriptor) → IsMethod text.now m → ⊥ }
+    ensures bad { result ≡ Err DescFault.BadDescriptor → (m : MethodDescriptor)
+        → IsMethod text.now m → ⊥ }
 {
     let [b'(', after @ ..] = text else {
         return Err(DescFault::BadDescriptor);

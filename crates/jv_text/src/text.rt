@@ -27,7 +27,8 @@ impl<T: Drop> From<AllocFailed<T>> for TextFault {
 fn unit_at(bytes: &[u8]) -> Option<(u16, &[u8])>
     ensures fits { IfSome result (λ x. x.0 < 2 ^ 16) }
     ensures found { IfSome result (λ x. bytes.now ≡ unit_bytes x.0 ++ x.1.now) }
-    ensures none { IfNone result ((unit : ℕ) (rest : List ℕ) → unit < 2 ^ 16 → bytes.now ≢ unit_bytes unit ++ rest) }
+    ensures none { IfNone result ((unit : ℕ) (rest : List ℕ) → unit < 2 ^ 16
+        → bytes.now ≢ unit_bytes unit ++ rest) }
 {
     match bytes {
         [a, rest @ ..] if 0 < *a && *a < 128 => Some((u16::from(*a), rest)),
@@ -50,8 +51,10 @@ fn unit_at(bytes: &[u8]) -> Option<(u16, &[u8])>
     }
 }
 
-/// The UTF-16 units that the bytes spell. `BadText` where they spell none, also where a unit is
-/// not in its shortest form; lone surrogates are units like others.
+/// The UTF-16 units that the bytes spell.
+///
+/// `BadText` where they spell none, also where a unit is not in its shortest form; a lone surrogate
+/// is a unit like others. `Memory` comes where a growth was refused, and then at once.
 pub fn decode(alloc: Global, bytes: &[u8]) -> Result<Vec<u16>, TextFault>
     ensures ok { IfOk result (λ units. Spells units.items bytes.now) }
     ensures bad { result ≡ Err BadText → IsText bytes.now → ⊥ }

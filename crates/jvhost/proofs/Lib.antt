@@ -1,2 +1,4 @@
 pub mod Files
+pub mod Lines
+pub mod NameLemmas
 pub mod Runs

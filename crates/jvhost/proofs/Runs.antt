@@ -1,5 +1,5 @@
 -- Steps of the code's guest are steps of the guest alone.
-use Rattle.std.proofs.Common.{◌≡◌, ◌≢◌, ℕ, zero, suc, ◌+◌, ◌<◌, List, [], ◌∷◌, Option, Result, Ok, Err, refl, sym, ap, subst, ◌∙◌, ◌⊎◌, inl, inr, arith}
+use Rattle.std.proofs.Common.{◌≡◌, ◌≢◌, ℕ, zero, suc, ◌+◌, ◌<◌, List, [], ◌∷◌, Option, Result, Ok, refl, sym, ap, subst, ◌∙◌, ◌⊎◌, inl, inr, arith}
 use Rattle.std.specs.Prelude.{IsErr, ◌≤◌, map, length}
 use Rattle.std.proofs.Common.{get_or}
 use Rattle.std.specs.Borrow.{Bor}
@@ -9,9 +9,9 @@ use Rattle.jv_meaning.specs.declared.observation.End.TheVariants.{Running}
 use Rattle.jv_meaning.specs.declared.observation.Verdict.{Verdict}
 use Rattle.jv_meaning.specs.Guest.{Guest, Observed, bytes_of}
 use Rattle.jv_meaning.specs.Thin.Machine.{State, Fault, Program, ◌>>=◌, program_of, next, start, after, end_of}
-use Rattle.jv_meaning.specs.Thin.Alone.{Judgement, IsJudged, loaded, alone, observation, Shows, IsRunningAfter, IsOverAfter, FaultsWithin}
+use Rattle.jv_meaning.specs.Thin.Alone.{loaded, alone, observation, Shows, IsRunningAfter, IsOverAfter, FaultsWithin}
 use Rattle.jv_interp.specs.Thin.GuestState.{GuestState}
-use Rattle.jvhost.specs.Host.{Admission, Runs, IsAdmitted, IsFound}
+use Rattle.jvhost.specs.Host.{Runs, IsAdmitted, IsFound}
 use Rattle.jv_class.specs.Structure.{ClassStructure}
 
 abbrev just_ok : State → Result State Fault
@@ -21,7 +21,7 @@ ok_of : (r : Result State Fault) (s : State) (p : Option Program) → r ≡ Ok s
 ok_of r s p e = ap (λ r. r >>= next p) e
 
 below : (k j : ℕ) → j < suc k → (j < k) ⊎ (j ≡ k)
-below k j lt = elim (eq-or-lt_of_le (at_most k j lt)) [ | inl same ↦ inr same | inr less ↦ inl less ]
+below k j lt = elim (eq-or-lt_of_le (at_most k j lt)) [ inl same ↦ inr same | inr less ↦ inl less ]
   where
     at_most : (k j : ℕ) → j < suc k → j ≤ k
     at_most k j lt = omega (arith, lt)
@@ -95,7 +95,7 @@ pub shows_verdicts : (g : Guest) (b : Budget) (verdicts : List Verdict) (running
     → (o : Observed) × Shows g b steps o × (verdicts ≡ o.verdicts)
 shows_verdicts g b verdicts running steps is =
     let shows : Shows g b steps (observation is.judgement steps running.state) =
-        record { file = is.file; judgement = is.judgement; state = running.state; one_file = is.one_file; judged = is.judged; ran = is.ran; shown = refl } in
+    record { file = is.file; judgement = is.judgement; state = running.state; one_file = is.one_file; judged = is.judged; ran = is.ran; shown = refl } in
     (observation is.judgement steps running.state, shows, is.verdict)
 
 -- the one file of a guest

@@ -5,6 +5,8 @@ mod fault;
 mod host;
 mod limits;
 mod run;
+#[cfg(test)]
+mod tests;
 
 pub use fault::{AdmitFault, NoGuest, TurnFault};
 pub use host::{GuestId, Host};

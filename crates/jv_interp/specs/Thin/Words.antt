@@ -1,5 +1,5 @@
 -- What the words of the code stand for.
-use Rattle.std.specs.Prelude.{ℕ, List, map, reverse, Option, Some, None, drop, ◌∷◌}
+use Rattle.std.specs.Prelude.{ℕ, List, map, reverse, drop, ◌∷◌}
 use Rattle.std.specs.Int.{w32, cast_signed}
 use Rattle.jv_meaning.specs.Thin.Machine.{Word, Effect}
 use Rattle.jv_meaning.specs.Thin.Machine.Word.{Int}

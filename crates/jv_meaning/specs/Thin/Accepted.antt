@@ -1,5 +1,5 @@
 -- Which classes the thin machine runs: a straight line of its instructions up to a return, which keeps to its stack.
-use Rattle.std.specs.Prelude.{◌≡◌, ◌≢◌, ℕ, ◌+◌, ◌-◌, ◌≤◌, List, [], ◌∷◌, length, drop, Option, Some, None, bit_and, codes, IsTrue, Bool, false, ◌||◌}
+use Rattle.std.specs.Prelude.{◌≡◌, ◌≢◌, ℕ, ◌+◌, ◌-◌, ◌≤◌, List, [], ◌∷◌, length, drop, Some, bit_and, codes, IsTrue, Bool, false, ◌||◌}
 use Rattle.std.specs.List.{starts_with}
 use Rattle.std.specs.Prelude.{nat_eq}
 use Rattle.jv_pool.specs.Constants.{Entry, utf8_at, method_reference_at}

@@ -8,7 +8,7 @@ use Rattle.jv_meaning.specs.declared.observation.Verdict.TheVariants as verdicts
 use Rattle.jv_meaning.specs.declared.observation.End.TheVariants.{Running}
 use Rattle.jv_meaning.specs.Guest.{Guest, Observed}
 use Rattle.jv_meaning.specs.Thin.Accepted.{IsAccepted}
-use Rattle.jv_meaning.specs.Thin.Machine.{State, Fault, Program, program_of, after, end_of}
+use Rattle.jv_meaning.specs.Thin.Machine.{State, Fault, program_of, after, end_of}
 
 -- what is found of a file: its verdict, with the class where it has one
 pub data Judgement : Type 0 where

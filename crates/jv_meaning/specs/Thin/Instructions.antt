@@ -1,5 +1,5 @@
 -- The instructions of the thin machine, as they stand in code (6.5).
-use Rattle.std.specs.Prelude.{ℕ, ◌+◌, ◌*◌, ℤ, pos, negsuc, ◌-ℤ◌, ◌≡◌, List, [], ◌∷◌, Option, Some, None, nat_le, ◌&&◌, ◌==◌, if◌then◌else◌}
+use Rattle.std.specs.Prelude.{ℕ, ◌+◌, ◌*◌, pos, ◌-ℤ◌, List, [], ◌∷◌, Option, Some, None, nat_le, ◌&&◌, ◌==◌, if◌then◌else◌}
 use Rattle.std.specs.Int.{w8, w16, cast_signed}
 use Rattle.jv_meaning.specs.declared.thin.insn.Insn.{Insn}
 use Rattle.jv_meaning.specs.declared.thin.insn.Insn.TheVariants.{Constant, Pop, Negate, Binary, Invokestatic, Return}

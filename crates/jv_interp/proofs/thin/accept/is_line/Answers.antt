@@ -1,4 +1,4 @@
-use Rattle.std.proofs.Common.{◌≡◌, ℕ, ◌+◌, ◌-◌, ◌≤◌, List, drop, Some, None, refl, sym, ap, subst, ◌∙◌, eq-eqb, arith}
+use Rattle.std.proofs.Common.{◌≡◌, ℕ, ◌+◌, ◌-◌, List, drop, Some, refl, sym, ap, subst, ◌∙◌, eq-eqb, arith}
 use Rattle.std.proofs.lemmas.Bool.{eqb-true}
 use Rattle.jv_meaning.specs.declared.thin.insn.Insn.TheVariants.{Return}
 use Rattle.jv_meaning.specs.Thin.Instructions.{first_insn}
@@ -13,18 +13,20 @@ returns-then-is_return c =
     let size = c.in-Some.size in
     let is : c.in-Some.insn ≡ Return = (c.if-is_return.ensures {u = tt}).0 refl in
     let first : first_insn loop.rest.now ≡ Some (Return, size) = sym (c.in-Some.ensures {u = tt}).insn ∙ ap (λ i. Some (i, size)) is in (
-        λ e. loop.invariant.whole (line_from_return c.args.pool.now c.args.max_stack loop.depth loop.rest.now size first (eqb-true _ _ e)),
-        λ line. eq-eqb _ _ (return_from_line c.args.pool.now c.args.max_stack loop.depth loop.rest.now size first (loop.invariant.rest line)),
+      λ e. loop.invariant.whole (line_from_return c.args.pool.now c.args.max_stack loop.depth loop.rest.now size first (eqb-true _ _ e)),
+      λ line. eq-eqb _ _ (return_from_line c.args.pool.now c.args.max_stack loop.depth loop.rest.now size first (loop.invariant.rest line)),
     )
 
 pub returns-in_default-depth_after : goal.returns-in_default-depth_after
 returns-in_default-depth_after c =
     let loop = c.loop-insn in
     let other : c.in-Some.insn ≡ Return → ⊥ = λ e. absurd (let yes = (c.if-is_return.ensures {u = tt}).1 e in cc) in
-    let first = sym (c.in-Some.ensures {u = tt}).insn in
-    (λ no. absurd cc, λ line.
-        let behind = rest_from_line c.args.pool.now c.args.max_stack loop.depth loop.rest.now c.in-Some.insn c.in-Some.size first other (loop.invariant.rest line) in
-        absurd ((c.in_default-depth_after.ensures {u = tt}).none (subst (λ (n : ℕ). KeepsTo c.args.pool.now n loop.depth c.in-Some.insn) (sym c.from.ensures) behind.0)))
+    let first = sym (c.in-Some.ensures {u = tt}).insn in (
+      λ no. absurd cc,
+      λ line.
+          let behind = rest_from_line c.args.pool.now c.args.max_stack loop.depth loop.rest.now c.in-Some.insn c.in-Some.size first other (loop.invariant.rest line) in
+          absurd ((c.in_default-depth_after.ensures {u = tt}).none (subst (λ (n : ℕ). KeepsTo c.args.pool.now n loop.depth c.in-Some.insn) (sym c.from.ensures) behind.0)),
+    )
 
 pub loop-insn-preserved : goal.loop-insn-preserved
 loop-insn-preserved c =

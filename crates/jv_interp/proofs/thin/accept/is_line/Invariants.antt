@@ -1,4 +1,4 @@
-use Rattle.std.proofs.Common.{ℕ, ◌≤◌, length}
+use Rattle.std.proofs.Common.{◌≤◌, length}
 use Rattle.jv_interp.specs.Thin.Lines.{HasLine}
 use Rattle.jv_interp.proofs.thin.accept.is_line.Given as goal
 

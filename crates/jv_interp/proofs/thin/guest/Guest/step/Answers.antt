@@ -1,7 +1,7 @@
-use Rattle.std.proofs.Common.{◌≡◌, Option, Some, Ok, refl, sym, ap, subst, ◌∙◌}
+use Rattle.std.proofs.Common.{◌≡◌, Some, refl, sym, ap, subst, ◌∙◌}
 use Rattle.std.specs.Prelude.{IsErr}
 use Rattle.std.proofs.lemmas.Result.{on_ok_weaker}
-use Rattle.jv_meaning.specs.Thin.Machine.{Program, next}
+use Rattle.jv_meaning.specs.Thin.Machine.{next}
 use Rattle.jv_interp.specs.Thin.GuestState.{GuestState, program_in, locals_in}
 use Rattle.jv_interp.specs.Thin.Acts.{Acts}
 use Rattle.jv_interp.proofs.Steps.{program_with_method, program_is, step_enters, insn_steps}
@@ -21,8 +21,8 @@ returns-in-Some-change_of-clause-ok c =
     let q = program_with_method c.in-Some.class c.method-method.result in
     let is : p ≡ Some q = ap program_in c.in-Some.is ∙ program_is c.in-Some.class c.method-method.result c.method-method.ensures.only in
     let step = insn_steps p q is c.self.inside.machine _ c.in-Method.offset c.in-Some-insn_at.next c.in-Some-insn_at.insn c.in-Some-change_of.change
-        c.pool.result.now c.deref.result.now c.in-Method.offset-is c.in-Method.is c.in-Some-insn_at.ensures.next c.in-Some-insn_at.ensures.some
-        c.pool.ensures c.deref.ensures.value (c.in-Some-change_of.ensures {u = tt}).some in
+    c.pool.result.now c.deref.result.now c.in-Method.offset-is c.in-Method.is c.in-Some-insn_at.ensures.next c.in-Some-insn_at.ensures.some
+    c.pool.ensures c.deref.ensures.value (c.in-Some-change_of.ensures {u = tt}).some in
     on_ok_weaker {P = Acts c.method-method.result.max_stack c.in-Some-insn_at.next c.in-Some-change_of.change c.self.inside.machine c.act.new.self} c.act.result
     (λ acts. ap (λ (g : GuestState). next g.program g.state) (sym c.self.view_is) ∙ step ∙ acts q.code (locals_in p) refl) c.act.ensures.ok
 
@@ -32,6 +32,6 @@ returns-in-Some-change_of-clause-stuck c = λ e.
     let q = program_with_method c.in-Some.class c.method-method.result in
     let is : p ≡ Some q = ap program_in c.in-Some.is ∙ program_is c.in-Some.class c.method-method.result c.method-method.ensures.only in
     let step = insn_steps p q is c.self.inside.machine _ c.in-Method.offset c.in-Some-insn_at.next c.in-Some-insn_at.insn c.in-Some-change_of.change
-        c.pool.result.now c.deref.result.now c.in-Method.offset-is c.in-Method.is c.in-Some-insn_at.ensures.next c.in-Some-insn_at.ensures.some
-        c.pool.ensures c.deref.ensures.value (c.in-Some-change_of.ensures {u = tt}).some in
+    c.pool.result.now c.deref.result.now c.in-Method.offset-is c.in-Method.is c.in-Some-insn_at.ensures.next c.in-Some-insn_at.ensures.some
+    c.pool.ensures c.deref.ensures.value (c.in-Some-change_of.ensures {u = tt}).some in
     subst IsErr (sym (ap (λ (g : GuestState). next g.program g.state) (sym c.self.view_is) ∙ step)) (c.act.ensures.stuck e q.code (locals_in p) refl)

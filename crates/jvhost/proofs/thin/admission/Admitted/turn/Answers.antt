@@ -1,4 +1,4 @@
-use Rattle.std.proofs.Common.{◌≡◌, ℕ, ◌+◌, ◌<◌, subst, inl, inr, arith}
+use Rattle.std.proofs.Common.{◌+◌, subst, inl, inr, arith}
 use Rattle.std.proofs.Math.Nat.{eq-or-lt_of_le}
 use Rattle.jv_meaning.specs.Guest.{guest_of}
 use Rattle.std.specs.Prelude.{IsErr}
@@ -30,10 +30,10 @@ returns-in-Ok-clause-full c =
     let a = c.self.inside in
     let k = c.in-Ok.taken in
     subst (λ (b : Admission). IsFullTurn b c.args.n k) c.self.view_is (λ few.
-        elim (eq-or-lt_of_le (c.in-Ok.ensures {u = tt}).most) [
-          | inl same ↦ inr (omega (arith, same, few, c.min-most.ensures, c.from.ensures))
-          | inr less ↦ inl (over_after (guest_of a.files) a.budget a.verdicts a.guest a.steps c.self.invariant k c.take_steps.new.guest.state (c.in-Ok.ensures {u = tt}).ok ((c.in-Ok.ensures {u = tt}).all less))
-        ])
+    elim (eq-or-lt_of_le (c.in-Ok.ensures {u = tt}).most) [
+      | inl same ↦ inr (omega (arith, same, few, c.min-most.ensures, c.from.ensures))
+      | inr less ↦ inl (over_after (guest_of a.files) a.budget a.verdicts a.guest a.steps c.self.invariant k c.take_steps.new.guest.state (c.in-Ok.ensures {u = tt}).ok ((c.in-Ok.ensures {u = tt}).all less))
+    ])
 
 pub returns-in-Err-clause-running : goal.returns-in-Err-clause-running
 returns-in-Err-clause-running c =
@@ -47,4 +47,4 @@ returns-in-Err-clause-stuck c = λ e.
     let stops = c.in-Err.ensures {u = tt} in
     subst (λ (b : Admission). IsStuckAfter b c.in-Err.stopped.taken) c.self.view_is
     (faults_after (guest_of a.files) a.budget a.verdicts a.guest a.steps c.self.invariant c.in-Err.stopped.taken c.take_steps.new.guest.state stops.err
-        (subst (λ p. IsErr (next p c.take_steps.new.guest.state)) c.take_steps.ensures.program (stops.stuck e)))
+    (subst (λ p. IsErr (next p c.take_steps.new.guest.state)) c.take_steps.ensures.program (stops.stuck e)))
