@@ -4,6 +4,7 @@ use Rattle.std.specs.List.{starts_with}
 use Rattle.std.specs.Prelude.{nat_eq}
 use Rattle.jv_pool.specs.Constants.{Entry, utf8_at, method_reference_at}
 use Rattle.jv_class.specs.Structure.{ClassStructure, MethodInfo, CodeAttribute}
+use Rattle.jv_class.specs.Flags.{acc_static, acc_synchronized}
 use Rattle.jv_class.specs.ClassFile.{class_name}
 use Rattle.jv_meaning.specs.declared.thin.insn.Insn.{Insn}
 use Rattle.jv_meaning.specs.declared.thin.insn.Insn.TheVariants.{Constant, Pop, Negate, Binary, Invokestatic, Return}
@@ -47,8 +48,8 @@ is_reserved name = starts_with nat_eq name (codes "java/") || starts_with nat_eq
 
 -- a static method that isn't synchronized and, as main does, takes an array of String and gives nothing (4.6)
 pub record IsMainLike (pool : List Entry) (m : MethodInfo) : Type 0 where
-  pub static : bit_and m.access_flags 8 ≢ 0
-  pub unlocked : bit_and m.access_flags 32 ≡ 0
+  pub static : bit_and m.access_flags acc_static ≢ 0
+  pub unlocked : bit_and m.access_flags acc_synchronized ≡ 0
   pub descriptor : utf8_at pool m.descriptor_index ≡ Some (codes "([Ljava/lang/String;)V")
 
 -- code that is a line, whose arguments fit the locals, and whose frame is small

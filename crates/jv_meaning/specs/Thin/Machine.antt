@@ -1,11 +1,12 @@
 -- The thin machine: a class is initialized, and then its main method runs (2.6, 2.11, 5.5).
 -- It is defensive: before it takes a word it looks at the word's tag, and what doesn't fit is a fault.
-use Rattle.std.specs.Prelude.{ℕ, zero, suc, ◌+◌, ◌-◌, ◌/◌, ◌%◌, ◌^◌, min, ℤ, Bool, false, ◌&&◌, not, nat_le, ◌==◌, if◌then◌else◌, List, [], ◌∷◌, ◌++◌, length, drop, replicate, Option, Some, None, Result, Ok, Err, bit_and, codes}
+use Rattle.std.specs.Prelude.{ℕ, zero, suc, ◌+◌, ◌-◌, ◌/◌, ◌%◌, ◌^◌, min, ℤ, Bool, false, ◌&&◌, nat_le, ◌==◌, if◌then◌else◌, List, [], ◌∷◌, ◌++◌, length, drop, replicate, Option, Some, None, Result, Ok, Err, codes}
 use Rattle.std.specs.Int.{w32, cast_signed, cast_unsigned, int_wrapping_add, int_wrapping_sub, int_wrapping_mul, int_wrapping_neg, int_shl, int_shr, int_bit_and, int_bit_or, int_bit_xor}
 use Rattle.std.specs.Str.{bytes_eq}
 use Rattle.jv_pool.specs.Constants.{Entry, utf8_at, MemberReference, method_reference_at}
 use Rattle.jv_class.specs.Structure.{ClassStructure, MethodInfo, MethodAttribute, CodeAttribute}
 use Rattle.jv_class.specs.Structure.MethodAttribute.{Code, Other}
+use Rattle.jv_class.specs.Flags.{has, acc_public, acc_static}
 use Rattle.jv_class.specs.ClassFile.{class_name}
 use Rattle.jv_meaning.specs.declared.observation.End.{End}
 use Rattle.jv_meaning.specs.declared.observation.End.TheVariants as ends
@@ -67,7 +68,7 @@ is_named name (Some text) = bytes_eq text name
 -- a `public static` method `main` that takes an array of String and gives nothing (4.6)
 abbrev pub is_main : List Entry → MethodInfo → Bool
 is_main pool m =
-    not (bit_and m.access_flags 1 == 0) && not (bit_and m.access_flags 8 == 0)
+    has m.access_flags acc_public && has m.access_flags acc_static
     && is_named (codes "main") (utf8_at pool m.name_index)
     && is_named (codes "([Ljava/lang/String;)V") (utf8_at pool m.descriptor_index)
 
