@@ -65,8 +65,18 @@ fn instructions(rt: HostRuntime) {
     assert!(rt; matches!(first_insn(b"\x02\xb1"), Some((Insn::Constant(-1), 1))));
     assert!(rt; matches!(first_insn(b"\x08"), Some((Insn::Constant(5), 1))));
     assert!(rt; matches!(first_insn(b"\x10\xff"), Some((Insn::Constant(-1), 2))));
-    assert!(rt; matches!(first_insn(b"\x11\x80\x00"), Some((Insn::Constant(-32768), 3))));
-    assert!(rt; matches!(first_insn(b"\xb8\x01\x02"), Some((Insn::Invokestatic(258), 3))));
+    assert!(rt;
+        matches!(
+            first_insn(b"\x11\x80\x00"),
+            Some((Insn::Constant(-32768), 3))
+        )
+    );
+    assert!(rt;
+        matches!(
+            first_insn(b"\xb8\x01\x02"),
+            Some((Insn::Invokestatic(258), 3))
+        )
+    );
     assert!(rt; matches!(first_insn(b"\x10"), None));
     assert!(rt; matches!(first_insn(b"\x11\x01"), None));
     assert!(rt; matches!(first_insn(b"\x00"), None));
