@@ -1,10 +1,10 @@
 -- The names in a folder.
-use Rattle.std.specs.Prelude.{ℕ, Bool, List, [], ◌∷◌, ◌++◌, nat_eq, ◌==◌, if◌then◌else◌}
+use Rattle.std.specs.Prelude.{ℕ, Bool, List, [], ◌∷◌, ◌++◌, nat_eq, codes, ◌==◌, if◌then◌else◌}
 use Rattle.std.specs.List.{ends_with}
 
 -- a name that ends in `.class`
 abbrev pub is_class_file : List ℕ → Bool
-is_class_file name = ends_with nat_eq name (46 ∷ 99 ∷ 108 ∷ 97 ∷ 115 ∷ 115 ∷ [])
+is_class_file name = ends_with nat_eq name (codes ".class")
 
 -- the names that follow, where this much of the next is read already: a NUL ends it
 abbrev pub names_after : List ℕ → List ℕ → List (List ℕ)
