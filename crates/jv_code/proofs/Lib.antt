@@ -1,0 +1,9 @@
+pub mod Pairs
+pub mod Tables
+pub mod Told
+pub mod Laws
+pub mod Sizes
+pub mod Fronts
+pub mod Starts
+pub mod Outside
+pub mod Distances

@@ -1,0 +1,116 @@
+-- Where the instructions of the profile end.
+use Rattle.std.proofs.Common.{◌≡◌, ℕ, ◌+◌, ◌-◌, Bool, true, false, ◌&&◌, ◌||◌, eqb, leb, List, [], ◌∷◌, ◌++◌, length, Option, Some, None, refl, sym, ap, subst, ◌∙◌, append_assoc, ◌⊎◌, inl, inr, arith}
+use Rattle.std.specs.Prelude.{IsTrue, is_none, not}
+use Rattle.std.specs.List.{flat_map}
+use Rattle.std.proofs.lemmas.Bool.{and_parts, eqb-true}
+use Rattle.jv_format.specs.Format.{◌>>=◌}
+use Rattle.jv_format.proofs.Laws.{one_form}
+use Rattle.jv_code.specs.Insns.{Instruction, insn_bytes, insn_fits}
+use Rattle.jv_code.specs.Shapes.{InsnShape, shape_at}
+use Rattle.jv_code.specs.Places.{all_fit}
+use Rattle.jv_code.specs.Reading.{insn, insn_read, operands}
+use Rattle.jv_code.specs.Unsupported.{is_unsupported, makes_floats, is_wide_float, front_unsupported, IsUnsupported}
+use Rattle.jv_code.proofs.Laws.{insn_is}
+use Rattle.jv_code.proofs.Sizes.{size, size-cons}
+use Rattle.jv_code.proofs.Fronts.{Front, Front-place}
+
+or_parts : (a b : Bool) → IsTrue (a || b) → IsTrue a ⊎ IsTrue b
+or_parts true b h = inl refl
+or_parts false b h = inr h
+
+none_is : (o : Option InsnShape) → IsTrue (is_none o) → o ≡ None
+none_is None h = refl
+none_is (Some s) h = absurd cc
+
+no_shape : (opcode : ℕ) → IsTrue (is_unsupported opcode) → shape_at opcode ≡ None
+no_shape opcode h =
+    let no_ret = not (eqb opcode 169) && is_none (shape_at opcode) in
+    let no_jsr = not (eqb opcode 168) && no_ret in
+    let one = and_parts (leb 11 opcode) (leb opcode 195 && no_jsr) h in
+    let two = and_parts (leb opcode 195) no_jsr one.1 in
+    let three = and_parts (not (eqb opcode 168)) no_ret two.1 in
+    none_is (shape_at opcode) (and_parts (not (eqb opcode 169)) (is_none (shape_at opcode)) three.1).1
+
+unread : (at opcode : ℕ) (rest : List ℕ) → IsTrue (is_unsupported opcode) → insn_read at (opcode ∷ rest) ≡ None
+unread at opcode rest h = ap (λ (o : Option InsnShape). o >>= operands at rest) (no_shape opcode h)
+
+floats_unread : (at opcode code : ℕ) (rest : List ℕ) → IsTrue (makes_floats opcode code) → insn_read at (opcode ∷ code ∷ rest) ≡ None
+floats_unread at opcode code rest h =
+    let parts = and_parts _ _ h in
+    let is : opcode ≡ 188 = eqb-true _ _ parts.0 in
+    elim (or_parts _ _ parts.1) [
+      | inl six ↦ let e : code ≡ 6 = eqb-true _ _ six in rw (is, e) refl
+      | inr seven ↦ let e : code ≡ 7 = eqb-true _ _ seven in rw (is, e) refl
+    ]
+
+wide_unread : (at opcode next : ℕ) (rest : List ℕ) → IsTrue (is_wide_float opcode next) → insn_read at (opcode ∷ next ∷ rest) ≡ None
+wide_unread at opcode next rest h =
+    let parts = and_parts _ _ h in
+    let is : opcode ≡ 196 = eqb-true _ _ parts.0 in
+    elim (or_parts _ _ parts.1) [
+      | inl a ↦ let e : next ≡ 23 = eqb-true _ _ a in rw (is, e) refl
+      | inr b ↦ elim (or_parts _ _ b) [
+        | inl a ↦ let e : next ≡ 24 = eqb-true _ _ a in rw (is, e) refl
+        | inr b ↦ elim (or_parts _ _ b) [
+          | inl a ↦ let e : next ≡ 56 = eqb-true _ _ a in rw (is, e) refl
+          | inr a ↦ let e : next ≡ 57 = eqb-true _ _ a in rw (is, e) refl
+        ]
+      ]
+    ]
+
+none_read : (at : ℕ) (bytes : List ℕ) → IsTrue (front_unsupported bytes) → insn_read at bytes ≡ None
+none_read at [] h = absurd cc
+none_read at (opcode ∷ []) h = unread at opcode [] h
+none_read at (opcode ∷ next ∷ rest) h =
+    elim (or_parts _ _ h) [
+      | inl a ↦ unread at opcode (next ∷ rest) a
+      | inr b ↦ elim (or_parts _ _ b) [
+        | inl a ↦ floats_unread at opcode next rest a
+        | inr a ↦ wide_unread at opcode next rest a
+      ]
+    ]
+
+-- no instruction of the profile stands there
+outside : (at : ℕ) (i : Instruction) (bytes rest : List ℕ) → IsTrue (insn_fits at i) → bytes ≡ insn_bytes i ++ rest → IsTrue (front_unsupported bytes) → ⊥
+outside at i bytes rest fits e h =
+    let none = none_read at bytes h in
+    let some : insn_read at bytes ≡ Some (i, rest) = ap (insn_read at) e ∙ (insn_is at).again i rest fits in
+    cc
+
+-- one of two lists of instructions at the front goes on with the other's rest
+abbrev GoesOn : ℕ → List Instruction → List Instruction → List ℕ → List ℕ → Type 0
+GoesOn at xs ys r s = (more : List Instruction) × (r ≡ flat_map insn_bytes more ++ s) × IsTrue (all_fit (at + size xs) more)
+
+two_fronts : (at : ℕ) (xs ys : List Instruction) (r s : List ℕ) → IsTrue (all_fit at xs) → IsTrue (all_fit at ys) → flat_map insn_bytes xs ++ r ≡ flat_map insn_bytes ys ++ s → GoesOn at xs ys r s ⊎ GoesOn at ys xs s r
+two_fronts at [] ys r s p q e = inl (ys, e, subst (λ (k : ℕ). IsTrue (all_fit k ys)) (omega arith) q)
+two_fronts at (x ∷ xs) [] r s p q e = inr (x ∷ xs, sym e, subst (λ (k : ℕ). IsTrue (all_fit k (x ∷ xs))) (omega arith) p)
+two_fronts at (x ∷ xs) (y ∷ ys) r s p q e =
+    let ps = and_parts _ _ p in
+    let qs = and_parts _ _ q in
+    let one = one_form (insn at) (insn_is at) x y (flat_map insn_bytes xs ++ r) (flat_map insn_bytes ys ++ s) ps.0 qs.0
+    (sym (append_assoc (insn_bytes x) (flat_map insn_bytes xs) r) ∙ e ∙ append_assoc (insn_bytes y) (flat_map insn_bytes ys) s) in
+    let qt : IsTrue (all_fit (at + length (insn_bytes x)) ys) = subst (λ (k : Instruction). IsTrue (all_fit (at + length (insn_bytes k)) ys)) (sym one.0) qs.1 in
+    let here : (at + length (insn_bytes x)) + size xs ≡ at + size (x ∷ xs) = omega (arith, size-cons x xs) in
+    let there : (at + length (insn_bytes x)) + size ys ≡ at + size (y ∷ ys) = omega (arith, size-cons y ys, ap (λ (k : Instruction). length (insn_bytes k)) one.0) in
+    elim (two_fronts (at + length (insn_bytes x)) xs ys r s ps.1 qt one.1) [
+      | inl a ↦ inl (a.0, a.1, subst (λ (k : ℕ). IsTrue (all_fit k a.0)) here a.2)
+      | inr a ↦ inr (a.0, a.1, subst (λ (k : ℕ). IsTrue (all_fit k a.0)) there a.2)
+    ]
+
+-- a list at the front ends where no instruction stands
+same_end : (at : ℕ) (more : List Instruction) (r s : List ℕ) → ((i : Instruction) (after : List ℕ) → IsTrue (insn_fits at i) → r ≡ insn_bytes i ++ after → ⊥) → r ≡ flat_map insn_bytes more ++ s → IsTrue (all_fit at more) → r ≡ s
+same_end at [] r s none e fit = e
+same_end at (i ∷ more) r s none e fit = absurd (none i (flat_map insn_bytes more ++ s) (and_parts _ _ fit).0 (e ∙ append_assoc (insn_bytes i) (flat_map insn_bytes more) s))
+
+pub Front-unsupported : (before : List Instruction) (bytes rest : List ℕ) → ((i : Instruction) (after : List ℕ) → IsTrue (insn_fits (length bytes - length rest) i) → rest ≡ insn_bytes i ++ after → ⊥)
+    → Front before bytes rest → IsUnsupported bytes → IsTrue (front_unsupported rest)
+Front-unsupported before bytes rest none front u =
+    let place : length bytes - length rest ≡ 0 + size before = omega (arith, Front-place before bytes rest front) in
+    let stops : (i : Instruction) (after : List ℕ) → IsTrue (insn_fits (0 + size before) i) → rest ≡ insn_bytes i ++ after → ⊥ = λ i after h e. none i after (rw place h) e in
+    elim (two_fronts 0 before u.before rest u.rest front.fit u.fit (sym front.is ∙ u.spelled)) [
+      | inl a ↦ let same = same_end (0 + size before) a.0 rest u.rest stops a.1 a.2 in rw same u.front
+      | inr a ↦ let same = same_end (0 + size u.before) a.0 u.rest rest (λ i after h e. outside (0 + size u.before) i u.rest after h e u.front) a.1 a.2 in rw (← same) u.front
+    ]
+
+pub is_unsupported_at : (before : List Instruction) (bytes rest : List ℕ) → Front before bytes rest → IsTrue (front_unsupported rest) → IsUnsupported bytes
+is_unsupported_at before bytes rest front h = record { before = before; rest = rest; spelled = front.is; fit = front.fit; front = h }

@@ -1,0 +1,11 @@
+use Rattle.std.proofs.Common.{arith, ◌++◌, ◌∷◌, []}
+use Rattle.jv_code.specs.Seen.{seen}
+use Rattle.jv_code.proofs.Fronts.{Front-push, Front-none}
+use Rattle.jv_code.proofs.code.is_code.Goals as goal
+
+pub returns-in_default : goal.returns-in_default
+returns-in_default c = (λ no. absurd cc, λ h. absurd (Front-none _ _ _ (grind arith) c.in_default.ensures.none c.loop-rest.invariant.1 h.0 h.1))
+
+pub loop-rest-preserved : goal.loop-rest-preserved
+loop-rest-preserved c =
+    (c.loop-rest.invariant.0 ++ seen c.in-Some._insn ∷ [], Front-push _ _ _ _ _ c.in-Some.ensures.found c.in-Some.ensures.fits c.loop-rest.invariant.1)

@@ -1,0 +1,11 @@
+pub mod Opcodes
+pub mod Numbers
+pub mod Switches
+pub mod Insns
+pub mod Shapes
+pub mod Reading
+pub mod Seen
+pub mod Places
+pub mod Unsupported
+pub mod Handlers
+pub mod Targets

@@ -1,0 +1,60 @@
+//! Instructions outside the profile (JVMS 6.5, 7).
+
+ghost use Rattle.std.specs.Prelude.{◌≡◌, ◌↔◌, IsTrue, is_some};
+ghost use Rattle.jv_code.specs.Shapes.{shape_at};
+ghost use Rattle.jv_code.specs.Unsupported.{is_unsupported, makes_floats, is_wide_float, front_unsupported, IsUnsupported};
+
+use crate::code::insn_front;
+use crate::opcodes::shape_of;
+
+fn is_of_profile(opcode: u8) -> bool
+    ensures { result ≡ is_some (shape_at opcode) }
+{
+    let Some(_shape) = shape_of(opcode) else {
+        return false;
+    };
+    true
+}
+
+fn is_unsupported(opcode: u8) -> bool
+    ensures { result ≡ is_unsupported opcode }
+{
+    11 <= opcode && opcode <= 195 && opcode != 168 && opcode != 169 && !is_of_profile(opcode)
+}
+
+fn makes_floats(opcode: u8, code: u8) -> bool
+    ensures { result ≡ makes_floats opcode code }
+{
+    opcode == 188 && (code == 6 || code == 7)
+}
+
+fn is_wide_float(opcode: u8, next: u8) -> bool
+    ensures { result ≡ is_wide_float opcode next }
+{
+    opcode == 196 && (next == 23 || next == 24 || next == 56 || next == 57)
+}
+
+fn front_unsupported(bytes: &[u8]) -> bool
+    ensures { result ≡ front_unsupported bytes.now }
+{
+    match bytes {
+        [] => false,
+        [opcode] => is_unsupported(*opcode),
+        [opcode, next, ..] => {
+            is_unsupported(*opcode) || makes_floats(*opcode, *next) || is_wide_float(*opcode, *next)
+        }
+    }
+}
+
+/// Whether the bytes begin with instructions of the profile, followed by one outside it: by an
+/// opcode of float, double, `invokedynamic` or monitors, by `newarray` of float or double, or by
+/// `wide` before such a local. It goes over the bytes once.
+pub fn unsupported(bytes: &[u8]) -> bool
+    ensures { IsTrue result ↔ IsUnsupported bytes.now }
+{
+    let mut rest = bytes;
+    while let Some((_insn, after)) = insn_front(bytes.len() - rest.len(), rest) {
+        rest = after;
+    }
+    front_unsupported(rest)
+}

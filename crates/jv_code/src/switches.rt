@@ -1,0 +1,163 @@
+//! Switches: padding, distances and keys (JVMS 6.5, tableswitch and lookupswitch).
+
+ghost use Rattle.std.specs.Prelude.{◌≡◌, ◌∷◌, [], ◌-ℤ◌, ◌<◌, length, slice_get, IfSome, IfNone};
+ghost use Rattle.std.specs.Option.{option_map};
+ghost use Rattle.jv_format.specs.Format.{Finds, paired};
+ghost use Rattle.jv_code.specs.Numbers.{signed32};
+ghost use Rattle.jv_code.specs.Switches.{distances_in, number_found, pair, pairs_in, keys_rise, pairs_right, padding, table_of, bounds, table_between, pairs_of, pairs};
+ghost use Rattle.jv_code.specs.Reading.{table_switch_read, lookup_switch_read};
+ghost use Rattle.jv_code.specs.Seen.{Reads};
+
+use crate::insn::Insn;
+use crate::numbers::signed32_at;
+use jv_format::{bytes_at, quad_at};
+
+fn pair_at(bytes: &[u8]) -> Option<((i32, i32), &[u8])>
+    ensures { Finds pair bytes.now (λ x. ((x.0.0, x.0.1), x.1.now)) result }
+{
+    let (key, rest) = signed32_at(bytes)?;
+    let (distance, rest) = signed32_at(rest)?;
+    Some(((key, distance), rest))
+}
+
+/// The distance at the front of a tableswitch's distances, and those behind it; `None` where
+/// there is none.
+pub fn first_distance(bytes: &[u8]) -> Option<(i32, &[u8])>
+    ensures some { IfSome result (λ x. distances_in bytes.now ≡ x.0 ∷ distances_in x.1.now) }
+    ensures none { IfNone result (distances_in bytes.now ≡ []) }
+    ensures shorter { IfSome result (λ x. length x.1.now < length bytes.now) }
+{
+    let Some(found) = signed32_at(bytes) else {
+        return None;
+    };
+    Some(found)
+}
+
+fn front_distance(bytes: &[u8]) -> Option<i32>
+    ensures { result ≡ option_map number_found (signed32.read bytes.now) }
+{
+    let (distance, _rest) = signed32_at(bytes)?;
+    Some(distance)
+}
+
+/// The distance at a place, from 0, of a tableswitch's distances; `None` where there are no more.
+#[tactic(auto, using(crate::proofs::Distances::distance_there, crate::proofs::Distances::none_past))]
+pub fn distance_at(bytes: &[u8], place: usize) -> Option<i32>
+    ensures { result ≡ slice_get (distances_in bytes.now) place }
+{
+    if bytes.len() / 4 <= place {
+        return None;
+    }
+    let (_, rest) = bytes.split_at(4 * place);
+    front_distance(rest)
+}
+
+/// The pair of a key and its distance at the front of a lookupswitch's pairs, and those behind
+/// it; `None` where there is none.
+pub fn first_pair(bytes: &[u8]) -> Option<((i32, i32), &[u8])>
+    ensures some { IfSome result (λ x. pairs_in bytes.now ≡ (x.0.0, x.0.1) ∷ pairs_in x.1.now) }
+    ensures none { IfNone result (pairs_in bytes.now ≡ []) }
+    ensures shorter { IfSome result (λ x. length x.1.now < length bytes.now) }
+{
+    let Some((pair, rest)) = pair_at(bytes) else {
+        return None;
+    };
+    Some((pair, rest))
+}
+
+/// Whether each key is above the one before.
+pub(crate) fn keys_rise(bytes: &[u8]) -> bool
+    ensures { result ≡ keys_rise (pairs_in bytes.now) }
+{
+    let Some(((mut key, _), mut rest)) = first_pair(bytes) else {
+        return true;
+    };
+    while let Some(((next, _), after)) = first_pair(rest) {
+        if next <= key {
+            return false;
+        }
+        key = next;
+        rest = after;
+    }
+    true
+}
+
+/// The distances of a tableswitch, four bytes for each number from low to high.
+fn table_at(low: i32, high: i32, bytes: &[u8]) -> Option<(&[u8], &[u8])>
+    ensures { Finds (table_of (high -ℤ low)) bytes.now (λ x. (x.0.now, x.1.now)) result }
+{
+    if high < low {
+        return None;
+    }
+    let count = (i64::from(high) - i64::from(low)) as usize;
+    bytes_at(4 * (count + 1), bytes)
+}
+
+fn bounds_at(bytes: &[u8]) -> Option<((i32, i32, i32), &[u8])>
+    ensures { Finds bounds bytes.now (λ x. ((x.0.0, (x.0.1, x.0.2)), x.1.now)) result }
+{
+    let (default, rest) = signed32_at(bytes)?;
+    let (low, rest) = signed32_at(rest)?;
+    let (high, rest) = signed32_at(rest)?;
+    Some(((default, low, high), rest))
+}
+
+fn distances_at(bytes: &[u8]) -> Option<((i32, i32, i32, &[u8]), &[u8])>
+    ensures { Finds (paired bounds table_between) bytes.now (λ x. (((x.0.0, (x.0.1, x.0.2)), x.0.3.now), x.1.now)) result }
+{
+    let ((default, low, high), rest) = bounds_at(bytes)?;
+    let (distances, rest) = table_at(low, high, rest)?;
+    Some(((default, low, high, distances), rest))
+}
+
+/// The padding behind the opcode of a switch at an offset of the code.
+fn padding_at(at: usize, bytes: &[u8]) -> Option<(&[u8], &[u8])>
+    ensures { Finds (padding at) bytes.now (λ x. (x.0.now, x.1.now)) result }
+{
+    bytes_at(3 - at % 4, bytes)
+}
+
+/// What follows the opcode of a tableswitch at an offset.
+pub(crate) fn table_switch_at(at: usize, bytes: &[u8]) -> Option<(Insn<&[u8]>, &[u8])>
+    ensures { Reads (table_switch_read at bytes.now) result }
+{
+    let (padding, rest) = padding_at(at, bytes)?;
+    let ((default, low, high, distances), rest) = distances_at(rest)?;
+    Some((
+        Insn::TableSwitch(padding, default, low, high, distances),
+        rest,
+    ))
+}
+
+fn pairs_right(count: u32, bytes: &[u8]) -> bool
+    ensures { result ≡ pairs_right count bytes.now }
+{
+    count < 2147483648 && keys_rise(bytes)
+}
+
+fn pairs_of(count: u32, bytes: &[u8]) -> Option<(&[u8], &[u8])>
+    ensures { Finds (pairs_of count) bytes.now (λ x. (x.0.now, x.1.now)) result }
+{
+    let (pairs, rest) = bytes_at(8 * (count as usize), bytes)?;
+    if !pairs_right(count, pairs) {
+        return None;
+    }
+    Some((pairs, rest))
+}
+
+fn pairs_at(bytes: &[u8]) -> Option<(&[u8], &[u8])>
+    ensures { Finds pairs bytes.now (λ x. (x.0.now, x.1.now)) result }
+{
+    let (count, rest) = quad_at(bytes)?;
+    pairs_of(count, rest)
+}
+
+/// What follows the opcode of a lookupswitch at an offset.
+pub(crate) fn lookup_switch_at(at: usize, bytes: &[u8]) -> Option<(Insn<&[u8]>, &[u8])>
+    ensures { Reads (lookup_switch_read at bytes.now) result }
+{
+    let (padding, rest) = padding_at(at, bytes)?;
+    let (default, rest) = signed32_at(rest)?;
+    let (pairs, rest) = pairs_at(rest)?;
+    Some((Insn::LookupSwitch(padding, default, pairs), rest))
+}

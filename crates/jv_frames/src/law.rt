@@ -1,0 +1,14 @@
+//! The laws of stack map frames.
+
+ghost use Rattle.jv_frames.specs.Frames.{FillsLocals, OneMaps};
+
+/// Local entries whose words are within `max_locals` come to `max_locals` local variables (JVMS
+/// 4.10.1.2).
+pub fn fills_locals()
+    ensures { FillsLocals }
+{}
+
+/// Bytes have one list of frames at most (JVMS 4.7.4).
+pub fn one_maps()
+    ensures { OneMaps }
+{}

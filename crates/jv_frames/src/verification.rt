@@ -1,0 +1,28 @@
+//! The types of local variables and stack items (JVMS 4.10.1.2).
+
+use jv_text::FieldTypeOf;
+
+/// The type of a local variable or of a stack item. `T` is a class's name: its bytes in the code,
+/// their list in definitions.
+#[derive(Clone, Copy)]
+pub enum VerificationTypeOf<T> {
+    /// Any word, which no instruction can use; also the second word of a long.
+    Top,
+    /// An int, a short, a char, a byte or a boolean.
+    Int,
+    /// A long, two words.
+    Long,
+    /// The type of `null`.
+    Null,
+    /// The receiver of a constructor that has not yet called another.
+    UninitializedThis,
+    /// A class or an interface, by its name.
+    Class(T),
+    /// An array, of one dimension at least.
+    Array(FieldTypeOf<T>),
+    /// What the `new` at this offset in the code, in bytes, made.
+    Uninitialized(u16),
+}
+
+/// A type whose class name is a part of the class file.
+pub type VerificationType<'a> = VerificationTypeOf<&'a [u8]>;
