@@ -5,5 +5,6 @@ pub mod Laws
 pub mod Sizes
 pub mod Fronts
 pub mod Starts
+pub mod Marks
 pub mod Outside
 pub mod Distances

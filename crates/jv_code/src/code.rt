@@ -1,9 +1,9 @@
 //! Code as a list of instructions (JVMS 4.7.3, 4.9.1).
 
-ghost use Rattle.std.specs.Prelude.{◌≡◌, ◌↔◌, ◌+◌, ◌++◌, ◌≤◌, ◌<◌, ℕ, List, length, IfOk, IfErr, IfSome, IfNone, IsTrue};
+ghost use Rattle.std.specs.Prelude.{◌≡◌, ◌↔◌, ◌+◌, ◌++◌, ◌≤◌, ◌<◌, ℕ, List, length, IfOk, IfErr, IfSome, IfNone, IsTrue, Some, true, slice_get};
 ghost use Rattle.jv_code.specs.Insns.{Instruction, insn_bytes, insn_fits};
 ghost use Rattle.jv_code.specs.Places.{IsCode, IsAt, IsStart, IsStartOrEnd};
-ghost use Rattle.jv_code.specs.Handlers.{HandlerFits, HandlersFit};
+ghost use Rattle.jv_code.specs.Handlers.{IsBlank, IsStartTable, HandlerFits, HandlersFit};
 ghost use Rattle.jv_code.specs.Seen.{seen};
 
 use crate::handlers::Handler;
@@ -59,6 +59,13 @@ fn is_code(bytes: &[u8]) -> bool
         rest = after;
     }
     true
+}
+
+/// Whether a table of starts has the offset.
+fn is_marked(starts: &[bool; 65536], pc: u16) -> bool
+    ensures { IsTrue result ↔ (slice_get starts.now pc ≡ Some true) }
+{
+    starts[usize::from(pc)]
 }
 
 impl<'a> Code<'a> {
@@ -124,45 +131,56 @@ impl<'a> Code<'a> {
         (insn, (self.bytes.len() - after.len()) as u32)
     }
 
-    /// Whether an instruction starts at the offset, or the code ends there.
-    fn is_start_or_end(&self, pc: u32) -> bool
-        ensures { IsTrue result ↔ IsStartOrEnd self.now pc }
+    /// Marks the offsets where instructions start, in one pass over the code.
+    fn mark_starts(&self, starts: &mut [bool; 65536])
+        requires { IsBlank starts.old }
+        ensures { IsStartTable self.now starts.new }
     {
-        pc == self.size() || self.is_start(pc)
+        let end = self.size();
+        let mut pc = 0;
+        while pc < end {
+            starts[pc as usize] = true;
+            let (_insn, next) = self.insn_at(pc);
+            pc = next;
+        }
     }
 
-    fn starts_fit(&self, handler: &Handler) -> bool
+    fn starts_fit(&self, starts: &[bool; 65536], handler: &Handler) -> bool
+        requires { IsStartTable self.now starts.now }
         ensures { IsTrue result ↔ (IsStart self.now handler.now.start_pc × IsStart self.now handler.now.handler_pc) }
     {
-        self.is_start(u32::from(handler.start_pc)) && self.is_start(u32::from(handler.handler_pc))
+        is_marked(starts, handler.start_pc) && is_marked(starts, handler.handler_pc)
     }
 
-    fn end_fits(&self, handler: &Handler) -> bool
+    fn end_fits(&self, starts: &[bool; 65536], handler: &Handler) -> bool
+        requires { IsStartTable self.now starts.now }
         ensures { IsTrue result ↔ IsStartOrEnd self.now handler.now.end_pc }
     {
-        self.is_start_or_end(u32::from(handler.end_pc))
+        is_marked(starts, handler.end_pc) || u32::from(handler.end_pc) == self.size()
     }
 
-    fn handler_fits(&self, handler: &Handler) -> bool
+    fn handler_fits(&self, starts: &[bool; 65536], handler: &Handler) -> bool
+        requires { IsStartTable self.now starts.now }
         ensures { IsTrue result ↔ HandlerFits self.now handler.now }
     {
         if handler.start_pc >= handler.end_pc {
             return false;
         }
-        self.starts_fit(handler) && self.end_fits(handler)
+        self.starts_fit(starts, handler) && self.end_fits(starts, handler)
     }
 
     /// Whether each handler covers something, from an instruction's start to another's or to the
     /// end of the code, and starts at an instruction (4.7.3). What it catches is not looked at.
     ///
-    /// It walks over the code for each handler, so who has a table of the starts asks that.
-    ///
-    /// It walks the code up to three times for each handler.
+    /// It makes one pass over the code and takes constant time for each handler. Its table of the
+    /// starts takes 65,536 bytes of stack.
     pub fn handlers_fit(&self, handlers: &[Handler]) -> bool
         ensures { IsTrue result ↔ HandlersFit self.now handlers.now }
     {
+        let mut starts = [false; 65536];
+        self.mark_starts(&mut starts);
         for handler in handlers {
-            if !self.handler_fits(handler) {
+            if !self.handler_fits(&starts, handler) {
                 return false;
             }
         }

@@ -4,7 +4,11 @@ use Rattle.std.proofs.lemmas.List.{take_all}
 use Rattle.std.proofs.lemmas.List.Elements.{All-more}
 use Rattle.jv_code.specs.declared.handlers.Handler.{Handler}
 use Rattle.jv_code.specs.Handlers.{HandlerFits}
+use Rattle.jv_code.proofs.Marks.{IsBlank-replicate}
 use Rattle.jv_code.proofs.code.Code.handlers_fit.Goals as goal
+
+pub mark_starts-requires : goal.mark_starts-requires
+mark_starts-requires c = IsBlank-replicate 65536
 
 pub loop-handler-preserved : goal.loop-handler-preserved
 loop-handler-preserved c =

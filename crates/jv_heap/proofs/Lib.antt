@@ -1,0 +1,5 @@
+pub mod Contents
+pub mod Rows
+pub mod Cuts
+pub mod Fills
+pub mod LookUps

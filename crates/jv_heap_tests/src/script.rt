@@ -1,0 +1,60 @@
+ghost use Rattle.jv_heap.specs.Content.{words_at};
+ghost use Rattle.std.specs.Prelude.{◌≤◌, length};
+
+use jv_heap::{Memory, Store};
+use std::alloc::Global;
+use std::process::Abort;
+
+/// Whether the block at an address begins with these words.
+pub fn holds<S: Store>(store: &S, address: u32, words: &[u32]) -> bool
+    requires fits { length words.now ≤ length (words_at (S.content store.now) address) }
+    requires short { length words.now ≤ 9 }
+{
+    for place in 0..words.len() {
+        if store.get(address, place as u32) != words[place] {
+            return false;
+        }
+    }
+    true
+}
+
+/// The same list of calls on any store, compared with plain lists. Want of memory ends it, once room
+/// and content are seen to be as they were.
+pub fn run<S: Store, R: Abort>(rt: &R, alloc: Global) -> Result<(), Memory> {
+    let mut store = S::empty(alloc);
+    assert!(rt; store.room() == 0 && store.total() == 0);
+    if let Err(refused) = store.reserve(6) {
+        assert!(rt; store.room() == 0 && store.total() == 0);
+        return Err(refused);
+    }
+    assert!(rt; store.room() == 6 && store.total() == 6);
+    let first = store.alloc(2)?;
+    assert!(rt; first != 0 && store.room() == 4 && store.total() == 6);
+    assert!(rt; holds(&store, first, &[0, 0]));
+    store.set(first, 1, 7);
+    assert!(rt; holds(&store, first, &[0, 7]));
+    let second = match store.alloc(3) {
+        Ok(address) => address,
+        Err(refused) => {
+            assert!(rt; !S::SURE && store.room() == 4 && store.total() == 6);
+            assert!(rt; holds(&store, first, &[0, 7]));
+            return Err(refused);
+        }
+    };
+    assert!(rt; first < second && store.room() == 1 && store.total() == 6);
+    store.set(second, 0, 8);
+    store.set(second, 2, 9);
+    assert!(rt; holds(&store, first, &[0, 7]) && holds(&store, second, &[8, 0, 9]));
+    store.take_back(second, 3);
+    assert!(rt; holds(&store, first, &[0, 7]));
+    assert!(rt; store.room() == 4 && store.total() == 6);
+    let third = store.alloc(4)?;
+    assert!(rt; first < third && store.room() == 0 && store.total() == 6);
+    assert!(rt; holds(&store, first, &[0, 7]) && holds(&store, third, &[0, 0, 0, 0]));
+    store.take_back(third, 4);
+    store.take_back(first, 2);
+    assert!(rt; store.room() == 6 && store.total() == 6);
+    store.release(5);
+    assert!(rt; store.room() == 1 && store.total() == 1);
+    Ok(())
+}
