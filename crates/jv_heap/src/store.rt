@@ -1,5 +1,5 @@
 ghost use Rattle.jv_heap.specs.Content.{words_at, words_held, greatest, written, without};
-ghost use Rattle.std.specs.Prelude.{◌≡◌, ℕ, ◌+◌, ◌-◌, ◌<◌, ◌≤◌, Bool, IsTrue, List, [], ◌∷◌, ◌++◌, length, replicate, slice_index, IfOk, OnOk, OnErr, IsOk};
+ghost use Rattle.std.specs.Prelude.{◌≡◌, ℕ, ◌+◌, ◌-◌, ◌<◌, ◌≤◌, Bool, false, IsTrue, List, [], ◌∷◌, ◌++◌, length, replicate, slice_index, IfOk, OnOk, OnErr, IsOk};
 
 use crate::memory::Memory;
 use std::alloc::Global;
@@ -15,6 +15,7 @@ pub trait Store: Drop {
     /// How many words further blocks may take.
     ghost room_left: { Self → ℕ };
 
+    /// The constant `SURE` in clauses: of each implementation it is proved that the two are equal.
     ghost SURE: { Bool };
 
     /// Whether `alloc` is never refused.
@@ -34,12 +35,15 @@ pub trait Store: Drop {
         ensures value { result ≡ room_left self.now + words_held (content self.now) }
         ensures bound { result ≤ MOST_WORDS };
 
-    /// Adds `n` words to the room. After a refusal the room is as it was.
+    /// Adds `n` words to the room. After a refusal the room is as it was. A store whose `alloc` may
+    /// be refused never refuses this call, and no store refuses to add nothing.
     fn reserve(&mut self, n: u64) -> Result<(), Memory>
         requires { room_left self.old + words_held (content self.old) + n ≤ MOST_WORDS }
         ensures content { content self.new ≡ content self.old }
         ensures ok { OnOk result (room_left self.new ≡ room_left self.old + n) }
-        ensures refused { OnErr result (room_left self.new ≡ room_left self.old) };
+        ensures refused { OnErr result (room_left self.new ≡ room_left self.old) }
+        ensures free { SURE ≡ false → IsOk result }
+        ensures nothing { n ≡ 0 → IsOk result };
 
     /// Takes `n` words from the room.
     fn release(&mut self, n: u64)

@@ -3,6 +3,10 @@
 #![tactic(auto)]
 
 #[cfg(test)]
+mod calls;
+#[cfg(test)]
 mod script;
 #[cfg(test)]
 mod stores;
+#[cfg(test)]
+mod twin;

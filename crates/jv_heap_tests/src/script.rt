@@ -1,5 +1,5 @@
-ghost use Rattle.jv_heap.specs.Content.{words_at};
-ghost use Rattle.std.specs.Prelude.{◌≤◌, length};
+ghost use Rattle.jv_heap.specs.Content.{words_at, greatest};
+ghost use Rattle.std.specs.Prelude.{◌≡◌, ◌+◌, ◌<◌, ◌≤◌, [], ◌∷◌, ◌++◌, length, replicate, IsTrue};
 
 use jv_heap::{Memory, Store};
 use std::alloc::Global;
@@ -18,7 +18,22 @@ pub fn holds<S: Store>(store: &S, address: u32, words: &[u32]) -> bool
     true
 }
 
-/// The same list of calls on any store, compared with plain lists. Want of memory ends it, once room
+/// A block of a store that never refuses one.
+pub fn sure<S: Store>(store: &mut S, len: u32) -> u32
+    requires sure { IsTrue S.SURE }
+    requires some { 1 ≤ len }
+    requires room { len ≤ S.room_left store.old }
+    ensures above { greatest (S.content store.old) < result }
+    ensures content { S.content store.new ≡ S.content store.old ++ (result, replicate len 0) ∷ [] }
+    ensures room { S.room_left store.new + len ≡ S.room_left store.old }
+{
+    match store.alloc(len) {
+        Ok(address) => address,
+        Err(_refused) => unreachable!(),
+    }
+}
+
+/// The same list of calls on any store, with each answer written out. Want of memory ends it, once room
 /// and content are seen to be as they were.
 pub fn run<S: Store, R: Abort>(rt: &R, alloc: Global) -> Result<(), Memory> {
     let mut store = S::empty(alloc);
@@ -48,7 +63,11 @@ pub fn run<S: Store, R: Abort>(rt: &R, alloc: Global) -> Result<(), Memory> {
     store.take_back(second, 3);
     assert!(rt; holds(&store, first, &[0, 7]));
     assert!(rt; store.room() == 4 && store.total() == 6);
-    let third = store.alloc(4)?;
+    let third = if S::SURE {
+        sure(&mut store, 4)
+    } else {
+        store.alloc(4)?
+    };
     assert!(rt; first < third && store.room() == 0 && store.total() == 6);
     assert!(rt; holds(&store, first, &[0, 7]) && holds(&store, third, &[0, 0, 0, 0]));
     store.take_back(third, 4);

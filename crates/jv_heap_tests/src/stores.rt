@@ -1,3 +1,4 @@
+use crate::calls::{CALLS, play};
 use crate::script::run;
 use jv_heap::{Blocks, Cells};
 use std::test::Fail;
@@ -24,4 +25,23 @@ fn blocks_run_or_has_no_memory(rt: HostRuntime) {
 #[test]
 fn cells_run_or_has_no_memory(rt: HostRuntime) {
     let _outcome = run::<Cells, HostRuntime>(&rt, rt.alloc());
+}
+
+#[test]
+fn same_calls_on_both(rt: HostRuntime) -> Result<(), Fail> {
+    play::<Blocks, HostRuntime>(&rt, rt.alloc(), &CALLS)?;
+    play::<Cells, HostRuntime>(&rt, rt.alloc(), &CALLS)?;
+    Ok(())
+}
+
+/// For a run with an allocation refused.
+#[test]
+fn blocks_play_or_has_no_memory(rt: HostRuntime) {
+    let _outcome = play::<Blocks, HostRuntime>(&rt, rt.alloc(), &CALLS);
+}
+
+/// For a run with an allocation refused.
+#[test]
+fn cells_play_or_has_no_memory(rt: HostRuntime) {
+    let _outcome = play::<Cells, HostRuntime>(&rt, rt.alloc(), &CALLS);
 }

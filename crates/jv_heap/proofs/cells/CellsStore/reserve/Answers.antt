@@ -17,3 +17,6 @@ pub invariant_of-self-2-clause-few : goal.invariant_of-self-2-clause-few
 invariant_of-self-2-clause-few c =
     let held = fill_held c.args.self.now.starts.items c.args.self.now.words.items (ap (fill c.args.self.now.starts.items) (sym c.args.self.now.words.ok.0) ∙ c.args.self.now.filled) in
     omega (arith, held, c.requires, c.reserve.ensures.len, c.args.self.now.words.ok.0)
+
+pub returns-in_err-reserve-2-clause-nothing : goal.returns-in_err-reserve-2-clause-nothing
+returns-in_err-reserve-2-clause-nothing c e = absurd (omega (arith, e, (c.in_err-reserve-2.ensures {u = tt}).full, fill_count c.args.self.now.starts.items _ c.args.self.now.filled, c.len.ensures, c.len-2.ensures, c.reserve.ensures.len, c.args.self.now.starts.ok.0, c.args.self.now.starts_fit))
