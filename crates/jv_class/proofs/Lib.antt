@@ -1,2 +1,4 @@
-pub mod Structures
+pub mod Facts
+pub mod Kept
+pub mod Keys
 pub mod Whole

@@ -1,15 +1,13 @@
 -- Which bytes are a class file (JVMS 4.1), and which are one of another version.
-use Rattle.std.specs.Prelude.{◌≡◌, ℕ, ◌<◌, List, ◌++◌, [], ◌∷◌, Option, IsTrue}
+use Rattle.std.specs.Prelude.{◌≡◌, ℕ, ◌<◌, List, ◌++◌, Option, IsTrue}
 use Rattle.jv_format.specs.Format.{half}
 use Rattle.jv_pool.specs.Constants.{class_name_at, pool_bytes}
 use Rattle.jv_pool.specs.Rules.{IsPool}
-use Rattle.jv_class.specs.Structure.{ClassStructure, MethodInfo, CodeAttribute, magic, class_bytes}
-use Rattle.jv_class.specs.Structure.MethodAttribute.{Code}
-use Rattle.jv_class.specs.Rules.{KeepsClassRules, class_fits, some_and, is_object}
-
--- the version of this host's class files (4.1): 52.0, that of Java SE 8
-abbrev pub is_52_0 : ℕ → ℕ → Type 0
-is_52_0 minor major = (minor ≡ 0) × (major ≡ 52)
+use Rattle.jv_class_parts.specs.Structure.{ClassStructure, magic, class_bytes, body_fits}
+use Rattle.jv_class_parts.specs.Attributes.{attributes_right}
+use Rattle.jv_class_parts.specs.Parts.{is_52_0}
+use Rattle.jv_class.specs.Rules.{KeepsClassRules}
+use Rattle.jv_class.specs.Supported.{IsSupported}
 
 -- the bytes begin like a class file, with another version
 pub record IsOtherVersion (bytes : List ℕ) : Type 0 where
@@ -21,33 +19,23 @@ pub record IsOtherVersion (bytes : List ℕ) : Type 0 where
   pub begins : bytes ≡ magic ++ half.spelling minor ++ half.spelling major ++ rest
   pub other : ¬ is_52_0 minor major
 
--- The shape that this reader knows: a class below java/lang/Object with no interfaces and no fields, whose one method has
--- its code without handlers as its one attribute, and no attributes elsewhere.
-pub record IsSmall (c : ClassStructure) : Type 0 where
-  pub superclass : IsTrue (some_and is_object (class_name_at c.constant_pool c.super_class))
-  pub no_interfaces : c.interfaces ≡ []
-  pub no_fields : c.fields ≡ []
-  pub method : MethodInfo
-  pub one_method : c.methods ≡ method ∷ []
-  pub code_name : ℕ
-  pub code : CodeAttribute
-  pub one_attribute : method.attributes ≡ Code code_name code ∷ []
-  pub no_handlers : code.exception_table ≡ []
-  pub no_code_attributes : code.attributes ≡ []
-  pub no_attributes : c.attributes ≡ []
-
--- what makes a structure well formed
+-- What makes a structure well formed: its constants are a pool, its numbers fit their fields, its attributes are those that
+-- may stand where they stand, and names, types and flags keep their rules.
 pub record IsWellFormed (c : ClassStructure) : Type 0 where
   pub pool : IsPool (pool_bytes c.constant_pool) c.constant_pool
-  pub fits : IsTrue (class_fits c)
+  pub fits : IsTrue (body_fits c)
+  pub attributes : IsTrue (attributes_right c)
   pub rules : KeepsClassRules c
-  pub small : IsSmall c
 
 -- the bytes are the class file with this structure
 pub record IsClassFile (bytes : List ℕ) (c : ClassStructure) : Type 0 where
   pub spelled : bytes ≡ class_bytes c
   pub version : is_52_0 c.minor_version c.major_version
   pub well_formed : IsWellFormed c
+
+-- the bytes are a class file with more than the profile supports, its code aside
+abbrev pub IsUnsupportedFile : List ℕ → Type 0
+IsUnsupportedFile bytes = (c : ClassStructure) × IsClassFile bytes c × (¬ IsSupported c)
 
 -- the name of a class, where its constant stands
 abbrev pub class_name : ClassStructure → Option (List ℕ)

@@ -1,6 +1,4 @@
-pub mod Structure
-pub mod Flags
 pub mod Rules
+pub mod Supported
 pub mod ClassFile
-pub mod Seen
 pub mod Reading

@@ -1,53 +1,24 @@
--- The rules of a class file that its bytes alone do not say (JVMS 4.1, 4.6, 4.7.3).
-use Rattle.std.specs.Prelude.{◌≡◌, ℕ, ◌+◌, Bool, true, false, not, ◌&&◌, ◌==◌, nat_lt, nat_le, List, length, Option, Some, None, is_none, count_by, IsTrue, codes, if◌then◌else◌}
-use Rattle.std.specs.List.{list_all, All}
+-- The rules on the names, types and flags of a class, its fields and its methods (JVMS 4.1, 4.5, 4.6, 4.7.2, 4.7.3).
+-- Those on a field speak of what is shown of it: its flags, its indices, and the index of its constant value; those on a
+-- method of its flags, its indices and its code, if it has one.
+use Rattle.std.specs.Prelude.{◌≡◌, ◌≢◌, ⊤, ℕ, ◌+◌, Bool, true, false, not, ◌&&◌, ◌==◌, nat_le, List, [], ◌∷◌, map, Option, Some, None, is_some, is_none, IsTrue, codes, if◌then◌else◌}
+use Rattle.std.specs.List.{All, AllByRecursion}
+use Rattle.std.specs.Option.{IsSomeAnd}
 use Rattle.std.specs.Str.{bytes_eq}
-use Rattle.jv_format.specs.Format.{half, quad}
 use Rattle.jv_text.specs.declared.descriptor.FieldTypeOf.{FieldTypeOf}
-use Rattle.jv_text.specs.Name.{is_method_name}
-use Rattle.jv_text.specs.Descriptor.{MethodDescriptor, slots, IsMethod}
-use Rattle.jv_pool.specs.Constants.{Entry, utf8_at, class_name_at}
+use Rattle.jv_text.specs.Name.{is_unqualified_name, is_method_name}
+use Rattle.jv_text.specs.Descriptor.{IsField, MethodDescriptor, slots, IsMethod}
+use Rattle.jv_pool.specs.declared.constant.Kind.{Kind}
+use Rattle.jv_pool.specs.declared.constant.Kind.TheVariants as kinds
+use Rattle.jv_pool.specs.declared.facts.ValueKind.{ValueKind}
+use Rattle.jv_pool.specs.declared.facts.ValueKind.TheVariants as values
+use Rattle.jv_pool.specs.Constants.{Entry, NameAndDescriptor, named_at, kind_at, class_name_at}
 use Rattle.jv_pool.specs.Rules.{is_array_name, is_init}
-use Rattle.jv_class.specs.Structure.{AttributeInfo, ExceptionEntry, CodeAttribute, MethodAttribute, FieldInfo, MethodInfo, ClassStructure, code_bytes}
-use Rattle.jv_class.specs.Structure.MethodAttribute.{Code, Other}
-use Rattle.jv_class.specs.Flags.{has, acc_static, acc_native, acc_interface, acc_abstract, class_flags_right, visibility_right, abstract_right, interface_method_right, init_flags_right}
-
--- ---- the numbers fit their fields: counts and indices two bytes, lengths four
-
-abbrev pub table_fits : {A : Type 0} → (A → Bool) → List A → Bool
-table_fits item_fits items = nat_lt (length items) 65536 && list_all item_fits items
-
-abbrev pub attribute_fits : AttributeInfo → Bool
-attribute_fits a = half.fits a.attribute_name_index && quad.fits (length a.info)
-
-abbrev pub exception_fits : ExceptionEntry → Bool
-exception_fits e = half.fits e.start_pc && half.fits e.end_pc && half.fits e.handler_pc && half.fits e.catch_type
-
-abbrev pub code_fits : CodeAttribute → Bool
-code_fits c =
-    half.fits c.max_stack && half.fits c.max_locals && quad.fits (length c.code)
-    && table_fits exception_fits c.exception_table && table_fits attribute_fits c.attributes
-
-abbrev pub method_attribute_fits : MethodAttribute → Bool
-method_attribute_fits (Code name code) = half.fits name && quad.fits (length (code_bytes code)) && code_fits code
-method_attribute_fits (Other attribute) = attribute_fits attribute
-
-abbrev pub field_fits : FieldInfo → Bool
-field_fits f =
-    half.fits f.access_flags && half.fits f.name_index && half.fits f.descriptor_index
-    && table_fits attribute_fits f.attributes
-
-abbrev pub method_fits : MethodInfo → Bool
-method_fits m =
-    half.fits m.access_flags && half.fits m.name_index && half.fits m.descriptor_index
-    && table_fits method_attribute_fits m.attributes
-
--- those behind the constant pool
-abbrev pub class_fits : ClassStructure → Bool
-class_fits c =
-    half.fits c.access_flags && half.fits c.this_class && half.fits c.super_class
-    && table_fits half.fits c.interfaces && table_fits field_fits c.fields
-    && table_fits method_fits c.methods && table_fits attribute_fits c.attributes
+use Rattle.jv_pool.specs.Facts.{value_of_type}
+use Rattle.jv_class_parts.specs.Structure.{ClassStructure}
+use Rattle.jv_class_parts.specs.Attributes.{some_and}
+use Rattle.jv_class_parts.specs.Parts.{FieldSeen, MethodSeen, field_shown, method_shown}
+use Rattle.jv_class_parts.specs.Flags.{has, acc_static, acc_native, acc_interface, acc_abstract, class_flags_right, visibility_right, volatile_right, interface_field_right, abstract_right, interface_method_right, init_flags_right}
 
 -- ---- names
 
@@ -60,23 +31,66 @@ is_clinit name = bytes_eq name (codes "<clinit>")
 abbrev pub is_no_arguments_void : List ℕ → Bool
 is_no_arguments_void descriptor = bytes_eq descriptor (codes "()V")
 
-abbrev pub is_code_name : List ℕ → Bool
-is_code_name name = bytes_eq name (codes "Code")
-
--- a test of a text that may be there
-abbrev pub some_and : (List ℕ → Bool) → Option (List ℕ) → Bool
-some_and test None = false
-some_and test (Some text) = test text
-
--- ---- the class (4.1)
+-- ---- the class and its supers (4.1)
 
 abbrev pub is_no_array_name : List ℕ → Bool
 is_no_array_name name = not (is_array_name name)
 
+-- the index of a Class constant that names no array
+abbrev pub is_class_at : List Entry → ℕ → Bool
+is_class_at pool index = some_and is_no_array_name (class_name_at pool index)
+
+abbrev pub IsClassAt : List Entry → ℕ → Type 0
+IsClassAt pool index = IsTrue (is_class_at pool index)
+
 -- java/lang/Object alone has no superclass; that of any other class is a Class constant and no array
 abbrev pub super_right : List Entry → List ℕ → ℕ → Bool
-super_right pool name super_class =
-    if is_object name then super_class == 0 else some_and is_no_array_name (class_name_at pool super_class)
+super_right pool name super_class = if is_object name then super_class == 0 else is_class_at pool super_class
+
+-- the superclass of an interface is java/lang/Object
+abbrev pub interface_super_right : List Entry → ℕ → ℕ → Bool
+interface_super_right pool class_flags super_class =
+    if has class_flags acc_interface then some_and is_object (class_name_at pool super_class) else true
+
+-- the name of a class is none of an array, and goes with its superclass
+pub record IsNameRight (pool : List Entry) (super_class : ℕ) (name : List ℕ) : Type 0 where
+  pub no_array : IsTrue (is_no_array_name name)
+  pub superclass : IsTrue (super_right pool name super_class)
+
+-- ---- its fields (4.5)
+
+abbrev pub interface_field_flags_right : Bool → ℕ → Bool
+interface_field_flags_right in_interface flags = if in_interface then interface_field_right flags else true
+
+abbrev pub field_flags_right : Bool → ℕ → Bool
+field_flags_right in_interface flags =
+    visibility_right flags && volatile_right flags && interface_field_flags_right in_interface flags
+
+-- the constant that the value of a static field may be, by the field's type (4.7.2, table 4.7.2-A); that of a float or a
+-- double is not looked at, since such a field makes the class unsupported (own)
+abbrev pub takes : ValueKind → Option Kind → Bool
+takes values.Integer (Some kinds.Integer) = true
+takes values.Long (Some kinds.Long) = true
+takes values.String (Some kinds.String) = true
+takes values.Floating constant = true
+takes _ _ = false
+
+abbrev pub value_right : List Entry → ValueKind → Option ℕ → Bool
+value_right pool value None = true
+value_right pool value (Some index) = takes value (kind_at pool index)
+
+-- what a field's name, descriptor, flags and value have to do with one another
+pub record IsFieldRight (pool : List Entry) (class_flags : ℕ) (f : FieldSeen) (texts : NameAndDescriptor) : Type 0 where
+  pub named : IsTrue (is_unqualified_name texts.name)
+  pub type : FieldTypeOf (List ℕ)
+  pub described : IsField texts.descriptor type
+  pub flags_right : IsTrue (field_flags_right (has class_flags acc_interface) f.access_flags)
+  pub value : IsTrue (value_right pool (value_of_type type) f.constant_value)
+
+-- a field's indices name such texts
+abbrev pub KeepsFieldRules : List Entry → ℕ → FieldSeen → Type 0
+KeepsFieldRules pool class_flags f =
+    IsSomeAnd (named_at pool f.name_index f.descriptor_index) (IsFieldRight pool class_flags f)
 
 -- ---- its methods (4.6)
 
@@ -93,8 +107,8 @@ method_flags_right in_interface name flags =
     else visibility_right flags && abstract_right flags && interface_flags_right in_interface flags && named_flags_right name flags
 
 -- `<init>` is void (2.9) and in no interface (own)
-abbrev pub init_right : Bool → List ℕ → Option (FieldTypeOf (List ℕ)) → Bool
-init_right in_interface name result = if is_init name then not in_interface && is_none result else true
+abbrev pub init_right : Bool → List ℕ → Bool → Bool
+init_right in_interface name void = if is_init name then not in_interface && void else true
 
 -- `<clinit>` is static and `()V` (2.9) (own)
 abbrev pub clinit_right : List ℕ → List ℕ → ℕ → Bool
@@ -104,63 +118,68 @@ clinit_right name descriptor flags = if is_clinit name then has flags acc_static
 abbrev pub slots_right : ℕ → ℕ → Bool
 slots_right flags count = nat_le ((if has flags acc_static then 0 else 1) + count) 255
 
--- a method has no code where it is abstract or native, `<clinit>` aside, and else has it once (4.7.3)
-abbrev pub is_code : MethodAttribute → Bool
-is_code (Code name code) = true
-is_code (Other attribute) = false
-
+-- a method has no code where it is abstract or native, `<clinit>` aside, and else has it (4.7.3)
 abbrev pub is_bodiless : List ℕ → ℕ → Bool
 is_bodiless name flags = not (is_clinit name) && has flags (acc_abstract + acc_native)
 
-abbrev pub code_count_right : List ℕ → ℕ → List MethodAttribute → Bool
-code_count_right name flags attributes = count_by is_code attributes == (if is_bodiless name flags then 0 else 1)
+abbrev pub code_there_right : List ℕ → MethodSeen → Bool
+code_there_right name m = if is_bodiless name m.access_flags then is_none m.code else is_some m.code
 
--- the code has 1 to 65,535 bytes (4.7.3)
-abbrev pub code_length_right : List ℕ → Bool
-code_length_right code = nat_lt 0 (length code) && nat_lt (length code) 65536
-
--- the attribute `Code` is the code, and every other is passed over by its length (4.7.1)
-abbrev pub is_no_code_name : List ℕ → Bool
-is_no_code_name name = not (is_code_name name)
-
-abbrev pub attribute_right : List Entry → MethodAttribute → Bool
-attribute_right pool (Code name code) = some_and is_code_name (utf8_at pool name) && code_length_right code.code
-attribute_right pool (Other attribute) = some_and is_no_code_name (utf8_at pool attribute.attribute_name_index)
-
--- what a method's name, descriptor and flags have to do with one another
-pub record IsMethodRight (class_flags flags : ℕ) (name descriptor : List ℕ) : Type 0 where
-  pub named : IsTrue (is_method_name name)
+-- what a method's name, descriptor, flags and code have to do with one another
+pub record IsMethodRight (class_flags : ℕ) (m : MethodSeen) (texts : NameAndDescriptor) : Type 0 where
+  pub named : IsTrue (is_method_name texts.name)
   pub type : MethodDescriptor
-  pub described : IsMethod descriptor type
-  pub flags_right : IsTrue (method_flags_right (has class_flags acc_interface) name flags)
-  pub init : IsTrue (init_right (has class_flags acc_interface) name type.result)
-  pub clinit : IsTrue (clinit_right name descriptor flags)
-  pub few_slots : IsTrue (slots_right flags (slots type))
+  pub described : IsMethod texts.descriptor type
+  pub flags_right : IsTrue (method_flags_right (has class_flags acc_interface) texts.name m.access_flags)
+  pub init : IsTrue (init_right (has class_flags acc_interface) texts.name (is_none type.result))
+  pub clinit : IsTrue (clinit_right texts.name texts.descriptor m.access_flags)
+  pub few_slots : IsTrue (slots_right m.access_flags (slots type))
+  pub code : IsTrue (code_there_right texts.name m)
 
--- a method's indices name these texts
-pub record HasTexts (pool : List Entry) (m : MethodInfo) (name descriptor : List ℕ) : Type 0 where
-  pub name_there : utf8_at pool m.name_index ≡ Some name
-  pub descriptor_there : utf8_at pool m.descriptor_index ≡ Some descriptor
+-- a method's indices name such texts
+abbrev pub KeepsMethodRules : List Entry → ℕ → MethodSeen → Type 0
+KeepsMethodRules pool class_flags m =
+    IsSomeAnd (named_at pool m.name_index m.descriptor_index) (IsMethodRight class_flags m)
 
-pub record IsMethodWith (pool : List Entry) (class_flags : ℕ) (m : MethodInfo) (name descriptor : List ℕ) : Type 0 where
-  pub right : IsMethodRight class_flags m.access_flags name descriptor
-  pub codes : IsTrue (code_count_right name m.access_flags m.attributes)
-  pub attributes : IsTrue (list_all (attribute_right pool) m.attributes)
+-- ---- no two fields, and no two methods, have the same name and descriptor (4.5, 4.6)
 
-pub record KeepsMethodRules (pool : List Entry) (class_flags : ℕ) (m : MethodInfo) : Type 0 where
-  pub name : List ℕ
-  pub descriptor : List ℕ
-  pub texts : HasTexts pool m name descriptor
-  pub rules : IsMethodWith pool class_flags m name descriptor
+abbrev pub field_texts : List Entry → FieldSeen → Option NameAndDescriptor
+field_texts pool f = named_at pool f.name_index f.descriptor_index
 
--- the name of a class, and what it has to do with its superclass (4.1)
-pub record IsClassNamed (pool : List Entry) (this_class super_class : ℕ) (name : List ℕ) : Type 0 where
-  pub name_there : class_name_at pool this_class ≡ Some name
-  pub no_array : IsTrue (is_no_array_name name)
-  pub superclass : IsTrue (super_right pool name super_class)
+abbrev pub method_texts : List Entry → MethodSeen → Option NameAndDescriptor
+method_texts pool m = named_at pool m.name_index m.descriptor_index
+
+-- none is like a later one
+abbrev pub NoTwoAlike : List (Option NameAndDescriptor) → Type 0
+NoTwoAlike [] = ⊤
+NoTwoAlike (texts ∷ others) = AllByRecursion (λ other. texts ≢ other) others × NoTwoAlike others
+
+-- ---- the whole
+
+abbrev pub fields_of : ClassStructure → List FieldSeen
+fields_of c = map (field_shown c.constant_pool) c.fields
+
+abbrev pub methods_of : ClassStructure → List MethodSeen
+methods_of c = map (method_shown c.constant_pool) c.methods
+
+pub record AreSupersRight (c : ClassStructure) : Type 0 where
+  pub interface_super : IsTrue (interface_super_right c.constant_pool c.access_flags c.super_class)
+  pub interfaces : All (IsClassAt c.constant_pool) c.interfaces
+
+pub record IsClassRight (c : ClassStructure) : Type 0 where
+  pub flags : IsTrue (class_flags_right c.access_flags)
+  pub named : IsSomeAnd (class_name_at c.constant_pool c.this_class) (IsNameRight c.constant_pool c.super_class)
+  pub supers : AreSupersRight c
+
+pub record AreMembersRight (c : ClassStructure) : Type 0 where
+  pub fields : All (KeepsFieldRules c.constant_pool c.access_flags) (fields_of c)
+  pub methods : All (KeepsMethodRules c.constant_pool c.access_flags) (methods_of c)
+
+pub record AreMembersUnlike (c : ClassStructure) : Type 0 where
+  pub fields : NoTwoAlike (map (field_texts c.constant_pool) (fields_of c))
+  pub methods : NoTwoAlike (map (method_texts c.constant_pool) (methods_of c))
 
 pub record KeepsClassRules (c : ClassStructure) : Type 0 where
-  pub flags : IsTrue (class_flags_right c.access_flags)
-  pub name : List ℕ
-  pub named : IsClassNamed c.constant_pool c.this_class c.super_class name
-  pub methods : All (KeepsMethodRules c.constant_pool c.access_flags) c.methods
+  pub itself : IsClassRight c
+  pub members : AreMembersRight c
+  pub unlike : AreMembersUnlike c

@@ -1,87 +1,78 @@
 //! A class file that was read.
 
-ghost use Rattle.std.specs.Prelude.{◌≡◌, [], ◌∷◌, Some, IfSome, IfNone};
-ghost use Rattle.jv_pool.specs.Constants.{utf8_at};
+ghost use Rattle.std.specs.Prelude.{◌≡◌, ◌≢◌, ◌↔◌, Some, IsSome, IfSome, IsTrue, IfOk, Err, map};
+ghost use Rattle.std.specs.Option.{option_map};
+ghost use Rattle.std.specs.List.{All};
+ghost use Rattle.jv_pool.specs.Constants.{class_name_at, utf8_at};
+ghost use Rattle.jv_class_parts.specs.Seen.{seen_index, seen_field, seen_method};
 ghost use Rattle.jv_class.specs.ClassFile.{class_name};
-ghost use Rattle.jv_class.specs.Seen.{method_info};
-ghost use Rattle.jv_class.specs.Reading.{seen_class, structure_of, IsRight};
+ghost use Rattle.jv_class.specs.Reading.{super_index};
+ghost use Rattle.jv_class.specs.Rules.{fields_of, methods_of, AreMembersRight, KeepsClassRules};
+ghost use Rattle.jv_class.specs.Supported.{IsSupported};
+ghost use Rattle.jv_class.specs.declared.fault.ClassFault.TheVariants.{Version, Format, Unsupported};
 
-use crate::class_rules::{class_name_of, is_object_at};
-use crate::flags::are_of_class;
-use crate::method::Method;
-use crate::method_rules::right_method;
-use crate::parts::ClassParts;
-use jv_pool::Pool;
+use crate::alike::members_are_unlike;
+use crate::class_rules::class_is_right;
+use crate::fault::ClassFault;
+use crate::supported::{are_supported_constants, are_supported_fields, are_supported_methods};
+use crate::{field_rules, method_rules};
+use jv_class_parts::{ClassFlags, Field, Method, Parts};
+use jv_pool::{ClassIndex, Pool};
+use std::alloc::Global;
 use std::marker::Model;
 
-/// A class file that was read (JVMS 4.1), whose texts and code are parts of the file's bytes.
+/// A class file that was read (JVMS 4.1). Its texts, code and tables are parts of the file's bytes.
 #[derive(Drop)]
 pub struct ClassFile<'a> {
-    pool: Pool<'a>,
-    access_flags: u16,
-    this_class: u16,
-    super_class: u16,
-    name: &'a [u8],
-    method: Method<'a>,
+    parts: Parts<'a>,
 }
 
 impl<'a> Model for ClassFile<'a> {
-    ghost use Rattle.std.specs.Prelude.{◌≡◌, [], ◌∷◌, Some};
-    ghost use Rattle.jv_pool.specs.Constants.{class_name_at};
-    ghost use Rattle.jv_class.specs.Structure.{ClassStructure};
-    ghost use Rattle.jv_class.specs.Rules.{HasTexts};
-    ghost use Rattle.jv_class.specs.Seen.{method_info};
+    ghost use Rattle.jv_class_parts.specs.Structure.{ClassStructure};
+    ghost use Rattle.jv_class.specs.Rules.{KeepsClassRules};
+    ghost use Rattle.jv_class.specs.Supported.{IsSupported};
 
     ghost Value = { ClassStructure };
 
-    ghost view = { λ c. record {
-      minor_version = 0;
-      major_version = 52;
-      constant_pool = c.pool;
-      access_flags = c.access_flags;
-      this_class = c.this_class;
-      super_class = c.super_class;
-      interfaces = [];
-      fields = [];
-      methods = method_info c.method ∷ [];
-      attributes = [];
-    } };
+    ghost view = { λ c. c.parts };
 
-    ghost invariant = { λ c.
-        (class_name_at c.pool c.this_class ≡ Some c.name.now)
-        × HasTexts c.pool (method_info c.method) c.method.name.now c.method.descriptor.now };
+    ghost invariant = { λ c. KeepsClassRules c.parts × IsSupported c.parts };
 }
 
-/// The class of these parts, where it keeps the rules and its superclass is java/lang/Object.
-pub(crate) fn class_of<'a>(pool: Pool<'a>, parts: ClassParts<'a>) -> Option<ClassFile<'a>>
-    ensures found { IfSome result (λ c. c ≡ structure_of pool.entry (seen_class parts.entry)) }
-    ensures right { IfSome result (λ c. IsRight c) }
-    ensures none { IfNone result (IsRight (structure_of pool.entry (seen_class parts.entry)) → ⊥) }
+/// Whether fields and methods keep the rules of their own.
+fn members_are_right(parts: &Parts<'_>) -> bool
+    ensures { IsTrue result ↔ AreMembersRight parts.now }
 {
-    if !are_of_class(parts.access_flags) || !is_object_at(&pool, parts.super_class) {
-        return None;
+    field_rules::keep_rules(parts.pool(), parts.access_flags(), parts.fields())
+        && method_rules::keep_rules(parts.pool(), parts.access_flags(), parts.methods())
+}
+
+fn is_supported(parts: &Parts<'_>) -> bool
+    ensures { IsTrue result ↔ IsSupported parts.now }
+{
+    are_supported_constants(parts.pool())
+        && are_supported_fields(parts.pool(), parts.fields())
+        && are_supported_methods(parts.pool(), parts.methods())
+}
+
+/// The class of these parts, where they keep the rules and the profile supports them.
+pub(crate) fn class_of(alloc: Global, parts: Parts<'_>) -> Result<ClassFile<'_>, ClassFault>
+    ensures found { IfOk result (λ c. c ≡ parts.entry) }
+    ensures right { IfOk result (λ c. KeepsClassRules c × IsSupported c) }
+    ensures format { result ≡ Err Format → KeepsClassRules parts.entry → ⊥ }
+    ensures unsupported { result ≡ Err Unsupported → KeepsClassRules parts.entry × (IsSupported parts.entry → ⊥) }
+    ensures version { result ≢ Err Version }
+{
+    if !class_is_right(&parts) || !members_are_right(&parts) {
+        return Err(ClassFault::Format);
     }
-    let name = class_name_of(&pool, parts.this_class, parts.super_class)?;
-    let texts = right_method(&pool, parts.access_flags, parts.method)?;
-    let method = Method {
-        access_flags: parts.method.access_flags,
-        name_index: parts.method.name_index,
-        name: texts.name,
-        descriptor_index: parts.method.descriptor_index,
-        descriptor: texts.descriptor,
-        code_name_index: parts.method.code_name_index,
-        max_stack: parts.method.max_stack,
-        max_locals: parts.method.max_locals,
-        code: parts.method.code,
-    };
-    Some(ClassFile {
-        pool,
-        access_flags: parts.access_flags,
-        this_class: parts.this_class,
-        super_class: parts.super_class,
-        name,
-        method,
-    })
+    if !members_are_unlike(alloc, &parts)? {
+        return Err(ClassFault::Format);
+    }
+    if !is_supported(&parts) {
+        return Err(ClassFault::Unsupported);
+    }
+    Ok(ClassFile { parts })
 }
 
 impl<'a> ClassFile<'a> {
@@ -89,29 +80,65 @@ impl<'a> ClassFile<'a> {
     pub fn pool(&self) -> &Pool<'a>
         ensures { result.now ≡ self.now.constant_pool }
     {
-        &self.pool
+        self.parts.pool()
     }
 
-    /// The access flags, as they stand in the file (JVMS 4.1, table 4.1-B).
-    pub fn access_flags(&self) -> u16
-        ensures { result ≡ self.now.access_flags }
+    /// The access flags (JVMS 4.1, table 4.1-B).
+    pub fn access_flags(&self) -> ClassFlags
+        ensures { result.0 ≡ self.now.access_flags }
     {
-        self.access_flags
+        self.parts.access_flags()
+    }
+
+    /// The class itself.
+    pub fn this_class(&self) -> ClassIndex
+        ensures same { result.0 ≡ self.now.this_class }
+        ensures named { IsSome (class_name_at self.now.constant_pool result.0) }
+    {
+        ClassIndex(self.parts.this_class())
     }
 
     /// The name of the class, in internal form (JVMS 4.2.1).
     pub fn name(&self) -> &'a [u8]
         ensures { class_name self.now ≡ Some result.now }
     {
-        self.name
+        self.parts.pool().class_name(self.this_class())
     }
 
-    /// The one method of the class.
-    pub fn method(&self) -> Method<'a>
-        ensures only { self.now.methods ≡ method_info result ∷ [] }
-        ensures name { utf8_at self.now.constant_pool result.name_index ≡ Some result.name.now }
-        ensures descriptor { utf8_at self.now.constant_pool result.descriptor_index ≡ Some result.descriptor.now }
+    /// The superclass; `None` for java/lang/Object alone.
+    pub fn super_class(&self) -> Option<ClassIndex>
+        ensures same { option_map seen_index result ≡ super_index self.now }
+        ensures named { IfSome result (λ index. IsSome (class_name_at self.now.constant_pool index.0)) }
     {
-        self.method
+        match self.parts.super_class() {
+            0 => None,
+            index => Some(ClassIndex(index)),
+        }
+    }
+
+    /// The direct superinterfaces, in the order of the file.
+    pub fn interfaces(&self) -> &[ClassIndex]
+        ensures same { map seen_index result.now ≡ self.now.interfaces }
+        ensures named { All (λ index. IsSome (class_name_at self.now.constant_pool index.0)) result.now }
+    {
+        self.parts.interfaces()
+    }
+
+    /// The fields, in the order of the file (JVMS 4.5).
+    pub fn fields(&self) -> &[Field]
+        ensures shown { map seen_field result.now ≡ fields_of self.now }
+        ensures named { All (λ field. IsSome (utf8_at self.now.constant_pool field.name.0)) result.now }
+        ensures described { All (λ field. IsSome (utf8_at self.now.constant_pool field.descriptor.0)) result.now }
+    {
+        self.parts.fields()
+    }
+
+    /// The methods, in the order of the file (JVMS 4.6).
+    pub fn methods(&self) -> &[Method<'a>]
+        ensures shown { map seen_method result.now ≡ methods_of self.now }
+        ensures named { All (λ method. IsSome (utf8_at self.now.constant_pool method.name.0)) result.now }
+        ensures described { All (λ method. IsSome (utf8_at self.now.constant_pool method.descriptor.0)) result.now }
+    {
+        self.parts.methods()
     }
 }

@@ -1,26 +1,42 @@
-//! The rules on a class's name and superclass (JVMS 4.1).
+//! The rules on a class's name and supers (JVMS 4.1).
 
-ghost use Rattle.std.specs.Prelude.{◌≡◌, ℕ, List, IfSome, IfNone};
+ghost use Rattle.std.specs.Prelude.{◌≡◌, ◌↔◌, IsTrue, map};
+ghost use Rattle.std.specs.List.{All};
+ghost use Rattle.std.specs.Option.{option_map, IsSomeAnd};
 ghost use Rattle.jv_pool.specs.Constants.{class_name_at};
-ghost use Rattle.jv_class.specs.Rules.{some_and, is_object, is_no_array_name, super_right, IsClassNamed};
+ghost use Rattle.jv_pool.specs.Seen.{seen_text};
+ghost use Rattle.jv_class_parts.specs.Attributes.{some_and};
+ghost use Rattle.jv_class_parts.specs.Seen.{seen_index};
+ghost use Rattle.jv_class.specs.Rules.{is_object, is_no_array_name, is_class_at, IsClassAt, super_right, interface_super_right, IsNameRight, AreSupersRight, IsClassRight};
 
+use crate::flags::are_of_class;
 use crate::names::{is_array_name, is_object};
-use jv_pool::Pool;
+use bitflags::Flags;
+use jv_class_parts::{ClassFlags, Parts};
+use jv_pool::{ClassIndex, Pool};
+
+fn name_at<'a>(pool: &Pool<'a>, index: u16) -> Option<&'a [u8]>
+    ensures { option_map seen_text result ≡ class_name_at pool.now index }
+{
+    let index = pool.class_index(index)?;
+    Some(pool.class_name(index))
+}
 
 /// Whether the index is that of a Class constant with the name java/lang/Object.
-pub(crate) fn is_object_at(pool: &Pool<'_>, index: u16) -> bool
+fn is_object_at(pool: &Pool<'_>, index: u16) -> bool
     ensures { result ≡ some_and is_object (class_name_at pool.now index) }
 {
-    match pool.class_name(index) {
+    match name_at(pool, index) {
         Some(name) => is_object(name),
         None => false,
     }
 }
 
-fn is_no_array_at(pool: &Pool<'_>, index: u16) -> bool
-    ensures { result ≡ some_and is_no_array_name (class_name_at pool.now index) }
+/// Whether the index is that of a Class constant that names no array.
+fn is_class_at(pool: &Pool<'_>, index: u16) -> bool
+    ensures { result ≡ is_class_at pool.now index }
 {
-    match pool.class_name(index) {
+    match name_at(pool, index) {
         Some(name) => !is_array_name(name),
         None => false,
     }
@@ -32,23 +48,62 @@ fn super_is_right(pool: &Pool<'_>, name: &[u8], super_class: u16) -> bool
     if is_object(name) {
         super_class == 0
     } else {
-        is_no_array_at(pool, super_class)
+        is_class_at(pool, super_class)
     }
 }
 
-/// The name of a class that goes with its superclass.
-pub(crate) fn class_name_of<'a>(
-    pool: &Pool<'a>,
-    this_class: u16,
-    super_class: u16,
-) -> Option<&'a [u8]>
-    ensures found { IfSome result (λ name. IsClassNamed pool.now this_class super_class name.now) }
-    ensures none { IfNone result ((name : List ℕ) → IsClassNamed pool.now this_class super_class name → ⊥) }
+/// Whether the superclass of an interface is java/lang/Object.
+fn interface_super_is_right(pool: &Pool<'_>, class_flags: ClassFlags, super_class: u16) -> bool
+    ensures { result ≡ interface_super_right pool.now class_flags.0 super_class }
 {
-    let name = pool.class_name(this_class)?;
-    if !is_array_name(name) && super_is_right(pool, name, super_class) {
-        Some(name)
+    if class_flags.intersects(ClassFlags::INTERFACE) {
+        is_object_at(pool, super_class)
     } else {
-        None
+        true
     }
+}
+
+fn is_name_right(pool: &Pool<'_>, name: &[u8], super_class: u16) -> bool
+    ensures { IsTrue result ↔ IsNameRight pool.now super_class name.now }
+{
+    !is_array_name(name) && super_is_right(pool, name, super_class)
+}
+
+/// Whether a class has a name that goes with its superclass.
+fn is_named(pool: &Pool<'_>, this_class: u16, super_class: u16) -> bool
+    ensures { IsTrue result ↔ IsSomeAnd (class_name_at pool.now this_class) (IsNameRight pool.now super_class) }
+{
+    match name_at(pool, this_class) {
+        Some(name) => is_name_right(pool, name, super_class),
+        None => false,
+    }
+}
+
+/// Whether each of a class's interfaces is a class.
+fn are_classes(pool: &Pool<'_>, interfaces: &[ClassIndex]) -> bool
+    ensures { IsTrue result ↔ All (IsClassAt pool.now) (map seen_index interfaces.now) }
+{
+    for interface in interfaces {
+        if !is_class_at(pool, interface.0) {
+            return false;
+        }
+    }
+    true
+}
+
+/// Whether the superclass and the interfaces of a class are right.
+fn supers_are_right(parts: &Parts<'_>) -> bool
+    ensures { IsTrue result ↔ AreSupersRight parts.now }
+{
+    interface_super_is_right(parts.pool(), parts.access_flags(), parts.super_class())
+        && are_classes(parts.pool(), parts.interfaces())
+}
+
+/// Whether the class's own flags and names keep their rules.
+pub(crate) fn class_is_right(parts: &Parts<'_>) -> bool
+    ensures { IsTrue result ↔ IsClassRight parts.now }
+{
+    are_of_class(parts.access_flags())
+        && is_named(parts.pool(), parts.this_class(), parts.super_class())
+        && supers_are_right(parts)
 }

@@ -1,5 +1,10 @@
 //! Why bytes were not read as a class file.
 
+ghost use Rattle.std.specs.Prelude.{◌≡◌};
+ghost use Rattle.jv_class.specs.declared.fault.ClassFault.TheVariants.{Memory};
+
+use std::alloc::AllocFailed;
+
 /// Why bytes were not read as a class file, the first that applies.
 #[derive(Clone, Copy, Debug)]
 pub enum ClassFault {
@@ -7,6 +12,16 @@ pub enum ClassFault {
     Version,
     /// The bytes break a rule of the format (JVMS 4.1 to 4.7).
     Format,
+    /// The class file has what this host's profile lacks, its code aside.
+    Unsupported,
     /// The host's memory was refused.
     Memory,
+}
+
+impl<T: Drop> From<AllocFailed<T>> for ClassFault {
+    ghost from_gives = { λ _ e. e ≡ Memory };
+
+    fn from(_e: AllocFailed<T>) -> ClassFault {
+        ClassFault::Memory
+    }
 }

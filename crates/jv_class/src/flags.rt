@@ -1,100 +1,93 @@
-//! Access flags of classes and methods (JVMS tables 4.1-B and 4.6-A), and which go together.
+//! Which access flags go together (JVMS tables 4.1-B, 4.5-A and 4.6-A).
 
 ghost use Rattle.std.specs.Prelude.{◌≡◌};
-ghost use Rattle.jv_class.specs.Flags.{has, class_flags_right, visibility, visibility_right, abstract_right, interface_method_right, init_flags_right};
+ghost use Rattle.jv_class_parts.specs.Flags.{class_flags_right, visibility, visibility_right, volatile_right, interface_field_right, abstract_right, interface_method_right, init_flags_right};
 
-const ACC_PUBLIC: u16 = 0x0001;
+use bitflags::Flags;
+use jv_class_parts::{ClassFlags, FieldFlags, MethodFlags};
 
-const ACC_PRIVATE: u16 = 0x0002;
+const FINAL_SUPER_OR_ENUM: ClassFlags = ClassFlags(0x4030);
 
-const ACC_PROTECTED: u16 = 0x0004;
+/// Private, static, final, synchronized, native and strict.
+const NOT_WITH_ABSTRACT: MethodFlags = MethodFlags(0x093a);
 
-pub(crate) const ACC_STATIC: u16 = 0x0008;
+/// Final, synchronized and native.
+const NOT_IN_INTERFACES: MethodFlags = MethodFlags(0x0130);
 
-const ACC_FINAL: u16 = 0x0010;
-/// Of a class.
-const ACC_SUPER: u16 = 0x0020;
-/// Of a method.
-const ACC_SYNCHRONIZED: u16 = 0x0020;
+/// Static, final, synchronized, bridge, native and abstract.
+const NOT_OF_INIT: MethodFlags = MethodFlags(0x0578);
 
-const ACC_BRIDGE: u16 = 0x0040;
+/// The flags of a field but synthetic: public, private, protected, static, final, volatile,
+/// transient and enum.
+const ALL_BUT_SYNTHETIC: u16 = 0x40df;
 
-pub(crate) const ACC_NATIVE: u16 = 0x0100;
+const PUBLIC_STATIC_FINAL: u16 = 0x0019;
 
-pub(crate) const ACC_INTERFACE: u16 = 0x0200;
-
-pub(crate) const ACC_ABSTRACT: u16 = 0x0400;
-
-const ACC_STRICT: u16 = 0x0800;
-
-const ACC_ANNOTATION: u16 = 0x2000;
-
-const ACC_ENUM: u16 = 0x4000;
-
-/// Whether one of these flags is set.
-pub(crate) fn has(flags: u16, mask: u16) -> bool
-    ensures { result ≡ has flags mask }
-{
-    flags & mask != 0
-}
+/// Public, private and protected.
+const VISIBILITIES: u16 = 0x0007;
 
 /// Whether a class can have these flags (4.1).
-pub(crate) fn are_of_class(flags: u16) -> bool
-    ensures { result ≡ class_flags_right flags }
+pub(crate) fn are_of_class(flags: ClassFlags) -> bool
+    ensures { result ≡ class_flags_right flags.0 }
 {
-    if has(flags, ACC_INTERFACE) {
-        has(flags, ACC_ABSTRACT) && !has(flags, ACC_FINAL + ACC_SUPER + ACC_ENUM)
+    if flags.intersects(ClassFlags::INTERFACE) {
+        flags.intersects(ClassFlags::ABSTRACT) && !flags.intersects(FINAL_SUPER_OR_ENUM)
     } else {
-        !(has(flags, ACC_FINAL) && has(flags, ACC_ABSTRACT)) && !has(flags, ACC_ANNOTATION)
+        !(flags.intersects(ClassFlags::FINAL) && flags.intersects(ClassFlags::ABSTRACT))
+            && !flags.intersects(ClassFlags::ANNOTATION)
     }
 }
 
 fn visibility(flags: u16) -> u16
     ensures { result ≡ visibility flags }
 {
-    flags & (ACC_PUBLIC + ACC_PRIVATE + ACC_PROTECTED)
+    flags & VISIBILITIES
 }
 
-/// Whether at most one of public, private and protected is set (4.6).
+/// Whether at most one of public, private and protected is set (4.5, 4.6).
 pub(crate) fn have_one_visibility(flags: u16) -> bool
     ensures { result ≡ visibility_right flags }
 {
     let visibility = visibility(flags);
-    visibility == 0
-        || visibility == ACC_PUBLIC
-        || visibility == ACC_PRIVATE
-        || visibility == ACC_PROTECTED
+    visibility == 0 || visibility == 1 || visibility == 2 || visibility == 4
+}
+
+/// Whether a field is not final and volatile (4.5).
+pub(crate) fn are_not_final_and_volatile(flags: FieldFlags) -> bool
+    ensures { result ≡ volatile_right flags.0 }
+{
+    !(flags.intersects(FieldFlags::FINAL) && flags.intersects(FieldFlags::VOLATILE))
+}
+
+/// Whether a field of an interface can have these flags (4.5).
+pub(crate) fn are_of_interface_field(flags: FieldFlags) -> bool
+    ensures { result ≡ interface_field_right flags.0 }
+{
+    flags.0 & ALL_BUT_SYNTHETIC == PUBLIC_STATIC_FINAL
 }
 
 /// Whether flags that go with no abstract method come with none (4.6).
-pub(crate) fn are_apart_from_abstract(flags: u16) -> bool
-    ensures { result ≡ abstract_right flags }
+pub(crate) fn are_apart_from_abstract(flags: MethodFlags) -> bool
+    ensures { result ≡ abstract_right flags.0 }
 {
-    if has(flags, ACC_ABSTRACT) {
-        !has(
-            flags,
-            ACC_PRIVATE + ACC_STATIC + ACC_FINAL + ACC_SYNCHRONIZED + ACC_NATIVE + ACC_STRICT,
-        )
+    if flags.intersects(MethodFlags::ABSTRACT) {
+        !flags.intersects(NOT_WITH_ABSTRACT)
     } else {
         true
     }
 }
 
 /// Whether a method of an interface can have these flags (4.6).
-pub(crate) fn are_of_interface_method(flags: u16) -> bool
-    ensures { result ≡ interface_method_right flags }
+pub(crate) fn are_of_interface_method(flags: MethodFlags) -> bool
+    ensures { result ≡ interface_method_right flags.0 }
 {
-    let visibility = visibility(flags);
-    (visibility == ACC_PUBLIC || visibility == ACC_PRIVATE)
-        && !has(flags, ACC_FINAL + ACC_SYNCHRONIZED + ACC_NATIVE)
+    let visibility = visibility(flags.0);
+    (visibility == 1 || visibility == 2) && !flags.intersects(NOT_IN_INTERFACES)
 }
 
 /// Whether `<init>` can have these flags (4.6).
-pub(crate) fn are_of_init(flags: u16) -> bool
-    ensures { result ≡ init_flags_right flags }
+pub(crate) fn are_of_init(flags: MethodFlags) -> bool
+    ensures { result ≡ init_flags_right flags.0 }
 {
-    !has(
-        flags,
-        ACC_STATIC + ACC_FINAL + ACC_SYNCHRONIZED + ACC_BRIDGE + ACC_NATIVE + ACC_ABSTRACT,
-    )
+    !flags.intersects(NOT_OF_INIT)
 }

@@ -1,23 +1,24 @@
 //! Class files (JVMS 4): the structure that the bytes of a file have, or why they have none.
 //!
 //! [`read_class`] reads a file exactly where `specs/ClassFile.antt` says that the bytes are a class
-//! file. Texts and code of a [`ClassFile`] are parts of the file, so only the constant pool's list
-//! takes memory.
+//! file, and `specs/Supported.antt` that this host's profile supports it. Texts, code and tables of
+//! a [`ClassFile`] are parts of the file.
 #![tactic(auto)]
 
+mod alike;
 mod class_file;
 mod class_rules;
 mod fault;
+mod field_rules;
 mod flags;
 mod law;
-mod method;
 mod method_rules;
 mod names;
-mod parts;
 mod reading;
+mod supported;
 
 pub use class_file::ClassFile;
 pub use fault::ClassFault;
+pub use jv_class_parts::{ClassFlags, Code, Field, FieldFlags, Method, MethodFlags};
 pub use law::one_structure;
-pub use method::Method;
 pub use reading::read_class;

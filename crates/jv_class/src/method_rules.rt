@@ -1,30 +1,26 @@
 //! The rules that a method keeps (JVMS 4.6, 4.7.3).
 
-ghost use Rattle.std.specs.Prelude.{◌≡◌, ◌↔◌, ℕ, List, IsTrue, IfSome, IfNone};
-ghost use Rattle.std.specs.List.{list_all};
-ghost use Rattle.jv_text.specs.Seen.{seen_result};
-ghost use Rattle.jv_pool.specs.Constants.{utf8_at};
-ghost use Rattle.jv_class.specs.Reading.{info_of};
-ghost use Rattle.jv_class.specs.Rules.{some_and, is_code_name, interface_flags_right, named_flags_right, method_flags_right, init_right, clinit_right, slots_right, is_bodiless, code_length_right, attribute_right, IsMethodRight, HasTexts, IsMethodWith, KeepsMethodRules};
+ghost use Rattle.std.specs.Prelude.{◌≡◌, ◌↔◌, ◌&&◌, IsTrue, map};
+ghost use Rattle.std.specs.List.{All};
+ghost use Rattle.jv_pool.specs.Constants.{NameAndDescriptor};
+ghost use Rattle.jv_pool.specs.Facts.{AreFacts};
+ghost use Rattle.jv_class_parts.specs.Flags.{has, acc_interface};
+ghost use Rattle.jv_class_parts.specs.Seen.{seen_method};
+ghost use Rattle.jv_class.specs.Rules.{interface_flags_right, named_flags_right, method_flags_right, init_right, clinit_right, slots_right, is_bodiless, code_there_right, IsMethodRight, KeepsMethodRules};
 
 use crate::flags::{
-    ACC_ABSTRACT, ACC_INTERFACE, ACC_NATIVE, ACC_STATIC, are_apart_from_abstract, are_of_init,
-    are_of_interface_method, has, have_one_visibility,
+    are_apart_from_abstract, are_of_init, are_of_interface_method, have_one_visibility,
 };
-use crate::names::{is_clinit, is_code_name, is_init, is_no_arguments_void};
-use crate::parts::MethodParts;
-use jv_pool::Pool;
-use jv_text::{FieldType, is_method_name, method_shape};
+use crate::names::{is_clinit, is_init, is_no_arguments_void};
+use bitflags::Flags;
+use jv_class_parts::{ClassFlags, Method, MethodFlags};
+use jv_pool::{MethodFacts, Pool, TextFacts};
 
-/// The texts that a method's indices name.
-#[derive(Clone, Copy)]
-pub(crate) struct MethodTexts<'a> {
-    pub(crate) name: &'a [u8],
-    pub(crate) descriptor: &'a [u8],
-}
+/// Abstract and native.
+const WITHOUT_CODE: MethodFlags = MethodFlags(0x0500);
 
-fn are_right_in(in_interface: bool, flags: u16) -> bool
-    ensures { result ≡ interface_flags_right in_interface flags }
+fn are_right_in(in_interface: bool, flags: MethodFlags) -> bool
+    ensures { result ≡ interface_flags_right in_interface flags.0 }
 {
     if in_interface {
         are_of_interface_method(flags)
@@ -33,8 +29,8 @@ fn are_right_in(in_interface: bool, flags: u16) -> bool
     }
 }
 
-fn are_right_for(name: &[u8], flags: u16) -> bool
-    ensures { result ≡ named_flags_right name.now flags }
+fn are_right_for(name: &[u8], flags: MethodFlags) -> bool
+    ensures { result ≡ named_flags_right name.now flags.0 }
 {
     if is_init(name) {
         are_of_init(flags)
@@ -43,128 +39,151 @@ fn are_right_for(name: &[u8], flags: u16) -> bool
     }
 }
 
-fn flags_are_right(in_interface: bool, name: &[u8], flags: u16) -> bool
-    ensures { result ≡ method_flags_right in_interface name.now flags }
+fn flags_are_right(in_interface: bool, name: &[u8], flags: MethodFlags) -> bool
+    ensures { result ≡ method_flags_right in_interface name.now flags.0 }
 {
     if is_clinit(name) {
         true
     } else {
-        have_one_visibility(flags)
+        have_one_visibility(flags.0)
             && are_apart_from_abstract(flags)
             && are_right_in(in_interface, flags)
             && are_right_for(name, flags)
     }
 }
 
-fn init_is_right(in_interface: bool, name: &[u8], result_type: Option<FieldType<'_>>) -> bool
-    ensures { result ≡ init_right in_interface name.now (seen_result result_type.entry) }
+fn init_is_right(in_interface: bool, name: &[u8], void: bool) -> bool
+    ensures { result ≡ init_right in_interface name.now void }
 {
     if is_init(name) {
-        !in_interface && result_type.is_none()
+        !in_interface && void
     } else {
         true
     }
 }
 
-fn clinit_is_right(name: &[u8], descriptor: &[u8], flags: u16) -> bool
-    ensures { result ≡ clinit_right name.now descriptor.now flags }
+fn clinit_is_right(name: &[u8], descriptor: &[u8], flags: MethodFlags) -> bool
+    ensures { result ≡ clinit_right name.now descriptor.now flags.0 }
 {
     if is_clinit(name) {
-        has(flags, ACC_STATIC) && is_no_arguments_void(descriptor)
+        flags.intersects(MethodFlags::STATIC) && is_no_arguments_void(descriptor)
     } else {
         true
     }
 }
 
-fn slots_are_right(flags: u16, count: u8) -> bool
-    ensures { result ≡ slots_right flags count }
+/// Whether the parameters and the receiver fill at most 255 slots.
+fn slots_are_right(flags: MethodFlags, count: u8) -> bool
+    ensures { result ≡ slots_right flags.0 count }
 {
-    has(flags, ACC_STATIC) || count < 255
+    flags.intersects(MethodFlags::STATIC) || count < 255
 }
 
-/// Whether name, descriptor and flags of a method go together.
-#[tactic(auto, using(jv_text::proofs::Methods::one_method))]
-fn is_right_method(class_flags: u16, flags: u16, texts: MethodTexts<'_>) -> bool
-    ensures { IsTrue result ↔ IsMethodRight class_flags flags texts.entry.name.now texts.entry.descriptor.now }
+fn is_bodiless(name: &[u8], flags: MethodFlags) -> bool
+    ensures { result ≡ is_bodiless name.now flags.0 }
 {
-    let in_interface = has(class_flags, ACC_INTERFACE);
-    match method_shape(texts.descriptor) {
-        Ok(shape) => {
-            is_method_name(texts.name)
-                && flags_are_right(in_interface, texts.name, flags)
-                && init_is_right(in_interface, texts.name, shape.result)
-                && clinit_is_right(texts.name, texts.descriptor, flags)
-                && slots_are_right(flags, shape.slots)
-        }
-        Err(_) => false,
+    !is_clinit(name) && flags.intersects(WITHOUT_CODE)
+}
+
+/// Whether a method has code exactly where it has to.
+fn code_is_right(name: &[u8], method: Method<'_>) -> bool
+    ensures { result ≡ code_there_right name.now (seen_method method.entry) }
+{
+    if is_bodiless(name, method.access_flags) {
+        method.code.is_none()
+    } else {
+        method.code.is_some()
     }
 }
 
-fn is_bodiless(name: &[u8], flags: u16) -> bool
-    ensures { result ≡ is_bodiless name.now flags }
+/// Whether a method's name and descriptor go with its flags and its result.
+fn names_are_right(
+    in_interface: bool,
+    flags: MethodFlags,
+    name: &[u8],
+    descriptor: &[u8],
+    void: bool,
+) -> bool
+    ensures { result ≡ (method_flags_right in_interface name.now flags.0 && init_right in_interface name.now void
+        && clinit_right name.now descriptor.now flags.0) }
 {
-    !is_clinit(name) && has(flags, ACC_ABSTRACT + ACC_NATIVE)
+    flags_are_right(in_interface, name, flags)
+        && init_is_right(in_interface, name, void)
+        && clinit_is_right(name, descriptor, flags)
 }
 
-fn names_code(pool: &Pool<'_>, index: u16) -> bool
-    ensures { result ≡ some_and is_code_name (utf8_at pool.now index) }
+/// Whether a method with these texts, of whose type this is known, keeps the rules.
+fn is_right(
+    class_flags: ClassFlags,
+    method: Method<'_>,
+    name: &[u8],
+    descriptor: &[u8],
+    facts: MethodFacts,
+) -> bool
+    ensures { result ≡ ((method_flags_right (has class_flags.0 acc_interface) name.now method.entry.access_flags.0
+        && init_right (has class_flags.0 acc_interface) name.now facts.void
+        && clinit_right name.now descriptor.now method.entry.access_flags.0)
+        && slots_right method.entry.access_flags.0 facts.slots
+        && code_there_right name.now (seen_method method.entry)) }
 {
-    match pool.utf8(index) {
-        Some(name) => is_code_name(name),
+    names_are_right(
+        class_flags.intersects(ClassFlags::INTERFACE),
+        method.access_flags,
+        name,
+        descriptor,
+        facts.void,
+    ) && slots_are_right(method.access_flags, facts.slots)
+        && code_is_right(name, method)
+}
+
+/// Whether a method with these texts, of which this is known, keeps the rules.
+fn is_right_method(
+    class_flags: ClassFlags,
+    method: Method<'_>,
+    name: &[u8],
+    descriptor: &[u8],
+    name_facts: TextFacts,
+    descriptor_facts: TextFacts,
+) -> bool
+    ensures { (texts : NameAndDescriptor) → texts.name ≡ name.now → texts.descriptor ≡ descriptor.now
+        → AreFacts texts.name name_facts → AreFacts texts.descriptor descriptor_facts
+        → (IsTrue result ↔ IsMethodRight class_flags.0 (seen_method method.entry) texts) }
+{
+    match descriptor_facts.method {
+        Some(facts) => {
+            name_facts.method_name && is_right(class_flags, method, name, descriptor, facts)
+        }
         None => false,
     }
 }
 
-fn is_code_length(code: &[u8]) -> bool
-    ensures { result ≡ code_length_right code.now }
+fn keeps_rules(pool: &Pool<'_>, class_flags: ClassFlags, method: Method<'_>) -> bool
+    ensures { IsTrue result ↔ KeepsMethodRules pool.now class_flags.0 (seen_method method.entry) }
 {
-    !code.is_empty() && code.len() < 65536
+    let Some(name) = pool.utf8_index(method.name.0) else {
+        return false;
+    };
+    let Some(descriptor) = pool.utf8_index(method.descriptor.0) else {
+        return false;
+    };
+    is_right_method(
+        class_flags,
+        method,
+        pool.utf8(name),
+        pool.utf8(descriptor),
+        pool.facts(name),
+        pool.facts(descriptor),
+    )
 }
 
-/// Whether the code may stand there, behind the index of its name.
-fn is_right_code(pool: &Pool<'_>, method: MethodParts<'_>) -> bool
-    ensures { result ≡ list_all (attribute_right pool.now) (info_of method.entry).attributes }
+/// Whether each method keeps the rules.
+pub(crate) fn keep_rules(pool: &Pool<'_>, class_flags: ClassFlags, methods: &[Method<'_>]) -> bool
+    ensures { IsTrue result ↔ All (KeepsMethodRules pool.now class_flags.0) (map seen_method methods.now) }
 {
-    names_code(pool, method.code_name_index) && is_code_length(method.code)
-}
-
-fn texts_of<'a>(pool: &Pool<'a>, method: MethodParts<'_>) -> Option<MethodTexts<'a>>
-    ensures found { IfSome result (λ t. HasTexts pool.now (info_of method.entry) t.name.now t.descriptor.now) }
-    ensures none { IfNone result ((name descriptor : List ℕ) → HasTexts pool.now (info_of method.entry) name descriptor → ⊥) }
-{
-    let name = pool.utf8(method.name_index)?;
-    let descriptor = pool.utf8(method.descriptor_index)?;
-    Some(MethodTexts { name, descriptor })
-}
-
-fn keeps_rules(
-    pool: &Pool<'_>,
-    class_flags: u16,
-    method: MethodParts<'_>,
-    texts: MethodTexts<'_>,
-) -> bool
-    ensures { IsTrue result
-        ↔ IsMethodWith pool.now class_flags (info_of method.entry) texts.entry.name.now texts.entry.descriptor.now }
-{
-    is_right_method(class_flags, method.access_flags, texts)
-        && !is_bodiless(texts.name, method.access_flags)
-        && is_right_code(pool, method)
-}
-
-/// The texts of a method that keeps the rules.
-pub(crate) fn right_method<'a>(
-    pool: &Pool<'a>,
-    class_flags: u16,
-    method: MethodParts<'_>,
-) -> Option<MethodTexts<'a>>
-    ensures found { IfSome result (λ t. HasTexts pool.now (info_of method.entry) t.name.now t.descriptor.now) }
-    ensures right { IfSome result (λ t. KeepsMethodRules pool.now class_flags (info_of method.entry)) }
-    ensures none { IfNone result (KeepsMethodRules pool.now class_flags (info_of method.entry) → ⊥) }
-{
-    let texts = texts_of(pool, method)?;
-    if keeps_rules(pool, class_flags, method, texts) {
-        Some(texts)
-    } else {
-        None
+    for method in methods {
+        if !keeps_rules(pool, class_flags, *method) {
+            return false;
+        }
     }
+    true
 }

@@ -2,7 +2,7 @@
 
 ghost use Rattle.std.specs.Prelude.{◌≡◌};
 ghost use Rattle.jv_pool.specs.Rules.{is_array_name, is_init};
-ghost use Rattle.jv_class.specs.Rules.{is_object, is_clinit, is_no_arguments_void, is_code_name};
+ghost use Rattle.jv_class.specs.Rules.{is_object, is_clinit, is_no_arguments_void};
 
 pub(crate) fn is_object(name: &[u8]) -> bool
     ensures { result ≡ is_object name.now }
@@ -37,10 +37,4 @@ pub(crate) fn is_no_arguments_void(descriptor: &[u8]) -> bool
     ensures { result ≡ is_no_arguments_void descriptor.now }
 {
     descriptor == b"()V".as_slice()
-}
-
-pub(crate) fn is_code_name(name: &[u8]) -> bool
-    ensures { result ≡ is_code_name name.now }
-{
-    name == b"Code".as_slice()
 }

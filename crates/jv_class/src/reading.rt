@@ -1,35 +1,56 @@
 //! Reads a class file.
 
 ghost use Rattle.std.specs.Prelude.{◌≡◌, ◌≢◌, IfOk, Err};
-ghost use Rattle.jv_class.specs.Structure.{ClassStructure};
-ghost use Rattle.jv_class.specs.ClassFile.{IsClassFile, IsOtherVersion};
-ghost use Rattle.jv_class.specs.Reading.{IsBehindVersion};
-ghost use Rattle.jv_class.specs.declared.fault.ClassFault.TheVariants.{Version, Format};
+ghost use Rattle.jv_format.specs.Format.{Finds};
+ghost use Rattle.jv_class_parts.specs.Structure.{ClassStructure};
+ghost use Rattle.jv_class.specs.ClassFile.{IsClassFile, IsOtherVersion, IsUnsupportedFile};
+ghost use Rattle.jv_class.specs.Supported.{IsSupported};
+ghost use Rattle.jv_class.specs.Reading.{magic_number, header, IsWholeBehind};
+ghost use Rattle.jv_class.specs.declared.fault.ClassFault.TheVariants.{Version, Format, Unsupported};
 
 use crate::class_file::{ClassFile, class_of};
 use crate::fault::ClassFault;
-use crate::parts::{parts_of, version_at};
-use jv_pool::{PoolFault, read_pool};
+use jv_class_parts::{PartsFault, one_behind_version, read_parts};
+use jv_format::{half_at, quad_at};
 use std::alloc::Global;
+
+/// What follows the magic number.
+fn magic_at(bytes: &[u8]) -> Option<&[u8]>
+    ensures { Finds magic_number bytes.now (λ rest. (3405691582, rest.now)) result }
+{
+    let (found, rest) = quad_at(bytes)?;
+    if found == 0xcafe_babe {
+        Some(rest)
+    } else {
+        None
+    }
+}
+
+/// The minor and the major version behind the magic number, and what follows.
+fn version_at(bytes: &[u8]) -> Option<((u16, u16), &[u8])>
+    ensures { Finds header bytes.now (λ x. ((3405691582, (x.0.0, x.0.1)), x.1.now)) result }
+{
+    let rest = magic_at(bytes)?;
+    let (minor, rest) = half_at(rest)?;
+    let (major, rest) = half_at(rest)?;
+    Some(((minor, major), rest))
+}
 
 /// The class file whose bytes behind the version these are.
 fn class_behind<'a>(alloc: Global, bytes: &'a [u8]) -> Result<ClassFile<'a>, ClassFault>
-    ensures ok { IfOk result (λ c. IsBehindVersion bytes.now c) }
-    ensures format { result ≡ Err Format → (c : ClassStructure) → IsBehindVersion bytes.now c → ⊥ }
+    ensures ok { IfOk result (λ c. IsWholeBehind bytes.now c) }
+    ensures supported { IfOk result (λ c. IsSupported c) }
+    ensures format { result ≡ Err Format → (c : ClassStructure) → IsWholeBehind bytes.now c → ⊥ }
+    ensures unsupported { result ≡ Err Unsupported → (c : ClassStructure) × IsWholeBehind bytes.now c × (IsSupported c → ⊥) }
     ensures version { result ≢ Err Version }
 {
-    let (pool, taken) = match read_pool(alloc, bytes) {
-        Ok(found) => found,
-        Err(PoolFault::BadPool) => return Err(ClassFault::Format),
-        Err(PoolFault::Memory) => return Err(ClassFault::Memory),
-    };
-    let (_, rest) = bytes.split_at(taken);
-    let Some(parts) = parts_of(rest) else {
-        return Err(ClassFault::Format);
-    };
-    match class_of(pool, parts) {
-        Some(class) => Ok(class),
-        None => Err(ClassFault::Format),
+    match read_parts(alloc, bytes) {
+        Ok(parts) => {
+            one_behind_version();
+            class_of(alloc, parts)
+        }
+        Err(PartsFault::Format) => Err(ClassFault::Format),
+        Err(PartsFault::Memory) => Err(ClassFault::Memory),
     }
 }
 
@@ -40,10 +61,13 @@ fn class_behind<'a>(alloc: Global, bytes: &'a [u8]) -> Result<ClassFile<'a>, Cla
 /// # Errors
 ///
 /// `Version` where the bytes begin like a class file of another version, `Format` where they are no
-/// class file else, and `Memory` where the host had none for the constant pool.
+/// class file else, `Unsupported` where they are one with more than this host's profile has, its code
+/// aside, and `Memory` where the host had none for what was read.
 pub fn read_class<'a>(alloc: Global, bytes: &'a [u8]) -> Result<ClassFile<'a>, ClassFault>
     ensures ok { IfOk result (λ c. IsClassFile bytes.now c) }
+    ensures supported { IfOk result (λ c. IsSupported c) }
     ensures version { result ≡ Err Version → IsOtherVersion bytes.now }
+    ensures unsupported { result ≡ Err Unsupported → IsUnsupportedFile bytes.now }
     ensures format_no_class { result ≡ Err Format → (c : ClassStructure) → IsClassFile bytes.now c → ⊥ }
     ensures format_no_version { result ≡ Err Format → IsOtherVersion bytes.now → ⊥ }
 {

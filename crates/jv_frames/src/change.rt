@@ -33,8 +33,8 @@ pub(crate) type Change<'a> = ChangeOf<Vec<VerificationType<'a>>>;
 fn object_type<'a>(pool: &Pool<'a>, class: u16) -> Option<VerificationType<'a>>
     ensures { IsFound (object_type pool.now class) seen_type result }
 {
-    let name = pool.class_name(class)?;
-    reference_type(name)
+    let index = pool.class_index(class)?;
+    reference_type(pool.class_name(index))
 }
 
 /// The type of an item.

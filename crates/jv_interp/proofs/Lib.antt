@@ -1,4 +1,3 @@
 pub mod Stacks
 pub mod Steps
 pub mod Lines
-pub mod Accepting

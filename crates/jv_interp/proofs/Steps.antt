@@ -1,9 +1,6 @@
 -- A step of the code's machine is a step of the thin machine.
 use Rattle.std.proofs.Common.{◌≡◌, ℕ, ◌+◌, ◌-◌, ◌<◌, List, [], ◌∷◌, drop, Option, Some, None, Result, Ok, Err, sym, ap, ◌∙◌, arith}
 use Rattle.jv_pool.specs.Constants.{Entry}
-use Rattle.jv_class.specs.Structure.{ClassStructure}
-use Rattle.jv_class.specs.Seen.{method_info, code_attribute}
-use Rattle.jv_class.specs.declared.method.Method.{Method}
 use Rattle.jv_meaning.specs.declared.thin.insn.Insn.{Insn}
 use Rattle.jv_meaning.specs.Thin.Instructions.{first_insn}
 use Rattle.jv_meaning.specs.Thin.Machine.{State, Fault, Program, Effect, ◌>>=◌, fetched, fetch, execute, act, step, step_at, next}
@@ -13,17 +10,10 @@ use Rattle.jv_interp.specs.declared.thin.machine.Machine.{Machine}
 use Rattle.jv_interp.specs.declared.thin.machine.Stage.TheVariants as stages
 use Rattle.jv_interp.specs.declared.thin.execute.Change.{Change}
 use Rattle.jv_interp.specs.Thin.Words.{words, effect_of}
-use Rattle.jv_interp.specs.Thin.GuestState.{state_of, activity_of, program_in, sole_program, locals_in}
+use Rattle.jv_interp.specs.Thin.GuestState.{state_of, activity_of, locals_in}
 
 abbrev ok_effect : Effect → Result Effect Fault
 ok_effect effect = Ok effect
-
--- what runs in a class with one method
-abbrev pub program_with_method : ClassStructure → Method → Program
-program_with_method c m = record { constant_pool = c.constant_pool; code = code_attribute m }
-
-pub program_is : (c : ClassStructure) (m : Method) → c.methods ≡ method_info m ∷ [] → program_in (Some c) ≡ Some (program_with_method c m)
-program_is c m e = ap (sole_program c.constant_pool) e
 
 module _ (p : Option Program) (q : Program) (is : p ≡ Some q) (m : Machine) where
   abbrev state : State

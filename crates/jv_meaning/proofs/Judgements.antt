@@ -1,16 +1,15 @@
 -- A file is judged in one way.
 use Rattle.std.proofs.Common.{◌≡◌, ℕ, List, [], ◌∷◌, Result, Ok, refl, sym, ap, subst, ◌∙◌}
-use Rattle.jv_class.specs.Structure.{ClassStructure}
+use Rattle.jv_class_parts.specs.Structure.{ClassStructure}
 use Rattle.jv_class.specs.ClassFile.{OneStructure}
 use Rattle.jv_meaning.specs.declared.guest.Budget.{Budget}
 use Rattle.jv_meaning.specs.Guest.{Guest, Observed}
-use Rattle.jv_meaning.specs.Thin.Accepted.{IsAccepted}
 use Rattle.jv_meaning.specs.Thin.Machine.{State, Fault}
-use Rattle.jv_meaning.specs.Thin.Alone.{Judgement, IsJudged, alone, observation, Shows}
+use Rattle.jv_meaning.specs.Thin.Alone.{Judgement, MayRun, IsJudged, alone, observation, Shows}
 use Rattle.jv_meaning.specs.Thin.Alone.Judgement.{Version, Format, Unsupported, Accepted}
 
-same_class : (c d : ClassStructure) → c ≡ d → IsAccepted c → IsAccepted d
-same_class c d e h = subst IsAccepted e h
+same_class : (c d : ClassStructure) → c ≡ d → MayRun c → MayRun d
+same_class c d e h = subst MayRun e h
 
 judged_once : OneStructure → (bytes : List ℕ) (i j : Judgement) → IsJudged bytes i → IsJudged bytes j → i ≡ j
 judged_once one bytes Version Version p q = refl

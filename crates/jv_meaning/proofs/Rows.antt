@@ -4,6 +4,7 @@ use Rattle.std.specs.Prelude.{bit_and, pos}
 use Rattle.jv_meaning.specs.declared.thin.insn.Insn.{Insn}
 use Rattle.jv_meaning.specs.declared.thin.insn.Insn.TheVariants.{Constant, Invokestatic}
 use Rattle.jv_meaning.specs.Thin.Accepted.{IsAccepted, IsMainLike, IsShortLine, IsLine}
+use Rattle.jv_class_parts.specs.Parts.{CodeSeen, MethodSeen, code_shown, method_shown}
 use Rattle.jv_meaning.specs.Thin.Rows.{hi_pool, hi_code, hi_main, hi_class}
 
 hi_insns : List Insn
@@ -37,11 +38,21 @@ hi_line = (
 static : bit_and 9 8 ≢ 0
 static e = absurd cc
 
-like_main : IsMainLike hi_pool hi_main
+abbrev main_shown : MethodSeen
+main_shown = method_shown hi_pool hi_main
+
+abbrev main_code_shown : CodeSeen
+main_code_shown = code_shown hi_pool hi_code
+
+like_main : IsMainLike hi_pool main_shown
 like_main = record { static = static; unlocked = refl; descriptor = refl }
 
-short : IsShortLine hi_pool hi_code
-short = record { arguments = lit≤ tt; small = lit≤ tt; line = (hi_insns, hi_line) }
+short : IsShortLine hi_pool main_code_shown
+short = record { no_handlers = refl; no_frames = refl; arguments = lit≤ tt; small = lit≤ tt; line = (hi_insns, hi_line) }
 
 pub hi_accepted : IsAccepted hi_class
-hi_accepted = record { name = (_, refl, refl); method = (hi_main, refl, like_main, (hi_code, refl, short)) }
+hi_accepted = record {
+  name = (_, refl, refl);
+  plain = record { superclass = refl; no_interfaces = refl; no_fields = refl };
+  method = (main_shown, refl, like_main, (main_code_shown, refl, short));
+}

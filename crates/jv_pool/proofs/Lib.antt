@@ -1,3 +1,4 @@
-pub mod Indices
 pub mod Constants
+pub mod Listing
 pub mod Kept
+pub mod Firsts

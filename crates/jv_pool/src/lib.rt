@@ -2,19 +2,30 @@
 //!
 //! [`read_pool`] reads the pool at the front of bytes, exactly where one stands there; the
 //! definition is `specs/Rules.antt`. A [`Pool`] answers what an index names. Its texts are parts
-//! of the file, so only the list of constants takes memory.
+//! of the file, so only the table of constants and what is known of its texts take memory. Each
+//! text is examined once, when the pool is read.
 #![tactic(auto)]
 
+mod alike;
 mod constant;
+mod facts;
 mod fault;
+mod index;
+mod known;
 mod law;
-mod look_up;
 mod pool;
 mod reading;
 mod rules;
+mod shape;
+mod table;
 mod texts;
 
-pub use constant::{Constant, Kind, MethodReference};
+pub use constant::{Constant, Kind, MemberName, NameAndTypeTexts};
+pub use facts::{FieldFacts, MethodFacts, TextFacts, ValueKind};
 pub use fault::PoolFault;
+pub use index::{
+    ClassIndex, FieldrefIndex, IntegerIndex, InterfaceMethodrefIndex, LongIndex, MethodrefIndex,
+    NameAndTypeIndex, StringIndex, Utf8Index,
+};
 pub use law::one_pool;
 pub use pool::{Pool, read_pool};

@@ -1,69 +1,178 @@
 //! Reads constants from the front of bytes.
 
-ghost use Rattle.std.specs.Prelude.{◌≡◌, map};
-ghost use Rattle.jv_format.specs.Format.{Finds, list_of};
-ghost use Rattle.jv_pool.specs.Reading.{Gives, constant, constants, seen};
+ghost use Rattle.std.specs.Prelude.{◌≡◌, ◌<◌};
+ghost use Rattle.std.specs.Option.{option_map};
+ghost use Rattle.jv_format.specs.Format.{Finds};
+ghost use Rattle.jv_pool.specs.declared.shape.Shape.TheVariants as shapes;
+ghost use Rattle.jv_pool.specs.Constants.{takes_two};
+ghost use Rattle.jv_pool.specs.Seen.{seen};
+ghost use Rattle.jv_pool.specs.Reading.{Gives, of_quad, of_two_quads, of_half, of_two_halves, shaped, contents_read, seen_found, constant, entries, constants, step_read, seen_step};
 
 use crate::constant::Constant;
 use crate::fault::PoolFault;
-use jv_format::{byte_at, half_at, text_at};
+use crate::shape::{HalfKind, QuadKind, Shape, TwoHalvesKind, TwoQuadsKind, shape_of};
+use crate::table::Table;
+use jv_format::{byte_at, half_at, quad_at, text_at};
 use std::alloc::Global;
+
+fn of_quad(kind: QuadKind, bits: u32) -> Constant<&'static [u8]>
+    ensures { seen result ≡ of_quad kind bits }
+{
+    match kind {
+        QuadKind::Integer => Constant::Integer(bits),
+        QuadKind::Float => Constant::Float(bits),
+    }
+}
+
+fn of_two_quads(kind: TwoQuadsKind, high: u32, low: u32) -> Constant<&'static [u8]>
+    ensures { seen result ≡ of_two_quads kind (high, low) }
+{
+    match kind {
+        TwoQuadsKind::Long => Constant::Long(high, low),
+        TwoQuadsKind::Double => Constant::Double(high, low),
+    }
+}
+
+fn of_half(kind: HalfKind, index: u16) -> Constant<&'static [u8]>
+    ensures { seen result ≡ of_half kind index }
+{
+    match kind {
+        HalfKind::Class => Constant::Class(index),
+        HalfKind::String => Constant::String(index),
+        HalfKind::MethodType => Constant::MethodType(index),
+    }
+}
+
+fn of_two_halves(kind: TwoHalvesKind, first: u16, second: u16) -> Constant<&'static [u8]>
+    ensures { seen result ≡ of_two_halves kind (first, second) }
+{
+    match kind {
+        TwoHalvesKind::Fieldref => Constant::Fieldref(first, second),
+        TwoHalvesKind::Methodref => Constant::Methodref(first, second),
+        TwoHalvesKind::InterfaceMethodref => Constant::InterfaceMethodref(first, second),
+        TwoHalvesKind::NameAndType => Constant::NameAndType(first, second),
+        TwoHalvesKind::InvokeDynamic => Constant::InvokeDynamic(first, second),
+    }
+}
+
+fn text_constant(bytes: &[u8]) -> Option<(Constant<&[u8]>, &[u8])>
+    ensures { Finds (shaped shapes.Text) bytes.now (λ x. (seen x.0, x.1.now)) result }
+{
+    let (text, rest) = text_at(bytes)?;
+    Some((Constant::Utf8(text), rest))
+}
+
+fn quad_constant(kind: QuadKind, bytes: &[u8]) -> Option<(Constant<&[u8]>, &[u8])>
+    ensures { Finds (shaped (shapes.Quad kind)) bytes.now (λ x. (seen x.0, x.1.now)) result }
+{
+    let (bits, rest) = quad_at(bytes)?;
+    Some((of_quad(kind, bits), rest))
+}
+
+fn two_quads_constant(kind: TwoQuadsKind, bytes: &[u8]) -> Option<(Constant<&[u8]>, &[u8])>
+    ensures { Finds (shaped (shapes.TwoQuads kind)) bytes.now (λ x. (seen x.0, x.1.now)) result }
+{
+    let (high, rest) = quad_at(bytes)?;
+    let (low, rest) = quad_at(rest)?;
+    Some((of_two_quads(kind, high, low), rest))
+}
+
+fn half_constant(kind: HalfKind, bytes: &[u8]) -> Option<(Constant<&[u8]>, &[u8])>
+    ensures { Finds (shaped (shapes.Half kind)) bytes.now (λ x. (seen x.0, x.1.now)) result }
+{
+    let (index, rest) = half_at(bytes)?;
+    Some((of_half(kind, index), rest))
+}
+
+fn two_halves_constant(kind: TwoHalvesKind, bytes: &[u8]) -> Option<(Constant<&[u8]>, &[u8])>
+    ensures { Finds (shaped (shapes.TwoHalves kind)) bytes.now (λ x. (seen x.0, x.1.now)) result }
+{
+    let (first, rest) = half_at(bytes)?;
+    let (second, rest) = half_at(rest)?;
+    Some((of_two_halves(kind, first, second), rest))
+}
+
+fn handle_constant(bytes: &[u8]) -> Option<(Constant<&[u8]>, &[u8])>
+    ensures { Finds (shaped shapes.ByteAndHalf) bytes.now (λ x. (seen x.0, x.1.now)) result }
+{
+    let (kind, rest) = byte_at(bytes)?;
+    let (index, rest) = half_at(rest)?;
+    Some((Constant::MethodHandle(kind, index), rest))
+}
+
+/// The constant of this shape at the front, and what follows it.
+fn shaped_at(shape: Shape, bytes: &[u8]) -> Option<(Constant<&[u8]>, &[u8])>
+    ensures { Finds (shaped shape) bytes.now (λ x. (seen x.0, x.1.now)) result }
+{
+    match shape {
+        Shape::Text => text_constant(bytes),
+        Shape::Quad(kind) => quad_constant(kind, bytes),
+        Shape::TwoQuads(kind) => two_quads_constant(kind, bytes),
+        Shape::Half(kind) => half_constant(kind, bytes),
+        Shape::TwoHalves(kind) => two_halves_constant(kind, bytes),
+        Shape::ByteAndHalf => handle_constant(bytes),
+    }
+}
+
+/// The constant at the front of what stands behind its tag, and what follows it.
+fn contents_at(shape: Option<Shape>, bytes: &[u8]) -> Option<(Constant<&[u8]>, &[u8])>
+    ensures { option_map seen_found result ≡ contents_read shape bytes.now }
+{
+    shaped_at(shape?, bytes)
+}
 
 /// The constant at the front, and what follows it.
 fn constant_at(bytes: &[u8]) -> Option<(Constant<&[u8]>, &[u8])>
     ensures { Finds constant bytes.now (λ x. (seen x.0, x.1.now)) result }
 {
     let (tag, rest) = byte_at(bytes)?;
-    match tag {
-        1 => {
-            let (text, rest) = text_at(rest)?;
-            Some((Constant::Utf8(text), rest))
-        }
-        7 => {
-            let (name, rest) = half_at(rest)?;
-            Some((Constant::Class(name), rest))
-        }
-        10 => {
-            let (class, rest) = half_at(rest)?;
-            let (name_and_type, rest) = half_at(rest)?;
-            Some((Constant::Methodref(class, name_and_type), rest))
-        }
-        12 => {
-            let (name, rest) = half_at(rest)?;
-            let (descriptor, rest) = half_at(rest)?;
-            Some((Constant::NameAndType(name, descriptor), rest))
-        }
-        _ => None,
-    }
+    contents_at(shape_of(tag), rest)
 }
 
-/// As many constants as the number says, and what follows them.
-fn listed(
-    alloc: Global,
-    count: u16,
-    bytes: &[u8],
-) -> Result<(Vec<Constant<&[u8]>>, &[u8]), PoolFault>
-    ensures { Gives (list_of count constant) bytes.now (λ x. (map seen x.0.items, x.1.now)) result }
+/// Whether the constant takes two entries of the table (4.4.5).
+fn takes_two(constant: Constant<&[u8]>) -> bool
+    ensures { result ≡ takes_two (seen constant.entry) }
 {
-    let mut constants = Vec::new(alloc);
+    matches!(constant, Constant::Long(_, _) | Constant::Double(_, _))
+}
+
+/// The next entry of the table, whether one more entry belongs to it, and what follows.
+fn entry_at(unusable: bool, bytes: &[u8]) -> Option<(Option<Constant<&[u8]>>, bool, &[u8])>
+    ensures { option_map seen_step result ≡ step_read unusable bytes.now }
+{
+    if unusable {
+        return Some((None, false, bytes));
+    }
+    let (constant, rest) = constant_at(bytes)?;
+    Some((Some(constant), takes_two(constant), rest))
+}
+
+/// The table of so many entries, and what follows it.
+fn listed(alloc: Global, length: u16, bytes: &[u8]) -> Result<(Table<'_>, &[u8]), PoolFault>
+    requires { length < 65535 }
+    ensures { Gives (entries length) bytes.now (λ x. (x.0, x.1.now)) result }
+{
+    let mut entries = Vec::new(alloc);
     let mut rest = bytes;
-    for _ in 0..count {
-        let Some((constant, after)) = constant_at(rest) else {
+    let mut unusable = false;
+    for _ in 0..length {
+        let Some((entry, more, after)) = entry_at(unusable, rest) else {
             return Err(PoolFault::BadPool);
         };
-        constants.push(constant)?;
+        entries.push(entry)?;
+        unusable = more;
         rest = after;
     }
-    Ok((constants, rest))
+    if unusable {
+        return Err(PoolFault::BadPool);
+    }
+    Ok((Table::new(length + 1, entries), rest))
 }
 
 /// The count at the front and the constants behind it, and what follows them.
 #[tactic(auto, using(crate::proofs::Constants::constants_read))]
-pub(crate) fn constants_at(
-    alloc: Global,
-    bytes: &[u8],
-) -> Result<(Vec<Constant<&[u8]>>, &[u8]), PoolFault>
-    ensures { Gives constants bytes.now (λ x. (map seen x.0.items, x.1.now)) result }
+pub(crate) fn table_at(alloc: Global, bytes: &[u8]) -> Result<(Table<'_>, &[u8]), PoolFault>
+    ensures { Gives constants bytes.now (λ x. (x.0, x.1.now)) result }
 {
     let Some((count, rest)) = half_at(bytes) else {
         return Err(PoolFault::BadPool);

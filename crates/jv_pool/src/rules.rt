@@ -1,89 +1,257 @@
 //! The rules that each constant of a pool keeps (JVMS 4.4).
 
-ghost use Rattle.std.specs.Prelude.{◌≡◌, ◌↔◌, IsSome, IsTrue, map};
+ghost use Rattle.std.specs.Prelude.{◌≡◌, ◌↔◌, false, IsSome, IsTrue};
 ghost use Rattle.std.specs.List.{All};
 ghost use Rattle.std.specs.Option.{IsSomeAnd};
-ghost use Rattle.jv_pool.specs.Constants.{utf8_at, class_name_at, name_and_type_at};
-ghost use Rattle.jv_pool.specs.Rules.{NamesClass, IsUnqualified, IsDescriptor, NamesMethod, IsClassIn, IsMethodrefIn, IsNameAndTypeIn, KeepsRules};
-ghost use Rattle.jv_pool.specs.Reading.{seen};
+ghost use Rattle.jv_pool.specs.Constants.{at_index, utf8_at, class_name_at, named_at, name_and_type_at};
+ghost use Rattle.jv_text.specs.Name.{is_method_name};
+ghost use Rattle.jv_pool.specs.Rules.{begins_with, IsUnqualified, IsFieldDescriptor, IsDescriptor, NamesField, NamesMethod, NamesInterfaceMethod, IsClassIn, IsMemberIn, IsNameAndTypeIn, KeepsRules};
+ghost use Rattle.jv_pool.specs.Seen.{seen};
+ghost use Rattle.jv_pool.specs.Known.{MethodKnown, special_right, IsNamedFor, IsPlainMethodName, pair_in, IsKept};
 
 use crate::constant::Constant;
-use crate::look_up::{find_class_name, find_name_and_type, find_utf8};
-use crate::texts::{is_descriptor, is_method_member, names_class};
-use jv_text::{is_member_name, is_text};
+use crate::facts::MethodFacts;
+use crate::known::Known;
+use crate::texts::{begins_with, is_init};
+use jv_text::is_text;
 
-fn is_class(pool: &[Constant<&[u8]>], name: u16) -> bool
-    ensures { IsTrue result ↔ IsClassIn (map seen pool.now) name }
+// ---- texts at indices
+
+fn is_utf8_at(known: &Known<'_>, index: u16) -> bool
+    ensures { IsTrue result ↔ IsSome (utf8_at known.now index) }
 {
-    match find_utf8(pool, name) {
-        Some(text) => names_class(text),
+    known.table().utf8(index).is_some()
+}
+
+fn is_class_at(known: &Known<'_>, class: u16) -> bool
+    ensures { IsTrue result ↔ IsSome (class_name_at known.now class) }
+{
+    known.table().class_name(class).is_some()
+}
+
+fn is_class(known: &Known<'_>, name: u16) -> bool
+    ensures { IsTrue result ↔ IsClassIn known.now name }
+{
+    match known.facts(name) {
+        Some(facts) => facts.names_class,
         None => false,
     }
 }
 
-fn is_class_at(pool: &[Constant<&[u8]>], class: u16) -> bool
-    ensures { IsTrue result ↔ IsSome (class_name_at (map seen pool.now) class) }
+fn is_unqualified_at(known: &Known<'_>, name: u16) -> bool
+    ensures { IsTrue result ↔ IsSomeAnd (utf8_at known.now name) IsUnqualified }
 {
-    find_class_name(pool, class).is_some()
-}
-
-fn is_method_member_at(pool: &[Constant<&[u8]>], name_and_type: u16) -> bool
-    ensures { IsTrue result ↔ IsSomeAnd (name_and_type_at (map seen pool.now) name_and_type) NamesMethod }
-{
-    match find_name_and_type(pool, name_and_type) {
-        Some(member) => is_method_member(member.name, member.descriptor),
+    match known.facts(name) {
+        Some(facts) => facts.unqualified,
         None => false,
     }
 }
 
-fn is_methodref(pool: &[Constant<&[u8]>], class: u16, name_and_type: u16) -> bool
-    ensures { IsTrue result ↔ IsMethodrefIn (map seen pool.now) class name_and_type }
+fn is_field_descriptor_at(known: &Known<'_>, descriptor: u16) -> bool
+    ensures { IsTrue result ↔ IsSomeAnd (utf8_at known.now descriptor) IsFieldDescriptor }
 {
-    is_class_at(pool, class) && is_method_member_at(pool, name_and_type)
-}
-
-fn is_unqualified_at(pool: &[Constant<&[u8]>], name: u16) -> bool
-    ensures { IsTrue result ↔ IsSomeAnd (utf8_at (map seen pool.now) name) IsUnqualified }
-{
-    match find_utf8(pool, name) {
-        Some(text) => is_member_name(text),
+    match known.facts(descriptor) {
+        Some(facts) => facts.field.is_some(),
         None => false,
     }
 }
 
-fn is_descriptor_at(pool: &[Constant<&[u8]>], descriptor: u16) -> bool
-    ensures { IsTrue result ↔ IsSomeAnd (utf8_at (map seen pool.now) descriptor) IsDescriptor }
+fn is_descriptor_at(known: &Known<'_>, descriptor: u16) -> bool
+    ensures { IsTrue result ↔ IsSomeAnd (utf8_at known.now descriptor) IsDescriptor }
 {
-    match find_utf8(pool, descriptor) {
-        Some(text) => is_descriptor(text),
+    match known.facts(descriptor) {
+        Some(facts) => facts.field.is_some() || facts.method.is_some(),
         None => false,
     }
 }
 
-fn is_name_and_type(pool: &[Constant<&[u8]>], name: u16, descriptor: u16) -> bool
-    ensures { IsTrue result ↔ IsNameAndTypeIn (map seen pool.now) name descriptor }
+fn method_at(known: &Known<'_>, descriptor: u16) -> Option<MethodFacts>
+    ensures { MethodKnown (utf8_at known.now descriptor) result }
 {
-    is_unqualified_at(pool, name) && is_descriptor_at(pool, descriptor)
+    match known.facts(descriptor) {
+        Some(facts) => facts.method,
+        None => None,
+    }
+}
+
+fn is_special_name_right(name: &[u8], void: bool) -> bool
+    ensures { result ≡ special_right name.now void }
+{
+    if begins_with(b'<', name) {
+        is_init(name) && void
+    } else {
+        true
+    }
+}
+
+fn is_special_at(known: &Known<'_>, name: u16, void: bool) -> bool
+    ensures { IsTrue result ↔ IsSomeAnd (utf8_at known.now name) (λ n. IsTrue (special_right n void)) }
+{
+    match known.table().utf8(name) {
+        Some(name) => is_special_name_right(name, void),
+        None => false,
+    }
+}
+
+fn is_method_name_at(known: &Known<'_>, name: u16) -> bool
+    ensures { IsTrue result ↔ IsSomeAnd (utf8_at known.now name) (λ n. IsTrue (is_method_name n)) }
+{
+    match known.facts(name) {
+        Some(facts) => facts.method_name,
+        None => false,
+    }
+}
+
+/// Whether the name does not begin as `<init>` and `<clinit>` do.
+fn is_no_special_at(known: &Known<'_>, name: u16) -> bool
+    ensures { IsTrue result ↔ IsSomeAnd (utf8_at known.now name) (λ n. begins_with 60 n ≡ false) }
+{
+    match known.table().utf8(name) {
+        Some(name) => !begins_with(b'<', name),
+        None => false,
+    }
+}
+
+/// Whether a method can have this name whose result is void, or not.
+fn is_named_for(known: &Known<'_>, name: u16, void: bool) -> bool
+    ensures { IsTrue result ↔ IsSomeAnd (utf8_at known.now name) (IsNamedFor void) }
+{
+    is_method_name_at(known, name) && is_special_at(known, name, void)
+}
+
+fn is_plain_method_name_at(known: &Known<'_>, name: u16) -> bool
+    ensures { IsTrue result ↔ IsSomeAnd (utf8_at known.now name) IsPlainMethodName }
+{
+    is_method_name_at(known, name) && is_no_special_at(known, name)
+}
+
+// ---- the members that NameAndType constants name
+
+fn pair_at(known: &Known<'_>, index: u16) -> Option<(u16, u16)>
+    ensures { result ≡ pair_in (at_index known.now index) }
+{
+    match known.table().constant(index)? {
+        Constant::NameAndType(name, descriptor) => Some((name, descriptor)),
+        _ => None,
+    }
+}
+
+fn names_field(known: &Known<'_>, name: u16, descriptor: u16) -> bool
+    ensures { IsTrue result ↔ IsSomeAnd (named_at known.now name descriptor) NamesField }
+{
+    is_utf8_at(known, name) && is_field_descriptor_at(known, descriptor)
+}
+
+fn names_method(known: &Known<'_>, name: u16, descriptor: u16) -> bool
+    ensures { IsTrue result ↔ IsSomeAnd (named_at known.now name descriptor) NamesMethod }
+{
+    match method_at(known, descriptor) {
+        Some(facts) => is_named_for(known, name, facts.void),
+        None => false,
+    }
+}
+
+fn names_interface_method(known: &Known<'_>, name: u16, descriptor: u16) -> bool
+    ensures { IsTrue result ↔ IsSomeAnd (named_at known.now name descriptor) NamesInterfaceMethod }
+{
+    match method_at(known, descriptor) {
+        Some(_) => is_plain_method_name_at(known, name),
+        None => false,
+    }
+}
+
+fn names_field_at(known: &Known<'_>, index: u16) -> bool
+    ensures { IsTrue result ↔ IsSomeAnd (name_and_type_at known.now index) NamesField }
+{
+    match pair_at(known, index) {
+        Some((name, descriptor)) => names_field(known, name, descriptor),
+        None => false,
+    }
+}
+
+fn names_method_at(known: &Known<'_>, index: u16) -> bool
+    ensures { IsTrue result ↔ IsSomeAnd (name_and_type_at known.now index) NamesMethod }
+{
+    match pair_at(known, index) {
+        Some((name, descriptor)) => names_method(known, name, descriptor),
+        None => false,
+    }
+}
+
+fn names_interface_method_at(known: &Known<'_>, index: u16) -> bool
+    ensures { IsTrue result ↔ IsSomeAnd (name_and_type_at known.now index) NamesInterfaceMethod }
+{
+    match pair_at(known, index) {
+        Some((name, descriptor)) => names_interface_method(known, name, descriptor),
+        None => false,
+    }
+}
+
+// ---- constants
+
+fn is_fieldref(known: &Known<'_>, class: u16, name_and_type: u16) -> bool
+    ensures { IsTrue result ↔ IsMemberIn NamesField known.now class name_and_type }
+{
+    is_class_at(known, class) && names_field_at(known, name_and_type)
+}
+
+fn is_methodref(known: &Known<'_>, class: u16, name_and_type: u16) -> bool
+    ensures { IsTrue result ↔ IsMemberIn NamesMethod known.now class name_and_type }
+{
+    is_class_at(known, class) && names_method_at(known, name_and_type)
+}
+
+fn is_interface_methodref(known: &Known<'_>, class: u16, name_and_type: u16) -> bool
+    ensures { IsTrue result ↔ IsMemberIn NamesInterfaceMethod known.now class name_and_type }
+{
+    is_class_at(known, class) && names_interface_method_at(known, name_and_type)
+}
+
+fn is_name_and_type(known: &Known<'_>, name: u16, descriptor: u16) -> bool
+    ensures { IsTrue result ↔ IsNameAndTypeIn known.now name descriptor }
+{
+    is_unqualified_at(known, name) && is_descriptor_at(known, descriptor)
 }
 
 /// Whether the constant keeps the rules of its kind.
-fn keeps_rules(pool: &[Constant<&[u8]>], constant: Constant<&[u8]>) -> bool
-    ensures { IsTrue result ↔ KeepsRules (map seen pool.now) (seen constant.entry) }
+fn keeps_rules(known: &Known<'_>, constant: Constant<&[u8]>) -> bool
+    ensures { IsTrue result ↔ KeepsRules known.now (seen constant.entry) }
 {
     match constant {
         Constant::Utf8(text) => is_text(text),
-        Constant::Class(name) => is_class(pool, name),
-        Constant::Methodref(class, name_and_type) => is_methodref(pool, class, name_and_type),
-        Constant::NameAndType(name, descriptor) => is_name_and_type(pool, name, descriptor),
+        Constant::Integer(_) => true,
+        Constant::Float(_) => true,
+        Constant::Long(_, _) => true,
+        Constant::Double(_, _) => true,
+        Constant::Class(name) => is_class(known, name),
+        Constant::String(text) => is_utf8_at(known, text),
+        Constant::Fieldref(class, member) => is_fieldref(known, class, member),
+        Constant::Methodref(class, member) => is_methodref(known, class, member),
+        Constant::InterfaceMethodref(class, member) => {
+            is_interface_methodref(known, class, member)
+        }
+        Constant::NameAndType(name, descriptor) => is_name_and_type(known, name, descriptor),
+        Constant::MethodHandle(_, _) => true,
+        Constant::MethodType(_) => true,
+        Constant::InvokeDynamic(_, _) => true,
+    }
+}
+
+fn keeps_rules_at(known: &Known<'_>, index: u16) -> bool
+    ensures { IsTrue result ↔ IsKept known.now (at_index known.now index) }
+{
+    match known.table().constant(index) {
+        Some(constant) => keeps_rules(known, constant),
+        None => true,
     }
 }
 
 /// Whether each constant keeps the rules of its kind.
-pub(crate) fn keep_rules(pool: &[Constant<&[u8]>]) -> bool
-    ensures { IsTrue result ↔ All (KeepsRules (map seen pool.now)) (map seen pool.now) }
+pub(crate) fn keep_rules(known: &Known<'_>) -> bool
+    ensures { IsTrue result ↔ All (KeepsRules known.now) known.now }
 {
-    for constant in pool {
-        if !keeps_rules(pool, *constant) {
+    for index in 0..known.table().count() {
+        if !keeps_rules_at(known, index) {
             return false;
         }
     }

@@ -1,12 +1,17 @@
-//! What the texts of a pool are, where constants name them (JVMS 4.4).
+//! What is known of a text (JVMS 4.2, 4.3, 4.4.1, 4.7.2).
 
-ghost use Rattle.std.specs.Prelude.{◌≡◌, ◌↔◌, IsTrue};
-ghost use Rattle.jv_text.specs.Seen.{seen_result};
-ghost use Rattle.jv_pool.specs.Rules.{begins_with, is_array_name, is_init, special_name_right, IsFieldDescriptor, IsMethodDescriptor, IsArrayDescriptor, NamesClass, IsDescriptor, IsMethodMember};
+ghost use Rattle.std.specs.Prelude.{◌≡◌, ◌↔◌, IsTrue, IsSome};
+ghost use Rattle.jv_text.specs.Seen.{seen_element, seen_field};
+ghost use Rattle.jv_pool.specs.Rules.{begins_with, is_array_name, is_init, NamesClass, IsFieldDescriptor};
+ghost use Rattle.jv_pool.specs.Facts.{value_of_base, value_of_element, value_of_type, IsFieldKnown, IsMethodKnown, AreFacts};
 
-use jv_text::{FieldType, field_type, is_class_name, is_method_name, method_shape};
+use crate::facts::{FieldFacts, MethodFacts, TextFacts, ValueKind};
+use jv_text::{
+    Base, Element, FieldType, field_type, is_class_name, is_floating, is_member_name,
+    is_method_name, method_shape,
+};
 
-fn begins_with(byte: u8, text: &[u8]) -> bool
+pub(crate) fn begins_with(byte: u8, text: &[u8]) -> bool
     ensures { result ≡ begins_with byte text.now }
 {
     match text {
@@ -15,61 +20,91 @@ fn begins_with(byte: u8, text: &[u8]) -> bool
     }
 }
 
-fn is_init(name: &[u8]) -> bool
+pub(crate) fn is_init(name: &[u8]) -> bool
     ensures { result ≡ is_init name.now }
 {
     name == b"<init>".as_slice()
 }
 
-fn is_field_descriptor(text: &[u8]) -> bool
-    ensures { IsTrue result ↔ IsFieldDescriptor text.now }
+fn value_of_base(base: Base) -> ValueKind
+    ensures { result ≡ value_of_base base }
 {
-    field_type(text).is_ok()
-}
-
-fn is_method_descriptor(text: &[u8]) -> bool
-    ensures { IsTrue result ↔ IsMethodDescriptor text.now }
-{
-    method_shape(text).is_ok()
-}
-
-fn is_array_descriptor(text: &[u8]) -> bool
-    ensures { IsTrue result ↔ IsArrayDescriptor text.now }
-{
-    begins_with(b'[', text) && is_field_descriptor(text)
-}
-
-/// Whether a Class constant can name the text (4.4.1).
-pub(crate) fn names_class(text: &[u8]) -> bool
-    ensures { IsTrue result ↔ NamesClass text.now }
-{
-    is_class_name(text) || is_array_descriptor(text)
-}
-
-/// Whether a NameAndType constant can have the text as its descriptor (4.4.6).
-pub(crate) fn is_descriptor(text: &[u8]) -> bool
-    ensures { IsTrue result ↔ IsDescriptor text.now }
-{
-    is_field_descriptor(text) || is_method_descriptor(text)
-}
-
-fn is_special_name_right(name: &[u8], result_type: Option<FieldType<'_>>) -> bool
-    ensures { result ≡ special_name_right name.now (seen_result result_type.entry) }
-{
-    if begins_with(b'<', name) {
-        is_init(name) && result_type.is_none()
-    } else {
-        true
+    match base {
+        Base::Long => ValueKind::Long,
+        Base::Float | Base::Double => ValueKind::Floating,
+        Base::Int | Base::Short | Base::Char | Base::Byte | Base::Boolean => ValueKind::Integer,
     }
 }
 
-/// Whether a Methodref constant can name a method by this name and descriptor (4.4.2).
-#[tactic(auto, using(jv_text::proofs::Methods::one_method))]
-pub(crate) fn is_method_member(name: &[u8], descriptor: &[u8]) -> bool
-    ensures { IsTrue result ↔ IsMethodMember name.now descriptor.now }
+fn value_of_element(element: Element<&[u8]>) -> ValueKind
+    ensures { result ≡ value_of_element (seen_element element.entry) }
 {
-    match method_shape(descriptor) {
-        Ok(shape) => is_method_name(name) && is_special_name_right(name, shape.result),
-        Err(_) => false,
+    match element {
+        Element::Base(base) => value_of_base(base),
+        Element::Class(name) => {
+            if name == b"java/lang/String".as_slice() {
+                ValueKind::String
+            } else {
+                ValueKind::Nothing
+            }
+        }
+    }
+}
+
+fn value_of_type(t: FieldType<'_>) -> ValueKind
+    ensures { result ≡ value_of_type (seen_field t.entry) }
+{
+    if t.dimensions == 0 {
+        value_of_element(t.element)
+    } else {
+        ValueKind::Nothing
+    }
+}
+
+fn field_facts(text: &[u8]) -> Option<FieldFacts>
+    ensures { IsFieldKnown text.now result }
+{
+    match field_type(text) {
+        Ok(t) => Some(FieldFacts {
+            value: value_of_type(t),
+            floating: is_floating(t),
+        }),
+        Err(_) => None,
+    }
+}
+
+fn method_facts(text: &[u8]) -> Option<MethodFacts>
+    ensures { IsMethodKnown text.now result }
+{
+    match method_shape(text) {
+        Ok(shape) => Some(MethodFacts {
+            slots: shape.slots,
+            void: shape.result.is_none(),
+            floating: shape.floating,
+        }),
+        Err(_) => None,
+    }
+}
+
+/// Whether a Class constant can name the text (4.4.1), where it is known whether it is a field
+/// descriptor.
+fn names_class(text: &[u8], described: bool) -> bool
+    requires { IsTrue described ↔ IsFieldDescriptor text.now }
+    ensures { IsTrue result ↔ NamesClass text.now }
+{
+    is_class_name(text) || (begins_with(b'[', text) && described)
+}
+
+/// What is known of the text. Each kind of name and descriptor is looked for once.
+pub(crate) fn facts_of(text: &[u8]) -> TextFacts
+    ensures { AreFacts text.now result }
+{
+    let field = field_facts(text);
+    TextFacts {
+        names_class: names_class(text, field.is_some()),
+        unqualified: is_member_name(text),
+        method_name: is_method_name(text),
+        field,
+        method: method_facts(text),
     }
 }

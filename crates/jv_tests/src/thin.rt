@@ -1,6 +1,6 @@
 //! The thin interpreter, step by step.
 
-use crate::files::HI;
+use crate::files::{HI, HI_WITH_ATTRIBUTES, patched};
 use jv_class::read_class;
 use jv_interp::thin::{Guest, StepFault, first_insn, is_accepted};
 use jv_meaning::End;
@@ -27,6 +27,31 @@ fn steps_to_the_end(rt: HostRuntime) -> Result<(), Fail> {
     assert_eq!(rt; guest.throws(), 0);
     assert!(rt; guest.last().is_none());
     assert!(rt; matches!(guest.end(), End::Returned));
+    Ok(())
+}
+
+#[test]
+fn attributes_that_are_passed_over(rt: HostRuntime) -> Result<(), Fail> {
+    let class = read_class(rt.alloc(), HI_WITH_ATTRIBUTES)?;
+    assert!(rt; is_accepted(&class));
+    let mut guest = Guest::new(rt.alloc(), Some(class), b"Hi", 64);
+    for _ in 0..6 {
+        assert!(rt; guest.is_running());
+        assert!(rt; guest.step().is_ok());
+    }
+    assert_eq!(rt; guest.output(), b"Hi".as_slice());
+    assert!(rt; matches!(guest.end(), End::Returned));
+    Ok(())
+}
+
+#[test]
+fn not_accepted(rt: HostRuntime) -> Result<(), Fail> {
+    // A class below host/Io, an instance method, and code that ends with a pop in place of the return.
+    for patch in [(122, 9), (130, 1), (161, 87)] {
+        let file = patched(&[patch]);
+        let class = read_class(rt.alloc(), &file)?;
+        assert!(rt; !is_accepted(&class), "{patch:?}");
+    }
     Ok(())
 }
 

@@ -1,14 +1,14 @@
 -- No method descriptor begins another one, and its parameters are read from the front.
-use Rattle.std.proofs.Common.{◌≡◌, ℕ, ◌+◌, ◌≤◌, ◌<◌, true, List, [], ◌∷◌, ◌++◌, drop, refl, sym, ap, ◌∙◌, append_assoc, arith, Option, Some, None}
-use Rattle.std.specs.Prelude.{◌≢◌, IsTrue, sum_by}
-use Rattle.std.specs.List.{list_all, flat_map}
+use Rattle.std.proofs.Common.{◌≡◌, ℕ, ◌+◌, ◌≤◌, ◌<◌, true, Bool, false, List, [], ◌∷◌, ◌++◌, drop, refl, sym, ap, ◌∙◌, append_assoc, arith, Option, Some, None}
+use Rattle.std.specs.Prelude.{◌≢◌, ◌||◌, IsTrue, sum_by}
+use Rattle.std.specs.List.{list_all, list_any, flat_map}
 use Rattle.std.proofs.lemmas.Bool.{and_parts, and_from}
 use Rattle.std.proofs.lemmas.Grind.{flat_map-append}
 use Rattle.std.proofs.lemmas.List.{append-nil}
-use Rattle.std.proofs.lemmas.List.Folds.{list_all-append}
+use Rattle.std.proofs.lemmas.List.Folds.{list_all-append, list_any-append}
 use Rattle.std.proofs.lemmas.List.Sums.{sum_by-append, sum_by-cons}
 use Rattle.jv_text.specs.declared.descriptor.FieldTypeOf.{FieldTypeOf}
-use Rattle.jv_text.specs.Descriptor.{field_text, is_field_type, field_slots, result_text, is_result_type, MethodDescriptor, method_text, slots, IsMethod, OneMethod}
+use Rattle.jv_text.specs.Descriptor.{field_text, is_field_type, field_slots, result_text, is_result_type, MethodDescriptor, method_text, slots, is_floating, is_floating_result, IsMethod, OneMethod}
 use Rattle.jv_text.proofs.Fields.{one_front, no_close, no_void}
 
 -- the parameters of a method whose text begins with those of `before` begin with `before`
@@ -117,3 +117,16 @@ pub no_room : (text rest : List ℕ) (t : FieldTypeOf (List ℕ)) (count : ℕ) 
 no_room text rest t count fits found many other after h few e =
     let one = one_front t other rest after fits h (sym found ∙ e) in
     omega (arith, many, few, ap field_slots one.0)
+
+or_false : (b : Bool) → (b || false) ≡ b
+or_false true = refl
+or_false false = refl
+
+-- whether one of some types is floating, and one more
+pub floats_more : (before : List (FieldTypeOf (List ℕ))) (t : FieldTypeOf (List ℕ)) (b now : Bool) → now ≡ (b || is_floating t) → b ≡ list_any is_floating before → now ≡ list_any is_floating (before ++ t ∷ [])
+floats_more before t b now is so_far =
+    is ∙ ap (λ (x : Bool). x || is_floating t) so_far ∙ ap (λ (x : Bool). list_any is_floating before || x) (sym (or_false (is_floating t))) ∙ sym (list_any-append is_floating before (t ∷ []))
+
+-- and the result
+pub floats_all : (before : List (FieldTypeOf (List ℕ))) (r : Option (FieldTypeOf (List ℕ))) (b now : Bool) → now ≡ (b || is_floating_result r) → b ≡ list_any is_floating before → now ≡ (list_any is_floating before || is_floating_result r)
+floats_all before r b now is so_far = is ∙ ap (λ (x : Bool). x || is_floating_result r) so_far

@@ -1,6 +1,6 @@
 -- Descriptors of fields and methods (JVMS 4.3.2, 4.3.3): the text that each type has.
-use Rattle.std.specs.Prelude.{◌≡◌, ℕ, ◌≤◌, Bool, true, false, List, [], ◌∷◌, ◌++◌, replicate, sum_by, nat_le, IsTrue, Option, Some, None, ◌==◌, ◌&&◌, if◌then◌else◌}
-use Rattle.std.specs.List.{list_all, flat_map}
+use Rattle.std.specs.Prelude.{◌≡◌, ℕ, ◌≤◌, Bool, true, false, List, [], ◌∷◌, ◌++◌, replicate, sum_by, nat_le, IsTrue, Option, Some, None, ◌==◌, ◌&&◌, ◌||◌, if◌then◌else◌}
+use Rattle.std.specs.List.{list_all, list_any, flat_map}
 use Rattle.jv_text.specs.declared.descriptor.Base.{Base}
 use Rattle.jv_text.specs.declared.descriptor.Base.TheVariants.{Byte, Char, Double, Float, Int, Long, Short, Boolean}
 use Rattle.jv_text.specs.declared.descriptor.Element.{Element}
@@ -73,6 +73,24 @@ field_slots t = if t.dimensions == 0 && is_wide t.element then 2 else 1
 -- the slots of a method's parameters
 abbrev pub slots : MethodDescriptor → ℕ
 slots m = sum_by field_slots m.parameters
+
+-- ---- types of floating point numbers, and arrays of them
+
+abbrev pub is_floating_element : Element (List ℕ) → Bool
+is_floating_element (elements.Base Float) = true
+is_floating_element (elements.Base Double) = true
+is_floating_element _ = false
+
+abbrev pub is_floating : FieldTypeOf (List ℕ) → Bool
+is_floating t = is_floating_element t.element
+
+abbrev pub is_floating_result : Option (FieldTypeOf (List ℕ)) → Bool
+is_floating_result None = false
+is_floating_result (Some t) = is_floating t
+
+-- a parameter or the result is one
+abbrev pub is_floating_method : MethodDescriptor → Bool
+is_floating_method m = list_any is_floating m.parameters || is_floating_result m.result
 
 -- The text is the method type's descriptor.
 pub record IsMethod (text : List ℕ) (m : MethodDescriptor) : Type 0 where

@@ -1,12 +1,12 @@
 -- What values of the code stand for in the definitions on descriptors (JVMS 4.3): the same types, with
 -- lists of bytes in place of slices.
-use Rattle.std.specs.Prelude.{◌≡◌, ℕ, List, map, Option, Some, None}
+use Rattle.std.specs.Prelude.{◌≡◌, ℕ, Bool, List, map, Option, Some, None}
 use Rattle.std.specs.Borrow.{Bor}
 use Rattle.jv_text.specs.declared.descriptor.Element.{Element}
 use Rattle.jv_text.specs.declared.descriptor.Element.TheVariants as elements
 use Rattle.jv_text.specs.declared.descriptor.FieldTypeOf.{FieldTypeOf}
 use Rattle.jv_text.specs.declared.descriptor.MethodType.{MethodType}
-use Rattle.jv_text.specs.Descriptor.{MethodDescriptor, slots, IsMethod}
+use Rattle.jv_text.specs.Descriptor.{MethodDescriptor, slots, is_floating_method, IsMethod}
 
 abbrev pub seen_element : Element (Bor (List ℕ)) → Element (List ℕ)
 seen_element (elements.Base base) = elements.Base base
@@ -22,9 +22,10 @@ seen_result (Some t) = Some (seen_field t)
 abbrev pub seen_method : MethodType → MethodDescriptor
 seen_method m = record { parameters = map seen_field m.parameters.items; result = seen_result m.result }
 
--- The text is the descriptor of a method type with these slots and this result.
-pub record HasShape (text : List ℕ) (count : ℕ) (result : Option (FieldTypeOf (List ℕ))) : Type 0 where
+-- The text is the descriptor of a method type with these slots and this result, and floating or not.
+pub record HasShape (text : List ℕ) (count : ℕ) (floating : Bool) (result : Option (FieldTypeOf (List ℕ))) : Type 0 where
   pub method : MethodDescriptor
   pub described : IsMethod text method
   pub counted : count ≡ slots method
+  pub floats : floating ≡ is_floating_method method
   pub given : result ≡ method.result

@@ -44,11 +44,12 @@ pub struct MethodType<'a> {
 }
 
 /// What a method's descriptor comes to without a list of its parameters: the local variables that
-/// they fill (1 each, 2 for a long and a double; the receiver is not counted), and its result,
-/// `None` for void.
+/// they fill (1 each, 2 for a long and a double; the receiver is not counted), whether one of them
+/// or the result is float or double or an array of one of these, and its result, `None` for void.
 #[derive(Clone, Copy)]
 pub struct MethodShape<'a> {
     pub slots: u8,
+    pub floating: bool,
     pub result: Option<FieldType<'a>>,
 }
 

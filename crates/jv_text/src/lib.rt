@@ -18,7 +18,7 @@ pub use descriptor::{
     BadDescriptor, Base, DescFault, Element, FieldType, FieldTypeOf, MethodShape, MethodType,
 };
 pub use field::field_type;
-pub use method::{method_shape, method_type};
+pub use method::{is_floating, method_shape, method_type};
 pub use name::{is_class_name, is_member_name, is_method_name};
 pub use text::{TextFault, decode, is_text};
 

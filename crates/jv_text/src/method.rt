@@ -1,9 +1,9 @@
 //! Reads method descriptors (JVMS 4.3.3).
 
-ghost use Rattle.std.specs.Prelude.{◌≡◌, ◌≢◌, ◌↔◌, ℕ, ◌+◌, ◌≤◌, List, [], ◌∷◌, ◌++◌, Option, IsTrue, Err, IfOk, IfErr, IfSome, IfNone};
+ghost use Rattle.std.specs.Prelude.{◌≡◌, ◌≢◌, ◌↔◌, ℕ, ◌+◌, ◌≤◌, ◌||◌, List, [], ◌∷◌, ◌++◌, Option, IsTrue, Err, IfOk, IfErr, IfSome, IfNone};
 ghost use Rattle.jv_text.specs.declared.descriptor.FieldTypeOf.{FieldTypeOf};
 ghost use Rattle.jv_text.specs.declared.descriptor.DescFault.{DescFault};
-ghost use Rattle.jv_text.specs.Descriptor.{field_text, is_field_type, field_slots, result_text, is_result_type, MethodDescriptor, slots, IsMethod};
+ghost use Rattle.jv_text.specs.Descriptor.{field_text, is_field_type, field_slots, result_text, is_result_type, MethodDescriptor, slots, is_floating, is_floating_result, IsMethod};
 ghost use Rattle.jv_text.specs.Seen.{seen_field, seen_result, seen_method, HasShape};
 
 use crate::descriptor::{
@@ -19,6 +19,30 @@ fn slots_of(t: FieldType<'_>) -> u8
     match t.element {
         Element::Base(Base::Long | Base::Double) if t.dimensions == 0 => 2,
         _ => 1,
+    }
+}
+
+/// Whether the type is float or double, or an array of one of these.
+pub fn is_floating(t: FieldType<'_>) -> bool
+    ensures { result ≡ is_floating (seen_field t.entry) }
+{
+    matches!(t.element, Element::Base(Base::Float | Base::Double))
+}
+
+/// The answer for some types and one more.
+fn or_floating(floating: bool, t: FieldType<'_>) -> bool
+    ensures { result ≡ (floating || is_floating (seen_field t.entry)) }
+{
+    floating || is_floating(t)
+}
+
+/// The answer for some types and a result.
+fn or_floating_result(floating: bool, result_type: Option<FieldType<'_>>) -> bool
+    ensures { result ≡ (floating || is_floating_result (seen_result result_type.entry)) }
+{
+    match result_type {
+        Some(t) => or_floating(floating, t),
+        None => floating,
     }
 }
 
@@ -68,7 +92,7 @@ fn result_type(text: &[u8]) -> Option<Option<FieldType<'_>>>
 /// `Ok` exactly where `method_type` finds a method type. The parameters fill at most 255 slots; a
 /// receiver is not counted here, and who knows of one counts it.
 pub fn method_shape(text: &[u8]) -> Result<MethodShape<'_>, BadDescriptor>
-    ensures ok { IfOk result (λ s. HasShape text.now s.slots (seen_result s.result)) }
+    ensures ok { IfOk result (λ s. HasShape text.now s.slots s.floating (seen_result s.result)) }
     ensures few { IfOk result (λ s. s.slots ≤ 255) }
     ensures bad { IfErr result (λ _. (m : MethodDescriptor) → IsMethod text.now m → ⊥) }
 {
@@ -77,15 +101,24 @@ pub fn method_shape(text: &[u8]) -> Result<MethodShape<'_>, BadDescriptor>
     };
     let mut rest = after;
     let mut slots = 0;
+    let mut floating = false;
     while !is_at_end(rest) {
-        let Some((_parameter, total, after)) = parameter_at(rest, slots) else {
+        let Some((parameter, total, after)) = parameter_at(rest, slots) else {
             return Err(BadDescriptor);
         };
         slots = total;
+        floating = or_floating(floating, parameter);
         rest = after;
     }
     match result_type(rest) {
-        Some(result) => Ok(MethodShape { slots, result }),
+        Some(result) => {
+            let floating = or_floating_result(floating, result);
+            Ok(MethodShape {
+                slots,
+                floating,
+                result,
+            })
+        }
         None => Err(BadDescriptor),
     }
 }

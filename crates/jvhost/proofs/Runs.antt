@@ -12,7 +12,7 @@ use Rattle.jv_meaning.specs.Thin.Machine.{State, Fault, Program, ◌>>=◌, prog
 use Rattle.jv_meaning.specs.Thin.Alone.{loaded, alone, observation, Shows, IsRunningAfter, IsOverAfter, FaultsWithin}
 use Rattle.jv_interp.specs.Thin.GuestState.{GuestState}
 use Rattle.jvhost.specs.Host.{Runs, IsAdmitted, IsFound}
-use Rattle.jv_class.specs.Structure.{ClassStructure}
+use Rattle.jv_class_parts.specs.Structure.{ClassStructure}
 
 abbrev just_ok : State → Result State Fault
 just_ok s = Ok s

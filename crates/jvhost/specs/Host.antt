@@ -1,6 +1,6 @@
 -- What the host holds: each guest's files, budget and steps.
 use Rattle.std.specs.Prelude.{◌≡◌, ℕ, zero, suc, ◌+◌, ◌-◌, ◌<◌, ◌^◌, ◌⊎◌, List, [], ◌∷◌, Option, Some, None, Ok}
-use Rattle.jv_class.specs.Structure.{ClassStructure}
+use Rattle.jv_class_parts.specs.Structure.{ClassStructure}
 use Rattle.jv_meaning.specs.declared.guest.Budget.{Budget}
 use Rattle.jv_meaning.specs.declared.observation.End.TheVariants.{Running}
 use Rattle.jv_meaning.specs.declared.observation.Verdict.{Verdict}

@@ -1,9 +1,10 @@
 -- What the guest of the code stands for: what runs, and the machine's state.
 use Rattle.std.specs.Prelude.{ℕ, List, [], ◌∷◌, Option, Some, None}
-use Rattle.jv_pool.specs.Constants.{Entry}
-use Rattle.jv_class.specs.Structure.{ClassStructure, MethodInfo}
+use Rattle.jv_class_parts.specs.Structure.{ClassStructure}
+use Rattle.jv_class_parts.specs.Seen.{seen_code}
+use Rattle.jv_class_parts.specs.declared.member.Code.{Code}
 use Rattle.jv_meaning.specs.Guest.{name_seen}
-use Rattle.jv_meaning.specs.Thin.Machine.{Word, Activity, State, Program, program_with, code_in, main_locals}
+use Rattle.jv_meaning.specs.Thin.Machine.{Word, Activity, State, Program, main_locals}
 use Rattle.jv_meaning.specs.Thin.Machine.Activity.{Initialization, Method, Returned, Threw, NoMain}
 use Rattle.jv_interp.specs.declared.thin.machine.Machine.{Machine}
 use Rattle.jv_interp.specs.declared.thin.machine.Stage.{Stage}
@@ -33,15 +34,9 @@ state_of locals m = record {
   last = name_seen m.last;
 }
 
--- the program of a class with one method
-abbrev pub sole_program : List Entry → List MethodInfo → Option Program
-sole_program pool [] = None
-sole_program pool (m ∷ []) = program_with pool (code_in m.attributes)
-sole_program pool (m ∷ n ∷ methods) = None
-
-abbrev pub program_in : Option ClassStructure → Option Program
-program_in None = None
-program_in (Some c) = sole_program c.constant_pool c.methods
+-- a class, and the code of its main method
+abbrev pub program_seen : ClassStructure × Code → Program
+program_seen p = record { constant_pool = p.0.constant_pool; code = seen_code p.1 }
 
 abbrev pub locals_in : Option Program → List Word
 locals_in None = []

@@ -4,11 +4,12 @@ ghost use Rattle.std.specs.Prelude.{◌≡◌, ◌≤◌, ◌<◌, ◌^◌, IfSo
 ghost use Rattle.std.specs.Int.{w32, cast_signed, cast_unsigned, int_wrapping_neg};
 ghost use Rattle.jv_meaning.specs.Thin.Machine.{compute, execute, names_write};
 ghost use Rattle.jv_pool.specs.Constants.{method_reference_at};
+ghost use Rattle.jv_pool.specs.Seen.{seen_member};
 ghost use Rattle.jv_interp.specs.Thin.Words.{words, effect_of, taken_by};
 
 use crate::thin::stack::top_of;
 use jv_meaning::thin::{Insn, Operator};
-use jv_pool::Pool;
+use jv_pool::{MemberName, Pool};
 
 /// What an instruction does.
 #[derive(Clone, Copy)]
@@ -47,16 +48,20 @@ pub(crate) fn negate(word: u32) -> u32
     word.cast_signed().wrapping_neg().cast_unsigned()
 }
 
+fn is_write(method: MemberName<'_>) -> bool
+    ensures { result ≡ names_write (Some (seen_member method.entry)) }
+{
+    method.class == b"host/Io".as_slice()
+        && method.name == b"write".as_slice()
+        && method.descriptor == b"(I)V".as_slice()
+}
+
 /// Whether the constant of this index names the method that writes a byte.
 pub(crate) fn names_write(pool: &Pool<'_>, index: u16) -> bool
     ensures { result ≡ names_write (method_reference_at pool.now index) }
 {
-    match pool.method_reference(index) {
-        Some(method) => {
-            method.class == b"host/Io".as_slice()
-                && method.name == b"write".as_slice()
-                && method.descriptor == b"(I)V".as_slice()
-        }
+    match pool.methodref_index(index) {
+        Some(index) => is_write(pool.method_reference(index)),
         None => false,
     }
 }

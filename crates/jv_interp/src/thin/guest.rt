@@ -1,48 +1,89 @@
 //! A guest of the thin machine.
 
-ghost use Rattle.std.specs.Prelude.{◌≡◌, ◌↔◌, Ok, Err, Some, None, OnOk, OnErr, IsErr, IsTrue, false};
+ghost use Rattle.std.specs.Prelude.{◌≡◌, ◌↔◌, Ok, Err, Some, None, OnOk, OnErr, IsErr, IsTrue, map};
 ghost use Rattle.jv_meaning.specs.Guest.{name_seen, end_seen};
 ghost use Rattle.jv_meaning.specs.declared.observation.End.TheVariants.{Running};
-ghost use Rattle.jv_meaning.specs.Thin.Machine.{program_of, start, next, end_of};
-ghost use Rattle.jv_interp.specs.Thin.GuestState.{GuestState, program_in};
+ghost use Rattle.std.specs.Option.{option_map};
+ghost use Rattle.jv_pool.specs.Constants.{utf8_at};
+ghost use Rattle.jv_class_parts.specs.Seen.{seen_method, seen_code};
+ghost use Rattle.jv_meaning.specs.Thin.Machine.{is_named, is_main, main_code, program_of, start, next, end_of};
+ghost use Rattle.jv_interp.specs.Thin.GuestState.{GuestState, program_seen};
 ghost use Rattle.jv_interp.specs.declared.thin.fault.StepFault.TheVariants.{Stuck};
 
 use crate::thin::decode::insn_at;
 use crate::thin::execute::change_of;
 use crate::thin::fault::StepFault;
 use crate::thin::machine::{Machine, Stage};
-use jv_class::ClassFile;
+use jv_class::{ClassFile, Code, Method};
 use jv_meaning::End;
+use jv_pool::{Pool, Utf8Index};
 use std::alloc::Global;
 use std::marker::Model;
 
 /// A guest: what runs, and the state that it is in. It stands for the thin machine's state.
 #[derive(Drop)]
 pub struct Guest<'a> {
-    class: Option<ClassFile<'a>>,
+    /// The main class, and the code of its main method.
+    program: Option<(ClassFile<'a>, Code<'a>)>,
     machine: Machine,
 }
 
 impl<'a> Model for Guest<'a> {
-    ghost use Rattle.jv_interp.specs.Thin.GuestState.{GuestState, program_in, locals_in, state_of};
+    ghost use Rattle.std.specs.Option.{option_map};
+    ghost use Rattle.jv_interp.specs.Thin.GuestState.{GuestState, program_seen, locals_in, state_of};
 
     ghost Value = { GuestState };
 
-    ghost view = { λ g. record { program = program_in g.class; state = state_of (locals_in (program_in g.class)) g.machine } };
+    ghost view = { λ g. record { program = option_map program_seen g.program; state = state_of (locals_in (option_map program_seen g.program)) g.machine } };
 }
 
-/// Whether this is the class of the main method that is asked for, and declares it: a `public
-/// static` method `main` from an array of String to nothing.
-fn has_main(class: &ClassFile<'_>, main: &[u8]) -> bool
-    ensures yes { IsTrue result → program_of main.now (Some class.now) ≡ program_in (Some class.now) }
-    ensures no { result ≡ false → program_of main.now (Some class.now) ≡ None }
+/// Whether the text at an index is this one.
+fn is_named(pool: &Pool<'_>, text: &[u8], index: Utf8Index) -> bool
+    ensures { result ≡ is_named text.now (utf8_at pool.now index.0) }
 {
-    let method = class.method();
-    class.name() == main
-        && method.access_flags & 0x0001 != 0
-        && method.access_flags & 0x0008 != 0
-        && method.name == b"main".as_slice()
-        && method.descriptor == b"([Ljava/lang/String;)V".as_slice()
+    match pool.utf8_index(index.0) {
+        Some(index) => pool.utf8(index) == text,
+        None => false,
+    }
+}
+
+/// Whether this is a main method: a `public static` method `main` from an array of String to nothing.
+fn is_main(pool: &Pool<'_>, method: Method<'_>) -> bool
+    ensures { result ≡ is_main pool.now (seen_method method.entry) }
+{
+    method.access_flags.0 & 0x0001 != 0
+        && method.access_flags.0 & 0x0008 != 0
+        && is_named(pool, b"main".as_slice(), method.name)
+        && is_named(
+            pool,
+            b"([Ljava/lang/String;)V".as_slice(),
+            method.descriptor,
+        )
+}
+
+/// The code of the first of some methods that is a main method.
+fn main_code<'a>(pool: &Pool<'_>, methods: &[Method<'a>]) -> Option<Code<'a>>
+    ensures { option_map seen_code result ≡ main_code pool.now (map seen_method methods.now) }
+{
+    let mut rest = methods;
+    while let [method, after @ ..] = rest {
+        if is_main(pool, *method) {
+            return method.code;
+        }
+        rest = after;
+    }
+    None
+}
+
+/// What runs of a class for the name of a main class.
+fn program_of<'a>(class: ClassFile<'a>, main: &[u8]) -> Option<(ClassFile<'a>, Code<'a>)>
+    ensures { option_map program_seen result ≡ program_of main.now (Some class.entry) }
+{
+    if class.name() != main {
+        return None;
+    }
+    let code = main_code(class.pool(), class.methods())?;
+    Some((class, code))
 }
 
 impl<'a> Guest<'a> {
@@ -52,18 +93,16 @@ impl<'a> Guest<'a> {
         ensures program { result.program ≡ program_of main.now class.entry }
         ensures start { result.state ≡ start (program_of main.now class.entry) output }
     {
-        let (class, stage) = match class {
-            Some(class) => {
-                if has_main(&class, main) {
-                    (Some(class), Stage::Initialization)
-                } else {
-                    (None, Stage::NoMain)
-                }
-            }
-            None => (None, Stage::NoMain),
+        let program = match class {
+            Some(class) => program_of(class, main),
+            None => None,
+        };
+        let stage = match program {
+            Some(_) => Stage::Initialization,
+            None => Stage::NoMain,
         };
         Guest {
-            class,
+            program,
             machine: Machine {
                 stage,
                 stack: Vec::new(alloc),
@@ -124,23 +163,22 @@ impl<'a> Guest<'a> {
         ensures stuck { result ≡ Err Stuck → IsErr (next self.old.program self.old.state) }
         ensures same { OnErr result (self.new ≡ self.old) }
     {
-        let Some(class) = &self.class else {
+        let Some((class, code)) = &self.program else {
             return Ok(());
         };
-        let method = class.method();
         match self.machine.stage {
             Stage::Initialization => {
                 self.machine.enter();
                 Ok(())
             }
             Stage::Method(offset) => {
-                let Some((insn, next)) = insn_at(method.code, offset) else {
+                let Some((insn, next)) = insn_at(code.code, offset) else {
                     return Err(StepFault::Stuck);
                 };
                 let Some(change) = change_of(class.pool(), insn, &self.machine.stack) else {
                     return Err(StepFault::Stuck);
                 };
-                self.machine.act(method.max_stack, next, change)
+                self.machine.act(code.max_stack, next, change)
             }
             Stage::Returned | Stage::Threw(_) | Stage::NoMain => Ok(()),
         }

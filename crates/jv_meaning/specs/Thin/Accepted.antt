@@ -1,15 +1,18 @@
 -- Which classes the thin machine runs: a straight line of its instructions up to a return, which keeps to its stack.
-use Rattle.std.specs.Prelude.{◌≡◌, ◌≢◌, ℕ, ◌+◌, ◌-◌, ◌≤◌, List, [], ◌∷◌, length, drop, Some, bit_and, codes, IsTrue, Bool, false, ◌||◌}
+use Rattle.std.specs.Prelude.{◌≡◌, ◌≢◌, ℕ, ◌+◌, ◌-◌, ◌≤◌, List, [], ◌∷◌, length, drop, Some, None, bit_and, codes, IsTrue, Bool, false, ◌||◌}
 use Rattle.std.specs.List.{starts_with}
 use Rattle.std.specs.Prelude.{nat_eq}
-use Rattle.jv_pool.specs.Constants.{Entry, utf8_at, method_reference_at}
-use Rattle.jv_class.specs.Structure.{ClassStructure, MethodInfo, CodeAttribute}
-use Rattle.jv_class.specs.Flags.{acc_static, acc_synchronized}
+use Rattle.jv_pool.specs.Constants.{Entry, utf8_at, class_name_at, method_reference_at}
+use Rattle.jv_class_parts.specs.Structure.{ClassStructure}
+use Rattle.jv_class_parts.specs.Attributes.{some_and}
+use Rattle.jv_class_parts.specs.Flags.{acc_static, acc_synchronized}
+use Rattle.jv_class_parts.specs.Parts.{CodeSeen, MethodSeen}
+use Rattle.jv_class.specs.Rules.{is_object, methods_of}
 use Rattle.jv_class.specs.ClassFile.{class_name}
 use Rattle.jv_meaning.specs.declared.thin.insn.Insn.{Insn}
 use Rattle.jv_meaning.specs.declared.thin.insn.Insn.TheVariants.{Constant, Pop, Negate, Binary, Invokestatic, Return}
 use Rattle.jv_meaning.specs.Thin.Instructions.{first_insn}
-use Rattle.jv_meaning.specs.Thin.Machine.{names_write, code_in}
+use Rattle.jv_meaning.specs.Thin.Machine.{names_write}
 
 -- how many ints an instruction takes from the stack, and how many it leaves there (6.5)
 abbrev pub takes : Insn → ℕ
@@ -47,19 +50,28 @@ abbrev pub is_reserved : List ℕ → Bool
 is_reserved name = starts_with nat_eq name (codes "java/") || starts_with nat_eq name (codes "host/")
 
 -- a static method that isn't synchronized and, as main does, takes an array of String and gives nothing (4.6)
-pub record IsMainLike (pool : List Entry) (m : MethodInfo) : Type 0 where
+pub record IsMainLike (pool : List Entry) (m : MethodSeen) : Type 0 where
   pub static : bit_and m.access_flags acc_static ≢ 0
   pub unlocked : bit_and m.access_flags acc_synchronized ≡ 0
   pub descriptor : utf8_at pool m.descriptor_index ≡ Some (codes "([Ljava/lang/String;)V")
 
--- code that is a line, whose arguments fit the locals, and whose frame is small
-pub record IsShortLine (pool : List Entry) (code : CodeAttribute) : Type 0 where
+-- code that is a line, without handlers and stack map frames, whose arguments fit the locals, and whose frame is small
+pub record IsShortLine (pool : List Entry) (code : CodeSeen) : Type 0 where
+  pub no_handlers : code.exception_table ≡ []
+  pub no_frames : code.stack_map_table ≡ None
   pub arguments : 1 ≤ code.max_locals
   pub small : code.max_locals + code.max_stack ≤ 32
   pub line : (insns : List Insn) × IsLine pool code.max_stack 0 code.code insns
 
--- a class of a name that isn't reserved, with one method, which is a line and like main
+-- a class below java/lang/Object without interfaces and fields; other attributes than those of its code are passed over
+pub record IsPlain (c : ClassStructure) : Type 0 where
+  pub superclass : IsTrue (some_and is_object (class_name_at c.constant_pool c.super_class))
+  pub no_interfaces : c.interfaces ≡ []
+  pub no_fields : c.fields ≡ []
+
+-- a plain class of a name that isn't reserved, with one method, which is a line and like main
 pub record IsAccepted (c : ClassStructure) : Type 0 where
   pub name : (name : List ℕ) × (class_name c ≡ Some name) × (is_reserved name ≡ false)
-  pub method : (m : MethodInfo) × (c.methods ≡ m ∷ []) × IsMainLike c.constant_pool m
-      × ((code : CodeAttribute) × (code_in m.attributes ≡ Some code) × IsShortLine c.constant_pool code)
+  pub plain : IsPlain c
+  pub method : (m : MethodSeen) × (methods_of c ≡ m ∷ []) × IsMainLike c.constant_pool m
+      × ((code : CodeSeen) × (m.code ≡ Some code) × IsShortLine c.constant_pool code)

@@ -1,7 +1,8 @@
 -- A guest alone: what its own file, main class name and budget give on the thin machine.
 use Rattle.std.specs.Prelude.{◌≡◌, ℕ, List, [], ◌∷◌, Option, Some, None, Result, Ok, IsErr, ◌≢◌}
-use Rattle.jv_class.specs.Structure.{ClassStructure}
+use Rattle.jv_class_parts.specs.Structure.{ClassStructure}
 use Rattle.jv_class.specs.ClassFile.{IsClassFile, IsOtherVersion}
+use Rattle.jv_class.specs.Supported.{IsSupported}
 use Rattle.jv_meaning.specs.declared.guest.Budget.{Budget}
 use Rattle.jv_meaning.specs.declared.observation.Verdict.{Verdict}
 use Rattle.jv_meaning.specs.declared.observation.Verdict.TheVariants as verdicts
@@ -17,12 +18,16 @@ pub data Judgement : Type 0 where
   Unsupported : (class : ClassStructure) → Judgement
   Accepted : (class : ClassStructure) → Judgement
 
+-- the profile supports the class, and it is accepted
+abbrev pub MayRun : ClassStructure → Type 0
+MayRun class = IsSupported class × IsAccepted class
+
 -- this is what is to be found of these bytes
 abbrev pub IsJudged : List ℕ → Judgement → Type 0
 IsJudged bytes Version = IsOtherVersion bytes
 IsJudged bytes Format = (¬ IsOtherVersion bytes) × ((c : ClassStructure) → ¬ IsClassFile bytes c)
-IsJudged bytes (Unsupported class) = IsClassFile bytes class × (¬ IsAccepted class)
-IsJudged bytes (Accepted class) = IsClassFile bytes class × IsAccepted class
+IsJudged bytes (Unsupported class) = IsClassFile bytes class × (¬ MayRun class)
+IsJudged bytes (Accepted class) = IsClassFile bytes class × MayRun class
 
 abbrev pub verdict_of : Judgement → Verdict
 verdict_of Version = verdicts.Version

@@ -4,9 +4,10 @@ use Rattle.std.specs.Prelude.{ℕ, zero, suc, ◌+◌, ◌-◌, ◌/◌, ◌%◌
 use Rattle.std.specs.Int.{w32, cast_signed, cast_unsigned, int_wrapping_add, int_wrapping_sub, int_wrapping_mul, int_wrapping_neg, int_shl, int_shr, int_bit_and, int_bit_or, int_bit_xor}
 use Rattle.std.specs.Str.{bytes_eq}
 use Rattle.jv_pool.specs.Constants.{Entry, utf8_at, MemberReference, method_reference_at}
-use Rattle.jv_class.specs.Structure.{ClassStructure, MethodInfo, MethodAttribute, CodeAttribute}
-use Rattle.jv_class.specs.Structure.MethodAttribute.{Code, Other}
-use Rattle.jv_class.specs.Flags.{has, acc_public, acc_static}
+use Rattle.jv_class_parts.specs.Structure.{ClassStructure}
+use Rattle.jv_class_parts.specs.Flags.{has, acc_public, acc_static}
+use Rattle.jv_class_parts.specs.Parts.{CodeSeen, MethodSeen}
+use Rattle.jv_class.specs.Rules.{methods_of}
 use Rattle.jv_class.specs.ClassFile.{class_name}
 use Rattle.jv_meaning.specs.declared.observation.End.{End}
 use Rattle.jv_meaning.specs.declared.observation.End.TheVariants as ends
@@ -59,30 +60,25 @@ abbrev pub ◌>>=◌ : {A B : Type 0} → Result A Fault → (A → Result B Fau
 -- the code of a main method, and the constants that it names
 pub record Program : Type 0 where
   pub constant_pool : List Entry
-  pub code : CodeAttribute
+  pub code : CodeSeen
 
 abbrev pub is_named : List ℕ → Option (List ℕ) → Bool
 is_named name None = false
 is_named name (Some text) = bytes_eq text name
 
 -- a `public static` method `main` that takes an array of String and gives nothing (4.6)
-abbrev pub is_main : List Entry → MethodInfo → Bool
+abbrev pub is_main : List Entry → MethodSeen → Bool
 is_main pool m =
     has m.access_flags acc_public && has m.access_flags acc_static
     && is_named (codes "main") (utf8_at pool m.name_index)
     && is_named (codes "([Ljava/lang/String;)V") (utf8_at pool m.descriptor_index)
 
-abbrev pub code_in : List MethodAttribute → Option CodeAttribute
-code_in [] = None
-code_in (Code name code ∷ attributes) = Some code
-code_in (Other attribute ∷ attributes) = code_in attributes
-
 -- the code of the first method that is the main method
-abbrev pub main_code : List Entry → List MethodInfo → Option CodeAttribute
+abbrev pub main_code : List Entry → List MethodSeen → Option CodeSeen
 main_code pool [] = None
-main_code pool (m ∷ methods) = if is_main pool m then code_in m.attributes else main_code pool methods
+main_code pool (m ∷ methods) = if is_main pool m then m.code else main_code pool methods
 
-abbrev pub program_with : List Entry → Option CodeAttribute → Option Program
+abbrev pub program_with : List Entry → Option CodeSeen → Option Program
 program_with pool None = None
 program_with pool (Some code) = Some (record { constant_pool = pool; code = code })
 
@@ -90,7 +86,7 @@ program_with pool (Some code) = Some (record { constant_pool = pool; code = code
 abbrev pub program_of : List ℕ → Option ClassStructure → Option Program
 program_of main None = None
 program_of main (Some c) =
-    if is_named main (class_name c) then program_with c.constant_pool (main_code c.constant_pool c.methods) else None
+    if is_named main (class_name c) then program_with c.constant_pool (main_code c.constant_pool (methods_of c)) else None
 
 -- ---- instructions (6.5)
 
@@ -141,7 +137,7 @@ execute pool insns.Return stack = Ok Leaves
 -- ---- steps
 
 -- the locals of main: the array of its arguments, which is object 1, and nothing yet in the others
-abbrev pub main_locals : CodeAttribute → List Word
+abbrev pub main_locals : CodeSeen → List Word
 main_locals code = Reference 1 ∷ replicate (code.max_locals - 1) Unset
 
 abbrev pub out_of_memory : List ℕ
@@ -158,11 +154,11 @@ written value next s =
     else record s { activity = next; output = s.output ++ (cast_unsigned w32 value % 256) ∷ []; output_left = s.output_left - 1 }
 
 -- the stack stays within max_stack
-abbrev pub test_stack : CodeAttribute → List Word → Result (List Word) Fault
+abbrev pub test_stack : CodeSeen → List Word → Result (List Word) Fault
 test_stack code stack = if nat_le (length stack) code.max_stack then Ok stack else Err Stack
 
 -- what an instruction's effect makes of the state, where the next one has an offset
-abbrev pub act : CodeAttribute → ℕ → List Word → State → Effect → Result State Fault
+abbrev pub act : CodeSeen → ℕ → List Word → State → Effect → Result State Fault
 act code next locals s (Goes stack) = test_stack code stack >>= λ stack. Ok (record s { activity = Method next locals stack })
 act code next locals s (Writes value stack) = Ok (written value (Method next locals stack) s)
 act code next locals s Leaves = Ok (record s { activity = Returned })
@@ -172,7 +168,7 @@ abbrev pub fetched : Option (Insn × ℕ) → Result (Insn × ℕ) Fault
 fetched None = Err Offset
 fetched (Some insn) = Ok insn
 
-abbrev pub fetch : CodeAttribute → ℕ → Result (Insn × ℕ) Fault
+abbrev pub fetch : CodeSeen → ℕ → Result (Insn × ℕ) Fault
 fetch code offset = fetched (first_insn (drop offset code.code))
 
 -- One step: the end of the initialization, which has no task, enters main; or one instruction. What is over stays.

@@ -2,8 +2,8 @@
 use Rattle.std.specs.Prelude.{◌≡◌, ℕ, pos, negsuc, List, [], ◌∷◌, Option, Some, None, Ok, Err, codes}
 use Rattle.jv_pool.specs.Constants.{Entry}
 use Rattle.jv_pool.specs.declared.constant.Constant.TheVariants.{Utf8, Class, NameAndType, Methodref}
-use Rattle.jv_class.specs.Structure.{CodeAttribute, MethodInfo, ClassStructure, class_bytes}
-use Rattle.jv_class.specs.Structure.MethodAttribute.{Code}
+use Rattle.jv_class_parts.specs.Structure.{CodeAttribute, MethodInfo, ClassStructure, class_bytes}
+use Rattle.jv_class_parts.specs.Structure.MethodAttribute.{Code}
 use Rattle.jv_meaning.specs.declared.thin.insn.Insn.TheVariants.{Constant}
 use Rattle.jv_meaning.specs.declared.thin.insn.Operator.TheVariants as operators
 use Rattle.jv_meaning.specs.Thin.Instructions.{first_insn}
@@ -60,7 +60,7 @@ hi_bytes =
 
 -- code with this limit on its stack, beside the same constants
 abbrev pub with_code : ℕ → List ℕ → Option Program
-with_code max_stack code = Some (record { constant_pool = hi_pool; code = record { max_stack = max_stack; max_locals = 1; code = code; exception_table = []; attributes = [] } })
+with_code max_stack code = Some (record { constant_pool = hi_pool; code = record { max_stack = max_stack; max_locals = 1; code = code; exception_table = []; stack_map_table = None } })
 
 pub record WorkedRows : Type 0 where
   -- the file is these bytes, its class is accepted, and its main method is what runs

@@ -47,6 +47,7 @@ fn judge<'a>(alloc: Global, bytes: &'a [u8]) -> Result<(Verdict, Option<ClassFil
         Ok(class) => class,
         Err(ClassFault::Version) => return Ok((Verdict::Version, None)),
         Err(ClassFault::Format) => return Ok((Verdict::Format, None)),
+        Err(ClassFault::Unsupported) => return Ok((Verdict::Unsupported, None)),
         Err(ClassFault::Memory) => return Err(Refused),
     };
     if is_accepted(&class) {

@@ -1,7 +1,8 @@
 use Rattle.std.proofs.Common.{arith}
 use Rattle.jv_class.specs.ClassFile.{IsClassFile}
-use Rattle.jv_class.specs.Reading.{IsBehindVersion}
-use Rattle.jv_class.proofs.Whole.{other_version, not_52_0, class_from_behind, behind_class, if_ok}
+use Rattle.jv_class.specs.Reading.{IsWholeBehind}
+use Rattle.jv_class.proofs.Kept.{if_ok_same}
+use Rattle.jv_class.proofs.Whole.{other_version, not_52_0, class_from_behind, behind_class}
 use Rattle.jv_class.proofs.reading.read_class.Goals as goal
 
 pub returns-then-minor-ne0-clause-version : goal.returns-then-minor-ne0-clause-version
@@ -11,9 +12,17 @@ returns-then-minor-ne0-clause-version c = λ e.
 
 pub returns-clause-ok : goal.returns-clause-ok
 returns-clause-ok c =
-    if_ok c.class_behind.result (λ x. IsBehindVersion c.in-Some.rest.now x) (λ x. IsClassFile c.args.bytes.now x)
+    if_ok_same c.class_behind.result (λ x. IsWholeBehind c.in-Some.rest.now x) (λ x. IsClassFile c.args.bytes.now x)
     (class_from_behind c.args.bytes.now c.in-Some.rest.now c.in-Some.minor c.in-Some.major (λ i. omega (arith, c.type_inv.bytes i)) c.in-Some.ensures (c.if-minor-ne0.false, c.if-major-ne52.false))
     c.class_behind.ensures.ok
+
+pub returns-clause-unsupported : goal.returns-clause-unsupported
+returns-clause-unsupported c = λ e.
+    let found = c.class_behind.ensures.unsupported e in (
+      found.0,
+      class_from_behind c.args.bytes.now c.in-Some.rest.now c.in-Some.minor c.in-Some.major (λ i. omega (arith, c.type_inv.bytes i)) c.in-Some.ensures (c.if-minor-ne0.false, c.if-major-ne52.false) found.0 found.1,
+      found.2,
+    )
 
 pub returns-clause-format_no_class : goal.returns-clause-format_no_class
 returns-clause-format_no_class c = λ e d h.

@@ -1,16 +1,22 @@
-use Rattle.std.proofs.Common.{◌≡◌, ◌++◌, ◌∷◌, []}
-use Rattle.std.specs.Prelude.{map}
-use Rattle.std.proofs.lemmas.List.{map_push}
-use Rattle.jv_format.proofs.Laws.{goes_on, ends}
-use Rattle.jv_pool.specs.Reading.{constant, seen}
+use Rattle.std.proofs.Common.{◌∙◌, ap, sym, List}
+use Rattle.jv_format.proofs.Laws.{just}
+use Rattle.jv_pool.specs.Constants.{Entry}
+use Rattle.jv_pool.proofs.Listing.{Listed-push, Listed-ends, Listed-cut, Listed-done}
 use Rattle.jv_pool.proofs.reading.listed.Goals as goal
 
 pub returns-in_default : goal.returns-in_default
 returns-in_default c =
-    ends constant (map seen c.loop.constants.items) c.args.count c.loop.counter c.loop.rest.now _ c.loop-test.true c.in_default.ensures c.loop.invariant
+    Listed-ends c.args.length c.loop.counter c.loop.unusable c.loop.entries.items c.loop.rest.now c.args.bytes.now c.loop-test.true (sym c.in_default.ensures) c.loop.invariant
 
 pub loop-preserved : goal.loop-preserved
 loop-preserved c =
-    let one = c.in-Some.constant in
-    let e : map seen c.push.new.self.items ≡ map seen c.loop.constants.items ++ seen one ∷ [] = rw c.in_ok-push.ensures.items (map_push _ c.loop.constants.items one) in
-    rw e (goes_on constant (map seen c.loop.constants.items) c.args.count c.loop.counter c.loop.rest.now (seen one) c.in-Some.after.now _ c.loop-test.true c.in-Some.ensures c.loop.invariant)
+    rw c.in_ok-push.ensures.items (Listed-push c.args.length c.loop.counter c.loop.unusable c.loop.entries.items c.loop.rest.now c.args.bytes.now c.in-Some.entry c.in-Some.more c.in-Some.after.now
+    c.loop-test.true (sym c.in-Some.ensures) c.loop.invariant)
+
+pub returns-then-unusable : goal.returns-then-unusable
+returns-then-unusable c = Listed-cut c.args.length c.loop.counter c.loop.unusable c.loop.entries.items c.loop.rest.now c.args.bytes.now c.loop-test.false c.if-unusable.true c.loop.invariant
+
+pub returns : goal.returns
+returns c =
+    Listed-done c.args.length c.loop.counter c.loop.unusable c.loop.entries.items c.loop.rest.now c.args.bytes.now c.loop-test.false c.if-unusable.false c.loop.invariant
+    ∙ ap (λ (xs : List Entry). just (xs, c.loop.rest.now)) (sym c.new.ensures)

@@ -1,9 +1,7 @@
-use Rattle.std.proofs.Common.{take}
-use Rattle.std.specs.Prelude.{map}
-use Rattle.std.specs.List.{All}
-use Rattle.jv_pool.specs.Rules.{KeepsRules}
-use Rattle.jv_pool.specs.Reading.{seen}
+use Rattle.std.proofs.Common.{ℕ, ◌<◌}
+use Rattle.jv_pool.specs.Constants.{at_index}
+use Rattle.jv_pool.specs.Known.{IsKept}
 use Rattle.jv_pool.proofs.rules.keep_rules.Given as goal
 
-abbrev pub invariant-loop-constant : goal.invariant-loop-constant
-invariant-loop-constant l = All (λ c. KeepsRules (map seen l.pool) (seen c)) (take l.constant-index l.pool)
+abbrev pub invariant-loop-index : goal.invariant-loop-index
+invariant-loop-index l = (k : ℕ) → k < l.index → IsKept l.known (at_index l.known k)

@@ -1,9 +1,17 @@
-use Rattle.std.proofs.Common.{refl}
+use Rattle.std.proofs.Common.{refl, ap}
+use Rattle.jv_class.specs.declared.fault.ClassFault.TheVariants as faults
 use Rattle.jv_meaning.specs.Thin.Alone.Judgement.{Accepted, Unsupported}
 use Rattle.jvhost.proofs.thin.admission.judge.Goals as goal
 
 pub returns-then-is_accepted : goal.returns-then-is_accepted
-returns-then-is_accepted c = (Accepted c.in-Ok.class, ((c.in-Ok.ensures {u = tt}).ok, (c.if-is_accepted.ensures {u = tt}).0 refl), refl, refl)
+returns-then-is_accepted c =
+    (Accepted c.in-Ok.class, ((c.in-Ok.ensures {u = tt}).ok, ((c.in-Ok.ensures {u = tt}).supported, (c.if-is_accepted.ensures {u = tt}).0 refl)), refl, refl)
 
 pub returns : goal.returns
-returns c = (Unsupported c.in-Ok.class, ((c.in-Ok.ensures {u = tt}).ok, λ a. absurd (let no = (c.if-is_accepted.ensures {u = tt}).1 a in cc)), refl, refl)
+returns c =
+    (Unsupported c.in-Ok.class, ((c.in-Ok.ensures {u = tt}).ok, λ a. absurd (let no = (c.if-is_accepted.ensures {u = tt}).1 a.1 in cc)), refl, refl)
+
+pub returns-in-Err-Unsupported : goal.returns-in-Err-Unsupported
+returns-in-Err-Unsupported c =
+    let found = (rw c.in-Err-Unsupported.field-0-is at c.in-Err-Unsupported.ensures.unsupported) refl in
+    (Unsupported found.0, (found.1, λ a. found.2 a.0), refl, refl)

@@ -1,0 +1,219 @@
+-- Numbers of pairs of texts differ exactly where the pairs do.
+use Rattle.std.proofs.Common.{◌≡◌, ◌≢◌, ℕ, zero, suc, ◌+◌, ◌*◌, ◌<◌, ◌≤◌, Bool, true, false, List, [], ◌∷◌, ◌++◌, length, take, drop, get_or, Option, Some, None, ◌⊎◌, inl, inr, ⊎_elim, refl, sym, ap, subst, ◌∙◌, arith}
+use Rattle.std.specs.Prelude.{IsSome, IsTrue, nat_eq, unwrap_or, map, ◌||◌}
+use Rattle.std.specs.List.{All, AllZip, AllByRecursion, IsDistinct, list_any}
+use Rattle.std.proofs.lemmas.Bool.{cases_order}
+use Rattle.std.proofs.lemmas.Bool.Decides.{nat_tests}
+use Rattle.std.proofs.lemmas.Grind.{common_steps}
+use Rattle.std.proofs.lemmas.List.{take_more, take-append-drop}
+use Rattle.std.proofs.lemmas.List.Elements.{All-head, All-tail, All-nil, All-cons}
+use Rattle.jv_format.specs.Format.{◌>>=◌}
+use Rattle.jv_pool.specs.Constants.{Entry, NameAndDescriptor, name_and_descriptor, utf8_at, named_at, class_name_at}
+use Rattle.jv_pool.specs.declared.index.ClassIndex.{ClassIndex}
+use Rattle.std.proofs.lemmas.Slice.Zip.{all_zipped_more}
+use Rattle.jv_class_parts.specs.Seen.{seen_index, seen_field, seen_method}
+use Rattle.jv_class_parts.specs.Attributes.{some_and}
+use Rattle.jv_class_parts.specs.declared.member.Field.{Field}
+use Rattle.jv_class_parts.specs.declared.member.Method.{Method}
+use Rattle.jv_class_parts.specs.Structure.{ClassStructure}
+use Rattle.jv_class.specs.Rules.{NoTwoAlike, field_texts, method_texts, is_no_array_name, IsClassAt, AreSupersRight, fields_of, methods_of, AreMembersRight, KeepsFieldRules, KeepsMethodRules, IsFieldRight, IsMethodRight}
+use Rattle.jv_class.proofs.Kept.{all_there, all_unseen}
+use Rattle.jv_class.specs.Reading.{IsFirst, IsKeyOf, IsFieldKey, IsMethodKey}
+
+-- ---- lists of numbers
+
+all_prefix : (P : ℕ → Type 0) (xs ys : List ℕ) → AllByRecursion P (xs ++ ys) → AllByRecursion P xs
+all_prefix P [] ys h = tt
+all_prefix P (x ∷ xs) ys h = (h.0, all_prefix P xs ys h.1)
+
+all_at : (P : ℕ → Type 0) (xs ys : List ℕ) (y : ℕ) → AllByRecursion P (xs ++ y ∷ ys) → P y
+all_at P [] ys y h = h.0
+all_at P (x ∷ xs) ys y h = all_at P xs ys y h.1
+
+distinct_prefix : (xs ys : List ℕ) → IsDistinct nat_eq (xs ++ ys) → IsDistinct nat_eq xs
+unfolding IsDistinct
+distinct_prefix [] ys h = tt
+distinct_prefix (x ∷ xs) ys h = (all_prefix (λ y. nat_eq x y ≡ false) xs ys h.0, distinct_prefix xs ys h.1)
+
+flipped : (x y : ℕ) → nat_eq x y ≡ false → nat_eq y x ≡ false
+flipped x y e = grind (arith, common_steps, nat_tests)
+
+or_false : (a b : Bool) → a ≡ false → b ≡ false → (a || b) ≡ false
+or_false a b p q = cc
+
+not_again : (xs ys : List ℕ) (y : ℕ) → IsDistinct nat_eq (xs ++ y ∷ ys) → list_any (nat_eq y) xs ≡ false
+unfolding IsDistinct
+not_again [] ys y h = refl
+not_again (x ∷ xs) ys y h = or_false (nat_eq y x) (list_any (nat_eq y) xs) (flipped x y (all_at (λ z. nat_eq x z ≡ false) xs ys y h.0)) (not_again xs ys y h.1)
+
+pub none_distinct : IsDistinct nat_eq []
+unfolding IsDistinct
+none_distinct = tt
+
+pub not_twice : (keys : List ℕ) (i : ℕ) (d : ℕ) → i < length keys → IsDistinct nat_eq keys → list_any (nat_eq (get_or keys i d)) (take i keys) ≡ false
+not_twice keys i d lt h =
+    let whole : IsDistinct nat_eq (take (i + 1) keys ++ drop (i + 1) keys) = subst (IsDistinct nat_eq) (sym (take-append-drop (i + 1) keys)) h in
+    let front : IsDistinct nat_eq (take (i + 1) keys) = distinct_prefix (take (i + 1) keys) (drop (i + 1) keys) whole in
+    not_again (take i keys) [] (get_or keys i d) (subst (IsDistinct nat_eq) (take_more keys i d lt) front)
+
+-- ---- one pair
+
+first_same : (pool : List Entry) (i j f g : ℕ) → IsFirst pool i f → IsFirst pool j g → utf8_at pool i ≡ utf8_at pool j → f ≡ g
+first_same pool i j f g a b e =
+    ⊎_elim (λ (same : f ≡ g). same) (λ (other : (f < g) ⊎ (g < f)).
+    ⊎_elim (λ (lt : f < g). absurd (b.least f lt (a.same ∙ e))) (λ (gt : g < f). absurd (a.least g gt (b.same ∙ sym e))) other) (cases_order f g)
+
+abbrev joined : Option (List ℕ) → Option (List ℕ) → Option NameAndDescriptor
+joined a b = a >>= λ n. b >>= λ d. Some (name_and_descriptor n d)
+
+parts_same : (a b c d : Option (List ℕ)) → IsSome (joined a b) → joined a b ≡ joined c d → (a ≡ c) × (b ≡ d)
+parts_same None b c d some e = absurd cc
+parts_same (Some n) None c d some e = absurd cc
+parts_same (Some n) (Some t) None d some e = absurd cc
+parts_same (Some n) (Some t) (Some m) None some e = absurd cc
+parts_same (Some n) (Some t) (Some m) (Some u) some e = (
+  ap (λ (o : Option NameAndDescriptor). Some (unwrap_or o (name_and_descriptor n t)).name) e,
+  ap (λ (o : Option NameAndDescriptor). Some (unwrap_or o (name_and_descriptor n t)).descriptor) e,
+)
+
+pub same_texts : (pool : List Entry) (n d m e k : ℕ) → IsKeyOf pool n d k → IsKeyOf pool m e k → named_at pool n d ≡ named_at pool m e
+same_texts pool n d m e k a b =
+    let sum : a.first_name * 65536 + a.first_descriptor ≡ b.first_name * 65536 + b.first_descriptor = sym a.is ∙ b.is in
+    let small = a.small in
+    let also = b.small in
+    let names : a.first_name ≡ b.first_name = omega arith in
+    let descriptors : a.first_descriptor ≡ b.first_descriptor = omega arith in
+    let n_same : utf8_at pool n ≡ utf8_at pool m = sym a.name_first.same ∙ ap (utf8_at pool) names ∙ b.name_first.same in
+    let d_same : utf8_at pool d ≡ utf8_at pool e = sym a.descriptor_first.same ∙ ap (utf8_at pool) descriptors ∙ b.descriptor_first.same in
+    ap (λ o. joined o (utf8_at pool d)) n_same ∙ ap (joined (utf8_at pool m)) d_same
+
+pub same_key : (pool : List Entry) (n d m e k l : ℕ) → IsKeyOf pool n d k → IsKeyOf pool m e l → IsSome (named_at pool n d) → named_at pool n d ≡ named_at pool m e → k ≡ l
+same_key pool n d m e k l a b some same =
+    let parts = parts_same (utf8_at pool n) (utf8_at pool d) (utf8_at pool m) (utf8_at pool e) some same in
+    let names : a.first_name ≡ b.first_name = first_same pool n m a.first_name b.first_name a.name_first b.name_first parts.0 in
+    let descriptors : a.first_descriptor ≡ b.first_descriptor = first_same pool d e a.first_descriptor b.first_descriptor a.descriptor_first b.descriptor_first parts.1 in
+    a.is ∙ ap (λ x. x * 65536 + a.first_descriptor) names ∙ ap (λ x. b.first_name * 65536 + x) descriptors ∙ sym b.is
+
+-- ---- lists of members, whose indices are at name and at descriptor
+
+module _ {X : Type 0} (pool : List Entry) (name descriptor : X → ℕ) where
+  abbrev texts : X → Option NameAndDescriptor
+  texts x = named_at pool (name x) (descriptor x)
+
+  abbrev Key : X → ℕ → Type 0
+  Key x k = IsKeyOf pool (name x) (descriptor x) k
+
+  differs : (x y : X) (k l : ℕ) → Key x k → Key y l → IsSome (texts x) → nat_eq k l ≡ false → texts x ≢ texts y
+  differs x y k l a b some apart e = let same : k ≡ l = same_key pool (name x) (descriptor x) (name y) (descriptor y) k l a b some e in absurd (grind (arith, common_steps, nat_tests))
+
+  keys_differ : (x y : X) (k l : ℕ) → Key x k → Key y l → texts x ≢ texts y → nat_eq k l ≡ false
+  keys_differ x y k l a b apart = by_test (nat_eq k l) refl
+    where
+      by_test : (t : Bool) → nat_eq k l ≡ t → t ≡ false
+      by_test false e = refl
+      by_test true e =
+          let same : k ≡ l = grind (arith, common_steps, nat_tests) in
+          absurd (apart (same_texts pool (name x) (descriptor x) (name y) (descriptor y) l (subst (Key x) same a) b))
+
+  others_differ : (x : X) (k : ℕ) (ys : List X) (ls : List ℕ) → Key x k → IsSome (texts x) → AllZip Key ys ls → AllByRecursion (λ l. nat_eq k l ≡ false) ls → AllByRecursion (λ t. texts x ≢ t) (map texts ys)
+  others_differ x k [] ls a some zip h = tt
+  others_differ x k (y ∷ ys) [] a some zip h = absurd zip
+  others_differ x k (y ∷ ys) (l ∷ ls) a some zip h = (differs x y k l a zip.0 some h.0, others_differ x k ys ls a some zip.1 h.1)
+
+  other_keys : (x : X) (k : ℕ) (ys : List X) (ls : List ℕ) → Key x k → AllZip Key ys ls → AllByRecursion (λ t. texts x ≢ t) (map texts ys) → AllByRecursion (λ l. nat_eq k l ≡ false) ls
+  other_keys x k [] [] a zip h = tt
+  other_keys x k [] (l ∷ ls) a zip h = absurd zip
+  other_keys x k (y ∷ ys) [] a zip h = absurd zip
+  other_keys x k (y ∷ ys) (l ∷ ls) a zip h = (keys_differ x y k l a zip.0 h.0, other_keys x k ys ls a zip.1 h.1)
+
+  pub unlike_from_keys : (xs : List X) (ks : List ℕ) → AllZip Key xs ks → All (λ x. IsSome (texts x)) xs → IsDistinct nat_eq ks → NoTwoAlike (map texts xs)
+  unfolding IsDistinct
+  unlike_from_keys [] ks zip some h = tt
+  unlike_from_keys (x ∷ xs) [] zip some h = absurd zip
+  unlike_from_keys (x ∷ xs) (k ∷ ks) zip some h = (
+    others_differ x k xs ks zip.0 (All-head (λ x. IsSome (texts x)) x xs some) zip.1 h.0,
+    unlike_from_keys xs ks zip.1 (All-tail (λ x. IsSome (texts x)) x xs some) h.1,
+  )
+
+  pub keys_from_unlike : (xs : List X) (ks : List ℕ) → AllZip Key xs ks → NoTwoAlike (map texts xs) → IsDistinct nat_eq ks
+  unfolding IsDistinct
+  keys_from_unlike [] [] zip h = tt
+  keys_from_unlike [] (k ∷ ks) zip h = absurd zip
+  keys_from_unlike (x ∷ xs) [] zip h = absurd zip
+  keys_from_unlike (x ∷ xs) (k ∷ ks) zip h = (other_keys x k xs ks zip.0 zip.1 h.0, keys_from_unlike xs ks zip.1 h.1)
+
+pub zipped_next : {X : Type 0} (R : X → ℕ → Type 0) (xs : List X) (i : ℕ) (d : X) → i < length xs → (ks new : List ℕ) (k : ℕ) → new ≡ ks ++ k ∷ [] → AllZip R (take i xs) ks → R (get_or xs i d) k → AllZip R (take (i + 1) xs) new
+zipped_next {X} R xs i d lt ks new k is zip last =
+    let pushed : AllZip R (take i xs ++ get_or xs i d ∷ []) (ks ++ k ∷ []) = all_zipped_more R (take i xs) ks (get_or xs i d) k zip last in
+    let front : AllZip R (take (i + 1) xs) (ks ++ k ∷ []) = subst (λ (ys : List X). AllZip R ys (ks ++ k ∷ [])) (sym (take_more xs i d lt)) pushed in
+    subst (λ (ls : List ℕ). AllZip R (take (i + 1) xs) ls) (sym is) front
+
+map_map : {X Y Z : Type 0} (f : Y → Z) (g : X → Y) (xs : List X) → map (λ x. f (g x)) xs ≡ map f (map g xs)
+map_map f g [] = refl
+map_map f g (x ∷ xs) = ap (λ r. f (g x) ∷ r) (map_map f g xs)
+
+pub unlike_fields : (pool : List Entry) (xs : List Field) (ks : List ℕ) → AllZip (IsFieldKey pool) xs ks → All (λ x. IsSome (field_texts pool (seen_field x))) xs
+    → (b : Bool) → (IsTrue b → IsDistinct nat_eq ks) × (IsDistinct nat_eq ks → IsTrue b)
+    → (IsTrue b → NoTwoAlike (map (field_texts pool) (map seen_field xs))) × (NoTwoAlike (map (field_texts pool) (map seen_field xs)) → IsTrue b)
+unlike_fields pool xs ks zip some b h =
+    let same = map_map (field_texts pool) seen_field xs in (
+      (λ t. subst NoTwoAlike same (unlike_from_keys pool (λ (f : Field). f.name.0) (λ (f : Field). f.descriptor.0) xs ks zip some (h.0 t))),
+      (λ u. h.1 (keys_from_unlike pool (λ (f : Field). f.name.0) (λ (f : Field). f.descriptor.0) xs ks zip (subst NoTwoAlike (sym same) u))),
+    )
+
+pub unlike_methods : (pool : List Entry) (xs : List Method) (ks : List ℕ) → AllZip (IsMethodKey pool) xs ks → All (λ x. IsSome (method_texts pool (seen_method x))) xs
+    → (b : Bool) → (IsTrue b → IsDistinct nat_eq ks) × (IsDistinct nat_eq ks → IsTrue b)
+    → (IsTrue b → NoTwoAlike (map (method_texts pool) (map seen_method xs))) × (NoTwoAlike (map (method_texts pool) (map seen_method xs)) → IsTrue b)
+unlike_methods pool xs ks zip some b h =
+    let same = map_map (method_texts pool) seen_method xs in (
+      (λ t. subst NoTwoAlike same (unlike_from_keys pool (λ (m : Method). m.name.0) (λ (m : Method). m.descriptor.0) xs ks zip some (h.0 t))),
+      (λ u. h.1 (keys_from_unlike pool (λ (m : Method). m.name.0) (λ (m : Method). m.descriptor.0) xs ks zip (subst NoTwoAlike (sym same) u))),
+    )
+
+-- ---- the texts of members that keep their rules are there
+
+pub fields_there : (c : ClassStructure) (pool : List Entry) (xs : List Field) → pool ≡ c.constant_pool → map seen_field xs ≡ fields_of c → AreMembersRight c → All (λ x. IsSome (field_texts pool (seen_field x))) xs
+fields_there c pool xs e is right =
+    let all : All (KeepsFieldRules c.constant_pool c.access_flags) (map seen_field xs) = subst (λ fs. All (KeepsFieldRules c.constant_pool c.access_flags) fs) (sym is) right.fields in
+    let some : All (λ f. IsSome (field_texts c.constant_pool f)) (map seen_field xs) = all_there (field_texts c.constant_pool) (λ f. IsFieldRight c.constant_pool c.access_flags f) (map seen_field xs) all in
+    all_unseen (λ f. IsSome (field_texts pool f)) seen_field xs (subst (λ p. All (λ f. IsSome (field_texts p f)) (map seen_field xs)) (sym e) some)
+
+pub methods_there : (c : ClassStructure) (pool : List Entry) (xs : List Method) → pool ≡ c.constant_pool → map seen_method xs ≡ methods_of c → AreMembersRight c → All (λ x. IsSome (method_texts pool (seen_method x))) xs
+methods_there c pool xs e is right =
+    let all : All (KeepsMethodRules c.constant_pool c.access_flags) (map seen_method xs) = subst (λ fs. All (KeepsMethodRules c.constant_pool c.access_flags) fs) (sym is) right.methods in
+    let some : All (λ f. IsSome (method_texts c.constant_pool f)) (map seen_method xs) = all_there (method_texts c.constant_pool) (λ m. IsMethodRight c.access_flags m) (map seen_method xs) all in
+    all_unseen (λ f. IsSome (method_texts pool f)) seen_method xs (subst (λ p. All (λ f. IsSome (method_texts p f)) (map seen_method xs)) (sym e) some)
+
+class_there : (o : Option (List ℕ)) → IsTrue (some_and is_no_array_name o) → IsSome o
+class_there None h = absurd cc
+class_there (Some x) h = refl
+
+classes_named : (pool : List Entry) (xs : List ClassIndex) → All (IsClassAt pool) (map seen_index xs) → All (λ i. IsSome (class_name_at pool i.0)) xs
+classes_named pool [] all = All-nil (λ i. IsSome (class_name_at pool i.0))
+classes_named pool (x ∷ xs) all =
+    All-cons (λ i. IsSome (class_name_at pool i.0)) x xs (class_there (class_name_at pool x.0) (All-head (IsClassAt pool) x.0 (map seen_index xs) all))
+    (classes_named pool xs (All-tail (IsClassAt pool) x.0 (map seen_index xs) all))
+
+pub classes_there : (c : ClassStructure) (xs : List ClassIndex) → map seen_index xs ≡ c.interfaces → AreSupersRight c → All (λ i. IsSome (class_name_at c.constant_pool i.0)) xs
+classes_there c xs is right = classes_named c.constant_pool xs (subst (All (IsClassAt c.constant_pool)) (sym is) right.interfaces)
+
+first_there : (a b : Option (List ℕ)) → IsSome (joined a b) → IsSome a
+first_there None b h = absurd cc
+first_there (Some x) b h = refl
+
+second_there : (a b : Option (List ℕ)) → IsSome (joined a b) → IsSome b
+second_there None b h = absurd cc
+second_there (Some x) None h = absurd cc
+second_there (Some x) (Some y) h = refl
+
+-- what follows for each item of a list
+each : {X : Type 0} (P Q : X → Type 0) → ((x : X) → P x → Q x) → (xs : List X) → All P xs → All Q xs
+each P Q f [] all = All-nil Q
+each P Q f (x ∷ xs) all = All-cons Q x xs (f x (All-head P x xs all)) (each P Q f xs (All-tail P x xs all))
+
+module _ {X : Type 0} (pool : List Entry) (name descriptor : X → ℕ) (xs : List X) (all : All (λ x. IsSome (named_at pool (name x) (descriptor x))) xs) where
+  pub all_named : All (λ x. IsSome (utf8_at pool (name x))) xs
+  all_named = each (λ x. IsSome (named_at pool (name x) (descriptor x))) (λ x. IsSome (utf8_at pool (name x))) (λ x h. first_there (utf8_at pool (name x)) (utf8_at pool (descriptor x)) h) xs all
+
+  pub all_described : All (λ x. IsSome (utf8_at pool (descriptor x))) xs
+  all_described = each (λ x. IsSome (named_at pool (name x) (descriptor x))) (λ x. IsSome (utf8_at pool (descriptor x))) (λ x h. second_there (utf8_at pool (name x)) (utf8_at pool (descriptor x)) h) xs all

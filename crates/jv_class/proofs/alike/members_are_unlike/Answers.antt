@@ -1,0 +1,12 @@
+use Rattle.std.proofs.Common.{sym, subst, ap, ◌∙◌}
+use Rattle.std.specs.List.{All}
+use Rattle.jv_class_parts.specs.Seen.{seen_field, seen_method}
+use Rattle.jv_class.specs.Rules.{field_texts, method_texts, KeepsFieldRules, KeepsMethodRules}
+use Rattle.jv_class.proofs.Keys.{fields_there, methods_there}
+use Rattle.jv_class.proofs.alike.members_are_unlike.Goals as goal
+
+pub fields_are_unlike-requires : goal.fields_are_unlike-requires
+fields_are_unlike-requires c = fields_there c.args.parts.now c.pool.result.now c.fields.result.now c.pool.ensures c.fields.ensures c.requires
+
+pub methods_are_unlike-requires : goal.methods_are_unlike-requires
+methods_are_unlike-requires c = methods_there c.args.parts.now c.pool-2.result.now c.methods.result.now c.pool-2.ensures c.methods.ensures c.requires

@@ -1,0 +1,120 @@
+//! The rules that a field keeps (JVMS 4.5, 4.7.2).
+
+ghost use Rattle.std.specs.Prelude.{◌≡◌, ◌↔◌, ◌&&◌, IsTrue, map};
+ghost use Rattle.std.specs.List.{All};
+ghost use Rattle.jv_pool.specs.Constants.{NameAndDescriptor};
+ghost use Rattle.jv_pool.specs.Facts.{AreFacts};
+ghost use Rattle.jv_class_parts.specs.Flags.{has, acc_interface};
+ghost use Rattle.jv_class_parts.specs.Seen.{seen_field};
+ghost use Rattle.jv_class.specs.Rules.{interface_field_flags_right, field_flags_right, takes, value_right, IsFieldRight, KeepsFieldRules};
+
+use crate::flags::{are_not_final_and_volatile, are_of_interface_field, have_one_visibility};
+use bitflags::Flags;
+use jv_class_parts::{ClassFlags, Field, FieldFlags};
+use jv_pool::{FieldFacts, Kind, Pool, TextFacts, ValueKind};
+
+fn are_right_in(in_interface: bool, flags: FieldFlags) -> bool
+    ensures { result ≡ interface_field_flags_right in_interface flags.0 }
+{
+    if in_interface {
+        are_of_interface_field(flags)
+    } else {
+        true
+    }
+}
+
+fn flags_are_right(in_interface: bool, flags: FieldFlags) -> bool
+    ensures { result ≡ field_flags_right in_interface flags.0 }
+{
+    have_one_visibility(flags.0)
+        && are_not_final_and_volatile(flags)
+        && are_right_in(in_interface, flags)
+}
+
+/// Whether a static field whose type asks for such a value may have a constant of that kind.
+fn takes(value: ValueKind, constant: Option<Kind>) -> bool
+    ensures { result ≡ takes value constant }
+{
+    match value {
+        ValueKind::Integer => matches!(constant, Some(Kind::Integer)),
+        ValueKind::Long => matches!(constant, Some(Kind::Long)),
+        ValueKind::String => matches!(constant, Some(Kind::String)),
+        ValueKind::Floating => true,
+        ValueKind::Nothing => false,
+    }
+}
+
+fn value_is_right(pool: &Pool<'_>, value: ValueKind, constant: Option<u16>) -> bool
+    ensures { result ≡ value_right pool.now value constant }
+{
+    match constant {
+        Some(index) => takes(value, pool.kind(index)),
+        None => true,
+    }
+}
+
+/// Whether a field with a name and a type of which this is known keeps the rules.
+fn is_right(
+    pool: &Pool<'_>,
+    class_flags: ClassFlags,
+    field: Field,
+    name: TextFacts,
+    facts: FieldFacts,
+) -> bool
+    ensures { result ≡ (name.unqualified && field_flags_right (has class_flags.0 acc_interface) field.access_flags.0
+        && value_right pool.now facts.value field.constant_value) }
+{
+    name.unqualified
+        && flags_are_right(
+            class_flags.intersects(ClassFlags::INTERFACE),
+            field.access_flags,
+        )
+        && value_is_right(pool, facts.value, field.constant_value)
+}
+
+/// Whether a field with texts of which this is known keeps the rules.
+fn is_right_field(
+    pool: &Pool<'_>,
+    class_flags: ClassFlags,
+    field: Field,
+    name: TextFacts,
+    descriptor: TextFacts,
+) -> bool
+    ensures { (texts : NameAndDescriptor) → AreFacts texts.name name → AreFacts texts.descriptor descriptor
+        → (IsTrue result ↔ IsFieldRight pool.now class_flags.0 (seen_field field) texts) }
+{
+    match descriptor.field {
+        Some(facts) => is_right(pool, class_flags, field, name, facts),
+        None => false,
+    }
+}
+
+fn keeps_rules(pool: &Pool<'_>, class_flags: ClassFlags, field: Field) -> bool
+    ensures { IsTrue result ↔ KeepsFieldRules pool.now class_flags.0 (seen_field field) }
+{
+    let Some(name) = pool.utf8_index(field.name.0) else {
+        return false;
+    };
+    let Some(descriptor) = pool.utf8_index(field.descriptor.0) else {
+        return false;
+    };
+    is_right_field(
+        pool,
+        class_flags,
+        field,
+        pool.facts(name),
+        pool.facts(descriptor),
+    )
+}
+
+/// Whether each field keeps the rules.
+pub(crate) fn keep_rules(pool: &Pool<'_>, class_flags: ClassFlags, fields: &[Field]) -> bool
+    ensures { IsTrue result ↔ All (KeepsFieldRules pool.now class_flags.0) (map seen_field fields.now) }
+{
+    for field in fields {
+        if !keeps_rules(pool, class_flags, *field) {
+            return false;
+        }
+    }
+    true
+}

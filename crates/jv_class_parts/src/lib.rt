@@ -1,0 +1,20 @@
+//! The parts of a class file behind its version (JVMS 4.1, 4.5 to 4.7): the structure that the
+//! bytes spell, or that they spell none. Rules on names, types and flags are not looked at here.
+#![tactic(auto)]
+
+mod attributes;
+mod body;
+mod fault;
+mod flags;
+mod handler;
+mod law;
+mod member;
+mod members;
+mod parts;
+
+pub use fault::PartsFault;
+pub use flags::{ClassFlags, FieldFlags, MethodFlags};
+pub use handler::ExceptionEntry;
+pub use law::one_behind_version;
+pub use member::{Code, Field, Method};
+pub use parts::{Parts, read_parts};

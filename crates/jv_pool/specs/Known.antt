@@ -1,0 +1,64 @@
+-- What is known of the texts of a table, and the rules of constants in terms of it.
+use Rattle.std.specs.Prelude.{◌≡◌, ⊤, ℕ, ◌<◌, Bool, true, ◌&&◌, if◌then◌else◌, List, length, Option, Some, None, slice_get, IsTrue}
+use Rattle.std.specs.Option.{IsSomeAnd}
+use Rattle.jv_text.specs.Name.{is_plain_name, is_method_name}
+use Rattle.jv_pool.specs.declared.constant.Constant.TheVariants.{NameAndType}
+use Rattle.jv_pool.specs.declared.facts.TextFacts.{TextFacts}
+use Rattle.jv_pool.specs.declared.facts.MethodFacts.{MethodFacts}
+use Rattle.jv_pool.specs.Constants.{Entry, utf8_at}
+use Rattle.jv_pool.specs.Rules.{begins_with, is_init, IsMethodDescriptor, KeepsRules}
+use Rattle.jv_pool.specs.Facts.{AreMethodFacts, AreFacts}
+
+-- facts where there is a text, and none where there is none
+abbrev pub IsKnown : Option (List ℕ) → Option TextFacts → Type 0
+IsKnown None None = ⊤
+IsKnown None (Some facts) = ⊥
+IsKnown (Some text) None = ⊥
+IsKnown (Some text) (Some facts) = AreFacts text facts
+
+abbrev pub known_in : Option (Option TextFacts) → Option TextFacts
+known_in None = None
+known_in (Some known) = known
+
+-- at every index
+abbrev pub AllKnown : List Entry → List (Option TextFacts) → Type 0
+AllKnown pool facts = (index : ℕ) → IsKnown (utf8_at pool index) (known_in (slice_get facts index))
+
+-- so far
+pub record KnownBelow (pool : List Entry) (count : ℕ) (facts : List (Option TextFacts)) : Type 0 where
+  pub long : length facts ≡ count
+  pub known : (index : ℕ) → index < count → IsKnown (utf8_at pool index) (known_in (slice_get facts index))
+
+-- what is known of a method descriptor
+abbrev pub MethodKnown : Option (List ℕ) → Option MethodFacts → Type 0
+MethodKnown text (Some facts) = IsSomeAnd text (λ t. AreMethodFacts t facts)
+MethodKnown text None = IsSomeAnd text IsMethodDescriptor → ⊥
+
+-- a name that a method can have whose result is void, or not
+abbrev pub special_right : List ℕ → Bool → Bool
+special_right name void = if begins_with 60 name then is_init name && void else true
+
+abbrev pub is_named_for : Bool → List ℕ → Bool
+is_named_for void name = is_method_name name && special_right name void
+
+abbrev pub IsNamedFor : Bool → List ℕ → Type 0
+IsNamedFor void name = IsTrue (is_named_for void name)
+
+-- a name that a method can have that is called through an interface
+pub record IsPlainMethodName (name : List ℕ) : Type 0 where
+  pub named : IsTrue (is_method_name name)
+  pub plain : IsTrue (is_plain_name name)
+
+-- the indices that a NameAndType constant holds
+abbrev pub pair_in : Option Entry → Option (ℕ × ℕ)
+pair_in (Some (NameAndType name descriptor)) = Some (name, descriptor)
+pair_in _ = None
+
+-- P of the constant that is there
+abbrev pub At : (Entry → Type 0) → Option Entry → Type 0
+At P None = ⊤
+At P (Some c) = P c
+
+-- an index that names a constant names one that keeps its rules
+abbrev pub IsKept : List Entry → Option Entry → Type 0
+IsKept pool o = At (KeepsRules pool) o

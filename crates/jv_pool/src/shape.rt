@@ -1,0 +1,70 @@
+//! What the tag of a constant says of the bytes behind it (JVMS table 4.4-A).
+
+ghost use Rattle.std.specs.Prelude.{◌≡◌};
+ghost use Rattle.jv_pool.specs.Reading.{shape_of};
+
+/// A constant that is four bytes.
+#[derive(Clone, Copy)]
+pub(crate) enum QuadKind {
+    Integer,
+    Float,
+}
+
+/// A constant that is two times four bytes.
+#[derive(Clone, Copy)]
+pub(crate) enum TwoQuadsKind {
+    Long,
+    Double,
+}
+
+/// A constant that is an index.
+#[derive(Clone, Copy)]
+pub(crate) enum HalfKind {
+    Class,
+    String,
+    MethodType,
+}
+
+/// A constant that is two indices.
+#[derive(Clone, Copy)]
+pub(crate) enum TwoHalvesKind {
+    Fieldref,
+    Methodref,
+    InterfaceMethodref,
+    NameAndType,
+    InvokeDynamic,
+}
+
+/// What stands behind a tag.
+#[derive(Clone, Copy)]
+pub(crate) enum Shape {
+    Text,
+    Quad(QuadKind),
+    TwoQuads(TwoQuadsKind),
+    Half(HalfKind),
+    TwoHalves(TwoHalvesKind),
+    ByteAndHalf,
+}
+
+/// The shape of the constants with this tag.
+pub(crate) fn shape_of(tag: u8) -> Option<Shape>
+    ensures { result ≡ shape_of tag }
+{
+    match tag {
+        1 => Some(Shape::Text),
+        3 => Some(Shape::Quad(QuadKind::Integer)),
+        4 => Some(Shape::Quad(QuadKind::Float)),
+        5 => Some(Shape::TwoQuads(TwoQuadsKind::Long)),
+        6 => Some(Shape::TwoQuads(TwoQuadsKind::Double)),
+        7 => Some(Shape::Half(HalfKind::Class)),
+        8 => Some(Shape::Half(HalfKind::String)),
+        9 => Some(Shape::TwoHalves(TwoHalvesKind::Fieldref)),
+        10 => Some(Shape::TwoHalves(TwoHalvesKind::Methodref)),
+        11 => Some(Shape::TwoHalves(TwoHalvesKind::InterfaceMethodref)),
+        12 => Some(Shape::TwoHalves(TwoHalvesKind::NameAndType)),
+        15 => Some(Shape::ByteAndHalf),
+        16 => Some(Shape::Half(HalfKind::MethodType)),
+        18 => Some(Shape::TwoHalves(TwoHalvesKind::InvokeDynamic)),
+        _ => None,
+    }
+}
