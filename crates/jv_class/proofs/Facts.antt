@@ -1,14 +1,13 @@
 -- What facts of texts say of the rules.
-use Rattle.std.proofs.Common.{◌≡◌, ℕ, Bool, true, false, List, Option, Some, None, refl, sym, ap, subst, ◌∙◌}
+use Rattle.std.proofs.Common.{◌≡◌, ℕ, Bool, List, sym, ap, ◌∙◌}
 use Rattle.std.specs.Prelude.{IsTrue, not, ◌&&◌}
 use Rattle.std.proofs.lemmas.Bool.{and_parts, and_from}
-use Rattle.jv_text.specs.declared.descriptor.FieldTypeOf.{FieldTypeOf}
-use Rattle.jv_text.specs.Descriptor.{IsField, MethodDescriptor, IsMethod, is_floating, is_floating_method, OneField, OneMethod}
+use Rattle.jv_text.specs.Descriptor.{MethodDescriptor, is_floating, is_floating_method}
 use Rattle.jv_text.proofs.Fields.{one_field}
 use Rattle.jv_text.proofs.Methods.{one_method}
 use Rattle.jv_pool.specs.declared.facts.FieldFacts.{FieldFacts}
 use Rattle.jv_pool.specs.declared.facts.MethodFacts.{MethodFacts}
-use Rattle.jv_pool.specs.Facts.{IsFieldKnown, IsMethodKnown, AreFieldFacts, AreMethodFacts}
+use Rattle.jv_pool.specs.Facts.{AreFieldFacts, AreMethodFacts}
 use Rattle.std.specs.Prelude.{is_none}
 use Rattle.jv_pool.specs.Constants.{Entry, NameAndDescriptor}
 use Rattle.jv_pool.specs.declared.facts.TextFacts.{TextFacts}

@@ -2,3 +2,4 @@ pub mod Facts
 pub mod Kept
 pub mod Keys
 pub mod Whole
+pub mod Values

@@ -1,5 +1,5 @@
 -- Which class the bytes behind a version are, and which the whole bytes.
-use Rattle.std.proofs.Common.{◌≡◌, ℕ, List, ◌++◌, Option, Some, None, refl, sym, ap, ◌∙◌, inl, inr}
+use Rattle.std.proofs.Common.{◌≡◌, ℕ, List, ◌++◌, Some, None, refl, sym, ap, ◌∙◌, inl, inr}
 use Rattle.std.specs.Prelude.{◌⊎◌, IsTrue}
 use Rattle.std.proofs.lemmas.Bool.{and_parts, and_from, ltb-true, lt-ltb}
 use Rattle.std.proofs.lemmas.List.{append_assoc}
@@ -8,7 +8,7 @@ use Rattle.jv_format.proofs.Laws.{is_some, IsFormat, half_is, quad_is, both_is, 
 use Rattle.jv_pool.specs.Constants.{pool_bytes}
 use Rattle.jv_class_parts.specs.Structure.{ClassStructure, magic, body_bytes, class_bytes}
 use Rattle.jv_class_parts.specs.Parts.{is_52_0, OneBehindVersion}
-use Rattle.jv_class.specs.ClassFile.{IsOtherVersion, IsWellFormed, IsClassFile, OneStructure}
+use Rattle.jv_class.specs.ClassFile.{IsOtherVersion, IsClassFile, OneStructure}
 use Rattle.jv_class.specs.Reading.{Three, magic_number, header, IsWholeBehind}
 
 header_is : IsFormat header

@@ -1,7 +1,7 @@
 -- The rules on the names, types and flags of a class, its fields and its methods (JVMS 4.1, 4.5, 4.6, 4.7.2, 4.7.3).
 -- Those on a field speak of what is shown of it: its flags, its indices, and the index of its constant value; those on a
 -- method of its flags, its indices and its code, if it has one.
-use Rattle.std.specs.Prelude.{◌≡◌, ◌≢◌, ⊤, ℕ, ◌+◌, Bool, true, false, not, ◌&&◌, ◌==◌, nat_le, List, [], ◌∷◌, map, Option, Some, None, is_some, is_none, IsTrue, codes, if◌then◌else◌}
+use Rattle.std.specs.Prelude.{◌≢◌, ⊤, ℕ, ◌+◌, Bool, true, false, not, ◌&&◌, ◌==◌, nat_le, List, [], ◌∷◌, map, Option, Some, None, is_some, is_none, IsTrue, codes, if◌then◌else◌}
 use Rattle.std.specs.List.{All, AllByRecursion}
 use Rattle.std.specs.Option.{IsSomeAnd}
 use Rattle.std.specs.Str.{bytes_eq}
@@ -66,14 +66,26 @@ abbrev pub field_flags_right : Bool → ℕ → Bool
 field_flags_right in_interface flags =
     visibility_right flags && volatile_right flags && interface_field_flags_right in_interface flags
 
+abbrev pub is_integer : Option Kind → Bool
+is_integer (Some kinds.Integer) = true
+is_integer _ = false
+
+abbrev pub is_long : Option Kind → Bool
+is_long (Some kinds.Long) = true
+is_long _ = false
+
+abbrev pub is_string : Option Kind → Bool
+is_string (Some kinds.String) = true
+is_string _ = false
+
 -- the constant that the value of a static field may be, by the field's type (4.7.2, table 4.7.2-A); that of a float or a
 -- double is not looked at, since such a field makes the class unsupported (own)
 abbrev pub takes : ValueKind → Option Kind → Bool
-takes values.Integer (Some kinds.Integer) = true
-takes values.Long (Some kinds.Long) = true
-takes values.String (Some kinds.String) = true
+takes values.Integer constant = is_integer constant
+takes values.Long constant = is_long constant
+takes values.String constant = is_string constant
 takes values.Floating constant = true
-takes _ _ = false
+takes values.Nothing constant = false
 
 abbrev pub value_right : List Entry → ValueKind → Option ℕ → Bool
 value_right pool value None = true

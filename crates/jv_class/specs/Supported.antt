@@ -1,6 +1,6 @@
 -- Which class files this host's integer profile supports, code aside (own): none with floating point numbers, method
 -- handles or dynamic call sites (JVMS 4.4), and none with native or synchronized methods (4.6).
-use Rattle.std.specs.Prelude.{◌≡◌, ⊤, ℕ, ◌+◌, Bool, not, ◌||◌, List, Option, IsTrue}
+use Rattle.std.specs.Prelude.{⊤, ℕ, ◌+◌, Bool, not, ◌||◌, List, IsTrue}
 use Rattle.std.specs.List.{All}
 use Rattle.std.specs.Option.{IsSomeAnd}
 use Rattle.jv_text.specs.declared.descriptor.FieldTypeOf.{FieldTypeOf}

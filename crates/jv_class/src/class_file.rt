@@ -1,18 +1,21 @@
 //! A class file that was read.
 
-ghost use Rattle.std.specs.Prelude.{◌≡◌, ◌≢◌, ◌↔◌, Some, IsSome, IfSome, IsTrue, IfOk, Err, map};
+ghost use Rattle.std.specs.Prelude.{◌≡◌, ◌≢◌, ◌↔◌, Some, IsSome, IfSome, IsTrue, IfOk, Err, map, slice_get};
 ghost use Rattle.std.specs.Option.{option_map};
 ghost use Rattle.std.specs.List.{All};
 ghost use Rattle.jv_pool.specs.Constants.{class_name_at, utf8_at};
+ghost use Rattle.jv_pool.specs.Rules.{KeepsRules};
 ghost use Rattle.jv_class_parts.specs.Seen.{seen_index, seen_field, seen_method};
 ghost use Rattle.jv_class.specs.ClassFile.{class_name};
 ghost use Rattle.jv_class.specs.Reading.{super_index};
 ghost use Rattle.jv_class.specs.Rules.{fields_of, methods_of, AreMembersRight, KeepsClassRules};
 ghost use Rattle.jv_class.specs.Supported.{IsSupported};
+ghost use Rattle.jv_class.specs.Value.{value_number, IsValueNamed, value_of_field};
 ghost use Rattle.jv_class.specs.declared.fault.ClassFault.TheVariants.{Version, Format, Unsupported};
 
 use crate::alike::members_are_unlike;
 use crate::class_rules::class_is_right;
+use crate::constant_value::{ConstantValue, value_at};
 use crate::fault::ClassFault;
 use crate::supported::{are_supported_constants, are_supported_fields, are_supported_methods};
 use crate::{field_rules, method_rules};
@@ -28,6 +31,8 @@ pub struct ClassFile<'a> {
 }
 
 impl<'a> Model for ClassFile<'a> {
+    ghost use Rattle.std.specs.List.{All};
+    ghost use Rattle.jv_pool.specs.Rules.{KeepsRules};
     ghost use Rattle.jv_class_parts.specs.Structure.{ClassStructure};
     ghost use Rattle.jv_class.specs.Rules.{KeepsClassRules};
     ghost use Rattle.jv_class.specs.Supported.{IsSupported};
@@ -36,7 +41,8 @@ impl<'a> Model for ClassFile<'a> {
 
     ghost view = { λ c. c.parts };
 
-    ghost invariant = { λ c. KeepsClassRules c.parts × IsSupported c.parts };
+    ghost invariant = { λ c.
+        KeepsClassRules c.parts × IsSupported c.parts × All (KeepsRules c.parts.constant_pool) c.parts.constant_pool };
 }
 
 /// Whether fields and methods keep the rules of their own.
@@ -57,6 +63,7 @@ fn is_supported(parts: &Parts<'_>) -> bool
 
 /// The class of these parts, where they keep the rules and the profile supports them.
 pub(crate) fn class_of(alloc: Global, parts: Parts<'_>) -> Result<ClassFile<'_>, ClassFault>
+    requires { All (KeepsRules parts.constant_pool) parts.constant_pool }
     ensures found { IfOk result (λ c. c ≡ parts.entry) }
     ensures right { IfOk result (λ c. KeepsClassRules c × IsSupported c) }
     ensures format { result ≡ Err Format → KeepsClassRules parts.entry → ⊥ }
@@ -73,6 +80,14 @@ pub(crate) fn class_of(alloc: Global, parts: Parts<'_>) -> Result<ClassFile<'_>,
         return Err(ClassFault::Unsupported);
     }
     Ok(ClassFile { parts })
+}
+
+/// The field at a place.
+fn field_at(parts: &Parts<'_>, place: usize) -> Option<Field>
+    ensures { option_map seen_field result ≡ slice_get (fields_of parts.now) place }
+{
+    let field = parts.fields().get(place)?;
+    Some(*field)
 }
 
 impl<'a> ClassFile<'a> {
@@ -140,5 +155,16 @@ impl<'a> ClassFile<'a> {
         ensures described { All (λ method. IsSome (utf8_at self.now.constant_pool method.descriptor.0)) result.now }
     {
         self.parts.methods()
+    }
+
+    /// The constant that the static field at a place has as its value (JVMS 4.7.2); `None` where it
+    /// has none, where the field isn't static, and behind the last field.
+    pub fn constant_value(&self, place: usize) -> Option<ConstantValue>
+        ensures same { option_map value_number result ≡ value_of_field self.now place }
+        ensures named { IfSome result (λ value. IsValueNamed self.now.constant_pool value) }
+    {
+        let field = field_at(&self.parts, place)?;
+        let index = field.constant_value?;
+        value_at(self.parts.pool(), index)
     }
 }

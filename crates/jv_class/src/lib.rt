@@ -8,6 +8,7 @@
 mod alike;
 mod class_file;
 mod class_rules;
+mod constant_value;
 mod fault;
 mod field_rules;
 mod flags;
@@ -18,6 +19,7 @@ mod reading;
 mod supported;
 
 pub use class_file::ClassFile;
+pub use constant_value::ConstantValue;
 pub use fault::ClassFault;
 pub use jv_class_parts::{ClassFlags, Code, Field, FieldFlags, Method, MethodFlags};
 pub use law::one_structure;

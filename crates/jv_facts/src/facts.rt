@@ -1,6 +1,6 @@
 //! The facts of a class (JVMS 4.1, 4.5 to 4.7), in the form of `scripts/javap-facts`.
 
-use jv_class::{ClassFile, Code, Field, Method};
+use jv_class::{ClassFile, Code, ConstantValue, Field, Method};
 use jv_pool::Pool;
 use jv_text::decode;
 use std::alloc::Global;
@@ -49,29 +49,28 @@ fn write_text<W: fmt::Write>(out: &mut W, alloc: Global, text: &[u8]) -> fmt::Re
     Ok(())
 }
 
-/// Writes a static field's constant, or `-`.
+/// Writes the constant of the static field at a place, or `-`.
 fn write_constant<W: fmt::Write>(
     out: &mut W,
     alloc: Global,
-    pool: &Pool<'_>,
-    constant: Option<u16>,
+    class: &ClassFile<'_>,
+    place: usize,
 ) -> fmt::Result {
-    let Some(index) = constant else {
-        return write!(out, "-");
-    };
-    if let Some(index) = pool.integer_index(index) {
-        let value = pool.integer(index);
-        return write!(out, "Integer:{value}");
+    match class.constant_value(place) {
+        Some(ConstantValue::Integer(index)) => {
+            let value = class.pool().integer(index);
+            write!(out, "Integer:{value}")
+        }
+        Some(ConstantValue::Long(index)) => {
+            let value = class.pool().long(index);
+            write!(out, "Long:{value}")
+        }
+        Some(ConstantValue::String(index)) => {
+            write!(out, "String:")?;
+            write_text(out, alloc, class.pool().string(index))
+        }
+        None => write!(out, "-"),
     }
-    if let Some(index) = pool.long_index(index) {
-        let value = pool.long(index);
-        return write!(out, "Long:{value}");
-    }
-    if let Some(index) = pool.string_index(index) {
-        write!(out, "String:")?;
-        return write_text(out, alloc, pool.string(index));
-    }
-    write!(out, "?")
 }
 
 /// How many entries a StackMapTable has, by its first two bytes.
@@ -146,7 +145,7 @@ fn write_fields<W: fmt::Write>(
             out,
             "{file}\tfield\t{place}\t0x{flags:04x}\t{name}\t{descriptor}\t"
         )?;
-        write_constant(out, alloc, pool, field.constant_value)?;
+        write_constant(out, alloc, class, place)?;
         write!(out, "\n")?;
     }
     Ok(())

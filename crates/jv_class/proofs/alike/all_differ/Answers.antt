@@ -1,4 +1,4 @@
-use Rattle.std.proofs.Common.{refl, arith, subst, sym, ◌∙◌, get_or, take, ◌++◌, [], ◌∷◌}
+use Rattle.std.proofs.Common.{refl, arith, subst, sym, get_or, take}
 use Rattle.std.specs.Prelude.{nat_eq}
 use Rattle.std.specs.List.{IsDistinct}
 use Rattle.std.proofs.lemmas.Grind.{common_steps}

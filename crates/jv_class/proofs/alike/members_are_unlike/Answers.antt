@@ -1,7 +1,3 @@
-use Rattle.std.proofs.Common.{sym, subst, ap, ◌∙◌}
-use Rattle.std.specs.List.{All}
-use Rattle.jv_class_parts.specs.Seen.{seen_field, seen_method}
-use Rattle.jv_class.specs.Rules.{field_texts, method_texts, KeepsFieldRules, KeepsMethodRules}
 use Rattle.jv_class.proofs.Keys.{fields_there, methods_there}
 use Rattle.jv_class.proofs.alike.members_are_unlike.Goals as goal
 

@@ -1,7 +1,3 @@
-use Rattle.std.proofs.Common.{arith, subst, sym, ap, get_or, take, ◌∙◌, List, ℕ, ◌++◌, ◌∷◌, []}
-use Rattle.std.specs.List.{AllZip}
-use Rattle.std.proofs.lemmas.List.{take_more}
-use Rattle.std.proofs.lemmas.Slice.Zip.{all_zipped_more}
 use Rattle.jv_class.specs.Reading.{IsMethodKey}
 use Rattle.jv_class.proofs.Keys.{zipped_next}
 use Rattle.jv_class.proofs.alike.method_keys.Goals as goal

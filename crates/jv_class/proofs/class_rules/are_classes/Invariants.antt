@@ -1,5 +1,4 @@
 use Rattle.std.proofs.Common.{take}
-use Rattle.std.specs.Prelude.{IsTrue}
 use Rattle.std.specs.List.{All}
 use Rattle.jv_class.specs.Rules.{IsClassAt}
 use Rattle.jv_class_parts.specs.Seen.{seen_index}

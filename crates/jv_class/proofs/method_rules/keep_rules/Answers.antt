@@ -1,5 +1,4 @@
 use Rattle.std.proofs.Common.{refl, arith}
-use Rattle.std.specs.Prelude.{IsTrue}
 use Rattle.std.proofs.lemmas.List.Elements.{All-more}
 use Rattle.jv_class.specs.Rules.{KeepsMethodRules}
 use Rattle.jv_class_parts.specs.Seen.{seen_method}

@@ -1,7 +1,7 @@
 use Rattle.std.proofs.Common.{refl, arith, suc}
 use Rattle.jv_class.specs.Reading.{IsSupportedAt}
 use Rattle.jv_class.specs.Supported.{IsSupportedConstant}
-use Rattle.jv_class.proofs.Kept.{untrue, all_from_table, at_table, next_one, at_indices}
+use Rattle.jv_class.proofs.Kept.{untrue, all_from_table, next_one, at_indices}
 use Rattle.jv_class.proofs.supported.are_supported_constants.Goals as goal
 
 pub returns-then-not-is_supported_entry : goal.returns-then-not-is_supported_entry
