@@ -1,0 +1,5 @@
+use Rattle.jv_asm.proofs.Sizes.{all_true}
+use Rattle.jv_asm.proofs.code.put_pairs.Goals as goal
+
+pub put_all-requires : goal.put_all-requires
+put_all-requires c = all_true c.args.pairs.now

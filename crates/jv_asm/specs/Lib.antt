@@ -1,0 +1,4 @@
+pub mod Description
+pub mod Fits
+pub mod Items
+pub mod Law

@@ -1,0 +1,31 @@
+//! Why nothing was written.
+
+ghost use Rattle.std.specs.Prelude.{◌≡◌};
+ghost use Rattle.jv_asm.specs.declared.fault.AsmFault.TheVariants.{Memory};
+
+use std::alloc::{AllocError, AllocFailed};
+
+/// Why nothing was written, the first that applies.
+#[derive(Clone, Copy, Debug)]
+pub enum AsmFault {
+    /// A count or a length does not fit its field.
+    TooLarge,
+    /// The host's memory was refused.
+    Memory,
+}
+
+impl From<AllocError> for AsmFault {
+    ghost from_gives = { λ _ e. e ≡ Memory };
+
+    fn from(_e: AllocError) -> AsmFault {
+        AsmFault::Memory
+    }
+}
+
+impl<T: Drop> From<AllocFailed<T>> for AsmFault {
+    ghost from_gives = { λ _ e. e ≡ Memory };
+
+    fn from(_e: AllocFailed<T>) -> AsmFault {
+        AsmFault::Memory
+    }
+}

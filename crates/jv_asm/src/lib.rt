@@ -1,0 +1,32 @@
+//! The class writer: class files (JVMS 4) from lists of their parts, and code from lists of
+//! instructions.
+//!
+//! [`write_class`] writes the bytes that `jv_class_parts` defines for a structure, and
+//! [`write_code`] those that an instruction's operands spell.
+#![tactic(auto)]
+
+mod attribute;
+mod class_builder;
+mod code;
+mod code_builder;
+mod constant;
+mod description;
+mod fault;
+mod item;
+mod law;
+mod member;
+mod part;
+mod writer;
+
+pub use class_builder::{ClassBuilder, MethodBuilder};
+pub use code::{items_are_code, write_code};
+pub use code_builder::{CodeBuilder, Label};
+pub use description::{
+    AttributeDescription, CodeDescription, Description, FieldDescription, HandlerDescription,
+    MethodAttributeDescription, MethodDescription,
+};
+pub use fault::AsmFault;
+pub use item::Item;
+pub use jv_pool::Constant;
+pub use law::written_reads_back;
+pub use writer::write_class;

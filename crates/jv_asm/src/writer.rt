@@ -1,0 +1,158 @@
+//! Writes a class file.
+
+ghost use Rattle.std.specs.Prelude.{◌≡◌, ◌++◌, ◌<◌, ◌≤◌, ◌↔◌, Err, IfOk, IsOk, OnOk, IsTrue, length, map};
+ghost use Rattle.std.specs.List.{flat_map, list_all};
+ghost use Rattle.jv_format.specs.Format.{half};
+ghost use Rattle.jv_pool.specs.Constants.{entries_of, pool_count, pool_bytes, pool_fits, constant_bytes, constant_fits};
+ghost use Rattle.jv_pool.specs.Seen.{seen};
+ghost use Rattle.jv_class_parts.specs.Structure.{magic, table_bytes, table_fits, body_bytes, body_fits, class_bytes};
+ghost use Rattle.jv_asm.specs.Description.{described};
+ghost use Rattle.jv_asm.specs.Fits.{IsFit};
+ghost use Rattle.jv_asm.specs.declared.fault.AsmFault.TheVariants.{TooLarge};
+
+use crate::attribute::{attributes_right, put_attributes};
+use crate::description::Description;
+use crate::fault::AsmFault;
+use crate::member::{fields_right, methods_right, put_fields, put_methods};
+use crate::part::{all_right, half_right, halves_right, put_all, put_half, put_table, table_right};
+use jv_pool::Constant;
+use std::alloc::{AllocError, Global};
+
+/// How many entries of the table a constant takes (4.4.5).
+pub(crate) fn entries(constant: &Constant<&[u8]>) -> u64
+    ensures { result ≡ length (entries_of (seen constant.now)) }
+{
+    match constant {
+        Constant::Long(_, _) => 2,
+        Constant::Double(_, _) => 2,
+        _ => 1,
+    }
+}
+
+/// One more than the entries of the table (4.1), or 65,536 where there are more than that.
+fn count_of(pool: &[Constant<&[u8]>]) -> u64
+    ensures few { result < 65536 → result ≡ pool_count (map seen pool.now) }
+    ensures many { 65536 ≤ result → 65536 ≤ pool_count (map seen pool.now) }
+{
+    let mut count = 1;
+    for constant in pool {
+        count += entries(constant);
+        if count > 65535 {
+            return 65536;
+        }
+    }
+    count
+}
+
+fn constants_right(pool: &[Constant<&[u8]>]) -> bool
+    ensures { result ≡ list_all constant_fits (map seen pool.now) }
+{
+    all_right(pool)
+}
+
+fn put_constants(out: &mut Vec<u8>, pool: &[Constant<&[u8]>]) -> Result<(), AllocError>
+    requires { IsTrue (list_all constant_fits (map seen pool.now)) }
+    ensures { OnOk result (out.new.items ≡ out.old.items ++ flat_map constant_bytes (map seen pool.now)) }
+{
+    put_all(out, pool)
+}
+
+fn pool_right(pool: &[Constant<&[u8]>]) -> bool
+    ensures { result ≡ pool_fits (map seen pool.now) }
+{
+    count_of(pool) < 65536 && constants_right(pool)
+}
+
+fn body_right(description: &Description<'_>) -> bool
+    ensures { result ≡ body_fits (described description.now) }
+{
+    halves_right(description.access_flags, description.this_class)
+        && half_right(description.super_class)
+        && table_right(description.interfaces)
+        && fields_right(description.fields)
+        && methods_right(description.methods)
+        && attributes_right(description.attributes)
+}
+
+/// What stands before the fields, the pool aside.
+fn put_names(out: &mut Vec<u8>, description: &Description<'_>) -> Result<(), AllocError>
+    requires { IsTrue (table_fits half.fits description.now.interfaces.now) }
+    ensures { OnOk result (out.new.items ≡ out.old.items ++ half.spelling description.now.access_flags
+        ++ half.spelling description.now.this_class ++ half.spelling description.now.super_class
+        ++ table_bytes half.spelling description.now.interfaces.now) }
+{
+    put_half(out, description.access_flags)?;
+    put_half(out, description.this_class)?;
+    put_half(out, description.super_class)?;
+    put_table(out, description.interfaces)
+}
+
+/// What stands behind the pool.
+fn put_body(out: &mut Vec<u8>, description: &Description<'_>) -> Result<(), AllocError>
+    requires { IsTrue (body_fits (described description.now)) }
+    ensures { OnOk result (out.new.items ≡ out.old.items ++ body_bytes (described description.now)) }
+{
+    put_names(out, description)?;
+    put_fields(out, description.fields)?;
+    put_methods(out, description.methods)?;
+    put_attributes(out, description.attributes)
+}
+
+/// The pool behind its count.
+fn put_pool(out: &mut Vec<u8>, pool: &[Constant<&[u8]>]) -> Result<(), AllocError>
+    requires { IsTrue (pool_fits (map seen pool.now)) }
+    ensures { OnOk result (out.new.items ≡ out.old.items ++ pool_bytes (map seen pool.now)) }
+{
+    put_half(out, count_of(pool) as u16)?;
+    put_constants(out, pool)
+}
+
+/// What stands before the pool.
+fn put_header(out: &mut Vec<u8>, minor: u16, major: u16) -> Result<(), AllocError>
+    ensures { OnOk result (out.new.items ≡ out.old.items ++ magic ++ half.spelling minor ++ half.spelling major) }
+{
+    out.extend_from_slice(&[0xca, 0xfe, 0xba, 0xbe])?;
+    put_half(out, minor)?;
+    put_half(out, major)
+}
+
+/// Whether all counts and lengths fit their fields.
+fn is_fit(description: &Description<'_>) -> bool
+    ensures { IsTrue result ↔ IsFit (described description.now) }
+{
+    pool_right(description.constant_pool) && body_right(description)
+}
+
+/// The bytes of a class file whose numbers fit.
+fn written(alloc: Global, description: &Description<'_>) -> Result<Vec<u8>, AllocError>
+    requires { IsFit (described description.now) }
+    ensures { IfOk result (λ bytes. bytes.items ≡ class_bytes (described description.now)) }
+{
+    let mut out = Vec::new(alloc);
+    put_header(
+        &mut out,
+        description.minor_version,
+        description.major_version,
+    )?;
+    put_pool(&mut out, description.constant_pool)?;
+    put_body(&mut out, description)?;
+    Ok(out)
+}
+
+/// The bytes of the class file that a description stands for (4.1).
+///
+/// # Errors
+///
+/// `TooLarge` exactly where a count or a length does not fit its field, `Memory` where the host's
+/// memory was refused.
+pub fn write_class(alloc: Global, description: &Description<'_>) -> Result<Vec<u8>, AsmFault>
+    ensures ok { IfOk result (λ bytes. bytes.items ≡ class_bytes (described description.now)) }
+    ensures fits { IsOk result → IsFit (described description.now) }
+    ensures too_large { (result ≡ Err TooLarge) ↔ ¬ IsFit (described description.now) }
+{
+    if !is_fit(description) {
+        return Err(AsmFault::TooLarge);
+    }
+    let bytes = written(alloc, description)?;
+    Ok(bytes)
+}

@@ -1,0 +1,91 @@
+//! The class `Hi`, which writes its name.
+
+use jv_asm::{
+    AsmFault, ClassBuilder, CodeDescription, Constant, Description, MethodAttributeDescription,
+    MethodDescription, write_class, written_reads_back,
+};
+use std::alloc::Global;
+use std::test::Fail;
+
+const HI: &[u8] =
+    b"\xca\xfe\xba\xbe\x00\x00\x004\x00\x0e\x01\x00\x02Hi\x07\x00\x01\x01\x00\x10java/lang/Object\x07\x00\x03\x01\x00\x04main\x01\x00\x16([Ljava/lang/String;)V\x01\x00\x04Code\x01\x00\x07host/Io\x07\x00\x08\x01\x00\x05write\x01\x00\x04(I)V\x0c\x00\x0a\x00\x0b\x0a\x00\x09\x00\x0c\x00!\x00\x02\x00\x04\x00\x00\x00\x00\x00\x01\x00\x09\x00\x05\x00\x06\x00\x01\x00\x07\x00\x00\x00\x17\x00\x01\x00\x01\x00\x00\x00\x0b\x10H\xb8\x00\x0d\x10i\xb8\x00\x0d\xb1\x00\x00\x00\x00\x00\x00";
+
+fn hi(alloc: Global) -> Result<Vec<u8>, AsmFault> {
+    let mut class = ClassBuilder::new(alloc, 0x21, b"Hi", b"java/lang/Object")?;
+    let mut main = class.begin(0x9, b"main", b"([Ljava/lang/String;)V")?;
+    let write = class.methodref(b"host/Io", b"write", b"(I)V")?;
+    main.code.bipush(72)?;
+    main.code.index(184, write)?;
+    main.code.bipush(105)?;
+    main.code.index(184, write)?;
+    main.code.plain(177)?;
+    class.end(main, 1, 1, None)?;
+    class.finish()
+}
+
+#[test]
+fn is_built(rt: HostRuntime) -> Result<(), Fail> {
+    written_reads_back();
+    assert_eq!(rt; HI.len(), 168);
+    assert_eq!(rt; hi(rt.alloc())?.as_slice(), HI);
+    Ok(())
+}
+
+/// For a run with an allocation refused.
+#[test]
+fn is_built_or_has_no_memory(rt: HostRuntime) {
+    match hi(rt.alloc()) {
+        Ok(file) => assert_eq!(rt; file.as_slice(), HI),
+        Err(fault) => assert!(rt; matches!(fault, AsmFault::Memory)),
+    }
+}
+
+#[test]
+fn is_written(rt: HostRuntime) -> Result<(), Fail> {
+    let constants: [Constant<&[u8]>; 13] = [
+        Constant::Utf8(b"Hi"),
+        Constant::Class(1),
+        Constant::Utf8(b"java/lang/Object"),
+        Constant::Class(3),
+        Constant::Utf8(b"main"),
+        Constant::Utf8(b"([Ljava/lang/String;)V"),
+        Constant::Utf8(b"Code"),
+        Constant::Utf8(b"host/Io"),
+        Constant::Class(8),
+        Constant::Utf8(b"write"),
+        Constant::Utf8(b"(I)V"),
+        Constant::NameAndType(10, 11),
+        Constant::Methodref(9, 12),
+    ];
+    let code = CodeDescription {
+        max_stack: 1,
+        max_locals: 1,
+        code: b"\x10\x48\xb8\x00\x0d\x10\x69\xb8\x00\x0d\xb1",
+        exception_table: &[],
+        attributes: &[],
+    };
+    let attributes = [MethodAttributeDescription::Code(7, code)];
+    let methods = [MethodDescription {
+        access_flags: 9,
+        name_index: 5,
+        descriptor_index: 6,
+        attributes: &attributes,
+    }];
+    let file = write_class(
+        rt.alloc(),
+        &Description {
+            minor_version: 0,
+            major_version: 52,
+            constant_pool: &constants,
+            access_flags: 0x21,
+            this_class: 2,
+            super_class: 4,
+            interfaces: &[],
+            fields: &[],
+            methods: &methods,
+            attributes: &[],
+        },
+    )?;
+    assert_eq!(rt; file.as_slice(), HI);
+    Ok(())
+}
