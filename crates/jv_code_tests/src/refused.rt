@@ -1,6 +1,17 @@
-//! Code that is refused, and whether an instruction outside the profile is why.
+//! Bytes that are code, and bytes that are refused: whether an instruction outside the profile is why.
 
 use jv_code::{Code, unsupported};
+use std::alloc::Global;
+
+/// What is said of bytes as code.
+fn verdict(bytes: &[u8]) -> &'static str {
+    match (Code::read(bytes).is_ok(), unsupported(bytes)) {
+        (true, false) => "code",
+        (false, true) => "outside",
+        (false, false) => "malformed",
+        (true, true) => "both",
+    }
+}
 
 #[test]
 fn opcodes_outside_the_profile(rt: HostRuntime) {
@@ -10,92 +21,105 @@ fn opcodes_outside_the_profile(rt: HostRuntime) {
         137, 138, 139, 140, 141, 142, 143, 144, 149, 150, 151, 152, 174, 175, 186, 194, 195,
     ];
     for opcode in opcodes {
-        let alone = [opcode];
-        assert!(rt; Code::read(&alone).is_err());
-        assert!(rt; unsupported(&alone), "{opcode}");
-        let behind = [0, opcode, 0, 0, 0, 0];
-        assert!(rt; Code::read(&behind).is_err());
-        assert!(rt; unsupported(&behind), "{opcode}");
+        let alone = verdict(&[opcode]) == "outside";
+        let behind = verdict(&[0, opcode, 0, 0, 0, 0]) == "outside";
+        assert!(rt; alone && behind, "{opcode}");
     }
 }
 
 #[test]
 fn ill_formed_opcodes(rt: HostRuntime) {
-    let opcodes: [u8; 57] = [
-        168, 169, 201, 202, 203, 204, 205, 206, 207, 208, 209, 210, 211, 212, 213, 214, 215, 216,
-        217, 218, 219, 220, 221, 222, 223, 224, 225, 226, 227, 228, 229, 230, 231, 232, 233, 234,
-        235, 236, 237, 238, 239, 240, 241, 242, 243, 244, 245, 246, 247, 248, 249, 250, 251, 252,
-        253, 254, 255,
-    ];
-    for opcode in opcodes {
-        let bytes = [opcode, 0, 0, 0, 0, 0, 0];
-        assert!(rt; Code::read(&bytes).is_err());
-        assert!(rt; !unsupported(&bytes), "{opcode}");
+    for opcode in 168..=255u8 {
+        if matches!(opcode, 168 | 169 | 201..=255) {
+            let found = verdict(&[opcode, 0, 0, 0, 0, 0, 0]);
+            assert!(rt; found == "malformed", "{opcode}");
+        }
     }
 }
 
 #[test]
 fn wide_before_each_opcode(rt: HostRuntime) {
     for opcode in 0..=255u8 {
-        // Two bytes of a local, and for `iinc` two of the number.
-        let local = [196, opcode, 1, 2];
-        let number = [196, opcode, 1, 2, 3, 4];
-        let stands = matches!(opcode, 21 | 22 | 25 | 54 | 55 | 58);
-        assert_eq!(rt; Code::read(&local).is_ok(), stands, "{opcode}");
-        if opcode == 132 {
-            assert!(rt; Code::read(&number).is_ok());
-        }
-        let outside = matches!(opcode, 23 | 24 | 56 | 57);
-        assert_eq!(rt; unsupported(&local), outside, "{opcode}");
+        // Two bytes of a local.
+        let wanted = match opcode {
+            21 | 22 | 25 | 54 | 55 | 58 => "code",
+            23 | 24 | 56 | 57 => "outside",
+            _ => "malformed",
+        };
+        assert!(rt; verdict(&[196, opcode, 1, 2]) == wanted, "{opcode}");
+    }
+    // For `iinc` two bytes of the number too.
+    assert!(rt; verdict(&[196, 132, 1, 2, 3, 4]) == "code");
+}
+
+/// Bytes in hexadecimal, what is said of them, and why.
+const ROWS: &str = "\
+10 malformed: no operand
+c9 malformed: jsr_w
+000b outside: fconst_0 behind nop
+bc06 outside: newarray of float
+bc07 outside: newarray of double
+c417 outside: wide before fload
+bc03 malformed: newarray of code 3
+bc0c malformed: newarray of code 12
+bc malformed: newarray, cut
+1100 malformed: sipush, cut
+12 malformed: ldc, cut
+1300 malformed: ldc_w, cut
+15 malformed: iload, cut
+8400 malformed: iinc, cut
+9900 malformed: ifeq, cut
+a700 malformed: goto, cut
+b200 malformed: getstatic, cut
+c8000000 malformed: goto_w, cut
+c4 malformed: wide, cut
+c41500 malformed: wide before iload, cut
+c484000000 malformed: wide before iinc, cut
+b900010101 malformed: invokeinterface with a last byte 1
+b9000101 malformed: invokeinterface, cut
+b900010100 code: invokeinterface
+c5000100 malformed: multianewarray of 0 dimensions
+c50001 malformed: multianewarray, cut
+c5000101 code: multianewarray
+c90b malformed: ill formed before what is outside the profile
+bc000b malformed: newarray of code 0 before what is outside the profile
+00a80b malformed: jsr before what is outside the profile
+100b0b outside: fconst_0 at the end, behind bipush
+17c9 outside: fload before what is ill formed
+100b code: bipush
+aa00000000000000000000050000000500000000 code: tableswitch from 5 to 5 with one distance
+aa000000000000000000000500000005 malformed: tableswitch from 5 to 5 with no distance
+aa00000000000000000000050000000500000000c9000000 malformed: tableswitch from 5 to 5 with two distances
+aa000000000000000000000600000005 malformed: tableswitch from 6 to 5
+aa00000000000000800000000000000000000000 malformed: tableswitch of 2^31 + 1 numbers
+aa00000000000000800000007fffffff00000000 malformed: tableswitch of 2^32 numbers
+ab0000000000000000000000 code: lookupswitch without pairs
+ab0000000000000000000001ffffffff00000000 code: lookupswitch of one pair
+ab0000000000000000000002ffffffff000000000000000000000000 code: lookupswitch with rising keys, signed
+ab000000000000000000000200000003000000000000000300000001 malformed: lookupswitch with equal keys
+ab000000000000000000000200000003000000000000000200000000 malformed: lookupswitch with falling keys
+ab00000000000000000000020000000000000000ffffffff00000000 malformed: lookupswitch with falling keys, signed
+ab00000000000000ffffffff malformed: lookupswitch of -1 pairs
+ab000000000000000000000100000000 malformed: lookupswitch of one pair, cut";
+
+/// Whether that is said of the bytes of a row.
+fn is_right(alloc: Global, row: &str) -> bool {
+    let Some((text, rest)) = row.split_once(' ') else {
+        return false;
+    };
+    let Some((wanted, _)) = rest.split_once(':') else {
+        return false;
+    };
+    match hex::decode(alloc, text) {
+        Ok(bytes) => verdict(&bytes) == wanted,
+        Err(_) => false,
     }
 }
 
 #[test]
-fn refused_code(rt: HostRuntime) {
-    let cases: [(&[u8], bool); 31] = [
-        (b"", false),
-        (b"\x10", false),
-        (b"\xc9", false),
-        (b"\x00\x0b", true),
-        (b"\xbc\x06", true),
-        (b"\xbc\x07", true),
-        (b"\xc4\x17", true),
-        // `newarray` with other codes, or cut.
-        (b"\xbc\x03", false),
-        (b"\xbc\x0c", false),
-        (b"\xbc", false),
-        // Cut operands.
-        (b"\x11\x00", false),
-        (b"\x12", false),
-        (b"\x13\x00", false),
-        (b"\x15", false),
-        (b"\x84\x00", false),
-        (b"\x99\x00", false),
-        (b"\xa7\x00", false),
-        (b"\xb2\x00", false),
-        (b"\xc8\x00\x00\x00", false),
-        (b"\xc4", false),
-        (b"\xc4\x15\x00", false),
-        (b"\xc4\x84\x00\x00\x00", false),
-        // `invokeinterface` with a last byte 1, and cut.
-        (b"\xb9\x00\x01\x01\x01", false),
-        (b"\xb9\x00\x01\x01", false),
-        // `multianewarray` with 0 dimensions, and cut.
-        (b"\xc5\x00\x01\x00", false),
-        (b"\xc5\x00\x01", false),
-        // Ill formed before what is outside the profile.
-        (b"\xc9\x0b", false),
-        (b"\xbc\x00\x0b", false),
-        (b"\x00\xa8\x0b", false),
-        // Outside the profile at the end, and before what is ill formed.
-        (b"\x10\x0b\x0b", true),
-        (b"\x17\xc9", true),
-    ];
-    for (bytes, outside) in cases {
-        assert!(rt; Code::read(bytes).is_err(), "{outside}");
-        assert_eq!(rt; unsupported(bytes), outside);
+fn verdicts(rt: HostRuntime) {
+    assert!(rt; verdict(b"") == "malformed");
+    for row in ROWS.lines() {
+        assert!(rt; is_right(rt.alloc(), row), "{row}");
     }
-    assert!(rt; Code::read(b"\xb9\x00\x01\x01\x00").is_ok());
-    assert!(rt; Code::read(b"\xc5\x00\x01\x01").is_ok());
-    assert!(rt; !unsupported(b"\x10\x0b"));
 }
