@@ -5,7 +5,7 @@ use std::alloc::{AllocError, Global};
 /// A class `Hi` whose method `main` writes `Hi`, 168 bytes. Constants 1 to 13: `Hi`, its Class,
 /// `java/lang/Object`, its Class, `main`, `([Ljava/lang/String;)V`, `Code`, `host/Io`, its Class,
 /// `write`, `(I)V`, the two as a NameAndType, and the Methodref.
-pub(crate) const HI: [u8; 168] = *b"\xca\xfe\xba\xbe\x00\x00\x00\x34\x00\x0e\
+pub(crate) static HI: [u8; 168] = *b"\xca\xfe\xba\xbe\x00\x00\x00\x34\x00\x0e\
 \x01\x00\x02Hi\x07\x00\x01\
 \x01\x00\x10java/lang/Object\x07\x00\x03\
 \x01\x00\x04main\
@@ -22,7 +22,7 @@ pub(crate) const HI: [u8; 168] = *b"\xca\xfe\xba\xbe\x00\x00\x00\x34\x00\x0e\
 
 /// The same class with a SourceFile, an InnerClasses and a Signature, a Signature of its method, and a
 /// LineNumberTable of its code (JVMS 4.7): attributes that are passed over.
-pub(crate) const HI_WITH_ATTRIBUTES: &[u8] =
+pub(crate) static HI_WITH_ATTRIBUTES: &[u8] =
     b"\xca\xfe\xba\xbe\x00\x00\x004\x00\x14\x01\x00\x02Hi\x07\x00\x01\x01\x00\x10java/lang/Obje\
 ct\x07\x00\x03\x01\x00\x04main\x01\x00\x16([Ljava/lang/String;)V\x01\x00\x04Code\x01\x00\x07\
 host/Io\x07\x00\x08\x01\x00\x05write\x01\x00\x04(I)V\x0c\x00\x0a\x00\x0b\x0a\x00\x09\x00\x0c\
