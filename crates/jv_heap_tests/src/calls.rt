@@ -14,7 +14,7 @@ pub enum Call {
 }
 
 /// Calls that the contract allows, one after another, on a store that is empty.
-pub const CALLS: [Call; 24] = [
+pub static CALLS: [Call; 24] = [
     Call::Reserve(0),
     Call::Reserve(9),
     Call::Alloc(2),

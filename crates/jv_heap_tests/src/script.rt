@@ -18,6 +18,11 @@ pub fn holds<S: Store>(store: &S, address: u32, words: &[u32]) -> bool
     true
 }
 
+/// Whether a store has this room and this total.
+fn is_sized<S: Store>(store: &S, room: u64, total: u64) -> bool {
+    store.room() == room && store.total() == total
+}
+
 /// A block of a store that never refuses one.
 pub fn sure<S: Store>(store: &mut S, len: u32) -> u32
     requires sure { IsTrue S.SURE }
@@ -37,43 +42,43 @@ pub fn sure<S: Store>(store: &mut S, len: u32) -> u32
 /// and content are seen to be as they were.
 pub fn run<S: Store, R: Abort>(rt: &R, alloc: Global) -> Result<(), Memory> {
     let mut store = S::empty(alloc);
-    assert!(rt; store.room() == 0 && store.total() == 0);
+    assert!(rt; is_sized(&store, 0, 0));
     if let Err(refused) = store.reserve(6) {
-        assert!(rt; store.room() == 0 && store.total() == 0);
+        assert!(rt; is_sized(&store, 0, 0));
         return Err(refused);
     }
-    assert!(rt; store.room() == 6 && store.total() == 6);
+    assert!(rt; is_sized(&store, 6, 6));
     let first = store.alloc(2)?;
-    assert!(rt; first != 0 && store.room() == 4 && store.total() == 6);
+    assert!(rt; first != 0 && is_sized(&store, 4, 6));
     assert!(rt; holds(&store, first, &[0, 0]));
     store.set(first, 1, 7);
     assert!(rt; holds(&store, first, &[0, 7]));
     let second = match store.alloc(3) {
         Ok(address) => address,
         Err(refused) => {
-            assert!(rt; !S::SURE && store.room() == 4 && store.total() == 6);
+            assert!(rt; !S::SURE && is_sized(&store, 4, 6));
             assert!(rt; holds(&store, first, &[0, 7]));
             return Err(refused);
         }
     };
-    assert!(rt; first < second && store.room() == 1 && store.total() == 6);
+    assert!(rt; first < second && is_sized(&store, 1, 6));
     store.set(second, 0, 8);
     store.set(second, 2, 9);
     assert!(rt; holds(&store, first, &[0, 7]) && holds(&store, second, &[8, 0, 9]));
     store.take_back(second, 3);
     assert!(rt; holds(&store, first, &[0, 7]));
-    assert!(rt; store.room() == 4 && store.total() == 6);
+    assert!(rt; is_sized(&store, 4, 6));
     let third = if S::SURE {
         sure(&mut store, 4)
     } else {
         store.alloc(4)?
     };
-    assert!(rt; first < third && store.room() == 0 && store.total() == 6);
+    assert!(rt; first < third && is_sized(&store, 0, 6));
     assert!(rt; holds(&store, first, &[0, 7]) && holds(&store, third, &[0, 0, 0, 0]));
     store.take_back(third, 4);
     store.take_back(first, 2);
-    assert!(rt; store.room() == 6 && store.total() == 6);
+    assert!(rt; is_sized(&store, 6, 6));
     store.release(5);
-    assert!(rt; store.room() == 1 && store.total() == 1);
+    assert!(rt; is_sized(&store, 1, 1));
     Ok(())
 }

@@ -1,18 +1,17 @@
 use crate::calls::{CALLS, play};
 use crate::script::run;
 use jv_heap::{Blocks, Cells};
-use std::test::Fail;
 
 #[test]
-fn blocks(rt: HostRuntime) -> Result<(), Fail> {
-    run::<Blocks, HostRuntime>(&rt, rt.alloc())?;
-    Ok(())
+fn blocks(rt: HostRuntime) {
+    let outcome = run::<Blocks, HostRuntime>(&rt, rt.alloc());
+    assert!(rt; outcome.is_ok());
 }
 
 #[test]
-fn cells(rt: HostRuntime) -> Result<(), Fail> {
-    run::<Cells, HostRuntime>(&rt, rt.alloc())?;
-    Ok(())
+fn cells(rt: HostRuntime) {
+    let outcome = run::<Cells, HostRuntime>(&rt, rt.alloc());
+    assert!(rt; outcome.is_ok());
 }
 
 /// For a run with an allocation refused.
@@ -28,10 +27,10 @@ fn cells_run_or_has_no_memory(rt: HostRuntime) {
 }
 
 #[test]
-fn same_calls_on_both(rt: HostRuntime) -> Result<(), Fail> {
-    play::<Blocks, HostRuntime>(&rt, rt.alloc(), &CALLS)?;
-    play::<Cells, HostRuntime>(&rt, rt.alloc(), &CALLS)?;
-    Ok(())
+fn same_calls_on_both(rt: HostRuntime) {
+    let of_blocks = play::<Blocks, HostRuntime>(&rt, rt.alloc(), &CALLS);
+    let of_cells = play::<Cells, HostRuntime>(&rt, rt.alloc(), &CALLS);
+    assert!(rt; of_blocks.is_ok() && of_cells.is_ok());
 }
 
 /// For a run with an allocation refused.
