@@ -6,8 +6,6 @@ use jv_asm::{
     write_code,
 };
 use std::alloc::Global;
-use std::process::Abort;
-use std::test::Fail;
 
 const EMPTY: Description<'static> = Description {
     minor_version: 0,
@@ -56,49 +54,20 @@ const CODE: CodeDescription<'static> = CodeDescription {
     attributes: &[],
 };
 
-/// The size of the file, or 0 where it is too large.
-fn size(rt: &impl Abort, alloc: Global, description: Description<'_>) -> usize {
+/// The size of the file, and 0 where it is too large; no answer where memory was refused.
+fn size(alloc: Global, description: Description<'_>) -> Option<usize> {
     match write_class(alloc, &description) {
-        Ok(file) => file.len(),
-        Err(fault) => {
-            assert!(rt; matches!(fault, AsmFault::TooLarge));
-            0
-        }
+        Ok(file) => Some(file.len()),
+        Err(AsmFault::TooLarge) => Some(0),
+        Err(_) => None,
     }
 }
 
-#[test]
-fn pools(rt: HostRuntime) -> Result<(), Fail> {
-    let alloc = rt.alloc();
-    let constants = vec![in alloc; Constant::Integer(7); 65535]?;
-    let description = Description {
-        constant_pool: &constants,
-        ..EMPTY
+/// The size of a file with so many of a constant.
+fn size_with_constants(alloc: Global, constant: Constant<&[u8]>, count: usize) -> Option<usize> {
+    let Ok(constants) = vec![in alloc; constant; count] else {
+        return None;
     };
-    assert_eq!(rt; size(&rt, alloc, description), 0);
-    let description = Description {
-        constant_pool: &constants[1..],
-        ..EMPTY
-    };
-    assert_eq!(rt; size(&rt, alloc, description), 24 + 5 * 65534);
-    // A Long takes two indices.
-    let longs = vec![in alloc; Constant::Long(7, 7); 32768]?;
-    let description = Description {
-        constant_pool: &longs,
-        ..EMPTY
-    };
-    assert_eq!(rt; size(&rt, alloc, description), 0);
-    let description = Description {
-        constant_pool: &longs[1..],
-        ..EMPTY
-    };
-    assert_eq!(rt; size(&rt, alloc, description), 24 + 9 * 32767);
-    Ok(())
-}
-
-/// The size of a file with one text.
-fn size_with_text(rt: &impl Abort, alloc: Global, text: &[u8]) -> usize {
-    let constants = [Constant::Utf8(text)];
     let description = Description {
         minor_version: 0,
         major_version: 52,
@@ -111,70 +80,98 @@ fn size_with_text(rt: &impl Abort, alloc: Global, text: &[u8]) -> usize {
         methods: &[],
         attributes: &[],
     };
-    size(rt, alloc, description)
+    size(alloc, description)
 }
 
 #[test]
-fn texts(rt: HostRuntime) -> Result<(), Fail> {
+fn pools(rt: HostRuntime) {
     let alloc = rt.alloc();
-    let text = vec![in alloc; b'a'; 65536]?;
-    assert_eq!(rt; size_with_text(&rt, alloc, &text), 0);
-    assert_eq!(rt; size_with_text(&rt, alloc, &text[1..]), 24 + 3 + 65535);
-    Ok(())
+    let integer = Constant::Integer(7);
+    assert!(rt; size_with_constants(alloc, integer, 65535) == Some(0));
+    assert!(rt; size_with_constants(alloc, integer, 65534) == Some(24 + 5 * 65534));
+    // A Long takes two indices.
+    let long = Constant::Long(7, 7);
+    assert!(rt; size_with_constants(alloc, long, 32768) == Some(0));
+    assert!(rt; size_with_constants(alloc, long, 32767) == Some(24 + 9 * 32767));
+}
+
+/// The size of a file with a text of so many bytes.
+fn size_with_text(alloc: Global, length: usize) -> Option<usize> {
+    match vec![in alloc; b'a'; length] {
+        Ok(text) => size_with_constants(alloc, Constant::Utf8(&text), 1),
+        Err(_) => None,
+    }
 }
 
 #[test]
-fn tables(rt: HostRuntime) -> Result<(), Fail> {
-    let alloc = rt.alloc();
-    let interfaces = vec![in alloc; 1u16; 65536]?;
-    let fields = vec![in alloc; FIELD; 65536]?;
-    let methods = vec![in alloc; METHOD; 65536]?;
-    let attributes = vec![in alloc; ATTRIBUTE; 65536]?;
+fn texts(rt: HostRuntime) {
+    assert!(rt; size_with_text(rt.alloc(), 65536) == Some(0));
+    assert!(rt; size_with_text(rt.alloc(), 65535) == Some(24 + 3 + 65535));
+}
+
+/// The size of a file with so many interfaces.
+fn size_with_interfaces(alloc: Global, count: usize) -> Option<usize> {
+    let Ok(interfaces) = vec![in alloc; 1u16; count] else {
+        return None;
+    };
     let description = Description {
         interfaces: &interfaces,
         ..EMPTY
     };
-    assert_eq!(rt; size(&rt, alloc, description), 0);
-    let description = Description {
-        interfaces: &interfaces[1..],
-        ..EMPTY
+    size(alloc, description)
+}
+
+/// The size of a file with so many fields.
+fn size_with_fields(alloc: Global, count: usize) -> Option<usize> {
+    let Ok(fields) = vec![in alloc; FIELD; count] else {
+        return None;
     };
-    assert_eq!(rt; size(&rt, alloc, description), 24 + 2 * 65535);
     let description = Description {
         fields: &fields,
         ..EMPTY
     };
-    assert_eq!(rt; size(&rt, alloc, description), 0);
-    let description = Description {
-        fields: &fields[1..],
-        ..EMPTY
+    size(alloc, description)
+}
+
+/// The size of a file with so many methods.
+fn size_with_methods(alloc: Global, count: usize) -> Option<usize> {
+    let Ok(methods) = vec![in alloc; METHOD; count] else {
+        return None;
     };
-    assert_eq!(rt; size(&rt, alloc, description), 24 + 8 * 65535);
     let description = Description {
         methods: &methods,
         ..EMPTY
     };
-    assert_eq!(rt; size(&rt, alloc, description), 0);
-    let description = Description {
-        methods: &methods[1..],
-        ..EMPTY
+    size(alloc, description)
+}
+
+/// The size of a file with so many attributes.
+fn size_with_attributes(alloc: Global, count: usize) -> Option<usize> {
+    let Ok(attributes) = vec![in alloc; ATTRIBUTE; count] else {
+        return None;
     };
-    assert_eq!(rt; size(&rt, alloc, description), 24 + 8 * 65535);
     let description = Description {
         attributes: &attributes,
         ..EMPTY
     };
-    assert_eq!(rt; size(&rt, alloc, description), 0);
-    let description = Description {
-        attributes: &attributes[1..],
-        ..EMPTY
-    };
-    assert_eq!(rt; size(&rt, alloc, description), 24 + 6 * 65535);
-    Ok(())
+    size(alloc, description)
+}
+
+#[test]
+fn tables(rt: HostRuntime) {
+    let alloc = rt.alloc();
+    assert!(rt; size_with_interfaces(alloc, 65536) == Some(0));
+    assert!(rt; size_with_interfaces(alloc, 65535) == Some(24 + 2 * 65535));
+    assert!(rt; size_with_fields(alloc, 65536) == Some(0));
+    assert!(rt; size_with_fields(alloc, 65535) == Some(24 + 8 * 65535));
+    assert!(rt; size_with_methods(alloc, 65536) == Some(0));
+    assert!(rt; size_with_methods(alloc, 65535) == Some(24 + 8 * 65535));
+    assert!(rt; size_with_attributes(alloc, 65536) == Some(0));
+    assert!(rt; size_with_attributes(alloc, 65535) == Some(24 + 6 * 65535));
 }
 
 /// The size of a file with one method that has this code.
-fn size_with(rt: &impl Abort, alloc: Global, code: CodeDescription<'_>) -> usize {
+fn size_with_code(alloc: Global, code: CodeDescription<'_>) -> Option<usize> {
     let attributes = [MethodAttributeDescription::Code(1, code)];
     let methods = [MethodDescription {
         access_flags: 0,
@@ -194,50 +191,81 @@ fn size_with(rt: &impl Abort, alloc: Global, code: CodeDescription<'_>) -> usize
         methods: &methods,
         attributes: &[],
     };
-    size(rt, alloc, description)
+    size(alloc, description)
 }
 
-#[test]
-fn tables_of_code(rt: HostRuntime) -> Result<(), Fail> {
-    let alloc = rt.alloc();
-    let handlers = vec![in alloc; HANDLER; 65536]?;
-    let attributes = vec![in alloc; ATTRIBUTE; 65536]?;
+/// The size of a file with one method that has so many handlers.
+fn size_with_handlers(alloc: Global, count: usize) -> Option<usize> {
+    let Ok(handlers) = vec![in alloc; HANDLER; count] else {
+        return None;
+    };
     let code = CodeDescription {
         exception_table: &handlers,
         ..CODE
     };
-    assert_eq!(rt; size_with(&rt, alloc, code), 0);
-    let code = CodeDescription {
-        exception_table: &handlers[1..],
-        ..CODE
+    size_with_code(alloc, code)
+}
+
+/// The size of a file with one method whose code has so many attributes.
+fn size_with_attributes_of_code(alloc: Global, count: usize) -> Option<usize> {
+    let Ok(attributes) = vec![in alloc; ATTRIBUTE; count] else {
+        return None;
     };
-    assert_eq!(rt; size_with(&rt, alloc, code), 50 + 8 * 65535);
     let code = CodeDescription {
         attributes: &attributes,
         ..CODE
     };
-    assert_eq!(rt; size_with(&rt, alloc, code), 0);
-    let code = CodeDescription {
-        attributes: &attributes[1..],
-        ..CODE
-    };
-    assert_eq!(rt; size_with(&rt, alloc, code), 50 + 6 * 65535);
-    Ok(())
+    size_with_code(alloc, code)
 }
 
 #[test]
-fn codes(rt: HostRuntime) -> Result<(), Fail> {
+fn tables_of_code(rt: HostRuntime) {
     let alloc = rt.alloc();
-    let items = vec![in alloc; Item::Plain(0); 65536]?;
-    assert!(rt; matches!(write_code(alloc, &items), Err(AsmFault::TooLarge)));
-    assert_eq!(rt; write_code(alloc, &items[1..])?.len(), 65535);
-    let offsets = vec![in alloc; 0i32; 65536]?;
-    let item = [Item::Tableswitch(0, 0, 65535, &offsets)];
-    assert!(rt; matches!(write_code(alloc, &item), Err(AsmFault::TooLarge)));
-    let pairs = vec![in alloc; (0i32, 0i32); 8191]?;
-    let item = [Item::Lookupswitch(0, &pairs)];
-    assert!(rt; matches!(write_code(alloc, &item), Err(AsmFault::TooLarge)));
-    let item = [Item::Lookupswitch(0, &pairs[1..])];
-    assert_eq!(rt; write_code(alloc, &item)?.len(), 12 + 8 * 8190);
-    Ok(())
+    assert!(rt; size_with_handlers(alloc, 65536) == Some(0));
+    assert!(rt; size_with_handlers(alloc, 65535) == Some(50 + 8 * 65535));
+    assert!(rt; size_with_attributes_of_code(alloc, 65536) == Some(0));
+    assert!(rt; size_with_attributes_of_code(alloc, 65535) == Some(50 + 6 * 65535));
+}
+
+/// The size of code, and 0 where it is too large; no answer where memory was refused.
+fn size_of_code(alloc: Global, items: &[Item<'_>]) -> Option<usize> {
+    match write_code(alloc, items) {
+        Ok(code) => Some(code.len()),
+        Err(AsmFault::TooLarge) => Some(0),
+        Err(_) => None,
+    }
+}
+
+/// The size of so many `nop`.
+fn size_of_nops(alloc: Global, count: usize) -> Option<usize> {
+    match vec![in alloc; Item::Plain(0); count] {
+        Ok(items) => size_of_code(alloc, &items),
+        Err(_) => None,
+    }
+}
+
+/// The size of a `tableswitch` with so many distances.
+fn size_of_table(alloc: Global, high: i32, count: usize) -> Option<usize> {
+    match vec![in alloc; 0i32; count] {
+        Ok(offsets) => size_of_code(alloc, &[Item::Tableswitch(0, 0, high, &offsets)]),
+        Err(_) => None,
+    }
+}
+
+/// The size of a `lookupswitch` with so many pairs.
+fn size_of_pairs(alloc: Global, count: usize) -> Option<usize> {
+    match vec![in alloc; (0i32, 0i32); count] {
+        Ok(pairs) => size_of_code(alloc, &[Item::Lookupswitch(0, &pairs)]),
+        Err(_) => None,
+    }
+}
+
+#[test]
+fn codes(rt: HostRuntime) {
+    let alloc = rt.alloc();
+    assert!(rt; size_of_nops(alloc, 65536) == Some(0));
+    assert!(rt; size_of_nops(alloc, 65535) == Some(65535));
+    assert!(rt; size_of_table(alloc, 65535, 65536) == Some(0));
+    assert!(rt; size_of_pairs(alloc, 8191) == Some(0));
+    assert!(rt; size_of_pairs(alloc, 8190) == Some(12 + 8 * 8190));
 }
