@@ -68,17 +68,3 @@ pub(crate) fn renamed(
     bytes.extend_from_slice(rest)?;
     Ok(bytes)
 }
-
-/// A pool of six constants, with these as the name and the descriptor of a method of the class `A`.
-pub(crate) fn method_pool(
-    alloc: Global,
-    name: &[u8],
-    descriptor: &[u8],
-) -> Result<Vec<u8>, AllocError> {
-    let mut bytes = Vec::new(alloc);
-    bytes.extend_from_slice(b"\x00\x07\x01\x00\x01A\x07\x00\x01")?;
-    bytes.extend_from_slice(name)?;
-    bytes.extend_from_slice(descriptor)?;
-    bytes.extend_from_slice(b"\x0c\x00\x03\x00\x04\x0a\x00\x02\x00\x05")?;
-    Ok(bytes)
-}

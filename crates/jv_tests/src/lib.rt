@@ -8,8 +8,4 @@ mod class;
 #[cfg(test)]
 mod files;
 #[cfg(test)]
-mod pool;
-#[cfg(test)]
-mod text;
-#[cfg(test)]
 mod thin;

@@ -1,8 +1,32 @@
 //! A pool read, and what its indices name (JVMS 4.4).
 
-use crate::files::{HI, method_pool};
 use jv_pool::{Constant, Kind, MemberName, Pool, PoolFault, one_pool, read_pool};
-use std::alloc::Global;
+use std::alloc::{AllocError, Global};
+
+/// The pool of a class `Hi` whose method `main` writes `Hi`, 109 bytes, and what stands behind it.
+/// Constants 1 to 13: `Hi`, its Class, `java/lang/Object`, its Class, `main`,
+/// `([Ljava/lang/String;)V`, `Code`, `host/Io`, its Class, `write`, `(I)V`, the two as a NameAndType, and
+/// the Methodref.
+static HI: &[u8] = b"\x00\x0e\
+\x01\x00\x02Hi\x07\x00\x01\
+\x01\x00\x10java/lang/Object\x07\x00\x03\
+\x01\x00\x04main\
+\x01\x00\x16([Ljava/lang/String;)V\
+\x01\x00\x04Code\
+\x01\x00\x07host/Io\x07\x00\x08\
+\x01\x00\x05write\x01\x00\x04(I)V\
+\x0c\x00\x0a\x00\x0b\x0a\x00\x09\x00\x0c\
+\x00\x21\x00\x02\x00\x04";
+
+/// A pool of six constants, with these as the name and the descriptor of a method of the class `A`.
+fn method_pool(alloc: Global, name: &[u8], descriptor: &[u8]) -> Result<Vec<u8>, AllocError> {
+    let mut bytes = Vec::new(alloc);
+    bytes.extend_from_slice(b"\x00\x07\x01\x00\x01A\x07\x00\x01")?;
+    bytes.extend_from_slice(name)?;
+    bytes.extend_from_slice(descriptor)?;
+    bytes.extend_from_slice(b"\x0c\x00\x03\x00\x04\x0a\x00\x02\x00\x05")?;
+    Ok(bytes)
+}
 
 /// What is said of bytes as a pool.
 fn answer_to(alloc: Global, bytes: &[u8]) -> &'static str {
@@ -114,7 +138,7 @@ fn has_members(pool: &Pool<'_>) -> bool {
 
 #[test]
 fn reads_the_pool_of_a_file(rt: HostRuntime) {
-    match read_pool(rt.alloc(), &HI[8..]) {
+    match read_pool(rt.alloc(), HI) {
         Ok((pool, taken)) => {
             assert!(rt; taken == 109 && has_kinds(&pool));
             assert!(rt; has_texts(&pool));
@@ -127,7 +151,7 @@ fn reads_the_pool_of_a_file(rt: HostRuntime) {
 /// For a run with an allocation refused.
 #[test]
 fn reads_or_has_no_memory(rt: HostRuntime) {
-    match read_pool(rt.alloc(), &HI[8..]) {
+    match read_pool(rt.alloc(), HI) {
         Ok((_, taken)) => assert!(rt; taken == 109),
         Err(fault) => assert!(rt; matches!(fault, PoolFault::Memory)),
     }
