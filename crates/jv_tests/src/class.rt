@@ -3,8 +3,7 @@
 use crate::files::{HI, patched, renamed};
 use jv_class::{ClassFault, ClassFile, Method, one_structure, read_class};
 use jv_pool::Kind;
-use std::alloc::Global;
-use std::test::Fail;
+use std::alloc::{AllocError, Global};
 
 const MAIN: &[u8] = b"\x01\x00\x04main";
 
@@ -110,14 +109,19 @@ fn bytes_at_the_end(rt: HostRuntime) {
     assert!(rt; answer_to(rt.alloc(), &longer) == "Format");
 }
 
+/// Whether a file is refused for its version, as soon as that can be read.
+fn is_of_other_version(alloc: Global, file: &[u8; 168]) -> bool {
+    answer_to(alloc, file) == "Version"
+        && answer_to(alloc, &file[..8]) == "Version"
+        && answer_to(alloc, &file[..7]) == "Format"
+}
+
 #[test]
 fn versions(rt: HostRuntime) {
     // Minor and major version.
     for (minor, major) in [(0, 51), (0, 53), (1, 52)] {
         let file = patched(&[(5, minor), (7, major)]);
-        assert!(rt; answer_to(rt.alloc(), &file) == "Version");
-        assert!(rt; answer_to(rt.alloc(), &file[..8]) == "Version");
-        assert!(rt; answer_to(rt.alloc(), &file[..7]) == "Format");
+        assert!(rt; is_of_other_version(rt.alloc(), &file), "{major}.{minor}");
     }
 }
 
@@ -289,13 +293,19 @@ fn names_of_methods(rt: HostRuntime) {
     }
 }
 
-#[test]
-fn no_code(rt: HostRuntime) -> Result<(), Fail> {
-    // An attribute of 12 bytes, whose code has none.
-    let mut file = Vec::new(rt.alloc());
+/// The file with an attribute of 12 bytes, whose code has none.
+fn without_code(alloc: Global) -> Result<Vec<u8>, AllocError> {
+    let mut file = Vec::new(alloc);
     file.extend_from_slice(&HI[..139])?;
     file.extend_from_slice(b"\x00\x00\x00\x0c\x00\x01\x00\x01\x00\x00\x00\x00")?;
     file.extend_from_slice(&HI[162..])?;
-    assert!(rt; answer_to(rt.alloc(), &file) == "Format");
-    Ok(())
+    Ok(file)
+}
+
+#[test]
+fn no_code(rt: HostRuntime) {
+    match without_code(rt.alloc()) {
+        Ok(file) => assert!(rt; answer_to(rt.alloc(), &file) == "Format"),
+        Err(_) => assert!(rt; false),
+    }
 }

@@ -108,10 +108,15 @@ fn steps_or_has_no_memory(rt: HostRuntime) {
     }
 }
 
+/// Whether a guest is over for want of a main method.
+fn has_no_main(guest: &Guest<'_>) -> bool {
+    !guest.is_running() && matches!(guest.end(), End::NoMain)
+}
+
 #[test]
 fn no_class_no_main(rt: HostRuntime) {
     let guest = Guest::new(rt.alloc(), None, b"Hi", 64);
-    assert!(rt; !guest.is_running() && matches!(guest.end(), End::NoMain));
+    assert!(rt; has_no_main(&guest));
 }
 
 /// The constant that the first instruction pushes, and its length.
