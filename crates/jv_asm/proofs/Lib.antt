@@ -1,5 +1,9 @@
+pub mod Assembly
 pub mod Back
+pub mod Joined
 pub mod Lengths
+pub mod Named
+pub mod Pooled
 pub mod Sizes
 pub mod Spelled
 pub mod Tables

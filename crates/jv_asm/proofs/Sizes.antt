@@ -42,7 +42,7 @@ switch_written result new third second first z d b o e f =
 
 -- ---- lists of items
 
-items_bytes-append : (at : ℕ) (xs ys : List Item) → items_bytes at (xs ++ ys) ≡ items_bytes at xs ++ items_bytes (at + length (items_bytes at xs)) ys
+pub items_bytes-append : (at : ℕ) (xs ys : List Item) → items_bytes at (xs ++ ys) ≡ items_bytes at xs ++ items_bytes (at + length (items_bytes at xs)) ys
 items_bytes-append at [] ys = ap (λ k. items_bytes k ys) (omega arith)
 items_bytes-append at (x ∷ xs) ys =
     let here = item_bytes at x in
@@ -110,3 +110,13 @@ few_pairs at i default pairs is few =
     let same = ap (λ j. length (item_bytes at j)) is in
     let long = lookup_switch_length at default pairs.now in
     omega arith
+
+pub table_item : (at : ℕ) (i : Item) (default low high : ℤ) (offsets : Bor (List ℤ)) (size : ℕ) → i ≡ item.Tableswitch default low high offsets
+    → IsCapped (16 - at % 4 + 4 * length offsets.now) size → IsCapped (length (item_bytes at i)) size
+table_item at i default low high offsets size is =
+    subst (λ n. IsCapped n size) (sym (ap (λ j. length (item_bytes at j)) is ∙ table_switch_length at default low high offsets.now))
+
+pub lookup_item : (at : ℕ) (i : Item) (default : ℤ) (pairs : Bor (List (ℤ × ℤ))) (size : ℕ) → i ≡ item.Lookupswitch default pairs
+    → IsCapped (12 - at % 4 + 8 * length pairs.now) size → IsCapped (length (item_bytes at i)) size
+lookup_item at i default pairs size is =
+    subst (λ n. IsCapped n size) (sym (ap (λ j. length (item_bytes at j)) is ∙ lookup_switch_length at default pairs.now))

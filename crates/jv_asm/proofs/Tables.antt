@@ -1,9 +1,12 @@
 -- Tables of parts that are seen as other values.
-use Rattle.std.proofs.Common.{◌≡◌, ℕ, Bool, List, ◌++◌, length, refl, sym, subst}
-use Rattle.std.specs.Prelude.{Result, IsTrue, OnOk, map}
+use Rattle.std.proofs.Common.{◌≡◌, ℕ, ◌<◌, ◌+◌, Bool, List, [], ◌∷◌, ◌++◌, length, take, get_or, refl, sym, ap, subst, ◌∙◌, append_assoc, Ok, Err}
+use Rattle.std.specs.Prelude.{Result, IsTrue, OnOk, IfErr, IsErrAnd, map}
 use Rattle.std.specs.List.{flat_map}
-use Rattle.std.proofs.lemmas.List.{length-map}
+use Rattle.std.proofs.lemmas.List.{length-map, take_more, map-append, append-nil}
+use Rattle.std.proofs.lemmas.Grind.{flat_map-append}
 use Rattle.std.proofs.lemmas.List.Folds.{flat_map-map, list_all-map}
+use Rattle.jv_asm.specs.declared.fault.AsmFault.{AsmFault}
+use Rattle.jv_asm.specs.declared.fault.AsmFault.TheVariants.{TooLarge, Memory}
 use Rattle.jv_format.specs.Format.{half}
 use Rattle.jv_class_parts.specs.Structure.{table_bytes, table_fits}
 
@@ -19,3 +22,22 @@ fits_seen p view xs = subst (λ b. IsTrue b) (sym (fits_is p view xs))
 pub table_written : {X Y A E : Type 0} (f : Y → List ℕ) (view : X → Y) (xs : List X) (result : Result A E) (old new : List ℕ)
     → OnOk result (new ≡ old ++ (half.spelling (length xs) ++ flat_map (λ x. f (view x)) xs)) → OnOk result (new ≡ old ++ table_bytes f (map view xs))
 table_written f view xs result old new = subst (λ bytes. OnOk result (new ≡ old ++ bytes)) (table_is f view xs)
+
+-- one more part was written
+pub part_next : {X Y : Type 0} (f : Y → List ℕ) (view : X → Y) (xs : List X) (i : ℕ) (d : X) (start out new : List ℕ) → i < length xs
+    → out ≡ start ++ flat_map f (map view (take i xs)) → new ≡ out ++ f (view (get_or xs i d)) → new ≡ start ++ flat_map f (map view (take (i + 1) xs))
+part_next f view xs i d start out new lt so_far e =
+    e ∙ ap (λ b. b ++ f (view (get_or xs i d))) so_far ∙ append_assoc start (flat_map f (map view (take i xs))) (f (view (get_or xs i d)))
+    ∙ ap (λ b. start ++ b) (sym (ap (λ ys. flat_map f (map view ys)) (take_more xs i d lt)
+    ∙ ap (flat_map f) (map-append view (take i xs) (get_or xs i d ∷ [])) ∙ flat_map-append f (map view (take i xs)) (view (get_or xs i d) ∷ [])
+    ∙ ap (λ b. flat_map f (map view (take i xs)) ++ b) (append-nil (f (view (get_or xs i d))))))
+
+-- an error that is passed on
+pub passed_on : {T E : Type 0} (result : Result T E) (x : E) (P : E → Type 0) → IsErrAnd result (λ e. e ≡ x) → P x → IfErr result P
+passed_on (Ok t) x P h p = tt
+passed_on (Err e) x P h p = subst P (sym h) p
+
+-- want of memory is no other refusal
+pub is_memory : {T : Type 0} (result : Result T AsmFault) → IsErrAnd result (λ e. e ≡ Memory) → result ≡ Err TooLarge → ⊥
+is_memory (Ok t) h e = h
+is_memory (Err f) h e = absurd cc

@@ -1,112 +1,56 @@
 //! Builds class files, with constants found or added by value.
 
-ghost use Rattle.std.specs.Prelude.{◌≡◌, IfOk};
-ghost use Rattle.jv_class_parts.specs.Structure.{ClassStructure, class_bytes};
+ghost use Rattle.std.specs.Prelude.{◌≡◌, ◌++◌, ◌↔◌, [], Err, IfOk, IsOk, OnErr, OnOk, IsTrue, map};
+ghost use Rattle.std.specs.Int.{w32, cast_unsigned};
+ghost use Rattle.jv_pool.specs.declared.constant.Constant.TheVariants as constants;
+ghost use Rattle.jv_pool.specs.Constants.{pool_fits};
+ghost use Rattle.jv_pool.specs.Seen.{seen};
+ghost use Rattle.jv_class_parts.specs.Structure.{ClassStructure, body_bytes, body_fits, class_bytes};
+ghost use Rattle.jv_asm.specs.Description.{attribute_described, field_described};
 ghost use Rattle.jv_asm.specs.Fits.{IsFit};
+ghost use Rattle.jv_asm.specs.Assembly.{IsAssembled};
+ghost use Rattle.jv_asm.specs.Added.{IsAdded, IsNamedAdded, AreClassesAdded, AreTextsAdded, IsNameAndTypeAdded, IsMemberNamed, IsMemberAdded, HasRoom, HasRoomForTwo};
+ghost use Rattle.jv_asm.specs.Built.{built_method, long_constant, IsGrown, IsNewRoot, IsNewClass, IsInterfaceAdded, IsFieldAdded, IsAttributeAdded, IsBodilessAdded, IsBegun, IsStackMapAdded, HasMethodRoom, HasStackMapRoom, IsEnded};
+ghost use Rattle.jv_asm.specs.declared.fault.AsmFault.TheVariants.{TooLarge};
 
+use crate::attribute::{attributes_right, put_attributes};
+use crate::built::{BuiltCode, BuiltMethod, built_right, put_built};
 use crate::code_builder::CodeBuilder;
-use crate::description::{
-    AttributeDescription, CodeDescription, Description, FieldDescription, HandlerDescription,
-    MethodAttributeDescription, MethodDescription,
-};
+use crate::description::{AttributeDescription, FieldDescription};
 use crate::fault::AsmFault;
-use crate::part::Part;
-use crate::writer::{entries, write_class};
+use crate::member::{fields_right, put_fields};
+use crate::part::{half_right, halves_right, table_right};
+use crate::pool_builder::PoolBuilder;
+use crate::writer::{put_header, put_names};
 use jv_pool::Constant;
-use std::alloc::Global;
-use std::collections::BTreeMap;
+use std::alloc::{AllocError, Global};
+use std::marker::Model;
 
-/// A method that was begun: its code is added to `code`.
+/// A method that was begun, with the indices of its names (4.6): its code is added to `code`.
 #[derive(Drop)]
 pub struct MethodBuilder<'a> {
-    access_flags: u16,
-    name_index: u16,
-    descriptor_index: u16,
-    code_name_index: u16,
+    pub access_flags: u16,
+    pub name_index: u16,
+    pub descriptor_index: u16,
+    /// The index of the name `Code`.
+    pub code_name_index: u16,
     pub code: CodeBuilder<'a>,
-}
-
-#[derive(Drop)]
-struct BuiltCode<'a> {
-    name_index: u16,
-    max_stack: u16,
-    max_locals: u16,
-    code: Vec<u8>,
-    exception_table: Vec<HandlerDescription>,
-    attributes: Vec<AttributeDescription<'a>>,
-}
-
-#[derive(Drop)]
-struct BuiltMethod<'a> {
-    access_flags: u16,
-    name_index: u16,
-    descriptor_index: u16,
-    code: Option<BuiltCode<'a>>,
-}
-
-impl BuiltMethod<'_> {
-    fn attributes(&self, alloc: Global) -> Result<Vec<MethodAttributeDescription<'_>>, AsmFault> {
-        let mut attributes = Vec::new(alloc);
-        if let Some(built) = &self.code {
-            attributes.push(MethodAttributeDescription::Code(
-                built.name_index,
-                CodeDescription {
-                    max_stack: built.max_stack,
-                    max_locals: built.max_locals,
-                    code: &built.code,
-                    exception_table: &built.exception_table,
-                    attributes: &built.attributes,
-                },
-            ))?;
-        }
-        Ok(attributes)
-    }
-}
-
-/// The attributes of each method.
-fn attributes_of<'b>(
-    alloc: Global,
-    methods: &'b [BuiltMethod<'_>],
-) -> Result<Vec<Vec<MethodAttributeDescription<'b>>>, AsmFault> {
-    let mut all = Vec::new(alloc);
-    for method in methods {
-        let attributes = method.attributes(alloc)?;
-        all.push(attributes)?;
-    }
-    Ok(all)
-}
-
-/// Methods with these attributes, in the same order.
-fn described_methods<'b, 'c: 'b>(
-    alloc: Global,
-    built: &[BuiltMethod<'_>],
-    attributes: &'b [Vec<MethodAttributeDescription<'c>>],
-) -> Result<Vec<MethodDescription<'b>>, AsmFault> {
-    let mut methods = Vec::new(alloc);
-    for (method, of_method) in built.iter().zip(attributes) {
-        let description = MethodDescription {
-            access_flags: method.access_flags,
-            name_index: method.name_index,
-            descriptor_index: method.descriptor_index,
-            attributes: of_method.as_slice(),
-        };
-        methods.push(description)?;
-    }
-    Ok(methods)
 }
 
 /// A class file of version 52.0 with the parts that were added so far.
 ///
-/// Texts are those of the caller, in modified UTF-8 (4.4.7). Where a call answers an error the
-/// builder is of no further use. Each that gives an index gives that of a constant which is there
-/// already, or adds one; `TooLarge` where the pool is full.
+/// Texts are those of the caller, in modified UTF-8 (4.4.7). Each call that gives an index gives
+/// that of a constant which is there already, or adds one.
+///
+/// # Errors
+///
+/// A call answers `TooLarge` where a text has more than 65,535 bytes or the pool would have more
+/// than 65,534 entries, and `Memory` where the host's memory was refused. It then changes nothing,
+/// but for constants that joined the pool.
 #[derive(Drop)]
 pub struct ClassBuilder<'a> {
     alloc: Global,
-    constants: Vec<Constant<&'a [u8]>>,
-    /// The index of a constant with these bytes.
-    indices: BTreeMap<Vec<u8>, u16>,
-    next_index: u16,
+    pool: PoolBuilder<'a>,
     access_flags: u16,
     this_class: u16,
     super_class: u16,
@@ -116,6 +60,25 @@ pub struct ClassBuilder<'a> {
     attributes: Vec<AttributeDescription<'a>>,
 }
 
+impl<'a> Model for ClassBuilder<'a> {
+    ghost Value = { ClassStructure };
+
+    ghost view = { λ b. record {
+      minor_version = 0;
+      major_version = 52;
+      constant_pool = b.pool;
+      access_flags = b.access_flags;
+      this_class = b.this_class;
+      super_class = b.super_class;
+      interfaces = b.interfaces.items;
+      fields = map field_described b.fields.items;
+      methods = map built_method b.methods.items;
+      attributes = map attribute_described b.attributes.items;
+    } };
+
+    ghost invariant = { λ b. IsTrue (pool_fits b.pool) };
+}
+
 impl<'a> ClassBuilder<'a> {
     /// A class with a superclass.
     pub fn new(
@@ -123,9 +86,13 @@ impl<'a> ClassBuilder<'a> {
         access_flags: u16,
         name: &'a [u8],
         super_name: &'a [u8],
-    ) -> Result<ClassBuilder<'a>, AsmFault> {
+    ) -> Result<ClassBuilder<'a>, AsmFault>
+        ensures ok { IfOk result (λ class. IsNewClass access_flags name.now super_name.now class) }
+        ensures too_large { (result ≡ Err TooLarge) → ¬ HasRoomForTwo (AreClassesAdded [] name.now super_name.now) }
+    {
         let mut class = ClassBuilder::root(alloc, access_flags, name)?;
-        class.super_class = class.class(super_name)?;
+        let index = class.class(super_name)?;
+        class.super_class = index;
         Ok(class)
     }
 
@@ -134,12 +101,13 @@ impl<'a> ClassBuilder<'a> {
         alloc: Global,
         access_flags: u16,
         name: &'a [u8],
-    ) -> Result<ClassBuilder<'a>, AsmFault> {
+    ) -> Result<ClassBuilder<'a>, AsmFault>
+        ensures ok { IfOk result (λ class. IsNewRoot access_flags name.now class) }
+        ensures too_large { (result ≡ Err TooLarge) → ¬ HasRoom (IsNamedAdded constants.Class [] name.now) }
+    {
         let mut class = ClassBuilder {
             alloc,
-            constants: Vec::new(alloc),
-            indices: BTreeMap::new(alloc),
-            next_index: 1,
+            pool: PoolBuilder::new(alloc),
             access_flags,
             this_class: 0,
             super_class: 0,
@@ -148,118 +116,177 @@ impl<'a> ClassBuilder<'a> {
             methods: Vec::new(alloc),
             attributes: Vec::new(alloc),
         };
-        class.this_class = class.class(name)?;
+        let index = class.class(name)?;
+        class.this_class = index;
         Ok(class)
     }
 
     /// The index of a constant.
-    pub fn constant(&mut self, constant: Constant<&'a [u8]>) -> Result<u16, AsmFault> {
-        if !constant.is_right() {
-            return Err(AsmFault::TooLarge);
-        }
-        let mut bytes = Vec::new(self.alloc);
-        constant.put(&mut bytes)?;
-        if let Some(index) = self.indices.get(&bytes) {
-            return Ok(*index);
-        }
-        let index = self.next_index;
-        let next_index = u64::from(index) + entries(&constant);
-        if next_index > 65535 {
-            return Err(AsmFault::TooLarge);
-        }
-        self.constants.push(constant)?;
-        let _ = self.indices.insert(bytes, index)?;
-        self.next_index = next_index as u16;
-        Ok(index)
+    pub fn constant(&mut self, constant: Constant<&'a [u8]>) -> Result<u16, AsmFault>
+        ensures ok { IfOk result (λ index. IsAdded self.old.constant_pool (seen constant.entry) self.new.constant_pool index) }
+        ensures grown { IsGrown self.old self.new }
+        ensures refused { OnErr result (self.new ≡ self.old) }
+        ensures too_large { (result ≡ Err TooLarge) ↔ ¬ HasRoom (IsAdded self.old.constant_pool (seen constant.entry)) }
+    {
+        self.pool.constant(constant)
     }
 
-    /// The index of a text.
-    pub fn utf8(&mut self, text: &'a [u8]) -> Result<u16, AsmFault> {
+    /// The index of a text (4.4.7).
+    pub fn utf8(&mut self, text: &'a [u8]) -> Result<u16, AsmFault>
+        ensures ok { IfOk result (λ index. IsAdded self.old.constant_pool (constants.Utf8 text.now) self.new.constant_pool index) }
+        ensures grown { IsGrown self.old self.new }
+        ensures refused { OnErr result (self.new ≡ self.old) }
+        ensures too_large { (result ≡ Err TooLarge) ↔ ¬ HasRoom (IsAdded self.old.constant_pool (constants.Utf8 text.now)) }
+    {
         self.constant(Constant::Utf8(text))
     }
 
-    /// The index of a class or an array type, by its name.
-    pub fn class(&mut self, name: &'a [u8]) -> Result<u16, AsmFault> {
-        let name = self.utf8(name)?;
-        self.constant(Constant::Class(name))
-    }
-
-    /// The index of a string.
-    pub fn string(&mut self, text: &'a [u8]) -> Result<u16, AsmFault> {
-        let text = self.utf8(text)?;
-        self.constant(Constant::String(text))
-    }
-
-    /// The index of an int.
-    pub fn integer(&mut self, value: i32) -> Result<u16, AsmFault> {
+    /// The index of an int (4.4.4).
+    pub fn integer(&mut self, value: i32) -> Result<u16, AsmFault>
+        ensures ok { IfOk result (λ index. IsAdded self.old.constant_pool (constants.Integer (cast_unsigned w32 value)) self.new.constant_pool index) }
+        ensures grown { IsGrown self.old self.new }
+        ensures refused { OnErr result (self.new ≡ self.old) }
+        ensures too_large { (result ≡ Err TooLarge) ↔ ¬ HasRoom (IsAdded self.old.constant_pool (constants.Integer (cast_unsigned w32 value))) }
+    {
         self.constant(Constant::Integer(value.cast_unsigned()))
     }
 
-    /// The index of a long.
-    pub fn long(&mut self, value: i64) -> Result<u16, AsmFault> {
+    /// The index of a long (4.4.5).
+    pub fn long(&mut self, value: i64) -> Result<u16, AsmFault>
+        ensures ok { IfOk result (λ index. IsAdded self.old.constant_pool (long_constant value) self.new.constant_pool index) }
+        ensures grown { IsGrown self.old self.new }
+        ensures refused { OnErr result (self.new ≡ self.old) }
+        ensures too_large { (result ≡ Err TooLarge) ↔ ¬ HasRoom (IsAdded self.old.constant_pool (long_constant value)) }
+    {
         let bits = value.cast_unsigned();
         self.constant(Constant::Long((bits / 4_294_967_296) as u32, (bits % 4_294_967_296) as u32))
     }
 
-    /// The index of a name and a descriptor.
-    pub fn name_and_type(&mut self, name: &'a [u8], descriptor: &'a [u8]) -> Result<u16, AsmFault> {
+    /// The index of a class or an array type, by its name (4.4.1).
+    pub fn class(&mut self, name: &'a [u8]) -> Result<u16, AsmFault>
+        ensures ok { IfOk result (λ index. IsNamedAdded constants.Class self.old.constant_pool name.now self.new.constant_pool index) }
+        ensures grown { IsGrown self.old self.new }
+        ensures too_large { (result ≡ Err TooLarge) → ¬ HasRoom (IsNamedAdded constants.Class self.old.constant_pool name.now) }
+    {
         let name = self.utf8(name)?;
-        let descriptor = self.utf8(descriptor)?;
+        self.constant(Constant::Class(name))
+    }
+
+    /// The index of a string (4.4.3).
+    pub fn string(&mut self, text: &'a [u8]) -> Result<u16, AsmFault>
+        ensures ok { IfOk result (λ index. IsNamedAdded constants.String self.old.constant_pool text.now self.new.constant_pool index) }
+        ensures grown { IsGrown self.old self.new }
+        ensures too_large { (result ≡ Err TooLarge) → ¬ HasRoom (IsNamedAdded constants.String self.old.constant_pool text.now) }
+    {
+        let text = self.utf8(text)?;
+        self.constant(Constant::String(text))
+    }
+
+    /// The indices of two texts.
+    fn texts(&mut self, first: &'a [u8], second: &'a [u8]) -> Result<(u16, u16), AsmFault>
+        ensures ok { IfOk result (λ indices. AreTextsAdded self.old.constant_pool first.now second.now self.new.constant_pool indices.0 indices.1) }
+        ensures grown { IsGrown self.old self.new }
+        ensures too_large { (result ≡ Err TooLarge) → ¬ HasRoomForTwo (AreTextsAdded self.old.constant_pool first.now second.now) }
+    {
+        let first = self.utf8(first)?;
+        let second = self.utf8(second)?;
+        Ok((first, second))
+    }
+
+    /// The index of a name and a descriptor (4.4.6).
+    pub fn name_and_type(&mut self, name: &'a [u8], descriptor: &'a [u8]) -> Result<u16, AsmFault>
+        ensures ok { IfOk result (λ index. IsNameAndTypeAdded self.old.constant_pool name.now descriptor.now self.new.constant_pool index) }
+        ensures grown { IsGrown self.old self.new }
+        ensures too_large { (result ≡ Err TooLarge) → ¬ HasRoom (IsNameAndTypeAdded self.old.constant_pool name.now descriptor.now) }
+    {
+        let (name, descriptor) = self.texts(name, descriptor)?;
         self.constant(Constant::NameAndType(name, descriptor))
     }
 
-    /// The index of a field.
+    /// The indices of a class and of the name and descriptor of its member.
+    fn member(
+        &mut self,
+        class: &'a [u8],
+        name: &'a [u8],
+        descriptor: &'a [u8],
+    ) -> Result<(u16, u16), AsmFault>
+        ensures ok { IfOk result (λ indices. IsMemberNamed self.old.constant_pool class.now name.now descriptor.now self.new.constant_pool indices.0 indices.1) }
+        ensures grown { IsGrown self.old self.new }
+        ensures too_large { (result ≡ Err TooLarge) → ¬ HasRoomForTwo (IsMemberNamed self.old.constant_pool class.now name.now descriptor.now) }
+    {
+        let class = self.class(class)?;
+        let member = self.name_and_type(name, descriptor)?;
+        Ok((class, member))
+    }
+
+    /// The index of a field (4.4.2).
     pub fn fieldref(
         &mut self,
         class: &'a [u8],
         name: &'a [u8],
         descriptor: &'a [u8],
-    ) -> Result<u16, AsmFault> {
-        let class = self.class(class)?;
-        let member = self.name_and_type(name, descriptor)?;
+    ) -> Result<u16, AsmFault>
+        ensures ok { IfOk result (λ index. IsMemberAdded constants.Fieldref self.old.constant_pool class.now name.now descriptor.now self.new.constant_pool index) }
+        ensures grown { IsGrown self.old self.new }
+        ensures too_large { (result ≡ Err TooLarge) → ¬ HasRoom (IsMemberAdded constants.Fieldref self.old.constant_pool class.now name.now descriptor.now) }
+    {
+        let (class, member) = self.member(class, name, descriptor)?;
         self.constant(Constant::Fieldref(class, member))
     }
 
-    /// The index of a method of a class.
+    /// The index of a method of a class (4.4.2).
     pub fn methodref(
         &mut self,
         class: &'a [u8],
         name: &'a [u8],
         descriptor: &'a [u8],
-    ) -> Result<u16, AsmFault> {
-        let class = self.class(class)?;
-        let member = self.name_and_type(name, descriptor)?;
+    ) -> Result<u16, AsmFault>
+        ensures ok { IfOk result (λ index. IsMemberAdded constants.Methodref self.old.constant_pool class.now name.now descriptor.now self.new.constant_pool index) }
+        ensures grown { IsGrown self.old self.new }
+        ensures too_large { (result ≡ Err TooLarge) → ¬ HasRoom (IsMemberAdded constants.Methodref self.old.constant_pool class.now name.now descriptor.now) }
+    {
+        let (class, member) = self.member(class, name, descriptor)?;
         self.constant(Constant::Methodref(class, member))
     }
 
-    /// The index of a method of an interface.
+    /// The index of a method of an interface (4.4.2).
     pub fn interface_methodref(
         &mut self,
         class: &'a [u8],
         name: &'a [u8],
         descriptor: &'a [u8],
-    ) -> Result<u16, AsmFault> {
-        let class = self.class(class)?;
-        let member = self.name_and_type(name, descriptor)?;
+    ) -> Result<u16, AsmFault>
+        ensures ok { IfOk result (λ index. IsMemberAdded constants.InterfaceMethodref self.old.constant_pool class.now name.now descriptor.now self.new.constant_pool index) }
+        ensures grown { IsGrown self.old self.new }
+        ensures too_large { (result ≡ Err TooLarge) → ¬ HasRoom (IsMemberAdded constants.InterfaceMethodref self.old.constant_pool class.now name.now descriptor.now) }
+    {
+        let (class, member) = self.member(class, name, descriptor)?;
         self.constant(Constant::InterfaceMethodref(class, member))
     }
 
-    /// Adds a direct superinterface.
-    pub fn interface(&mut self, name: &'a [u8]) -> Result<(), AsmFault> {
+    /// Adds a direct superinterface (4.1).
+    pub fn interface(&mut self, name: &'a [u8]) -> Result<(), AsmFault>
+        ensures ok { OnOk result (IsInterfaceAdded self.old name.now self.new) }
+        ensures refused { OnErr result (IsGrown self.old self.new) }
+        ensures too_large { (result ≡ Err TooLarge) → ¬ HasRoom (IsNamedAdded constants.Class self.old.constant_pool name.now) }
+    {
         let index = self.class(name)?;
         Ok(self.interfaces.push(index)?)
     }
 
-    /// Adds a field with these attributes.
+    /// Adds a field with these attributes (4.5).
     pub fn field(
         &mut self,
         access_flags: u16,
         name: &'a [u8],
         descriptor: &'a [u8],
         attributes: &'a [AttributeDescription<'a>],
-    ) -> Result<(), AsmFault> {
-        let name_index = self.utf8(name)?;
-        let descriptor_index = self.utf8(descriptor)?;
+    ) -> Result<(), AsmFault>
+        ensures ok { OnOk result (IsFieldAdded self.old access_flags name.now descriptor.now (map attribute_described attributes.now) self.new) }
+        ensures refused { OnErr result (IsGrown self.old self.new) }
+        ensures too_large { (result ≡ Err TooLarge) → ¬ HasRoomForTwo (AreTextsAdded self.old.constant_pool name.now descriptor.now) }
+    {
+        let (name_index, descriptor_index) = self.texts(name, descriptor)?;
         Ok(
             self.fields.push(FieldDescription {
                 access_flags,
@@ -270,8 +297,12 @@ impl<'a> ClassBuilder<'a> {
         )
     }
 
-    /// Adds an attribute of the class.
-    pub fn attribute(&mut self, name: &'a [u8], info: &'a [u8]) -> Result<(), AsmFault> {
+    /// Adds an attribute of the class (4.7).
+    pub fn attribute(&mut self, name: &'a [u8], info: &'a [u8]) -> Result<(), AsmFault>
+        ensures ok { OnOk result (IsAttributeAdded self.old name.now info.now self.new) }
+        ensures refused { OnErr result (IsGrown self.old self.new) }
+        ensures too_large { (result ≡ Err TooLarge) → ¬ HasRoom (IsAdded self.old.constant_pool (constants.Utf8 name.now)) }
+    {
         let attribute_name_index = self.utf8(name)?;
         Ok(
             self.attributes.push(AttributeDescription {
@@ -281,65 +312,98 @@ impl<'a> ClassBuilder<'a> {
         )
     }
 
-    /// Adds a method with no code.
+    /// Adds a method with no code (4.6).
     pub fn bodiless(
         &mut self,
         access_flags: u16,
         name: &'a [u8],
         descriptor: &'a [u8],
-    ) -> Result<(), AsmFault> {
-        let name_index = self.utf8(name)?;
-        let descriptor_index = self.utf8(descriptor)?;
+    ) -> Result<(), AsmFault>
+        ensures ok { OnOk result (IsBodilessAdded self.old access_flags name.now descriptor.now self.new) }
+        ensures refused { OnErr result (IsGrown self.old self.new) }
+        ensures too_large { (result ≡ Err TooLarge) → ¬ HasRoomForTwo (AreTextsAdded self.old.constant_pool name.now descriptor.now) }
+    {
+        let names = self.texts(name, descriptor)?;
         Ok(
             self.methods.push(BuiltMethod {
                 access_flags,
-                name_index,
-                descriptor_index,
+                name_index: names.0,
+                descriptor_index: names.1,
                 code: None,
             })?,
         )
     }
 
-    /// Begins a method with code; [`ClassBuilder::end`] adds it.
+    /// Begins a method with code (4.6, 4.7.3); [`ClassBuilder::end`] adds it.
     pub fn begin(
         &mut self,
         access_flags: u16,
         name: &'a [u8],
         descriptor: &'a [u8],
-    ) -> Result<MethodBuilder<'a>, AsmFault> {
+    ) -> Result<MethodBuilder<'a>, AsmFault>
+        ensures ok { IfOk result (λ method. IsBegun self.old.constant_pool access_flags name.now descriptor.now self.new.constant_pool method) }
+        ensures grown { IsGrown self.old self.new }
+        ensures too_large { (result ≡ Err TooLarge) → ¬ HasMethodRoom self.old.constant_pool name.now descriptor.now }
+    {
+        let (name_index, descriptor_index) = self.texts(name, descriptor)?;
+        let code_name_index = self.utf8(b"Code".as_slice())?;
         Ok(MethodBuilder {
             access_flags,
-            name_index: self.utf8(name)?,
-            descriptor_index: self.utf8(descriptor)?,
-            code_name_index: self.utf8(b"Code")?,
+            name_index,
+            descriptor_index,
+            code_name_index,
             code: CodeBuilder::new(self.alloc),
         })
     }
 
+    /// The StackMapTable with these contents, if there are some.
+    fn stack_map(
+        &mut self,
+        stack_map_table: Option<&'a [u8]>,
+    ) -> Result<Vec<AttributeDescription<'a>>, AsmFault>
+        ensures ok { IfOk result (λ attributes. IsStackMapAdded self.old.constant_pool stack_map_table.entry self.new.constant_pool (map attribute_described attributes.items)) }
+        ensures grown { IsGrown self.old self.new }
+        ensures too_large { (result ≡ Err TooLarge) → ¬ HasStackMapRoom self.old.constant_pool stack_map_table.entry }
+    {
+        let mut attributes = Vec::new(self.alloc);
+        let Some(info) = stack_map_table else {
+            return Ok(attributes);
+        };
+        let attribute_name_index = self.utf8(b"StackMapTable".as_slice())?;
+        attributes.push(AttributeDescription {
+            attribute_name_index,
+            info,
+        })?;
+        Ok(attributes)
+    }
+
     /// Adds a method that was begun, with the least stack and locals that its code needs, and what
     /// its StackMapTable holds (4.7.4), if it has one.
+    ///
+    /// # Errors
+    ///
+    /// Beside those of the other calls, those of [`CodeBuilder::code`].
     pub fn end(
         &mut self,
         method: MethodBuilder<'a>,
         max_stack: u16,
         max_locals: u16,
         stack_map_table: Option<&'a [u8]>,
-    ) -> Result<(), AsmFault> {
-        let mut attributes = Vec::new(self.alloc);
-        if let Some(info) = stack_map_table {
-            let attribute_name_index = self.utf8(b"StackMapTable")?;
-            attributes.push(AttributeDescription {
-                attribute_name_index,
-                info,
-            })?;
-        }
-        let offsets = method.code.offsets()?;
+    ) -> Result<(), AsmFault>
+        ensures ok { OnOk result (IsEnded self.old method.entry max_stack max_locals stack_map_table.entry self.new) }
+        ensures refused { OnErr result (IsGrown self.old self.new) }
+        ensures too_large { (result ≡ Err TooLarge) → ¬ (IsAssembled method.entry.code × HasStackMapRoom self.old.constant_pool stack_map_table.entry) }
+    {
+        let targets = method.code.targets()?;
+        let code = method.code.written(&targets)?;
+        let exception_table = method.code.handlers(&targets)?;
+        let attributes = self.stack_map(stack_map_table)?;
         let code = BuiltCode {
             name_index: method.code_name_index,
             max_stack,
             max_locals,
-            code: method.code.code()?,
-            exception_table: method.code.exception_table(&offsets)?,
+            code,
+            exception_table,
             attributes,
         };
         Ok(
@@ -352,34 +416,60 @@ impl<'a> ClassBuilder<'a> {
         )
     }
 
-    /// The bytes of the class file.
+    fn is_fit(&self) -> bool
+        ensures { IsTrue result ↔ IsFit self.now }
+    {
+        halves_right(self.access_flags, self.this_class)
+            && half_right(self.super_class)
+            && table_right(&self.interfaces)
+            && fields_right(&self.fields)
+            && built_right(&self.methods)
+            && attributes_right(&self.attributes)
+    }
+
+    /// What stands behind the pool.
+    fn put_body(&self, out: &mut Vec<u8>) -> Result<(), AllocError>
+        requires { IsTrue (body_fits self.now) }
+        ensures { OnOk result (out.new.items ≡ out.old.items ++ body_bytes self.now) }
+    {
+        put_names(
+            out,
+            self.access_flags,
+            self.this_class,
+            self.super_class,
+            &self.interfaces,
+        )?;
+        put_fields(out, &self.fields)?;
+        put_built(out, &self.methods)?;
+        put_attributes(out, &self.attributes)
+    }
+
+    fn written(&self) -> Result<Vec<u8>, AllocError>
+        requires { IsTrue (body_fits self.now) }
+        ensures { IfOk result (λ bytes. bytes.items ≡ class_bytes self.now) }
+    {
+        let mut out = Vec::new(self.alloc);
+        put_header(&mut out, 0, 52)?;
+        self.pool.put(&mut out)?;
+        self.put_body(&mut out)?;
+        Ok(out)
+    }
+
+    /// The bytes of the class file, as `write_class` writes them.
     ///
     /// # Errors
     ///
-    /// As those of `write_class`.
+    /// `TooLarge` exactly where a count or a length does not fit its field, `Memory` where the host's
+    /// memory was refused.
     pub fn finish(&self) -> Result<Vec<u8>, AsmFault>
-        ensures { IfOk result (λ bytes. (c : ClassStructure) × (bytes.items ≡ class_bytes c) × IsFit c) }
+        ensures ok { IfOk result (λ bytes. bytes.items ≡ class_bytes self.now) }
+        ensures fits { IsOk result → IsFit self.now }
+        ensures too_large { (result ≡ Err TooLarge) ↔ ¬ IsFit self.now }
     {
-        let attributes = attributes_of(self.alloc, &self.methods)?;
-        let methods = described_methods(self.alloc, &self.methods, &attributes)?;
-        self.written(&methods)
-    }
-
-    fn written(&self, methods: &[MethodDescription<'_>]) -> Result<Vec<u8>, AsmFault>
-        ensures { IfOk result (λ bytes. (c : ClassStructure) × (bytes.items ≡ class_bytes c) × IsFit c) }
-    {
-        let description = Description {
-            minor_version: 0,
-            major_version: 52,
-            constant_pool: &self.constants,
-            access_flags: self.access_flags,
-            this_class: self.this_class,
-            super_class: self.super_class,
-            interfaces: &self.interfaces,
-            fields: &self.fields,
-            methods,
-            attributes: &self.attributes,
-        };
-        write_class(self.alloc, &description)
+        if !self.is_fit() {
+            return Err(AsmFault::TooLarge);
+        }
+        let bytes = self.written()?;
+        Ok(bytes)
     }
 }

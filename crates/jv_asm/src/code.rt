@@ -1,6 +1,6 @@
 //! Writes code.
 
-ghost use Rattle.std.specs.Prelude.{◌≡◌, ◌++◌, ◌∷◌, [], ◌-◌, ◌%◌, ◌<◌, ◌≤◌, ◌↔◌, Err, IfOk, OnOk, true, length, replicate};
+ghost use Rattle.std.specs.Prelude.{◌≡◌, ◌++◌, ◌∷◌, [], ◌+◌, ◌-◌, ◌*◌, ◌%◌, ◌<◌, ◌≤◌, ◌↔◌, Err, IfOk, OnOk, true, length, replicate};
 ghost use Rattle.std.specs.List.{flat_map};
 ghost use Rattle.jv_format.specs.Format.{byte, half, quad};
 ghost use Rattle.jv_code.specs.Numbers.{signed8, signed16, signed32};
@@ -20,7 +20,7 @@ pub fn items_are_code()
     ensures { ItemsAreCode }
 {}
 
-fn put_signed_quad(out: &mut Vec<u8>, number: i32) -> Result<(), AllocError>
+pub(crate) fn put_signed_quad(out: &mut Vec<u8>, number: i32) -> Result<(), AllocError>
     ensures { OnOk result (out.new.items ≡ out.old.items ++ signed32.spelling number) }
 {
     put_quad(out, number.cast_unsigned())
@@ -123,7 +123,7 @@ fn put_zeros(out: &mut Vec<u8>, count: usize) -> Result<(), AllocError>
 }
 
 /// The opcode of a switch, its padding and its default distance.
-fn put_switch(out: &mut Vec<u8>, opcode: u8, default: i32) -> Result<(), AllocError>
+pub(crate) fn put_switch(out: &mut Vec<u8>, opcode: u8, default: i32) -> Result<(), AllocError>
     ensures { OnOk result (out.new.items ≡ out.old.items
         ++ (opcode ∷ (zeros (length out.old.items) ++ signed32.spelling default))) }
 {
@@ -133,7 +133,7 @@ fn put_switch(out: &mut Vec<u8>, opcode: u8, default: i32) -> Result<(), AllocEr
     put_signed_quad(out, default)
 }
 
-fn put_bounds(out: &mut Vec<u8>, low: i32, high: i32) -> Result<(), AllocError>
+pub(crate) fn put_bounds(out: &mut Vec<u8>, low: i32, high: i32) -> Result<(), AllocError>
     ensures { OnOk result (out.new.items ≡ out.old.items ++ (signed32.spelling low ++ signed32.spelling high)) }
 {
     put_signed_quad(out, low)?;
@@ -166,7 +166,7 @@ fn put_lookupswitch(out: &mut Vec<u8>, default: i32, pairs: &[(i32, i32)]) -> Re
 }
 
 /// An item behind those before it.
-fn put_item(out: &mut Vec<u8>, item: &Item<'_>) -> Result<(), AllocError>
+pub(crate) fn put_item(out: &mut Vec<u8>, item: &Item<'_>) -> Result<(), AllocError>
     requires { length (item_bytes (length out.old.items) item.now) < 65536 }
     ensures { OnOk result (out.new.items ≡ out.old.items ++ item_bytes (length out.old.items) item.now) }
 {
@@ -189,20 +189,20 @@ fn put_item(out: &mut Vec<u8>, item: &Item<'_>) -> Result<(), AllocError>
     }
 }
 
-/// The size of a `tableswitch` at an offset.
-fn tableswitch_size(at: u64, default: i32, low: i32, high: i32, offsets: &[i32]) -> u64
-    ensures size { IsCapped (length (table_switch_bytes at default low high offsets.now)) result }
+/// The size of a `tableswitch` at an offset, by the number of its distances.
+pub(crate) fn tableswitch_size(at: u64, count: usize) -> u64
+    ensures size { IsCapped (16 - at % 4 + 4 * count) result }
     ensures small { result < 1000000 }
 {
-    16 - at % 4 + 4 * offsets.len().min(65536) as u64
+    16 - at % 4 + 4 * count.min(65536) as u64
 }
 
-/// The size of a `lookupswitch` at an offset.
-fn lookupswitch_size(at: u64, default: i32, pairs: &[(i32, i32)]) -> u64
-    ensures size { IsCapped (length (lookup_switch_bytes at default pairs.now)) result }
+/// The size of a `lookupswitch` at an offset, by the number of its pairs.
+pub(crate) fn lookupswitch_size(at: u64, count: usize) -> u64
+    ensures size { IsCapped (12 - at % 4 + 8 * count) result }
     ensures small { result < 1000000 }
 {
-    12 - at % 4 + 8 * pairs.len().min(65536) as u64
+    12 - at % 4 + 8 * count.min(65536) as u64
 }
 
 /// The size of an item at an offset; 65,536 or more stands for any size from there.
@@ -222,10 +222,8 @@ pub(crate) fn item_size(at: u64, item: &Item<'_>) -> u64
         Item::WideIinc(_, _) => 6,
         Item::Invokeinterface(_, _) => 5,
         Item::Multianewarray(_, _) => 4,
-        Item::Tableswitch(default, low, high, offsets) => {
-            tableswitch_size(at, default, low, high, offsets)
-        }
-        Item::Lookupswitch(default, pairs) => lookupswitch_size(at, default, pairs),
+        Item::Tableswitch(_, _, _, offsets) => tableswitch_size(at, offsets.len()),
+        Item::Lookupswitch(_, pairs) => lookupswitch_size(at, pairs.len()),
     }
 }
 

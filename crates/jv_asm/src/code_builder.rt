@@ -1,58 +1,43 @@
-//! Builds code, with labels for branches and handlers.
+//! Builds code, with labels for branches, switches and handlers.
 
-ghost use Rattle.std.specs.Prelude.{◌≡◌, List, ◌<◌, ◌≤◌, length, IfOk};
-ghost use Rattle.jv_asm.specs.declared.item.Item.{Item as AnItem};
+ghost use Rattle.std.specs.Prelude.{◌≡◌, ◌≤◌, IfOk, IfErr, OnErr, OnOk, IsOk, is_ok, if◌then◌else◌, map, length};
 ghost use Rattle.jv_asm.specs.Items.{items_bytes};
+ghost use Rattle.jv_asm.specs.Assembly.{Assembly, Branch, TableSwitch, LookupSwitch, step_kept, no_steps, with_step, with_item, with_handler, with_label, with_place, label_offsets, end_of, assembled, exception_table, IsAssembled};
+ghost use Rattle.jv_asm.specs.Description.{handler_described};
+ghost use Rattle.jv_asm.specs.declared.item.Item.TheVariants as an_item;
+ghost use Rattle.jv_asm.specs.declared.fault.AsmFault.TheVariants.{TooLarge};
 
-use crate::code::{item_size, write_code};
 use crate::description::HandlerDescription;
 use crate::fault::AsmFault;
 use crate::item::Item;
-use std::alloc::Global;
-
-/// A place in code.
-#[derive(Clone, Copy)]
-pub struct Label(usize);
-
-#[derive(Clone, Copy)]
-enum Step<'a> {
-    Item(Item<'a>),
-    Branch(u8, Label),
-}
-
-#[derive(Clone, Copy)]
-struct HandlerLabels {
-    start: Label,
-    end: Label,
-    handler: Label,
-    catch_type: u16,
-}
+use crate::step::{BuilderStep, HandlerLabels, Label, laid_out};
+use crate::targets::Targets;
+use std::alloc::{AllocError, Global};
+use std::marker::Model;
 
 /// Instructions in their order, and the labels among them.
 ///
-/// A label that is never placed stands at the end of the code. Where a call answers an error the
-/// builder is of no further use.
+/// A label that is never placed stands at the end of the code, and so does one of another builder
+/// that has more labels. Where a call is refused, nothing changes.
 #[derive(Drop)]
 pub struct CodeBuilder<'a> {
     alloc: Global,
-    steps: Vec<Step<'a>>,
+    steps: Vec<BuilderStep<'a>>,
     places: Vec<Option<usize>>,
     handlers: Vec<HandlerLabels>,
 }
 
-/// The size of a step at an offset; 65,536 or more stands for any size from there.
-fn step_size(at: u16, step: &Step<'_>) -> u64
-    ensures { result < 1000000 }
-{
-    match step {
-        Step::Item(item) => item_size(u64::from(at), item),
-        Step::Branch(_, _) => 3,
-    }
+impl<'a> Model for CodeBuilder<'a> {
+    ghost Value = { Assembly };
+
+    ghost view = { λ b. record { steps = map step_kept b.steps.items; places = b.places.items; handlers = b.handlers.items } };
 }
 
 impl<'a> CodeBuilder<'a> {
     /// No instructions.
-    pub fn new(alloc: Global) -> CodeBuilder<'a> {
+    pub fn new(alloc: Global) -> CodeBuilder<'a>
+        ensures { result ≡ no_steps }
+    {
         CodeBuilder {
             alloc,
             steps: Vec::new(alloc),
@@ -61,58 +46,113 @@ impl<'a> CodeBuilder<'a> {
         }
     }
 
-    /// Any instruction.
-    pub fn item(&mut self, item: Item<'a>) -> Result<(), AsmFault> {
-        Ok(self.steps.push(Step::Item(item))?)
+    fn step(&mut self, step: BuilderStep<'a>) -> Result<(), AllocError>
+        ensures { self.new ≡ (if is_ok result then with_step self.old (step_kept step.entry) else self.old) }
+    {
+        self.steps.push(step)?;
+        Ok(())
+    }
+
+    /// Any instruction, as it is spelled.
+    pub fn item(&mut self, item: Item<'a>) -> Result<(), AllocError>
+        ensures { self.new ≡ (if is_ok result then with_item self.old item.entry else self.old) }
+    {
+        self.step(BuilderStep::Unlabelled(item))
     }
 
     /// An opcode alone.
-    pub fn plain(&mut self, opcode: u8) -> Result<(), AsmFault> {
+    pub fn plain(&mut self, opcode: u8) -> Result<(), AllocError>
+        ensures { self.new ≡ (if is_ok result then with_item self.old (an_item.Plain opcode) else self.old) }
+    {
         self.item(Item::Plain(opcode))
     }
 
     /// An opcode and one byte: `ldc`, an instruction with a local, `newarray`.
-    pub fn byte(&mut self, opcode: u8, operand: u8) -> Result<(), AsmFault> {
+    pub fn byte(&mut self, opcode: u8, operand: u8) -> Result<(), AllocError>
+        ensures { self.new ≡ (if is_ok result then with_item self.old (an_item.Byte opcode operand) else self.old) }
+    {
         self.item(Item::Byte(opcode, operand))
     }
 
     /// An opcode and an index: an instruction on a field, a method or a class.
-    pub fn index(&mut self, opcode: u8, index: u16) -> Result<(), AsmFault> {
+    pub fn index(&mut self, opcode: u8, index: u16) -> Result<(), AllocError>
+        ensures { self.new ≡ (if is_ok result then with_item self.old (an_item.Half opcode index) else self.old) }
+    {
         self.item(Item::Half(opcode, index))
     }
 
     /// `bipush`.
-    pub fn bipush(&mut self, value: i8) -> Result<(), AsmFault> {
+    pub fn bipush(&mut self, value: i8) -> Result<(), AllocError>
+        ensures { self.new ≡ (if is_ok result then with_item self.old (an_item.SignedByte 16 value) else self.old) }
+    {
         self.item(Item::SignedByte(16, value))
     }
 
     /// `sipush`.
-    pub fn sipush(&mut self, value: i16) -> Result<(), AsmFault> {
+    pub fn sipush(&mut self, value: i16) -> Result<(), AllocError>
+        ensures { self.new ≡ (if is_ok result then with_item self.old (an_item.SignedHalf 17 value) else self.old) }
+    {
         self.item(Item::SignedHalf(17, value))
     }
 
     /// A branch of two bytes to a label.
-    pub fn branch(&mut self, opcode: u8, target: Label) -> Result<(), AsmFault> {
-        Ok(self.steps.push(Step::Branch(opcode, target))?)
+    pub fn branch(&mut self, opcode: u8, target: Label) -> Result<(), AllocError>
+        ensures { self.new ≡ (if is_ok result then with_step self.old (Branch opcode target) else self.old) }
+    {
+        self.step(BuilderStep::Branch(opcode, target))
+    }
+
+    /// `tableswitch`: the default label, the lowest and the highest number with a label of its own,
+    /// and these labels.
+    pub fn tableswitch(
+        &mut self,
+        default: Label,
+        low: i32,
+        high: i32,
+        targets: &[Label],
+    ) -> Result<(), AllocError>
+        ensures { self.new ≡ (if is_ok result then with_step self.old (TableSwitch default low high targets.now) else self.old) }
+    {
+        let mut kept = Vec::new(self.alloc);
+        kept.extend_from_slice(targets)?;
+        self.step(BuilderStep::Tableswitch(default, low, high, kept))
+    }
+
+    /// `lookupswitch`: the default label, and the pairs of a key and its label.
+    pub fn lookupswitch(&mut self, default: Label, cases: &[(i32, Label)]) -> Result<(), AllocError>
+        ensures { self.new ≡ (if is_ok result then with_step self.old (LookupSwitch default cases.now) else self.old) }
+    {
+        let mut kept = Vec::new(self.alloc);
+        kept.extend_from_slice(cases)?;
+        self.step(BuilderStep::Lookupswitch(default, kept))
     }
 
     /// A new label, not placed yet.
-    pub fn label(&mut self) -> Result<Label, AsmFault> {
-        let label = Label(self.places.len());
+    pub fn label(&mut self) -> Result<Label, AllocError>
+        ensures label { IfOk result (λ label. label.number ≡ length self.old.places) }
+        ensures added { self.new ≡ (if is_ok result then with_label self.old else self.old) }
+    {
+        let number = self.places.len();
         self.places.push(None)?;
-        Ok(label)
+        Ok(Label { number })
     }
 
-    /// Places a label before the next instruction.
-    pub fn place(&mut self, label: Label) {
-        let here = self.steps.len();
-        if let Some(place) = self.places.get_mut(label.0) {
-            *place = Some(here);
+    /// Places a label of this builder before the next instruction.
+    pub fn place(&mut self, label: Label)
+        ensures { self.new ≡ with_place self.old label.number }
+    {
+        let before = self.steps.len();
+        if label.number < self.places.len() {
+            self.places[label.number] = Some(before);
         }
     }
 
     /// A new label before the next instruction.
-    pub fn here(&mut self) -> Result<Label, AsmFault> {
+    pub fn here(&mut self) -> Result<Label, AllocError>
+        ensures label { IfOk result (λ label. label.number ≡ length self.old.places) }
+        ensures placed { OnOk result (self.new ≡ with_place (with_label self.old) (length self.old.places)) }
+        ensures refused { OnErr result (self.new ≡ self.old) }
+    {
         let label = self.label()?;
         self.place(label);
         Ok(label)
@@ -125,85 +165,63 @@ impl<'a> CodeBuilder<'a> {
         end: Label,
         handler: Label,
         catch_type: u16,
-    ) -> Result<(), AsmFault> {
-        Ok(
-            self.handlers.push(HandlerLabels {
-                start,
-                end,
-                handler,
-                catch_type,
-            })?,
-        )
+    ) -> Result<(), AllocError>
+        ensures { self.new ≡ (if is_ok result then with_handler self.old (record { start = start; end = end; handler = handler; catch_type = catch_type }) else self.old) }
+    {
+        self.handlers.push(HandlerLabels {
+            start,
+            end,
+            handler,
+            catch_type,
+        })?;
+        Ok(())
     }
 
-    /// Where each instruction starts, and where the last one ends.
-    pub(crate) fn offsets(&self) -> Result<Vec<u16>, AsmFault> {
-        let mut offsets = Vec::new(self.alloc);
-        let mut at = 0;
-        for step in &self.steps {
-            offsets.push(at)?;
-            let end = u64::from(at) + step_size(at, step);
-            if end > 65535 {
-                return Err(AsmFault::TooLarge);
-            }
-            at = end as u16;
-        }
-        offsets.push(at)?;
-        Ok(offsets)
+    /// Where the labels stand.
+    pub(crate) fn targets(&self) -> Result<Targets, AsmFault>
+        ensures offsets { IfOk result (λ t. t.offsets.items ≡ label_offsets self.now) }
+        ensures end { IfOk result (λ t. t.end ≡ end_of 0 self.now.steps) }
+        ensures short { IsOk result → end_of 0 self.now.steps ≤ 65535 }
+        ensures too_large { IfErr result (λ e. e ≡ TooLarge → ¬ IsAssembled self.now) }
+    {
+        let (starts, end) = laid_out(self.alloc, &self.steps)?;
+        let targets = Targets::new(self.alloc, &starts, end, &self.places)?;
+        Ok(targets)
     }
 
-    /// The offset of a label among these.
-    fn offset_of(&self, offsets: &[u16], label: Label) -> u16 {
-        let end = offsets.last().copied().unwrap_or(0);
-        match self.places.get(label.0) {
-            Some(Some(step)) => offsets.get(*step).copied().unwrap_or(end),
-            _ => end,
-        }
+    /// The bytes of the code, where these are the targets.
+    pub(crate) fn written(&self, targets: &Targets) -> Result<Vec<u8>, AsmFault>
+        requires offsets { targets.now.offsets.items ≡ label_offsets self.now }
+        requires end { targets.now.end ≡ end_of 0 self.now.steps }
+        requires short { end_of 0 self.now.steps ≤ 65535 }
+        ensures ok { IfOk result (λ code. code.items ≡ items_bytes 0 (assembled self.now)) }
+        ensures fits { IsOk result → IsAssembled self.now }
+        ensures too_large { IfErr result (λ e. e ≡ TooLarge → ¬ IsAssembled self.now) }
+    {
+        targets.code(self.alloc, &self.steps)
     }
 
-    fn item_of(&self, offsets: &[u16], at: u16, step: Step<'a>) -> Result<Item<'a>, AsmFault> {
-        match step {
-            Step::Item(item) => Ok(item),
-            Step::Branch(opcode, target) => {
-                let distance = i32::from(self.offset_of(offsets, target)) - i32::from(at);
-                match i16::try_from(distance) {
-                    Ok(distance) => Ok(Item::SignedHalf(opcode, distance)),
-                    Err(_) => Err(AsmFault::TooLarge),
-                }
-            }
-        }
+    /// The exception table, where these are the targets.
+    pub(crate) fn handlers(&self, targets: &Targets) -> Result<Vec<HandlerDescription>, AllocError>
+        requires offsets { targets.now.offsets.items ≡ label_offsets self.now }
+        requires end { targets.now.end ≡ end_of 0 self.now.steps }
+        ensures { IfOk result (λ table. map handler_described table.items ≡ exception_table self.now) }
+    {
+        targets.handlers(self.alloc, &self.handlers)
     }
 
     /// The bytes of the code.
     ///
     /// # Errors
     ///
-    /// `TooLarge` where there are more than 65,535 bytes or a distance does not fit two bytes.
+    /// `TooLarge` where there are more than 65,535 bytes or the distance of a branch does not fit
+    /// two bytes, and nowhere else; `Memory` where the host's memory was refused.
     pub fn code(&self) -> Result<Vec<u8>, AsmFault>
-        ensures { IfOk result (λ code. (items : List AnItem) × (code.items ≡ items_bytes 0 items) × (length code.items ≤ 65535)) }
+        ensures ok { IfOk result (λ code. code.items ≡ items_bytes 0 (assembled self.now)) }
+        ensures fits { IsOk result → IsAssembled self.now }
+        ensures too_large { IfErr result (λ e. e ≡ TooLarge → ¬ IsAssembled self.now) }
     {
-        let offsets = self.offsets()?;
-        let mut items = Vec::new(self.alloc);
-        for (step, at) in self.steps.iter().zip(&offsets) {
-            items.push(self.item_of(&offsets, *at, *step)?)?;
-        }
-        write_code(self.alloc, &items)
-    }
-
-    /// The exception table.
-    pub(crate) fn exception_table(
-        &self,
-        offsets: &[u16],
-    ) -> Result<Vec<HandlerDescription>, AsmFault> {
-        let mut table = Vec::new(self.alloc);
-        for labels in &self.handlers {
-            table.push(HandlerDescription {
-                start_pc: self.offset_of(offsets, labels.start),
-                end_pc: self.offset_of(offsets, labels.end),
-                handler_pc: self.offset_of(offsets, labels.handler),
-                catch_type: labels.catch_type,
-            })?;
-        }
-        Ok(table)
+        let targets = self.targets()?;
+        self.written(&targets)
     }
 }

@@ -6,6 +6,7 @@
 #![tactic(auto)]
 
 mod attribute;
+mod built;
 mod class_builder;
 mod code;
 mod code_builder;
@@ -16,11 +17,14 @@ mod item;
 mod law;
 mod member;
 mod part;
+mod pool_builder;
+mod step;
+mod targets;
 mod writer;
 
 pub use class_builder::{ClassBuilder, MethodBuilder};
 pub use code::{items_are_code, write_code};
-pub use code_builder::{CodeBuilder, Label};
+pub use code_builder::CodeBuilder;
 pub use description::{
     AttributeDescription, CodeDescription, Description, FieldDescription, HandlerDescription,
     MethodAttributeDescription, MethodDescription,
@@ -28,5 +32,6 @@ pub use description::{
 pub use fault::AsmFault;
 pub use item::Item;
 pub use jv_pool::Constant;
-pub use law::written_reads_back;
+pub use law::{indices_name, written_reads_back};
+pub use step::Label;
 pub use writer::write_class;

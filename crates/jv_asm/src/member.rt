@@ -59,14 +59,14 @@ fn code_length(code: &CodeDescription<'_>) -> u64
 }
 
 /// Whether the numbers of a Code attribute fit, that of its bytes among them.
-fn whole_code_right(code: &CodeDescription<'_>) -> bool
+pub(crate) fn whole_code_right(code: &CodeDescription<'_>) -> bool
     ensures { result ≡ (quad.fits (length (code_bytes (code_described code.now))) && code_fits (code_described code.now)) }
 {
     code_right(code) && code_length(code) < 4_294_967_296
 }
 
 /// A Code attribute behind its name and its length.
-fn put_named_code(
+pub(crate) fn put_named_code(
     out: &mut Vec<u8>,
     name: u16,
     code: &CodeDescription<'_>,

@@ -50,7 +50,7 @@ fn constants_right(pool: &[Constant<&[u8]>]) -> bool
     all_right(pool)
 }
 
-fn put_constants(out: &mut Vec<u8>, pool: &[Constant<&[u8]>]) -> Result<(), AllocError>
+pub(crate) fn put_constants(out: &mut Vec<u8>, pool: &[Constant<&[u8]>]) -> Result<(), AllocError>
     requires { IsTrue (list_all constant_fits (map seen pool.now)) }
     ensures { OnOk result (out.new.items ≡ out.old.items ++ flat_map constant_bytes (map seen pool.now)) }
 {
@@ -75,16 +75,22 @@ fn body_right(description: &Description<'_>) -> bool
 }
 
 /// What stands before the fields, the pool aside.
-fn put_names(out: &mut Vec<u8>, description: &Description<'_>) -> Result<(), AllocError>
-    requires { IsTrue (table_fits half.fits description.now.interfaces.now) }
-    ensures { OnOk result (out.new.items ≡ out.old.items ++ half.spelling description.now.access_flags
-        ++ half.spelling description.now.this_class ++ half.spelling description.now.super_class
-        ++ table_bytes half.spelling description.now.interfaces.now) }
+pub(crate) fn put_names(
+    out: &mut Vec<u8>,
+    access_flags: u16,
+    this_class: u16,
+    super_class: u16,
+    interfaces: &[u16],
+) -> Result<(), AllocError>
+    requires { IsTrue (table_fits half.fits interfaces.now) }
+    ensures { OnOk result (out.new.items ≡ out.old.items ++ half.spelling access_flags
+        ++ half.spelling this_class ++ half.spelling super_class
+        ++ table_bytes half.spelling interfaces.now) }
 {
-    put_half(out, description.access_flags)?;
-    put_half(out, description.this_class)?;
-    put_half(out, description.super_class)?;
-    put_table(out, description.interfaces)
+    put_half(out, access_flags)?;
+    put_half(out, this_class)?;
+    put_half(out, super_class)?;
+    put_table(out, interfaces)
 }
 
 /// What stands behind the pool.
@@ -92,7 +98,13 @@ fn put_body(out: &mut Vec<u8>, description: &Description<'_>) -> Result<(), Allo
     requires { IsTrue (body_fits (described description.now)) }
     ensures { OnOk result (out.new.items ≡ out.old.items ++ body_bytes (described description.now)) }
 {
-    put_names(out, description)?;
+    put_names(
+        out,
+        description.access_flags,
+        description.this_class,
+        description.super_class,
+        description.interfaces,
+    )?;
     put_fields(out, description.fields)?;
     put_methods(out, description.methods)?;
     put_attributes(out, description.attributes)
@@ -108,7 +120,7 @@ fn put_pool(out: &mut Vec<u8>, pool: &[Constant<&[u8]>]) -> Result<(), AllocErro
 }
 
 /// What stands before the pool.
-fn put_header(out: &mut Vec<u8>, minor: u16, major: u16) -> Result<(), AllocError>
+pub(crate) fn put_header(out: &mut Vec<u8>, minor: u16, major: u16) -> Result<(), AllocError>
     ensures { OnOk result (out.new.items ≡ out.old.items ++ magic ++ half.spelling minor ++ half.spelling major) }
 {
     out.extend_from_slice(&[0xca, 0xfe, 0xba, 0xbe])?;
