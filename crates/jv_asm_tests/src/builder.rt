@@ -1,97 +1,170 @@
 //! The builders.
 
-use jv_asm::{AsmFault, ClassBuilder, CodeBuilder, Constant, Item};
+use jv_asm::{AsmFault, ClassBuilder, CodeBuilder, Constant, Item, indices_name};
 use std::test::Fail;
+
+#[test]
+fn law() {
+    indices_name();
+}
+
+/// The bytes of code, or none.
+fn has_code(code: &CodeBuilder<'_>, bytes: &[u8]) -> bool {
+    match code.code() {
+        Ok(written) => written.as_slice() == bytes,
+        Err(_) => false,
+    }
+}
 
 #[test]
 fn labels(rt: HostRuntime) -> Result<(), Fail> {
     let mut code = CodeBuilder::new(rt.alloc());
     let end = code.label()?;
     let top = code.here()?;
-    code.byte(21, 7)?;
-    code.branch(153, end)?;
-    code.sipush(300)?;
-    code.item(Item::Tableswitch(0, 0, 0, &[1]))?;
-    code.branch(167, top)?;
+    assert!(rt; code.byte(21, 7).is_ok());
+    assert!(rt; code.branch(153, end).is_ok());
+    assert!(rt; code.sipush(300).is_ok());
+    assert!(rt; code.item(Item::Tableswitch(0, 0, 0, &[1])).is_ok());
+    assert!(rt; code.branch(167, top).is_ok());
     code.place(end);
-    code.plain(177)?;
-    code.handler(top, end, end, 0)?;
-    assert_eq!(rt;
-        code.code()?.as_slice(),
-        b"\x15\x07\x99\x00\x1d\x11\x01\x2c\xaa\x00\x00\x00\x00\x00\x00\x00\x00\x00\x00\x00\x00\x00\x00\x00\x00\x00\x00\x01\xa7\xff\xe4\xb1".as_slice()
+    assert!(rt; code.plain(177).is_ok());
+    assert!(rt; code.handler(top, end, end, 0).is_ok());
+    assert!(rt;
+        has_code(
+            &code,
+            b"\x15\x07\x99\x00\x1d\x11\x01\x2c\xaa\x00\x00\x00\x00\x00\x00\x00\x00\x00\x00\x00\x00\x00\x00\x00\x00\x00\x00\x01\xa7\xff\xe4\xb1"
+        )
     );
     Ok(())
 }
 
 #[test]
-fn far_branches(rt: HostRuntime) -> Result<(), Fail> {
-    for (between, fits) in [(32764, true), (32765, false)] {
-        let mut code = CodeBuilder::new(rt.alloc());
-        let end = code.label()?;
-        code.branch(167, end)?;
-        for _ in 0..between {
-            code.plain(0)?;
-        }
-        code.place(end);
-        code.plain(177)?;
-        match code.code() {
-            Ok(_) => assert!(rt; fits),
-            Err(fault) => assert!(rt; !fits && matches!(fault, AsmFault::TooLarge)),
-        }
-    }
+fn switches(rt: HostRuntime) -> Result<(), Fail> {
+    let mut code = CodeBuilder::new(rt.alloc());
+    let zero = code.label()?;
+    let one = code.label()?;
+    let other = code.label()?;
+    assert!(rt; code.byte(21, 7).is_ok());
+    assert!(rt; code.tableswitch(other, 5, 6, &[zero, one]).is_ok());
+    code.place(zero);
+    assert!(rt; code.byte(21, 7).is_ok());
+    assert!(rt; code.lookupswitch(other, &[(-7, one), (9, zero)]).is_ok());
+    code.place(one);
+    assert!(rt; code.plain(177).is_ok());
+    assert!(rt;
+        has_code(
+            &code,
+            b"\x15\x07\xaa\x00\x00\x00\x003\x00\x00\x00\x05\x00\x00\x00\x06\x00\x00\x00\x16\x00\x00\x002\x15\x07\xab\x00\x00\x00\x00\x1b\x00\x00\x00\x02\xff\xff\xff\xf9\x00\x00\x00\x1a\x00\x00\x00\x09\xff\xff\xff\xfe\xb1"
+        )
+    );
     Ok(())
+}
+
+/// Whether code is written, where a branch goes over so many bytes.
+fn goes_over(code: &mut CodeBuilder<'_>, between: u32) -> &'static str {
+    let Ok(end) = code.label() else {
+        return "Memory";
+    };
+    let _ = code.branch(167, end);
+    for _ in 0..between {
+        let _ = code.plain(0);
+    }
+    code.place(end);
+    let _ = code.plain(177);
+    match code.code() {
+        Ok(_) => "written",
+        Err(AsmFault::TooLarge) => "TooLarge",
+        Err(AsmFault::Memory) => "Memory",
+    }
+}
+
+#[test]
+fn far_branches(rt: HostRuntime) {
+    let mut near = CodeBuilder::new(rt.alloc());
+    assert!(rt; goes_over(&mut near, 32764) == "written");
+    let mut far = CodeBuilder::new(rt.alloc());
+    assert!(rt; goes_over(&mut far, 32765) == "TooLarge");
+}
+
+/// Whether a call gave this index.
+fn is_at(found: Result<u16, AsmFault>, index: u16) -> bool {
+    match found {
+        Ok(found) => found == index,
+        Err(_) => false,
+    }
 }
 
 #[test]
 fn constants(rt: HostRuntime) -> Result<(), Fail> {
     let mut class = ClassBuilder::root(rt.alloc(), 0x21, b"A")?;
-    let long = class.long(-2)?;
-    let int = class.integer(-2)?;
-    let text = class.string(b"A")?;
-    let field = class.fieldref(b"A", b"f", b"I")?;
-    let method = class.interface_methodref(b"A", b"m", b"()V")?;
-    assert_eq!(rt;
-        [long, int, text, field, method].as_slice(),
-        [3, 5, 6, 10, 14].as_slice()
-    );
-    assert_eq!(rt; class.long(-2)?, 3);
-    assert_eq!(rt; class.integer(-2)?, 5);
-    assert_eq!(rt; class.integer(2)?, 15);
-    assert_eq!(rt; class.utf8(b"A")?, 1);
-    assert_eq!(rt; class.class(b"A")?, 2);
-    assert_eq!(rt; class.name_and_type(b"f", b"I")?, 9);
-    assert_eq!(rt; class.constant(Constant::Float(0))?, 16);
+    assert!(rt; is_at(class.long(-2), 3));
+    assert!(rt; is_at(class.integer(-2), 5));
+    assert!(rt; is_at(class.string(b"A"), 6));
+    assert!(rt; is_at(class.fieldref(b"A", b"f", b"I"), 10));
+    assert!(rt; is_at(class.interface_methodref(b"A", b"m", b"()V"), 14));
+    assert!(rt; is_at(class.long(-2), 3));
+    assert!(rt; is_at(class.integer(-2), 5));
+    assert!(rt; is_at(class.integer(2), 15));
+    assert!(rt; is_at(class.utf8(b"A"), 1));
+    assert!(rt; is_at(class.class(b"A"), 2));
+    assert!(rt; is_at(class.name_and_type(b"f", b"I"), 9));
+    assert!(rt; is_at(class.methodref(b"A", b"f", b"I"), 16));
+    assert!(rt; is_at(class.constant(Constant::Float(0)), 17));
     Ok(())
+}
+
+/// Whether ints fill the pool of a class up to its last index, and no further.
+fn fills_the_pool(class: &mut ClassBuilder<'_>) -> bool {
+    for value in 0..65532u16 {
+        if !is_at(class.integer(i32::from(value)), value + 3) {
+            return false;
+        }
+    }
+    matches!(class.integer(65532), Err(AsmFault::TooLarge)) && is_at(class.integer(65531), 65534)
+}
+
+/// The length of the file of a class, or 0.
+fn length_of(class: &ClassBuilder<'_>) -> usize {
+    match class.finish() {
+        Ok(file) => file.len(),
+        Err(_) => 0,
+    }
 }
 
 #[test]
 fn full_pool(rt: HostRuntime) -> Result<(), Fail> {
     let mut class = ClassBuilder::root(rt.alloc(), 0x21, b"A")?;
-    for value in 0..65532u16 {
-        assert_eq!(rt; class.integer(i32::from(value))?, value + 3);
-    }
-    assert!(rt; matches!(class.integer(65532), Err(AsmFault::TooLarge)));
-    assert_eq!(rt; class.integer(65531)?, 65534);
-    assert_eq!(rt; class.finish()?.len(), 24 + 4 + 3 + 5 * 65532);
+    assert!(rt; fills_the_pool(&mut class));
+    assert!(rt; length_of(&class) == 24 + 4 + 3 + 5 * 65532);
     Ok(())
+}
+
+/// Whether the file of a class has these bytes.
+fn has_file(class: &ClassBuilder<'_>, bytes: &[u8]) -> bool {
+    match class.finish() {
+        Ok(file) => file.as_slice() == bytes,
+        Err(_) => false,
+    }
 }
 
 #[test]
 fn parts(rt: HostRuntime) -> Result<(), Fail> {
     let mut class = ClassBuilder::root(rt.alloc(), 0x600, b"A")?;
-    class.interface(b"A")?;
-    class.field(0x19, b"A", b"I", &[])?;
-    class.bodiless(0x401, b"A", b"I")?;
+    assert!(rt; class.interface(b"A").is_ok());
+    assert!(rt; class.field(0x19, b"A", b"I", &[]).is_ok());
+    assert!(rt; class.bodiless(0x401, b"A", b"I").is_ok());
     let mut method = class.begin(1, b"A", b"I")?;
     let start = method.code.here()?;
-    method.code.plain(177)?;
+    assert!(rt; method.code.plain(177).is_ok());
     let end = method.code.here()?;
-    method.code.handler(start, end, start, 2)?;
-    class.end(method, 3, 4, Some(b"\x00\x00"))?;
-    class.attribute(b"A", b"x")?;
-    assert_eq!(rt;
-        class.finish()?.as_slice(),
-        b"\xca\xfe\xba\xbe\x00\x00\x004\x00\x06\x01\x00\x01A\x07\x00\x01\x01\x00\x01I\x01\x00\x04Code\x01\x00\x0dStackMapTable\x06\x00\x00\x02\x00\x00\x00\x01\x00\x02\x00\x01\x00\x19\x00\x01\x00\x03\x00\x00\x00\x02\x04\x01\x00\x01\x00\x03\x00\x00\x00\x01\x00\x01\x00\x03\x00\x01\x00\x04\x00\x00\x00\x1d\x00\x03\x00\x04\x00\x00\x00\x01\xb1\x00\x01\x00\x00\x00\x01\x00\x00\x00\x02\x00\x01\x00\x05\x00\x00\x00\x02\x00\x00\x00\x01\x00\x01\x00\x00\x00\x01x".as_slice()
+    assert!(rt; method.code.handler(start, end, start, 2).is_ok());
+    assert!(rt; class.end(method, 3, 4, Some(b"\x00\x00")).is_ok());
+    assert!(rt; class.attribute(b"A", b"x").is_ok());
+    assert!(rt;
+        has_file(
+            &class,
+            b"\xca\xfe\xba\xbe\x00\x00\x004\x00\x06\x01\x00\x01A\x07\x00\x01\x01\x00\x01I\x01\x00\x04Code\x01\x00\x0dStackMapTable\x06\x00\x00\x02\x00\x00\x00\x01\x00\x02\x00\x01\x00\x19\x00\x01\x00\x03\x00\x00\x00\x02\x04\x01\x00\x01\x00\x03\x00\x00\x00\x01\x00\x01\x00\x03\x00\x01\x00\x04\x00\x00\x00\x1d\x00\x03\x00\x04\x00\x00\x00\x01\xb1\x00\x01\x00\x00\x00\x01\x00\x00\x00\x02\x00\x01\x00\x05\x00\x00\x00\x02\x00\x00\x00\x01\x00\x01\x00\x00\x00\x01x"
+        )
     );
     Ok(())
 }
