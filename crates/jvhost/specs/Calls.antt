@@ -59,6 +59,10 @@ pub record IsCutTurn (old new : List Admission) (id n k : ℕ) : Type 0 where
   pub countable : guest.steps + k < 2 ^ 64 - 1
   pub after : new ≡ stepped old id k
 
+-- A guest had its turns: together they were one turn of at most 10,000,000 steps.
+abbrev pub IsPlayed : (old new : List Admission) (id : ℕ) → Type 0
+IsPlayed old new id = (k : ℕ) × IsTurn old new id 10000000 k
+
 -- ---- observations
 
 -- the guest with a number shows what it shows alone after as many of its own steps

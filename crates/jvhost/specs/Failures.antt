@@ -1,6 +1,7 @@
 -- What ends the program without a report.
-use Rattle.std.specs.Prelude.{◌≡◌, ◌≢◌, ℕ, List, ◌∷◌, [], ◌++◌, codes, Option, Some, None}
+use Rattle.std.specs.Prelude.{◌≡◌, ◌≢◌, ◌⊎◌, ℕ, List, ◌∷◌, [], ◌++◌, codes, Option, Some, None}
 use Rattle.clap.specs.Values.{kind_of}
+use Rattle.clap.specs.declared.error.kind.ErrorKind.{ErrorKind}
 use Rattle.clap.specs.declared.error.kind.ErrorKind.TheVariants as kinds
 use Rattle.jvhost.specs.declared.thin.fault.AdmitFault.{AdmitFault}
 use Rattle.jvhost.specs.declared.thin.fault.AdmitFault.TheVariants as refusals
@@ -15,9 +16,14 @@ abbrev pub refusal_status : AdmitFault → ℕ
 refusal_status refusals.HostMemory = 4
 refusal_status _ = 3
 
--- the status that goes with a failure; a wrong command line has 2
+-- words that ask for help or the version have the status 0, and those of a wrong command line 2
+pub record HasWordStatus (kind : ErrorKind) (status : ℕ) : Type 0 where
+  pub wrong : kind ≢ kinds.DisplayHelp → kind ≢ kinds.DisplayVersion → status ≡ 2
+  pub asked : (kind ≡ kinds.DisplayHelp) ⊎ (kind ≡ kinds.DisplayVersion) → status ≡ 0
+
+-- the status that goes with a failure
 abbrev pub HasStatus : Failure → ℕ → Type 0
-HasStatus (CommandLine error) status = kind_of error ≢ kinds.DisplayHelp → kind_of error ≢ kinds.DisplayVersion → status ≡ 2
+HasStatus (CommandLine error) status = HasWordStatus (kind_of error) status
 HasStatus (Unreadable name) status = status ≡ 3
 HasStatus (Refused fault) status = status ≡ refusal_status fault
 HasStatus (Stopped fault) status = status ≡ 4

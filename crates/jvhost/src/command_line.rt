@@ -1,6 +1,7 @@
 //! The command line.
-ghost use Rattle.std.specs.Prelude.{◌≡◌, ◌≢◌};
+ghost use Rattle.std.specs.Prelude.{◌≡◌, ◌≢◌, IfOk};
 ghost use Rattle.clap.specs.Values.{kind_of};
+ghost use Rattle.jvhost.specs.Failures.{HasStatus};
 
 use crate::failure::Failure;
 use clap::error::ErrorKind;
@@ -25,7 +26,9 @@ fn command<'a>(alloc: Global) -> Result<Command<'a>, AllocError> {
 }
 
 /// The failure where a word is no text.
-fn not_text(alloc: Global) -> Result<Failure, AllocError> {
+fn not_text(alloc: Global) -> Result<Failure, AllocError>
+    ensures { IfOk result (λ failure. HasStatus failure 2) }
+{
     let mut command = command(alloc)?;
     let message = "invalid UTF-8 was found in one or more arguments";
     let error = command.error(ErrorKind::InvalidValue, message)?;

@@ -1,6 +1,13 @@
 //! What a folder holds of a guest.
-ghost use Rattle.std.specs.Prelude.{◌≡◌, ◌≢◌, ◌+◌, ◌<◌, ◌^◌, ◌∷◌, ◌++◌, IfOk};
+ghost use Rattle.std.specs.Prelude.{◌≡◌, ◌≢◌, ◌≤◌, ◌+◌, ◌<◌, ◌^◌, [], ◌∷◌, ◌++◌, All, IfOk, IsSorted, IsTrue, codes, false, map, nat_eq, vec_len};
+ghost use Rattle.std.specs.Cmp.Lexicographic.{slice_cmp};
 ghost use Rattle.std.specs.IoError.{error_kind};
+ghost use Rattle.std.specs.List.{list_any};
+ghost use Rattle.std.specs.Ordering.{nat_cmp};
+ghost use lib.Pointwise.{pointwise};
+ghost use Rattle.jv_meaning.specs.Guest.{bytes_of};
+ghost use Rattle.jvhost.specs.Folder.{file_name};
+ghost use Rattle.jvhost.specs.Names.{is_class_file};
 
 use crate::failure::Failure;
 use crate::file::read_past_limit;
@@ -62,9 +69,10 @@ fn failure_at(name: Vec<u8>, error: &Error) -> Failure
     }
 }
 
-/// The bytes of the file at a path.
+/// The bytes of the file at a path, or one more than the limit where there are more than that.
 fn bytes_at<R: Files + AllocGlobal>(rt: &R, path: &[u8], limit: usize) -> io::Result<Vec<u8>>
     requires { limit + 2 < 2 ^ 64 }
+    ensures { IfOk result (λ bytes. vec_len bytes ≤ limit + 1) }
 {
     let Ok(path) = std::str::from_utf8(path) else {
         return Err(Error::from(ErrorKind::InvalidFilename));
@@ -81,6 +89,7 @@ fn read_file<R: Files + AllocGlobal>(
     limit: usize,
 ) -> Result<Vec<u8>, Failure>
     requires { limit + 2 < 2 ^ 64 }
+    ensures { IfOk result (λ bytes. vec_len bytes ≤ limit + 1) }
 {
     let path = path_in(rt.alloc(), folder, name)?;
     match bytes_at(rt, path.as_slice(), limit) {
@@ -115,7 +124,10 @@ fn read_class_file<R: Files + AllocGlobal>(
     rt: &R,
     folder: &str,
     name: &[u8],
-) -> Result<ClassFile, Failure> {
+) -> Result<ClassFile, Failure>
+    ensures named { IfOk result (λ file. file_name file ≡ name.now) }
+    ensures most { IfOk result (λ file. vec_len file.bytes ≤ 4194305) }
+{
     let bytes = read_file(rt, folder, name, CLASS_FILE_LIMIT)?;
     let name = Vec::from_slice(rt.alloc(), name)?;
     Ok(ClassFile { name, bytes })
@@ -126,7 +138,9 @@ fn read_class_files<R: Files + AllocGlobal>(
     rt: &R,
     folder: &str,
     names: &[&[u8]],
-) -> Result<Vec<ClassFile>, Failure> {
+) -> Result<Vec<ClassFile>, Failure>
+    ensures { IfOk result (λ files. map file_name files.items ≡ map bytes_of names.now) }
+{
     let mut class_files = Vec::new(rt.alloc());
     for name in names {
         let class_file = read_class_file(rt, folder, name)?;
@@ -136,7 +150,9 @@ fn read_class_files<R: Files + AllocGlobal>(
 }
 
 /// The bytes of the file `main`; one that is longer than the limit can't be read.
-fn read_main<R: Files + AllocGlobal>(rt: &R, folder: &str) -> Result<Vec<u8>, Failure> {
+fn read_main<R: Files + AllocGlobal>(rt: &R, folder: &str) -> Result<Vec<u8>, Failure>
+    ensures { IfOk result (λ main. vec_len main ≤ 4194304) }
+{
     let main = read_file(rt, folder, b"main", CLASS_FILE_LIMIT)?;
     if main.len() > CLASS_FILE_LIMIT {
         return Err(Failure::Unreadable(path_in(rt.alloc(), folder, b"main")?));
@@ -149,7 +165,11 @@ fn read_input<R: Files + AllocGlobal>(
     rt: &R,
     folder: &str,
     names: &[&[u8]],
-) -> Result<Vec<u8>, Failure> {
+) -> Result<Vec<u8>, Failure>
+    ensures most { IfOk result (λ input. vec_len input ≤ 16777217) }
+    ensures absent { list_any (λ name. pointwise nat_eq name.now (codes "input")) names.now ≡ false
+        → IfOk result (λ input. input.items ≡ []) }
+{
     if has_name(names, b"input") {
         read_file(rt, folder, b"input", INPUT_LIMIT)
     } else {
@@ -159,7 +179,14 @@ fn read_input<R: Files + AllocGlobal>(
 
 /// Reads a folder: its listing, its class files in byte order of their names, its file `main`, and
 /// its file `input` where there is one. What fails first is the failure.
-pub fn read_folder<R: Files + AllocGlobal>(rt: &R, folder: &str) -> Result<Folder, Failure> {
+pub fn read_folder<R: Files + AllocGlobal>(rt: &R, folder: &str) -> Result<Folder, Failure>
+    ensures named { IfOk result (λ found.
+        All (λ name. IsTrue (is_class_file name)) (map file_name found.class_files.items)) }
+    ensures order { IfOk result (λ found.
+        IsSorted (slice_cmp nat_cmp) (map file_name found.class_files.items)) }
+    ensures main { IfOk result (λ found. vec_len found.main ≤ 4194304) }
+    ensures input { IfOk result (λ found. vec_len found.input ≤ 16777217) }
+{
     let listing = read_listing(rt, folder)?;
     let names = names_in(rt.alloc(), listing.as_slice())?;
     let class_names = class_file_names(rt.alloc(), names.as_slice())?;

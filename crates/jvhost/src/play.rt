@@ -1,8 +1,13 @@
 //! A guest's turns.
+ghost use Rattle.std.specs.Prelude.{◌≡◌, ◌↔◌, IfOk, IsTrue, OnOk};
+ghost use Rattle.jv_meaning.specs.Guest.{Observed};
+ghost use Rattle.jv_meaning.specs.declared.observation.End.TheVariants.{Running};
+ghost use Rattle.jvhost.specs.Calls.{IsPlayed, IsShown};
 
 use crate::failure::Failure;
 use crate::thin::{GuestId, Host};
 use jv_meaning::End;
+use jv_meaning::thin::law::shows_one_thing;
 
 /// How many steps a turn has.
 const QUANTUM: u32 = 1_000;
@@ -11,13 +16,18 @@ const QUANTUM: u32 = 1_000;
 const ROUNDS: u32 = 10_000;
 
 /// Whether a guest takes steps.
-fn is_running(host: &Host<'_>, id: GuestId) -> Result<bool, Failure> {
+fn is_running(host: &Host<'_>, id: GuestId) -> Result<bool, Failure>
+    ensures { IfOk result (λ running. (o : Observed) × IsShown host.now id.0 o × (IsTrue running ↔ (o.end ≡ Running))) }
+{
     let seen = host.observe(id)?;
     Ok(matches!(&seen.end, End::Running))
 }
 
 /// Gives a guest turns until it has ended, or has had as many as there are.
-pub fn play(host: &mut Host<'_>, id: GuestId) -> Result<(), Failure> {
+pub fn play(host: &mut Host<'_>, id: GuestId) -> Result<(), Failure>
+    ensures { OnOk result (IsPlayed host.old host.new id.0) }
+{
+    shows_one_thing();
     for _ in 0..ROUNDS {
         if !is_running(host, id)? {
             break;

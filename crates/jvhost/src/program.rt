@@ -1,10 +1,13 @@
 //! The program: from the words of the command line to the report and the status.
-ghost use Rattle.std.specs.Prelude.{◌≡◌, IfOk, string_bytes};
+ghost use Rattle.std.specs.Prelude.{◌≡◌, IfOk, map, string_bytes};
+ghost use Rattle.jv_meaning.specs.Guest.{bytes_of, guest_of};
+ghost use Rattle.jvhost.specs.Folder.{file_bytes, file_name};
+ghost use Rattle.jvhost.specs.Outcome.{IsOutcome, IsReported};
 ghost use Rattle.jvhost.specs.Report.{end_status, report_text};
 
 use crate::command_line::{folder_named, words};
 use crate::failure::{Failure, status_of};
-use crate::folder::{Folder, read_folder};
+use crate::folder::{ClassFile, Folder, read_folder};
 use crate::main_name::main_name;
 use crate::play::play;
 use crate::report::Report;
@@ -57,28 +60,57 @@ fn outcome_of(
     Ok(Outcome { report, status })
 }
 
-/// Runs a folder's guest to its end, or as long as there are turns.
-fn run_guest(alloc: Global, word: &str, folder: &Folder) -> Result<Outcome, Failure> {
-    let files: Vec<&[u8]> = folder
-        .class_files
-        .iter()
-        .map(|file| file.bytes.as_slice())
-        .collect(alloc)?;
-    let names: Vec<&[u8]> = folder
-        .class_files
-        .iter()
-        .map(|file| file.name.as_slice())
-        .collect(alloc)?;
+/// The bytes of class files.
+fn bytes_in<'a>(alloc: Global, files: &'a [ClassFile]) -> Result<Vec<&'a [u8]>, AllocError>
+    ensures { IfOk result (λ found. map bytes_of found.items ≡ map file_bytes files.now) }
+{
+    let mut found = Vec::new(alloc);
+    for file in files {
+        found.push(file.bytes.as_slice())?;
+    }
+    Ok(found)
+}
+
+/// The names of class files.
+fn names_in<'a>(alloc: Global, files: &'a [ClassFile]) -> Result<Vec<&'a [u8]>, AllocError>
+    ensures { IfOk result (λ found. map bytes_of found.items ≡ map file_name files.now) }
+{
+    let mut found = Vec::new(alloc);
+    for file in files {
+        found.push(file.name.as_slice())?;
+    }
+    Ok(found)
+}
+
+/// Runs a guest to its end, or as long as there are turns, and reports it with these names of its
+/// files.
+fn run_guest(
+    alloc: Global,
+    word: &str,
+    names: &[&[u8]],
+    guest: GuestFiles<'_>,
+) -> Result<Outcome, Failure>
+    ensures { IfOk result (λ outcome. IsReported word.now names.now (guest_of guest.entry) outcome) }
+{
+    let mut host = Host::new(alloc);
+    let id = host.admit(guest, BUDGET)?;
+    play(&mut host, id)?;
+    let seen = host.observe(id)?;
+    Ok(outcome_of(alloc, word, names, seen)?)
+}
+
+/// Runs a folder's guest.
+fn run_folder(alloc: Global, word: &str, folder: &Folder) -> Result<Outcome, Failure>
+    ensures { IfOk result (λ outcome. IsOutcome word.now folder.now outcome) }
+{
+    let files = bytes_in(alloc, folder.class_files.as_slice())?;
+    let names = names_in(alloc, folder.class_files.as_slice())?;
     let guest = GuestFiles {
         files: files.as_slice(),
         main: main_name(folder.main.as_slice()),
         input: folder.input.as_slice(),
     };
-    let mut host = Host::new(alloc);
-    let id = host.admit(guest, BUDGET)?;
-    play(&mut host, id)?;
-    let seen = host.observe(id)?;
-    Ok(outcome_of(alloc, word, names.as_slice(), seen)?)
+    run_guest(alloc, word, names.as_slice(), guest)
 }
 
 /// Does what the words of the command line say.
@@ -86,7 +118,7 @@ fn carry_out<R: Files + Env + AllocGlobal>(rt: &R) -> Result<Outcome, Failure> {
     let words = words(rt)?;
     let word = folder_named(rt.alloc(), words.as_slice())?;
     let folder = read_folder(rt, word)?;
-    run_guest(rt.alloc(), word, &folder)
+    run_folder(rt.alloc(), word, &folder)
 }
 
 /// Prints a failure, where the words ask for help on standard output and else on standard error.

@@ -83,6 +83,7 @@ impl<'a> Admitted<'a> {
         ensures most { IfOk result (λ k. k ≤ n) }
         ensures before { IfOk result (λ k. WasRunning self.old k) }
         ensures full { IfOk result (λ k. IsFullTurn self.old n k) }
+        ensures countable { IfOk result (λ k. self.old.steps + k < 2 ^ 64) }
         ensures err { IfErr result (λ e. self.new ≡ record self.old { steps = self.old.steps + e.taken }) }
         ensures early { IfErr result (λ e. e.taken < n) }
         ensures running { IfErr result (λ e. WasRunning self.old (e.taken + 1)) }

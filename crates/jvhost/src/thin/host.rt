@@ -1,6 +1,6 @@
 //! The thin host.
 
-ghost use Rattle.std.specs.Prelude.{◌≡◌, ◌≢◌, ◌↔◌, ◌++◌, [], ◌∷◌, ℕ, Some, None, Err, OnOk, OnErr, IfOk, IfErr, IfSome, IsErr, length, slice_get};
+ghost use Rattle.std.specs.Prelude.{◌≡◌, ◌≢◌, ◌↔◌, ◌+◌, ◌<◌, ◌^◌, ◌++◌, [], ◌∷◌, ℕ, Some, None, Err, OnOk, OnErr, IfOk, IfErr, IfSome, IsErr, length, slice_get};
 ghost use Rattle.jv_meaning.specs.Guest.{guest_of, observed};
 ghost use Rattle.jvhost.specs.Host.{IsStuckAfter};
 ghost use Rattle.jvhost.specs.Calls.{admission, first_refusal, IsTurn, IsCutTurn, IsShown, AreShown};
@@ -74,6 +74,7 @@ impl<'a> Host<'a> {
     /// is over, or has taken 2^64 - 1 steps.
     pub fn turn(&mut self, id: GuestId, n: u32) -> Result<u64, TurnFault>
         ensures ok { IfOk result (λ k. IsTurn self.old self.new id.0 n k) }
+        ensures countable { IfOk result (λ k. IfSome (slice_get self.old id.0) (λ a. a.steps + k < 2 ^ 64)) }
         ensures no_guest { (result ≡ Err TurnFault.NoGuest) ↔ (slice_get self.old id.0 ≡ None) }
         ensures same { result ≡ Err TurnFault.NoGuest → self.new ≡ self.old }
 

@@ -1,0 +1,8 @@
+use Rattle.jv_meaning.specs.Guest.{guest_of}
+use Rattle.jvhost.proofs.Outcomes.{reported}
+use Rattle.jvhost.proofs.program.run_guest.Goals as goal
+
+pub returns : goal.returns
+returns c =
+    reported c.args.word.now c.args.names.now (guest_of c.args.guest) c.new-host.result c.admit.new.self c.play.new.host c.in_ok-id.id.0 c.in_ok-seen.seen c.in_ok-outcome_of.field-0
+    c.new-host.ensures c.in_ok-id.ensures.number c.in_ok-id.ensures.admitted c.in_ok-play.ensures c.in_ok-seen.ensures.ok c.in_ok-outcome_of.ensures.report c.in_ok-outcome_of.ensures.status
