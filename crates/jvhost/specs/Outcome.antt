@@ -1,12 +1,16 @@
 -- What the program says of the guest of a folder.
-use Rattle.std.specs.Prelude.{◌≡◌, ℕ, ◌<◌, ◌≤◌, List, map, string_bytes}
+use Rattle.std.specs.Prelude.{◌≡◌, ◌≢◌, ⊤, Some, ℕ, ◌<◌, ◌≤◌, List, map, string_bytes}
 use Rattle.std.specs.Borrow.{Bor}
 use Rattle.jv_meaning.specs.declared.guest.Budget.{Budget}
 use Rattle.jv_meaning.specs.declared.observation.Observation.{Observation}
 use Rattle.jv_meaning.specs.Guest.{Guest, bytes_of, observed}
 use Rattle.jv_meaning.specs.Thin.Alone.{Shows, IsOverAfter}
+use Rattle.jvhost.specs.declared.failure.Failure.{Failure}
+use Rattle.jvhost.specs.declared.failure.Failure.TheVariants.{CommandLine, Unreadable, Refused, Stopped, Unknown, Memory}
 use Rattle.jvhost.specs.declared.folder.Folder.{Folder}
 use Rattle.jvhost.specs.declared.program.Outcome.{Outcome}
+use Rattle.jvhost.specs.declared.thin.fault.AdmitFault.TheVariants.{HostMemory}
+use Rattle.jvhost.specs.Calls.{first_refusal}
 use Rattle.jvhost.specs.Folder.{file_name, guest_in}
 use Rattle.jvhost.specs.Report.{report_text, end_status}
 
@@ -24,6 +28,16 @@ pub record IsReported (word : List ℕ) (names : List (Bor (List ℕ))) (g : Gue
   pub over : steps < 10000000 → IsOverAfter g budget steps
   pub report : string_bytes outcome.report ≡ report_text word names seen
   pub status : outcome.status ≡ end_status seen.end
+
+-- Why there is no report on a guest: the host's memory was short, its turns were stopped, or the host refused it, for the
+-- first reason that applies.
+abbrev pub IsGuestFailure : Guest → Failure → Type 0
+IsGuestFailure g (CommandLine error) = ⊥
+IsGuestFailure g (Unreadable name) = ⊥
+IsGuestFailure g (Refused fault) = fault ≢ HostMemory → first_refusal g budget 0 ≡ Some fault
+IsGuestFailure g (Stopped fault) = ⊤
+IsGuestFailure g Unknown = ⊤
+IsGuestFailure g Memory = ⊤
 
 -- ---- a folder's
 

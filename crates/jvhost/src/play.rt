@@ -1,8 +1,10 @@
 //! A guest's turns.
-ghost use Rattle.std.specs.Prelude.{◌≡◌, ◌↔◌, IfOk, IsTrue, OnOk};
-ghost use Rattle.jv_meaning.specs.Guest.{Observed};
+ghost use Rattle.std.specs.Prelude.{◌≡◌, ◌↔◌, IfErr, IfOk, IsTrue, OnOk};
+ghost use Rattle.jv_meaning.specs.Guest.{Guest, Observed};
 ghost use Rattle.jv_meaning.specs.declared.observation.End.TheVariants.{Running};
 ghost use Rattle.jvhost.specs.Calls.{IsPlayed, IsShown};
+ghost use Rattle.jvhost.specs.Outcome.{IsGuestFailure};
+ghost use Rattle.jvhost.specs.declared.failure.Failure.TheVariants.{Unknown};
 
 use crate::failure::Failure;
 use crate::thin::{GuestId, Host};
@@ -17,7 +19,8 @@ const ROUNDS: u32 = 10_000;
 
 /// Whether a guest takes steps.
 fn is_running(host: &Host<'_>, id: GuestId) -> Result<bool, Failure>
-    ensures { IfOk result (λ running. (o : Observed) × IsShown host.now id.0 o × (IsTrue running ↔ (o.end ≡ Running))) }
+    ensures ok { IfOk result (λ running. (o : Observed) × IsShown host.now id.0 o × (IsTrue running ↔ (o.end ≡ Running))) }
+    ensures err { IfErr result (λ failure. failure ≡ Unknown) }
 {
     let seen = host.observe(id)?;
     Ok(matches!(&seen.end, End::Running))
@@ -25,7 +28,8 @@ fn is_running(host: &Host<'_>, id: GuestId) -> Result<bool, Failure>
 
 /// Gives a guest turns until it has ended, or has had as many as there are.
 pub fn play(host: &mut Host<'_>, id: GuestId) -> Result<(), Failure>
-    ensures { OnOk result (IsPlayed host.old host.new id.0) }
+    ensures ok { OnOk result (IsPlayed host.old host.new id.0) }
+    ensures err { IfErr result (λ failure. (g : Guest) → IsGuestFailure g failure) }
 {
     shows_one_thing();
     for _ in 0..ROUNDS {

@@ -1,8 +1,8 @@
 //! The program: from the words of the command line to the report and the status.
-ghost use Rattle.std.specs.Prelude.{◌≡◌, IfOk, map, string_bytes};
+ghost use Rattle.std.specs.Prelude.{◌≡◌, IfErr, IfOk, map, string_bytes};
 ghost use Rattle.jv_meaning.specs.Guest.{bytes_of, guest_of};
-ghost use Rattle.jvhost.specs.Folder.{file_bytes, file_name};
-ghost use Rattle.jvhost.specs.Outcome.{IsOutcome, IsReported};
+ghost use Rattle.jvhost.specs.Folder.{file_bytes, file_name, guest_in};
+ghost use Rattle.jvhost.specs.Outcome.{IsGuestFailure, IsOutcome, IsReported};
 ghost use Rattle.jvhost.specs.Report.{end_status, report_text};
 
 use crate::command_line::{folder_named, words};
@@ -90,7 +90,8 @@ fn run_guest(
     names: &[&[u8]],
     guest: GuestFiles<'_>,
 ) -> Result<Outcome, Failure>
-    ensures { IfOk result (λ outcome. IsReported word.now names.now (guest_of guest.entry) outcome) }
+    ensures ok { IfOk result (λ outcome. IsReported word.now names.now (guest_of guest.entry) outcome) }
+    ensures err { IfErr result (λ failure. IsGuestFailure (guest_of guest.entry) failure) }
 {
     let mut host = Host::new(alloc);
     let id = host.admit(guest, BUDGET)?;
@@ -101,7 +102,8 @@ fn run_guest(
 
 /// Runs a folder's guest.
 fn run_folder(alloc: Global, word: &str, folder: &Folder) -> Result<Outcome, Failure>
-    ensures { IfOk result (λ outcome. IsOutcome word.now folder.now outcome) }
+    ensures ok { IfOk result (λ outcome. IsOutcome word.now folder.now outcome) }
+    ensures err { IfErr result (λ failure. IsGuestFailure (guest_in folder.now) failure) }
 {
     let files = bytes_in(alloc, folder.class_files.as_slice())?;
     let names = names_in(alloc, folder.class_files.as_slice())?;
