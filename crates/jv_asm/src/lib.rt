@@ -2,7 +2,8 @@
 //! instructions.
 //!
 //! [`write_class`] writes the bytes that `jv_class_parts` defines for a structure, and
-//! [`write_code`] those that an instruction's operands spell.
+//! [`write_code`] those that an instruction's operands spell. [`ClassBuilder`] puts a structure
+//! together, with constants found or added by value and labels in its code, and writes it alike.
 #![tactic(auto)]
 
 mod attribute;
