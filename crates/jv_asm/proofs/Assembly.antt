@@ -5,7 +5,8 @@ use Rattle.std.proofs.lemmas.List.{take_more, take-append-drop, append-nil, leng
 use Rattle.jv_asm.specs.declared.item.Item.{Item}
 use Rattle.jv_asm.specs.declared.step.Label.{Label}
 use Rattle.jv_asm.specs.Items.{table_switch_bytes, lookup_switch_bytes, item_bytes, items_bytes, IsCapped}
-use Rattle.jv_asm.specs.Assembly.{Step, Unlabelled, Branch, TableSwitch, LookupSwitch, case_by, item_by, is_near, step_size, end_of, starts, place_offset, offset_at, items_by, are_near}
+use Rattle.jv_asm.specs.Assembly.{Step, Unlabelled, Branch, TableSwitch, LookupSwitch, case_by, item_by, is_near, step_size, end_of, place_offset, items_by, are_near}
+use Rattle.jv_asm.specs.Kept.{starts, offset_at}
 use Rattle.jv_asm.proofs.Sizes.{table_switch_length, lookup_switch_length, items_bytes-append}
 
 -- ---- the size of a step, whatever the distances

@@ -25,9 +25,6 @@ grown_pool old c new index h = by_pool h.pool
 pub grown : (old : ClassStructure) (c : Entry) (pool : List Entry) (index : ℕ) → IsAdded old.constant_pool c pool index → IsGrown old (with_pool old pool)
 grown old c pool index h = record { rest = refl; pool = grown_pool old.constant_pool c pool index h }
 
-pub not_grown : (c : ClassStructure) → IsGrown c c
-not_grown c = record { rest = refl; pool = ([], sym (append-nil c.constant_pool)) }
-
 pub grown_both : (a b c : ClassStructure) → IsGrown a b → IsGrown b c → IsGrown a c
 grown_both a b c g h = record {
   rest = h.rest ∙ ap (λ x. with_pool x c.constant_pool) g.rest;
@@ -76,18 +73,12 @@ named_once k old t m n i j g h =
     let first = added_once old (Utf8 t) g.between h.between g.name_index h.name_index g.name_added h.name_added in
     added_once h.between (k h.name_index) m n i j (subst (λ x. IsAdded h.between (k x) m i) first.1 (subst (λ p. IsAdded p (k g.name_index) m i) first.0 g.added)) h.added
 
-pub named_fits : (k : ℕ → Entry) (old : List Entry) (t : List ℕ) (new : List Entry) (index : ℕ) → IsNamedAdded k old t new index → IsTrue (pool_fits new) → IsTrue (pool_fits old)
-named_fits k old t new index h fits = added_fits old (Utf8 t) h.between h.name_index h.name_added (added_fits h.between (k h.name_index) new index h.added fits)
-
 -- two texts
 pub texts_once : (old : List Entry) (s t : List ℕ) (m n : List Entry) (i j i' j' : ℕ) → AreTextsAdded old s t m i j → AreTextsAdded old s t n i' j' → (m ≡ n) × (i ≡ i') × (j ≡ j')
 texts_once old s t m n i j i' j' g h =
     let first = added_once old (Utf8 s) g.between h.between i i' g.first_added h.first_added in
     let second = added_once h.between (Utf8 t) m n j j' (subst (λ p. IsAdded p (Utf8 t) m j) first.0 g.second_added) h.second_added in
     (second.0, first.1, second.1)
-
-pub texts_fit : (old : List Entry) (s t : List ℕ) (new : List Entry) (i j : ℕ) → AreTextsAdded old s t new i j → IsTrue (pool_fits new) → IsTrue (pool_fits old)
-texts_fit old s t new i j h fits = added_fits old (Utf8 s) h.between i h.first_added (added_fits h.between (Utf8 t) new j h.second_added fits)
 
 -- a name and a descriptor
 pub name_and_type_once : (old : List Entry) (s t : List ℕ) (m n : List Entry) (i j : ℕ) → IsNameAndTypeAdded old s t m i → IsNameAndTypeAdded old s t n j → (m ≡ n) × (i ≡ j)
@@ -97,10 +88,6 @@ name_and_type_once old s t m n i j g h =
     (subst (λ x. IsAdded h.between (NameAndType h.name_index x) m i) first.2 (subst (λ x. IsAdded h.between (NameAndType x g.descriptor_index) m i) first.1
     (subst (λ p. IsAdded p (NameAndType g.name_index g.descriptor_index) m i) first.0 g.added))) h.added
 
-pub name_and_type_fits : (old : List Entry) (s t : List ℕ) (new : List Entry) (index : ℕ) → IsNameAndTypeAdded old s t new index → IsTrue (pool_fits new) → IsTrue (pool_fits old)
-name_and_type_fits old s t new index h fits =
-    texts_fit old s t h.between h.name_index h.descriptor_index h.texts_added (added_fits h.between (NameAndType h.name_index h.descriptor_index) new index h.added fits)
-
 -- a class, and the name and descriptor of its member
 pub member_once : (old : List Entry) (c s t : List ℕ) (m n : List Entry) (i j i' j' : ℕ) → IsMemberNamed old c s t m i j → IsMemberNamed old c s t n i' j' → (m ≡ n) × (i ≡ i') × (j ≡ j')
 member_once old c s t m n i j i' j' g h =
@@ -109,10 +96,6 @@ member_once old c s t m n i j i' j' g h =
     (second.0, first.1, second.1)
 
 -- ---- where there is no room for the first of them, or for the last, there is none for all
-
-pub member_none_first : (k : ℕ → ℕ → Entry) (old : List Entry) (c s t : List ℕ) → (HasRoomForTwo (IsMemberNamed old c s t) → ⊥) → HasRoom (IsMemberAdded k old c s t) → ⊥
-member_none_first k old c s t none (new, index, h, fits) =
-    none (h.between, h.class_index, h.member_index, h.named, added_fits h.between (k h.class_index h.member_index) new index h.added fits)
 
 pub member_none_last : (k : ℕ → ℕ → Entry) (old : List Entry) (c s t : List ℕ) (mid : List Entry) (i j : ℕ) → IsMemberNamed old c s t mid i j
     → (HasRoom (IsAdded mid (k i j)) → ⊥) → HasRoom (IsMemberAdded k old c s t) → ⊥
@@ -128,12 +111,6 @@ member_none_last k old c s t mid i j named none (new, index, h, fits) =
 
 pub named_none_first : (k : ℕ → Entry) (old : List Entry) (t : List ℕ) → (HasRoom (IsAdded old (Utf8 t)) → ⊥) → HasRoom (IsNamedAdded k old t) → ⊥
 named_none_first k old t none (new, index, h, fits) = none (h.between, h.name_index, h.name_added, added_fits h.between (k h.name_index) new index h.added fits)
-
-pub named_none_last : (k : ℕ → Entry) (old : List Entry) (t : List ℕ) (mid : List Entry) (i : ℕ) → IsAdded old (Utf8 t) mid i
-    → (HasRoom (IsAdded mid (k i)) → ⊥) → HasRoom (IsNamedAdded k old t) → ⊥
-named_none_last k old t mid i named none (new, index, h, fits) =
-    let same = added_once old (Utf8 t) h.between mid h.name_index i h.name_added named in
-    none (new, index, subst (λ x. IsAdded mid (k x) new index) same.1 (subst (λ p. IsAdded p (k h.name_index) new index) same.0 h.added), fits)
 
 pub texts_none_first : (old : List Entry) (s t : List ℕ) → (HasRoom (IsAdded old (Utf8 s)) → ⊥) → HasRoomForTwo (AreTextsAdded old s t) → ⊥
 texts_none_first old s t none (new, i, j, h, fits) = none (h.between, i, h.first_added, added_fits h.between (Utf8 t) new j h.second_added fits)

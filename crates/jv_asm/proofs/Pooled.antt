@@ -203,12 +203,6 @@ indices_more pool c k m n is new updates h d =
 pub found_by : (pool : List Entry) (c : Entry) (k : Key) (m : BTreeMap Key ℕ) (o : Option ℕ) → held k ≡ holding c → o ≡ get_by (compare (held k)) m → AreIndices pool m → IsIndexFound pool c o
 found_by pool c k m o is e h = subst (IsIndexFound pool c) (sym (e ∙ ap (λ x. get_by (compare x) m) is)) (h c)
 
-pub indices_same : (pool : List Entry) (m n : BTreeMap Key ℕ) → IsUnchanged m n → AreIndices pool m → AreIndices pool n
-indices_same pool m n e h c = subst (IsIndexFound pool c) (lookups (holding c)) (h c)
-  where
-    lookups : (x : Holding) → get_by (compare x) m ≡ get_by (compare x) n
-    lookups x = ap (λ es. lookup (is_at (compare x)) es) (sym e)
-
 -- ---- what fits
 
 pub fits_more : (pool : List Entry) (c : Entry) → IsTrue (pool_fits pool) → IsTrue (constant_fits c) → pool_count pool + length (entries_of c) < 65536 → IsTrue (pool_fits (pool ++ c ∷ []))
@@ -217,31 +211,8 @@ fits_more pool c fits one few =
     let count = count_more pool c in
     and_from _ _ (lt-ltb _ _ (omega arith)) (list_all-append constant_fits pool (c ∷ []) ∙ and_from _ _ all (and_from _ _ one refl))
 
-one_fits : (pool : List Entry) (c : Entry) → IsTrue (pool_fits (pool ++ c ∷ [])) → IsTrue (constant_fits c)
-one_fits pool c fits = (and_parts (constant_fits c) true (and_parts _ _ (sym (list_all-append constant_fits pool (c ∷ [])) ∙ (and_parts _ _ fits).1)).1).0
-
-count_fits : (pool : List Entry) → IsTrue (pool_fits pool) → pool_count pool < 65536
-count_fits pool fits = ltb-true _ _ (and_parts _ _ fits).0
-
--- what was found leaves room, since nothing is added
-pub room_found : (pool : List Entry) (c : Entry) (n : ℕ) → IsTrue (pool_fits pool) → IsIndexOf pool c n → IsAdded pool c pool n × HasRoom (IsAdded pool c)
-room_found pool c n fits h = let here : IsAdded pool c pool n = record { here = h; pool = inl refl } in (here, (pool, n, here, fits))
-
 pub room_new : (pool : List Entry) (c : Entry) → IsNew pool c → IsTrue (pool_fits (pool ++ c ∷ [])) → HasRoom (IsAdded pool c)
 room_new pool c new fits = (pool ++ c ∷ [], pool_count pool, added pool c new, fits)
-
--- a constant that is new, and too much
-pub no_room : (pool : List Entry) (c : Entry) → IsNew pool c → (IsTrue (constant_fits c) → 65536 ≤ pool_count pool + length (entries_of c)) → HasRoom (IsAdded pool c) → ⊥
-no_room pool c new much (after, n, h, fits) = by_pool after h.here fits h.pool
-  where
-    by_pool : (after : List Entry) → IsIndexOf after c n → IsTrue (pool_fits after) → (after ≡ pool) ⊎ (IsNew pool c × (after ≡ pool ++ c ∷ [])) → ⊥
-    by_pool after here fits (inl same) = new n (ap (λ p. at_index p n) (sym same) ∙ here.here)
-    by_pool after here fits (inr (_, more)) =
-        let whole = subst (λ p. IsTrue (pool_fits p)) more fits in
-        let few = count_fits (pool ++ c ∷ []) whole in
-        let count = count_more pool c in
-        let over = much (one_fits pool c whole) in
-        omega arith
 
 -- what a pool in the making keeps, with one constant more
 pub pooled_more : (pool now after : List Entry) (c : Entry) (k : Key) (m n : BTreeMap Key ℕ) (count after_count : ℕ) → pool ≡ now → IsPooled pool m count → IsNew now c
@@ -256,10 +227,6 @@ pooled_more pool now after c k m n count after_count view h new counted few fits
       counted = omega arith;
       indices = indices_more pool c k m n key new' (subst (λ x. Updates (λ x. compare (held x)) m n k (Some x)) h.counted updates) h.indices;
     })
-
-pub pooled_same : (pool after : List Entry) (m n : BTreeMap Key ℕ) (count : ℕ) → IsPooled pool m count → after ≡ pool → IsUnchanged m n → IsPooled after n count
-pooled_same pool after m n count h e same =
-    subst (λ p. IsPooled p n count) (sym e) (record { fits = h.fits; counted = h.counted; indices = indices_same pool m n same h.indices })
 
 pub added_at : (pool now after : List Entry) (c : Entry) (m : BTreeMap Key ℕ) (count : ℕ) → pool ≡ now → IsPooled pool m count → IsNew now c → after ≡ now ++ c ∷ [] → IsAdded now c after count
 added_at pool now after c m count view h new e =

@@ -23,15 +23,6 @@ pub table_written : {X Y A E : Type 0} (f : Y → List ℕ) (view : X → Y) (xs
     → OnOk result (new ≡ old ++ (half.spelling (length xs) ++ flat_map (λ x. f (view x)) xs)) → OnOk result (new ≡ old ++ table_bytes f (map view xs))
 table_written f view xs result old new = subst (λ bytes. OnOk result (new ≡ old ++ bytes)) (table_is f view xs)
 
--- one more part was written
-pub part_next : {X Y : Type 0} (f : Y → List ℕ) (view : X → Y) (xs : List X) (i : ℕ) (d : X) (start out new : List ℕ) → i < length xs
-    → out ≡ start ++ flat_map f (map view (take i xs)) → new ≡ out ++ f (view (get_or xs i d)) → new ≡ start ++ flat_map f (map view (take (i + 1) xs))
-part_next f view xs i d start out new lt so_far e =
-    e ∙ ap (λ b. b ++ f (view (get_or xs i d))) so_far ∙ append_assoc start (flat_map f (map view (take i xs))) (f (view (get_or xs i d)))
-    ∙ ap (λ b. start ++ b) (sym (ap (λ ys. flat_map f (map view ys)) (take_more xs i d lt)
-    ∙ ap (flat_map f) (map-append view (take i xs) (get_or xs i d ∷ [])) ∙ flat_map-append f (map view (take i xs)) (view (get_or xs i d) ∷ [])
-    ∙ ap (λ b. flat_map f (map view (take i xs)) ++ b) (append-nil (f (view (get_or xs i d))))))
-
 -- an error that is passed on
 pub passed_on : {T E : Type 0} (result : Result T E) (x : E) (P : E → Type 0) → IsErrAnd result (λ e. e ≡ x) → P x → IfErr result P
 passed_on (Ok t) x P h p = tt

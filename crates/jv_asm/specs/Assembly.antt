@@ -7,8 +7,6 @@ use Rattle.jv_class_parts.specs.Structure.{ExceptionEntry}
 use Rattle.jv_asm.specs.declared.item.Item.{Item}
 use Rattle.jv_asm.specs.declared.item.Item.TheVariants as item
 use Rattle.jv_asm.specs.declared.step.Label.{Label}
-use Rattle.jv_asm.specs.declared.step.BuilderStep.{BuilderStep}
-use Rattle.jv_asm.specs.declared.step.BuilderStep.TheVariants as built
 use Rattle.jv_asm.specs.declared.step.HandlerLabels.{HandlerLabels}
 use Rattle.jv_asm.specs.Items.{item_bytes}
 
@@ -78,11 +76,6 @@ abbrev pub end_of : ℕ → List Step → ℕ
 end_of at [] = at
 end_of at (s ∷ steps) = end_of (at + step_size at s) steps
 
--- where each of them starts
-abbrev pub starts : ℕ → List Step → List ℕ
-starts at [] = []
-starts at (s ∷ steps) = at ∷ starts (at + step_size at s) steps
-
 -- a label stands where the steps before it end; one that was never placed stands at the end of the code
 abbrev pub place_offset : List Step → Option ℕ → ℕ
 place_offset steps None = end_of 0 steps
@@ -131,15 +124,3 @@ exception_table a = map (handler_by (label_offset a)) a.handlers
 pub record IsAssembled (a : Assembly) : Type 0 where
   pub short : end_of 0 a.steps ≤ 65535
   pub near : IsTrue (are_near (distance a) 0 a.steps)
-
--- the same offset of a place, where it is known where each step starts
-abbrev pub offset_at : List ℕ → ℕ → Option ℕ → ℕ
-offset_at starts end None = end
-offset_at starts end (Some before) = get_or starts before end
-
--- what the builder keeps of a step
-abbrev pub step_kept : BuilderStep → Step
-step_kept (built.Unlabelled i) = Unlabelled i
-step_kept (built.Branch opcode target) = Branch opcode target
-step_kept (built.Tableswitch default low high targets) = TableSwitch default low high targets.items
-step_kept (built.Lookupswitch default cases) = LookupSwitch default cases.items

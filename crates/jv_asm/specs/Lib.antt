@@ -4,5 +4,6 @@ pub mod Built
 pub mod Description
 pub mod Fits
 pub mod Items
+pub mod Kept
 pub mod Law
 pub mod Pooled

@@ -2,7 +2,8 @@
 
 ghost use Rattle.std.specs.Prelude.{◌≡◌, ◌≤◌, IfOk, IfErr, OnErr, OnOk, IsOk, is_ok, if◌then◌else◌, map, length};
 ghost use Rattle.jv_asm.specs.Items.{items_bytes};
-ghost use Rattle.jv_asm.specs.Assembly.{Assembly, Branch, TableSwitch, LookupSwitch, step_kept, no_steps, with_step, with_item, with_handler, with_label, with_place, label_offsets, end_of, assembled, exception_table, IsAssembled};
+ghost use Rattle.jv_asm.specs.Assembly.{Assembly, Branch, TableSwitch, LookupSwitch, no_steps, with_step, with_item, with_handler, with_label, with_place, label_offsets, end_of, assembled, exception_table, IsAssembled};
+ghost use Rattle.jv_asm.specs.Kept.{step_kept};
 ghost use Rattle.jv_asm.specs.Description.{handler_described};
 ghost use Rattle.jv_asm.specs.declared.item.Item.TheVariants as an_item;
 ghost use Rattle.jv_asm.specs.declared.fault.AsmFault.TheVariants.{TooLarge};
@@ -17,8 +18,9 @@ use std::marker::Model;
 
 /// Instructions in their order, and the labels among them.
 ///
-/// A label that is never placed stands at the end of the code, and so does one of another builder
-/// that has more labels. Where a call is refused, nothing changes.
+/// A label that is never placed stands at the end of the code. A label is a number: one of another
+/// builder stands for this builder's label of that number, and without one at the end. Where a call
+/// is refused, nothing changes.
 #[derive(Drop)]
 pub struct CodeBuilder<'a> {
     alloc: Global,

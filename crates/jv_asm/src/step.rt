@@ -2,7 +2,8 @@
 
 ghost use Rattle.std.specs.Prelude.{◌≡◌, ◌≤◌, ◌<◌, ◌+◌, ◌*◌, ◌-◌, ◌%◌, IfOk, IfErr, IsOk, map};
 ghost use Rattle.jv_asm.specs.Items.{IsCapped};
-ghost use Rattle.jv_asm.specs.Assembly.{step_kept, step_size, end_of, starts};
+ghost use Rattle.jv_asm.specs.Assembly.{step_size, end_of};
+ghost use Rattle.jv_asm.specs.Kept.{step_kept, starts};
 ghost use Rattle.jv_asm.specs.declared.fault.AsmFault.TheVariants.{TooLarge};
 
 use crate::code::{item_size, lookupswitch_size, tableswitch_size};

@@ -5,7 +5,8 @@ ghost use Rattle.std.specs.List.{flat_map};
 ghost use Rattle.jv_code.specs.Numbers.{signed32};
 ghost use Rattle.jv_code.specs.Switches.{pair};
 ghost use Rattle.jv_asm.specs.Items.{item_bytes, items_bytes, table_switch_bytes, lookup_switch_bytes};
-ghost use Rattle.jv_asm.specs.Assembly.{Branch, step_kept, offset_at, offset_in, distance_in, end_of, step_size, item_by, case_by, is_near, items_by, are_near, handler_by};
+ghost use Rattle.jv_asm.specs.Assembly.{Branch, offset_in, distance_in, end_of, step_size, item_by, case_by, is_near, items_by, are_near, handler_by};
+ghost use Rattle.jv_asm.specs.Kept.{step_kept, offset_at};
 ghost use Rattle.jv_asm.specs.Description.{handler_described};
 ghost use Rattle.jv_asm.specs.declared.fault.AsmFault.TheVariants.{TooLarge};
 

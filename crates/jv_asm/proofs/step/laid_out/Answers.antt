@@ -1,6 +1,6 @@
 use Rattle.std.proofs.Common.{arith, ap, ◌∙◌, sym, ◌++◌, ◌∷◌, [], take}
 use Rattle.std.specs.Prelude.{map}
-use Rattle.jv_asm.specs.Assembly.{step_kept, starts}
+use Rattle.jv_asm.specs.Kept.{step_kept, starts}
 use Rattle.jv_asm.proofs.Assembly.{seen_starts, seen_more, seen_over}
 use Rattle.jv_asm.proofs.step.laid_out.Goals as goal
 

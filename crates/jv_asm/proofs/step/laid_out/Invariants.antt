@@ -1,6 +1,7 @@
 use Rattle.std.proofs.Common.{◌≡◌, ◌<◌, take}
 use Rattle.std.specs.Prelude.{map}
-use Rattle.jv_asm.specs.Assembly.{step_kept, starts, end_of}
+use Rattle.jv_asm.specs.Assembly.{end_of}
+use Rattle.jv_asm.specs.Kept.{step_kept, starts}
 use Rattle.jv_asm.proofs.step.laid_out.Given as goal
 
 abbrev pub invariant-loop-step : goal.invariant-loop-step

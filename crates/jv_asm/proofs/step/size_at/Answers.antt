@@ -1,5 +1,5 @@
 use Rattle.std.proofs.Common.{ap, ◌∙◌}
-use Rattle.jv_asm.specs.Assembly.{step_kept}
+use Rattle.jv_asm.specs.Kept.{step_kept}
 use Rattle.jv_asm.proofs.Assembly.{table_step, lookup_step}
 use Rattle.jv_asm.proofs.step.size_at.Goals as goal
 

@@ -1,6 +1,7 @@
 use Rattle.std.proofs.Common.{◌≡◌, ap, ◌∙◌, sym}
 use Rattle.std.specs.Prelude.{map}
-use Rattle.jv_asm.specs.Assembly.{step_kept, label_offsets}
+use Rattle.jv_asm.specs.Assembly.{label_offsets}
+use Rattle.jv_asm.specs.Kept.{step_kept}
 use Rattle.jv_asm.proofs.Assembly.{places_by}
 use Rattle.jv_asm.proofs.code_builder.CodeBuilder.targets.Goals as goal
 

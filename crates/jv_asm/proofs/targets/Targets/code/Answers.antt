@@ -1,7 +1,8 @@
 use Rattle.std.proofs.Common.{◌≡◌, false}
 use Rattle.std.specs.Prelude.{map}
 use Rattle.jv_asm.specs.declared.fault.AsmFault.TheVariants.{TooLarge}
-use Rattle.jv_asm.specs.Assembly.{step_kept, distance_in, are_near}
+use Rattle.jv_asm.specs.Assembly.{distance_in, are_near}
+use Rattle.jv_asm.specs.Kept.{step_kept}
 use Rattle.jv_asm.proofs.Tables.{passed_on}
 use Rattle.jv_asm.proofs.Assembly.{seen_fits, seen_written, seen_far}
 use Rattle.jv_asm.proofs.targets.Targets.code.Goals as goal

@@ -1,6 +1,7 @@
 use Rattle.std.proofs.Common.{take}
 use Rattle.std.specs.Prelude.{map}
-use Rattle.jv_asm.specs.Assembly.{step_kept, distance_in}
+use Rattle.jv_asm.specs.Assembly.{distance_in}
+use Rattle.jv_asm.specs.Kept.{step_kept}
 use Rattle.jv_asm.proofs.Assembly.{IsWritten}
 use Rattle.jv_asm.proofs.targets.Targets.code.Given as goal
 

@@ -1,6 +1,6 @@
 use Rattle.std.proofs.Common.{◌≡◌, take}
 use Rattle.std.specs.Prelude.{map}
-use Rattle.jv_asm.specs.Assembly.{offset_at}
+use Rattle.jv_asm.specs.Kept.{offset_at}
 use Rattle.jv_asm.proofs.targets.Targets.new.Given as goal
 
 abbrev pub invariant-loop-place : goal.invariant-loop-place

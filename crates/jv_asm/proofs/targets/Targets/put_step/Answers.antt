@@ -1,5 +1,5 @@
 use Rattle.std.proofs.Common.{◌<◌, length, ap, sym, subst}
-use Rattle.jv_asm.specs.Assembly.{step_kept}
+use Rattle.jv_asm.specs.Kept.{step_kept}
 use Rattle.jv_asm.proofs.Assembly.{few_cases}
 use Rattle.jv_asm.proofs.targets.Targets.put_step.Goals as goal
 
