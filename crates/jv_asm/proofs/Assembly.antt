@@ -1,10 +1,9 @@
 -- Steps of code: where they start, their instructions, and the sizes of both.
-use Rattle.std.proofs.Common.{◌≡◌, ℕ, ◌+◌, ◌-◌, ◌*◌, ◌%◌, ◌<◌, ◌≤◌, Bool, true, false, List, [], ◌∷◌, ◌++◌, Option, Some, None, length, take, drop, get_or, refl, sym, ap, subst, ◌∙◌, append_assoc, arith, length-append}
-use Rattle.std.specs.Prelude.{ℤ, pos, IsTrue, ◌&&◌, map, zero, suc}
-use Rattle.std.proofs.lemmas.List.{take_more, take-append-drop, append-nil, length-map, map-append}
-use Rattle.jv_asm.specs.declared.item.Item.{Item}
+use Rattle.std.proofs.Common.{◌≡◌, ℕ, ◌+◌, ◌-◌, ◌*◌, ◌%◌, ◌<◌, ◌≤◌, Bool, true, false, List, [], ◌∷◌, ◌++◌, Option, Some, None, length, take, drop, get_or, refl, sym, ap, subst, ◌∙◌, arith, length-append}
+use Rattle.std.specs.Prelude.{ℤ, pos, ◌&&◌, map, zero, suc}
+use Rattle.std.proofs.lemmas.List.{take_more, take-append-drop, append-nil, length-map}
 use Rattle.jv_asm.specs.declared.step.Label.{Label}
-use Rattle.jv_asm.specs.Items.{table_switch_bytes, lookup_switch_bytes, item_bytes, items_bytes, IsCapped}
+use Rattle.jv_asm.specs.Items.{item_bytes, items_bytes, IsCapped}
 use Rattle.jv_asm.specs.Assembly.{Step, Unlabelled, Branch, TableSwitch, LookupSwitch, case_by, item_by, is_near, step_size, end_of, place_offset, items_by, are_near}
 use Rattle.jv_asm.specs.Kept.{starts, offset_at}
 use Rattle.jv_asm.proofs.Sizes.{table_switch_length, lookup_switch_length, items_bytes-append}

@@ -1,12 +1,12 @@
 -- What joins a pool in several steps: that nothing else changes, that it is one thing, and that it fits.
-use Rattle.std.proofs.Common.{◌≡◌, ℕ, ◌<◌, ◌≤◌, ◌+◌, Bool, true, false, inl, inr, Ok, Err, List, [], ◌∷◌, ◌++◌, length, Some, refl, sym, ap, subst, ◌∙◌, append_assoc, arith, length-append}
+use Rattle.std.proofs.Common.{◌≡◌, ℕ, Bool, true, false, inl, inr, Ok, Err, List, [], ◌∷◌, ◌++◌, Some, refl, sym, ap, subst, ◌∙◌, append_assoc, arith}
 use Rattle.std.specs.Prelude.{◌⊎◌, IsTrue, nat_lt, Option, Result, IfOk, OnErr, IsErrAnd, codes}
 use Rattle.std.proofs.lemmas.List.{append-nil}
 use Rattle.std.specs.List.{list_all}
 use Rattle.std.proofs.lemmas.List.Folds.{list_all-append}
 use Rattle.std.proofs.lemmas.Bool.{and_parts, and_from, ltb-true, lt-ltb}
 use Rattle.jv_pool.specs.declared.constant.Constant.TheVariants.{Utf8, Class, NameAndType}
-use Rattle.jv_pool.specs.Constants.{Entry, entries_of, pool_count, at_index, constant_fits, pool_fits}
+use Rattle.jv_pool.specs.Constants.{Entry, pool_count, at_index, constant_fits, pool_fits}
 use Rattle.std.specs.Borrow.{Bor}
 use Rattle.jv_class_parts.specs.Structure.{AttributeInfo, ClassStructure}
 use Rattle.jv_asm.specs.Added.{IsIndexOf, IsNew, IsAdded, IsNamedAdded, AreClassesAdded, AreTextsAdded, IsNameAndTypeAdded, IsMemberNamed, IsMemberAdded, HasRoom, HasRoomForTwo, IsGrownPool}

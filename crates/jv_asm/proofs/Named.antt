@@ -1,12 +1,12 @@
 -- What an index names of a pool to which constants were added.
-use Rattle.std.proofs.Common.{◌≡◌, ℕ, ◌<◌, ◌≤◌, ◌+◌, List, [], ◌∷◌, ◌++◌, length, Option, Some, None, refl, sym, ap, subst, ◌∙◌, append_assoc, arith}
+use Rattle.std.proofs.Common.{◌≡◌, ℕ, List, ◌++◌, Option, Some, None, ap, ◌∙◌, append_assoc, arith}
 use Rattle.std.specs.Prelude.{zero, suc, slice_get}
 use Rattle.std.proofs.lemmas.Option.{same_Some}
 use Rattle.std.proofs.lemmas.Grind.{flat_map-append}
 use Rattle.jv_pool.specs.declared.constant.Constant.TheVariants.{Utf8, Class, String, Fieldref, Methodref, InterfaceMethodref, NameAndType}
-use Rattle.jv_pool.specs.Constants.{Entry, entries_of, table_of, usable, at_index, utf8_in, utf8_at, class_name_in, class_name_at, string_in, string_at, named_at, name_and_descriptor, name_and_type_in, name_and_type_at, MemberReference, member_of, member_at, field_reference_in, field_reference_at, method_reference_in, method_reference_at, interface_method_reference_in, interface_method_reference_at}
+use Rattle.jv_pool.specs.Constants.{Entry, entries_of, table_of, usable, at_index, utf8_in, utf8_at, class_name_in, class_name_at, string_in, string_at, named_at, name_and_descriptor, name_and_type_in, name_and_type_at, member_of, member_at, field_reference_in, method_reference_in, interface_method_reference_in}
 use Rattle.jv_format.specs.Format.{◌>>=◌}
-use Rattle.jv_asm.specs.Added.{IsAdded, IsNamedAdded, AreTextsAdded, IsNameAndTypeAdded, IsMemberNamed, IsMemberAdded, IsGrownPool}
+use Rattle.jv_asm.specs.Added.{IsAdded, IsNamedAdded, IsNameAndTypeAdded, IsMemberNamed, IsGrownPool}
 use Rattle.jv_asm.specs.Law.{reference, IndicesName}
 use Rattle.jv_asm.proofs.Pooled.{front_get, within}
 use Rattle.jv_asm.proofs.Joined.{grown_pool}

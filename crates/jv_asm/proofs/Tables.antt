@@ -1,9 +1,8 @@
 -- Tables of parts that are seen as other values.
-use Rattle.std.proofs.Common.{◌≡◌, ℕ, ◌<◌, ◌+◌, Bool, List, [], ◌∷◌, ◌++◌, length, take, get_or, refl, sym, ap, subst, ◌∙◌, append_assoc, Ok, Err}
+use Rattle.std.proofs.Common.{◌≡◌, ℕ, Bool, List, ◌++◌, length, refl, sym, subst, Ok, Err}
 use Rattle.std.specs.Prelude.{Result, IsTrue, OnOk, IfErr, IsErrAnd, map}
 use Rattle.std.specs.List.{flat_map}
-use Rattle.std.proofs.lemmas.List.{length-map, take_more, map-append, append-nil}
-use Rattle.std.proofs.lemmas.Grind.{flat_map-append}
+use Rattle.std.proofs.lemmas.List.{length-map}
 use Rattle.std.proofs.lemmas.List.Folds.{flat_map-map, list_all-map}
 use Rattle.jv_asm.specs.declared.fault.AsmFault.{AsmFault}
 use Rattle.jv_asm.specs.declared.fault.AsmFault.TheVariants.{TooLarge, Memory}

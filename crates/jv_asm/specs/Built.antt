@@ -10,7 +10,7 @@ use Rattle.jv_asm.specs.declared.built.BuiltMethod.{BuiltMethod}
 use Rattle.jv_asm.specs.declared.class_builder.MethodBuilder.{MethodBuilder}
 use Rattle.jv_asm.specs.Description.{attribute_described, handler_described}
 use Rattle.jv_asm.specs.Items.{items_bytes}
-use Rattle.jv_asm.specs.Assembly.{Assembly, no_steps, assembled, exception_table, IsAssembled}
+use Rattle.jv_asm.specs.Assembly.{no_steps, assembled, exception_table, IsAssembled}
 use Rattle.jv_asm.specs.Added.{IsAdded, IsNamedAdded, AreClassesAdded, AreTextsAdded, IsGrownPool}
 
 -- ---- what the builder keeps of methods

@@ -1,4 +1,4 @@
-use Rattle.std.proofs.Common.{◌≡◌, ap, ◌∙◌, sym}
+use Rattle.std.proofs.Common.{ap, ◌∙◌}
 use Rattle.std.specs.Prelude.{map}
 use Rattle.jv_asm.specs.Assembly.{label_offsets}
 use Rattle.jv_asm.specs.Kept.{step_kept}

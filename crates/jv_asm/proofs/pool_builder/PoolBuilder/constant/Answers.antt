@@ -1,8 +1,7 @@
-use Rattle.std.proofs.Common.{◌≡◌, ◌∙◌, sym, subst, arith}
+use Rattle.std.proofs.Common.{◌∙◌, sym, subst, arith}
 use Rattle.std.specs.Prelude.{IsTrue, map}
 use Rattle.jv_pool.specs.Constants.{constant_fits}
 use Rattle.jv_pool.specs.Seen.{seen}
-use Rattle.jv_asm.specs.Added.{HasRoom, IsAdded}
 use Rattle.jv_asm.specs.Pooled.{IsIndexFound}
 use Rattle.jv_asm.proofs.Tables.{is_memory}
 use Rattle.jv_asm.proofs.Pooled.{added_at, room_at}

@@ -1,4 +1,4 @@
-use Rattle.std.proofs.Common.{◌≡◌, ◌∙◌, ap, sym, subst}
+use Rattle.std.proofs.Common.{◌∙◌, subst}
 use Rattle.jv_pool.specs.Seen.{seen}
 use Rattle.jv_asm.specs.Pooled.{AreIndices}
 use Rattle.jv_asm.proofs.Pooled.{found_by}
