@@ -8,7 +8,7 @@ use Rattle.std.specs.List.{flat_map, list_all}
 use Rattle.std.proofs.lemmas.Bool.{and_parts, and_from, ltb-false, le-ltb, lt-ltb, ltb-true, eqb-true}
 use Rattle.std.proofs.lemmas.Grind.{common_steps}
 use Rattle.std.proofs.lemmas.List.{append-nil, take_at, drop_at, take-append-drop, length-append, length-take}
-use Rattle.jv_format.specs.Format.{Format, ◌>>=◌, IsBytes, byte, half, both, text, list_read, list_of, never, case_of, spelled_at, fits_at, found_as, front, tagged, tagged_read, after, then_read, such_that, passed, bytes_of, quad, signed, signed_fits, signed_read, paired, joined, second_read, contents, alone, whole, enclosed_read, enclosed}
+use Rattle.jv_format.specs.Format.{Format, ◌>>=◌, IsBytes, byte, half, both, text, list_read, list_of, never, case_of, spelled_at, fits_at, found_as, front, after, then_read, such_that, passed, bytes_of, quad, signed, signed_fits, signed_read, paired, joined, second_read, contents, alone, whole, enclosed_read, enclosed}
 
 abbrev pub just : {A : Type 0} → A → Option A
 just x = Some x
@@ -122,22 +122,6 @@ case_is {A = A} {C = C} to from f there back F = record {
 pub never_is : {A : Type 0} → IsFormat (never {A = A})
 never_is = record { takes = λ bytes rest x fits e. absurd cc; again = λ x rest h. absurd cc }
 
-tagged_takes : {C : Type 0} (tag : C → ℕ) (at : ℕ → Format C) → ((t : ℕ) → IsFormat (at t)) → ((t : ℕ) (c : C) → IsTrue ((at t).fits c) → tag c ≡ t) → (bytes rest : List ℕ) (x : C) → IsBytes bytes → tagged_read at bytes ≡ Some (x, rest)
-    → (bytes ≡ tag x ∷ ((at (tag x)).spelling x ++ rest)) × IsTrue (nat_lt (tag x) 256 && (at (tag x)).fits x)
-tagged_takes tag at each own [] rest x fits e = absurd cc
-tagged_takes tag at each own (t ∷ bytes) rest x fits e =
-    let more : IsBytes bytes = λ i. fits (suc i) in
-    let one = (each t).takes bytes rest x more e in
-    let same = own t x one.1 in
-    let lt : nat_lt t 256 ≡ true = lt-ltb _ _ (fits 0) in
-    rw same (ap (λ (r : List ℕ). t ∷ r) one.0, and_from _ _ lt one.1)
-
-pub tagged_is : {C : Type 0} (tag : C → ℕ) (at : ℕ → Format C) → ((t : ℕ) → IsFormat (at t)) → ((t : ℕ) (c : C) → IsTrue ((at t).fits c) → tag c ≡ t) → IsFormat (tagged tag at)
-tagged_is tag at each own = record {
-  takes = tagged_takes tag at each own;
-  again = λ x rest h. (each (tag x)).again x rest (and_parts _ _ h).1;
-}
-
 list_takes : {A : Type 0} (f : Format A) → IsFormat f → (n : ℕ) (bytes rest : List ℕ) (xs : List A) → IsBytes bytes → list_read f n bytes ≡ Some (xs, rest)
     → (bytes ≡ flat_map f.spelling xs ++ rest) × (length xs ≡ n) × IsTrue (list_all f.fits xs)
 list_takes {A = A} f F zero bytes rest xs fits e =
@@ -227,12 +211,6 @@ ends {A = A} f before count i bytes total lt h so_far =
     let none : with_front before (list_read f (count - i) bytes) ≡ None = rw (k, h) refl in
     sym so_far ∙ none
 
-pub is_done : {A : Type 0} (f : Format A) (before : List A) (count i : ℕ) (bytes : List ℕ) (total : Option (List A × List ℕ)) → count ≤ i → with_front before (list_read f (count - i) bytes) ≡ total → total ≡ Some (before, bytes)
-is_done {A = A} f before count i bytes total le so_far =
-    let k : count - i ≡ 0 = omega arith in
-    let one : with_front before (list_read f (count - i) bytes) ≡ Some (before, bytes) = rw k (ap (λ (xs : List A). just (xs, bytes)) (append-nil before)) in
-    sym so_far ∙ one
-
 pub after_is : {A B : Type 0} (h : Format B) (key : A → B) (g : B → Format A) → IsFormat h → ((b : B) → IsFormat (g b)) → ((b : B) (a : A) → IsTrue ((g b).fits a) → key a ≡ b) → IsFormat (after h key g)
 after_is {A = A} {B = B} h key g H each own = record {
   takes = λ bytes rest x fits e.
@@ -270,15 +248,23 @@ bytes_is n = record {
   again = λ x rest h. ap (λ (k : ℕ). front (k, x ++ rest)) (sym (eqb-true (length x) n h)) ∙ front_again x rest;
 }
 
-quad_there : (p : ℕ × ℕ) → IsTrue (half.fits p.0 && half.fits p.1) → ((p.0 * 65536 + p.1) / 65536 ≡ p.0) × ((p.0 * 65536 + p.1) % 65536 ≡ p.1)
-quad_there p h =
-    let lt : p.1 < 65536 = ltb-true p.1 65536 (and_parts (half.fits p.0) (half.fits p.1) h).1 in
-    (omega arith, omega arith)
+quad_takes : (bytes rest : List ℕ) (x : ℕ) → IsBytes bytes → quad.read bytes ≡ Some (x, rest) → (bytes ≡ quad.spelling x ++ rest) × IsTrue (quad.fits x)
+quad_takes [] rest x fits e = absurd cc
+quad_takes (a ∷ []) rest x fits e = absurd cc
+quad_takes (a ∷ b ∷ []) rest x fits e = absurd cc
+quad_takes (a ∷ b ∷ c ∷ []) rest x fits e = absurd cc
+quad_takes (a ∷ b ∷ c ∷ d ∷ bytes) rest x fits e =
+    let la : a < 256 = fits 0 in
+    let lb : b < 256 = fits 1 in
+    let lc : c < 256 = fits 2 in
+    let ld : d < 256 = fits 3 in
+    grind (arith, common_steps)
+
+quad_again : (x : ℕ) (rest : List ℕ) → IsTrue (quad.fits x) → quad.read (quad.spelling x ++ rest) ≡ Some (x, rest)
+quad_again x rest h = ap (λ (n : ℕ). Some (n, rest)) (omega arith)
 
 pub quad_is : IsFormat quad
-quad_is = case_is (λ p. p.0 * 65536 + p.1) (λ n. Some (n / 65536, n % 65536)) (both half half)
-    (λ p h. let e = quad_there p h in rw (e.0, e.1) refl)
-    (λ c a e. let same : (c / 65536, c % 65536) ≡ a = is_some (c / 65536, c % 65536) a e in rw (← same) (omega arith)) (both_is half half half_is half_is)
+quad_is = record { takes = quad_takes; again = quad_again }
 
 signed_there : (w : Width) (z : ℤ) → IsTrue (signed_fits (hbits w) z) → SFits w z
 signed_there w (pos k) h = record { sfits = ltb-true _ _ h }

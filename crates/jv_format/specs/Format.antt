@@ -2,6 +2,7 @@
 use Rattle.std.specs.Prelude.{◌≡◌, ℕ, zero, suc, ◌+◌, ◌*◌, ◌/◌, ◌%◌, ◌<◌, ◌^◌, ℤ, pos, negsuc, Bool, false, ◌&&◌, List, [], ◌∷◌, ◌++◌, length, take, drop, slice_index, Option, Some, None, nat_lt, ◌==◌, if◌then◌else◌}
 use Rattle.std.specs.Int.{Width, cast_signed, cast_unsigned}
 use Rattle.std.specs.List.{flat_map, list_all}
+use Rattle.jv_format.specs.Numbers.{u1_bytes, u1_fits, u2_bytes, u2_fits, u4_bytes, u4_fits}
 
 -- the bytes of a value, which values have bytes, and what stands at the front of bytes, with the rest
 pub record Format (A : Type 0) : Type 0 where
@@ -30,16 +31,16 @@ byte_read [] = None
 byte_read (a ∷ rest) = Some (a, rest)
 
 abbrev pub byte : Format ℕ
-byte = record { spelling = λ n. n ∷ []; fits = λ n. nat_lt n 256; read = byte_read }
+byte = record { spelling = u1_bytes; fits = u1_fits; read = byte_read }
 
--- Two bytes, the high one first: a `u2` of the class file format (JVMS 4).
+-- Two bytes: a `u2` of the class file format.
 abbrev pub half_read : List ℕ → Option (ℕ × List ℕ)
 half_read [] = None
 half_read (a ∷ []) = None
 half_read (a ∷ b ∷ rest) = Some (a * 256 + b, rest)
 
 abbrev pub half : Format ℕ
-half = record { spelling = λ n. (n / 256) ∷ (n % 256) ∷ []; fits = λ n. nat_lt n 65536; read = half_read }
+half = record { spelling = u2_bytes; fits = u2_fits; read = half_read }
 
 -- one after the other
 abbrev pub both : {A B : Type 0} → Format A → Format B → Format (A × B)
@@ -91,18 +92,6 @@ found_as to a = Some (to a.0, a.1)
 abbrev pub case_of : {A C : Type 0} → (A → C) → (C → Option A) → Format A → Format C
 case_of to from f = record { spelling = λ c. spelled_at f (from c); fits = λ c. fits_at f (from c); read = λ bytes. f.read bytes >>= found_as to }
 
--- a byte that tells the format of what follows
-abbrev pub tagged_read : {C : Type 0} → (ℕ → Format C) → List ℕ → Option (C × List ℕ)
-tagged_read at [] = None
-tagged_read at (t ∷ rest) = (at t).read rest
-
-abbrev pub tagged : {C : Type 0} → (C → ℕ) → (ℕ → Format C) → Format C
-tagged tag at = record {
-  spelling = λ c. tag c ∷ (at (tag c)).spelling c;
-  fits = λ c. nat_lt (tag c) 256 && (at (tag c)).fits c;
-  read = tagged_read at;
-}
-
 -- one value tells the format of what follows: key says which stands before a value
 abbrev pub then_read : {A B : Type 0} → (B → Format A) → B × List ℕ → Option (A × List ℕ)
 then_read g b = (g b.0).read b.1
@@ -125,9 +114,13 @@ such_that test f = record { spelling = f.spelling; fits = λ a. f.fits a && test
 abbrev pub bytes_of : ℕ → Format (List ℕ)
 bytes_of n = record { spelling = λ t. t; fits = λ t. length t == n; read = λ bytes. front (n, bytes) }
 
--- Four bytes, the high one first: a `u4` of the class file format (JVMS 4).
+-- Four bytes: a `u4` of the class file format.
+abbrev pub quad_read : List ℕ → Option (ℕ × List ℕ)
+quad_read (a ∷ b ∷ c ∷ d ∷ rest) = Some (a * 16777216 + b * 65536 + c * 256 + d, rest)
+quad_read _ = None
+
 abbrev pub quad : Format ℕ
-quad = case_of (λ p. p.0 * 65536 + p.1) (λ n. Some (n / 65536, n % 65536)) (both half half)
+quad = record { spelling = u4_bytes; fits = u4_fits; read = quad_read }
 
 -- whether a signed number has this many bits beside its sign
 abbrev pub signed_fits : ℕ → ℤ → Bool

@@ -7,9 +7,17 @@
 //! takes memory.
 #![tactic(auto)]
 
+mod handlers;
+mod law;
+
 ghost use Rattle.jv_format.specs.Format.{Finds, byte, bytes_of, half, quad, text};
 
+use byteorder::{BigEndian, ByteOrder};
+pub use handlers::{ExceptionTable, Handler};
+pub use law::{are_big_endian, handlers_stand};
+
 /// The byte at the front, and what follows it. `None` where there is none.
+#[inline]
 pub fn byte_at(bytes: &[u8]) -> Option<(u8, &[u8])>
     ensures { Finds byte bytes.now (λ x. (x.0, x.1.now)) result }
 {
@@ -21,26 +29,30 @@ pub fn byte_at(bytes: &[u8]) -> Option<(u8, &[u8])>
 
 /// The number in the two bytes at the front (a `u2` of JVMS 4), and what follows them. `None`
 /// where there are fewer.
+#[inline]
 pub fn half_at(bytes: &[u8]) -> Option<(u16, &[u8])>
     ensures { Finds half bytes.now (λ x. (x.0, x.1.now)) result }
 {
     match bytes {
-        [high, low, rest @ ..] => Some((u16::from(*high) * 256 + u16::from(*low), rest)),
+        [_, _, rest @ ..] => Some((BigEndian::read_u16(bytes), rest)),
         _ => None,
     }
 }
 
 /// The number in the four bytes at the front (a `u4` of JVMS 4), and what follows them. `None`
 /// where there are fewer.
+#[inline]
 pub fn quad_at(bytes: &[u8]) -> Option<(u32, &[u8])>
     ensures { Finds quad bytes.now (λ x. (x.0, x.1.now)) result }
 {
-    let (high, rest) = half_at(bytes)?;
-    let (low, rest) = half_at(rest)?;
-    Some((u32::from(high) * 65536 + u32::from(low), rest))
+    match bytes {
+        [_, _, _, _, rest @ ..] => Some((BigEndian::read_u32(bytes), rest)),
+        _ => None,
+    }
 }
 
 /// This many bytes, and what follows them. `None` where there are fewer.
+#[inline]
 pub fn bytes_at(count: usize, bytes: &[u8]) -> Option<(&[u8], &[u8])>
     ensures { Finds (bytes_of count) bytes.now (λ x. (x.0.now, x.1.now)) result }
 {
