@@ -2,7 +2,7 @@
 use Rattle.std.proofs.Common.{◌≡◌, ℕ, zero, suc, ◌≤◌, List, [], ◌∷◌, ◌++◌, length, drop, get_or, refl, sym, ap, ◌∙◌, append_assoc, arith, Option, Some, None}
 use Rattle.std.specs.Prelude.{◌≢◌, IsTrue, nat_le, replicate, ◌==◌, if◌then◌else◌}
 use Rattle.std.proofs.lemmas.Bool.{and_parts}
-use Rattle.std.proofs.lemmas.List.{append-nil}
+use Rattle.std.proofs.lemmas.List.{append-nil, append_cancel_right}
 use Rattle.jv_text.specs.declared.descriptor.Base.{Base}
 use Rattle.jv_text.specs.declared.descriptor.Base.TheVariants.{Byte, Char, Double, Float, Int, Long, Short, Boolean}
 use Rattle.jv_text.specs.declared.descriptor.Element.{Element}
@@ -166,3 +166,12 @@ pub left_over : (text rest : List ℕ) (t : FieldTypeOf (List ℕ)) → IsTrue (
 left_over text rest t fits found some other h =
     let one = one_front t other rest [] fits h.fits (sym found ∙ h.spelled ∙ sym (append-nil (field_text other))) in
     omega (arith, ap length one.1)
+
+-- one element alone has a text
+pub same_element : (a b : Element (List ℕ)) → element_text a ≡ element_text b → a ≡ b
+same_element (elements.Base a) (elements.Base b) e = ap (λ (c : Base). elements.Base c) (one_base a b cc)
+same_element (elements.Base a) (elements.Class name) e = absurd (no_base a 76 class_letter cc)
+same_element (elements.Class name) (elements.Base b) e = absurd (no_base b 76 class_letter cc)
+same_element (elements.Class name) (elements.Class other) e =
+    let tails : name ++ (59 ∷ []) ≡ other ++ (59 ∷ []) = cc in
+    ap (λ (c : List ℕ). elements.Class c) (append_cancel_right name other (59 ∷ []) tails)

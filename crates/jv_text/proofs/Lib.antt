@@ -2,3 +2,4 @@ pub mod Texts
 pub mod Names
 pub mod Fields
 pub mod Methods
+pub mod TypesOf

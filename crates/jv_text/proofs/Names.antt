@@ -10,7 +10,7 @@ use Rattle.std.proofs.lemmas.List.Quantifiers.{position-Some}
 use Rattle.jv_text.specs.Name.{is_name_byte, is_unqualified_name, is_class_name}
 
 -- every byte but `;`
-abbrev is_inside : ℕ → Bool
+abbrev pub is_inside : ℕ → Bool
 is_inside byte = not (byte == 59)
 
 -- every part is made of bytes of names

@@ -1,12 +1,14 @@
 //! Reads field descriptors (JVMS 4.3.2).
 
-ghost use Rattle.std.specs.Prelude.{◌≡◌, ◌≢◌, ℕ, ◌≤◌, List, [], ◌∷◌, ◌++◌, replicate, ◌==◌, not, IsTrue, IfOk, IfErr, IfSome, IfNone};
+ghost use Rattle.std.specs.Prelude.{◌≡◌, ◌≢◌, ℕ, ◌≤◌, Some, List, [], ◌∷◌, ◌++◌, replicate, ◌==◌, not, IsSome, IsTrue, IfOk, IfErr, IfSome, IfNone};
 ghost use Rattle.std.specs.List.{list_all, position};
 ghost use Rattle.jv_text.specs.Name.{is_class_name};
 ghost use Rattle.jv_text.specs.declared.descriptor.Base.{Base};
 ghost use Rattle.jv_text.specs.declared.descriptor.FieldTypeOf.{FieldTypeOf};
 ghost use Rattle.jv_text.specs.Descriptor.{base_letter, element_text, is_element, field_text, is_field_type, IsField};
 ghost use Rattle.jv_text.specs.Seen.{seen_element, seen_field};
+ghost use Rattle.jv_text.specs.Types.{field_type_of};
+ghost use Rattle.jv_text.specs.Inside.Elements.{IsElementText};
 
 use crate::descriptor::{BadDescriptor, Base, Element, FieldType, FieldTypeOf};
 use crate::name::is_class_name;
@@ -135,5 +137,37 @@ pub fn field_type(text: &[u8]) -> Result<FieldType<'_>, BadDescriptor>
         Ok(t)
     } else {
         Err(BadDescriptor)
+    }
+}
+
+/// The element of a text that is one: a letter, or `L`, a class name and `;`.
+fn known_element(text: &[u8]) -> Element<&[u8]>
+    requires { IsElementText text.now }
+    ensures { text.now ≡ element_text (seen_element result) }
+{
+    match text {
+        [b'L', name @ .., _] => Element::Class(name),
+        [letter, ..] => {
+            let Some(base) = base_of(*letter) else {
+                unreachable!();
+            };
+            Element::Base(base)
+        }
+        [] => unreachable!(),
+    }
+}
+
+/// The type of a text that is known to be a field descriptor, as a constant pool's can be (JVMS
+/// 4.3.2). It looks at the brackets and at one byte behind them, and not at a class's name.
+pub fn known_field_type(text: &[u8]) -> FieldType<'_>
+    requires { IsSome (field_type_of text.now) }
+    ensures { field_type_of text.now ≡ Some (seen_field result) }
+{
+    let Some((dimensions, rest)) = dimensions_at(text) else {
+        unreachable!();
+    };
+    FieldTypeOf {
+        dimensions,
+        element: known_element(rest),
     }
 }

@@ -13,13 +13,16 @@ mod text;
 
 ghost use Rattle.jv_text.specs.Text.{OneText};
 ghost use Rattle.jv_text.specs.Descriptor.{OneField, OneMethod};
+ghost use Rattle.jv_text.specs.Types.{TypesAgree};
 
 pub use descriptor::{
     BadDescriptor, Base, DescFault, Element, FieldType, FieldTypeOf, MethodShape, MethodType,
 };
-pub use field::field_type;
+pub use field::{field_type, known_field_type};
 pub use method::{is_floating, method_shape, method_type};
-pub use name::{is_class_name, is_member_name, is_method_name};
+pub use name::{
+    begins_with, is_array_name, is_class_name, is_init, is_member_name, is_method_name,
+};
 pub use text::{TextFault, decode, is_text};
 
 /// A law: bytes spell one list of units at most.
@@ -35,4 +38,9 @@ pub fn one_field()
 /// A law: the text of a method descriptor tells its parameters and its result.
 pub fn one_method()
     ensures { OneMethod }
+{}
+
+/// A law: the types that descriptors describe, as functions of the texts (JVMS 4.3.2, 4.3.3).
+pub fn types_agree()
+    ensures { TypesAgree }
 {}

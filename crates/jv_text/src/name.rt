@@ -2,7 +2,7 @@
 
 ghost use Rattle.std.specs.Prelude.{◌≡◌};
 ghost use Rattle.std.specs.List.{list_all};
-ghost use Rattle.jv_text.specs.Name.{is_name_byte, is_unqualified_name, is_class_name, is_plain_name, is_special_name, is_method_name};
+ghost use Rattle.jv_text.specs.Name.{is_name_byte, is_unqualified_name, is_class_name, is_plain_name, is_special_name, is_method_name, begins_with, is_array_name, is_init};
 
 fn is_allowed(byte: u8) -> bool
     ensures { result ≡ is_name_byte byte }
@@ -50,4 +50,31 @@ pub fn is_method_name(bytes: &[u8]) -> bool
     ensures { result ≡ is_method_name bytes.now }
 {
     is_member_name(bytes) && (is_special(bytes) || is_plain(bytes))
+}
+
+/// Whether the text begins with the byte.
+#[inline]
+pub fn begins_with(byte: u8, text: &[u8]) -> bool
+    ensures { result ≡ begins_with byte text.now }
+{
+    match text {
+        [first, ..] => *first == byte,
+        [] => false,
+    }
+}
+
+/// Whether what a Class constant names is an array type (JVMS 4.4.1).
+#[inline]
+pub fn is_array_name(name: &[u8]) -> bool
+    ensures { result ≡ is_array_name name.now }
+{
+    begins_with(b'[', name)
+}
+
+/// Whether the name is that of an instance initialization method, `<init>` (JVMS 2.9).
+#[inline]
+pub fn is_init(name: &[u8]) -> bool
+    ensures { result ≡ is_init name.now }
+{
+    name == b"<init>".as_slice()
 }
