@@ -17,17 +17,17 @@ use Rattle.jv_pool.specs.declared.shape.HalfKind.{HalfKind}
 use Rattle.jv_pool.specs.declared.shape.HalfKind.TheVariants as halves
 use Rattle.jv_pool.specs.declared.shape.TwoHalvesKind.{TwoHalvesKind}
 use Rattle.jv_pool.specs.declared.shape.TwoHalvesKind.TheVariants as two_halves
-use Rattle.jv_pool.specs.declared.shape.Shape.{Shape}
-use Rattle.jv_pool.specs.declared.shape.Shape.TheVariants as shapes
+use Rattle.jv_pool.specs.declared.shape.ConstantShape.{ConstantShape}
+use Rattle.jv_pool.specs.declared.shape.ConstantShape.TheVariants as shapes
 use Rattle.jv_pool.specs.declared.fault.PoolFault.{PoolFault}
 use Rattle.jv_pool.specs.declared.fault.PoolFault.TheVariants.{BadPool, Memory}
 use Rattle.jv_pool.specs.Constants.{Entry, constant_bytes, constant_fits, takes_two, table_of, pool_count, pool_bytes, pool_fits}
 use Rattle.jv_pool.specs.Rules.{KeepsRules, IsPool, OnePool}
-use Rattle.jv_pool.specs.Reading.{shape_of, utf8, of_quad, of_two_quads, of_half, of_two_halves, method_handle, shaped_read, contents_read, constant_read, entries_read, entries, counted, constants, Fails}
+use Rattle.jv_pool.specs.Inside.Reading.{shape_of, utf8, of_quad, of_two_quads, of_half, of_two_halves, method_handle, shaped_read, contents_read, constant_read, entries_read, entries, counted, constants, Fails}
 
 -- ---- the tag of a shape
 
-tag_of : Shape → ℕ
+tag_of : ConstantShape → ℕ
 tag_of shapes.Text = 1
 tag_of (shapes.Quad quads.Integer) = 3
 tag_of (shapes.Quad quads.Float) = 4
@@ -44,10 +44,10 @@ tag_of (shapes.TwoHalves two_halves.InvokeDynamic) = 18
 tag_of shapes.ByteAndHalf = 15
 
 -- the shape that a test of the tag gave
-tested : (tag k : ℕ) (one shape : Shape) → k ≡ tag_of one → eqb tag k ≡ true → Some one ≡ Some shape → tag ≡ tag_of shape
+tested : (tag k : ℕ) (one shape : ConstantShape) → k ≡ tag_of one → eqb tag k ≡ true → Some one ≡ Some shape → tag ≡ tag_of shape
 tested tag k one shape own t r = eqb-true tag k t ∙ own ∙ ap tag_of (is_some one shape r)
 
-tag_is : (tag : ℕ) (shape : Shape) → shape_of tag ≡ Some shape → tag ≡ tag_of shape
+tag_is : (tag : ℕ) (shape : ConstantShape) → shape_of tag ≡ Some shape → tag ≡ tag_of shape
 unfolding tag_of
 tag_is tag shape e =
     by_test _ _ _ _ e (λ t r. tested tag 1 shapes.Text shape refl t r) (λ e.
@@ -77,7 +77,7 @@ handle_is : IsFormat (both byte half)
 handle_is = both_is byte half byte_is half_is
 
 -- a constant behind its tag
-abbrev Behind : ℕ → Shape → Type 0
+abbrev Behind : ℕ → ConstantShape → Type 0
 Behind tag shape = (bytes rest : List ℕ) (c : Entry) → IsBytes bytes → shaped_read shape bytes ≡ Some (c, rest) → Took constant_bytes constant_fits tag bytes rest c
 
 quad_takes : (tag : ℕ) (kind : QuadKind) → ((n : ℕ) → constant_bytes (of_quad kind n) ≡ tag ∷ quad.spelling n) → ((n : ℕ) → constant_fits (of_quad kind n) ≡ quad.fits n) → eqb tag tag ≡ true → Behind tag (shapes.Quad kind)
@@ -98,7 +98,7 @@ text_takes bytes rest c small e = took constant_bytes constant_fits text utf8 1 
 handle_takes : Behind 15 shapes.ByteAndHalf
 handle_takes bytes rest c small e = took constant_bytes constant_fits (both byte half) method_handle 15 15 bytes rest c handle_is small (λ a. refl) (λ a. refl) refl e
 
-shaped_takes : (shape : Shape) → Behind (tag_of shape) shape
+shaped_takes : (shape : ConstantShape) → Behind (tag_of shape) shape
 unfolding tag_of
 shaped_takes shapes.Text = text_takes
 shaped_takes (shapes.Quad quads.Integer) = quad_takes 3 quads.Integer (λ a. refl) (λ a. refl) refl
@@ -115,7 +115,7 @@ shaped_takes (shapes.TwoHalves two_halves.NameAndType) = two_halves_takes 12 two
 shaped_takes (shapes.TwoHalves two_halves.InvokeDynamic) = two_halves_takes 18 two_halves.InvokeDynamic (λ a. refl) (λ a. refl) refl
 shaped_takes shapes.ByteAndHalf = handle_takes
 
-contents_take : (tag : ℕ) (found : Option Shape) (bytes rest : List ℕ) (c : Entry) → IsBytes bytes → shape_of tag ≡ found → contents_read found bytes ≡ Some (c, rest) → Took constant_bytes constant_fits tag bytes rest c
+contents_take : (tag : ℕ) (found : Option ConstantShape) (bytes rest : List ℕ) (c : Entry) → IsBytes bytes → shape_of tag ≡ found → contents_read found bytes ≡ Some (c, rest) → Took constant_bytes constant_fits tag bytes rest c
 contents_take tag None bytes rest c small s e = absurd cc
 contents_take tag (Some shape) bytes rest c small s e = rw (tag_is tag shape s) (shaped_takes shape bytes rest c small e)
 

@@ -1,21 +1,18 @@
 -- The map from texts to their least indices.
 use Rattle.std.proofs.Common.{◌≡◌, ℕ, ◌<◌, ◌≤◌, ◌+◌, Bool, true, false, cond, List, [], ◌∷◌, ◌++◌, length, Option, Some, None, refl, sym, ap, subst, ◌∙◌, arith, length-append, Bor}
-use Rattle.std.specs.Prelude.{◌≢◌, slice_get, IsSome}
+use Rattle.std.specs.Prelude.{◌≢◌, slice_get}
 use Rattle.std.specs.Str.{bytes_eq}
 use Rattle.std.specs.BTreeMap.{BTreeMap}
 use Rattle.std.proofs.lemmas.Option.{same_Some}
 use Rattle.std.proofs.lemmas.Slice.Eq.{bytes_eq-Decides}
 use Rattle.jv_pool.specs.Constants.{Entry, pool_count, utf8_at}
-use Rattle.jv_pool.specs.Alike.{IsFirst, IsAlike, IsInOrder, AlikeBelow, IsFirstBelow, first_in, AreFirsts}
+use Rattle.jv_pool.specs.Inside.Alike.{IsFirst, IsAlike, IsInOrder, AlikeBelow, IsFirstBelow, first_in, AreFirsts}
 use Rattle.jv_pool.proofs.Kept.{get_before, get_last, below_or_here, below_or_past, past_texts}
 
 -- one index more, at which another text is
 next : (pool : List Entry) (i : ℕ) (q : List ℕ) (o : Option ℕ) → (o ≡ None → utf8_at pool i ≢ Some q) → IsFirstBelow pool i q o → IsFirstBelow pool (i + 1) q o
 next pool i q None other h = let P : ℕ → Type 0 = λ j. utf8_at pool j ≢ Some q in below_or_here P i h (other refl)
 next pool i q (Some f) other h = h
-
-pub firsts_none : (pool : List Entry) (i : ℕ) (m : BTreeMap (Bor (List ℕ)) ℕ) → utf8_at pool i ≡ None → AreFirsts pool i m → AreFirsts pool (i + 1) m
-firsts_none pool i m none h = λ q. next pool i q (first_in m q) (λ o e. cc) (h q)
 
 first_is : (pool : List Entry) (i f : ℕ) (t : List ℕ) → utf8_at pool i ≡ Some t → IsFirstBelow pool i t (Some f) → IsFirst pool i f
 first_is pool i f t here h = record { same = h.0 ∙ sym here; first = λ j lt e. h.1 j lt (e ∙ here) }
@@ -60,12 +57,6 @@ pub AlikeBelow-all : (pool : List Entry) (i : ℕ) (alike : List ℕ) → pool_c
 AlikeBelow-all pool i alike le so_far =
     let P : ℕ → Type 0 = λ k. IsAlike pool k (utf8_at pool k) (slice_get alike k) in
     below_or_past P i so_far.each (λ k past. let no_text : utf8_at pool k ≡ None = past_texts pool k (omega arith) in rw no_text tt)
-
--- what holds of a text that is there
-pub alike_at : (pool : List Entry) (k : ℕ) (o : Option (List ℕ)) (found : Option ℕ) → IsSome o → IsAlike pool k o found → (f : ℕ) → found ≡ Some f → IsFirst pool k f
-alike_at pool k None found some h f e = absurd cc
-alike_at pool k (Some t) None some h f e = absurd h
-alike_at pool k (Some t) (Some g) some h f e = subst (IsFirst pool k) (same_Some g f e) h
 
 pub alike_from : (pool : List Entry) (k : ℕ) (t : List ℕ) (f : ℕ) → utf8_at pool k ≡ Some t → IsFirst pool k f → IsAlike pool k (utf8_at pool k) (Some f)
 alike_from pool k t f here h = subst (λ (o : Option (List ℕ)). IsAlike pool k o (Some f)) (sym here) h

@@ -14,7 +14,7 @@ use Rattle.jv_pool.specs.declared.facts.MethodFacts.{MethodFacts}
 use Rattle.jv_pool.specs.Rules.{IsMethodMember, NamesMethod}
 use Rattle.jv_pool.specs.Facts.{AreMethodFacts}
 use Rattle.jv_pool.specs.Constants.{Entry, takes_two, entries_of, table_of, pool_count, usable, at_index, utf8_at, utf8_in, name_and_descriptor}
-use Rattle.jv_pool.specs.Known.{IsKnown, known_in, AllKnown, KnownBelow, MethodKnown, IsNamedFor, special_right, At}
+use Rattle.jv_pool.specs.Inside.Known.{IsKnown, known_in, AllKnown, KnownBelow, MethodKnown, IsNamedFor, special_right, At}
 
 -- ---- lists
 

@@ -2,3 +2,4 @@ pub mod Constants
 pub mod Listing
 pub mod Kept
 pub mod Firsts
+pub mod NamedBy

@@ -7,22 +7,18 @@ use Rattle.std.proofs.lemmas.List.{append-nil, map_push, length-append}
 use Rattle.jv_format.specs.Format.{Finds, byte, ◌>>=◌}
 use Rattle.jv_format.proofs.Laws.{is_some, bind_some, with_front, just}
 use Rattle.jv_pool.specs.declared.constant.Constant.{Constant}
-use Rattle.jv_pool.specs.declared.shape.Shape.{Shape}
+use Rattle.jv_pool.specs.declared.shape.ConstantShape.{ConstantShape}
 use Rattle.jv_pool.specs.Constants.{Entry, takes_two, entries_of, table_of}
 use Rattle.jv_pool.specs.Seen.{seen}
-use Rattle.jv_pool.specs.Reading.{shape_of, contents_read, constant_read, seen_found, constant, entries_read, step_read, seen_entry, constants_in, pending}
+use Rattle.jv_pool.specs.Inside.Reading.{shape_of, contents_read, constant_read, seen_found, constant, entries_read, step_read, seen_entry, constants_in, pending}
 
 -- ---- one constant
 
-pub constant_found : (bytes rest : List ℕ) (tag : ℕ) (found : Option Shape) → byte.read bytes ≡ Some (tag, rest) → shape_of tag ≡ found → constant_read bytes ≡ contents_read found rest
+pub constant_found : (bytes rest : List ℕ) (tag : ℕ) (found : Option ConstantShape) → byte.read bytes ≡ Some (tag, rest) → shape_of tag ≡ found → constant_read bytes ≡ contents_read found rest
 constant_found [] rest tag found e s = absurd cc
 constant_found (t ∷ bytes) rest tag found e s =
     let same : (t, bytes) ≡ (tag, rest) = is_some (t, bytes) (tag, rest) e in
-    ap (λ (y : ℕ × List ℕ). contents_read (shape_of y.0) y.1) same ∙ ap (λ (o : Option Shape). contents_read o rest) s
-
-pub constant_missing : (bytes : List ℕ) → byte.read bytes ≡ None → constant_read bytes ≡ None
-constant_missing [] e = refl
-constant_missing (t ∷ bytes) e = absurd cc
+    ap (λ (y : ℕ × List ℕ). contents_read (shape_of y.0) y.1) same ∙ ap (λ (o : Option ConstantShape). contents_read o rest) s
 
 -- the same, said of a result
 pub finds_constant : (bytes : List ℕ) (r : Option (Constant (Bor (List ℕ)) × Bor (List ℕ))) → option_map seen_found r ≡ constant_read bytes → Finds constant bytes (λ x. (seen x.0, x.1.now)) r

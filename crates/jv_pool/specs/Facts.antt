@@ -8,8 +8,8 @@ use Rattle.jv_text.specs.declared.descriptor.Element.TheVariants as elements
 use Rattle.jv_text.specs.declared.descriptor.FieldTypeOf.{FieldTypeOf}
 use Rattle.jv_text.specs.Name.{is_unqualified_name, is_method_name}
 use Rattle.jv_text.specs.Descriptor.{IsField, is_floating, is_floating_method, MethodDescriptor, slots, IsMethod}
-use Rattle.jv_pool.specs.declared.facts.ValueKind.{ValueKind}
-use Rattle.jv_pool.specs.declared.facts.ValueKind.TheVariants as values
+use Rattle.jv_pool.specs.declared.facts.ConstantValueKind.{ConstantValueKind}
+use Rattle.jv_pool.specs.declared.facts.ConstantValueKind.TheVariants as values
 use Rattle.jv_pool.specs.declared.facts.FieldFacts.{FieldFacts}
 use Rattle.jv_pool.specs.declared.facts.MethodFacts.{MethodFacts}
 use Rattle.jv_pool.specs.declared.facts.TextFacts.{TextFacts}
@@ -17,7 +17,7 @@ use Rattle.jv_pool.specs.Rules.{NamesClass}
 
 -- ---- which constant may be the value of a static field of a type (4.7.2, table 4.7.2-A)
 
-abbrev pub value_of_base : Base → ValueKind
+abbrev pub value_of_base : Base → ConstantValueKind
 value_of_base bases.Long = values.Long
 value_of_base bases.Float = values.Floating
 value_of_base bases.Double = values.Floating
@@ -27,12 +27,12 @@ value_of_base bases.Char = values.Integer
 value_of_base bases.Byte = values.Integer
 value_of_base bases.Boolean = values.Integer
 
-abbrev pub value_of_element : Element (List ℕ) → ValueKind
+abbrev pub value_of_element : Element (List ℕ) → ConstantValueKind
 value_of_element (elements.Base base) = value_of_base base
 value_of_element (elements.Class name) = if bytes_eq name (codes "java/lang/String") then values.String else values.Nothing
 
 -- of an array none
-abbrev pub value_of_type : FieldTypeOf (List ℕ) → ValueKind
+abbrev pub value_of_type : FieldTypeOf (List ℕ) → ConstantValueKind
 value_of_type type = if type.dimensions == 0 then value_of_element type.element else values.Nothing
 
 -- ---- what is known

@@ -1,28 +1,15 @@
 -- Which lists of constants are pools (JVMS 4.4).
-use Rattle.std.specs.Prelude.{◌≡◌, ◌⊎◌, ⊤, ℕ, Bool, true, false, ◌&&◌, ◌==◌, List, [], ◌∷◌, ◌++◌, Option, is_none, IsSome, IsTrue, codes, if◌then◌else◌}
+use Rattle.std.specs.Prelude.{◌≡◌, ◌⊎◌, ⊤, ℕ, Bool, true, ◌&&◌, List, ◌++◌, Option, is_none, IsSome, IsTrue, if◌then◌else◌}
 use Rattle.std.specs.List.{All}
 use Rattle.std.specs.Option.{IsSomeAnd}
-use Rattle.std.specs.Str.{bytes_eq}
 use Rattle.jv_text.specs.declared.descriptor.FieldTypeOf.{FieldTypeOf}
 use Rattle.jv_text.specs.Text.{IsText}
-use Rattle.jv_text.specs.Name.{is_unqualified_name, is_class_name, is_plain_name, is_method_name}
+use Rattle.jv_text.specs.Name.{is_unqualified_name, is_class_name, is_plain_name, is_method_name, begins_with, is_array_name, is_init}
 use Rattle.jv_text.specs.Descriptor.{IsField, MethodDescriptor, IsMethod}
 use Rattle.jv_pool.specs.declared.constant.Constant.TheVariants.{Utf8, Integer, Float, Long, Double, Class, String, Fieldref, Methodref, InterfaceMethodref, NameAndType, MethodHandle, MethodType, InvokeDynamic}
 use Rattle.jv_pool.specs.Constants.{Entry, NameAndDescriptor, pool_bytes, pool_fits, utf8_at, class_name_at, name_and_type_at}
 
 -- ---- texts
-
-abbrev pub begins_with : ℕ → List ℕ → Bool
-begins_with byte [] = false
-begins_with byte (first ∷ rest) = first == byte
-
--- the descriptor of an array type begins with `[` (91), and no class name does (4.3.2)
-abbrev pub is_array_name : List ℕ → Bool
-is_array_name text = begins_with 91 text
-
--- `<init>` (2.9)
-abbrev pub is_init : List ℕ → Bool
-is_init name = bytes_eq name (codes "<init>")
 
 abbrev pub IsFieldDescriptor : List ℕ → Type 0
 IsFieldDescriptor text = (type : FieldTypeOf (List ℕ)) × IsField text type

@@ -3,7 +3,7 @@
 ghost use Rattle.std.specs.Prelude.{◌≡◌, ◌+◌, Some, IfOk, IfErr, OnOk};
 ghost use Rattle.jv_pool.specs.declared.fault.PoolFault.TheVariants.{Memory};
 ghost use Rattle.jv_pool.specs.Constants.{utf8_at};
-ghost use Rattle.jv_pool.specs.Alike.{IsAlike, IsInOrder, AreFirsts};
+ghost use Rattle.jv_pool.specs.Inside.Alike.{IsAlike, IsInOrder, AreFirsts};
 
 use crate::fault::PoolFault;
 use crate::table::Table;

@@ -2,7 +2,7 @@
 
 /// Which constant a static field of a type may have as its value (JVMS 4.7.2, table 4.7.2-A).
 #[derive(Clone, Copy)]
-pub enum ValueKind {
+pub enum ConstantValueKind {
     /// int, short, char, byte and boolean: an Integer constant.
     Integer,
     /// long: a Long constant.
@@ -19,7 +19,7 @@ pub enum ValueKind {
 #[derive(Clone, Copy)]
 pub struct FieldFacts {
     /// Which constant a static field of this type may have as its value.
-    pub value: ValueKind,
+    pub value: ConstantValueKind,
     /// Whether the type is float or double, or an array of one of these.
     pub floating: bool,
 }

@@ -3,7 +3,7 @@
 ghost use Rattle.std.specs.Prelude.{◌≡◌, IfOk, IfErr};
 ghost use Rattle.jv_pool.specs.declared.fault.PoolFault.TheVariants.{Memory};
 ghost use Rattle.jv_pool.specs.Constants.{utf8_at};
-ghost use Rattle.jv_pool.specs.Known.{IsKnown, AllKnown};
+ghost use Rattle.jv_pool.specs.Inside.Known.{IsKnown, AllKnown};
 
 use crate::facts::TextFacts;
 use crate::fault::PoolFault;
@@ -23,7 +23,7 @@ pub(crate) struct Known<'a> {
 impl<'a> Model for Known<'a> {
     ghost use Rattle.std.specs.Prelude.{List};
     ghost use Rattle.jv_pool.specs.Constants.{Entry};
-    ghost use Rattle.jv_pool.specs.Known.{AllKnown};
+    ghost use Rattle.jv_pool.specs.Inside.Known.{AllKnown};
 
     ghost Value = { List Entry };
 

@@ -21,11 +21,11 @@ mod table;
 mod texts;
 
 pub use constant::{Constant, Kind, MemberName, NameAndTypeTexts};
-pub use facts::{FieldFacts, MethodFacts, TextFacts, ValueKind};
+pub use facts::{ConstantValueKind, FieldFacts, MethodFacts, TextFacts};
 pub use fault::PoolFault;
 pub use index::{
     ClassIndex, FieldrefIndex, IntegerIndex, InterfaceMethodrefIndex, LongIndex, MethodrefIndex,
     NameAndTypeIndex, StringIndex, Utf8Index,
 };
-pub use law::one_pool;
+pub use law::{holds_at_index, kinds_name, one_pool};
 pub use pool::{Pool, read_pool};

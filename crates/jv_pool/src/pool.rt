@@ -38,7 +38,7 @@ pub struct Pool<'a> {
 impl<'a> Model for Pool<'a> {
     ghost use Rattle.std.specs.Prelude.{List};
     ghost use Rattle.jv_pool.specs.Constants.{Entry};
-    ghost use Rattle.jv_pool.specs.Inside.{IsInside};
+    ghost use Rattle.jv_pool.specs.Inside.Pools.{IsInside};
 
     ghost Value = { List Entry };
 
@@ -80,6 +80,14 @@ impl<'a> Pool<'a> {
     {
         let alike = all_alike(alloc, known.table())?;
         Ok(Pool { known, alike })
+    }
+
+    /// Each constant keeps the rules of its kind (4.4). The call does nothing: a holder of a pool
+    /// learns what holds of every pool.
+    pub fn keeps_rules(&self)
+        ensures { All (KeepsRules self.now) self.now }
+    {
+        let _known = &self.known;
     }
 
     /// One more than the number of entries of the table (4.1); indices are below it.

@@ -3,14 +3,14 @@
 ghost use Rattle.std.specs.Prelude.{◌≡◌, ◌<◌};
 ghost use Rattle.std.specs.Option.{option_map};
 ghost use Rattle.jv_format.specs.Format.{Finds};
-ghost use Rattle.jv_pool.specs.declared.shape.Shape.TheVariants as shapes;
+ghost use Rattle.jv_pool.specs.declared.shape.ConstantShape.TheVariants as shapes;
 ghost use Rattle.jv_pool.specs.Constants.{takes_two};
 ghost use Rattle.jv_pool.specs.Seen.{seen};
-ghost use Rattle.jv_pool.specs.Reading.{Gives, of_quad, of_two_quads, of_half, of_two_halves, shaped, contents_read, seen_found, constant, entries, constants, step_read, seen_step};
+ghost use Rattle.jv_pool.specs.Inside.Reading.{Gives, of_quad, of_two_quads, of_half, of_two_halves, shaped, contents_read, seen_found, constant, entries, constants, step_read, seen_step};
 
 use crate::constant::Constant;
 use crate::fault::PoolFault;
-use crate::shape::{HalfKind, QuadKind, Shape, TwoHalvesKind, TwoQuadsKind, shape_of};
+use crate::shape::{ConstantShape, HalfKind, QuadKind, TwoHalvesKind, TwoQuadsKind, shape_of};
 use crate::table::Table;
 use jv_format::{byte_at, half_at, quad_at, text_at};
 use std::alloc::Global;
@@ -101,21 +101,21 @@ fn handle_constant(bytes: &[u8]) -> Option<(Constant<&[u8]>, &[u8])>
 }
 
 /// The constant of this shape at the front, and what follows it.
-fn shaped_at(shape: Shape, bytes: &[u8]) -> Option<(Constant<&[u8]>, &[u8])>
+fn shaped_at(shape: ConstantShape, bytes: &[u8]) -> Option<(Constant<&[u8]>, &[u8])>
     ensures { Finds (shaped shape) bytes.now (λ x. (seen x.0, x.1.now)) result }
 {
     match shape {
-        Shape::Text => text_constant(bytes),
-        Shape::Quad(kind) => quad_constant(kind, bytes),
-        Shape::TwoQuads(kind) => two_quads_constant(kind, bytes),
-        Shape::Half(kind) => half_constant(kind, bytes),
-        Shape::TwoHalves(kind) => two_halves_constant(kind, bytes),
-        Shape::ByteAndHalf => handle_constant(bytes),
+        ConstantShape::Text => text_constant(bytes),
+        ConstantShape::Quad(kind) => quad_constant(kind, bytes),
+        ConstantShape::TwoQuads(kind) => two_quads_constant(kind, bytes),
+        ConstantShape::Half(kind) => half_constant(kind, bytes),
+        ConstantShape::TwoHalves(kind) => two_halves_constant(kind, bytes),
+        ConstantShape::ByteAndHalf => handle_constant(bytes),
     }
 }
 
 /// The constant at the front of what stands behind its tag, and what follows it.
-fn contents_at(shape: Option<Shape>, bytes: &[u8]) -> Option<(Constant<&[u8]>, &[u8])>
+fn contents_at(shape: Option<ConstantShape>, bytes: &[u8]) -> Option<(Constant<&[u8]>, &[u8])>
     ensures { option_map seen_found result ≡ contents_read shape bytes.now }
 {
     shaped_at(shape?, bytes)

@@ -5,15 +5,15 @@ ghost use Rattle.std.specs.List.{All};
 ghost use Rattle.std.specs.Option.{IsSomeAnd};
 ghost use Rattle.jv_pool.specs.Constants.{at_index, utf8_at, class_name_at, named_at, name_and_type_at};
 ghost use Rattle.jv_text.specs.Name.{is_method_name};
-ghost use Rattle.jv_pool.specs.Rules.{begins_with, IsUnqualified, IsFieldDescriptor, IsDescriptor, NamesField, NamesMethod, NamesInterfaceMethod, IsClassIn, IsMemberIn, IsNameAndTypeIn, KeepsRules};
+ghost use Rattle.jv_pool.specs.Rules.{IsUnqualified, IsFieldDescriptor, IsDescriptor, NamesField, NamesMethod, NamesInterfaceMethod, IsClassIn, IsMemberIn, IsNameAndTypeIn, KeepsRules};
+ghost use Rattle.jv_text.specs.Name.{begins_with};
 ghost use Rattle.jv_pool.specs.Seen.{seen};
-ghost use Rattle.jv_pool.specs.Known.{MethodKnown, special_right, IsNamedFor, IsPlainMethodName, pair_in, IsKept};
+ghost use Rattle.jv_pool.specs.Inside.Known.{MethodKnown, special_right, IsNamedFor, IsPlainMethodName, pair_in, IsKept};
 
 use crate::constant::Constant;
 use crate::facts::MethodFacts;
 use crate::known::Known;
-use crate::texts::{begins_with, is_init};
-use jv_text::is_text;
+use jv_text::{begins_with, is_init, is_text};
 
 // ---- texts at indices
 

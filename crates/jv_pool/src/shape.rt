@@ -1,7 +1,7 @@
 //! What the tag of a constant says of the bytes behind it (JVMS table 4.4-A).
 
 ghost use Rattle.std.specs.Prelude.{◌≡◌};
-ghost use Rattle.jv_pool.specs.Reading.{shape_of};
+ghost use Rattle.jv_pool.specs.Inside.Reading.{shape_of};
 
 /// A constant that is four bytes.
 #[derive(Clone, Copy)]
@@ -37,7 +37,7 @@ pub(crate) enum TwoHalvesKind {
 
 /// What stands behind a tag.
 #[derive(Clone, Copy)]
-pub(crate) enum Shape {
+pub(crate) enum ConstantShape {
     Text,
     Quad(QuadKind),
     TwoQuads(TwoQuadsKind),
@@ -47,24 +47,24 @@ pub(crate) enum Shape {
 }
 
 /// The shape of the constants with this tag.
-pub(crate) fn shape_of(tag: u8) -> Option<Shape>
+pub(crate) fn shape_of(tag: u8) -> Option<ConstantShape>
     ensures { result ≡ shape_of tag }
 {
     match tag {
-        1 => Some(Shape::Text),
-        3 => Some(Shape::Quad(QuadKind::Integer)),
-        4 => Some(Shape::Quad(QuadKind::Float)),
-        5 => Some(Shape::TwoQuads(TwoQuadsKind::Long)),
-        6 => Some(Shape::TwoQuads(TwoQuadsKind::Double)),
-        7 => Some(Shape::Half(HalfKind::Class)),
-        8 => Some(Shape::Half(HalfKind::String)),
-        9 => Some(Shape::TwoHalves(TwoHalvesKind::Fieldref)),
-        10 => Some(Shape::TwoHalves(TwoHalvesKind::Methodref)),
-        11 => Some(Shape::TwoHalves(TwoHalvesKind::InterfaceMethodref)),
-        12 => Some(Shape::TwoHalves(TwoHalvesKind::NameAndType)),
-        15 => Some(Shape::ByteAndHalf),
-        16 => Some(Shape::Half(HalfKind::MethodType)),
-        18 => Some(Shape::TwoHalves(TwoHalvesKind::InvokeDynamic)),
+        1 => Some(ConstantShape::Text),
+        3 => Some(ConstantShape::Quad(QuadKind::Integer)),
+        4 => Some(ConstantShape::Quad(QuadKind::Float)),
+        5 => Some(ConstantShape::TwoQuads(TwoQuadsKind::Long)),
+        6 => Some(ConstantShape::TwoQuads(TwoQuadsKind::Double)),
+        7 => Some(ConstantShape::Half(HalfKind::Class)),
+        8 => Some(ConstantShape::Half(HalfKind::String)),
+        9 => Some(ConstantShape::TwoHalves(TwoHalvesKind::Fieldref)),
+        10 => Some(ConstantShape::TwoHalves(TwoHalvesKind::Methodref)),
+        11 => Some(ConstantShape::TwoHalves(TwoHalvesKind::InterfaceMethodref)),
+        12 => Some(ConstantShape::TwoHalves(TwoHalvesKind::NameAndType)),
+        15 => Some(ConstantShape::ByteAndHalf),
+        16 => Some(ConstantShape::Half(HalfKind::MethodType)),
+        18 => Some(ConstantShape::TwoHalves(TwoHalvesKind::InvokeDynamic)),
         _ => None,
     }
 }

@@ -4,7 +4,7 @@ ghost use Rattle.std.specs.Prelude.{◌≡◌, List, ℕ, map};
 ghost use Rattle.std.specs.Option.{option_map};
 ghost use Rattle.jv_pool.specs.Constants.{pool_count, at_index, kind_of, kind_at, utf8_in, utf8_at, integer_in, integer_at, long_in, long_at, class_name_in, class_name_at, string_at, named_at, name_and_type_at, member_at, field_reference_at, method_reference_at, interface_method_reference_at};
 ghost use Rattle.jv_pool.specs.Seen.{seen, seen_text, seen_name_and_type, seen_member};
-ghost use Rattle.jv_pool.specs.Reading.{IsTable, constants_in, entry_at};
+ghost use Rattle.jv_pool.specs.Inside.Reading.{IsTable, constants_in, entry_at};
 
 use crate::constant::{Constant, Kind, MemberName, NameAndTypeTexts};
 use std::marker::Model;
@@ -20,7 +20,7 @@ pub(crate) struct Table<'a> {
 impl<'a> Model for Table<'a> {
     ghost use Rattle.std.specs.Prelude.{List};
     ghost use Rattle.jv_pool.specs.Constants.{Entry};
-    ghost use Rattle.jv_pool.specs.Reading.{IsTable, constants_in};
+    ghost use Rattle.jv_pool.specs.Inside.Reading.{IsTable, constants_in};
 
     ghost Value = { List Entry };
 

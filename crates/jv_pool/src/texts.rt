@@ -2,62 +2,49 @@
 
 ghost use Rattle.std.specs.Prelude.{◌≡◌, ◌↔◌, IsTrue, IsSome};
 ghost use Rattle.jv_text.specs.Seen.{seen_element, seen_field};
-ghost use Rattle.jv_pool.specs.Rules.{begins_with, is_array_name, is_init, NamesClass, IsFieldDescriptor};
+ghost use Rattle.jv_pool.specs.Rules.{NamesClass, IsFieldDescriptor};
+ghost use Rattle.jv_text.specs.Name.{begins_with, is_array_name, is_init};
 ghost use Rattle.jv_pool.specs.Facts.{value_of_base, value_of_element, value_of_type, IsFieldKnown, IsMethodKnown, AreFacts};
 
-use crate::facts::{FieldFacts, MethodFacts, TextFacts, ValueKind};
+use crate::facts::{ConstantValueKind, FieldFacts, MethodFacts, TextFacts};
 use jv_text::{
-    Base, Element, FieldType, field_type, is_class_name, is_floating, is_member_name,
-    is_method_name, method_shape,
+    Base, Element, FieldType, field_type, is_array_name, is_class_name, is_floating,
+    is_member_name, is_method_name, method_shape,
 };
 
-pub(crate) fn begins_with(byte: u8, text: &[u8]) -> bool
-    ensures { result ≡ begins_with byte text.now }
-{
-    match text {
-        [first, ..] => *first == byte,
-        [] => false,
-    }
-}
-
-pub(crate) fn is_init(name: &[u8]) -> bool
-    ensures { result ≡ is_init name.now }
-{
-    name == b"<init>".as_slice()
-}
-
-fn value_of_base(base: Base) -> ValueKind
+fn value_of_base(base: Base) -> ConstantValueKind
     ensures { result ≡ value_of_base base }
 {
     match base {
-        Base::Long => ValueKind::Long,
-        Base::Float | Base::Double => ValueKind::Floating,
-        Base::Int | Base::Short | Base::Char | Base::Byte | Base::Boolean => ValueKind::Integer,
+        Base::Long => ConstantValueKind::Long,
+        Base::Float | Base::Double => ConstantValueKind::Floating,
+        Base::Int | Base::Short | Base::Char | Base::Byte | Base::Boolean =>
+            ConstantValueKind::Integer,
     }
 }
 
-fn value_of_element(element: Element<&[u8]>) -> ValueKind
+fn value_of_element(element: Element<&[u8]>) -> ConstantValueKind
     ensures { result ≡ value_of_element (seen_element element.entry) }
 {
     match element {
         Element::Base(base) => value_of_base(base),
         Element::Class(name) => {
             if name == b"java/lang/String".as_slice() {
-                ValueKind::String
+                ConstantValueKind::String
             } else {
-                ValueKind::Nothing
+                ConstantValueKind::Nothing
             }
         }
     }
 }
 
-fn value_of_type(t: FieldType<'_>) -> ValueKind
+fn value_of_type(t: FieldType<'_>) -> ConstantValueKind
     ensures { result ≡ value_of_type (seen_field t.entry) }
 {
     if t.dimensions == 0 {
         value_of_element(t.element)
     } else {
-        ValueKind::Nothing
+        ConstantValueKind::Nothing
     }
 }
 
@@ -92,7 +79,7 @@ fn names_class(text: &[u8], described: bool) -> bool
     requires { IsTrue described ↔ IsFieldDescriptor text.now }
     ensures { IsTrue result ↔ NamesClass text.now }
 {
-    is_class_name(text) || (begins_with(b'[', text) && described)
+    is_class_name(text) || (is_array_name(text) && described)
 }
 
 /// What is known of the text. Each kind of name and descriptor is looked for once.

@@ -1,4 +1,4 @@
-use Rattle.jv_pool.specs.Alike.{AlikeBelow, AreFirsts}
+use Rattle.jv_pool.specs.Inside.Alike.{AlikeBelow, AreFirsts}
 use Rattle.jv_pool.proofs.alike.all_alike.Given as goal
 
 abbrev pub invariant-loop-index : goal.invariant-loop-index

@@ -1,7 +1,7 @@
 use Rattle.std.proofs.Common.{◌≡◌, ◌∙◌, Some, None, sym}
 use Rattle.std.proofs.lemmas.Map.Text.{btree_map_updates_str}
 use Rattle.jv_pool.specs.Constants.{utf8_at}
-use Rattle.jv_pool.specs.Alike.{first_in}
+use Rattle.jv_pool.specs.Inside.Alike.{first_in}
 use Rattle.jv_pool.proofs.Firsts.{alike_from, firsts_known, firsts_new}
 use Rattle.jv_pool.proofs.alike.first_of.Goals as goal
 

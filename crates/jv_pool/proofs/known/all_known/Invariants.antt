@@ -1,4 +1,4 @@
-use Rattle.jv_pool.specs.Known.{KnownBelow}
+use Rattle.jv_pool.specs.Inside.Known.{KnownBelow}
 use Rattle.jv_pool.proofs.known.all_known.Given as goal
 
 abbrev pub invariant-loop-index : goal.invariant-loop-index

@@ -4,7 +4,7 @@ use Rattle.std.proofs.lemmas.Result.{err_from_is_err_and}
 use Rattle.jv_pool.specs.declared.fault.PoolFault.TheVariants.{BadPool}
 use Rattle.jv_pool.specs.Constants.{Entry}
 use Rattle.jv_pool.specs.Rules.{KeepsRules, IsPool}
-use Rattle.jv_pool.specs.Reading.{constants}
+use Rattle.jv_pool.specs.Inside.Reading.{constants}
 use Rattle.jv_pool.proofs.Constants.{pool_taken, no_pool, no_other, fails_bad}
 use Rattle.jv_pool.proofs.Kept.{untrue}
 use Rattle.jv_pool.proofs.pool.read_pool.Goals as goal

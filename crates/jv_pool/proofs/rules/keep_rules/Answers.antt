@@ -1,7 +1,7 @@
 use Rattle.std.proofs.Common.{◌≡◌, arith, refl, ap, ℕ}
 use Rattle.jv_pool.specs.Constants.{pool_count, at_index}
 use Rattle.jv_pool.specs.Rules.{KeepsRules}
-use Rattle.jv_pool.specs.Known.{IsKept}
+use Rattle.jv_pool.specs.Inside.Known.{IsKept}
 use Rattle.jv_pool.proofs.Kept.{untrue, below_or_here, at_every, every_at}
 use Rattle.jv_pool.proofs.rules.keep_rules.Goals as goal
 

@@ -1,6 +1,6 @@
 use Rattle.std.proofs.Common.{ℕ, ◌<◌}
 use Rattle.jv_pool.specs.Constants.{at_index}
-use Rattle.jv_pool.specs.Known.{IsKept}
+use Rattle.jv_pool.specs.Inside.Known.{IsKept}
 use Rattle.jv_pool.proofs.rules.keep_rules.Given as goal
 
 abbrev pub invariant-loop-index : goal.invariant-loop-index

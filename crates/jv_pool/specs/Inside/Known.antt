@@ -6,7 +6,8 @@ use Rattle.jv_pool.specs.declared.constant.Constant.TheVariants.{NameAndType}
 use Rattle.jv_pool.specs.declared.facts.TextFacts.{TextFacts}
 use Rattle.jv_pool.specs.declared.facts.MethodFacts.{MethodFacts}
 use Rattle.jv_pool.specs.Constants.{Entry, utf8_at}
-use Rattle.jv_pool.specs.Rules.{begins_with, is_init, IsMethodDescriptor, KeepsRules}
+use Rattle.jv_pool.specs.Rules.{IsMethodDescriptor, KeepsRules}
+use Rattle.jv_text.specs.Name.{begins_with, is_init}
 use Rattle.jv_pool.specs.Facts.{AreMethodFacts, AreFacts}
 
 -- facts where there is a text, and none where there is none

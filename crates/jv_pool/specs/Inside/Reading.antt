@@ -14,8 +14,8 @@ use Rattle.jv_pool.specs.declared.shape.HalfKind.{HalfKind}
 use Rattle.jv_pool.specs.declared.shape.HalfKind.TheVariants as halves
 use Rattle.jv_pool.specs.declared.shape.TwoHalvesKind.{TwoHalvesKind}
 use Rattle.jv_pool.specs.declared.shape.TwoHalvesKind.TheVariants as two_halves
-use Rattle.jv_pool.specs.declared.shape.Shape.{Shape}
-use Rattle.jv_pool.specs.declared.shape.Shape.TheVariants as shapes
+use Rattle.jv_pool.specs.declared.shape.ConstantShape.{ConstantShape}
+use Rattle.jv_pool.specs.declared.shape.ConstantShape.TheVariants as shapes
 use Rattle.jv_pool.specs.declared.fault.PoolFault.{PoolFault}
 use Rattle.jv_pool.specs.declared.fault.PoolFault.TheVariants.{BadPool, Memory}
 use Rattle.jv_pool.specs.Constants.{Entry, constant_bytes, constant_fits, takes_two, table_of, pool_count, usable}
@@ -23,7 +23,7 @@ use Rattle.jv_pool.specs.Seen.{seen}
 
 -- ---- one constant: its tag tells the shape of what follows
 
-abbrev pub shape_of : ℕ → Option Shape
+abbrev pub shape_of : ℕ → Option ConstantShape
 shape_of tag =
     if tag == 1 then Some shapes.Text
     else if tag == 3 then Some (shapes.Quad quads.Integer)
@@ -68,7 +68,7 @@ of_two_halves two_halves.InvokeDynamic p = InvokeDynamic p.0 p.1
 abbrev pub method_handle : ℕ × ℕ → Entry
 method_handle p = MethodHandle p.0 p.1
 
-abbrev pub shaped_read : Shape → List ℕ → Option (Entry × List ℕ)
+abbrev pub shaped_read : ConstantShape → List ℕ → Option (Entry × List ℕ)
 shaped_read shapes.Text bytes = text.read bytes >>= found_as utf8
 shaped_read (shapes.Quad kind) bytes = quad.read bytes >>= found_as (of_quad kind)
 shaped_read (shapes.TwoQuads kind) bytes = (both quad quad).read bytes >>= found_as (of_two_quads kind)
@@ -76,10 +76,10 @@ shaped_read (shapes.Half kind) bytes = half.read bytes >>= found_as (of_half kin
 shaped_read (shapes.TwoHalves kind) bytes = (both half half).read bytes >>= found_as (of_two_halves kind)
 shaped_read shapes.ByteAndHalf bytes = (both byte half).read bytes >>= found_as method_handle
 
-abbrev pub shaped : Shape → Format Entry
+abbrev pub shaped : ConstantShape → Format Entry
 shaped shape = record { spelling = constant_bytes; fits = constant_fits; read = shaped_read shape }
 
-abbrev pub contents_read : Option Shape → List ℕ → Option (Entry × List ℕ)
+abbrev pub contents_read : Option ConstantShape → List ℕ → Option (Entry × List ℕ)
 contents_read None bytes = None
 contents_read (Some shape) bytes = shaped_read shape bytes
 
