@@ -2,7 +2,7 @@
 use Rattle.std.proofs.Common.{◌≡◌, ℕ, Bool, List, sym, ap, ◌∙◌}
 use Rattle.std.specs.Prelude.{IsTrue, not, ◌&&◌}
 use Rattle.std.proofs.lemmas.Bool.{and_parts, and_from}
-use Rattle.jv_text.specs.Descriptor.{MethodDescriptor, is_floating, is_floating_method}
+use Rattle.jv_text.specs.Descriptor.{MethodDescriptor, is_floating_method}
 use Rattle.jv_text.proofs.Fields.{one_field}
 use Rattle.jv_text.proofs.Methods.{one_method}
 use Rattle.jv_pool.specs.declared.facts.FieldFacts.{FieldFacts}
@@ -16,13 +16,7 @@ use Rattle.jv_text.specs.Descriptor.{slots}
 use Rattle.jv_class_parts.specs.Flags.{has, acc_interface}
 use Rattle.jv_class_parts.specs.Parts.{FieldSeen, MethodSeen}
 use Rattle.jv_class.specs.Rules.{field_flags_right, value_right, IsFieldRight, method_flags_right, init_right, clinit_right, slots_right, code_there_right, IsMethodRight}
-use Rattle.jv_class.specs.Supported.{HasNoFloatingField, HasNoFloatingMethod}
-
-pub no_floating_field : (text : List ℕ) (facts : FieldFacts) → AreFieldFacts text facts → (IsTrue (not facts.floating) → HasNoFloatingField text) × (HasNoFloatingField text → IsTrue (not facts.floating))
-no_floating_field text facts h = (
-  (λ t type described. ap not (ap is_floating (one_field text type h.type described h.described) ∙ sym h.floating) ∙ t),
-  (λ none. ap not h.floating ∙ none h.type h.described),
-)
+use Rattle.jv_class.specs.Supported.{HasNoFloatingMethod}
 
 pub no_floating_method : (text : List ℕ) (facts : MethodFacts) → AreMethodFacts text facts → (IsTrue (not facts.floating) → HasNoFloatingMethod text) × (HasNoFloatingMethod text → IsTrue (not facts.floating))
 no_floating_method text facts h = (

@@ -1,20 +1,14 @@
 -- What holds of each item of a list, as the code has it and as the definitions have it.
-use Rattle.std.proofs.Common.{◌≡◌, ◌≢◌, ◌+◌, ⊎_elim, ℕ, zero, suc, ◌<◌, ◌≤◌, Bool, true, false, cond, List, [], ◌∷◌, ◌++◌, length, get_or, take, Option, Some, None, inl, inr, refl, subst, ap, ◌∙◌, arith}
-use Rattle.std.specs.Prelude.{IsTrue, IsSome, Result, Ok, Err, IfOk, map, ◌⊎◌, slice_get}
+use Rattle.std.proofs.Common.{◌≡◌, ◌≢◌, ◌+◌, ⊎_elim, ℕ, zero, suc, ◌<◌, ◌≤◌, Bool, true, false, cond, List, [], ◌∷◌, ◌++◌, length, get_or, Option, Some, None, inl, inr, refl, subst, ap, ◌∙◌, arith}
+use Rattle.std.specs.Prelude.{◌↔◌, IsTrue, IsSome, Result, Ok, Err, IfOk, map, ◌⊎◌, slice_get}
 use Rattle.std.specs.Option.{IsSomeAnd}
 use Rattle.std.specs.List.{All}
-use Rattle.std.proofs.lemmas.List.{take_all}
 use Rattle.std.proofs.lemmas.List.Elements.{All-map, All-head, All-tail, All-nil, All-cons}
 use Rattle.std.proofs.lemmas.Bool.{cases_eq}
 use Rattle.jv_pool.specs.Constants.{Entry, takes_two, table_of, usable, at_index}
 
 pub untrue : (b : Bool) → b ≡ false → IsTrue b → ⊥
 untrue b off on = cc
-
-pub all_seen : {X Y : Type 0} (P : Y → Type 0) (view : X → Y) (xs : List X) (n : ℕ) → length xs ≤ n → All (λ x. P (view x)) (take n xs) → All P (map view xs)
-all_seen {X} P view xs n le h =
-    let Q : List X → Type 0 = λ ys. All (λ x. P (view x)) ys in
-    All-map P view xs (subst Q (take_all n xs le) h)
 
 pub not_all_seen : {X Y : Type 0} (P : Y → Type 0) (view : X → Y) (xs : List X) (i : ℕ) (d : X) → i < length xs → (P (view (get_or xs i d)) → ⊥) → All P (map view xs) → ⊥
 not_all_seen P view [] i d lt broken all = absurd (omega arith)
@@ -90,3 +84,7 @@ all_there look P (y ∷ ys) all =
 pub if_ok_same : {A F : Type 0} (r : Result A F) (P Q : A → Type 0) → ((x : A) → P x → Q x) → IfOk r P → IfOk r Q
 if_ok_same (Ok x) P Q f h = f x h
 if_ok_same (Err e) P Q f h = tt
+
+-- a fact of each item as it is seen is one of each value that is seen of them
+pub all_mapped : {X Y : Type 0} (P : Y → Type 0) (f : X → Y) (xs : List X) → All (λ x. P (f x)) xs ↔ All P (map f xs)
+all_mapped P f xs = (All-map P f xs, all_unseen P f xs)

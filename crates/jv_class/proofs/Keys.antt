@@ -1,8 +1,9 @@
 -- Numbers of pairs of texts differ exactly where the pairs do.
-use Rattle.std.proofs.Common.{◌≡◌, ◌≢◌, ℕ, ◌+◌, ◌*◌, ◌<◌, Bool, true, false, List, [], ◌∷◌, ◌++◌, length, take, drop, get_or, Option, Some, None, ◌⊎◌, ⊎_elim, refl, sym, ap, subst, ◌∙◌, arith}
+use Rattle.std.proofs.Common.{◌≡◌, ◌≢◌, ℕ, ◌+◌, ◌*◌, ◌<◌, Bool, true, false, cond, eqb, List, [], ◌∷◌, ◌++◌, length, take, drop, get_or, Option, Some, None, ◌⊎◌, ⊎_elim, refl, sym, ap, subst, ◌∙◌, arith}
 use Rattle.std.specs.Prelude.{IsSome, IsTrue, nat_eq, unwrap_or, map, ◌||◌}
+use Rattle.std.specs.Option.{IsSomeAnd}
 use Rattle.std.specs.List.{All, AllZip, AllByRecursion, IsDistinct, list_any}
-use Rattle.std.proofs.lemmas.Bool.{cases_order}
+use Rattle.std.proofs.lemmas.Bool.{cases_order, eqb-true}
 use Rattle.std.proofs.lemmas.Bool.Decides.{nat_tests}
 use Rattle.std.proofs.lemmas.Grind.{common_steps}
 use Rattle.std.proofs.lemmas.List.{take_more, take-append-drop}
@@ -16,9 +17,9 @@ use Rattle.jv_class_parts.specs.Attributes.{some_and}
 use Rattle.jv_class_parts.specs.declared.member.Field.{Field}
 use Rattle.jv_class_parts.specs.declared.member.Method.{Method}
 use Rattle.jv_class_parts.specs.Structure.{ClassStructure}
-use Rattle.jv_class.specs.Rules.{NoTwoAlike, field_texts, method_texts, is_no_array_name, IsClassAt, AreSupersRight, fields_of, methods_of, AreMembersRight, KeepsFieldRules, KeepsMethodRules, IsFieldRight, IsMethodRight}
+use Rattle.jv_class.specs.Rules.{NoTwoAlike, field_texts, method_texts, is_object, is_no_array_name, is_class_at, IsNameRight, IsClassAt, AreSupersRight, fields_of, methods_of, AreMembersRight, KeepsFieldRules, KeepsMethodRules, IsFieldRight, IsMethodRight}
 use Rattle.jv_class.proofs.Kept.{all_there, all_unseen}
-use Rattle.jv_class.specs.Reading.{IsFirst, IsKeyOf, IsFieldKey, IsMethodKey}
+use Rattle.jv_class.specs.Inside.Reading.{IsFirst, IsKeyOf, IsFieldKey, IsMethodKey}
 
 -- ---- lists of numbers
 
@@ -217,3 +218,17 @@ module _ {X : Type 0} (pool : List Entry) (name descriptor : X → ℕ) (xs : Li
 
   pub all_described : All (λ x. IsSome (utf8_at pool (descriptor x))) xs
   all_described = each (λ x. IsSome (named_at pool (name x) (descriptor x))) (λ x. IsSome (utf8_at pool (descriptor x))) (λ x h. second_there (utf8_at pool (name x)) (utf8_at pool (descriptor x)) h) xs all
+
+-- ---- the superclass
+
+some_named : (test : List ℕ → Bool) (o : Option (List ℕ)) → IsTrue (some_and test o) → IsSome o
+some_named test None h = absurd cc
+some_named test (Some name) h = refl
+
+named_unless_zero : (object : Bool) (pool : List Entry) (index : ℕ) → (index ≡ 0 → ⊥) → IsTrue (cond object (eqb index 0) (is_class_at pool index)) → IsSome (class_name_at pool index)
+named_unless_zero true pool index other h = absurd (other (eqb-true index 0 h))
+named_unless_zero false pool index other h = some_named _ (class_name_at pool index) h
+
+pub super_there : (pool : List Entry) (index : ℕ) (name : Option (List ℕ)) → IsSomeAnd name (IsNameRight pool index) → (index ≡ 0 → ⊥) → IsSome (class_name_at pool index)
+super_there pool index None h other = absurd h
+super_there pool index (Some name) h other = named_unless_zero (is_object name) pool index other h.superclass

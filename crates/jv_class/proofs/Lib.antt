@@ -3,3 +3,4 @@ pub mod Kept
 pub mod Keys
 pub mod Whole
 pub mod Values
+pub mod Classes

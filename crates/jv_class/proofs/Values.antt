@@ -9,7 +9,7 @@ use Rattle.jv_text.specs.declared.descriptor.FieldTypeOf.{FieldTypeOf}
 use Rattle.jv_text.specs.Descriptor.{is_floating}
 use Rattle.jv_pool.specs.declared.constant.Constant.TheVariants.{Utf8, Integer, Float, Long, Double, Class, String, Fieldref, Methodref, InterfaceMethodref, NameAndType, MethodHandle, MethodType, InvokeDynamic}
 use Rattle.jv_pool.specs.declared.constant.Kind.TheVariants as kinds
-use Rattle.jv_pool.specs.Constants.{Entry, at_index, kind_of, kind_at, integer_in, long_in, string_in, string_at, utf8_at}
+use Rattle.jv_pool.specs.Constants.{Entry, at_index, kind_of, kind_at, string_in, string_at, utf8_at}
 use Rattle.jv_pool.specs.Rules.{KeepsRules}
 use Rattle.std.proofs.Common.{cond}
 use Rattle.std.specs.Prelude.{codes, ◌==◌}
@@ -21,8 +21,8 @@ use Rattle.jv_text.specs.declared.descriptor.Element.{Element}
 use Rattle.jv_text.specs.declared.descriptor.Element.TheVariants as elements
 use Rattle.jv_text.specs.Descriptor.{is_floating_element}
 use Rattle.jv_pool.specs.declared.constant.Kind.{Kind}
-use Rattle.jv_pool.specs.declared.facts.ValueKind.{ValueKind}
-use Rattle.jv_pool.specs.declared.facts.ValueKind.TheVariants as values
+use Rattle.jv_pool.specs.declared.facts.ConstantValueKind.{ConstantValueKind}
+use Rattle.jv_pool.specs.declared.facts.ConstantValueKind.TheVariants as values
 use Rattle.jv_pool.specs.Constants.{NameAndDescriptor, name_and_descriptor}
 use Rattle.jv_pool.specs.Facts.{value_of_base, value_of_element, value_of_type}
 use Rattle.jv_class_parts.specs.Structure.{ClassStructure}
@@ -35,40 +35,6 @@ use Rattle.jv_class_parts.specs.declared.member.Field.{Field}
 use Rattle.jv_class.specs.declared.constant_value.ConstantValue.{ConstantValue}
 use Rattle.jv_class.specs.Value.{is_value, value_number, index_of_value, value_of_field}
 use Rattle.jv_class.proofs.Kept.{at_indices}
-
-pub integer_there : (o : Option Entry) → option_map kind_of o ≡ Some kinds.Integer → IsSome (integer_in o)
-integer_there None e = absurd cc
-integer_there (Some (Utf8 t)) e = absurd cc
-integer_there (Some (Integer b)) e = refl
-integer_there (Some (Float b)) e = absurd cc
-integer_there (Some (Long h l)) e = absurd cc
-integer_there (Some (Double h l)) e = absurd cc
-integer_there (Some (Class n)) e = absurd cc
-integer_there (Some (String t)) e = absurd cc
-integer_there (Some (Fieldref c n)) e = absurd cc
-integer_there (Some (Methodref c n)) e = absurd cc
-integer_there (Some (InterfaceMethodref c n)) e = absurd cc
-integer_there (Some (NameAndType n d)) e = absurd cc
-integer_there (Some (MethodHandle k i)) e = absurd cc
-integer_there (Some (MethodType d)) e = absurd cc
-integer_there (Some (InvokeDynamic b n)) e = absurd cc
-
-pub long_there : (o : Option Entry) → option_map kind_of o ≡ Some kinds.Long → IsSome (long_in o)
-long_there None e = absurd cc
-long_there (Some (Utf8 t)) e = absurd cc
-long_there (Some (Integer b)) e = absurd cc
-long_there (Some (Float b)) e = absurd cc
-long_there (Some (Long h l)) e = refl
-long_there (Some (Double h l)) e = absurd cc
-long_there (Some (Class n)) e = absurd cc
-long_there (Some (String t)) e = absurd cc
-long_there (Some (Fieldref c n)) e = absurd cc
-long_there (Some (Methodref c n)) e = absurd cc
-long_there (Some (InterfaceMethodref c n)) e = absurd cc
-long_there (Some (NameAndType n d)) e = absurd cc
-long_there (Some (MethodHandle k i)) e = absurd cc
-long_there (Some (MethodType d)) e = absurd cc
-long_there (Some (InvokeDynamic b n)) e = absurd cc
 
 string_in_pool : (pool : List Entry) (o : Option Entry) → ((c : Entry) → o ≡ Some c → KeepsRules pool c) → option_map kind_of o ≡ Some kinds.String → IsSome (string_in pool o)
 string_in_pool pool None rules e = absurd cc
@@ -105,7 +71,7 @@ or_third true b c h = refl
 or_third false true c h = refl
 or_third false false c h = h
 
-taken : (v : ValueKind) (k : Option Kind) → IsTrue (takes v k) → (v ≡ values.Floating → ⊥) → is_value k ≡ true
+taken : (v : ConstantValueKind) (k : Option Kind) → IsTrue (takes v k) → (v ≡ values.Floating → ⊥) → is_value k ≡ true
 taken values.Integer k t n = or_first (is_integer k) (is_long k) (is_string k) t
 taken values.Long k t n = or_second (is_integer k) (is_long k) (is_string k) t
 taken values.String k t n = or_third (is_integer k) (is_long k) (is_string k) t

@@ -1,5 +1,5 @@
 -- Which class the bytes behind a version are, and which the whole bytes.
-use Rattle.std.proofs.Common.{◌≡◌, ℕ, List, ◌++◌, Some, None, refl, sym, ap, ◌∙◌, inl, inr}
+use Rattle.std.proofs.Common.{◌≡◌, ℕ, List, ◌++◌, Some, refl, sym, ap, ◌∙◌, inl, inr}
 use Rattle.std.specs.Prelude.{◌⊎◌, IsTrue}
 use Rattle.std.proofs.lemmas.Bool.{and_parts, and_from, ltb-true, lt-ltb}
 use Rattle.std.proofs.lemmas.List.{append_assoc}
@@ -9,7 +9,7 @@ use Rattle.jv_pool.specs.Constants.{pool_bytes}
 use Rattle.jv_class_parts.specs.Structure.{ClassStructure, magic, body_bytes, class_bytes}
 use Rattle.jv_class_parts.specs.Parts.{is_52_0, OneBehindVersion}
 use Rattle.jv_class.specs.ClassFile.{IsOtherVersion, IsClassFile, OneStructure}
-use Rattle.jv_class.specs.Reading.{Three, magic_number, header, IsWholeBehind}
+use Rattle.jv_class.specs.Inside.Reading.{Three, magic_number, header, IsWholeBehind}
 
 header_is : IsFormat header
 header_is = both_is magic_number (both half half) (such_is _ quad quad_is) (both_is half half half_is half_is)
@@ -52,12 +52,6 @@ pub no_other_version : (bytes rest : List ℕ) (minor major : ℕ) → header.re
 no_other_version bytes rest minor major found v o =
     let same = same_versions bytes rest o.rest minor major o.minor o.major found (other_header bytes o) in
     o.other (sym same.0 ∙ v.0, sym same.1 ∙ v.1)
-
-pub no_header : (bytes : List ℕ) → header.read bytes ≡ None → (c : ClassStructure) → IsClassFile bytes c → ⊥
-no_header bytes none c h = let some = class_header bytes c h in cc (none, some)
-
-pub no_header_other : (bytes : List ℕ) → header.read bytes ≡ None → IsOtherVersion bytes → ⊥
-no_header_other bytes none o = let some = other_header bytes o in cc (none, some)
 
 -- the class of the bytes behind the version is that of all
 pub class_from_behind : (bytes rest : List ℕ) (minor major : ℕ) → IsBytes bytes → header.read bytes ≡ Some (numbers minor major, rest) → is_52_0 minor major → (c : ClassStructure) → IsWholeBehind rest c → IsClassFile bytes c

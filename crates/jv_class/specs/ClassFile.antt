@@ -1,5 +1,5 @@
 -- Which bytes are a class file (JVMS 4.1), and which are one of another version.
-use Rattle.std.specs.Prelude.{◌≡◌, ℕ, ◌<◌, List, ◌++◌, Option, IsTrue}
+use Rattle.std.specs.Prelude.{◌≡◌, ℕ, ◌<◌, ◌==◌, List, ◌++◌, Option, Some, None, IsTrue, if◌then◌else◌}
 use Rattle.jv_format.specs.Format.{half}
 use Rattle.jv_pool.specs.Constants.{class_name_at, pool_bytes}
 use Rattle.jv_pool.specs.Rules.{IsPool}
@@ -40,6 +40,10 @@ IsUnsupportedFile bytes = (c : ClassStructure) × IsClassFile bytes c × (¬ IsS
 -- the name of a class, where its constant stands
 abbrev pub class_name : ClassStructure → Option (List ℕ)
 class_name c = class_name_at c.constant_pool c.this_class
+
+-- the index of its superclass; 0 is none (4.1)
+abbrev pub super_index : ClassStructure → Option ℕ
+super_index c = if c.super_class == 0 then None else Some c.super_class
 
 -- A law: the bytes have one structure at most, and none where they begin with another version.
 pub record OneStructure : Type 0 where

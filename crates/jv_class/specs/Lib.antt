@@ -1,5 +1,6 @@
 pub mod Rules
 pub mod Supported
 pub mod ClassFile
-pub mod Reading
 pub mod Value
+pub mod Class
+pub mod Inside

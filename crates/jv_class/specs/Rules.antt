@@ -10,10 +10,10 @@ use Rattle.jv_text.specs.Name.{is_unqualified_name, is_method_name}
 use Rattle.jv_text.specs.Descriptor.{IsField, MethodDescriptor, slots, IsMethod}
 use Rattle.jv_pool.specs.declared.constant.Kind.{Kind}
 use Rattle.jv_pool.specs.declared.constant.Kind.TheVariants as kinds
-use Rattle.jv_pool.specs.declared.facts.ValueKind.{ValueKind}
-use Rattle.jv_pool.specs.declared.facts.ValueKind.TheVariants as values
+use Rattle.jv_pool.specs.declared.facts.ConstantValueKind.{ConstantValueKind}
+use Rattle.jv_pool.specs.declared.facts.ConstantValueKind.TheVariants as values
 use Rattle.jv_pool.specs.Constants.{Entry, NameAndDescriptor, named_at, kind_at, class_name_at}
-use Rattle.jv_pool.specs.Rules.{is_array_name, is_init}
+use Rattle.jv_text.specs.Name.{is_array_name, is_init}
 use Rattle.jv_pool.specs.Facts.{value_of_type}
 use Rattle.jv_class_parts.specs.Structure.{ClassStructure}
 use Rattle.jv_class_parts.specs.Attributes.{some_and}
@@ -80,14 +80,14 @@ is_string _ = false
 
 -- the constant that the value of a static field may be, by the field's type (4.7.2, table 4.7.2-A); that of a float or a
 -- double is not looked at, since such a field makes the class unsupported (own)
-abbrev pub takes : ValueKind → Option Kind → Bool
+abbrev pub takes : ConstantValueKind → Option Kind → Bool
 takes values.Integer constant = is_integer constant
 takes values.Long constant = is_long constant
 takes values.String constant = is_string constant
 takes values.Floating constant = true
 takes values.Nothing constant = false
 
-abbrev pub value_right : List Entry → ValueKind → Option ℕ → Bool
+abbrev pub value_right : List Entry → ConstantValueKind → Option ℕ → Bool
 value_right pool value None = true
 value_right pool value (Some index) = takes value (kind_at pool index)
 

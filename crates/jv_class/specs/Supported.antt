@@ -7,7 +7,7 @@ use Rattle.jv_text.specs.declared.descriptor.FieldTypeOf.{FieldTypeOf}
 use Rattle.jv_text.specs.Descriptor.{IsField, is_floating, is_floating_method, MethodDescriptor, IsMethod}
 use Rattle.jv_pool.specs.declared.constant.Constant.TheVariants.{Utf8, Integer, Float, Long, Double, Class, String, Fieldref, Methodref, InterfaceMethodref, NameAndType, MethodHandle, MethodType, InvokeDynamic}
 use Rattle.jv_pool.specs.Constants.{Entry, utf8_at}
-use Rattle.jv_pool.specs.Rules.{is_array_name}
+use Rattle.jv_text.specs.Name.{is_array_name}
 use Rattle.jv_class_parts.specs.Structure.{ClassStructure}
 use Rattle.jv_class_parts.specs.Parts.{FieldSeen, MethodSeen}
 use Rattle.jv_class_parts.specs.Flags.{has, acc_native, acc_synchronized}

@@ -7,7 +7,7 @@ ghost use Rattle.std.specs.Prelude.{◌≡◌, ◌↔◌, ◌<◌, IsSome, IsTru
 ghost use Rattle.std.specs.List.{All, AllZip, IsDistinct};
 ghost use Rattle.jv_pool.specs.Constants.{utf8_at};
 ghost use Rattle.jv_class_parts.specs.Seen.{seen_field, seen_method};
-ghost use Rattle.jv_class.specs.Reading.{IsKeyOf, IsFieldKey, IsMethodKey, FailsForMemory};
+ghost use Rattle.jv_class.specs.Inside.Reading.{IsKeyOf, IsFieldKey, IsMethodKey, FailsForMemory};
 ghost use Rattle.jv_class.specs.Rules.{field_texts, method_texts, NoTwoAlike, AreMembersRight, AreMembersUnlike};
 ghost use Rattle.jv_class.specs.declared.fault.ClassFault.TheVariants.{Memory};
 

@@ -3,11 +3,13 @@
 ghost use Rattle.std.specs.Prelude.{◌≡◌, ◌≢◌, ◌↔◌, Some, IsSome, IfSome, IsTrue, IfOk, Err, map, slice_get};
 ghost use Rattle.std.specs.Option.{option_map};
 ghost use Rattle.std.specs.List.{All};
-ghost use Rattle.jv_pool.specs.Constants.{class_name_at, utf8_at};
-ghost use Rattle.jv_pool.specs.Rules.{KeepsRules};
+ghost use Rattle.jv_pool.specs.Constants.{class_name_at, pool_bytes, utf8_at};
+ghost use Rattle.jv_pool.specs.Rules.{IsPool};
+ghost use Rattle.jv_class_parts.specs.Attributes.{attributes_right};
+ghost use Rattle.jv_class_parts.specs.Structure.{body_fits};
 ghost use Rattle.jv_class_parts.specs.Seen.{seen_index, seen_field, seen_method};
-ghost use Rattle.jv_class.specs.ClassFile.{class_name};
-ghost use Rattle.jv_class.specs.Reading.{super_index};
+ghost use Rattle.jv_class.specs.ClassFile.{class_name, IsWellFormed};
+ghost use Rattle.jv_class.specs.ClassFile.{super_index};
 ghost use Rattle.jv_class.specs.Rules.{fields_of, methods_of, AreMembersRight, KeepsClassRules};
 ghost use Rattle.jv_class.specs.Supported.{IsSupported};
 ghost use Rattle.jv_class.specs.Value.{value_number, IsValueNamed, value_of_field};
@@ -31,18 +33,15 @@ pub struct ClassFile<'a> {
 }
 
 impl<'a> Model for ClassFile<'a> {
-    ghost use Rattle.std.specs.List.{All};
-    ghost use Rattle.jv_pool.specs.Rules.{KeepsRules};
     ghost use Rattle.jv_class_parts.specs.Structure.{ClassStructure};
-    ghost use Rattle.jv_class.specs.Rules.{KeepsClassRules};
+    ghost use Rattle.jv_class.specs.ClassFile.{IsWellFormed};
     ghost use Rattle.jv_class.specs.Supported.{IsSupported};
 
     ghost Value = { ClassStructure };
 
     ghost view = { λ c. c.parts };
 
-    ghost invariant = { λ c.
-        KeepsClassRules c.parts × IsSupported c.parts × All (KeepsRules c.parts.constant_pool) c.parts.constant_pool };
+    ghost invariant = { λ c. IsWellFormed c.parts × IsSupported c.parts };
 }
 
 /// Whether fields and methods keep the rules of their own.
@@ -63,7 +62,9 @@ fn is_supported(parts: &Parts<'_>) -> bool
 
 /// The class of these parts, where they keep the rules and the profile supports them.
 pub(crate) fn class_of(alloc: Global, parts: Parts<'_>) -> Result<ClassFile<'_>, ClassFault>
-    requires { All (KeepsRules parts.constant_pool) parts.constant_pool }
+    requires pool { IsPool (pool_bytes parts.constant_pool) parts.constant_pool }
+    requires fits { IsTrue (body_fits parts) }
+    requires attributes { IsTrue (attributes_right parts) }
     ensures found { IfOk result (λ c. c ≡ parts.entry) }
     ensures right { IfOk result (λ c. KeepsClassRules c × IsSupported c) }
     ensures format { result ≡ Err Format → KeepsClassRules parts.entry → ⊥ }
@@ -82,6 +83,14 @@ pub(crate) fn class_of(alloc: Global, parts: Parts<'_>) -> Result<ClassFile<'_>,
     Ok(ClassFile { parts })
 }
 
+/// The method at a place.
+fn method_at<'a>(parts: &Parts<'a>, place: usize) -> Option<Method<'a>>
+    ensures { option_map seen_method result ≡ slice_get (methods_of parts.now) place }
+{
+    let method = parts.methods().get(place)?;
+    Some(*method)
+}
+
 /// The field at a place.
 fn field_at(parts: &Parts<'_>, place: usize) -> Option<Field>
     ensures { option_map seen_field result ≡ slice_get (fields_of parts.now) place }
@@ -91,6 +100,22 @@ fn field_at(parts: &Parts<'_>, place: usize) -> Option<Field>
 }
 
 impl<'a> ClassFile<'a> {
+    /// The class is well formed (JVMS 4.1 to 4.7). The call does nothing: a holder of a read class
+    /// learns what holds of every one.
+    pub fn is_well_formed(&self)
+        ensures { IsWellFormed self.now }
+    {
+        let _parts = &self.parts;
+    }
+
+    /// The host's profile supports the class, its code aside. The call does nothing: a holder of a
+    /// read class learns what holds of every one.
+    pub fn is_supported(&self)
+        ensures { IsSupported self.now }
+    {
+        let _parts = &self.parts;
+    }
+
     /// The constant pool (JVMS 4.4).
     pub fn pool(&self) -> &Pool<'a>
         ensures { result.now ≡ self.now.constant_pool }
@@ -125,10 +150,11 @@ impl<'a> ClassFile<'a> {
         ensures same { option_map seen_index result ≡ super_index self.now }
         ensures named { IfSome result (λ index. IsSome (class_name_at self.now.constant_pool index.0)) }
     {
-        match self.parts.super_class() {
-            0 => None,
-            index => Some(ClassIndex(index)),
+        let index = self.parts.super_class();
+        if index == 0 {
+            return None;
         }
+        Some(ClassIndex(index))
     }
 
     /// The direct superinterfaces, in the order of the file.
@@ -155,6 +181,24 @@ impl<'a> ClassFile<'a> {
         ensures described { All (λ method. IsSome (utf8_at self.now.constant_pool method.descriptor.0)) result.now }
     {
         self.parts.methods()
+    }
+
+    /// The field at a place, the first at 0; `None` behind the last.
+    pub fn field(&self, place: usize) -> Option<Field>
+        ensures shown { option_map seen_field result ≡ slice_get (fields_of self.now) place }
+        ensures named { IfSome result (λ field. IsSome (utf8_at self.now.constant_pool field.name.0)) }
+        ensures described { IfSome result (λ field. IsSome (utf8_at self.now.constant_pool field.descriptor.0)) }
+    {
+        field_at(&self.parts, place)
+    }
+
+    /// The method at a place, the first at 0; `None` behind the last.
+    pub fn method(&self, place: usize) -> Option<Method<'a>>
+        ensures shown { option_map seen_method result ≡ slice_get (methods_of self.now) place }
+        ensures named { IfSome result (λ method. IsSome (utf8_at self.now.constant_pool method.name.0)) }
+        ensures described { IfSome result (λ method. IsSome (utf8_at self.now.constant_pool method.descriptor.0)) }
+    {
+        method_at(&self.parts, place)
     }
 
     /// The constant that the static field at a place has as its value (JVMS 4.7.2); `None` where it

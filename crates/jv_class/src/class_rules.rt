@@ -10,10 +10,11 @@ ghost use Rattle.jv_class_parts.specs.Seen.{seen_index};
 ghost use Rattle.jv_class.specs.Rules.{is_object, is_no_array_name, is_class_at, IsClassAt, super_right, interface_super_right, IsNameRight, AreSupersRight, IsClassRight};
 
 use crate::flags::are_of_class;
-use crate::names::{is_array_name, is_object};
+use crate::names::is_object;
 use bitflags::Flags;
 use jv_class_parts::{ClassFlags, Parts};
 use jv_pool::{ClassIndex, Pool};
+use jv_text::is_array_name;
 
 fn name_at<'a>(pool: &Pool<'a>, index: u16) -> Option<&'a [u8]>
     ensures { option_map seen_text result ≡ class_name_at pool.now index }
@@ -83,12 +84,16 @@ fn is_named(pool: &Pool<'_>, this_class: u16, super_class: u16) -> bool
 fn are_classes(pool: &Pool<'_>, interfaces: &[ClassIndex]) -> bool
     ensures { IsTrue result ↔ All (IsClassAt pool.now) (map seen_index interfaces.now) }
 {
-    for interface in interfaces {
-        if !is_class_at(pool, interface.0) {
-            return false;
-        }
-    }
-    true
+    each_is_class(pool, interfaces)
+}
+
+/// The same of each as it was read.
+fn each_is_class(pool: &Pool<'_>, interfaces: &[ClassIndex]) -> bool
+    ensures { IsTrue result ↔ All (λ x. IsClassAt pool.now (seen_index x)) interfaces.now }
+{
+    interfaces
+        .iter()
+        .all(|interface| is_class_at(pool, interface.0))
 }
 
 /// Whether the superclass and the interfaces of a class are right.

@@ -11,7 +11,7 @@ ghost use Rattle.jv_class.specs.Rules.{interface_field_flags_right, field_flags_
 use crate::flags::{are_not_final_and_volatile, are_of_interface_field, have_one_visibility};
 use bitflags::Flags;
 use jv_class_parts::{ClassFlags, Field, FieldFlags};
-use jv_pool::{FieldFacts, Kind, Pool, TextFacts, ValueKind};
+use jv_pool::{ConstantValueKind, FieldFacts, Kind, Pool, TextFacts};
 
 fn are_right_in(in_interface: bool, flags: FieldFlags) -> bool
     ensures { result ≡ interface_field_flags_right in_interface flags.0 }
@@ -32,19 +32,19 @@ fn flags_are_right(in_interface: bool, flags: FieldFlags) -> bool
 }
 
 /// Whether a static field whose type asks for such a value may have a constant of that kind.
-fn takes(value: ValueKind, constant: Option<Kind>) -> bool
+fn takes(value: ConstantValueKind, constant: Option<Kind>) -> bool
     ensures { result ≡ takes value constant }
 {
     match value {
-        ValueKind::Integer => matches!(constant, Some(Kind::Integer)),
-        ValueKind::Long => matches!(constant, Some(Kind::Long)),
-        ValueKind::String => matches!(constant, Some(Kind::String)),
-        ValueKind::Floating => true,
-        ValueKind::Nothing => false,
+        ConstantValueKind::Integer => matches!(constant, Some(Kind::Integer)),
+        ConstantValueKind::Long => matches!(constant, Some(Kind::Long)),
+        ConstantValueKind::String => matches!(constant, Some(Kind::String)),
+        ConstantValueKind::Floating => true,
+        ConstantValueKind::Nothing => false,
     }
 }
 
-fn value_is_right(pool: &Pool<'_>, value: ValueKind, constant: Option<u16>) -> bool
+fn value_is_right(pool: &Pool<'_>, value: ConstantValueKind, constant: Option<u16>) -> bool
     ensures { result ≡ value_right pool.now value constant }
 {
     match constant {
@@ -111,10 +111,14 @@ fn keeps_rules(pool: &Pool<'_>, class_flags: ClassFlags, field: Field) -> bool
 pub(crate) fn keep_rules(pool: &Pool<'_>, class_flags: ClassFlags, fields: &[Field]) -> bool
     ensures { IsTrue result ↔ All (KeepsFieldRules pool.now class_flags.0) (map seen_field fields.now) }
 {
-    for field in fields {
-        if !keeps_rules(pool, class_flags, *field) {
-            return false;
-        }
-    }
-    true
+    each_keeps_rules(pool, class_flags, fields)
+}
+
+/// The same of each as it was read.
+fn each_keeps_rules(pool: &Pool<'_>, class_flags: ClassFlags, fields: &[Field]) -> bool
+    ensures { IsTrue result ↔ All (λ x. KeepsFieldRules pool.now class_flags.0 (seen_field x)) fields.now }
+{
+    fields
+        .iter()
+        .all(|field| keeps_rules(pool, class_flags, *field))
 }

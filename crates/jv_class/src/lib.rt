@@ -21,6 +21,6 @@ mod supported;
 pub use class_file::ClassFile;
 pub use constant_value::ConstantValue;
 pub use fault::ClassFault;
-pub use jv_class_parts::{ClassFlags, Code, Field, FieldFlags, Method, MethodFlags};
-pub use law::one_structure;
+pub use jv_class_parts::{ClassFlags, Field, FieldFlags, Method, MethodCode, MethodFlags};
+pub use law::{is_some_class, one_of_each_name, one_structure};
 pub use reading::read_class;

@@ -11,10 +11,11 @@ ghost use Rattle.jv_class.specs.Rules.{interface_flags_right, named_flags_right,
 use crate::flags::{
     are_apart_from_abstract, are_of_init, are_of_interface_method, have_one_visibility,
 };
-use crate::names::{is_clinit, is_init, is_no_arguments_void};
+use crate::names::{is_clinit, is_no_arguments_void};
 use bitflags::Flags;
 use jv_class_parts::{ClassFlags, Method, MethodFlags};
 use jv_pool::{MethodFacts, Pool, TextFacts};
+use jv_text::is_init;
 
 /// Abstract and native.
 const WITHOUT_CODE: MethodFlags = MethodFlags(0x0500);
@@ -180,10 +181,14 @@ fn keeps_rules(pool: &Pool<'_>, class_flags: ClassFlags, method: Method<'_>) -> 
 pub(crate) fn keep_rules(pool: &Pool<'_>, class_flags: ClassFlags, methods: &[Method<'_>]) -> bool
     ensures { IsTrue result ↔ All (KeepsMethodRules pool.now class_flags.0) (map seen_method methods.now) }
 {
-    for method in methods {
-        if !keeps_rules(pool, class_flags, *method) {
-            return false;
-        }
-    }
-    true
+    each_keeps_rules(pool, class_flags, methods)
+}
+
+/// The same of each as it was read.
+fn each_keeps_rules(pool: &Pool<'_>, class_flags: ClassFlags, methods: &[Method<'_>]) -> bool
+    ensures { IsTrue result ↔ All (λ x. KeepsMethodRules pool.now class_flags.0 (seen_method x)) methods.now }
+{
+    methods
+        .iter()
+        .all(|method| keeps_rules(pool, class_flags, *method))
 }

@@ -1,29 +1,13 @@
 //! Names and descriptors that rules look for.
 
 ghost use Rattle.std.specs.Prelude.{◌≡◌};
-ghost use Rattle.jv_pool.specs.Rules.{is_array_name, is_init};
+ghost use Rattle.jv_text.specs.Name.{is_array_name, is_init};
 ghost use Rattle.jv_class.specs.Rules.{is_object, is_clinit, is_no_arguments_void};
 
 pub(crate) fn is_object(name: &[u8]) -> bool
     ensures { result ≡ is_object name.now }
 {
     name == b"java/lang/Object".as_slice()
-}
-
-/// Whether a Class constant's name is that of an array type (JVMS 4.4.1).
-pub(crate) fn is_array_name(name: &[u8]) -> bool
-    ensures { result ≡ is_array_name name.now }
-{
-    match name {
-        [first, ..] => *first == b'[',
-        [] => false,
-    }
-}
-
-pub(crate) fn is_init(name: &[u8]) -> bool
-    ensures { result ≡ is_init name.now }
-{
-    name == b"<init>".as_slice()
 }
 
 pub(crate) fn is_clinit(name: &[u8]) -> bool

@@ -5,7 +5,7 @@ ghost use Rattle.jv_format.specs.Format.{Finds};
 ghost use Rattle.jv_class_parts.specs.Structure.{ClassStructure};
 ghost use Rattle.jv_class.specs.ClassFile.{IsClassFile, IsOtherVersion, IsUnsupportedFile};
 ghost use Rattle.jv_class.specs.Supported.{IsSupported};
-ghost use Rattle.jv_class.specs.Reading.{magic_number, header, IsWholeBehind};
+ghost use Rattle.jv_class.specs.Inside.Reading.{magic_number, header, IsWholeBehind};
 ghost use Rattle.jv_class.specs.declared.fault.ClassFault.TheVariants.{Version, Format, Unsupported};
 
 use crate::class_file::{ClassFile, class_of};

@@ -7,13 +7,14 @@ ghost use Rattle.jv_pool.specs.Constants.{utf8_at};
 ghost use Rattle.jv_pool.specs.Facts.{IsFieldKnown, IsMethodKnown, AreFacts};
 ghost use Rattle.jv_pool.specs.Seen.{seen};
 ghost use Rattle.jv_class_parts.specs.Seen.{seen_field, seen_method};
-ghost use Rattle.jv_class.specs.Reading.{IsSupportedAt};
+ghost use Rattle.jv_class.specs.Inside.Reading.{IsSupportedAt};
 ghost use Rattle.jv_class.specs.Supported.{HasNoFloatingField, HasNoFloatingMethod, HasNoFloating, IsNoFloatingArray, IsSupportedConstant, IsSupportedField, IsSupportedMethod, is_supported_method};
 
-use crate::names::{is_array_name, is_clinit};
+use crate::names::is_clinit;
 use bitflags::Flags;
 use jv_class_parts::{Field, Method, MethodFlags};
 use jv_pool::{Constant, FieldFacts, MethodFacts, Pool, TextFacts};
+use jv_text::is_array_name;
 
 /// Native and synchronized.
 const NOT_SUPPORTED: MethodFlags = MethodFlags(0x0120);
@@ -104,12 +105,16 @@ pub(crate) fn are_supported_constants(pool: &Pool<'_>) -> bool
 pub(crate) fn are_supported_fields(pool: &Pool<'_>, fields: &[Field]) -> bool
     ensures { IsTrue result ↔ All (IsSupportedField pool.now) (map seen_field fields.now) }
 {
-    for field in fields {
-        if !has_no_floating_at(pool, field.descriptor.0) {
-            return false;
-        }
-    }
-    true
+    each_field_is_supported(pool, fields)
+}
+
+/// The same of each as it was read.
+fn each_field_is_supported(pool: &Pool<'_>, fields: &[Field]) -> bool
+    ensures { IsTrue result ↔ All (λ x. IsSupportedField pool.now (seen_field x)) fields.now }
+{
+    fields
+        .iter()
+        .all(|field| has_no_floating_at(pool, field.descriptor.0))
 }
 
 fn is_supported_named(name: &[u8], flags: MethodFlags) -> bool
@@ -138,10 +143,14 @@ fn is_supported_method(pool: &Pool<'_>, method: Method<'_>) -> bool
 pub(crate) fn are_supported_methods(pool: &Pool<'_>, methods: &[Method<'_>]) -> bool
     ensures { IsTrue result ↔ All (IsSupportedMethod pool.now) (map seen_method methods.now) }
 {
-    for method in methods {
-        if !is_supported_method(pool, *method) {
-            return false;
-        }
-    }
-    true
+    each_method_is_supported(pool, methods)
+}
+
+/// The same of each as it was read.
+fn each_method_is_supported(pool: &Pool<'_>, methods: &[Method<'_>]) -> bool
+    ensures { IsTrue result ↔ All (λ x. IsSupportedMethod pool.now (seen_method x)) methods.now }
+{
+    methods
+        .iter()
+        .all(|method| is_supported_method(pool, *method))
 }

@@ -9,7 +9,7 @@ use Rattle.jv_format.proofs.Laws.{IsFormat, half_is, both_is, such_is, contents_
 use Rattle.jv_pool.specs.Constants.{Entry}
 use Rattle.jv_class_parts.specs.Structure.{AttributeInfo, attribute_bytes, attribute_fits, table_fits}
 use Rattle.jv_class_parts.specs.Attributes.{has_name, is_named, all_named, at_most_one, sole, value_index}
-use Rattle.jv_class_parts.specs.Reading.{values_in, is_utf8, attribute_of, attribute, value_of, has_value, field_attribute, field_attributes, value_kept, values_kept, stack_map_of, code_attributes, stack_map_kept, stack_maps_kept}
+use Rattle.jv_class_parts.specs.Inside.Reading.{values_in, is_utf8, attribute_of, attribute, value_of, has_value, field_attribute, field_attributes, value_kept, values_kept, stack_map_of, code_attributes, stack_map_kept, stack_maps_kept}
 use Rattle.jv_class_parts.proofs.Lists.{all_both, all_parts, all_true, all_own, same_number, same_value, same_mapped, own_all, none_in}
 use Rattle.jv_class_parts.proofs.Forms.{Keeps, shaped_is, solely_is, kept_itself, gather_keeps}
 

@@ -2,7 +2,7 @@
 use Rattle.std.proofs.Common.{◌≡◌, ℕ, suc, ◌+◌, ◌-◌, ◌<◌, false, eqb, length, List, [], ◌∷◌, Option, Some, None, refl, sym, ap, ◌∙◌, arith}
 use Rattle.std.specs.Option.{option_map}
 use Rattle.jv_format.specs.Format.{Format, ◌>>=◌, contents, whole, enclosed, enclosed_read}
-use Rattle.jv_class_parts.specs.Reading.{one_more, gathered}
+use Rattle.jv_class_parts.specs.Inside.Reading.{one_more, gathered}
 
 -- one item more
 pub gathers : {V : Type 0} (f : Format (Option V)) (found next joined : Option V) (count i : ℕ) (bytes after : List ℕ) (total : Option (Option V × List ℕ)) → i < count → f.read bytes ≡ Some (next, after) → one_more found next ≡ Some joined

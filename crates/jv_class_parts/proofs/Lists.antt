@@ -6,7 +6,7 @@ use Rattle.std.specs.List.{list_all}
 use Rattle.std.proofs.lemmas.Bool.{and_parts, and_from}
 use Rattle.jv_format.specs.Format.{◌>>=◌}
 use Rattle.jv_class_parts.specs.Attributes.{at_most_one, sole}
-use Rattle.jv_class_parts.specs.Reading.{listed, values_in}
+use Rattle.jv_class_parts.specs.Inside.Reading.{listed, values_in}
 
 -- ---- tests of all items
 

@@ -7,11 +7,13 @@ use Rattle.std.proofs.lemmas.Bool.{and_parts, and_from, not-true, not_from_false
 use Rattle.jv_format.specs.Format.{Format, ◌>>=◌, half, quad, both, contents, such_that, paired, enclosed, case_of, found_as, passed}
 use Rattle.jv_format.proofs.Laws.{is_some, IsFormat, half_is, both_is, such_is, contents_is, paired_is, enclosed_is, case_is, choice_is}
 use Rattle.jv_pool.specs.Constants.{Entry}
-use Rattle.jv_class_parts.specs.Structure.{AttributeInfo, CodeAttribute, MethodAttribute, FieldInfo, MethodInfo, table_bytes, attribute_bytes, exception_bytes, code_bytes, contents_bytes, method_attribute_bytes, field_bytes, method_bytes, table_fits, attribute_fits, exception_fits, code_fits, method_attribute_fits, field_fits, method_fits}
+use Rattle.jv_format.specs.declared.handlers.Handler.{Handler}
+use Rattle.jv_format.specs.Handlers.{handler_bytes, handler_fits}
+use Rattle.jv_class_parts.specs.Structure.{AttributeInfo, CodeAttribute, MethodAttribute, FieldInfo, MethodInfo, table_bytes, attribute_bytes, code_bytes, contents_bytes, method_attribute_bytes, field_bytes, method_bytes, table_fits, attribute_fits, code_fits, method_attribute_fits, field_fits, method_fits}
 use Rattle.jv_class_parts.specs.Structure.MethodAttribute.{Code, Other}
 use Rattle.jv_class_parts.specs.Attributes.{has_name, is_named, all_named, at_most_one, sole, code_length_right, field_attributes_right, code_right, method_attribute_right, code_in, codes_of, method_attributes_right}
 use Rattle.jv_class_parts.specs.Parts.{CodeSeen, field_shown, code_shown, method_shown}
-use Rattle.jv_class_parts.specs.Reading.{Three, three, kept, table, values_in, is_utf8, attribute_of, is_static, field_of, attributes_behind, field, values_behind, field_seen, field_kept, exception, value_of, stack_map_of, code_attributes, code_text, CodeBody, code_of, code_body, code, handlers_kept, stack_maps_kept, code_seen, code_kept, is_code, on_left, on_right, left_of, right_of, Held, code_held, other_held, held, method_attribute_of, method_attribute, code_shown_inside, method_attributes, there, nothing, held_kept, code_behind, method_attribute_kept, codes_kept, method_of, method, method_seen, method_kept}
+use Rattle.jv_class_parts.specs.Inside.Reading.{Three, three, kept, table, values_in, is_utf8, attribute_of, is_static, field_of, attributes_behind, field, values_behind, field_seen, field_kept, exception, value_of, stack_map_of, code_attributes, code_text, CodeBody, code_of, code_body, code, handlers_kept, stack_maps_kept, code_seen, code_kept, is_code, on_left, on_right, left_of, right_of, Held, code_held, other_held, held, method_attribute_of, method_attribute, code_shown_inside, method_attributes, there, nothing, held_kept, code_behind, method_attribute_kept, codes_kept, method_of, method, method_seen, method_kept}
 use Rattle.jv_class_parts.proofs.Lists.{all_both, all_parts, at_most_one-map, sole-map}
 use Rattle.jv_class_parts.proofs.Forms.{Keeps, each_side, second_side, shaped_is, table_is, solely_is, itself, both_keeps, paired_keeps, shaped_keeps, gather_keeps, enclosed_keeps}
 use Rattle.jv_class_parts.proofs.AttributeLaws.{contents_fit, contents_fit-from, field_attributes_is, field_attributes_enter, field_attributes_leave, value_shown, values_keep, code_attributes_is, stack_maps_in, code_attributes_enter, code_attributes_leave, map_shown, stack_maps_keep}
@@ -90,8 +92,8 @@ code_enters : (pool : List Entry) (c : CodeAttribute) → IsTrue (code_fits c &&
 code_enters pool c h =
     let limits : Bool = half.fits c.max_stack && half.fits c.max_locals in
     let all = and_parts (code_fits c) (code_right pool c) h in
-    let a = and_parts (limits && quad.fits (length c.code) && table_fits exception_fits c.exception_table) (table_fits attribute_fits c.attributes) all.0 in
-    let b = and_parts (limits && quad.fits (length c.code)) (table_fits exception_fits c.exception_table) a.0 in
+    let a = and_parts (limits && quad.fits (length c.code) && table_fits handler_fits c.exception_table) (table_fits attribute_fits c.attributes) all.0 in
+    let b = and_parts (limits && quad.fits (length c.code)) (table_fits handler_fits c.exception_table) a.0 in
     let d = and_parts limits (quad.fits (length c.code)) b.0 in
     let e = and_parts (code_length_right c.code && all_named pool c.attributes) (at_most_one (stack_maps_in pool c.attributes)) all.1 in
     let f = and_parts (code_length_right c.code) (all_named pool c.attributes) e.0 in
@@ -100,11 +102,11 @@ code_enters pool c h =
 code_leaves : (pool : List Entry) (p : CodeBody) → IsTrue ((code_body pool).fits p) → IsTrue (code_fits (code_of p) && code_right pool (code_of p))
 code_leaves pool p h =
     let limits : Bool = half.fits p.0.0 && half.fits p.0.1 in
-    let tables : Bool = table_fits exception_fits p.1.1.0 && (code_attributes pool).fits p.1.1.1 in
+    let tables : Bool = table_fits handler_fits p.1.1.0 && (code_attributes pool).fits p.1.1.1 in
     let a = and_parts limits (contents.fits p.1.0 && code_length_right p.1.0 && tables) h in
     let b = and_parts (contents.fits p.1.0 && code_length_right p.1.0) tables a.1 in
     let c = and_parts (contents.fits p.1.0) (code_length_right p.1.0) b.0 in
-    let d = and_parts (table_fits exception_fits p.1.1.0) ((code_attributes pool).fits p.1.1.1) b.1 in
+    let d = and_parts (table_fits handler_fits p.1.1.0) ((code_attributes pool).fits p.1.1.1) b.1 in
     let e = code_attributes_leave pool p.1.1.1 d.1 in
     and_from _ _ (and_from _ _ (and_from _ _ (and_from _ _ a.0 (contents_fit-from p.1.0 c.0)) d.0) e.0.0) (and_from _ _ (and_from _ _ c.1 e.0.1) e.1)
 
@@ -119,7 +121,7 @@ code_body_is pool =
 pub code_is : (pool : List Entry) → IsFormat (code pool)
 code_is pool =
     shaped_is code_bytes (λ c. code_fits c && code_right pool c) code_of from_code (code_body pool) (λ a. refl) (λ c. refl)
-    (λ c h. code_parts (half.spelling c.max_stack) (half.spelling c.max_locals) (contents_bytes c.code) (table_bytes exception_bytes c.exception_table) (table_bytes attribute_bytes c.attributes))
+    (λ c h. code_parts (half.spelling c.max_stack) (half.spelling c.max_locals) (contents_bytes c.code) (table_bytes handler_bytes c.exception_table) (table_bytes attribute_bytes c.attributes))
     (code_enters pool) (code_leaves pool) (code_body_is pool)
 
 abbrev own : {A : Type 0} → A → A
@@ -128,18 +130,18 @@ own a = a
 abbrev map_in : List Entry → List AttributeInfo → Option (List ℕ)
 map_in pool xs = sole (values_in (stack_map_of pool) xs)
 
-abbrev code_side : List Entry → CodeBody → (ℕ × ℕ) × (List ℕ × (List ℕ × Option (List ℕ)))
-code_side pool = each_side own (each_side own (each_side (flat_map exception_bytes) (map_in pool)))
+abbrev code_side : List Entry → CodeBody → (ℕ × ℕ) × (List ℕ × (List Handler × Option (List ℕ)))
+code_side pool = each_side own (each_side own (each_side own (map_in pool)))
 
 code_same : (pool : List Entry) (p : CodeBody) → code_seen (code_side pool p) ≡ code_shown pool (code_of p)
-code_same pool p = ap (λ (m : Option (List ℕ)). code_seen (p.0, (p.1.0, (flat_map exception_bytes p.1.1.0, m)))) (map_shown pool p.1.1.1)
+code_same pool p = ap (λ (m : Option (List ℕ)). code_seen (p.0, (p.1.0, (p.1.1.0, m)))) (map_shown pool p.1.1.1)
 
 code_body_keeps : (pool : List Entry) → Keeps (both (both half half) (both code_text (both handlers_kept (stack_maps_kept pool)))) (code_side pool) (code_body pool)
 code_body_keeps pool =
-    both_keeps (both half half) own (both half half) (both code_text (both handlers_kept (stack_maps_kept pool))) (each_side own (each_side (flat_map exception_bytes) (map_in pool))) (both code_text (both (table exception) (code_attributes pool)))
+    both_keeps (both half half) own (both half half) (both code_text (both handlers_kept (stack_maps_kept pool))) (each_side own (each_side own (map_in pool))) (both code_text (both (table exception) (code_attributes pool)))
     (both_is half half half_is half_is) (itself (both half half))
-    (both_keeps code_text own code_text (both handlers_kept (stack_maps_kept pool)) (each_side (flat_map exception_bytes) (map_in pool)) (both (table exception) (code_attributes pool)) code_text_is (itself code_text)
-    (both_keeps handlers_kept (flat_map exception_bytes) (table exception) (stack_maps_kept pool) (map_in pool) (code_attributes pool) (table_is exception exception_is) handlers_keep (stack_maps_keep pool)))
+    (both_keeps code_text own code_text (both handlers_kept (stack_maps_kept pool)) (each_side own (map_in pool)) (both (table exception) (code_attributes pool)) code_text_is (itself code_text)
+    (both_keeps handlers_kept own (table exception) (stack_maps_kept pool) (map_in pool) (code_attributes pool) (table_is exception exception_is) handlers_keep (stack_maps_keep pool)))
 
 pub code_keeps : (pool : List Entry) → Keeps (code_kept pool) (code_shown pool) (code pool)
 code_keeps pool =

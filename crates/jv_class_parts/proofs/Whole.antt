@@ -11,7 +11,7 @@ use Rattle.jv_pool.specs.Rules.{IsPool, OnePool}
 use Rattle.jv_class_parts.specs.Structure.{ClassStructure, table_bytes, attribute_bytes, field_bytes, method_bytes, body_bytes, table_fits, attribute_fits, field_fits, method_fits, body_fits}
 use Rattle.jv_class_parts.specs.Attributes.{all_named, field_attributes_right, method_attributes_right, attributes_right}
 use Rattle.jv_class_parts.specs.Parts.{IsBehindVersion, OneBehindVersion, is_52_0, field_shown, method_shown}
-use Rattle.jv_class_parts.specs.Reading.{three, kept, table, field_attributes, field, method, Body, class_body, structure_of, body_in, structure_in, values_kept, field_kept, method_kept, passed_over, members_kept, BodySeen, body_kept, body_shown, AreBody, FailsWhole}
+use Rattle.jv_class_parts.specs.Inside.Reading.{three, kept, table, field_attributes, field, method, Body, class_body, structure_of, body_in, structure_in, values_kept, field_kept, method_kept, passed_over, members_kept, BodySeen, body_kept, body_shown, AreBody, FailsWhole}
 use Rattle.jv_class_parts.specs.declared.fault.PartsFault.{PartsFault}
 use Rattle.jv_class_parts.specs.declared.fault.PartsFault.TheVariants.{Format as BadFormat, Memory}
 use Rattle.jv_class_parts.proofs.Lists.{all_both, all_parts}
@@ -224,10 +224,6 @@ no_body law front rest pool small is none c b =
     let seen : (body_kept pool).read rest ≡ Some (body_shown pool (body_of c), []) = (body_keeps pool).reads rest small ∙ ap (λ (o : Option (Body × List ℕ)). o >>= found_as (body_shown pool)) again in
     let some : ((body_kept pool).read rest >>= whole []) ≡ Some (body_shown pool (body_of c), []) = ap (λ (o : Option (BodySeen × List ℕ)). o >>= whole []) seen in
     cc (none, some)
-
--- what is shown of the structure that bytes hold
-pub shown_in : (pool : List Entry) (bytes : List ℕ) (seen : BodySeen) → AreBody pool bytes seen → seen ≡ body_shown pool (body_of (structure_in pool bytes))
-shown_in pool bytes seen e = sym (kept_whole pool ((class_body pool).read bytes) seen e).1
 
 -- ---- the law
 

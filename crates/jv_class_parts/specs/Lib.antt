@@ -3,5 +3,4 @@ pub mod Flags
 pub mod Attributes
 pub mod Parts
 pub mod Seen
-pub mod Reading
-pub mod SeenInside
+pub mod Inside

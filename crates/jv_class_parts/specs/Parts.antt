@@ -1,10 +1,10 @@
 -- What a class file's bytes behind its version spell (JVMS 4.1), before the rules on names, types and flags.
 use Rattle.std.specs.Prelude.{◌≡◌, ℕ, List, ◌++◌, IsTrue, Option}
 use Rattle.std.specs.Option.{option_map}
-use Rattle.std.specs.List.{flat_map}
+use Rattle.jv_format.specs.declared.handlers.Handler.{Handler}
 use Rattle.jv_pool.specs.Constants.{Entry, pool_bytes}
 use Rattle.jv_pool.specs.Rules.{IsPool}
-use Rattle.jv_class_parts.specs.Structure.{CodeAttribute, FieldInfo, MethodInfo, ClassStructure, exception_bytes, body_bytes, body_fits}
+use Rattle.jv_class_parts.specs.Structure.{CodeAttribute, FieldInfo, MethodInfo, ClassStructure, body_bytes, body_fits}
 use Rattle.jv_class_parts.specs.Attributes.{sole, static_value, stack_maps, codes_of, attributes_right}
 
 -- the version of this host's class files (4.1): 52.0, that of Java SE 8
@@ -44,16 +44,16 @@ pub record CodeSeen : Type 0 where
   pub max_stack : ℕ
   pub max_locals : ℕ
   pub code : List ℕ
-  pub exception_table : List ℕ
+  pub exception_table : List Handler
   pub stack_map_table : Option (List ℕ)
 
--- the exception table as its bytes, and the contents of the StackMapTable where there is one
+-- its handlers, and the contents of the StackMapTable where there is one
 abbrev pub code_shown : List Entry → CodeAttribute → CodeSeen
 code_shown pool c = record {
   max_stack = c.max_stack;
   max_locals = c.max_locals;
   code = c.code;
-  exception_table = flat_map exception_bytes c.exception_table;
+  exception_table = c.exception_table;
   stack_map_table = option_map (λ a. a.info) (sole (stack_maps pool c));
 }
 

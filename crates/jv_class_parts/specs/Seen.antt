@@ -4,10 +4,9 @@ use Rattle.std.specs.Option.{option_map}
 use Rattle.std.specs.Borrow.{Bor}
 use Rattle.jv_pool.specs.declared.index.ClassIndex.{ClassIndex}
 use Rattle.jv_class_parts.specs.declared.member.Field.{Field}
-use Rattle.jv_class_parts.specs.declared.member.Code.{Code}
+use Rattle.jv_class_parts.specs.declared.member.MethodCode.{MethodCode}
 use Rattle.jv_class_parts.specs.declared.member.Method.{Method}
-use Rattle.jv_class_parts.specs.declared.handler.ExceptionEntry.{ExceptionEntry}
-use Rattle.jv_class_parts.specs.Structure.{ExceptionEntry as Entry}
+use Rattle.jv_format.specs.Handlers.{handlers_of}
 use Rattle.jv_class_parts.specs.Parts.{FieldSeen, CodeSeen, MethodSeen}
 
 abbrev pub seen_index : ClassIndex → ℕ
@@ -24,12 +23,12 @@ seen_field f = record {
 abbrev pub seen_bytes : Bor (List ℕ) → List ℕ
 seen_bytes bytes = bytes.now
 
-abbrev pub seen_code : Code → CodeSeen
+abbrev pub seen_code : MethodCode → CodeSeen
 seen_code c = record {
   max_stack = c.max_stack;
   max_locals = c.max_locals;
   code = c.code.now;
-  exception_table = c.exception_table.now;
+  exception_table = handlers_of c.exception_table;
   stack_map_table = option_map seen_bytes c.stack_map_table;
 }
 
@@ -40,6 +39,3 @@ seen_method m = record {
   descriptor_index = m.descriptor.0;
   code = option_map seen_code m.code;
 }
-
-abbrev pub seen_entry : ExceptionEntry → Entry
-seen_entry e = record { start_pc = e.start_pc; end_pc = e.end_pc; handler_pc = e.handler_pc; catch_type = e.catch_type }

@@ -3,6 +3,8 @@
 use Rattle.std.specs.Prelude.{ℕ, Bool, ◌&&◌, nat_lt, List, [], ◌∷◌, ◌++◌, length}
 use Rattle.std.specs.List.{flat_map, list_all}
 use Rattle.jv_format.specs.Format.{half, quad}
+use Rattle.jv_format.specs.declared.handlers.Handler.{Handler}
+use Rattle.jv_format.specs.Handlers.{handler_bytes, handler_fits}
 use Rattle.jv_pool.specs.Constants.{Entry, pool_bytes}
 
 -- an attribute that is passed over (4.7): the index of its name, and its contents
@@ -10,19 +12,12 @@ pub record AttributeInfo : Type 0 where
   pub attribute_name_index : ℕ
   pub info : List ℕ
 
--- an entry of an exception table (4.7.3)
-pub record ExceptionEntry : Type 0 where
-  pub start_pc : ℕ
-  pub end_pc : ℕ
-  pub handler_pc : ℕ
-  pub catch_type : ℕ
-
 -- what a Code attribute holds (4.7.3)
 pub record CodeAttribute : Type 0 where
   pub max_stack : ℕ
   pub max_locals : ℕ
   pub code : List ℕ
-  pub exception_table : List ExceptionEntry
+  pub exception_table : List Handler
   pub attributes : List AttributeInfo
 
 -- an attribute of a method: its code behind the index of the name, or one that is passed over
@@ -70,13 +65,10 @@ contents_bytes contents = quad.spelling (length contents) ++ contents
 abbrev pub attribute_bytes : AttributeInfo → List ℕ
 attribute_bytes a = half.spelling a.attribute_name_index ++ contents_bytes a.info
 
-abbrev pub exception_bytes : ExceptionEntry → List ℕ
-exception_bytes e = half.spelling e.start_pc ++ half.spelling e.end_pc ++ half.spelling e.handler_pc ++ half.spelling e.catch_type
-
 abbrev pub code_bytes : CodeAttribute → List ℕ
 code_bytes c =
     half.spelling c.max_stack ++ half.spelling c.max_locals ++ contents_bytes c.code
-    ++ table_bytes exception_bytes c.exception_table ++ table_bytes attribute_bytes c.attributes
+    ++ table_bytes handler_bytes c.exception_table ++ table_bytes attribute_bytes c.attributes
 
 abbrev pub method_attribute_bytes : MethodAttribute → List ℕ
 method_attribute_bytes (Code name code) = half.spelling name ++ contents_bytes (code_bytes code)
@@ -115,13 +107,10 @@ table_fits item_fits items = nat_lt (length items) 65536 && list_all item_fits i
 abbrev pub attribute_fits : AttributeInfo → Bool
 attribute_fits a = half.fits a.attribute_name_index && quad.fits (length a.info)
 
-abbrev pub exception_fits : ExceptionEntry → Bool
-exception_fits e = half.fits e.start_pc && half.fits e.end_pc && half.fits e.handler_pc && half.fits e.catch_type
-
 abbrev pub code_fits : CodeAttribute → Bool
 code_fits c =
     half.fits c.max_stack && half.fits c.max_locals && quad.fits (length c.code)
-    && table_fits exception_fits c.exception_table && table_fits attribute_fits c.attributes
+    && table_fits handler_fits c.exception_table && table_fits attribute_fits c.attributes
 
 abbrev pub method_attribute_fits : MethodAttribute → Bool
 method_attribute_fits (Code name code) = half.fits name && quad.fits (length (code_bytes code)) && code_fits code

@@ -3,8 +3,8 @@
 ghost use Rattle.std.specs.Prelude.{◌≡◌, codes};
 ghost use Rattle.jv_format.specs.Format.{Finds, half, contents, such_that};
 ghost use Rattle.jv_class_parts.specs.Attributes.{is_text_at, has_name, value_index};
-ghost use Rattle.jv_class_parts.specs.SeenInside.{seen_attribute, seen_map};
-ghost use Rattle.jv_class_parts.specs.Reading.{is_utf8, attribute, one_more, value_kept, counted_values, values_kept, stack_map_kept, counted_stack_maps, stack_maps_kept};
+ghost use Rattle.jv_class_parts.specs.Inside.Kept.{seen_attribute, seen_map};
+ghost use Rattle.jv_class_parts.specs.Inside.Reading.{is_utf8, attribute, one_more, value_kept, counted_values, values_kept, stack_map_kept, counted_stack_maps, stack_maps_kept};
 
 use jv_format::{bytes_at, half_at, quad_at};
 use jv_pool::Pool;

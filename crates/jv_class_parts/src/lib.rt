@@ -6,7 +6,6 @@ mod attributes;
 mod body;
 mod fault;
 mod flags;
-mod handler;
 mod law;
 mod member;
 mod members;
@@ -14,7 +13,6 @@ mod parts;
 
 pub use fault::PartsFault;
 pub use flags::{ClassFlags, FieldFlags, MethodFlags};
-pub use handler::ExceptionEntry;
 pub use law::one_behind_version;
-pub use member::{Code, Field, Method};
+pub use member::{Field, Method, MethodCode};
 pub use parts::{Parts, read_parts};

@@ -1,6 +1,7 @@
 //! Fields and methods as they were read (JVMS 4.5, 4.6). What a slice holds is a part of the file.
 
 use crate::flags::{FieldFlags, MethodFlags};
+use jv_format::ExceptionTable;
 use jv_pool::Utf8Index;
 
 /// A field.
@@ -16,15 +17,15 @@ pub struct Field {
 
 /// What a method's Code attribute holds (4.7.3).
 #[derive(Clone, Copy)]
-pub struct Code<'a> {
+pub struct MethodCode<'a> {
     /// How many words the operand stack holds at most.
     pub max_stack: u16,
     /// How many local variables there are.
     pub max_locals: u16,
     /// The instructions, 1 to 65,535 bytes.
     pub code: &'a [u8],
-    /// The handlers, 8 bytes each: start_pc, end_pc, handler_pc and catch_type.
-    pub exception_table: &'a [u8],
+    /// The handlers, in the order of the file.
+    pub exception_table: ExceptionTable<'a>,
     /// What its StackMapTable holds (4.7.4); `None` where it has none.
     pub stack_map_table: Option<&'a [u8]>,
 }
@@ -36,5 +37,5 @@ pub struct Method<'a> {
     pub name: Utf8Index,
     pub descriptor: Utf8Index,
     /// `None` where it has no Code attribute.
-    pub code: Option<Code<'a>>,
+    pub code: Option<MethodCode<'a>>,
 }

@@ -2,16 +2,17 @@
 
 ghost use Rattle.std.specs.Prelude.{◌≡◌};
 ghost use Rattle.jv_format.specs.Format.{Finds, half, both, enclosed, contents, such_that};
+ghost use Rattle.jv_format.specs.Handlers.{handlers_of};
 ghost use Rattle.jv_class_parts.specs.Flags.{has, acc_static};
 ghost use Rattle.jv_class_parts.specs.Seen.{seen_field, seen_code, seen_method};
-ghost use Rattle.jv_class_parts.specs.SeenInside.{seen_map};
-ghost use Rattle.jv_class_parts.specs.SeenInside.{seen_codes};
-ghost use Rattle.jv_class_parts.specs.Reading.{three, values_kept, field_kept, code_text, handlers_kept, stack_maps_kept, code_kept, is_code, is_utf8, held_kept, method_attribute_kept, counted_codes, codes_kept, method_kept};
+ghost use Rattle.jv_class_parts.specs.Inside.Kept.{seen_map};
+ghost use Rattle.jv_class_parts.specs.Inside.Kept.{seen_codes};
+ghost use Rattle.jv_class_parts.specs.Inside.Reading.{three, values_kept, field_kept, code_text, handlers_kept, stack_maps_kept, code_kept, is_code, is_utf8, held_kept, method_attribute_kept, counted_codes, codes_kept, method_kept};
 
 use crate::attributes::{contents_at, is_text, is_utf8, one_more, stack_maps_at, values_at};
 use crate::flags::{FieldFlags, MethodFlags};
-use crate::member::{Code, Field, Method};
-use jv_format::{bytes_at, half_at};
+use crate::member::{Field, Method, MethodCode};
+use jv_format::{ExceptionTable, bytes_at, half_at};
 use jv_pool::{Pool, Utf8Index};
 
 /// Three numbers, and what follows them.
@@ -81,19 +82,20 @@ fn code_text_at(bytes: &[u8]) -> Option<(&[u8], &[u8])>
 }
 
 /// The entries of an exception table behind their number, and what follows them.
-fn handlers_at(bytes: &[u8]) -> Option<(&[u8], &[u8])>
-    ensures { Finds handlers_kept bytes.now (λ x. (x.0.now, x.1.now)) result }
+fn handlers_at(bytes: &[u8]) -> Option<(ExceptionTable<'_>, &[u8])>
+    ensures { Finds handlers_kept bytes.now (λ x. (handlers_of x.0, x.1.now)) result }
 {
     let (count, rest) = half_at(bytes)?;
-    bytes_at(usize::from(count) * 8, rest)
+    let (bytes, rest) = bytes_at(usize::from(count) * 8, rest)?;
+    Some((ExceptionTable { bytes }, rest))
 }
 
 /// The exception table and the stack map table of a code, and what follows its attributes.
 fn tables_at<'a>(
     pool: &Pool<'_>,
     bytes: &'a [u8],
-) -> Option<((&'a [u8], Option<&'a [u8]>), &'a [u8])>
-    ensures { Finds (both handlers_kept (stack_maps_kept pool.now)) bytes.now (λ x. ((x.0.0.now, seen_map x.0.1), x.1.now)) result }
+) -> Option<((ExceptionTable<'a>, Option<&'a [u8]>), &'a [u8])>
+    ensures { Finds (both handlers_kept (stack_maps_kept pool.now)) bytes.now (λ x. ((handlers_of x.0.0, seen_map x.0.1), x.1.now)) result }
 {
     let (handlers, rest) = handlers_at(bytes)?;
     let (map, rest) = stack_maps_at(pool, rest)?;
@@ -101,13 +103,13 @@ fn tables_at<'a>(
 }
 
 /// What a Code attribute holds, and what follows it.
-fn code_at<'a>(pool: &Pool<'_>, bytes: &'a [u8]) -> Option<(Code<'a>, &'a [u8])>
+fn code_at<'a>(pool: &Pool<'_>, bytes: &'a [u8]) -> Option<(MethodCode<'a>, &'a [u8])>
     ensures { Finds (code_kept pool.now) bytes.now (λ x. (seen_code x.0, x.1.now)) result }
 {
     let ((max_stack, max_locals), rest) = limits_at(bytes)?;
     let (code, rest) = code_text_at(rest)?;
     let ((exception_table, stack_map_table), rest) = tables_at(pool, rest)?;
-    let code = Code {
+    let code = MethodCode {
         max_stack,
         max_locals,
         code,
@@ -118,7 +120,7 @@ fn code_at<'a>(pool: &Pool<'_>, bytes: &'a [u8]) -> Option<(Code<'a>, &'a [u8])>
 }
 
 /// What a Code attribute holds behind its length, which it fills, and what follows.
-fn enclosed_code_at<'a>(pool: &Pool<'_>, bytes: &'a [u8]) -> Option<(Code<'a>, &'a [u8])>
+fn enclosed_code_at<'a>(pool: &Pool<'_>, bytes: &'a [u8]) -> Option<(MethodCode<'a>, &'a [u8])>
     ensures { Finds (enclosed (code_kept pool.now)) bytes.now (λ x. (seen_code x.0, x.1.now)) result }
 {
     let (inside, rest) = contents_at(bytes)?;
@@ -149,7 +151,11 @@ fn passed_over_at<'a>(pool: &Pool<'_>, name: u16, bytes: &'a [u8]) -> Option<(&'
 }
 
 /// The code that an attribute of this name holds, and what follows it.
-fn held_at<'a>(pool: &Pool<'_>, name: u16, bytes: &'a [u8]) -> Option<(Option<Code<'a>>, &'a [u8])>
+fn held_at<'a>(
+    pool: &Pool<'_>,
+    name: u16,
+    bytes: &'a [u8],
+) -> Option<(Option<MethodCode<'a>>, &'a [u8])>
     ensures { Finds (held_kept pool.now name) bytes.now (λ x. (seen_codes x.0, x.1.now)) result }
 {
     if is_code(pool, name) {
@@ -162,7 +168,10 @@ fn held_at<'a>(pool: &Pool<'_>, name: u16, bytes: &'a [u8]) -> Option<(Option<Co
 }
 
 /// The code that the attribute at the front holds, and what follows it.
-fn method_attribute_at<'a>(pool: &Pool<'_>, bytes: &'a [u8]) -> Option<(Option<Code<'a>>, &'a [u8])>
+fn method_attribute_at<'a>(
+    pool: &Pool<'_>,
+    bytes: &'a [u8],
+) -> Option<(Option<MethodCode<'a>>, &'a [u8])>
     ensures { Finds (method_attribute_kept pool.now) bytes.now (λ x. (seen_codes x.0, x.1.now)) result }
 {
     let (name, rest) = half_at(bytes)?;
@@ -174,7 +183,7 @@ fn codes_listed<'a>(
     pool: &Pool<'_>,
     count: u16,
     bytes: &'a [u8],
-) -> Option<(Option<Code<'a>>, &'a [u8])>
+) -> Option<(Option<MethodCode<'a>>, &'a [u8])>
     ensures { Finds (counted_codes pool.now count) bytes.now (λ x. (seen_codes x.0, x.1.now)) result }
 {
     let mut found = None;
@@ -193,7 +202,7 @@ fn codes_listed<'a>(
 }
 
 /// The code among the attributes at the front, and what follows them.
-fn codes_at<'a>(pool: &Pool<'_>, bytes: &'a [u8]) -> Option<(Option<Code<'a>>, &'a [u8])>
+fn codes_at<'a>(pool: &Pool<'_>, bytes: &'a [u8]) -> Option<(Option<MethodCode<'a>>, &'a [u8])>
     ensures { Finds (codes_kept pool.now) bytes.now (λ x. (seen_codes x.0, x.1.now)) result }
 {
     let (count, rest) = half_at(bytes)?;

@@ -25,8 +25,8 @@ pub struct Parts<'a> {
 
 impl<'a> Model for Parts<'a> {
     ghost use Rattle.jv_class_parts.specs.Structure.{ClassStructure};
-    ghost use Rattle.jv_class_parts.specs.SeenInside.{seen_body};
-    ghost use Rattle.jv_class_parts.specs.Reading.{structure_in, AreBody};
+    ghost use Rattle.jv_class_parts.specs.Inside.Kept.{seen_body};
+    ghost use Rattle.jv_class_parts.specs.Inside.Reading.{structure_in, AreBody};
 
     ghost Value = { ClassStructure };
 

@@ -1,4 +1,4 @@
-use Rattle.jv_class.specs.Reading.{IsFieldKey}
+use Rattle.jv_class.specs.Inside.Reading.{IsFieldKey}
 use Rattle.jv_class.proofs.Keys.{zipped_next}
 use Rattle.jv_class.proofs.alike.field_keys.Goals as goal
 

@@ -1,6 +1,6 @@
 use Rattle.std.proofs.Common.{take}
 use Rattle.std.specs.List.{AllZip}
-use Rattle.jv_class.specs.Reading.{IsFieldKey}
+use Rattle.jv_class.specs.Inside.Reading.{IsFieldKey}
 use Rattle.jv_class.proofs.alike.field_keys.Given as goal
 
 abbrev pub invariant-loop-field : goal.invariant-loop-field

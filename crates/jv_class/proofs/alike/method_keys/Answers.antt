@@ -1,4 +1,4 @@
-use Rattle.jv_class.specs.Reading.{IsMethodKey}
+use Rattle.jv_class.specs.Inside.Reading.{IsMethodKey}
 use Rattle.jv_class.proofs.Keys.{zipped_next}
 use Rattle.jv_class.proofs.alike.method_keys.Goals as goal
 

@@ -1,6 +1,6 @@
 use Rattle.std.proofs.Common.{arith}
 use Rattle.jv_class.specs.ClassFile.{IsClassFile}
-use Rattle.jv_class.specs.Reading.{IsWholeBehind}
+use Rattle.jv_class.specs.Inside.Reading.{IsWholeBehind}
 use Rattle.jv_class.proofs.Kept.{if_ok_same}
 use Rattle.jv_class.proofs.Whole.{other_version, not_52_0, class_from_behind, behind_class}
 use Rattle.jv_class.proofs.reading.read_class.Goals as goal

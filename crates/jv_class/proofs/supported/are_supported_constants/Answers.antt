@@ -1,5 +1,5 @@
 use Rattle.std.proofs.Common.{refl, arith, suc}
-use Rattle.jv_class.specs.Reading.{IsSupportedAt}
+use Rattle.jv_class.specs.Inside.Reading.{IsSupportedAt}
 use Rattle.jv_class.specs.Supported.{IsSupportedConstant}
 use Rattle.jv_class.proofs.Kept.{untrue, all_from_table, next_one, at_indices}
 use Rattle.jv_class.proofs.supported.are_supported_constants.Goals as goal

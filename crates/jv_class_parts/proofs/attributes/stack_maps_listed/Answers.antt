@@ -1,7 +1,7 @@
 use Rattle.std.proofs.Common.{sym, ◌∙◌}
 use Rattle.jv_class_parts.specs.Seen.{seen_bytes}
-use Rattle.jv_class_parts.specs.SeenInside.{seen_map}
-use Rattle.jv_class_parts.specs.Reading.{stack_map_kept}
+use Rattle.jv_class_parts.specs.Inside.Kept.{seen_map}
+use Rattle.jv_class_parts.specs.Inside.Reading.{stack_map_kept}
 use Rattle.jv_class_parts.proofs.Gathering.{gathers, one_more-seen}
 use Rattle.jv_class_parts.proofs.attributes.stack_maps_listed.Goals as goal
 

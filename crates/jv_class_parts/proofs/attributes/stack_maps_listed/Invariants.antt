@@ -1,6 +1,6 @@
 use Rattle.std.proofs.Common.{◌≡◌, ◌-◌, None}
-use Rattle.jv_class_parts.specs.SeenInside.{seen_map}
-use Rattle.jv_class_parts.specs.Reading.{gathered, stack_map_kept}
+use Rattle.jv_class_parts.specs.Inside.Kept.{seen_map}
+use Rattle.jv_class_parts.specs.Inside.Reading.{gathered, stack_map_kept}
 use Rattle.jv_class_parts.proofs.attributes.stack_maps_listed.Given as goal
 
 abbrev pub invariant-loop : goal.invariant-loop

@@ -1,5 +1,5 @@
 use Rattle.std.proofs.Common.{sym, ◌∙◌}
-use Rattle.jv_class_parts.specs.Reading.{value_kept}
+use Rattle.jv_class_parts.specs.Inside.Reading.{value_kept}
 use Rattle.jv_class_parts.proofs.Gathering.{gathers}
 use Rattle.jv_class_parts.proofs.attributes.values_listed.Goals as goal
 

@@ -1,5 +1,5 @@
 use Rattle.std.proofs.Common.{◌≡◌, ◌-◌, None}
-use Rattle.jv_class_parts.specs.Reading.{gathered, value_kept}
+use Rattle.jv_class_parts.specs.Inside.Reading.{gathered, value_kept}
 use Rattle.jv_class_parts.proofs.attributes.values_listed.Given as goal
 
 abbrev pub invariant-loop : goal.invariant-loop

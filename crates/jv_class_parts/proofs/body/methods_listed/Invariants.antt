@@ -1,7 +1,7 @@
 use Rattle.std.proofs.Common.{◌≡◌, ◌-◌}
 use Rattle.std.specs.Prelude.{map}
 use Rattle.jv_format.specs.Format.{list_read}
-use Rattle.jv_class_parts.specs.Reading.{method_kept}
+use Rattle.jv_class_parts.specs.Inside.Reading.{method_kept}
 use Rattle.jv_format.proofs.Laws.{with_front}
 use Rattle.jv_class_parts.specs.Seen.{seen_method}
 use Rattle.jv_class_parts.proofs.body.methods_listed.Given as goal

@@ -1,7 +1,7 @@
 use Rattle.std.proofs.Common.{sym, ◌∙◌}
 use Rattle.jv_class_parts.specs.Seen.{seen_code}
-use Rattle.jv_class_parts.specs.SeenInside.{seen_codes}
-use Rattle.jv_class_parts.specs.Reading.{method_attribute_kept}
+use Rattle.jv_class_parts.specs.Inside.Kept.{seen_codes}
+use Rattle.jv_class_parts.specs.Inside.Reading.{method_attribute_kept}
 use Rattle.jv_class_parts.proofs.Gathering.{gathers, gathers-none, one_more-seen, one_more-none}
 use Rattle.jv_class_parts.proofs.members.codes_listed.Goals as goal
 

@@ -1,6 +1,6 @@
 use Rattle.std.proofs.Common.{◌≡◌, ◌-◌, None}
-use Rattle.jv_class_parts.specs.SeenInside.{seen_codes}
-use Rattle.jv_class_parts.specs.Reading.{gathered, method_attribute_kept}
+use Rattle.jv_class_parts.specs.Inside.Kept.{seen_codes}
+use Rattle.jv_class_parts.specs.Inside.Reading.{gathered, method_attribute_kept}
 use Rattle.jv_class_parts.proofs.members.codes_listed.Given as goal
 
 abbrev pub invariant-loop : goal.invariant-loop

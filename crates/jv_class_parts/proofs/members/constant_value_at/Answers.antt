@@ -1,6 +1,6 @@
 use Rattle.std.proofs.Common.{Bool, ℕ, List, Option, Bor, subst}
 use Rattle.jv_format.specs.Format.{Finds}
-use Rattle.jv_class_parts.specs.Reading.{values_kept}
+use Rattle.jv_class_parts.specs.Inside.Reading.{values_kept}
 use Rattle.jv_class_parts.proofs.members.constant_value_at.Goals as goal
 
 pub returns : goal.returns

@@ -1,6 +1,6 @@
 use Rattle.std.proofs.Common.{sym, ◌∙◌}
 use Rattle.jv_class_parts.specs.Seen.{seen_code}
-use Rattle.jv_class_parts.specs.Reading.{code_kept}
+use Rattle.jv_class_parts.specs.Inside.Reading.{code_kept}
 use Rattle.jv_class_parts.proofs.Gathering.{not_enclosed}
 use Rattle.jv_class_parts.proofs.members.enclosed_code_at.Goals as goal
 

@@ -5,8 +5,8 @@ use Rattle.jv_pool.specs.Constants.{pool_bytes}
 use Rattle.jv_pool.specs.Rules.{IsPool}
 use Rattle.jv_class_parts.specs.Structure.{body_bytes}
 use Rattle.jv_class_parts.specs.Parts.{IsBehindVersion}
-use Rattle.jv_class_parts.specs.SeenInside.{seen_body}
-use Rattle.jv_class_parts.specs.Reading.{structure_in, body_kept}
+use Rattle.jv_class_parts.specs.Inside.Kept.{seen_body}
+use Rattle.jv_class_parts.specs.Inside.Reading.{structure_in, body_kept}
 use Rattle.jv_class_parts.proofs.Whole.{AreBody-from, behind_kept, no_body, no_whole}
 use Rattle.jv_class_parts.proofs.parts.read_parts.Goals as goal
 

@@ -7,4 +7,4 @@ use Rattle.jv_class.proofs.class_file.ClassFile.interfaces.Goals as goal
 pub returns-clause-named : goal.returns-clause-named
 returns-clause-named c =
     classes_there c.args.self.now c.interfaces.result.now (c.interfaces.ensures ∙ ap (λ (k : ClassStructure). k.interfaces) c.self.view_is)
-    (subst AreSupersRight c.self.view_is c.self.invariant.0.itself.supers)
+    (subst AreSupersRight c.self.view_is c.self.invariant.0.rules.itself.supers)

@@ -8,10 +8,10 @@ pub returns-clause-named : goal.returns-clause-named
 returns-clause-named c =
     all_named c.args.self.now.constant_pool (λ (method : Method). method.name.0) (λ (method : Method). method.descriptor.0) c.methods.result.now
     (methods_there c.args.self.now c.args.self.now.constant_pool c.methods.result.now refl (c.methods.ensures ∙ ap methods_of c.self.view_is)
-    (subst AreMembersRight c.self.view_is c.self.invariant.0.members))
+    (subst AreMembersRight c.self.view_is c.self.invariant.0.rules.members))
 
 pub returns-clause-described : goal.returns-clause-described
 returns-clause-described c =
     all_described c.args.self.now.constant_pool (λ (method : Method). method.name.0) (λ (method : Method). method.descriptor.0) c.methods.result.now
     (methods_there c.args.self.now c.args.self.now.constant_pool c.methods.result.now refl (c.methods.ensures ∙ ap methods_of c.self.view_is)
-    (subst AreMembersRight c.self.view_is c.self.invariant.0.members))
+    (subst AreMembersRight c.self.view_is c.self.invariant.0.rules.members))

@@ -5,10 +5,12 @@ use Rattle.std.specs.Option.{option_map}
 use Rattle.std.proofs.Common.{inl, inr}
 use Rattle.std.specs.List.{flat_map}
 use Rattle.jv_format.specs.Format.{Format, ◌>>=◌, half, both, list_of, front, found_as, after, such_that, paired, contents, whole, enclosed, case_of}
+use Rattle.jv_format.specs.declared.handlers.Handler.{Handler}
+use Rattle.jv_format.specs.Handlers.{handler_bytes, handler_fits, handler, handlers_in}
 use Rattle.jv_pool.specs.Constants.{Entry, utf8_at}
 use Rattle.jv_class_parts.specs.declared.fault.PartsFault.{PartsFault}
 use Rattle.jv_class_parts.specs.declared.fault.PartsFault.TheVariants.{Format as BadFormat, Memory}
-use Rattle.jv_class_parts.specs.Structure.{AttributeInfo, ExceptionEntry, CodeAttribute, MethodAttribute, FieldInfo, MethodInfo, ClassStructure, table_bytes, attribute_bytes, exception_bytes, code_bytes, method_attribute_bytes, field_bytes, method_bytes, table_fits, attribute_fits, exception_fits, code_fits, method_attribute_fits, field_fits, method_fits}
+use Rattle.jv_class_parts.specs.Structure.{AttributeInfo, CodeAttribute, MethodAttribute, FieldInfo, MethodInfo, ClassStructure, table_bytes, attribute_bytes, code_bytes, method_attribute_bytes, field_bytes, method_bytes, table_fits, attribute_fits, code_fits, method_attribute_fits, field_fits, method_fits}
 use Rattle.jv_class_parts.specs.Structure.MethodAttribute.{Code, Other}
 use Rattle.jv_class_parts.specs.Flags.{has, acc_static}
 use Rattle.jv_class_parts.specs.Attributes.{is_text_at, has_name, at_most_one, is_named, value_index, code_length_right, field_attributes_right, code_right, method_attribute_right, method_attributes_right}
@@ -114,11 +116,11 @@ field pool =
 
 -- ---- Code
 
-abbrev pub exception_of : (ℕ × ℕ) × (ℕ × ℕ) → ExceptionEntry
-exception_of p = record { start_pc = p.0.0; end_pc = p.0.1; handler_pc = p.1.0; catch_type = p.1.1 }
+abbrev pub exception_of : (ℕ × ℕ) × (ℕ × ℕ) → Handler
+exception_of p = handler p.0.0 p.0.1 p.1.0 p.1.1
 
-abbrev pub exception : Format ExceptionEntry
-exception = shaped exception_bytes exception_fits exception_of (both (both half half) (both half half))
+abbrev pub exception : Format Handler
+exception = shaped handler_bytes handler_fits exception_of (both (both half half) (both half half))
 
 abbrev pub stack_map_of : List Entry → AttributeInfo → Option (List ℕ)
 stack_map_of pool a = if has_name pool (codes "StackMapTable") a then Some a.info else None
@@ -130,7 +132,7 @@ abbrev pub code_text : Format (List ℕ)
 code_text = such_that code_length_right contents
 
 abbrev pub CodeBody : Type 0
-CodeBody = (ℕ × ℕ) × (List ℕ × (List ExceptionEntry × List AttributeInfo))
+CodeBody = (ℕ × ℕ) × (List ℕ × (List Handler × List AttributeInfo))
 
 abbrev pub code_of : CodeBody → CodeAttribute
 code_of p = record { max_stack = p.0.0; max_locals = p.0.1; code = p.1.0; exception_table = p.1.1.0; attributes = p.1.1.1 }
@@ -256,12 +258,12 @@ values_behind pool t = values_kept pool (is_static t)
 abbrev pub field_kept : List Entry → Format FieldSeen
 field_kept pool = kept field_seen (paired three (values_behind pool))
 
--- the entries of an exception table as their bytes
-abbrev pub entries_read : ℕ × List ℕ → Option (List ℕ × List ℕ)
-entries_read n = front (n.0 * 8, n.1)
+-- as many handlers as the number says, eight bytes each
+abbrev pub handlers_read : ℕ × List ℕ → Option (List Handler × List ℕ)
+handlers_read n = front (n.0 * 8, n.1) >>= found_as handlers_in
 
-abbrev pub handlers_kept : Format (List ℕ)
-handlers_kept = record { spelling = λ _. []; fits = λ _. false; read = λ bytes. half.read bytes >>= entries_read }
+abbrev pub handlers_kept : Format (List Handler)
+handlers_kept = record { spelling = λ _. []; fits = λ _. false; read = λ bytes. half.read bytes >>= handlers_read }
 
 abbrev pub stack_map_kept : List Entry → Format (Option (List ℕ))
 stack_map_kept pool = kept (stack_map_of pool) (attribute pool)
@@ -272,7 +274,7 @@ stack_maps_kept pool = gather (stack_map_kept pool)
 abbrev pub counted_stack_maps : List Entry → ℕ → Format (Option (List ℕ))
 counted_stack_maps pool n = counted (stack_map_kept pool) n
 
-abbrev pub code_seen : (ℕ × ℕ) × (List ℕ × (List ℕ × Option (List ℕ))) → CodeSeen
+abbrev pub code_seen : (ℕ × ℕ) × (List ℕ × (List Handler × Option (List ℕ))) → CodeSeen
 code_seen p = record { max_stack = p.0.0; max_locals = p.0.1; code = p.1.0; exception_table = p.1.1.0; stack_map_table = p.1.1.1 }
 
 abbrev pub code_kept : List Entry → Format CodeSeen

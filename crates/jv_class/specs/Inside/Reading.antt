@@ -32,10 +32,6 @@ pub record IsWholeBehind (bytes : List ℕ) (c : ClassStructure) : Type 0 where
 abbrev pub IsSupportedAt : List Entry → ℕ → Type 0
 IsSupportedAt pool index = (c : Entry) → at_index pool index ≡ Some c → IsSupportedConstant pool c
 
--- the index of a superclass; 0 is none
-abbrev pub super_index : ClassStructure → Option ℕ
-super_index c = if c.super_class == 0 then None else Some c.super_class
-
 -- ---- numbers of pairs of texts
 
 -- the first index with the text of an index

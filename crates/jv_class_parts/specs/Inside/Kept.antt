@@ -3,12 +3,12 @@ use Rattle.std.specs.Prelude.{ℕ, List, map, Option}
 use Rattle.std.specs.Option.{option_map}
 use Rattle.std.specs.Borrow.{Bor}
 use Rattle.jv_class_parts.specs.declared.attributes.Attribute.{Attribute}
-use Rattle.jv_class_parts.specs.declared.member.Code.{Code}
+use Rattle.jv_class_parts.specs.declared.member.MethodCode.{MethodCode}
 use Rattle.jv_class_parts.specs.declared.body.Body.{Body}
 use Rattle.jv_class_parts.specs.Structure.{AttributeInfo}
 use Rattle.jv_class_parts.specs.Parts.{CodeSeen}
 use Rattle.jv_class_parts.specs.Seen.{seen_index, seen_bytes, seen_field, seen_code, seen_method}
-use Rattle.jv_class_parts.specs.Reading.{BodySeen}
+use Rattle.jv_class_parts.specs.Inside.Reading.{BodySeen}
 
 abbrev pub seen_attribute : Attribute → AttributeInfo
 seen_attribute a = record { attribute_name_index = a.name; info = a.info.now }
@@ -16,7 +16,7 @@ seen_attribute a = record { attribute_name_index = a.name; info = a.info.now }
 abbrev pub seen_map : Option (Bor (List ℕ)) → Option (List ℕ)
 seen_map map = option_map seen_bytes map
 
-abbrev pub seen_codes : Option Code → Option CodeSeen
+abbrev pub seen_codes : Option MethodCode → Option CodeSeen
 seen_codes code = option_map seen_code code
 
 abbrev pub seen_body : Body → BodySeen
