@@ -8,7 +8,7 @@ use Rattle.std.proofs.lemmas.List.Concat.{flat_map-append}
 use Rattle.jv_format.proofs.Laws.{one_form}
 use Rattle.jv_code.specs.Insns.{Instruction, insn_bytes, insn_fits}
 use Rattle.jv_code.specs.Places.{all_fit, IsCode}
-use Rattle.jv_code.specs.Reading.{insn}
+use Rattle.jv_code.specs.Inside.Reading.{insn}
 use Rattle.jv_code.proofs.Laws.{insn_is}
 use Rattle.jv_code.proofs.Sizes.{size, some_bytes, size-cons}
 

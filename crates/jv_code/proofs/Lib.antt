@@ -4,7 +4,11 @@ pub mod Told
 pub mod Laws
 pub mod Sizes
 pub mod Fronts
-pub mod Starts
+pub mod StartLaws
 pub mod Marks
 pub mod Outside
 pub mod Distances
+pub mod Keys
+pub mod Known
+pub mod OneCode
+pub mod OperandLaws

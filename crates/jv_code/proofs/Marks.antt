@@ -1,14 +1,16 @@
 -- A table of the offsets where instructions start.
-use Rattle.std.proofs.Common.{◌≡◌, ◌≢◌, ℕ, zero, suc, ◌+◌, ◌<◌, ◌≤◌, Bool, true, false, true≢false, ◌↔◌, List, [], ◌∷◌, length, replicate, set, Some, refl, sym, ap, subst, ◌∙◌, inl, inr, arith}
-use Rattle.std.specs.List.{slice_get}
+use Rattle.std.proofs.Common.{◌≡◌, ◌≢◌, ℕ, zero, suc, ◌+◌, ◌<◌, ◌≤◌, Bool, true, false, true≢false, ◌↔◌, List, [], ◌∷◌, length, replicate, take, set, Some, refl, sym, ap, subst, ◌∙◌, inl, inr, arith}
+use Rattle.std.specs.List.{slice_get, All}
+use Rattle.std.proofs.lemmas.List.Elements.{All-more, All-get_or}
+use Rattle.jv_format.specs.declared.handlers.Handler.{Handler}
 use Rattle.std.proofs.lemmas.List.{get_or-replicate, length-replicate}
 use Rattle.std.proofs.lemmas.Bool.{cases_eq, cases_lt}
 use Rattle.std.proofs.lemmas.Option.{slice_get_within, get_or_from_slice_get}
 use Rattle.jv_code.specs.Insns.{Instruction, insn_bytes}
 use Rattle.jv_code.specs.Places.{IsAt, IsStart, IsStartOrEnd}
-use Rattle.jv_code.specs.Handlers.{IsBlank, IsStartTable}
+use Rattle.jv_code.specs.Inside.StartTable.{IsBlank, IsStartTable}
 use Rattle.jv_code.proofs.Sizes.{some_bytes}
-use Rattle.jv_code.proofs.Starts.{end_within, StartsApart-holds}
+use Rattle.jv_code.proofs.StartLaws.{end_within, StartsApart-holds}
 
 -- an instruction starts inside the code
 start_within : (bytes : List ℕ) (pc : ℕ) → IsStart bytes pc → pc < length bytes
@@ -72,3 +74,12 @@ Marked-more bytes table pc next i at is goes_on lt m = record {
 
 pub Marked-all : (bytes : List ℕ) (table : List Bool) (next : ℕ) → length bytes ≤ next → Marked bytes table next → IsStartTable bytes table
 Marked-all bytes table next le m = λ pc. (λ h. ((m.marks pc).0 h).0, λ s. (m.marks pc).1 (s, omega (arith, le, start_within bytes pc s)))
+
+-- ---- each handler of a table
+
+pub handler_more : (P : Handler → Type 0) (xs : List Handler) (k : ℕ) (h : Handler) → slice_get xs k ≡ Some h → All P (take k xs) → P h → All P (take (k + 1) xs)
+handler_more P xs k h e all one =
+    All-more P xs k h (slice_get_within xs k h e) all (subst P (sym (get_or_from_slice_get xs k h h e)) one)
+
+pub handler_there : (P : Handler → Type 0) (xs : List Handler) (k : ℕ) (h : Handler) → slice_get xs k ≡ Some h → All P xs → P h
+handler_there P xs k h e all = subst P (get_or_from_slice_get xs k h h e) (All-get_or P xs k h (slice_get_within xs k h e) all)

@@ -1,15 +1,17 @@
 -- Where the instructions of the profile end.
-use Rattle.std.proofs.Common.{◌≡◌, ℕ, ◌+◌, ◌-◌, Bool, true, false, ◌&&◌, ◌||◌, eqb, leb, List, [], ◌∷◌, ◌++◌, length, Option, Some, None, refl, sym, ap, subst, ◌∙◌, append_assoc, ◌⊎◌, inl, inr, arith}
+use Rattle.std.proofs.Common.{◌≡◌, ℕ, ◌+◌, ◌-◌, ◌<◌, Bool, true, false, ◌||◌, leb, List, [], ◌∷◌, ◌++◌, length, Option, Some, None, refl, sym, ap, subst, ◌∙◌, append_assoc, ◌⊎◌, inl, inr, arith}
 use Rattle.std.specs.Prelude.{IsTrue, is_none, not}
 use Rattle.std.specs.List.{flat_map}
-use Rattle.std.proofs.lemmas.Bool.{and_parts, eqb-true}
+use Rattle.std.proofs.lemmas.Bool.{and_parts, eqb-true, leb-true, false≢true}
 use Rattle.jv_format.specs.Format.{◌>>=◌}
 use Rattle.jv_format.proofs.Laws.{one_form}
 use Rattle.jv_code.specs.Insns.{Instruction, insn_bytes, insn_fits}
-use Rattle.jv_code.specs.Shapes.{InsnShape, shape_at}
+use Rattle.jv_code.specs.declared.shapes.OpcodeShape.{OpcodeShape}
+use Rattle.jv_code.specs.Inside.Shapes.{shape_at}
 use Rattle.jv_code.specs.Places.{all_fit}
-use Rattle.jv_code.specs.Reading.{insn, insn_read, operands}
-use Rattle.jv_code.specs.Unsupported.{is_unsupported, makes_floats, is_wide_float, front_unsupported, IsUnsupported}
+use Rattle.jv_code.specs.Inside.Reading.{insn, insn_read, operands}
+use Rattle.jv_code.specs.Unsupported.{is_from_to, moves_floats, computes_floats, is_unsupported, makes_floats, is_wide_float, front_unsupported, IsUnsupported}
+use Rattle.jv_code.proofs.Tables.{all_below, one_below}
 use Rattle.jv_code.proofs.Laws.{insn_is}
 use Rattle.jv_code.proofs.Sizes.{size, size-cons}
 use Rattle.jv_code.proofs.Fronts.{Front, Front-place}
@@ -18,21 +20,44 @@ or_parts : (a b : Bool) → IsTrue (a || b) → IsTrue a ⊎ IsTrue b
 or_parts true b h = inl refl
 or_parts false b h = inr h
 
-none_is : (o : Option InsnShape) → IsTrue (is_none o) → o ≡ None
+none_is : (o : Option OpcodeShape) → IsTrue (is_none o) → o ≡ None
 none_is None h = refl
 none_is (Some s) h = absurd cc
 
+-- the opcodes of the list are those of one byte
+
+abbrev Below : ℕ → Bool → Type 0
+Below opcode b = IsTrue b → opcode < 256
+
+either : {opcode : ℕ} (a b : Bool) → Below opcode a → Below opcode b → Below opcode (a || b)
+either true b p q h = p refl
+either false b p q h = q h
+
+within : (first last opcode : ℕ) → IsTrue (leb last 255) → Below opcode (is_from_to first last opcode)
+within first last opcode few h =
+    omega (arith, leb-true opcode last (and_parts (leb first opcode) (leb opcode last) h).1, leb-true last 255 few)
+
+moves_below : (opcode : ℕ) → Below opcode (moves_floats opcode)
+moves_below opcode = either _ _ (within 11 15 opcode refl) (either _ _ (within 23 24 opcode refl) (either _ _ (within 34 41 opcode refl) (either _ _ (within 48 49 opcode refl) (either _ _ (within 56 57 opcode refl) (either _ _ (within 67 74 opcode refl) (within 81 82 opcode refl))))))
+
+computes_below : (opcode : ℕ) → Below opcode (computes_floats opcode)
+computes_below opcode = either _ _ (within 98 99 opcode refl) (either _ _ (within 102 103 opcode refl) (either _ _ (within 106 107 opcode refl) (either _ _ (within 110 111 opcode refl) (either _ _ (within 114 115 opcode refl) (either _ _ (within 118 119 opcode refl) (either _ _ (within 134 135 opcode refl) (either _ _ (within 137 144 opcode refl) (either _ _ (within 149 152 opcode refl) (within 174 175 opcode refl)))))))))
+
+unsupported_below : (opcode : ℕ) → Below opcode (is_unsupported opcode)
+unsupported_below opcode =
+    either _ _ (moves_below opcode) (either _ _ (computes_below opcode) (either _ _ (λ e. let same : opcode ≡ 186 = eqb-true opcode 186 e in omega arith) (within 194 195 opcode refl)))
+
 no_shape : (opcode : ℕ) → IsTrue (is_unsupported opcode) → shape_at opcode ≡ None
 no_shape opcode h =
-    let no_ret = not (eqb opcode 169) && is_none (shape_at opcode) in
-    let no_jsr = not (eqb opcode 168) && no_ret in
-    let one = and_parts (leb 11 opcode) (leb opcode 195 && no_jsr) h in
-    let two = and_parts (leb opcode 195) no_jsr one.1 in
-    let three = and_parts (not (eqb opcode 168)) no_ret two.1 in
-    none_is (shape_at opcode) (and_parts (not (eqb opcode 169)) (is_none (shape_at opcode)) three.1).1
+    let all : IsTrue (all_below 256 (λ o. not (is_unsupported o) || is_none (shape_at o))) = refl in
+    let one = one_below 256 opcode (λ o. not (is_unsupported o) || is_none (shape_at o)) all (unsupported_below opcode h) in
+    elim (or_parts (not (is_unsupported opcode)) (is_none (shape_at opcode)) one) [
+      | inl other ↦ absurd (false≢true (sym (ap not h) ∙ other))
+      | inr none ↦ none_is (shape_at opcode) none
+    ]
 
 unread : (at opcode : ℕ) (rest : List ℕ) → IsTrue (is_unsupported opcode) → insn_read at (opcode ∷ rest) ≡ None
-unread at opcode rest h = ap (λ (o : Option InsnShape). o >>= operands at rest) (no_shape opcode h)
+unread at opcode rest h = ap (λ (o : Option OpcodeShape). o >>= operands at rest) (no_shape opcode h)
 
 floats_unread : (at opcode code : ℕ) (rest : List ℕ) → IsTrue (makes_floats opcode code) → insn_read at (opcode ∷ code ∷ rest) ≡ None
 floats_unread at opcode code rest h =

@@ -3,7 +3,8 @@ use Rattle.std.proofs.Common.{◌≡◌, ℕ, ◌+◌, ◌≤◌, ◌<◌, List,
 use Rattle.std.specs.List.{flat_map}
 use Rattle.std.proofs.lemmas.List.{length-append}
 use Rattle.std.proofs.lemmas.List.Concat.{flat_map-append}
-use Rattle.jv_code.specs.declared.insn.Insn.TheVariants.{Nop, NullConstant, IntConstant, LongConstant, PoolConstant, PoolLongConstant, Load, Store, StoreLong, ArrayLoad, ArrayStore, Stack, Arithmetic, Division, Negate, Shift, Convert, CompareLongs, Increment, IfInt, IfInts, IfReferences, IfNull, Goto, TableSwitch, LookupSwitch, ReturnValue, Return, Field, Invoke, InvokeInterface, New, NewArray, NewReferenceArray, NewMultiArray, ArrayLength, Throw, CheckCast, InstanceOf}
+use Rattle.jv_code.specs.declared.insn.Insn.TheVariants.{Nop, NullConstant, Compute, PoolConstant, PoolLongConstant, Load, Store, StoreLong, ArrayLoad, ReferenceArrayLoad, ArrayStore, ReferenceArrayStore, Stack, Division, Increment, Branch, Goto, TableSwitch, LookupSwitch, ReturnValue, Return, Field, Invoke, InvokeInterface, New, NewArray, NewReferenceArray, NewMultiArray, ArrayLength, Throw, CheckCast, InstanceOf}
+use Rattle.jv_code.specs.declared.kinds.Computation.TheVariants as compute
 use Rattle.jv_code.specs.declared.kinds.LocalForm.TheVariants as local
 use Rattle.jv_code.specs.declared.kinds.IncrementForm.TheVariants as increment
 use Rattle.jv_code.specs.declared.kinds.IntForm.TheVariants as int
@@ -17,10 +18,10 @@ size insns = length (flat_map insn_bytes insns)
 pub some_bytes : (i : Instruction) → 1 ≤ length (insn_bytes i)
 some_bytes Nop = omega arith
 some_bytes NullConstant = omega arith
-some_bytes (IntConstant z int.Opcode) = omega arith
-some_bytes (IntConstant z int.Byte) = omega arith
-some_bytes (IntConstant z int.Half) = omega arith
-some_bytes (LongConstant a) = omega arith
+some_bytes (Compute (compute.IntConstant z int.Opcode)) = omega arith
+some_bytes (Compute (compute.IntConstant z int.Byte)) = omega arith
+some_bytes (Compute (compute.IntConstant z int.Half)) = omega arith
+some_bytes (Compute (compute.LongConstant a)) = omega arith
 some_bytes (PoolConstant i index.Byte) = omega arith
 some_bytes (PoolConstant i index.Half) = omega arith
 some_bytes (PoolLongConstant a) = omega arith
@@ -34,20 +35,19 @@ some_bytes (StoreLong n local.Opcode) = omega arith
 some_bytes (StoreLong n local.Byte) = omega arith
 some_bytes (StoreLong n local.Wide) = omega arith
 some_bytes (ArrayLoad a) = omega arith
+some_bytes ReferenceArrayLoad = omega arith
 some_bytes (ArrayStore a) = omega arith
+some_bytes ReferenceArrayStore = omega arith
 some_bytes (Stack a) = omega arith
-some_bytes (Arithmetic a b) = omega arith
+some_bytes (Compute (compute.Arithmetic a b)) = omega arith
 some_bytes (Division a b) = omega arith
-some_bytes (Negate a) = omega arith
-some_bytes (Shift a b) = omega arith
-some_bytes (Convert a) = omega arith
-some_bytes CompareLongs = omega arith
+some_bytes (Compute (compute.Negate a)) = omega arith
+some_bytes (Compute (compute.Shift a b)) = omega arith
+some_bytes (Compute (compute.Convert a)) = omega arith
+some_bytes (Compute compute.CompareLongs) = omega arith
 some_bytes (Increment n z increment.Byte) = omega arith
 some_bytes (Increment n z increment.Wide) = omega arith
-some_bytes (IfInt a b) = omega arith
-some_bytes (IfInts a b) = omega arith
-some_bytes (IfReferences a b) = omega arith
-some_bytes (IfNull a b) = omega arith
+some_bytes (Branch a b) = omega arith
 some_bytes (Goto z jump.Half) = omega arith
 some_bytes (Goto z jump.Quad) = omega arith
 some_bytes (TableSwitch a b c d e) = omega arith

@@ -3,17 +3,17 @@ use Rattle.std.proofs.Common.{◌≡◌, ℕ, zero, suc, ◌<◌, Bool, true, fa
 use Rattle.std.specs.Prelude.{IsTrue, ◌==◌}
 use Rattle.std.proofs.lemmas.Bool.{and_parts, ltb-true, ltb-false}
 use Rattle.jv_code.specs.declared.kinds.ElementType.{ElementType}
-use Rattle.jv_code.specs.declared.shape.IndexUse.{IndexUse}
-use Rattle.jv_code.specs.declared.shape.IndexUse.TheVariants as use_of
-use Rattle.jv_code.specs.declared.shape.LocalUse.{LocalUse}
-use Rattle.jv_code.specs.declared.shape.LocalUse.TheVariants as local_use
-use Rattle.jv_code.specs.declared.shape.Branch.{Branch}
-use Rattle.jv_code.specs.declared.shape.Branch.TheVariants as branch
-use Rattle.jv_code.specs.declared.shape.Shape.TheVariants as shape
-use Rattle.jv_code.specs.Opcodes.{load_opcode, store_opcode, if_opcode, if_ints_opcode, if_references_opcode, if_null_opcode, field_opcode, invoke_opcode, element_code}
+use Rattle.jv_code.specs.declared.shapes.IndexUse.{IndexUse}
+use Rattle.jv_code.specs.declared.shapes.IndexUse.TheVariants as use_of
+use Rattle.jv_code.specs.declared.shapes.LocalUse.{LocalUse}
+use Rattle.jv_code.specs.declared.shapes.LocalUse.TheVariants as local_use
+use Rattle.jv_code.specs.declared.shapes.OpcodeShape.{OpcodeShape}
+use Rattle.jv_code.specs.declared.shapes.OpcodeShape.TheVariants as shape
+use Rattle.jv_code.specs.Opcodes.{load_opcode, store_opcode, branch_opcode, field_opcode, invoke_opcode, element_code}
 use Rattle.jv_code.specs.Insns.{insn_bytes, insn_fits}
-use Rattle.jv_code.specs.Shapes.{InsnShape, shape_at}
-use Rattle.jv_code.specs.Reading.{element_at}
+use Rattle.jv_code.specs.Inside.Shapes.{shape_at, is_outside}
+use Rattle.jv_code.specs.Inside.Reading.{element_at, whole_insn}
+use Rattle.jv_code.specs.Unsupported.{is_unsupported}
 
 -- ---- what holds of each number below another, by trial
 
@@ -56,20 +56,14 @@ local_opcode (local_use.Load kind) = load_opcode kind
 local_opcode (local_use.Store kind) = store_opcode kind
 local_opcode local_use.StoreLong = 55
 
-abbrev pub jump_opcode : Branch → ℕ
-jump_opcode (branch.IfInt test) = if_opcode test
-jump_opcode (branch.IfInts test) = if_ints_opcode test
-jump_opcode (branch.IfReferences test) = if_references_opcode test
-jump_opcode (branch.IfNull test) = if_null_opcode test
-jump_opcode branch.Always = 167
-
 -- the shape is that of instructions that begin with the opcode
-abbrev pub tells : ℕ → ℕ → InsnShape → Bool
-tells at opcode (shape.Whole i) = is_byte opcode (insn_bytes i) && insn_fits at i
+abbrev pub tells : ℕ → ℕ → OpcodeShape → Bool
+tells at opcode (shape.Whole w) = is_byte opcode (insn_bytes (whole_insn w)) && insn_fits at (whole_insn w)
 tells at opcode (shape.Index u) = opcode == index_opcode u
 tells at opcode (shape.Local u) = opcode == local_opcode u
-tells at opcode (shape.Jump u) = opcode == jump_opcode u
-tells at opcode shape.FarJump = opcode == 200
+tells at opcode (shape.Branch t) = opcode == branch_opcode t
+tells at opcode shape.Goto = opcode == 167
+tells at opcode shape.FarGoto = opcode == 200
 tells at opcode shape.ByteConstant = opcode == 16
 tells at opcode shape.HalfConstant = opcode == 17
 tells at opcode shape.PoolByte = opcode == 18
@@ -81,17 +75,17 @@ tells at opcode shape.NewArray = opcode == 188
 tells at opcode shape.NewMultiArray = opcode == 197
 tells at opcode shape.Wide = opcode == 196
 
-abbrev tells_if : ℕ → ℕ → Option InsnShape → Bool
+abbrev tells_if : ℕ → ℕ → Option OpcodeShape → Bool
 tells_if at opcode None = true
 tells_if at opcode (Some s) = tells at opcode s
 
 all_tell : (at : ℕ) → IsTrue (all_below 256 (λ o. tells_if at o (shape_at o)))
 all_tell at = refl
 
-pub shape_tells : (at opcode : ℕ) (s : InsnShape) → opcode < 256 → shape_at opcode ≡ Some s → IsTrue (tells at opcode s)
+pub shape_tells : (at opcode : ℕ) (s : OpcodeShape) → opcode < 256 → shape_at opcode ≡ Some s → IsTrue (tells at opcode s)
 shape_tells at opcode s lt e =
     let one = one_below 256 opcode (λ o. tells_if at o (shape_at o)) (all_tell at) lt in
-    subst (λ (o : Option InsnShape). IsTrue (tells_if at opcode o)) e one
+    subst (λ (o : Option OpcodeShape). IsTrue (tells_if at opcode o)) e one
 
 abbrev has_code : ℕ → Option ElementType → Bool
 has_code code None = true
@@ -102,3 +96,22 @@ element_has_code code type lt e =
     let all : IsTrue (all_below 256 (λ c. has_code c (element_at c))) = refl in
     let one = one_below 256 code (λ c. has_code c (element_at c)) all lt in
     subst (λ (o : Option ElementType). IsTrue (has_code code o)) e one
+
+-- ---- opcodes outside the profile
+
+abbrev same : Bool → Bool → Bool
+same true b = b
+same false true = false
+same false false = true
+
+same_is : (a b : Bool) → IsTrue (same a b) → a ≡ b
+same_is true true h = refl
+same_is true false h = absurd cc
+same_is false true h = absurd cc
+same_is false false h = refl
+
+-- those that are left of the opcodes are those of the list
+pub outside_is : (opcode : ℕ) → opcode < 256 → is_outside opcode ≡ is_unsupported opcode
+outside_is opcode lt =
+    let all : IsTrue (all_below 256 (λ o. same (is_outside o) (is_unsupported o))) = refl in
+    same_is _ _ (one_below 256 opcode (λ o. same (is_outside o) (is_unsupported o)) all lt)

@@ -1,7 +1,7 @@
 -- Where handlers stand in code (JVMS 4.7.3, 4.10.1.3).
-use Rattle.std.specs.Prelude.{◌≡◌, ◌↔◌, ℕ, ◌<◌, Bool, true, List, Some, slice_get}
+use Rattle.std.specs.Prelude.{ℕ, ◌<◌, List}
 use Rattle.std.specs.List.{All}
-use Rattle.jv_code.specs.declared.handlers.Handler.{Handler}
+use Rattle.jv_format.specs.declared.handlers.Handler.{Handler}
 use Rattle.jv_code.specs.Places.{IsStart, IsStartOrEnd}
 
 -- it covers something, from an instruction to the start of another or the end of the code, and starts at an instruction
@@ -13,13 +13,3 @@ pub record HandlerFits (bytes : List ℕ) (handler : Handler) : Type 0 where
 
 abbrev pub HandlersFit : List ℕ → List Handler → Type 0
 HandlersFit bytes handlers = All (HandlerFits bytes) handlers
-
--- ---- a table of the offsets where instructions start
-
--- it marks nothing
-abbrev pub IsBlank : List Bool → Type 0
-IsBlank table = (pc : ℕ) → slice_get table pc ≡ Some true → ⊥
-
--- it marks the starts and nothing else
-abbrev pub IsStartTable : List ℕ → List Bool → Type 0
-IsStartTable bytes table = (pc : ℕ) → (slice_get table pc ≡ Some true) ↔ IsStart bytes pc

@@ -2,10 +2,10 @@ pub mod Opcodes
 pub mod Numbers
 pub mod Switches
 pub mod Insns
-pub mod Shapes
-pub mod Reading
-pub mod Seen
+pub mod Inside
 pub mod Places
 pub mod Unsupported
 pub mod Handlers
 pub mod Targets
+pub mod Successors
+pub mod Operands

@@ -8,8 +8,8 @@ use Rattle.jv_code.specs.declared.kinds.NumberKind.{NumberKind}
 use Rattle.jv_code.specs.declared.kinds.NumberKind.TheVariants as number
 use Rattle.jv_code.specs.declared.kinds.LongValue.{LongValue}
 use Rattle.jv_code.specs.declared.kinds.LongValue.TheVariants as long
-use Rattle.jv_code.specs.declared.kinds.ElementKind.{ElementKind}
-use Rattle.jv_code.specs.declared.kinds.ElementKind.TheVariants as kind
+use Rattle.jv_code.specs.declared.kinds.NumberElement.{NumberElement}
+use Rattle.jv_code.specs.declared.kinds.NumberElement.TheVariants as kind
 use Rattle.jv_code.specs.declared.kinds.ElementType.{ElementType}
 use Rattle.jv_code.specs.declared.kinds.ElementType.TheVariants as element
 use Rattle.jv_code.specs.declared.kinds.StackForm.{StackForm}
@@ -26,6 +26,8 @@ use Rattle.jv_code.specs.declared.kinds.Condition.{Condition}
 use Rattle.jv_code.specs.declared.kinds.Condition.TheVariants as condition
 use Rattle.jv_code.specs.declared.kinds.Equality.{Equality}
 use Rattle.jv_code.specs.declared.kinds.Equality.TheVariants as equality
+use Rattle.jv_code.specs.declared.kinds.Test.{Test}
+use Rattle.jv_code.specs.declared.kinds.Test.TheVariants as test
 use Rattle.jv_code.specs.declared.kinds.FieldAccess.{FieldAccess}
 use Rattle.jv_code.specs.declared.kinds.FieldAccess.TheVariants as access
 use Rattle.jv_code.specs.declared.kinds.Invocation.{Invocation}
@@ -63,20 +65,18 @@ abbrev pub store_0_opcode : WordKind → ℕ
 store_0_opcode word.Int = 59
 store_0_opcode word.Reference = 75
 
--- iaload, laload, aaload, baload, caload, saload
-abbrev pub array_load_opcode : ElementKind → ℕ
+-- iaload, laload, baload, caload, saload; aaload is 50
+abbrev pub array_load_opcode : NumberElement → ℕ
 array_load_opcode kind.Int = 46
 array_load_opcode kind.Long = 47
-array_load_opcode kind.Reference = 50
 array_load_opcode kind.ByteOrBoolean = 51
 array_load_opcode kind.Char = 52
 array_load_opcode kind.Short = 53
 
--- iastore, lastore, aastore, bastore, castore, sastore
-abbrev pub array_store_opcode : ElementKind → ℕ
+-- iastore, lastore, bastore, castore, sastore; aastore is 83
+abbrev pub array_store_opcode : NumberElement → ℕ
 array_store_opcode kind.Int = 79
 array_store_opcode kind.Long = 80
-array_store_opcode kind.Reference = 83
 array_store_opcode kind.ByteOrBoolean = 84
 array_store_opcode kind.Char = 85
 array_store_opcode kind.Short = 86
@@ -153,6 +153,13 @@ if_references_opcode equality.Different = 166
 abbrev pub if_null_opcode : Equality → ℕ
 if_null_opcode equality.Same = 198
 if_null_opcode equality.Different = 199
+
+-- the branches
+abbrev pub branch_opcode : Test → ℕ
+branch_opcode (test.IfInt to) = if_opcode to
+branch_opcode (test.IfInts to) = if_ints_opcode to
+branch_opcode (test.IfReferences to) = if_references_opcode to
+branch_opcode (test.IfNull to) = if_null_opcode to
 
 -- ireturn, lreturn, areturn
 abbrev pub return_opcode : ValueKind → ℕ

@@ -1,6 +1,8 @@
 -- Code as a list of instructions, and where each stands (JVMS 4.7.3, 4.9.1).
-use Rattle.std.specs.Prelude.{◌≡◌, ℕ, ◌+◌, ◌≤◌, ◌⊎◌, ◌↔◌, Bool, true, ◌&&◌, List, [], ◌∷◌, ◌++◌, length, IsTrue}
+use Rattle.std.specs.Prelude.{◌≡◌, ℕ, ◌+◌, ◌≤◌, ◌⊎◌, ◌↔◌, Bool, true, ◌&&◌, List, [], ◌∷◌, ◌++◌, length, IsTrue, ℤ, pos, ◌+ℤ◌, ◌-ℤ◌}
 use Rattle.std.specs.List.{flat_map}
+use Rattle.jv_code.specs.declared.insn.Insn.TheVariants.{TableSwitch, LookupSwitch}
+use Rattle.jv_code.specs.Switches.{distances_in, pairs_in, keys_rise}
 use Rattle.jv_code.specs.Insns.{Instruction, insn_bytes, insn_fits}
 
 -- each instruction can stand where it does, the first at an offset
@@ -55,3 +57,23 @@ StartsApart =
 -- At an offset stands one instruction at most.
 abbrev pub OneAtOffset : Type 0
 OneAtOffset = (bytes : List ℕ) (pc : ℕ) (i j : Instruction) → IsAt bytes pc i → IsAt bytes pc j → i ≡ j
+
+-- An instruction fits where it stands.
+abbrev pub FitsThere : Type 0
+FitsThere = (bytes : List ℕ) (pc : ℕ) (i : Instruction) → IsAt bytes pc i → IsTrue (insn_fits pc i)
+
+-- Behind an instruction the next one starts, or the code ends.
+abbrev pub NextStarts : Type 0
+NextStarts = (bytes : List ℕ) (pc : ℕ) (i : Instruction) → IsAt bytes pc i → IsStartOrEnd bytes (pc + length (insn_bytes i))
+
+-- A tableswitch has a distance for each number from the lowest to the highest.
+abbrev pub EachHasDistance : Type 0
+EachHasDistance =
+    (bytes : List ℕ) (pc : ℕ) (padding : List ℕ) (default low high : ℤ) (distances : List ℕ) → IsAt bytes pc (TableSwitch padding default low high distances)
+    → pos (length (distances_in distances)) ≡ (high -ℤ low) +ℤ pos 1
+
+-- The keys of a lookupswitch rise.
+abbrev pub KeysRise : Type 0
+KeysRise =
+    (bytes : List ℕ) (pc : ℕ) (padding : List ℕ) (default : ℤ) (pairs : List ℕ) → IsAt bytes pc (LookupSwitch padding default pairs)
+    → IsTrue (keys_rise (pairs_in pairs))

@@ -1,13 +1,30 @@
--- Code that begins with an instruction outside the profile (JVMS 6.5, 7).
-use Rattle.std.specs.Prelude.{◌≡◌, ℕ, Bool, false, not, ◌&&◌, ◌||◌, List, [], ◌∷◌, ◌++◌, IsTrue, is_none, nat_le, ◌==◌}
+-- Code that goes beyond the profile: instructions of the profile, and then one of the instructions of floating point
+-- numbers, monitors, dynamic calls and their kin that the JVMS has and the profile leaves out (own). jsr, ret, jsr_w and
+-- the opcodes from 202 on are ill formed and not among them (JVMS 4.9.1, 6.5).
+use Rattle.std.specs.Prelude.{◌≡◌, ℕ, Bool, false, ◌&&◌, ◌||◌, List, [], ◌∷◌, ◌++◌, IsTrue, nat_le, ◌==◌}
 use Rattle.std.specs.List.{flat_map}
 use Rattle.jv_code.specs.Insns.{Instruction, insn_bytes}
-use Rattle.jv_code.specs.Shapes.{shape_at}
 use Rattle.jv_code.specs.Places.{all_fit}
 
--- the opcodes from 11 to 195 that are neither of the profile nor jsr (168) nor ret (169): those of float and double, invokedynamic, monitorenter and monitorexit
+abbrev pub is_from_to : ℕ → ℕ → ℕ → Bool
+is_from_to first last opcode = nat_le first opcode && nat_le opcode last
+
+-- fconst_0 to dconst_1; fload, dload and those with the local in the opcode; faload, daload; the stores
+abbrev pub moves_floats : ℕ → Bool
+moves_floats opcode =
+    is_from_to 11 15 opcode || (is_from_to 23 24 opcode || (is_from_to 34 41 opcode || (is_from_to 48 49 opcode
+    || (is_from_to 56 57 opcode || (is_from_to 67 74 opcode || is_from_to 81 82 opcode)))))
+
+-- fadd, dadd; fsub, dsub; fmul, dmul; fdiv, ddiv; frem, drem; fneg, dneg; i2f, i2d; l2f to f2l; f2d to d2f; fcmpl to dcmpg; freturn, dreturn
+abbrev pub computes_floats : ℕ → Bool
+computes_floats opcode =
+    is_from_to 98 99 opcode || (is_from_to 102 103 opcode || (is_from_to 106 107 opcode || (is_from_to 110 111 opcode
+    || (is_from_to 114 115 opcode || (is_from_to 118 119 opcode || (is_from_to 134 135 opcode || (is_from_to 137 144 opcode
+    || (is_from_to 149 152 opcode || is_from_to 174 175 opcode))))))))
+
+-- the opcodes of float and double, of invokedynamic (186), and of monitorenter and monitorexit (194, 195)
 abbrev pub is_unsupported : ℕ → Bool
-is_unsupported opcode = nat_le 11 opcode && (nat_le opcode 195 && (not (opcode == 168) && (not (opcode == 169) && is_none (shape_at opcode))))
+is_unsupported opcode = moves_floats opcode || (computes_floats opcode || (opcode == 186 || is_from_to 194 195 opcode))
 
 -- newarray (188) of float or double
 abbrev pub makes_floats : ℕ → ℕ → Bool
@@ -22,7 +39,7 @@ front_unsupported [] = false
 front_unsupported (opcode ∷ []) = is_unsupported opcode
 front_unsupported (opcode ∷ next ∷ rest) = is_unsupported opcode || (makes_floats opcode next || is_wide_float opcode next)
 
--- Instructions of the profile, and then one outside it, of whose operands nothing is asked.
+-- Instructions of the profile, and then one that it leaves out, of which no more is looked at than what tells it.
 pub record IsUnsupported (bytes : List ℕ) : Type 0 where
   pub before : List Instruction
   pub rest : List ℕ

@@ -1,45 +1,35 @@
 //! Code as a list of instructions (JVMS 4.7.3, 4.9.1).
 
-ghost use Rattle.std.specs.Prelude.{◌≡◌, ◌↔◌, ◌+◌, ◌++◌, ◌≤◌, ◌<◌, ℕ, List, length, IfOk, IfErr, IfSome, IfNone, IsTrue, Some, true, slice_get};
-ghost use Rattle.jv_code.specs.Insns.{Instruction, insn_bytes, insn_fits};
+ghost use Rattle.std.specs.Prelude.{◌≡◌, ◌↔◌, ◌+◌, ◌++◌, ◌≤◌, ◌<◌, ℕ, List, length, IfOk, IfErr, IfSome, IfNone, IsTrue};
+ghost use Rattle.jv_code.specs.Insns.{Instruction, instruction_of, insn_bytes, insn_fits};
 ghost use Rattle.jv_code.specs.Places.{IsCode, IsAt, IsStart, IsStartOrEnd};
-ghost use Rattle.jv_code.specs.Handlers.{IsBlank, IsStartTable, HandlerFits, HandlersFit};
-ghost use Rattle.jv_code.specs.Seen.{seen};
+ghost use Rattle.jv_format.specs.Format.{byte, half};
+ghost use Rattle.jv_code.specs.Numbers.{signed8, signed16};
+ghost use Rattle.jv_code.specs.Operands.{HasBytes, least_operands};
 
-use crate::handlers::Handler;
 use crate::insn::Insn;
-use crate::reading::insn_of;
-use std::marker::Model;
+use crate::reading::{read_insn, read_known_insn};
+use jv_format::{byte_at, half_at};
 
 /// The bytes are no code: they are no list of instructions, or none at all, or too many.
 #[derive(Clone, Copy, Debug)]
 pub struct BadCode;
 
 /// The code of a method: from 1 to 65,535 bytes that are a list of instructions.
-#[derive(Drop)]
+#[derive(Clone, Copy)]
 pub struct Code<'a> {
-    bytes: &'a [u8],
-}
-
-impl<'a> Model for Code<'a> {
-    ghost use Rattle.std.specs.Prelude.{ℕ, List};
-    ghost use Rattle.jv_code.specs.Insns.{Instruction};
-    ghost use Rattle.jv_code.specs.Places.{IsCode};
-
-    ghost Value = { List ℕ };
-
-    ghost view = { λ c. c.bytes.now };
-
-    ghost invariant = { λ c. (insns : List Instruction) × IsCode c.bytes.now insns };
+    /// The bytes of the instructions, one after the other.
+    pub bytes: &'a [u8],
+    pub ghost is_code: { ∥ ((insns : List Instruction) × IsCode bytes.now insns) ∥₁ },
 }
 
 /// The instruction at the front, which stands at an offset of the code, and what follows it.
 pub(crate) fn insn_front(at: usize, bytes: &[u8]) -> Option<(Insn<&[u8]>, &[u8])>
-    ensures found { IfSome result (λ x. bytes.now ≡ insn_bytes (seen x.0) ++ x.1.now) }
-    ensures fits { IfSome result (λ x. IsTrue (insn_fits at (seen x.0))) }
+    ensures found { IfSome result (λ x. bytes.now ≡ insn_bytes (instruction_of x.0) ++ x.1.now) }
+    ensures fits { IfSome result (λ x. IsTrue (insn_fits at (instruction_of x.0))) }
     ensures none { IfNone result ((i : Instruction) (rest : List ℕ) → IsTrue (insn_fits at i) → bytes.now ≡ insn_bytes i ++ rest → ⊥) }
 {
-    let Some((insn, rest)) = insn_of(at, bytes) else {
+    let Some((insn, rest)) = read_insn(at, bytes) else {
         return None;
     };
     Some((insn, rest))
@@ -61,11 +51,27 @@ fn is_code(bytes: &[u8]) -> bool
     true
 }
 
-/// Whether a table of starts has the offset.
-fn is_marked(starts: &[bool; 65536], pc: u16) -> bool
-    ensures { IsTrue result ↔ (slice_get starts.now pc ≡ Some true) }
+fn opcode_at(bytes: &[u8], pc: usize) -> u8
+    requires { IsStart bytes.now pc }
+    ensures stands { HasBytes bytes.now pc (byte.spelling result) }
+    ensures room { (pc + 1) + least_operands result ≤ length bytes.now }
 {
-    starts[usize::from(pc)]
+    let (_, rest) = bytes.split_at(pc);
+    let Some((opcode, _after)) = byte_at(rest) else {
+        unreachable!();
+    };
+    opcode
+}
+
+fn half_at_offset(bytes: &[u8], at: usize) -> u16
+    requires { at + 2 ≤ length bytes.now }
+    ensures { HasBytes bytes.now at (half.spelling result) }
+{
+    let (_, rest) = bytes.split_at(at);
+    let Some((value, _after)) = half_at(rest) else {
+        unreachable!();
+    };
+    value
 }
 
 impl<'a> Code<'a> {
@@ -75,7 +81,7 @@ impl<'a> Code<'a> {
     ///
     /// `BadCode` where the bytes are no list of instructions, or not from 1 to 65,535.
     pub fn read(bytes: &'a [u8]) -> Result<Code<'a>, BadCode>
-        ensures same { IfOk result (λ code. code ≡ bytes.now) }
+        ensures same { IfOk result (λ code. code.bytes.now ≡ bytes.now) }
         ensures ok { IfOk result (λ _. (insns : List Instruction) × IsCode bytes.now insns) }
         ensures bad { IfErr result (λ _. (insns : List Instruction) → IsCode bytes.now insns → ⊥) }
     {
@@ -86,11 +92,13 @@ impl<'a> Code<'a> {
     }
 
     /// How many bytes the code has, from 1 to 65,535. An instruction starts at offset 0.
+    #[inline]
     pub fn size(&self) -> u32
-        ensures bytes { result ≡ length self.now }
+        ensures bytes { result ≡ length self.now.bytes.now }
+        ensures is_code { (insns : List Instruction) × IsCode self.now.bytes.now insns }
         ensures some { 1 ≤ result }
         ensures few { result ≤ 65535 }
-        ensures first { IsStart self.now 0 }
+        ensures first { IsStart self.now.bytes.now 0 }
     {
         self.bytes.len() as u32
     }
@@ -98,9 +106,9 @@ impl<'a> Code<'a> {
     /// Whether an instruction starts at the offset.
     ///
     /// It walks over the instructions before the offset, so who asks it often makes a table of
-    /// the starts by [`Code::insn_at`], which does not walk.
+    /// the starts, [`crate::Starts`].
     pub fn is_start(&self, pc: u32) -> bool
-        ensures { IsTrue result ↔ IsStart self.now pc }
+        ensures { IsTrue result ↔ IsStart self.now.bytes.now pc }
     {
         let pc = pc as usize;
         let mut rest = self.bytes;
@@ -115,75 +123,66 @@ impl<'a> Code<'a> {
 
     /// The instruction at the offset, and the offset after it, where the next one starts or the
     /// code ends. So the instructions from offset 0 on are all the instructions of the code.
+    #[inline(always)]
     pub fn insn_at(&self, pc: u32) -> (Insn<&'a [u8]>, u32)
-        requires { IsStart self.now pc }
-        ensures insn { IsAt self.now pc (seen result.0) }
-        ensures next { result.1 ≡ pc + length (insn_bytes (seen result.0)) }
-        ensures goes_on { IsStartOrEnd self.now result.1 }
-        ensures within { result.1 ≤ length self.now }
+        requires { IsStart self.now.bytes.now pc }
+        ensures insn { IsAt self.now.bytes.now pc (instruction_of result.0) }
+        ensures next { result.1 ≡ pc + length (insn_bytes (instruction_of result.0)) }
+        ensures goes_on { IsStartOrEnd self.now.bytes.now result.1 }
+        ensures within { result.1 ≤ length self.now.bytes.now }
         ensures rises { pc < result.1 }
     {
         let at = pc as usize;
         let (_, rest) = self.bytes.split_at(at);
-        let Some((insn, after)) = insn_front(at, rest) else {
+        let Some((insn, after)) = read_known_insn(at, rest) else {
             unreachable!();
         };
         (insn, (self.bytes.len() - after.len()) as u32)
     }
 
-    /// Marks the offsets where instructions start, in one pass over the code.
-    fn mark_starts(&self, starts: &mut [bool; 65536])
-        requires { IsBlank starts.old }
-        ensures { IsStartTable self.now starts.new }
+    /// The opcode of the instruction at the offset. Its operands are in the code.
+    #[inline]
+    pub fn opcode_at(&self, pc: u32) -> u8
+        requires { IsStart self.now.bytes.now pc }
+        ensures stands { HasBytes self.now.bytes.now pc (byte.spelling result) }
+        ensures room { (pc + 1) + least_operands result ≤ length self.now.bytes.now }
     {
-        let end = self.size();
-        let mut pc = 0;
-        while pc < end {
-            starts[pc as usize] = true;
-            let (_insn, next) = self.insn_at(pc);
-            pc = next;
-        }
+        opcode_at(self.bytes, pc as usize)
     }
 
-    fn starts_fit(&self, starts: &[bool; 65536], handler: &Handler) -> bool
-        requires { IsStartTable self.now starts.now }
-        ensures { IsTrue result ↔ (IsStart self.now handler.now.start_pc × IsStart self.now handler.now.handler_pc) }
+    /// The number in the byte at an offset.
+    #[inline]
+    pub fn u8_at(&self, at: u32) -> u8
+        requires { at < length self.now.bytes.now }
+        ensures { HasBytes self.now.bytes.now at (byte.spelling result) }
     {
-        is_marked(starts, handler.start_pc) && is_marked(starts, handler.handler_pc)
+        self.bytes[at as usize]
     }
 
-    fn end_fits(&self, starts: &[bool; 65536], handler: &Handler) -> bool
-        requires { IsStartTable self.now starts.now }
-        ensures { IsTrue result ↔ IsStartOrEnd self.now handler.now.end_pc }
+    /// The number in the two bytes at an offset.
+    #[inline]
+    pub fn u16_at(&self, at: u32) -> u16
+        requires { at + 2 ≤ length self.now.bytes.now }
+        ensures { HasBytes self.now.bytes.now at (half.spelling result) }
     {
-        is_marked(starts, handler.end_pc) || u32::from(handler.end_pc) == self.size()
+        half_at_offset(self.bytes, at as usize)
     }
 
-    fn handler_fits(&self, starts: &[bool; 65536], handler: &Handler) -> bool
-        requires { IsStartTable self.now starts.now }
-        ensures { IsTrue result ↔ HandlerFits self.now handler.now }
+    /// The signed number in the byte at an offset.
+    #[inline]
+    pub fn i8_at(&self, at: u32) -> i8
+        requires { at < length self.now.bytes.now }
+        ensures { HasBytes self.now.bytes.now at (signed8.spelling result) }
     {
-        if handler.start_pc >= handler.end_pc {
-            return false;
-        }
-        self.starts_fit(starts, handler) && self.end_fits(starts, handler)
+        self.u8_at(at).cast_signed()
     }
 
-    /// Whether each handler covers something, from an instruction's start to another's or to the
-    /// end of the code, and starts at an instruction (4.7.3). What it catches is not looked at.
-    ///
-    /// It makes one pass over the code and takes constant time for each handler. Its table of the
-    /// starts takes 65,536 bytes of stack.
-    pub fn handlers_fit(&self, handlers: &[Handler]) -> bool
-        ensures { IsTrue result ↔ HandlersFit self.now handlers.now }
+    /// The signed number in the two bytes at an offset.
+    #[inline]
+    pub fn i16_at(&self, at: u32) -> i16
+        requires { at + 2 ≤ length self.now.bytes.now }
+        ensures { HasBytes self.now.bytes.now at (signed16.spelling result) }
     {
-        let mut starts = [false; 65536];
-        self.mark_starts(&mut starts);
-        for handler in handlers {
-            if !self.handler_fits(&starts, handler) {
-                return false;
-            }
-        }
-        true
+        self.u16_at(at).cast_signed()
     }
 }

@@ -1,10 +1,12 @@
 //! Instructions (JVMS 6.5).
 
+ghost use Rattle.std.specs.Prelude.{◌≡◌};
+
 use crate::kinds::{
-    ArithmeticOperator, Condition, Conversion, DivisionOperator, ElementKind, ElementType,
-    Equality, FieldAccess, IncrementForm, IndexForm, IntForm, Invocation, JumpForm, LocalForm,
-    LongValue, NumberKind, ShiftOperator, StackForm, ValueKind, WordKind,
+    Computation, DivisionOperator, ElementType, FieldAccess, IncrementForm, IndexForm, Invocation,
+    JumpForm, LocalForm, NumberElement, NumberKind, StackForm, Test, ValueKind, WordKind,
 };
+use std::alloc::AllocError;
 
 /// An instruction of the profile (JVMS 6.5), as it stands in code.
 ///
@@ -13,16 +15,13 @@ use crate::kinds::{
 /// the bytes are a function of the value, and a rule that does not ask for the spelling leaves
 /// that field alone. An index is that of a constant of the class, and a local has a number. A
 /// distance is a number of bytes from the instruction's own offset.
-#[derive(Clone, Copy)]
 pub enum Insn<T> {
     /// `nop`.
     Nop,
     /// Pushes null: `aconst_null`.
     NullConstant,
-    /// Pushes an int: `iconst_<i>`, `bipush`, `sipush`.
-    IntConstant(i16, IntForm),
-    /// Pushes a long: `lconst_<l>`.
-    LongConstant(LongValue),
+    /// Takes numbers and gives one: constants that it holds, arithmetic, shifts, conversions.
+    Compute(Computation),
     /// Pushes the constant of one word at the index: `ldc`, `ldc_w`.
     PoolConstant(u16, IndexForm),
     /// Pushes the constant of two words at the index: `ldc2_w`.
@@ -33,34 +32,22 @@ pub enum Insn<T> {
     Store(WordKind, u16, LocalForm),
     /// Pops a long into a local and the one after it: `lstore`.
     StoreLong(u16, LocalForm),
-    /// Pushes an array's element: `iaload` and its kin.
-    ArrayLoad(ElementKind),
-    /// Pops into an array's element: `iastore` and its kin.
-    ArrayStore(ElementKind),
+    /// Pushes a number of an array: `iaload` and its kin.
+    ArrayLoad(NumberElement),
+    /// Pushes a reference of an array: `aaload`.
+    ReferenceArrayLoad,
+    /// Pops a number into an array: `iastore` and its kin.
+    ArrayStore(NumberElement),
+    /// Pops a reference into an array: `aastore`.
+    ReferenceArrayStore,
     /// Moves words of the stack: `pop` to `swap`.
     Stack(StackForm),
-    /// `iadd`, `ladd` and their kin.
-    Arithmetic(NumberKind, ArithmeticOperator),
     /// `idiv`, `ldiv`, `irem`, `lrem`.
     Division(NumberKind, DivisionOperator),
-    /// `ineg`, `lneg`.
-    Negate(NumberKind),
-    /// `ishl`, `lshl` and their kin.
-    Shift(NumberKind, ShiftOperator),
-    /// `i2l` and its kin.
-    Convert(Conversion),
-    /// `lcmp`.
-    CompareLongs,
     /// Adds a number to an int local: `iinc`.
     Increment(u16, i16, IncrementForm),
-    /// Jumps the distance where an int is so to 0: `ifeq` and its kin.
-    IfInt(Condition, i16),
-    /// Jumps the distance where two ints are so: `if_icmpeq` and its kin.
-    IfInts(Condition, i16),
-    /// Jumps the distance where two references are so: `if_acmpeq`, `if_acmpne`.
-    IfReferences(Equality, i16),
-    /// Jumps the distance where a reference is so to null: `ifnull`, `ifnonnull`.
-    IfNull(Equality, i16),
+    /// Jumps the distance where the test holds: `ifeq` to `if_acmpne`, `ifnull`, `ifnonnull`.
+    Branch(Test, i16),
     /// Jumps the distance: `goto`, `goto_w`.
     Goto(i32, JumpForm),
     /// `tableswitch`: the padding, the default distance, the lowest and the highest number that
@@ -96,3 +83,15 @@ pub enum Insn<T> {
     /// `instanceof`, with the class's index.
     InstanceOf(u16),
 }
+
+impl<T: Copy> Clone for Insn<T> {
+    ghost is_clone = { λ x y. y ≡ x };
+
+    ghost is_infallible = { λ _. Unit {0} };
+
+    fn clone(&self) -> Result<Self, AllocError> {
+        Ok(*self)
+    }
+}
+
+impl<T: Copy> Copy for Insn<T> {}

@@ -82,13 +82,11 @@ pub enum JumpForm {
     Quad,
 }
 
-/// What the elements of an array are that an instruction loads from or stores to.
+/// What the numbers of an array are that an instruction loads or stores.
 #[derive(Clone, Copy)]
-pub enum ElementKind {
+pub enum NumberElement {
     Int,
     Long,
-    /// Objects, arrays or null.
-    Reference,
     /// `baload` and `bastore` serve arrays of byte and of boolean.
     ByteOrBoolean,
     Char,
@@ -162,6 +160,39 @@ pub enum Conversion {
     IntToByte,
     IntToChar,
     IntToShort,
+}
+
+/// An instruction that takes numbers from the stack and gives one, and does nothing else: it
+/// never throws, and looks nothing up.
+#[derive(Clone, Copy)]
+pub enum Computation {
+    /// Gives an int that it holds: `iconst_<i>`, `bipush`, `sipush`.
+    IntConstant(i16, IntForm),
+    /// Gives a long that it holds: `lconst_<l>`.
+    LongConstant(LongValue),
+    /// `iadd`, `ladd` and their kin.
+    Arithmetic(NumberKind, ArithmeticOperator),
+    /// `ineg`, `lneg`.
+    Negate(NumberKind),
+    /// `ishl`, `lshl` and their kin.
+    Shift(NumberKind, ShiftOperator),
+    /// `i2l` and its kin.
+    Convert(Conversion),
+    /// `lcmp`.
+    CompareLongs,
+}
+
+/// When a branch is taken.
+#[derive(Clone, Copy)]
+pub enum Test {
+    /// Where an int is so to 0: `ifeq` and its kin.
+    IfInt(Condition),
+    /// Where two ints are so: `if_icmpeq` and its kin.
+    IfInts(Condition),
+    /// Where two references are so: `if_acmpeq`, `if_acmpne`.
+    IfReferences(Equality),
+    /// Where a reference is so to null: `ifnull`, `ifnonnull`.
+    IfNull(Equality),
 }
 
 /// What two ints are compared by, or one int and 0.

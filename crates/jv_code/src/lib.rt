@@ -2,27 +2,31 @@
 #![tactic(auto)]
 
 mod code;
-mod handlers;
 mod insn;
 mod kinds;
 mod law;
 mod numbers;
-mod opcodes;
 mod profile;
 mod reading;
-mod shape;
+mod shapes;
+mod starts;
+mod successors;
 mod switches;
 mod target;
 
 pub use code::{BadCode, Code};
-pub use handlers::Handler;
 pub use insn::Insn;
 pub use kinds::{
-    ArithmeticOperator, Condition, Conversion, DivisionOperator, ElementKind, ElementType,
+    ArithmeticOperator, Computation, Condition, Conversion, DivisionOperator, ElementType,
     Equality, FieldAccess, IncrementForm, IndexForm, IntForm, Invocation, JumpForm, LocalForm,
-    LongValue, NumberKind, ShiftOperator, StackForm, ValueKind, WordKind,
+    LongValue, NumberElement, NumberKind, ShiftOperator, StackForm, Test, ValueKind, WordKind,
 };
-pub use law::{one_at_offset, one_list, stands_in_list, starts_apart};
+pub use law::{
+    bytes_join, distances_stand, each_has_distance, fits_there, keys_rise, next_starts,
+    one_at_offset, one_list, pairs_stand, stands_as_spelled, stands_in_list, starts_apart,
+};
 pub use profile::unsupported;
-pub use switches::{distance_at, first_distance, first_pair};
+pub use starts::Starts;
+pub use successors::{falls_through, jump_distance};
+pub use switches::{distance_at, distance_for, first_distance, first_pair, pair_at};
 pub use target::target_of;

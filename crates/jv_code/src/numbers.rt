@@ -6,6 +6,7 @@ ghost use Rattle.jv_code.specs.Numbers.{signed8, signed16, signed32};
 use jv_format::{byte_at, half_at, quad_at};
 
 /// The number in the byte at the front, and what follows it.
+#[inline]
 pub(crate) fn signed8_at(bytes: &[u8]) -> Option<(i8, &[u8])>
     ensures { Finds signed8 bytes.now (λ x. (x.0, x.1.now)) result }
 {
@@ -14,6 +15,7 @@ pub(crate) fn signed8_at(bytes: &[u8]) -> Option<(i8, &[u8])>
 }
 
 /// The number in the two bytes at the front, and what follows them.
+#[inline]
 pub(crate) fn signed16_at(bytes: &[u8]) -> Option<(i16, &[u8])>
     ensures { Finds signed16 bytes.now (λ x. (x.0, x.1.now)) result }
 {
@@ -22,6 +24,7 @@ pub(crate) fn signed16_at(bytes: &[u8]) -> Option<(i16, &[u8])>
 }
 
 /// The number in the four bytes at the front, and what follows them.
+#[inline]
 pub(crate) fn signed32_at(bytes: &[u8]) -> Option<(i32, &[u8])>
     ensures { Finds signed32 bytes.now (λ x. (x.0, x.1.now)) result }
 {

@@ -1,25 +1,28 @@
 //! Instructions outside the profile (JVMS 6.5, 7).
 
 ghost use Rattle.std.specs.Prelude.{◌≡◌, ◌↔◌, IsTrue, is_some};
-ghost use Rattle.jv_code.specs.Shapes.{shape_at};
+ghost use Rattle.jv_code.specs.Inside.Shapes.{shape_at, is_outside};
 ghost use Rattle.jv_code.specs.Unsupported.{is_unsupported, makes_floats, is_wide_float, front_unsupported, IsUnsupported};
 
 use crate::code::insn_front;
-use crate::opcodes::shape_of;
+use crate::shapes::shape_of;
 
 fn is_of_profile(opcode: u8) -> bool
     ensures { result ≡ is_some (shape_at opcode) }
 {
-    let Some(_shape) = shape_of(opcode) else {
-        return false;
-    };
-    true
+    shape_of(opcode).is_some()
+}
+
+fn is_outside(opcode: u8) -> bool
+    ensures { result ≡ is_outside opcode }
+{
+    11 <= opcode && opcode <= 195 && opcode != 168 && opcode != 169 && !is_of_profile(opcode)
 }
 
 fn is_unsupported(opcode: u8) -> bool
     ensures { result ≡ is_unsupported opcode }
 {
-    11 <= opcode && opcode <= 195 && opcode != 168 && opcode != 169 && !is_of_profile(opcode)
+    is_outside(opcode)
 }
 
 fn makes_floats(opcode: u8, code: u8) -> bool

@@ -4,19 +4,21 @@ ghost use Rattle.std.specs.Prelude.{◌≡◌};
 ghost use Rattle.jv_format.specs.Format.{Finds, byte, half, both};
 ghost use Rattle.jv_code.specs.declared.kinds.LocalForm.TheVariants as local;
 ghost use Rattle.jv_code.specs.Numbers.{signed8, signed16, signed32};
-ghost use Rattle.jv_code.specs.Reading.{made, indexed, with_local, jump_by, far_jump_by, byte_constant, half_constant, pool_byte, increment_by, wide_increment_by, invoke_interface_of, new_array_of, new_multi_array_of, count, element_at, element_type, dimensions, wide_operands, wide_read, operands, insn_read};
-ghost use Rattle.jv_code.specs.Seen.{seen, seen_shape, Reads};
+ghost use Rattle.jv_code.specs.Inside.Reading.{made, indexed, with_local, whole_insn, branch_by, goto_by, far_goto_by, byte_constant, half_constant, pool_byte, increment_by, wide_increment_by, invoke_interface_of, new_array_of, new_multi_array_of, count, element_at, element_type, dimensions, wide_operands, wide_read, operands, insn_read, known_insn_read, Reads};
+ghost use Rattle.jv_code.specs.Insns.{instruction_of};
 
 use crate::insn::Insn;
-use crate::kinds::{ElementType, IncrementForm, IndexForm, IntForm, JumpForm, LocalForm};
+use crate::kinds::{
+    Computation, ElementType, IncrementForm, IndexForm, IntForm, JumpForm, LocalForm, Test,
+};
 use crate::numbers::{signed8_at, signed16_at, signed32_at};
-use crate::opcodes::shape_of;
-use crate::shape::{Branch, IndexUse, LocalUse, Shape};
-use crate::switches::{lookup_switch_at, table_switch_at};
+use crate::shapes::{IndexUse, LocalUse, OpcodeShape, WholeInsn, shape_of};
+use crate::switches::{known_lookup_switch_at, lookup_switch_at, table_switch_at};
 use jv_format::{byte_at, half_at};
 
+#[inline]
 fn indexed<'a>(index_use: IndexUse, index: u16) -> Insn<&'a [u8]>
-    ensures { seen result ≡ indexed index_use index }
+    ensures { instruction_of result ≡ indexed index_use index }
 {
     match index_use {
         IndexUse::PoolConstant => Insn::PoolConstant(index, IndexForm::Half),
@@ -30,6 +32,30 @@ fn indexed<'a>(index_use: IndexUse, index: u16) -> Insn<&'a [u8]>
     }
 }
 
+/// The instruction that is its opcode alone.
+#[inline(always)]
+fn whole<'a>(insn: WholeInsn) -> Insn<&'a [u8]>
+    ensures { instruction_of result ≡ whole_insn insn }
+{
+    match insn {
+        WholeInsn::Nop => Insn::Nop,
+        WholeInsn::NullConstant => Insn::NullConstant,
+        WholeInsn::Compute(computation) => Insn::Compute(computation),
+        WholeInsn::Local(local_use, local) => with_local(local_use, LocalForm::Opcode, local),
+        WholeInsn::ArrayLoad(kind) => Insn::ArrayLoad(kind),
+        WholeInsn::ReferenceArrayLoad => Insn::ReferenceArrayLoad,
+        WholeInsn::ArrayStore(kind) => Insn::ArrayStore(kind),
+        WholeInsn::ReferenceArrayStore => Insn::ReferenceArrayStore,
+        WholeInsn::Stack(form) => Insn::Stack(form),
+        WholeInsn::Division(kind, operator) => Insn::Division(kind, operator),
+        WholeInsn::ReturnValue(kind) => Insn::ReturnValue(kind),
+        WholeInsn::Return => Insn::Return,
+        WholeInsn::ArrayLength => Insn::ArrayLength,
+        WholeInsn::Throw => Insn::Throw,
+    }
+}
+
+#[inline(always)]
 fn index_at(index_use: IndexUse, bytes: &[u8]) -> Option<(Insn<&[u8]>, &[u8])>
     ensures { Reads (made half (indexed index_use) bytes.now) result }
 {
@@ -37,8 +63,9 @@ fn index_at(index_use: IndexUse, bytes: &[u8]) -> Option<(Insn<&[u8]>, &[u8])>
     Some((indexed(index_use, index), rest))
 }
 
+#[inline(always)]
 fn with_local<'a>(local_use: LocalUse, form: LocalForm, local: u16) -> Insn<&'a [u8]>
-    ensures { seen result ≡ with_local local_use form local }
+    ensures { instruction_of result ≡ with_local local_use form local }
 {
     match local_use {
         LocalUse::Load(kind) => Insn::Load(kind, local, form),
@@ -47,6 +74,7 @@ fn with_local<'a>(local_use: LocalUse, form: LocalForm, local: u16) -> Insn<&'a 
     }
 }
 
+#[inline(always)]
 fn local_at(local_use: LocalUse, bytes: &[u8]) -> Option<(Insn<&[u8]>, &[u8])>
     ensures { Reads (made byte (with_local local_use local.Byte) bytes.now) result }
 {
@@ -55,6 +83,7 @@ fn local_at(local_use: LocalUse, bytes: &[u8]) -> Option<(Insn<&[u8]>, &[u8])>
     Some((insn, rest))
 }
 
+#[inline]
 fn wide_local_at(local_use: LocalUse, bytes: &[u8]) -> Option<(Insn<&[u8]>, &[u8])>
     ensures { Reads (made half (with_local local_use local.Wide) bytes.now) result }
 {
@@ -63,46 +92,49 @@ fn wide_local_at(local_use: LocalUse, bytes: &[u8]) -> Option<(Insn<&[u8]>, &[u8
     Some((insn, rest))
 }
 
-fn jump_by<'a>(branch: Branch, distance: i16) -> Insn<&'a [u8]>
-    ensures { seen result ≡ jump_by branch distance }
-{
-    match branch {
-        Branch::IfInt(test) => Insn::IfInt(test, distance),
-        Branch::IfInts(test) => Insn::IfInts(test, distance),
-        Branch::IfReferences(test) => Insn::IfReferences(test, distance),
-        Branch::IfNull(test) => Insn::IfNull(test, distance),
-        Branch::Always => Insn::Goto(i32::from(distance), JumpForm::Half),
-    }
-}
-
-fn jump_at(branch: Branch, bytes: &[u8]) -> Option<(Insn<&[u8]>, &[u8])>
-    ensures { Reads (made signed16 (jump_by branch) bytes.now) result }
+#[inline(always)]
+fn branch_at(test: Test, bytes: &[u8]) -> Option<(Insn<&[u8]>, &[u8])>
+    ensures { Reads (made signed16 (branch_by test) bytes.now) result }
 {
     let (distance, rest) = signed16_at(bytes)?;
-    Some((jump_by(branch, distance), rest))
+    Some((Insn::Branch(test, distance), rest))
 }
 
-fn far_jump_at(bytes: &[u8]) -> Option<(Insn<&[u8]>, &[u8])>
-    ensures { Reads (made signed32 far_jump_by bytes.now) result }
+#[inline(always)]
+fn goto_at(bytes: &[u8]) -> Option<(Insn<&[u8]>, &[u8])>
+    ensures { Reads (made signed16 goto_by bytes.now) result }
+{
+    let (distance, rest) = signed16_at(bytes)?;
+    Some((Insn::Goto(i32::from(distance), JumpForm::Half), rest))
+}
+
+#[inline]
+fn far_goto_at(bytes: &[u8]) -> Option<(Insn<&[u8]>, &[u8])>
+    ensures { Reads (made signed32 far_goto_by bytes.now) result }
 {
     let (distance, rest) = signed32_at(bytes)?;
     Some((Insn::Goto(distance, JumpForm::Quad), rest))
 }
 
+#[inline]
 fn byte_constant_at(bytes: &[u8]) -> Option<(Insn<&[u8]>, &[u8])>
     ensures { Reads (made signed8 byte_constant bytes.now) result }
 {
     let (value, rest) = signed8_at(bytes)?;
-    Some((Insn::IntConstant(i16::from(value), IntForm::Byte), rest))
+    let computation = Computation::IntConstant(i16::from(value), IntForm::Byte);
+    Some((Insn::Compute(computation), rest))
 }
 
+#[inline]
 fn half_constant_at(bytes: &[u8]) -> Option<(Insn<&[u8]>, &[u8])>
     ensures { Reads (made signed16 half_constant bytes.now) result }
 {
     let (value, rest) = signed16_at(bytes)?;
-    Some((Insn::IntConstant(value, IntForm::Half), rest))
+    let computation = Computation::IntConstant(value, IntForm::Half);
+    Some((Insn::Compute(computation), rest))
 }
 
+#[inline]
 fn pool_byte_at(bytes: &[u8]) -> Option<(Insn<&[u8]>, &[u8])>
     ensures { Reads (made byte pool_byte bytes.now) result }
 {
@@ -110,6 +142,7 @@ fn pool_byte_at(bytes: &[u8]) -> Option<(Insn<&[u8]>, &[u8])>
     Some((Insn::PoolConstant(u16::from(index), IndexForm::Byte), rest))
 }
 
+#[inline(always)]
 fn increment_at(bytes: &[u8]) -> Option<(Insn<&[u8]>, &[u8])>
     ensures { Reads (made (both byte signed8) increment_by bytes.now) result }
 {
@@ -119,6 +152,7 @@ fn increment_at(bytes: &[u8]) -> Option<(Insn<&[u8]>, &[u8])>
     Some((insn, rest))
 }
 
+#[inline]
 fn wide_increment_at(bytes: &[u8]) -> Option<(Insn<&[u8]>, &[u8])>
     ensures { Reads (made (both half signed16) wide_increment_by bytes.now) result }
 {
@@ -127,6 +161,7 @@ fn wide_increment_at(bytes: &[u8]) -> Option<(Insn<&[u8]>, &[u8])>
     Some((Insn::Increment(local, value, IncrementForm::Wide), rest))
 }
 
+#[inline]
 fn count_at(bytes: &[u8]) -> Option<(u8, &[u8])>
     ensures { Finds count bytes.now (λ x. (x.0, x.1.now)) result }
 {
@@ -136,6 +171,7 @@ fn count_at(bytes: &[u8]) -> Option<(u8, &[u8])>
     }
 }
 
+#[inline]
 fn invoke_interface_at(bytes: &[u8]) -> Option<(Insn<&[u8]>, &[u8])>
     ensures { Reads (made (both half count) invoke_interface_of bytes.now) result }
 {
@@ -144,6 +180,7 @@ fn invoke_interface_at(bytes: &[u8]) -> Option<(Insn<&[u8]>, &[u8])>
     Some((Insn::InvokeInterface(index, count), rest))
 }
 
+#[inline]
 fn element_of(code: u8) -> Option<ElementType>
     ensures { result ≡ element_at code }
 {
@@ -158,6 +195,7 @@ fn element_of(code: u8) -> Option<ElementType>
     }
 }
 
+#[inline]
 fn new_array_at(bytes: &[u8]) -> Option<(Insn<&[u8]>, &[u8])>
     ensures { Reads (made element_type new_array_of bytes.now) result }
 {
@@ -166,6 +204,7 @@ fn new_array_at(bytes: &[u8]) -> Option<(Insn<&[u8]>, &[u8])>
     Some((Insn::NewArray(element), rest))
 }
 
+#[inline]
 fn dimensions_at(bytes: &[u8]) -> Option<(u8, &[u8])>
     ensures { Finds dimensions bytes.now (λ x. (x.0, x.1.now)) result }
 {
@@ -176,6 +215,7 @@ fn dimensions_at(bytes: &[u8]) -> Option<(u8, &[u8])>
     Some((dimensions, rest))
 }
 
+#[inline]
 fn new_multi_array_at(bytes: &[u8]) -> Option<(Insn<&[u8]>, &[u8])>
     ensures { Reads (made (both half dimensions) new_multi_array_of bytes.now) result }
 {
@@ -184,16 +224,18 @@ fn new_multi_array_at(bytes: &[u8]) -> Option<(Insn<&[u8]>, &[u8])>
     Some((Insn::NewMultiArray(index, dimensions), rest))
 }
 
-fn wide_operands<'a>(shape: Shape<&'a [u8]>, bytes: &'a [u8]) -> Option<(Insn<&'a [u8]>, &'a [u8])>
-    ensures { Reads (wide_operands bytes.now (seen_shape shape.entry)) result }
+#[inline]
+fn wide_operands(shape: OpcodeShape, bytes: &[u8]) -> Option<(Insn<&[u8]>, &[u8])>
+    ensures { Reads (wide_operands bytes.now shape) result }
 {
     match shape {
-        Shape::Local(local_use) => wide_local_at(local_use, bytes),
-        Shape::Increment => wide_increment_at(bytes),
+        OpcodeShape::Local(local_use) => wide_local_at(local_use, bytes),
+        OpcodeShape::Increment => wide_increment_at(bytes),
         _ => None,
     }
 }
 
+#[inline]
 fn wide_at(bytes: &[u8]) -> Option<(Insn<&[u8]>, &[u8])>
     ensures { Reads (wide_read bytes.now) result }
 {
@@ -206,34 +248,33 @@ fn wide_at(bytes: &[u8]) -> Option<(Insn<&[u8]>, &[u8])>
     wide_operands(shape, rest)
 }
 
-fn operands<'a>(
-    at: usize,
-    shape: Shape<&'a [u8]>,
-    bytes: &'a [u8],
-) -> Option<(Insn<&'a [u8]>, &'a [u8])>
-    ensures { Reads (operands at bytes.now (seen_shape shape.entry)) result }
+#[inline(always)]
+fn operands(at: usize, shape: OpcodeShape, bytes: &[u8]) -> Option<(Insn<&[u8]>, &[u8])>
+    ensures { Reads (operands at bytes.now shape) result }
 {
     match shape {
-        Shape::Whole(insn) => Some((insn, bytes)),
-        Shape::Index(index_use) => index_at(index_use, bytes),
-        Shape::Local(local_use) => local_at(local_use, bytes),
-        Shape::Jump(branch) => jump_at(branch, bytes),
-        Shape::FarJump => far_jump_at(bytes),
-        Shape::ByteConstant => byte_constant_at(bytes),
-        Shape::HalfConstant => half_constant_at(bytes),
-        Shape::PoolByte => pool_byte_at(bytes),
-        Shape::Increment => increment_at(bytes),
-        Shape::TableSwitch => table_switch_at(at, bytes),
-        Shape::LookupSwitch => lookup_switch_at(at, bytes),
-        Shape::InvokeInterface => invoke_interface_at(bytes),
-        Shape::NewArray => new_array_at(bytes),
-        Shape::NewMultiArray => new_multi_array_at(bytes),
-        Shape::Wide => wide_at(bytes),
+        OpcodeShape::Whole(insn) => Some((whole(insn), bytes)),
+        OpcodeShape::Index(index_use) => index_at(index_use, bytes),
+        OpcodeShape::Local(local_use) => local_at(local_use, bytes),
+        OpcodeShape::Branch(test) => branch_at(test, bytes),
+        OpcodeShape::Goto => goto_at(bytes),
+        OpcodeShape::FarGoto => far_goto_at(bytes),
+        OpcodeShape::ByteConstant => byte_constant_at(bytes),
+        OpcodeShape::HalfConstant => half_constant_at(bytes),
+        OpcodeShape::PoolByte => pool_byte_at(bytes),
+        OpcodeShape::Increment => increment_at(bytes),
+        OpcodeShape::TableSwitch => table_switch_at(at, bytes),
+        OpcodeShape::LookupSwitch => lookup_switch_at(at, bytes),
+        OpcodeShape::InvokeInterface => invoke_interface_at(bytes),
+        OpcodeShape::NewArray => new_array_at(bytes),
+        OpcodeShape::NewMultiArray => new_multi_array_at(bytes),
+        OpcodeShape::Wide => wide_at(bytes),
     }
 }
 
 /// The instruction at the front, which stands at an offset of the code, and what follows it.
-pub(crate) fn insn_of(at: usize, bytes: &[u8]) -> Option<(Insn<&[u8]>, &[u8])>
+#[inline(always)]
+pub(crate) fn read_insn(at: usize, bytes: &[u8]) -> Option<(Insn<&[u8]>, &[u8])>
     ensures { Reads (insn_read at bytes.now) result }
 {
     let Some((opcode, rest)) = byte_at(bytes) else {
@@ -243,4 +284,16 @@ pub(crate) fn insn_of(at: usize, bytes: &[u8]) -> Option<(Insn<&[u8]>, &[u8])>
         return None;
     };
     operands(at, shape, rest)
+}
+
+/// The instruction at the front, where one is known to stand, and what follows it.
+#[inline(always)]
+pub(crate) fn read_known_insn(at: usize, bytes: &[u8]) -> Option<(Insn<&[u8]>, &[u8])>
+    ensures { Reads (known_insn_read at bytes.now) result }
+{
+    match bytes {
+        [] => None,
+        [171, rest @ ..] => known_lookup_switch_at(at, rest),
+        _ => read_insn(at, bytes),
+    }
 }

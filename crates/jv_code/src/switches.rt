@@ -1,18 +1,18 @@
 //! Switches: padding, distances and keys (JVMS 6.5, tableswitch and lookupswitch).
 
-ghost use Rattle.std.specs.Prelude.{◌≡◌, ◌∷◌, [], ◌-ℤ◌, ◌<◌, length, slice_get, IfSome, IfNone};
+ghost use Rattle.std.specs.Prelude.{◌≡◌, ◌∷◌, [], ◌↔◌, ◌-ℤ◌, ◌<ℤ◌, ◌<◌, length, slice_get, IfSome, IfNone, IsTrue, None};
 ghost use Rattle.std.specs.Option.{option_map};
 ghost use Rattle.jv_format.specs.Format.{Finds, paired};
 ghost use Rattle.jv_code.specs.Numbers.{signed32};
-ghost use Rattle.jv_code.specs.Switches.{distances_in, number_found, pair, pairs_in, keys_rise, pairs_right, padding, table_of, bounds, table_between, pairs_of, pairs};
-ghost use Rattle.jv_code.specs.Reading.{table_switch_read, lookup_switch_read};
-ghost use Rattle.jv_code.specs.Seen.{Reads};
+ghost use Rattle.jv_code.specs.Switches.{distances_in, pair, pairs_in, keys_rise, pairs_right, pair_distance, distance_for};
+ghost use Rattle.jv_code.specs.Inside.SwitchReading.{padding, distance_bytes, bounds, distance_bytes_between, pairs_of, pairs, known_pairs};
+ghost use Rattle.jv_code.specs.Inside.Reading.{table_switch_read, lookup_switch_read, known_lookup_switch_read, Reads};
 
 use crate::insn::Insn;
 use crate::numbers::signed32_at;
 use jv_format::{bytes_at, quad_at};
 
-fn pair_at(bytes: &[u8]) -> Option<((i32, i32), &[u8])>
+fn front_pair(bytes: &[u8]) -> Option<((i32, i32), &[u8])>
     ensures { Finds pair bytes.now (λ x. ((x.0.0, x.0.1), x.1.now)) result }
 {
     let (key, rest) = signed32_at(bytes)?;
@@ -33,15 +33,16 @@ pub fn first_distance(bytes: &[u8]) -> Option<(i32, &[u8])>
     Some(found)
 }
 
-fn front_distance(bytes: &[u8]) -> Option<i32>
-    ensures { result ≡ option_map number_found (signed32.read bytes.now) }
+fn first_of_distances(bytes: &[u8]) -> Option<i32>
+    ensures { result ≡ slice_get (distances_in bytes.now) 0 }
 {
-    let (distance, _rest) = signed32_at(bytes)?;
+    let (distance, _rest) = first_distance(bytes)?;
     Some(distance)
 }
 
 /// The distance at a place, from 0, of a tableswitch's distances; `None` where there are no more.
-#[tactic(auto, using(crate::proofs::Distances::distance_there, crate::proofs::Distances::none_past))]
+#[inline]
+#[tactic(auto, using(crate::proofs::Distances::none_past, crate::proofs::Distances::distance_there))]
 pub fn distance_at(bytes: &[u8], place: usize) -> Option<i32>
     ensures { result ≡ slice_get (distances_in bytes.now) place }
 {
@@ -49,7 +50,7 @@ pub fn distance_at(bytes: &[u8], place: usize) -> Option<i32>
         return None;
     }
     let (_, rest) = bytes.split_at(4 * place);
-    front_distance(rest)
+    first_of_distances(rest)
 }
 
 /// The pair of a key and its distance at the front of a lookupswitch's pairs, and those behind
@@ -59,10 +60,85 @@ pub fn first_pair(bytes: &[u8]) -> Option<((i32, i32), &[u8])>
     ensures none { IfNone result (pairs_in bytes.now ≡ []) }
     ensures shorter { IfSome result (λ x. length x.1.now < length bytes.now) }
 {
-    let Some((pair, rest)) = pair_at(bytes) else {
+    let Some((pair, rest)) = front_pair(bytes) else {
         return None;
     };
     Some((pair, rest))
+}
+
+/// The pair of a key and its distance at a place, from 0, of a lookupswitch's pairs; `None` where
+/// there are no more.
+#[inline]
+#[tactic(auto, using(crate::proofs::Pairs::no_pair_past, crate::proofs::Pairs::pair_there))]
+pub fn pair_at(bytes: &[u8], place: usize) -> Option<(i32, i32)>
+    ensures { result ≡ slice_get (pairs_in bytes.now) place }
+{
+    if bytes.len() / 8 <= place {
+        return None;
+    }
+    let (_, rest) = bytes.split_at(8 * place);
+    first_of_pairs(rest)
+}
+
+fn first_of_pairs(bytes: &[u8]) -> Option<(i32, i32)>
+    ensures { result ≡ slice_get (pairs_in bytes.now) 0 }
+{
+    let (pair, _rest) = first_pair(bytes)?;
+    Some(pair)
+}
+
+pub(crate) fn distance_of_pair_at(pairs: &[u8], place: usize) -> Option<i32>
+    ensures { result ≡ option_map pair_distance (slice_get (pairs_in pairs.now) place) }
+{
+    pair_at(pairs, place).map(|pair| pair.1)
+}
+
+fn is_below(pair: (i32, i32), key: i32) -> bool
+    ensures { IsTrue result ↔ (pair.0 <ℤ key) }
+{
+    pair.0 < key
+}
+
+fn is_above(pair: (i32, i32), key: i32) -> bool
+    ensures { IsTrue result ↔ (key <ℤ pair.0) }
+{
+    key < pair.0
+}
+
+/// The place of the pair with a key.
+fn place_of_key(pairs: &[u8], key: i32) -> Option<usize>
+    requires { IsTrue (keys_rise (pairs_in pairs.now)) }
+    ensures found { IfSome result (λ place. option_map pair_distance (slice_get (pairs_in pairs.now) place) ≡ distance_for key (pairs_in pairs.now)) }
+    ensures none { IfNone result (distance_for key (pairs_in pairs.now) ≡ None) }
+{
+    let mut low = 0;
+    let mut high = pairs.len() / 8;
+    while low < high {
+        let middle = low + (high - low) / 2;
+        let Some(pair) = pair_at(pairs, middle) else {
+            unreachable!();
+        };
+        if is_below(pair, key) {
+            low = middle + 1;
+        } else if is_above(pair, key) {
+            high = middle;
+        } else {
+            return Some(middle);
+        }
+    }
+    None
+}
+
+/// The distance of a key among a lookupswitch's pairs, whose keys rise; `None` where no pair has
+/// it. It halves what is left at each step.
+pub fn distance_for(pairs: &[u8], key: i32) -> Option<i32>
+    requires { IsTrue (keys_rise (pairs_in pairs.now)) }
+    ensures { result ≡ distance_for key (pairs_in pairs.now) }
+{
+    match place_of_key(pairs, key) {
+        Some(place) => distance_of_pair_at(pairs, place),
+        None => None,
+    }
 }
 
 /// Whether each key is above the one before.
@@ -83,8 +159,8 @@ pub(crate) fn keys_rise(bytes: &[u8]) -> bool
 }
 
 /// The distances of a tableswitch, four bytes for each number from low to high.
-fn table_at(low: i32, high: i32, bytes: &[u8]) -> Option<(&[u8], &[u8])>
-    ensures { Finds (table_of (high -ℤ low)) bytes.now (λ x. (x.0.now, x.1.now)) result }
+fn distance_bytes_at(low: i32, high: i32, bytes: &[u8]) -> Option<(&[u8], &[u8])>
+    ensures { Finds (distance_bytes (high -ℤ low)) bytes.now (λ x. (x.0.now, x.1.now)) result }
 {
     if high < low {
         return None;
@@ -103,10 +179,10 @@ fn bounds_at(bytes: &[u8]) -> Option<((i32, i32, i32), &[u8])>
 }
 
 fn distances_at(bytes: &[u8]) -> Option<((i32, i32, i32, &[u8]), &[u8])>
-    ensures { Finds (paired bounds table_between) bytes.now (λ x. (((x.0.0, (x.0.1, x.0.2)), x.0.3.now), x.1.now)) result }
+    ensures { Finds (paired bounds distance_bytes_between) bytes.now (λ x. (((x.0.0, (x.0.1, x.0.2)), x.0.3.now), x.1.now)) result }
 {
     let ((default, low, high), rest) = bounds_at(bytes)?;
-    let (distances, rest) = table_at(low, high, rest)?;
+    let (distances, rest) = distance_bytes_at(low, high, rest)?;
     Some(((default, low, high, distances), rest))
 }
 
@@ -159,5 +235,23 @@ pub(crate) fn lookup_switch_at(at: usize, bytes: &[u8]) -> Option<(Insn<&[u8]>, 
     let (padding, rest) = padding_at(at, bytes)?;
     let (default, rest) = signed32_at(rest)?;
     let (pairs, rest) = pairs_at(rest)?;
+    Some((Insn::LookupSwitch(padding, default, pairs), rest))
+}
+
+fn known_pairs_at(bytes: &[u8]) -> Option<(&[u8], &[u8])>
+    ensures { Finds known_pairs bytes.now (λ x. (x.0.now, x.1.now)) result }
+{
+    let (count, rest) = quad_at(bytes)?;
+    bytes_at(8 * (count as usize), rest)
+}
+
+/// What follows the opcode of a lookupswitch at an offset, where one is known to stand: its keys
+/// are not looked at again.
+pub(crate) fn known_lookup_switch_at(at: usize, bytes: &[u8]) -> Option<(Insn<&[u8]>, &[u8])>
+    ensures { Reads (known_lookup_switch_read at bytes.now) result }
+{
+    let (padding, rest) = padding_at(at, bytes)?;
+    let (default, rest) = signed32_at(rest)?;
+    let (pairs, rest) = known_pairs_at(rest)?;
     Some((Insn::LookupSwitch(padding, default, pairs), rest))
 }

@@ -1,152 +1,172 @@
 //! Each opcode of the profile (JVMS 6.5).
 
 use jv_code::{
-    ArithmeticOperator, Code, Condition, Conversion, DivisionOperator, ElementKind, ElementType,
+    ArithmeticOperator, Code, Computation, Condition, Conversion, DivisionOperator, ElementType,
     Equality, FieldAccess, IncrementForm, IndexForm, Insn, IntForm, Invocation, JumpForm,
-    LocalForm, LongValue, NumberKind, ShiftOperator, StackForm, ValueKind, WordKind,
+    LocalForm, LongValue, NumberElement, NumberKind, ShiftOperator, StackForm, Test, ValueKind,
+    WordKind,
 };
 use std::alloc::Global;
 
-/// The name of an instruction of the tables below, with the operands that stand there.
-fn name(insn: Insn<&[u8]>) -> &'static str {
+fn arithmetic_name(kind: NumberKind, operator: ArithmeticOperator) -> &'static str {
+    match (kind, operator) {
+        (NumberKind::Int, ArithmeticOperator::Add) => "iadd",
+        (NumberKind::Int, ArithmeticOperator::Subtract) => "isub",
+        (NumberKind::Int, ArithmeticOperator::Multiply) => "imul",
+        (NumberKind::Int, ArithmeticOperator::And) => "iand",
+        (NumberKind::Int, ArithmeticOperator::Or) => "ior",
+        (NumberKind::Int, ArithmeticOperator::Xor) => "ixor",
+        (NumberKind::Long, ArithmeticOperator::Add) => "ladd",
+        (NumberKind::Long, ArithmeticOperator::Subtract) => "lsub",
+        (NumberKind::Long, ArithmeticOperator::Multiply) => "lmul",
+        (NumberKind::Long, ArithmeticOperator::And) => "land",
+        (NumberKind::Long, ArithmeticOperator::Or) => "lor",
+        (NumberKind::Long, ArithmeticOperator::Xor) => "lxor",
+    }
+}
+
+fn shift_name(kind: NumberKind, operator: ShiftOperator) -> &'static str {
+    match (kind, operator) {
+        (NumberKind::Int, ShiftOperator::Left) => "ishl",
+        (NumberKind::Int, ShiftOperator::Right) => "ishr",
+        (NumberKind::Int, ShiftOperator::UnsignedRight) => "iushr",
+        (NumberKind::Long, ShiftOperator::Left) => "lshl",
+        (NumberKind::Long, ShiftOperator::Right) => "lshr",
+        (NumberKind::Long, ShiftOperator::UnsignedRight) => "lushr",
+    }
+}
+
+fn int_name(value: i16, form: IntForm) -> &'static str {
+    match (value, form) {
+        (-1, IntForm::Opcode) => "iconst_m1",
+        (0, IntForm::Opcode) => "iconst_0",
+        (1, IntForm::Opcode) => "iconst_1",
+        (2, IntForm::Opcode) => "iconst_2",
+        (3, IntForm::Opcode) => "iconst_3",
+        (4, IntForm::Opcode) => "iconst_4",
+        (5, IntForm::Opcode) => "iconst_5",
+        (-2, IntForm::Byte) => "bipush",
+        (-2, IntForm::Half) => "sipush",
+        _ => "",
+    }
+}
+
+fn computation_name(computation: Computation) -> &'static str {
+    match computation {
+        Computation::IntConstant(value, form) => int_name(value, form),
+        Computation::LongConstant(LongValue::Zero) => "lconst_0",
+        Computation::LongConstant(LongValue::One) => "lconst_1",
+        Computation::Arithmetic(kind, operator) => arithmetic_name(kind, operator),
+        Computation::Negate(NumberKind::Int) => "ineg",
+        Computation::Negate(NumberKind::Long) => "lneg",
+        Computation::Shift(kind, operator) => shift_name(kind, operator),
+        Computation::Convert(Conversion::IntToLong) => "i2l",
+        Computation::Convert(Conversion::LongToInt) => "l2i",
+        Computation::Convert(Conversion::IntToByte) => "i2b",
+        Computation::Convert(Conversion::IntToChar) => "i2c",
+        Computation::Convert(Conversion::IntToShort) => "i2s",
+        Computation::CompareLongs => "lcmp",
+    }
+}
+
+fn test_name(test: Test) -> &'static str {
+    match test {
+        Test::IfInt(Condition::Equal) => "ifeq",
+        Test::IfInt(Condition::NotEqual) => "ifne",
+        Test::IfInt(Condition::Less) => "iflt",
+        Test::IfInt(Condition::GreaterOrEqual) => "ifge",
+        Test::IfInt(Condition::Greater) => "ifgt",
+        Test::IfInt(Condition::LessOrEqual) => "ifle",
+        Test::IfInts(Condition::Equal) => "if_icmpeq",
+        Test::IfInts(Condition::NotEqual) => "if_icmpne",
+        Test::IfInts(Condition::Less) => "if_icmplt",
+        Test::IfInts(Condition::GreaterOrEqual) => "if_icmpge",
+        Test::IfInts(Condition::Greater) => "if_icmpgt",
+        Test::IfInts(Condition::LessOrEqual) => "if_icmple",
+        Test::IfReferences(Equality::Same) => "if_acmpeq",
+        Test::IfReferences(Equality::Different) => "if_acmpne",
+        Test::IfNull(Equality::Same) => "ifnull",
+        Test::IfNull(Equality::Different) => "ifnonnull",
+    }
+}
+
+fn stack_name(form: StackForm) -> &'static str {
+    match form {
+        StackForm::Pop => "pop",
+        StackForm::Pop2 => "pop2",
+        StackForm::Dup => "dup",
+        StackForm::DupX1 => "dup_x1",
+        StackForm::DupX2 => "dup_x2",
+        StackForm::Dup2 => "dup2",
+        StackForm::Dup2X1 => "dup2_x1",
+        StackForm::Dup2X2 => "dup2_x2",
+        StackForm::Swap => "swap",
+    }
+}
+
+fn load_name(kind: ValueKind, local: u16) -> &'static str {
+    match (kind, local) {
+        (ValueKind::Int, 0) => "iload_0",
+        (ValueKind::Int, 1) => "iload_1",
+        (ValueKind::Int, 2) => "iload_2",
+        (ValueKind::Int, 3) => "iload_3",
+        (ValueKind::Int, 254) => "iload",
+        (ValueKind::Long, 0) => "lload_0",
+        (ValueKind::Long, 1) => "lload_1",
+        (ValueKind::Long, 2) => "lload_2",
+        (ValueKind::Long, 3) => "lload_3",
+        (ValueKind::Long, 254) => "lload",
+        (ValueKind::Reference, 0) => "aload_0",
+        (ValueKind::Reference, 1) => "aload_1",
+        (ValueKind::Reference, 2) => "aload_2",
+        (ValueKind::Reference, 3) => "aload_3",
+        (ValueKind::Reference, 254) => "aload",
+        _ => "",
+    }
+}
+
+fn store_name(kind: WordKind, local: u16) -> &'static str {
+    match (kind, local) {
+        (WordKind::Int, 0) => "istore_0",
+        (WordKind::Int, 1) => "istore_1",
+        (WordKind::Int, 2) => "istore_2",
+        (WordKind::Int, 3) => "istore_3",
+        (WordKind::Int, 254) => "istore",
+        (WordKind::Reference, 0) => "astore_0",
+        (WordKind::Reference, 1) => "astore_1",
+        (WordKind::Reference, 2) => "astore_2",
+        (WordKind::Reference, 3) => "astore_3",
+        (WordKind::Reference, 254) => "astore",
+        _ => "",
+    }
+}
+
+fn store_long_name(local: u16) -> &'static str {
+    match local {
+        0 => "lstore_0",
+        1 => "lstore_1",
+        2 => "lstore_2",
+        3 => "lstore_3",
+        254 => "lstore",
+        _ => "",
+    }
+}
+
+fn element_name(element: NumberElement) -> &'static str {
+    match element {
+        NumberElement::Int => "i",
+        NumberElement::Long => "l",
+        NumberElement::ByteOrBoolean => "b",
+        NumberElement::Char => "c",
+        NumberElement::Short => "s",
+    }
+}
+
+fn use_name(insn: Insn<&[u8]>) -> &'static str {
     match insn {
-        Insn::Nop => "nop",
-        Insn::NullConstant => "aconst_null",
-        Insn::IntConstant(-1, IntForm::Opcode) => "iconst_m1",
-        Insn::IntConstant(0, IntForm::Opcode) => "iconst_0",
-        Insn::IntConstant(1, IntForm::Opcode) => "iconst_1",
-        Insn::IntConstant(2, IntForm::Opcode) => "iconst_2",
-        Insn::IntConstant(3, IntForm::Opcode) => "iconst_3",
-        Insn::IntConstant(4, IntForm::Opcode) => "iconst_4",
-        Insn::IntConstant(5, IntForm::Opcode) => "iconst_5",
-        Insn::LongConstant(LongValue::Zero) => "lconst_0",
-        Insn::LongConstant(LongValue::One) => "lconst_1",
-        Insn::IntConstant(-2, IntForm::Byte) => "bipush",
-        Insn::IntConstant(-2, IntForm::Half) => "sipush",
         Insn::PoolConstant(254, IndexForm::Byte) => "ldc",
         Insn::PoolConstant(258, IndexForm::Half) => "ldc_w",
         Insn::PoolLongConstant(258) => "ldc2_w",
-        Insn::Load(ValueKind::Int, 254, LocalForm::Byte) => "iload",
-        Insn::Load(ValueKind::Long, 254, LocalForm::Byte) => "lload",
-        Insn::Load(ValueKind::Reference, 254, LocalForm::Byte) => "aload",
-        Insn::Load(ValueKind::Int, 0, LocalForm::Opcode) => "iload_0",
-        Insn::Load(ValueKind::Int, 1, LocalForm::Opcode) => "iload_1",
-        Insn::Load(ValueKind::Int, 2, LocalForm::Opcode) => "iload_2",
-        Insn::Load(ValueKind::Int, 3, LocalForm::Opcode) => "iload_3",
-        Insn::Load(ValueKind::Long, 0, LocalForm::Opcode) => "lload_0",
-        Insn::Load(ValueKind::Long, 1, LocalForm::Opcode) => "lload_1",
-        Insn::Load(ValueKind::Long, 2, LocalForm::Opcode) => "lload_2",
-        Insn::Load(ValueKind::Long, 3, LocalForm::Opcode) => "lload_3",
-        Insn::Load(ValueKind::Reference, 0, LocalForm::Opcode) => "aload_0",
-        Insn::Load(ValueKind::Reference, 1, LocalForm::Opcode) => "aload_1",
-        Insn::Load(ValueKind::Reference, 2, LocalForm::Opcode) => "aload_2",
-        Insn::Load(ValueKind::Reference, 3, LocalForm::Opcode) => "aload_3",
-        Insn::ArrayLoad(ElementKind::Int) => "iaload",
-        Insn::ArrayLoad(ElementKind::Long) => "laload",
-        Insn::ArrayLoad(ElementKind::Reference) => "aaload",
-        Insn::ArrayLoad(ElementKind::ByteOrBoolean) => "baload",
-        Insn::ArrayLoad(ElementKind::Char) => "caload",
-        Insn::ArrayLoad(ElementKind::Short) => "saload",
-        Insn::Store(WordKind::Int, 254, LocalForm::Byte) => "istore",
-        Insn::StoreLong(254, LocalForm::Byte) => "lstore",
-        Insn::Store(WordKind::Reference, 254, LocalForm::Byte) => "astore",
-        Insn::Store(WordKind::Int, 0, LocalForm::Opcode) => "istore_0",
-        _ => name_of_store(insn),
-    }
-}
-
-fn name_of_store(insn: Insn<&[u8]>) -> &'static str {
-    match insn {
-        Insn::Store(WordKind::Int, 1, LocalForm::Opcode) => "istore_1",
-        Insn::Store(WordKind::Int, 2, LocalForm::Opcode) => "istore_2",
-        Insn::Store(WordKind::Int, 3, LocalForm::Opcode) => "istore_3",
-        Insn::StoreLong(0, LocalForm::Opcode) => "lstore_0",
-        Insn::StoreLong(1, LocalForm::Opcode) => "lstore_1",
-        Insn::StoreLong(2, LocalForm::Opcode) => "lstore_2",
-        Insn::StoreLong(3, LocalForm::Opcode) => "lstore_3",
-        Insn::Store(WordKind::Reference, 0, LocalForm::Opcode) => "astore_0",
-        Insn::Store(WordKind::Reference, 1, LocalForm::Opcode) => "astore_1",
-        Insn::Store(WordKind::Reference, 2, LocalForm::Opcode) => "astore_2",
-        Insn::Store(WordKind::Reference, 3, LocalForm::Opcode) => "astore_3",
-        Insn::ArrayStore(ElementKind::Int) => "iastore",
-        Insn::ArrayStore(ElementKind::Long) => "lastore",
-        Insn::ArrayStore(ElementKind::Reference) => "aastore",
-        Insn::ArrayStore(ElementKind::ByteOrBoolean) => "bastore",
-        Insn::ArrayStore(ElementKind::Char) => "castore",
-        Insn::ArrayStore(ElementKind::Short) => "sastore",
-        Insn::Stack(StackForm::Pop) => "pop",
-        Insn::Stack(StackForm::Pop2) => "pop2",
-        Insn::Stack(StackForm::Dup) => "dup",
-        Insn::Stack(StackForm::DupX1) => "dup_x1",
-        Insn::Stack(StackForm::DupX2) => "dup_x2",
-        Insn::Stack(StackForm::Dup2) => "dup2",
-        Insn::Stack(StackForm::Dup2X1) => "dup2_x1",
-        Insn::Stack(StackForm::Dup2X2) => "dup2_x2",
-        Insn::Stack(StackForm::Swap) => "swap",
-        Insn::Arithmetic(NumberKind::Int, ArithmeticOperator::Add) => "iadd",
-        Insn::Arithmetic(NumberKind::Long, ArithmeticOperator::Add) => "ladd",
-        _ => name_of_number(insn),
-    }
-}
-
-fn name_of_number(insn: Insn<&[u8]>) -> &'static str {
-    match insn {
-        Insn::Arithmetic(NumberKind::Int, ArithmeticOperator::Subtract) => "isub",
-        Insn::Arithmetic(NumberKind::Long, ArithmeticOperator::Subtract) => "lsub",
-        Insn::Arithmetic(NumberKind::Int, ArithmeticOperator::Multiply) => "imul",
-        Insn::Arithmetic(NumberKind::Long, ArithmeticOperator::Multiply) => "lmul",
-        Insn::Division(NumberKind::Int, DivisionOperator::Divide) => "idiv",
-        Insn::Division(NumberKind::Long, DivisionOperator::Divide) => "ldiv",
-        Insn::Division(NumberKind::Int, DivisionOperator::Remainder) => "irem",
-        Insn::Division(NumberKind::Long, DivisionOperator::Remainder) => "lrem",
-        Insn::Negate(NumberKind::Int) => "ineg",
-        Insn::Negate(NumberKind::Long) => "lneg",
-        Insn::Shift(NumberKind::Int, ShiftOperator::Left) => "ishl",
-        Insn::Shift(NumberKind::Long, ShiftOperator::Left) => "lshl",
-        Insn::Shift(NumberKind::Int, ShiftOperator::Right) => "ishr",
-        Insn::Shift(NumberKind::Long, ShiftOperator::Right) => "lshr",
-        Insn::Shift(NumberKind::Int, ShiftOperator::UnsignedRight) => "iushr",
-        Insn::Shift(NumberKind::Long, ShiftOperator::UnsignedRight) => "lushr",
-        Insn::Arithmetic(NumberKind::Int, ArithmeticOperator::And) => "iand",
-        Insn::Arithmetic(NumberKind::Long, ArithmeticOperator::And) => "land",
-        Insn::Arithmetic(NumberKind::Int, ArithmeticOperator::Or) => "ior",
-        Insn::Arithmetic(NumberKind::Long, ArithmeticOperator::Or) => "lor",
-        Insn::Arithmetic(NumberKind::Int, ArithmeticOperator::Xor) => "ixor",
-        Insn::Arithmetic(NumberKind::Long, ArithmeticOperator::Xor) => "lxor",
-        Insn::Increment(254, -3, IncrementForm::Byte) => "iinc",
-        Insn::Convert(Conversion::IntToLong) => "i2l",
-        Insn::Convert(Conversion::LongToInt) => "l2i",
-        Insn::Convert(Conversion::IntToByte) => "i2b",
-        Insn::Convert(Conversion::IntToChar) => "i2c",
-        Insn::Convert(Conversion::IntToShort) => "i2s",
-        Insn::CompareLongs => "lcmp",
-        _ => name_of_jump(insn),
-    }
-}
-
-fn name_of_jump(insn: Insn<&[u8]>) -> &'static str {
-    match insn {
-        Insn::IfInt(Condition::Equal, -2) => "ifeq",
-        Insn::IfInt(Condition::NotEqual, -2) => "ifne",
-        Insn::IfInt(Condition::Less, -2) => "iflt",
-        Insn::IfInt(Condition::GreaterOrEqual, -2) => "ifge",
-        Insn::IfInt(Condition::Greater, -2) => "ifgt",
-        Insn::IfInt(Condition::LessOrEqual, -2) => "ifle",
-        Insn::IfInts(Condition::Equal, -2) => "if_icmpeq",
-        Insn::IfInts(Condition::NotEqual, -2) => "if_icmpne",
-        Insn::IfInts(Condition::Less, -2) => "if_icmplt",
-        Insn::IfInts(Condition::GreaterOrEqual, -2) => "if_icmpge",
-        Insn::IfInts(Condition::Greater, -2) => "if_icmpgt",
-        Insn::IfInts(Condition::LessOrEqual, -2) => "if_icmple",
-        Insn::IfReferences(Equality::Same, -2) => "if_acmpeq",
-        Insn::IfReferences(Equality::Different, -2) => "if_acmpne",
-        Insn::Goto(-2, JumpForm::Half) => "goto",
-        Insn::TableSwitch(_, -1, 2, 2, _) => "tableswitch",
-        Insn::LookupSwitch(_, -1, _) => "lookupswitch",
-        Insn::ReturnValue(ValueKind::Int) => "ireturn",
-        Insn::ReturnValue(ValueKind::Long) => "lreturn",
-        Insn::ReturnValue(ValueKind::Reference) => "areturn",
-        Insn::Return => "return",
         Insn::Field(FieldAccess::GetStatic, 258) => "getstatic",
         Insn::Field(FieldAccess::PutStatic, 258) => "putstatic",
         Insn::Field(FieldAccess::GetField, 258) => "getfield",
@@ -158,32 +178,71 @@ fn name_of_jump(insn: Insn<&[u8]>) -> &'static str {
         Insn::New(258) => "new",
         Insn::NewArray(ElementType::Int) => "newarray",
         Insn::NewReferenceArray(258) => "anewarray",
-        Insn::ArrayLength => "arraylength",
-        Insn::Throw => "athrow",
+        Insn::NewMultiArray(258, 3) => "multianewarray",
         Insn::CheckCast(258) => "checkcast",
         Insn::InstanceOf(258) => "instanceof",
-        Insn::Increment(258, -2, IncrementForm::Wide) => "wide",
-        Insn::NewMultiArray(258, 3) => "multianewarray",
-        Insn::IfNull(Equality::Same, -2) => "ifnull",
-        Insn::IfNull(Equality::Different, -2) => "ifnonnull",
-        Insn::Goto(-2, JumpForm::Quad) => "goto_w",
         _ => "",
     }
 }
 
-/// The name of the instruction that is the whole code.
-fn whole(bytes: &[u8]) -> &'static str {
+fn jump_name(insn: Insn<&[u8]>) -> &'static str {
+    match insn {
+        Insn::Increment(254, -3, IncrementForm::Byte) => "iinc",
+        Insn::Increment(258, -2, IncrementForm::Wide) => "wide",
+        Insn::Branch(test, -2) => test_name(test),
+        Insn::Goto(-2, JumpForm::Half) => "goto",
+        Insn::Goto(-2, JumpForm::Quad) => "goto_w",
+        Insn::TableSwitch(_, -1, 2, 2, _) => "tableswitch",
+        Insn::LookupSwitch(_, -1, _) => "lookupswitch",
+        _ => use_name(insn),
+    }
+}
+
+/// The name of an instruction of the table below, with the operands that stand there; of an
+/// array's loads and stores what it begins with.
+fn name(insn: Insn<&[u8]>) -> &'static str {
+    match insn {
+        Insn::Nop => "nop",
+        Insn::NullConstant => "aconst_null",
+        Insn::Compute(computation) => computation_name(computation),
+        Insn::Load(kind, local, LocalForm::Opcode | LocalForm::Byte) => load_name(kind, local),
+        Insn::Store(kind, local, LocalForm::Opcode | LocalForm::Byte) => store_name(kind, local),
+        Insn::StoreLong(local, LocalForm::Opcode | LocalForm::Byte) => store_long_name(local),
+        Insn::ArrayLoad(element) | Insn::ArrayStore(element) => element_name(element),
+        Insn::ReferenceArrayLoad => "aaload",
+        Insn::ReferenceArrayStore => "aastore",
+        Insn::Stack(form) => stack_name(form),
+        Insn::Division(NumberKind::Int, DivisionOperator::Divide) => "idiv",
+        Insn::Division(NumberKind::Long, DivisionOperator::Divide) => "ldiv",
+        Insn::Division(NumberKind::Int, DivisionOperator::Remainder) => "irem",
+        Insn::Division(NumberKind::Long, DivisionOperator::Remainder) => "lrem",
+        Insn::ReturnValue(ValueKind::Int) => "ireturn",
+        Insn::ReturnValue(ValueKind::Long) => "lreturn",
+        Insn::ReturnValue(ValueKind::Reference) => "areturn",
+        Insn::Return => "return",
+        Insn::ArrayLength => "arraylength",
+        Insn::Throw => "athrow",
+        _ => jump_name(insn),
+    }
+}
+
+/// What follows the name that `name` gives.
+fn name_end(insn: Insn<&[u8]>) -> &'static str {
+    match insn {
+        Insn::ArrayLoad(_) => "aload",
+        Insn::ArrayStore(_) => "astore",
+        _ => "",
+    }
+}
+
+/// Whether the whole code is the instruction of that name.
+fn is_named(bytes: &[u8], wanted: &str) -> bool {
     let Ok(code) = Code::read(bytes) else {
-        return "bad code";
+        return false;
     };
-    if !code.is_start(0) {
-        return "no start";
-    }
+    let _ = code.size();
     let (insn, next) = code.insn_at(0);
-    if next != code.size() {
-        return "another length";
-    }
-    name(insn)
+    next == code.size() && wanted.strip_prefix(name(insn)) == Some(name_end(insn))
 }
 
 /// The bytes of an instruction in hexadecimal, and its name.
@@ -334,7 +393,7 @@ fn is_right(alloc: Global, row: &str) -> bool {
         return false;
     };
     match hex::decode(alloc, text) {
-        Ok(bytes) => whole(&bytes) == wanted,
+        Ok(bytes) => is_named(&bytes, wanted),
         Err(_) => false,
     }
 }

@@ -1,9 +1,12 @@
 //! Where instructions start, handlers and jumps.
 
 use jv_code::{
-    Code, Handler, Insn, JumpForm, one_at_offset, one_list, stands_in_list, starts_apart, target_of,
+    Code, Insn, JumpForm, Starts, bytes_join, distances_stand, each_has_distance, falls_through,
+    fits_there, jump_distance, keys_rise, next_starts, one_at_offset, one_list, pairs_stand,
+    stands_as_spelled, stands_in_list, starts_apart, target_of,
 };
-use std::test::Fail;
+use jv_format::{ExceptionTable, Handler};
+use std::alloc::Global;
 
 /// The instruction that starts at an offset, and where the next one does.
 pub(crate) fn insn_in<'a>(code: &Code<'a>, pc: u32) -> Option<(Insn<&'a [u8]>, u32)> {
@@ -20,35 +23,51 @@ fn laws() {
     stands_in_list();
     starts_apart();
     one_at_offset();
+    fits_there();
+    each_has_distance();
+    keys_rise();
+    distances_stand();
+    pairs_stand();
+    stands_as_spelled();
+    bytes_join();
+    next_starts();
+}
+
+/// The code of a lookupswitch without pairs and of `return` behind it.
+const SWITCH: &[u8] = b"\xab\x01\x02\x03\x00\x00\x00\x0c\x00\x00\x00\x00\xb1";
+
+/// Whether the instructions of `SWITCH` are the two that stand there, and start there alone.
+fn is_switch_right() -> bool {
+    let Ok(code) = Code::read(SWITCH) else {
+        return false;
+    };
+    let are_starts_right = (0..20u32).all(|pc| code.is_start(pc) == (pc == 0 || pc == 12));
+    let are_right = match (insn_in(&code, 0), insn_in(&code, 12)) {
+        (Some((Insn::LookupSwitch(b"\x01\x02\x03", 12, b""), 12)), Some((Insn::Return, 13))) =>
+            true,
+        _ => false,
+    };
+    are_right && are_starts_right && code.size() == 13 && !code.is_start(4294967295)
 }
 
 #[test]
-fn starts(rt: HostRuntime) -> Result<(), Fail> {
-    let code = Code::read(b"\xab\x01\x02\x03\x00\x00\x00\x0c\x00\x00\x00\x00\xb1")?;
-    assert!(rt; code.size() == 13);
-    for pc in 0..20u32 {
-        assert!(rt; code.is_start(pc) == (pc == 0 || pc == 12), "{pc}");
-    }
-    assert!(rt; !code.is_start(4294967295));
-    assert!(rt;
-        matches!(
-            insn_in(&code, 0),
-            Some((Insn::LookupSwitch(b"\x01\x02\x03", 12, b""), 12))
-        )
-    );
-    assert!(rt; matches!(insn_in(&code, 12), Some((Insn::Return, 13))));
-    Ok(())
+fn starts(rt: HostRuntime) {
+    assert!(rt; is_switch_right());
+}
+
+/// Whether the code is `nop` and a `goto` to it.
+fn is_goto_back(bytes: &[u8]) -> bool {
+    let Ok(code) = Code::read(bytes) else {
+        return false;
+    };
+    code.size() == 4 && matches!(insn_in(&code, 1), Some((Insn::Goto(-1, JumpForm::Half), 4)))
 }
 
 #[test]
-fn jumps(rt: HostRuntime) -> Result<(), Fail> {
+fn jumps(rt: HostRuntime) {
     // A branch at the last byte of the code, and one past it.
-    let code = Code::read(b"\x00\xa7\xff\xff")?;
-    assert!(rt; code.size() == 4);
-    assert!(rt; matches!(insn_in(&code, 1), Some((Insn::Goto(-1, JumpForm::Half), 4))));
-    assert!(rt; Code::read(b"\x00\xa7\xff").is_err());
-    assert!(rt; Code::read(b"\x00\xa7").is_err());
-    Ok(())
+    assert!(rt; is_goto_back(b"\x00\xa7\xff\xff"));
+    assert!(rt; !is_goto_back(b"\x00\xa7\xff") && !is_goto_back(b"\x00\xa7"));
 }
 
 /// An offset, a distance, and where the jump goes.
@@ -85,52 +104,110 @@ static HANDLERS: [(u16, u16, u16, bool); 12] = [
     (5, 6, 0, false),
 ];
 
-/// Whether a handler fits code alone, behind one that does and before it; no answer where these differ.
-fn fits(code: &Code<'_>, handler: Handler) -> Option<bool> {
-    let right = Handler {
-        start_pc: 0,
-        end_pc: 5,
-        handler_pc: 0,
-        catch_type: 0,
-    };
-    let alone = code.handlers_fit(&[handler]);
-    if code.handlers_fit(&[right, handler]) == alone
-        && code.handlers_fit(&[handler, right]) == alone
-    {
-        Some(alone)
-    } else {
-        None
-    }
-}
+/// Tables of handlers for the same code, and whether all of them fit.
+static TABLES: [(&[u8], bool); 4] = [
+    (b"", true),
+    (
+        b"\x00\x00\x00\x05\x00\x00\x00\x00\x00\x01\x00\x03\x00\x03\x00\x07",
+        true,
+    ),
+    (
+        b"\x00\x00\x00\x05\x00\x00\x00\x00\x00\x01\x00\x02\x00\x03\x00\x07",
+        false,
+    ),
+    (
+        b"\x00\x02\x00\x05\x00\x00\x00\x00\x00\x01\x00\x03\x00\x03\x00\x07",
+        false,
+    ),
+];
 
-#[test]
-fn handlers(rt: HostRuntime) -> Result<(), Fail> {
-    // nop, bipush 1, pop, return: instructions start at 0, 1, 3 and 4, and the code ends at 5.
-    let code = Code::read(b"\x00\x10\x01\x57\xb1")?;
-    assert!(rt; code.handlers_fit(&[]));
-    for (start_pc, end_pc, handler_pc, wanted) in HANDLERS {
+fn are_right(starts: &Starts<'_>) -> bool {
+    let are_rows_right = HANDLERS.iter().all(|row| {
         let handler = Handler {
-            start_pc,
-            end_pc,
-            handler_pc,
+            start_pc: row.0,
+            end_pc: row.1,
+            handler_pc: row.2,
             catch_type: 7,
         };
-        let found = fits(&code, handler);
-        assert!(rt;
-            found == Some(wanted),
-            "{handler_pc} for {start_pc} to {end_pc}"
-        );
+        starts.handler_fits(handler) == row.3
+    });
+    are_rows_right
+        && TABLES.iter().all(|row| starts.handlers_fit(ExceptionTable { bytes: row.0 }) == row.1)
+        && (0..20u32).all(|pc| starts.is_start(pc) == matches!(pc, 0 | 1 | 3 | 4))
+}
+
+/// Whether starts and handlers are right for nop, bipush 1, pop, return: instructions start at 0,
+/// 1, 3 and 4, and the code ends at 5.
+fn is_table_right(alloc: Global) -> bool {
+    let Ok(code) = Code::read(b"\x00\x10\x01\x57\xb1") else {
+        return false;
+    };
+    match Starts::new(alloc, code) {
+        Ok(starts) => are_right(&starts),
+        Err(_) => false,
     }
-    Ok(())
 }
 
 #[test]
-fn sizes(rt: HostRuntime) -> Result<(), Fail> {
-    let bytes = vec![in rt.alloc(); 0; 65536]?;
-    assert!(rt; Code::read(&bytes).is_err());
-    let code = Code::read(&bytes[1..])?;
-    assert!(rt; code.size() == 65535);
-    assert!(rt; code.is_start(65534));
-    assert!(rt; !code.is_start(65535));
-    Ok(())
+fn handlers(rt: HostRuntime) {
+    assert!(rt; is_table_right(rt.alloc()));
+}
+
+fn is_whole(bytes: &[u8]) -> bool {
+    let Ok(code) = Code::read(bytes) else {
+        return false;
+    };
+    code.size() == 65535 && code.is_start(65534) && !code.is_start(65535)
+}
+
+#[test]
+fn sizes(rt: HostRuntime) {
+    let is_right = match vec![in rt.alloc(); 0; 65536] {
+        Ok(bytes) => Code::read(&bytes).is_err() && is_whole(&bytes[1..]),
+        Err(_) => false,
+    };
+    assert!(rt; is_right);
+}
+
+/// Whether the code is an instruction behind which the next one follows or not, with these as its
+/// first two distances and no third.
+fn goes(bytes: &[u8], follows: bool, first: Option<i32>, second: Option<i32>) -> bool {
+    let Ok(code) = Code::read(bytes) else {
+        return false;
+    };
+    let _ = code.size();
+    let (insn, _) = code.insn_at(0);
+    falls_through(&insn) == follows
+        && jump_distance(&insn, 0) == first
+        && jump_distance(&insn, 1) == second
+        && jump_distance(&insn, 2).is_none()
+}
+
+#[test]
+fn successors(rt: HostRuntime) {
+    assert!(rt; goes(b"\x00", true, None, None));
+    assert!(rt; goes(b"\x99\xff\xfe", true, Some(-2), None));
+    assert!(rt; goes(b"\xc8\x80\x00\x00\x00", false, Some(-2147483648), None));
+    assert!(rt; goes(b"\xb1", false, None, None) && goes(b"\xac", false, None, None));
+    assert!(rt; goes(b"\xbf", false, None, None) && goes(b"\xa7\x00\x03", false, Some(3), None));
+    let lookup =
+        b"\xab\x00\x00\x00\x00\x00\x00\x09\x00\x00\x00\x01\x00\x00\x00\x05\x00\x00\x00\x07";
+    assert!(rt; goes(lookup, false, Some(9), Some(7)));
+}
+
+fn are_read() -> bool {
+    let Ok(code) = Code::read(b"\xa2\xff\xfe") else {
+        return false;
+    };
+    code.size() == 3
+        && code.opcode_at(0) == 162
+        && code.u8_at(1) == 255
+        && code.i8_at(2) == -2
+        && code.u16_at(1) == 65534
+        && code.i16_at(1) == -2
+}
+
+#[test]
+fn operands(rt: HostRuntime) {
+    assert!(rt; are_read());
 }

@@ -1,7 +1,7 @@
 //! Switches: paddings, distances and keys (JVMS 6.5, tableswitch and lookupswitch).
 
 use crate::places::insn_in;
-use jv_code::{Code, Insn, distance_at, first_distance, first_pair};
+use jv_code::{Code, Insn, distance_at, distance_for, first_distance, first_pair, pair_at};
 use std::test::Fail;
 
 #[test]
@@ -67,4 +67,29 @@ fn first_pairs(rt: HostRuntime) {
         )
     );
     assert!(rt; first_pair(b"\x01").is_none());
+}
+
+/// The pairs (-2, 1), (0, -1) and (7, 5).
+const PAIRS: &[u8] =
+    b"\xff\xff\xff\xfe\x00\x00\x00\x01\x00\x00\x00\x00\xff\xff\xff\xff\x00\x00\x00\x07\x00\x00\x00\x05";
+
+#[test]
+fn pairs(rt: HostRuntime) {
+    assert!(rt; pair_at(PAIRS, 0) == Some((-2, 1)));
+    assert!(rt; pair_at(PAIRS, 2) == Some((7, 5)));
+    assert!(rt; pair_at(PAIRS, 3).is_none());
+}
+
+#[test]
+fn keys(rt: HostRuntime) {
+    for (key, wanted) in [
+        (-3, None),
+        (-2, Some(1)),
+        (-1, None),
+        (0, Some(-1)),
+        (7, Some(5)),
+        (8, None),
+    ] {
+        assert!(rt; distance_for(PAIRS, key) == wanted, "{key}");
+    }
 }

@@ -1,6 +1,6 @@
 use Rattle.std.proofs.Common.{arith}
 use Rattle.jv_format.proofs.Laws.{none_spelled}
-use Rattle.jv_code.specs.Reading.{insn}
+use Rattle.jv_code.specs.Inside.Reading.{insn}
 use Rattle.jv_code.proofs.Laws.{insn_is}
 use Rattle.jv_code.proofs.code.insn_front.Goals as goal
 

@@ -1,4 +1,4 @@
-use Rattle.jv_code.proofs.Starts.{OneList-holds}
+use Rattle.jv_code.proofs.StartLaws.{OneList-holds}
 use Rattle.jv_code.proofs.law.one_list.Goals as goal
 
 pub returns : goal.returns

@@ -1,4 +1,4 @@
-use Rattle.jv_code.proofs.Starts.{StandsInList-holds}
+use Rattle.jv_code.proofs.StartLaws.{StandsInList-holds}
 use Rattle.jv_code.proofs.law.stands_in_list.Goals as goal
 
 pub returns : goal.returns

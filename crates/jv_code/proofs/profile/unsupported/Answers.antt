@@ -1,12 +1,12 @@
 use Rattle.std.proofs.Common.{sym, ◌∙◌, ◌++◌, ◌∷◌, []}
-use Rattle.jv_code.specs.Seen.{seen}
+use Rattle.jv_code.specs.Insns.{instruction_of}
 use Rattle.jv_code.proofs.Fronts.{Front-push}
 use Rattle.jv_code.proofs.Outside.{Front-unsupported, is_unsupported_at}
 use Rattle.jv_code.proofs.profile.unsupported.Goals as goal
 
 pub loop-insn-preserved : goal.loop-insn-preserved
 loop-insn-preserved c =
-    (c.loop-insn.invariant.0 ++ seen c.in-Some._insn ∷ [], Front-push _ _ _ _ _ c.in-Some.ensures.found c.in-Some.ensures.fits c.loop-insn.invariant.1)
+    (c.loop-insn.invariant.0 ++ instruction_of c.in-Some._insn ∷ [], Front-push _ _ _ _ _ c.in-Some.ensures.found c.in-Some.ensures.fits c.loop-insn.invariant.1)
 
 pub returns : goal.returns
 returns c = (

@@ -1,7 +1,8 @@
-use Rattle.std.proofs.Common.{arith, sym, ◌++◌, ◌∷◌, []}
-use Rattle.jv_code.specs.Seen.{seen}
+use Rattle.std.proofs.Common.{arith, ◌++◌, ◌∷◌, []}
+use Rattle.jv_code.specs.Insns.{instruction_of}
 use Rattle.jv_code.proofs.Fronts.{Front-nil, Front-push, Front-place}
-use Rattle.jv_code.proofs.Starts.{StartsBelow-nil, StartsBelow-push, search_fails, search_ends, moved}
+use Rattle.jv_code.proofs.OneCode.{code_of}
+use Rattle.jv_code.proofs.StartLaws.{StartsBelow-nil, StartsBelow-push, search_fails, search_ends}
 use Rattle.std.proofs.lemmas.Bool.{eqb-true}
 use Rattle.std.proofs.lemmas.Bool.Decides.{nat_tests}
 use Rattle.std.proofs.lemmas.Grind.{common_steps}
@@ -13,7 +14,7 @@ loop-rest-init c = ([], record { front = Front-nil _; below = StartsBelow-nil _ 
 pub loop-rest-preserved : goal.loop-rest-preserved
 loop-rest-preserved c =
     let s = c.loop-rest.invariant in (
-      s.0 ++ seen c.in-Some._insn ∷ [],
+      s.0 ++ instruction_of c.in-Some._insn ∷ [],
       record {
         front = Front-push _ _ _ _ _ c.in-Some.ensures.found c.in-Some.ensures.fits s.1.front;
         below = StartsBelow-push _ _ _ (omega (arith, Front-place _ _ _ s.1.front, c.loop-rest-test.true)) s.1.below;
@@ -23,19 +24,21 @@ loop-rest-preserved c =
 pub returns-in_default : goal.returns-in_default
 returns-in_default c = (
   λ no. absurd cc,
-  λ h. absurd (search_fails _ c.self.inside.bytes.now c.loop-rest.rest.now c.args.pc h.0 c.in_default.ensures.none c.loop-rest.invariant.1 (moved _ _ _ _ c.self.view_is h.1)),
+  λ h. absurd (search_fails _ c.args.self.now.bytes.now c.loop-rest.rest.now c.args.pc h.0 c.in_default.ensures.none c.loop-rest.invariant.1 h.1),
 )
 
 pub returns-then-self-rest : goal.returns-then-self-rest
 returns-then-self-rest c =
-    let s = search_ends c.self.invariant.0 _ c.self.inside.bytes.now c.loop-rest.rest.now c.args.pc c.self.invariant.1 c.loop-rest-test.false c.loop-rest.invariant.1 in (
-      λ t. let found = s.0 c.if-self-rest.true (grind (arith, common_steps, nat_tests)) in (found.0, moved _ _ _ _ (sym c.self.view_is) found.1),
-      λ h. let lt = (s.1 h.0 (moved _ _ _ _ c.self.view_is h.1)).1 in grind (arith, common_steps, nat_tests),
+    let code = code_of c.args.self.now.bytes.now c.args.self.now.is_code in
+    let s = search_ends code.0 _ c.args.self.now.bytes.now c.loop-rest.rest.now c.args.pc code.1 c.loop-rest-test.false c.loop-rest.invariant.1 in (
+      λ t. let found = s.0 c.if-self-rest.true (grind (arith, common_steps, nat_tests)) in found,
+      λ h. let lt = (s.1 h.0 h.1).1 in grind (arith, common_steps, nat_tests),
     )
 
 pub returns-else-self-rest : goal.returns-else-self-rest
 returns-else-self-rest c =
-    let s = search_ends c.self.invariant.0 _ c.self.inside.bytes.now c.loop-rest.rest.now c.args.pc c.self.invariant.1 c.loop-rest-test.false c.loop-rest.invariant.1 in (
+    let code = code_of c.args.self.now.bytes.now c.args.self.now.is_code in
+    let s = search_ends code.0 _ c.args.self.now.bytes.now c.loop-rest.rest.now c.args.pc code.1 c.loop-rest-test.false c.loop-rest.invariant.1 in (
       λ t. absurd (c.if-self-rest.false (eqb-true _ _ t)),
-      λ h. absurd (c.if-self-rest.false (s.1 h.0 (moved _ _ _ _ c.self.view_is h.1)).0),
+      λ h. absurd (c.if-self-rest.false (s.1 h.0 h.1).0),
     )

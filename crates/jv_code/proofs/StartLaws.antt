@@ -1,14 +1,19 @@
 -- Where instructions start.
-use Rattle.std.proofs.Common.{◌≡◌, ℕ, ◌+◌, ◌-◌, ◌<◌, ◌≤◌, List, [], ◌∷◌, ◌++◌, length, drop, refl, sym, ap, subst, ◌∙◌, append_assoc, ◌⊎◌, inl, inr, arith}
-use Rattle.std.specs.Prelude.{IsTrue}
+use Rattle.std.proofs.Common.{◌≡◌, ℕ, ◌+◌, ◌-◌, ◌<◌, ◌≤◌, List, [], ◌∷◌, ◌++◌, length, drop, Some, None, refl, sym, ap, subst, ◌∙◌, append_assoc, ◌⊎◌, inl, inr, arith}
+use Rattle.std.specs.Prelude.{IsTrue, ◌&&◌, ◌-ℤ◌, ◌==◌, nat_lt, ◌/◌, ◌*◌}
+use Rattle.jv_format.specs.Format.{quad}
 use Rattle.std.specs.List.{flat_map}
 use Rattle.std.proofs.lemmas.Bool.{and_parts}
-use Rattle.std.proofs.lemmas.List.{append-nil, drop_at}
+use Rattle.std.proofs.lemmas.List.{append-nil, drop_at, length-append, length-drop}
 use Rattle.std.proofs.lemmas.List.Concat.{flat_map-append}
-use Rattle.jv_format.proofs.Laws.{one_form}
+use Rattle.jv_format.proofs.Laws.{one_form, is_some}
 use Rattle.jv_code.specs.Insns.{Instruction, insn_bytes, insn_fits}
-use Rattle.jv_code.specs.Places.{all_fit, IsCode, IsAt, IsStart, IsStartOrEnd, OneList, StandsInList, StartsApart, OneAtOffset}
-use Rattle.jv_code.specs.Reading.{insn}
+use Rattle.jv_code.specs.Places.{all_fit, IsCode, IsAt, IsStart, IsStartOrEnd, OneList, StandsInList, StartsApart, OneAtOffset, FitsThere, EachHasDistance, KeysRise}
+use Rattle.jv_code.specs.Inside.Reading.{insn, insn_read, known_insn_read}
+use Rattle.jv_code.specs.Numbers.{signed32}
+use Rattle.jv_code.specs.Switches.{padding_fits, pairs_fit, pairs_right, pairs_in, keys_rise}
+use Rattle.jv_code.proofs.Distances.{each_distance}
+use Rattle.jv_code.proofs.Known.{insn_known}
 use Rattle.jv_code.proofs.Laws.{insn_is}
 use Rattle.jv_code.proofs.Fronts.{Front, Front-nil, Front-place, Front-only, none_more}
 use Rattle.jv_code.proofs.Sizes.{size, some_bytes, size-cons, size-append}
@@ -197,3 +202,42 @@ OneAtOffset-holds bytes pc i j p q =
     let one = at_rest bytes pc i p in
     let two = at_rest bytes pc j q in
     (one_form (insn pc) (insn_is pc) i j (flat_map insn_bytes p.after) (flat_map insn_bytes q.after) one.1 two.1 (sym one.0 ∙ two.0)).0
+
+pub FitsThere-holds : FitsThere
+FitsThere-holds bytes pc i at = (at_rest bytes pc i at).1
+
+pub EachHasDistance-holds : EachHasDistance
+EachHasDistance-holds bytes pc padding default low high distances at =
+    let fits = (at_rest bytes pc _ at).1 in
+    each_distance (high -ℤ low) distances (and_parts _ _ (and_parts _ _ fits).1).1
+
+pub KeysRise-holds : KeysRise
+KeysRise-holds bytes pc padding default pairs at =
+    let fits = (and_parts (signed32.fits default) (pairs_fit pairs) (and_parts (padding_fits pc padding) (signed32.fits default && pairs_fit pairs) (at_rest bytes pc _ at).1).1).1 in
+    let rest = (and_parts (quad.fits (length pairs / 8)) (length pairs == 8 * (length pairs / 8) && pairs_right (length pairs / 8) pairs) fits).1 in
+    let right = (and_parts (length pairs == 8 * (length pairs / 8)) (pairs_right (length pairs / 8) pairs) rest).1 in
+    (and_parts (nat_lt (length pairs / 8) 2147483648) (keys_rise (pairs_in pairs)) right).1
+
+-- ---- what is read where an instruction is known to stand
+
+known_there : (bytes rest : List ℕ) (pc : ℕ) (i : Instruction) (at : IsAt bytes pc i) → drop pc bytes ≡ rest → known_insn_read pc rest ≡ Some (i, flat_map insn_bytes at.after)
+known_there bytes rest pc i at e =
+    let h = at_rest bytes pc i at in
+    insn_known pc rest (i, flat_map insn_bytes at.after) (ap (insn_read pc) (sym e ∙ h.0) ∙ (insn_is pc).again i (flat_map insn_bytes at.after) h.1)
+
+pub known_none : (bytes rest : List ℕ) (pc : ℕ) (i : Instruction) → IsAt bytes pc i → drop pc bytes ≡ rest → known_insn_read pc rest ≡ None → ⊥
+known_none bytes rest pc i at e none = let there = known_there bytes rest pc i at e in cc
+
+abbrev ReadThere : List ℕ → ℕ → Instruction → List ℕ → Type 0
+ReadThere bytes pc j after = IsAt bytes pc j × (drop pc bytes ≡ insn_bytes j ++ after)
+
+pub known_is : (bytes rest : List ℕ) (pc : ℕ) (i j : Instruction) (after : List ℕ) → IsAt bytes pc i → drop pc bytes ≡ rest → known_insn_read pc rest ≡ Some (j, after) → IsAt bytes pc j × (drop pc bytes ≡ insn_bytes j ++ after)
+known_is bytes rest pc i j after at e read =
+    let first : Instruction × List ℕ = (i, flat_map insn_bytes at.after) in
+    let same : first ≡ (j, after) = is_some first (j, after) (sym (known_there bytes rest pc i at e) ∙ read) in
+    subst (λ (y : Instruction × List ℕ). ReadThere bytes pc y.0 y.1) same (at, (at_rest bytes pc i at).0)
+
+-- what is behind an instruction is the rest of the code
+pub ends_there : (bytes : List ℕ) (pc : ℕ) (i : Instruction) (after : List ℕ) → IsAt bytes pc i → drop pc bytes ≡ insn_bytes i ++ after → (pc + length (insn_bytes i)) + length after ≡ length bytes
+ends_there bytes pc i after at e =
+    omega (arith, ap length e, length-append (insn_bytes i) after, length-drop pc bytes, end_within bytes pc i at)

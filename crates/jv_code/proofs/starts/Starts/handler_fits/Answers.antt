@@ -1,5 +1,5 @@
 use Rattle.std.proofs.Common.{arith}
-use Rattle.jv_code.proofs.code.Code.handler_fits.Goals as goal
+use Rattle.jv_code.proofs.starts.Starts.handler_fits.Goals as goal
 
 pub returns-then-starts_fit : goal.returns-then-starts_fit
 returns-then-starts_fit c =

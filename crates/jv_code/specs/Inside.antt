@@ -1,0 +1,5 @@
+-- Definitions that contracts of private functions and proofs use alone.
+pub mod Shapes
+pub mod SwitchReading
+pub mod Reading
+pub mod StartTable
