@@ -1,78 +1,40 @@
--- The type of a text is the one whose descriptor it is (JVMS 4.3.2).
-use Rattle.std.proofs.Common.{◌≡◌, ℕ, zero, suc, Bool, true, false, cond, List, [], ◌∷◌, ◌++◌, length, drop, Option, Some, None, refl, ap, ◌∙◌, arith}
-use Rattle.std.specs.Prelude.{IsTrue, replicate}
-use Rattle.std.proofs.lemmas.Bool.{and_parts, and_from}
-use Rattle.std.proofs.lemmas.Slice.Eq.{bytes_eq-Decides}
-use Rattle.std.proofs.lemmas.List.{take_at, length-append}
-use Rattle.jv_format.specs.Format.{◌>>=◌}
-use Rattle.jv_format.proofs.Laws.{bind_some, is_some}
-use Rattle.jv_text.specs.declared.descriptor.Base.TheVariants.{Byte, Char, Double, Float, Int, Long, Short, Boolean}
-use Rattle.jv_text.specs.declared.descriptor.Element.{Element}
-use Rattle.jv_text.specs.declared.descriptor.Element.TheVariants as elements
+-- What a Class constant names is a class, or an array by its descriptor.
+use Rattle.std.proofs.Common.{◌≡◌, ℕ, Bool, true, false, cond, List, [], ◌∷◌, Option, Some, None, inl, inr, refl, sym, ap, subst, ◌∙◌}
+use Rattle.std.specs.Prelude.{◌⊎◌, ◌==◌, eqb, length, not, IsSome, IsTrue}
+use Rattle.std.specs.List.{list_all, slice_split, onto_first}
+use Rattle.std.proofs.lemmas.Bool.{and_parts, eqb-true}
 use Rattle.jv_text.specs.declared.descriptor.FieldTypeOf.{FieldTypeOf}
-use Rattle.jv_text.specs.Descriptor.{element_text, field_text, is_field_type, IsField}
-use Rattle.jv_frames.specs.Reference.{brackets, element_of, spelled_with, with_dimensions, described}
+use Rattle.jv_text.specs.Name.{is_name_byte, is_unqualified_name, is_class_name, is_array_name}
+use Rattle.jv_text.specs.Descriptor.{IsField}
+use Rattle.jv_text.specs.Types.{field_type_of, TypesAgree}
+use Rattle.jv_pool.specs.Rules.{IsArrayDescriptor, NamesClass}
 
-brackets_of : (n : ℕ) (e : Element (List ℕ)) → brackets (replicate n 91 ++ element_text e) ≡ n
-brackets_of zero (elements.Base Byte) = refl
-brackets_of zero (elements.Base Char) = refl
-brackets_of zero (elements.Base Double) = refl
-brackets_of zero (elements.Base Float) = refl
-brackets_of zero (elements.Base Int) = refl
-brackets_of zero (elements.Base Long) = refl
-brackets_of zero (elements.Base Short) = refl
-brackets_of zero (elements.Base Boolean) = refl
-brackets_of zero (elements.Class name) = refl
-brackets_of (suc n) e = ap suc (brackets_of n e)
+-- no class name begins with a bracket
+clash : (b : Bool) → b ≡ false → IsTrue b → ⊥
+clash b off on = cc
 
-drop_brackets : (n : ℕ) (rest : List ℕ) → drop n (replicate n 91 ++ rest) ≡ rest
-drop_brackets zero rest = refl
-drop_brackets (suc n) rest = drop_brackets n rest
+bracketed_part : (part : List ℕ) → IsTrue (is_unqualified_name (91 ∷ part)) → ⊥
+bracketed_part part h =
+    let bytes = and_parts (not (length (91 ∷ part) == 0)) (list_all is_name_byte (91 ∷ part)) h in
+    clash (is_name_byte 91) refl (and_parts (is_name_byte 91) (list_all is_name_byte part) bytes.1).0
 
-element_again : (e : Element (List ℕ)) → element_of (element_text e) ≡ Some e
-element_again (elements.Base Byte) = refl
-element_again (elements.Base Char) = refl
-element_again (elements.Base Double) = refl
-element_again (elements.Base Float) = refl
-element_again (elements.Base Int) = refl
-element_again (elements.Base Long) = refl
-element_again (elements.Base Short) = refl
-element_again (elements.Base Boolean) = refl
-element_again (elements.Class []) = refl
-element_again (elements.Class (c ∷ cs)) =
-    ap (λ (name : List ℕ). Some (elements.Class name)) (take_at (c ∷ cs) (59 ∷ []) (length (cs ++ (59 ∷ []))) (omega (arith, length-append cs (59 ∷ []))))
+bracketed : (parts : List (List ℕ)) → IsTrue (list_all is_unqualified_name (onto_first 91 parts)) → ⊥
+bracketed [] h = bracketed_part [] (and_parts (is_unqualified_name (91 ∷ [])) true h).0
+bracketed (part ∷ parts) h = bracketed_part part (and_parts (is_unqualified_name (91 ∷ part)) (list_all is_unqualified_name parts) h).0
 
-passes : {A : Type 0} (b : Bool) (x : A) → IsTrue b → cond b (Some x) None ≡ Some x
-passes true x h = refl
-passes false x h = absurd cc
+no_class : (text : List ℕ) → IsTrue (is_array_name text) → IsTrue (is_class_name text) → ⊥
+no_class [] array class = absurd cc
+no_class (byte ∷ rest) array class =
+    let first : byte ≡ 91 = eqb-true byte 91 array in
+    bracketed (slice_split (λ byte. byte == 47) rest) (subst (λ b. IsTrue (is_class_name (b ∷ rest))) first class)
 
-passed_by : {A : Type 0} (b : Bool) (x y : A) → cond b (Some x) None ≡ Some y → IsTrue b × (x ≡ y)
-passed_by true x y e = (refl, is_some x y e)
-passed_by false x y e = absurd cc
+there : TypesAgree → (text : List ℕ) → IsArrayDescriptor text → IsSome (field_type_of text)
+there law text h = ap IsThere ((law.field text h.described.0).0 h.described.1)
+  where
+    IsThere : Option (FieldTypeOf (List ℕ)) → Bool
+    IsThere None = false
+    IsThere (Some type) = true
 
-spelled_again : (t : FieldTypeOf (List ℕ)) → IsTrue (is_field_type t) → described (field_text t) ≡ Some t
-spelled_again t fits =
-    let text = field_text t in
-    let n = brackets_of t.dimensions t.element in
-    let e : element_of (drop (brackets text) text) ≡ Some t.element =
-    ap (λ (k : ℕ). element_of (drop k text)) n ∙ ap element_of (drop_brackets t.dimensions (element_text t.element)) ∙ element_again t.element in
-    ap (λ (o : Option (Element (List ℕ))). o >>= spelled_with text (brackets text)) e
-    ∙ ap (λ (k : ℕ). spelled_with text k t.element) n
-    ∙ passes _ t (and_from _ _ fits ((bytes_eq-Decides text text).1 refl))
-
-pub described_as : (text : List ℕ) (t : FieldTypeOf (List ℕ)) → IsField text t → described text ≡ Some t
-described_as text t h = ap described h.spelled ∙ spelled_again t h.fits
-
-described_is : (text : List ℕ) (t : FieldTypeOf (List ℕ)) → described text ≡ Some t → IsField text t
-described_is text t e =
-    let a = bind_some (element_of (drop (brackets text) text)) (spelled_with text (brackets text)) t e in
-    let p = passed_by _ (with_dimensions (brackets text) a.0) t a.2 in
-    let parts = and_parts _ _ p.0 in
-    rw (← p.1) (record { fits = parts.0; spelled = (bytes_eq-Decides _ _).0 parts.1 })
-
-none_or : (o : Option (FieldTypeOf (List ℕ))) → ((t : FieldTypeOf (List ℕ)) → o ≡ Some t → ⊥) → o ≡ None
-none_or None h = refl
-none_or (Some t) h = absurd (h t refl)
-
-pub described_none : (text : List ℕ) → ((t : FieldTypeOf (List ℕ)) → IsField text t → ⊥) → described text ≡ None
-described_none text never = none_or (described text) (λ t e. never t (described_is text t e))
+pub array_there : TypesAgree → (text : List ℕ) → NamesClass text → IsTrue (is_array_name text) → IsSome (field_type_of text)
+array_there law text (inl class) array = absurd (no_class text array class)
+array_there law text (inr h) array = there law text h

@@ -2,7 +2,7 @@
 use Rattle.std.proofs.Common.{◌≡◌, Option, None, Result, Err, sym, subst}
 use Rattle.jv_frames.specs.declared.fault.FrameFault.{FrameFault}
 use Rattle.jv_frames.specs.declared.fault.FrameFault.TheVariants.{BadFrames, Memory}
-use Rattle.jv_frames.specs.Reading.{Fails, IsGiven}
+use Rattle.jv_frames.specs.Inside.Reading.{Fails, IsGiven}
 
 -- a fault says of a whole what it says of its part
 pub fails_on : {A B : Type 0} (e : FrameFault) (part : Option A) (total : Option B) → (part ≡ None → total ≡ None) → Fails e part → Fails e total

@@ -10,7 +10,7 @@ use Rattle.jv_format.proofs.Laws.{is_some, bind_some, IsFormat, Took, half_is, b
 use Rattle.jv_frames.specs.declared.item.Item.{Item}
 use Rattle.jv_frames.specs.declared.form.Form.TheVariants.{Same, SameItem, SameItemExtended, Chop, SameExtended, Append, Full}
 use Rattle.jv_frames.specs.Bytes.{MapForm, form_bytes, form_fits, item_bytes, item_fits, counted_fits, is_few}
-use Rattle.jv_frames.specs.Reading.{same_item, same_item_extended, chop, same_extended, append, full, item, items_of, counted, short_contents, form_contents, form_read, form, forms_of, table}
+use Rattle.jv_frames.specs.Inside.Reading.{same_item, same_item_extended, chop, same_extended, append, full, item, items_of, counted, short_contents, form_contents, form_read, form, forms_of, table}
 use Rattle.jv_frames.proofs.Items.{item_is, items_are, counted_is}
 
 -- a test went one way

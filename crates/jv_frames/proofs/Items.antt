@@ -7,7 +7,7 @@ use Rattle.jv_format.proofs.Laws.{is_some, IsFormat, Took, half_is, list_is, aft
 use Rattle.jv_frames.specs.declared.item.Item.{Item}
 use Rattle.jv_frames.specs.declared.item.Item.TheVariants as items
 use Rattle.jv_frames.specs.Bytes.{item_bytes, item_fits}
-use Rattle.jv_frames.specs.Reading.{object, uninitialized, item_contents, item_read, item, items_of, counted}
+use Rattle.jv_frames.specs.Inside.Reading.{object, uninitialized, item_contents, item_read, item, items_of, counted}
 
 abbrev found : Item → List ℕ → Option (Item × List ℕ)
 found i bytes = Some (i, bytes)

@@ -11,7 +11,7 @@ use Rattle.jv_frames.specs.declared.limits.Limits.{Limits}
 use Rattle.jv_frames.specs.Reference.{FrameType}
 use Rattle.jv_frames.specs.Bytes.{MapForm, form_fits, table_bytes}
 use Rattle.jv_frames.specs.Frames.{MapFrame, frames_from, HasFrames, OneMaps}
-use Rattle.jv_frames.specs.Reading.{table, forms_of, all_of, whole, whole_table}
+use Rattle.jv_frames.specs.Inside.Reading.{table, forms_of, all_of, whole, whole_table}
 use Rattle.jv_frames.proofs.Forms.{table_is}
 
 -- what a whole table is

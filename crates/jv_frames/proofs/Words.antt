@@ -9,7 +9,7 @@ use Rattle.jv_frames.specs.declared.verification.VerificationTypeOf.{Verificatio
 use Rattle.jv_frames.specs.declared.verification.VerificationTypeOf.TheVariants as types
 use Rattle.jv_frames.specs.Reference.{FrameType}
 use Rattle.jv_frames.specs.Frames.{width, words, expanded_one, FillsLocals}
-use Rattle.jv_frames.specs.Reading.{seen_type}
+use Rattle.jv_frames.specs.Inside.Reading.{seen_type}
 
 pub width_most : (t : FrameType) → width t ≤ 2
 width_most types.Long = omega arith

@@ -1,5 +1,5 @@
 pub mod Bytes
 pub mod Reference
-pub mod Reading
 pub mod Frames
 pub mod Walk
+pub mod Inside

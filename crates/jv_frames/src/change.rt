@@ -2,14 +2,14 @@
 
 ghost use Rattle.std.specs.Prelude.{◌≡◌, ◌+◌, ◌<◌, ◌≤◌, IfOk};
 ghost use Rattle.jv_frames.specs.Frames.{object_type, type_of, types_of, delta_of, kept_of, added_of, stack_of, change_of};
-ghost use Rattle.jv_frames.specs.Reading.{IsFound, IsGiven, seen_type, seen_types, seen_form, seen_change};
+ghost use Rattle.jv_frames.specs.Inside.Reading.{IsFound, IsGiven, seen_type, seen_types, seen_form, seen_change};
 
 use crate::fault::FrameFault;
 use crate::form::Form;
 use crate::item::Item;
 use crate::reference::reference_type;
 use crate::verification::{VerificationType, VerificationTypeOf};
-use jv_pool::Pool;
+use jv_pool::{Pool, kinds_name};
 use std::alloc::Global;
 
 /// What a frame changes, against the local entries of the one before. `L` is a list of types: a
@@ -33,8 +33,10 @@ pub(crate) type Change<'a> = ChangeOf<Vec<VerificationType<'a>>>;
 fn object_type<'a>(pool: &Pool<'a>, class: u16) -> Option<VerificationType<'a>>
     ensures { IsFound (object_type pool.now class) seen_type result }
 {
+    pool.keeps_rules();
+    kinds_name();
     let index = pool.class_index(class)?;
-    reference_type(pool.class_name(index))
+    Some(reference_type(pool.class_name(index)))
 }
 
 /// The type of an item.

@@ -2,7 +2,7 @@
 
 ghost use Rattle.std.specs.Prelude.{◌≡◌, [], map, IfOk};
 ghost use Rattle.jv_frames.specs.Frames.{frames_by};
-ghost use Rattle.jv_frames.specs.Reading.{seen_type, seen_change};
+ghost use Rattle.jv_frames.specs.Inside.Reading.{seen_type, seen_change};
 ghost use Rattle.jv_frames.specs.Walk.{walk, walk_on, is_more, first_offset, frame_at};
 
 use crate::change::Change;
@@ -28,7 +28,7 @@ pub struct FrameCursor<'m, 'a> {
 impl<'m, 'a> Model for FrameCursor<'m, 'a> {
     ghost use Rattle.std.specs.Prelude.{map};
     ghost use Rattle.jv_frames.specs.Frames.{frames_by};
-    ghost use Rattle.jv_frames.specs.Reading.{seen_type, seen_change};
+    ghost use Rattle.jv_frames.specs.Inside.Reading.{seen_type, seen_change};
     ghost use Rattle.jv_frames.specs.Walk.{Walk, walk, frame_at};
 
     ghost Value = { Walk };

@@ -2,7 +2,7 @@
 
 ghost use Rattle.std.specs.Prelude.{◌≡◌, ◌<◌, ◌≤◌, ◌^◌, ◌++◌, length, map, take, IfOk};
 ghost use Rattle.jv_frames.specs.Frames.{width, words};
-ghost use Rattle.jv_frames.specs.Reading.{seen_type, seen_types};
+ghost use Rattle.jv_frames.specs.Inside.Reading.{seen_type, seen_types};
 
 use crate::change::Change;
 use crate::verification::{VerificationType, VerificationTypeOf};
@@ -41,7 +41,7 @@ impl<'a> Model for LocalEntries<'a> {
     ghost use Rattle.std.specs.Prelude.{◌≡◌, List};
     ghost use Rattle.jv_frames.specs.Reference.{FrameType};
     ghost use Rattle.jv_frames.specs.Frames.{words};
-    ghost use Rattle.jv_frames.specs.Reading.{seen_types};
+    ghost use Rattle.jv_frames.specs.Inside.Reading.{seen_types};
 
     ghost Value = { List FrameType };
 

@@ -3,7 +3,7 @@
 ghost use Rattle.std.specs.Prelude.{◌≡◌, ◌<◌, ◌≤◌, ◌+◌, ◌++◌, List, [], length, take, map, IfOk, Err};
 ghost use Rattle.jv_frames.specs.declared.fault.FrameFault.TheVariants.{BadFrames};
 ghost use Rattle.jv_frames.specs.Frames.{MapFrame, HasFrames, words, is_within, frames_from, frames_by, frame_from, changed};
-ghost use Rattle.jv_frames.specs.Reading.{IsGiven, seen_type, seen_types, seen_form, seen_change, whole_table};
+ghost use Rattle.jv_frames.specs.Inside.Reading.{IsGiven, seen_type, seen_types, seen_form, seen_change, whole_table};
 
 use crate::change::{Change, change_of};
 use crate::cursor::FrameCursor;
@@ -29,7 +29,7 @@ pub struct MapFrames<'a> {
 impl<'a> Model for MapFrames<'a> {
     ghost use Rattle.std.specs.Prelude.{List, map};
     ghost use Rattle.jv_frames.specs.Frames.{MapFrame, frames_by};
-    ghost use Rattle.jv_frames.specs.Reading.{seen_types, seen_change};
+    ghost use Rattle.jv_frames.specs.Inside.Reading.{seen_types, seen_change};
 
     ghost Value = { List MapFrame };
 

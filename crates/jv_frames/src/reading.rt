@@ -3,7 +3,7 @@
 ghost use Rattle.std.specs.Prelude.{◌≡◌, map};
 ghost use Rattle.std.specs.Prelude.{◌<◌, length, IfOk};
 ghost use Rattle.jv_format.specs.Format.{Finds};
-ghost use Rattle.jv_frames.specs.Reading.{IsFound, IsGiven, item, items_of, counted, append_contents, full_contents, short_contents, form, form_contents, forms_of, table, whole_table, seen_form};
+ghost use Rattle.jv_frames.specs.Inside.Reading.{IsFound, IsGiven, item, items_of, counted, append_contents, full_contents, short_contents, form, form_contents, forms_of, table, whole_table, seen_form};
 
 use crate::fault::FrameFault;
 use crate::form::Form;

@@ -1,44 +1,26 @@
 //! What a Class constant names (JVMS 4.4.1).
 
 ghost use Rattle.std.specs.Prelude.{◌≡◌};
-ghost use Rattle.jv_pool.specs.Rules.{is_array_name};
-ghost use Rattle.jv_frames.specs.Reference.{described, reference_type};
+ghost use Rattle.jv_text.specs.Name.{is_array_name};
+ghost use Rattle.jv_pool.specs.Rules.{NamesClass};
+ghost use Rattle.jv_frames.specs.Reference.{reference_type};
+ghost use Rattle.jv_text.specs.Types.{field_type_of};
 ghost use Rattle.jv_text.specs.Seen.{seen_field};
-ghost use Rattle.jv_frames.specs.Reading.{IsFound, seen_type};
+ghost use Rattle.jv_frames.specs.Inside.Reading.{IsFound, seen_type};
 
 use crate::verification::{VerificationType, VerificationTypeOf};
-use jv_text::{FieldType, field_type, is_class_name};
+use jv_text::{is_array_name, known_field_type, types_agree};
 
-fn is_array_name(text: &[u8]) -> bool
-    ensures { result ≡ is_array_name text.now }
+/// The type that a Class constant names by this text. Neither the name of a class nor that of an
+/// array's elements is examined again.
+pub(crate) fn reference_type(text: &[u8]) -> VerificationType<'_>
+    requires { NamesClass text.now }
+    ensures { reference_type text.now ≡ Some (seen_type result) }
 {
-    match text {
-        [first, ..] => *first == b'[',
-        [] => false,
-    }
-}
-
-/// The type whose descriptor the text is.
-#[tactic(auto, using(crate::proofs::Described::described_as, crate::proofs::Described::described_none))]
-fn described(text: &[u8]) -> Option<FieldType<'_>>
-    ensures { IsFound (described text.now) seen_field result }
-{
-    match field_type(text) {
-        Ok(t) => Some(t),
-        Err(_) => None,
-    }
-}
-
-/// The type that a Class constant names by this text.
-pub(crate) fn reference_type(text: &[u8]) -> Option<VerificationType<'_>>
-    ensures { IsFound (reference_type text.now) seen_type result }
-{
+    types_agree();
     if is_array_name(text) {
-        let array = described(text)?;
-        Some(VerificationTypeOf::Array(array))
-    } else if is_class_name(text) {
-        Some(VerificationTypeOf::Class(text))
+        VerificationTypeOf::Array(known_field_type(text))
     } else {
-        None
+        VerificationTypeOf::Class(text)
     }
 }

@@ -1,6 +1,6 @@
 use Rattle.std.proofs.Common.{◌≡◌, length}
 use Rattle.jv_frames.specs.Frames.{types_of}
-use Rattle.jv_frames.specs.Reading.{seen_types}
+use Rattle.jv_frames.specs.Inside.Reading.{seen_types}
 use Rattle.jv_frames.proofs.Changes.{with_found}
 use Rattle.jv_frames.proofs.change.types_of.Given as goal
 

@@ -1,7 +1,7 @@
 use Rattle.std.proofs.Common.{◌≡◌, ◌<◌, ◌+◌, ◌*◌, ◌++◌, ◌∷◌, [], ◌≤◌, take, arith, ap, length}
 use Rattle.std.specs.Prelude.{map}
 use Rattle.std.proofs.lemmas.List.{map_push}
-use Rattle.jv_frames.specs.Reading.{seen_type, seen_types, seen_form, seen_change}
+use Rattle.jv_frames.specs.Inside.Reading.{seen_type, seen_types, seen_form, seen_change}
 use Rattle.jv_frames.proofs.Changes.{Front-step}
 use Rattle.jv_frames.proofs.frames.changes_of.Goals as goal
 

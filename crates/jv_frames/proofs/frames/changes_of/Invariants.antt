@@ -1,6 +1,6 @@
 use Rattle.std.proofs.Common.{◌+◌, ◌*◌, ◌<◌, length}
 use Rattle.std.specs.Prelude.{map}
-use Rattle.jv_frames.specs.Reading.{seen_type, seen_form, seen_change}
+use Rattle.jv_frames.specs.Inside.Reading.{seen_type, seen_form, seen_change}
 use Rattle.jv_frames.proofs.Changes.{Front}
 use Rattle.jv_frames.proofs.frames.changes_of.Given as goal
 

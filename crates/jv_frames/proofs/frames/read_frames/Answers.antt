@@ -3,7 +3,7 @@ use Rattle.std.specs.Prelude.{map}
 use Rattle.std.proofs.lemmas.Result.{err_from_is_err_and}
 use Rattle.jv_frames.specs.declared.fault.FrameFault.TheVariants.{BadFrames}
 use Rattle.jv_frames.specs.Frames.{frames_from, frames_by}
-use Rattle.jv_frames.specs.Reading.{Fails, seen_type, seen_form, seen_change, whole_table}
+use Rattle.jv_frames.specs.Inside.Reading.{Fails, seen_type, seen_form, seen_change, whole_table}
 use Rattle.jv_frames.specs.declared.item.Item.{Item}
 use Rattle.jv_frames.specs.declared.form.Form.{Form}
 use Rattle.jv_frames.specs.declared.verification.VerificationTypeOf.{VerificationTypeOf}

@@ -1,6 +1,6 @@
 use Rattle.std.proofs.Common.{subst, Option, List, ℕ}
 use Rattle.jv_frames.specs.Bytes.{MapForm}
-use Rattle.jv_frames.specs.Reading.{IsGiven, seen_form}
+use Rattle.jv_frames.specs.Inside.Reading.{IsGiven, seen_form}
 use Rattle.jv_frames.proofs.Forms.{form_read_as}
 use Rattle.jv_frames.proofs.reading.form_at.Goals as goal
 

@@ -5,7 +5,7 @@ use Rattle.jv_format.proofs.Laws.{goes_on, ends}
 use Rattle.std.proofs.lemmas.Result.{err_from_is_err_and}
 use Rattle.jv_format.specs.Format.{list_read}
 use Rattle.jv_frames.proofs.Faults.{fails_on, gives_fault}
-use Rattle.jv_frames.specs.Reading.{form, seen_form}
+use Rattle.jv_frames.specs.Inside.Reading.{form, seen_form}
 use Rattle.jv_frames.proofs.reading.forms_at.Goals as goal
 
 pub loop-preserved : goal.loop-preserved

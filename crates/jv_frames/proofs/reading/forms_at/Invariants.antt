@@ -2,7 +2,7 @@ use Rattle.std.proofs.Common.{◌≡◌, ◌-◌}
 use Rattle.std.specs.Prelude.{map}
 use Rattle.jv_format.specs.Format.{list_read}
 use Rattle.jv_format.proofs.Laws.{with_front}
-use Rattle.jv_frames.specs.Reading.{form, seen_form}
+use Rattle.jv_frames.specs.Inside.Reading.{form, seen_form}
 use Rattle.jv_frames.proofs.reading.forms_at.Given as goal
 
 abbrev pub invariant-loop : goal.invariant-loop

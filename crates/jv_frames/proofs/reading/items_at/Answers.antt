@@ -1,6 +1,6 @@
 use Rattle.std.proofs.Common.{◌≡◌, ◌++◌, ◌∷◌, []}
 use Rattle.jv_format.proofs.Laws.{goes_on, ends}
-use Rattle.jv_frames.specs.Reading.{item}
+use Rattle.jv_frames.specs.Inside.Reading.{item}
 use Rattle.jv_frames.proofs.reading.items_at.Goals as goal
 
 pub returns-in_default : goal.returns-in_default

@@ -1,6 +1,6 @@
 use Rattle.std.proofs.Common.{arith}
 use Rattle.std.proofs.lemmas.List.{length-map}
-use Rattle.jv_frames.specs.Reading.{seen_form}
+use Rattle.jv_frames.specs.Inside.Reading.{seen_form}
 use Rattle.jv_frames.proofs.Table.{table_made}
 use Rattle.jv_frames.proofs.reading.whole_table.Goals as goal
 

@@ -2,7 +2,7 @@ use Rattle.std.proofs.Common.{◌≡◌, ◌<◌, ◌≤◌, ◌+◌, ◌*◌, �
 use Rattle.std.specs.Prelude.{map}
 use Rattle.std.specs.Vec.{vec_len}
 use Rattle.jv_frames.specs.Frames.{words}
-use Rattle.jv_frames.specs.Reading.{seen_type}
+use Rattle.jv_frames.specs.Inside.Reading.{seen_type}
 use Rattle.jv_frames.proofs.Words.{words_seen}
 use Rattle.jv_frames.proofs.entries.LocalEntries.add.Goals as goal
 

@@ -1,7 +1,7 @@
 use Rattle.std.proofs.Common.{◌≡◌, ◌∙◌, sym, ap, length}
 use Rattle.std.specs.Prelude.{map}
 use Rattle.std.proofs.lemmas.List.{length-map}
-use Rattle.jv_frames.specs.Reading.{seen_types, seen_change}
+use Rattle.jv_frames.specs.Inside.Reading.{seen_types, seen_change}
 use Rattle.jv_frames.proofs.Changes.{count_by}
 use Rattle.jv_frames.proofs.frames.MapFrames.count.Goals as goal
 
