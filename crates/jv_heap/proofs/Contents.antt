@@ -1,9 +1,9 @@
 -- Laws of contents: what a block at the end adds, and what a write keeps.
 use Rattle.std.proofs.Common.{◌≡◌, ℕ, ◌+◌, ◌<◌, ◌≤◌, max, cond, nat_eq, nat_lt, Bool, ◌&&◌, true, false, true≢false, List, [], ◌∷◌, ◌++◌, length, set, replicate, refl, sym, ap, subst, ◌∙◌, arith, length-set}
 use Rattle.std.proofs.lemmas.List.{length-replicate}
-use borrow.Author.Tests.{ne_eqb, eq-eqb, lt-ltb, ltb-true}
-use Rattle.jv_heap.specs.Content.{words_at, words_held, greatest, written, without}
-use Rattle.jv_heap.specs.Layouts.{none_empty}
+use borrow.Author.Tests.{ne_eqb, eq-eqb, lt-ltb, ltb-true, eqb-true}
+use Rattle.jv_heap.specs.Content.{words_at, words_held, greatest, written, without, rises_from}
+use Rattle.jv_heap.specs.Inside.Layouts.{none_empty}
 
 pub words_held-append : (c : List (ℕ × List ℕ)) (a : ℕ) (ws : List ℕ) → words_held (c ++ (a, ws) ∷ []) ≡ words_held c + length ws
 words_held-append [] a ws = omega arith
@@ -98,3 +98,58 @@ grows content c a len h e = record {
   held = ap words_held e ∙ (words_held-append c a (replicate len 0) ∙ ap (λ n. words_held c + n) (length-replicate {A = ℕ} len 0));
   solid = λ p. ap none_empty e ∙ none_empty-append c a (replicate len 0) p (omega (arith, h, length-replicate {A = ℕ} len 0));
 }
+
+-- ---- a write to an older block
+
+pub written-append : (c : List (ℕ × List ℕ)) (a b i w : ℕ) (ws : List ℕ) → (b ≡ a → ⊥) → written (c ++ (a, ws) ∷ []) b i w ≡ written c b i w ++ (a, ws) ∷ []
+written-append [] a b i w ws other = let no : nat_eq a b ≡ false = ne_eqb a b (λ e. other (sym e)) in rw no refl
+written-append (block ∷ c) a b i w ws other =
+    elim (nat_eq block.0 b) as (λ t. cond t ((block.0, set block.1 i w) ∷ (c ++ (a, ws) ∷ [])) (block ∷ written (c ++ (a, ws) ∷ []) b i w)
+    ≡ cond t ((block.0, set block.1 i w) ∷ c) (block ∷ written c b i w) ++ (a, ws) ∷ []) [
+      | true ↦ refl
+      | false ↦ ap (λ l. block ∷ l) (written-append c a b i w ws other)
+    ]
+
+-- ---- addresses rise
+
+parts_of : (x y : Bool) → (x && y) ≡ true → (x ≡ true) × (y ≡ true)
+parts_of true y p = (refl, p)
+parts_of false y p = absurd cc
+
+pub rises-append : (n : ℕ) (c : List (ℕ × List ℕ)) (a : ℕ) (ws : List ℕ) → rises_from n c ≡ true → n < a → greatest c < a → rises_from n (c ++ (a, ws) ∷ []) ≡ true
+rises-append n [] a ws h lt above = both (nat_lt n a) true (lt-ltb n a lt) refl
+rises-append n (block ∷ c) a ws h lt above =
+    let p = parts_of (nat_lt n block.0) (rises_from block.0 c) h in
+    both _ _ p.0 (rises-append block.0 c a ws p.1 (omega (arith, above)) (smaller block.0 (greatest c) a above))
+
+pub rises-written : (n : ℕ) (c : List (ℕ × List ℕ)) (a i w : ℕ) → rises_from n c ≡ true → rises_from n (written c a i w) ≡ true
+rises-written n [] a i w h = refl
+rises-written n (block ∷ c) a i w h =
+    let p = parts_of (nat_lt n block.0) (rises_from block.0 c) h in
+    elim (nat_eq block.0 a) as (λ t. rises_from n (cond t ((block.0, set block.1 i w) ∷ c) (block ∷ written c a i w)) ≡ true) [
+      | true ↦ both _ _ p.0 p.1
+      | false ↦ both _ _ p.0 (rises-written block.0 c a i w p.1)
+    ]
+
+rises_lower : (n m : ℕ) (c : List (ℕ × List ℕ)) → n < m → rises_from m c ≡ true → rises_from n c ≡ true
+rises_lower n m [] lt h = refl
+rises_lower n m (block ∷ c) lt h =
+    let p = parts_of (nat_lt m block.0) (rises_from block.0 c) h in
+    both _ _ (lt-ltb n block.0 (omega (arith, lt, ltb-true m block.0 p.0))) p.1
+
+pub rises-without : (n : ℕ) (c : List (ℕ × List ℕ)) (a : ℕ) → rises_from n c ≡ true → rises_from n (without c a) ≡ true
+rises-without n [] a h = refl
+rises-without n (block ∷ c) a h =
+    let p = parts_of (nat_lt n block.0) (rises_from block.0 c) h in
+    elim (nat_eq block.0 a) as (λ t. rises_from n (cond t c (block ∷ without c a)) ≡ true) [
+      | true ↦ rises_lower n block.0 c (ltb-true n block.0 p.0) p.1
+      | false ↦ both _ _ p.0 (rises-without block.0 c a p.1)
+    ]
+
+pub rises_above : (n : ℕ) (c : List (ℕ × List ℕ)) (a i : ℕ) → rises_from n c ≡ true → i < length (words_at c a) → n < a
+rises_above n [] a i h lt = omega (arith, lt)
+rises_above n (block ∷ c) a i h lt = by_test (nat_eq block.0 a) refl lt (λ l. rises_above block.0 c a i (parts_of (nat_lt n block.0) (rises_from block.0 c) h).1 l)
+  where
+    by_test : (t : Bool) → nat_eq block.0 a ≡ t → i < length (cond t block.1 (words_at c a)) → (i < length (words_at c a) → block.0 < a) → n < a
+    by_test true e l later = omega (arith, eqb-true block.0 a e, ltb-true n block.0 (parts_of (nat_lt n block.0) (rises_from block.0 c) h).0)
+    by_test false e l later = omega (arith, later l, ltb-true n block.0 (parts_of (nat_lt n block.0) (rises_from block.0 c) h).0)

@@ -4,7 +4,7 @@ use Rattle.std.proofs.lemmas.List.{take-append-le, drop-append-le, get_or-take, 
 use Rattle.std.proofs.Math.Seq.{take-append_seam, drop-append_seam, take-set-lt}
 use borrow.Author.Tests.{eqb-true, eq-eqb, lt-ltb, ltb-true}
 use Rattle.jv_heap.specs.Content.{words_at, words_held, greatest, written}
-use Rattle.jv_heap.specs.Layouts.{cut, rising}
+use Rattle.jv_heap.specs.Inside.Layouts.{cut, rising}
 use Rattle.jv_heap.proofs.Contents.{both, left_of, right_of}
 
 pub rising_end : (s : ℕ) (ss : List ℕ) (n : ℕ) → rising (s ∷ ss) n ≡ true → s < n

@@ -3,7 +3,7 @@ use Rattle.std.proofs.Common.{◌≡◌, ℕ, ◌+◌, ◌-◌, ◌<◌, ◌≤�
 use Rattle.std.specs.Option.{option_to_list}
 use borrow.Author.Tests.{eqb-true, lt-ltb, ltb-true}
 use Rattle.jv_heap.specs.Content.{words_at, words_held, greatest, written}
-use Rattle.jv_heap.specs.Layouts.{cut, rising, fill}
+use Rattle.jv_heap.specs.Inside.Layouts.{cut, rising, fill}
 use Rattle.jv_heap.proofs.Contents.{IsNewest, newest_is, greatest-append, both, left_of, right_of}
 use Rattle.jv_heap.proofs.Cuts.{rising_count, rising_append, rising_front, cut-append, greatest-cut, held-cut, cut_above, cut_at}
 

@@ -5,7 +5,7 @@ use Rattle.std.proofs.Common.{length-append}
 use Rattle.std.specs.Option.{option_to_list}
 use borrow.Author.Tests.{ne_eqb, eqb-true, eq-eqb}
 use Rattle.jv_heap.specs.Content.{words_at, words_held, greatest, written}
-use Rattle.jv_heap.specs.Layouts.{numbered, none_empty}
+use Rattle.jv_heap.specs.Inside.Layouts.{numbered, none_empty}
 use Rattle.jv_heap.proofs.Contents.{IsNewest, newest_is, none_empty-count}
 
 pub numbered-append : (k : ℕ) (xs : List (List ℕ)) (ws : List ℕ) → numbered k (xs ++ ws ∷ []) ≡ numbered k xs ++ (k + length xs + 1, ws) ∷ []

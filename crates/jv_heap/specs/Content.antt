@@ -1,5 +1,7 @@
--- The content of a store: a list of blocks, each an address and its words, the newest last. Addresses rise along it, so it is a map from addresses to lists of words.
-use Rattle.std.specs.Prelude.{ℕ, ◌+◌, max, cond, nat_eq, List, [], ◌∷◌, length, set}
+-- The content of a store: a list of blocks, each an address and its words, the newest last. A store adds a block above
+-- all others and takes the newest back, so the addresses of what it holds rise from 1 on (`IsRising`), and the content is
+-- a map from addresses, never 0, to lists of words.
+use Rattle.std.specs.Prelude.{ℕ, ◌+◌, max, cond, nat_eq, nat_lt, Bool, true, ◌&&◌, IsTrue, List, [], ◌∷◌, length, set}
 
 -- the words of the block at an address, and none where no block stands there
 abbrev pub words_at : List (ℕ × List ℕ) → ℕ → List ℕ
@@ -25,3 +27,12 @@ written (block ∷ blocks) address place word = cond (nat_eq block.0 address) ((
 abbrev pub without : List (ℕ × List ℕ) → ℕ → List (ℕ × List ℕ)
 without [] address = []
 without (block ∷ blocks) address = cond (nat_eq block.0 address) blocks (block ∷ without blocks address)
+
+-- addresses rise along the blocks, from above a number
+abbrev pub rises_from : ℕ → List (ℕ × List ℕ) → Bool
+rises_from least [] = true
+rises_from least (block ∷ blocks) = nat_lt least block.0 && rises_from block.0 blocks
+
+-- addresses rise from 1 on
+abbrev pub IsRising : List (ℕ × List ℕ) → Type 0
+IsRising content = IsTrue (rises_from 0 content)

@@ -1,2 +1,2 @@
 pub mod Content
-pub mod Layouts
+pub mod Inside

@@ -1,5 +1,5 @@
 ghost use Rattle.jv_heap.specs.Content.{words_held};
-ghost use Rattle.jv_heap.specs.Layouts.{numbered, none_empty};
+ghost use Rattle.jv_heap.specs.Inside.Layouts.{numbered, none_empty};
 ghost use Rattle.std.specs.Prelude.{◌≡◌, ◌+◌, ◌≤◌, false, map, replicate, [], ◌∷◌, ◌++◌, IsTrue, OnOk, OnErr};
 ghost use Rattle.jv_heap.specs.declared.store.TheConstants.{MOST_WORDS};
 

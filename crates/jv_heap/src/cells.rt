@@ -1,4 +1,4 @@
-ghost use Rattle.jv_heap.specs.Layouts.{cut, fill};
+ghost use Rattle.jv_heap.specs.Inside.Layouts.{cut, fill};
 ghost use Rattle.jv_heap.specs.declared.store.TheConstants.{MOST_WORDS};
 ghost use Rattle.std.specs.Prelude.{◌≡◌, ◌+◌, ◌<◌, ◌≤◌, true, replicate, [], ◌∷◌, ◌++◌, vec_len, vec_capacity, IsTrue};
 

@@ -1,7 +1,7 @@
 //! Laws of contents, for callers: each is a call that does nothing.
 
-ghost use Rattle.jv_heap.specs.Content.{words_at, words_held, greatest, written, without};
-ghost use Rattle.std.specs.Prelude.{◌≡◌, ℕ, ◌+◌, ◌<◌, ◌≤◌, cond, nat_eq, List, [], ◌∷◌, ◌++◌, length, set};
+ghost use Rattle.jv_heap.specs.Content.{words_at, words_held, greatest, written, without, IsRising};
+ghost use Rattle.std.specs.Prelude.{◌≡◌, ◌≢◌, ℕ, ◌+◌, ◌<◌, ◌≤◌, cond, nat_eq, List, [], ◌∷◌, ◌++◌, length, set};
 
 /// A block above all others adds its words and changes no other block.
 pub fn new_block()
@@ -18,12 +18,27 @@ pub fn write()
     ensures newest { (c : List (ℕ × List ℕ)) (a : ℕ) (ws : List ℕ) (i w : ℕ) → greatest c < a → written (c ++ (a, ws) ∷ []) a i w ≡ c ++ (a, set ws i w) ∷ [] }
 {}
 
+/// A write to an older block and the coming of a newer one commute.
+pub fn older()
+    ensures { (c : List (ℕ × List ℕ)) (a b i w : ℕ) (ws : List ℕ) → b ≢ a → written (c ++ (a, ws) ∷ []) b i w ≡ written c b i w ++ (a, ws) ∷ [] }
+{}
+
+/// Addresses rise from 1 on: where nothing is held, where a block comes above all others, where a
+/// word is written, and where a block is taken back.
+pub fn rising()
+    ensures empty { IsRising [] }
+    ensures new { (c : List (ℕ × List ℕ)) (a : ℕ) (ws : List ℕ) → IsRising c → greatest c < a → IsRising (c ++ (a, ws) ∷ []) }
+    ensures written { (c : List (ℕ × List ℕ)) (a i w : ℕ) → IsRising c → IsRising (written c a i w) }
+    ensures without { (c : List (ℕ × List ℕ)) (a : ℕ) → IsRising c → IsRising (without c a) }
+{}
+
 /// What is taken back leaves the content as it was before the block came.
 pub fn back()
     ensures { (c : List (ℕ × List ℕ)) (a : ℕ) (ws : List ℕ) → greatest c < a → without (c ++ (a, ws) ∷ []) a ≡ c }
 {}
 
-/// An address with words is not above the greatest, and is not 0 where no block is at 0.
+/// An address with words is not above the greatest, and is not 0.
 pub fn within()
-    ensures { (c : List (ℕ × List ℕ)) (a i : ℕ) → i < length (words_at c a) → a ≤ greatest c }
+    ensures most { (c : List (ℕ × List ℕ)) (a i : ℕ) → i < length (words_at c a) → a ≤ greatest c }
+    ensures least { (c : List (ℕ × List ℕ)) (a i : ℕ) → IsRising c → i < length (words_at c a) → 1 ≤ a }
 {}

@@ -13,6 +13,6 @@ mod store;
 
 pub use blocks::Blocks;
 pub use cells::Cells;
-pub use laws::{back, new_block, within, write};
+pub use laws::{back, new_block, older, rising, within, write};
 pub use memory::Memory;
 pub use store::{MOST_WORDS, Store};

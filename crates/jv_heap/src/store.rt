@@ -7,7 +7,7 @@ use std::alloc::Global;
 /// The most words that a store may hold and have room for, so that each address fits a `u32`.
 pub const MOST_WORDS: u64 = 4_294_967_294;
 
-/// Blocks of words, each under an address that is never 0, and a room of words for further blocks.
+/// Blocks of words, each under an address, and a room of words for further blocks.
 pub trait Store: Drop {
     /// Each block's address and words, the newest last.
     ghost content: { Self → List (ℕ × List ℕ) };
@@ -51,8 +51,8 @@ pub trait Store: Drop {
         ensures content { content self.new ≡ content self.old }
         ensures room { room_left self.new + n ≡ room_left self.old };
 
-    /// A new block of `len` zero words, from the room, at an address above all that are held. After
-    /// a refusal content and room are as they were.
+    /// A new block of `len` zero words, from the room, at an address above all that are held, and so
+    /// never 0. After a refusal content and room are as they were.
     fn alloc(&mut self, len: u32) -> Result<u32, Memory>
         requires some { 1 ≤ len }
         requires room { len ≤ room_left self.old }

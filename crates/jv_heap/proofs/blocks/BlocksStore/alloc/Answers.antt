@@ -1,5 +1,5 @@
 use Rattle.std.proofs.Common.{◌≡◌, ◌+◌, map, length, replicate, [], ◌∷◌, ◌++◌, ap, ◌∙◌, arith}
-use Rattle.jv_heap.specs.Layouts.{numbered}
+use Rattle.jv_heap.specs.Inside.Layouts.{numbered}
 use Rattle.jv_heap.proofs.Contents.{grows}
 use Rattle.jv_heap.proofs.Rows.{add_words, longer, greatest_row, row_count}
 use Rattle.jv_heap.proofs.blocks.BlocksStore.alloc.Goals as goal

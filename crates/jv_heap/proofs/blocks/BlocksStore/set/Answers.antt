@@ -1,7 +1,7 @@
 use Rattle.std.proofs.Common.{ap, sym, ◌∙◌, length, arith, refl}
 use Rattle.jv_heap.proofs.Rows.{within_row, read_row, write_row}
 use Rattle.jv_heap.specs.Content.{words_held}
-use Rattle.jv_heap.specs.Layouts.{none_empty}
+use Rattle.jv_heap.specs.Inside.Layouts.{none_empty}
 use Rattle.jv_heap.proofs.Contents.{words_held-written, none_empty-written}
 use Rattle.jv_heap.proofs.blocks.BlocksStore.set.Goals as goal
 

@@ -1,5 +1,5 @@
 use Rattle.std.proofs.Common.{◌≡◌, ap, arith, ◌∙◌, vec_len, replicate, true, [], ◌∷◌, ◌++◌}
-use Rattle.jv_heap.specs.Layouts.{fill, cut}
+use Rattle.jv_heap.specs.Inside.Layouts.{fill, cut}
 use Rattle.jv_heap.proofs.Fills.{fill_count, fill-append, fill_greatest, fill_grows}
 use Rattle.jv_heap.proofs.cells.CellsStore.alloc.Goals as goal
 

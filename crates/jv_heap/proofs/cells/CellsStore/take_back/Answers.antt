@@ -1,5 +1,5 @@
 use Rattle.std.proofs.Common.{◌≡◌, ◌-◌, ap, sym, arith, ◌∙◌, vec_len}
-use Rattle.jv_heap.specs.Layouts.{fill, cut}
+use Rattle.jv_heap.specs.Inside.Layouts.{fill, cut}
 use Rattle.jv_heap.proofs.Fills.{ends}
 use Rattle.jv_heap.proofs.cells.CellsStore.take_back.Goals as goal
 

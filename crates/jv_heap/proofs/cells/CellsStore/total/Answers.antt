@@ -1,5 +1,5 @@
 use Rattle.std.proofs.Common.{ap, sym, arith, ◌∙◌}
-use Rattle.jv_heap.specs.Layouts.{fill}
+use Rattle.jv_heap.specs.Inside.Layouts.{fill}
 use Rattle.jv_heap.proofs.Fills.{fill_held}
 use Rattle.jv_heap.proofs.cells.CellsStore.total.Goals as goal
 
