@@ -1,5 +1,5 @@
 -- How many bytes parts have.
-use Rattle.std.proofs.Common.{◌≡◌, ℕ, ◌+◌, ◌*◌, ◌/◌, ◌<◌, ◌≤◌, Bool, true, false, List, [], ◌∷◌, length, take, get_or, refl, ap, subst, ◌∙◌, arith, length-append}
+use Rattle.std.proofs.Common.{◌≡◌, ℕ, ◌+◌, ◌*◌, ◌<◌, ◌≤◌, Bool, true, false, List, [], ◌∷◌, length, take, get_or, refl, ap, subst, ◌∙◌, arith, length-append}
 use Rattle.std.specs.Prelude.{IsTrue, map, nat_lt}
 use Rattle.std.specs.List.{flat_map, list_all}
 use Rattle.std.proofs.lemmas.Bool.{and_parts, ltb-true}
@@ -8,8 +8,10 @@ use Rattle.std.proofs.lemmas.Grind.{flat_map-append}
 use Rattle.std.proofs.lemmas.List.Folds.{list_all-map, list_all_at}
 use Rattle.std.proofs.lemmas.List.Folds.{flat_map-map, length-flat_map-take}
 use Rattle.jv_format.specs.Format.{half, quad}
+use Rattle.jv_format.specs.declared.handlers.Handler.{Handler}
+use Rattle.jv_format.specs.Handlers.{handler_bytes}
 use Rattle.jv_pool.specs.Constants.{Entry, entries_of, table_of, pool_count}
-use Rattle.jv_class_parts.specs.Structure.{AttributeInfo, ExceptionEntry, CodeAttribute, attribute_bytes, attribute_fits, exception_bytes, code_bytes, table_fits}
+use Rattle.jv_class_parts.specs.Structure.{AttributeInfo, CodeAttribute, attribute_bytes, attribute_fits, code_bytes, table_fits}
 
 -- each of some parts that all fit does
 all_at : {X : Type 0} (p : X → Bool) (xs : List X) (i : ℕ) (d : X) → i < length xs → IsTrue (list_all p xs) → IsTrue (p (get_or xs i d))
@@ -20,9 +22,7 @@ all_at p xs i d lt h = by_cases (p (get_or xs i d)) (λ e. let no = list_all_at 
     by_cases false h = h refl
 
 small : (n : ℕ) → IsTrue (quad.fits n) → n < 4294967296
-small n h =
-    let high = ltb-true (n / 65536) 65536 (and_parts _ _ h).0 in
-    omega arith
+small n h = ltb-true n 4294967296 h
 
 -- one more part
 more : {X Y Z : Type 0} (f : Y → List Z) (view : X → Y) (xs : List X) (i : ℕ) (d : X) → i < length xs
@@ -44,13 +44,13 @@ attributes_more view xs i d total lt h e le =
     let next = more attribute_bytes view xs i d lt in
     (omega arith, omega arith)
 
-exceptions : (xs : List ExceptionEntry) → length (flat_map exception_bytes xs) ≡ 8 * length xs
-exceptions [] = refl
-exceptions (x ∷ xs) = let rest = exceptions xs in omega arith
+handlers : (xs : List Handler) → length (flat_map handler_bytes xs) ≡ 8 * length xs
+handlers [] = refl
+handlers (x ∷ xs) = let rest = handlers xs in omega arith
 
 pub code_length_is : (c : CodeAttribute)
     → 12 + length c.code + 8 * length c.exception_table + length (flat_map attribute_bytes c.attributes) ≡ length (code_bytes c)
-code_length_is c = simp length-append (omega (arith, exceptions c.exception_table))
+code_length_is c = simp length-append (omega (arith, handlers c.exception_table))
 
 -- ---- the entries of a pool
 

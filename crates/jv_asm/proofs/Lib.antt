@@ -1,9 +1,5 @@
-pub mod Assembly
 pub mod Back
-pub mod Joined
 pub mod Lengths
-pub mod Named
-pub mod Pooled
+pub mod Mapped
 pub mod Sizes
 pub mod Spelled
-pub mod Tables

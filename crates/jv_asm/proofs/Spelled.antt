@@ -5,22 +5,23 @@ use Rattle.std.specs.Int.{w32}
 use Rattle.std.specs.List.{flat_map, list_all}
 use Rattle.std.proofs.lemmas.Bool.{eqb-true, ltb-true, lt-ltb, and_parts, and_from}
 use Rattle.std.proofs.lemmas.List.{length-replicate}
-use Rattle.jv_format.specs.Format.{half, quad}
+use Rattle.jv_format.specs.Format.{quad}
 use Rattle.jv_format.proofs.Laws.{IsFormat, quad_is, signed_is, both_is}
-use Rattle.jv_code.specs.declared.insn.Insn.TheVariants.{Nop, NullConstant, IntConstant, LongConstant, PoolConstant, PoolLongConstant, Load, Store, StoreLong, ArrayLoad, ArrayStore, Stack, Arithmetic, Division, Negate, Shift, Convert, CompareLongs, Increment, IfInt, IfInts, IfReferences, IfNull, Goto, TableSwitch, LookupSwitch, ReturnValue, Return, Field, Invoke, InvokeInterface, New, NewArray, NewReferenceArray, NewMultiArray, ArrayLength, Throw, CheckCast, InstanceOf}
+use Rattle.jv_code.specs.declared.insn.Insn.TheVariants.{Nop, NullConstant, Compute, PoolConstant, PoolLongConstant, Load, Store, StoreLong, ArrayLoad, ReferenceArrayLoad, ArrayStore, ReferenceArrayStore, Stack, Division, Increment, Branch, Goto, TableSwitch, LookupSwitch, ReturnValue, Return, Field, Invoke, InvokeInterface, New, NewArray, NewReferenceArray, NewMultiArray, ArrayLength, Throw, CheckCast, InstanceOf}
+use Rattle.jv_code.specs.declared.kinds.Computation.TheVariants as compute
 use Rattle.jv_code.specs.declared.kinds.LocalForm.TheVariants as local
 use Rattle.jv_code.specs.declared.kinds.IncrementForm.TheVariants as increment
 use Rattle.jv_code.specs.declared.kinds.IntForm.TheVariants as int
 use Rattle.jv_code.specs.declared.kinds.IndexForm.TheVariants as index
 use Rattle.jv_code.specs.declared.kinds.JumpForm.TheVariants as jump
 use Rattle.jv_code.specs.Numbers.{signed32}
-use Rattle.jv_code.specs.Switches.{padding_fits, table_fits, pair, pairs_in, keys_rise, pairs_fit}
+use Rattle.jv_code.specs.Switches.{padding_fits, distances_fit, pair, pairs_in, keys_rise, pairs_fit}
 use Rattle.jv_code.specs.Insns.{Instruction, insn_bytes, insn_fits}
 use Rattle.jv_code.specs.Places.{all_fit}
 use Rattle.jv_code.proofs.Pairs.{pair_found}
 use Rattle.jv_code.proofs.Sizes.{some_bytes}
 use Rattle.jv_asm.specs.declared.item.Item.{Item}
-use Rattle.jv_asm.specs.Items.{zeros, lookup_switch_bytes, item_bytes, items_bytes, IsItemOf, AreInstructions, count_right, table_right, lookup_right, ItemsAreCode}
+use Rattle.jv_asm.specs.Items.{zeros, lookup_switch_bytes, code_of_item, code_of_items, IsItemOf, AreInstructions, count_right, table_right, lookup_right, ItemsAreCode}
 use Rattle.jv_asm.proofs.Sizes.{distances_length, pairs_length}
 
 -- ---- switches
@@ -28,17 +29,17 @@ use Rattle.jv_asm.proofs.Sizes.{distances_length, pairs_length}
 zeros_fit : (at : ℕ) → IsTrue (padding_fits at (zeros at))
 zeros_fit at = eq-eqb _ _ (length-replicate (3 - at % 4) 0)
 
-table_fits_if : (z : ℤ) (offsets : List ℤ) → IsTrue (count_right z (length offsets)) → IsTrue (table_fits z (flat_map signed32.spelling offsets))
+table_fits_if : (z : ℤ) (offsets : List ℤ) → IsTrue (count_right z (length offsets)) → IsTrue (distances_fit z (flat_map signed32.spelling offsets))
 table_fits_if (pos n) offsets h =
     let count : length offsets ≡ n + 1 = eqb-true _ _ h in
     eq-eqb _ _ (omega (arith, distances_length offsets))
 table_fits_if (negsuc n) offsets h = absurd cc
 
 quad_below : (k : ℕ) → IsTrue (quad.fits k) → k < 2 ^ 32
-quad_below k h = let lt : k / 65536 < 65536 = ltb-true _ _ (and_parts (half.fits (k / 65536)) (half.fits (k % 65536)) h).0 in omega arith
+quad_below k h = let lt : k < 4294967296 = ltb-true k 4294967296 h in omega arith
 
 quad_within : (k : ℕ) → k < 2 ^ 32 → IsTrue (quad.fits k)
-quad_within k h = and_from _ _ (lt-ltb (k / 65536) 65536 (omega arith)) (lt-ltb (k % 65536) 65536 (omega arith))
+quad_within k h = lt-ltb k 4294967296 (omega arith)
 
 signed32_is : IsFormat signed32
 signed32_is = signed_is w32 quad quad_is quad_below quad_within
@@ -87,84 +88,83 @@ lookup_switch_fits at default pairs h =
 
 -- ---- items
 
-spelled : (at : ℕ) (insn : Instruction) (i : Item) → IsItemOf at insn i → item_bytes at i ≡ insn_bytes insn
-spelled at Nop i h = ap (item_bytes at) h
-spelled at NullConstant i h = ap (item_bytes at) h
-spelled at (IntConstant z int.Opcode) i h = ap (item_bytes at) h
-spelled at (IntConstant z int.Byte) i h = ap (item_bytes at) h
-spelled at (IntConstant z int.Half) i h = ap (item_bytes at) h
-spelled at (LongConstant l) i h = ap (item_bytes at) h
-spelled at (PoolConstant n index.Byte) i h = ap (item_bytes at) h
-spelled at (PoolConstant n index.Half) i h = ap (item_bytes at) h
-spelled at (PoolLongConstant n) i h = ap (item_bytes at) h
-spelled at (Load kind n local.Opcode) i h = ap (item_bytes at) h
-spelled at (Load kind n local.Byte) i h = ap (item_bytes at) h
-spelled at (Load kind n local.Wide) i h = ap (item_bytes at) h
-spelled at (Store kind n local.Opcode) i h = ap (item_bytes at) h
-spelled at (Store kind n local.Byte) i h = ap (item_bytes at) h
-spelled at (Store kind n local.Wide) i h = ap (item_bytes at) h
-spelled at (StoreLong n local.Opcode) i h = ap (item_bytes at) h
-spelled at (StoreLong n local.Byte) i h = ap (item_bytes at) h
-spelled at (StoreLong n local.Wide) i h = ap (item_bytes at) h
-spelled at (ArrayLoad kind) i h = ap (item_bytes at) h
-spelled at (ArrayStore kind) i h = ap (item_bytes at) h
-spelled at (Stack form) i h = ap (item_bytes at) h
-spelled at (Arithmetic kind op) i h = ap (item_bytes at) h
-spelled at (Division kind op) i h = ap (item_bytes at) h
-spelled at (Negate kind) i h = ap (item_bytes at) h
-spelled at (Shift kind op) i h = ap (item_bytes at) h
-spelled at (Convert to) i h = ap (item_bytes at) h
-spelled at CompareLongs i h = ap (item_bytes at) h
-spelled at (Increment n z increment.Byte) i h = ap (item_bytes at) h
-spelled at (Increment n z increment.Wide) i h = ap (item_bytes at) h
-spelled at (IfInt test z) i h = ap (item_bytes at) h
-spelled at (IfInts test z) i h = ap (item_bytes at) h
-spelled at (IfReferences test z) i h = ap (item_bytes at) h
-spelled at (IfNull test z) i h = ap (item_bytes at) h
-spelled at (Goto z jump.Half) i h = ap (item_bytes at) h
-spelled at (Goto z jump.Quad) i h = ap (item_bytes at) h
+spelled : (at : ℕ) (insn : Instruction) (i : Item) → IsItemOf at insn i → code_of_item at i ≡ insn_bytes insn
+spelled at Nop i h = ap (code_of_item at) h
+spelled at NullConstant i h = ap (code_of_item at) h
+spelled at (Compute (compute.IntConstant z int.Opcode)) i h = ap (code_of_item at) h
+spelled at (Compute (compute.IntConstant z int.Byte)) i h = ap (code_of_item at) h
+spelled at (Compute (compute.IntConstant z int.Half)) i h = ap (code_of_item at) h
+spelled at (Compute (compute.LongConstant l)) i h = ap (code_of_item at) h
+spelled at (Compute (compute.Arithmetic kind op)) i h = ap (code_of_item at) h
+spelled at (Compute (compute.Negate kind)) i h = ap (code_of_item at) h
+spelled at (Compute (compute.Shift kind op)) i h = ap (code_of_item at) h
+spelled at (Compute (compute.Convert to)) i h = ap (code_of_item at) h
+spelled at (Compute compute.CompareLongs) i h = ap (code_of_item at) h
+spelled at (PoolConstant n index.Byte) i h = ap (code_of_item at) h
+spelled at (PoolConstant n index.Half) i h = ap (code_of_item at) h
+spelled at (PoolLongConstant n) i h = ap (code_of_item at) h
+spelled at (Load kind n local.Opcode) i h = ap (code_of_item at) h
+spelled at (Load kind n local.Byte) i h = ap (code_of_item at) h
+spelled at (Load kind n local.Wide) i h = ap (code_of_item at) h
+spelled at (Store kind n local.Opcode) i h = ap (code_of_item at) h
+spelled at (Store kind n local.Byte) i h = ap (code_of_item at) h
+spelled at (Store kind n local.Wide) i h = ap (code_of_item at) h
+spelled at (StoreLong n local.Opcode) i h = ap (code_of_item at) h
+spelled at (StoreLong n local.Byte) i h = ap (code_of_item at) h
+spelled at (StoreLong n local.Wide) i h = ap (code_of_item at) h
+spelled at (ArrayLoad kind) i h = ap (code_of_item at) h
+spelled at ReferenceArrayLoad i h = ap (code_of_item at) h
+spelled at (ArrayStore kind) i h = ap (code_of_item at) h
+spelled at ReferenceArrayStore i h = ap (code_of_item at) h
+spelled at (Stack form) i h = ap (code_of_item at) h
+spelled at (Division kind op) i h = ap (code_of_item at) h
+spelled at (Increment n z increment.Byte) i h = ap (code_of_item at) h
+spelled at (Increment n z increment.Wide) i h = ap (code_of_item at) h
+spelled at (Branch test z) i h = ap (code_of_item at) h
+spelled at (Goto z jump.Half) i h = ap (code_of_item at) h
+spelled at (Goto z jump.Quad) i h = ap (code_of_item at) h
 spelled at (TableSwitch padding default low high offsets) i h =
-    ap (item_bytes at) h.is
+    ap (code_of_item at) h.is
     ∙ ap (λ (p : List ℕ). 170 ∷ (p ++ ((signed32.spelling default ++ (signed32.spelling low ++ signed32.spelling high)) ++ flat_map signed32.spelling h.distances.now))) (sym h.padding_is)
     ∙ ap (λ (o : List ℕ). 170 ∷ (padding ++ ((signed32.spelling default ++ (signed32.spelling low ++ signed32.spelling high)) ++ o))) (sym h.offsets_are)
 spelled at (LookupSwitch padding default pairs) i h =
-    ap (item_bytes at) h.is ∙ lookup_spelled at default h.keys.now
+    ap (code_of_item at) h.is ∙ lookup_spelled at default h.keys.now
     ∙ ap (λ (p : List ℕ). insn_bytes (LookupSwitch p default (flat_map pair.spelling h.keys.now))) (sym h.padding_is)
     ∙ ap (λ (p : List ℕ). insn_bytes (LookupSwitch padding default p)) (sym h.pairs_are)
-spelled at (ReturnValue kind) i h = ap (item_bytes at) h
-spelled at Return i h = ap (item_bytes at) h
-spelled at (Field access n) i h = ap (item_bytes at) h
-spelled at (Invoke how n) i h = ap (item_bytes at) h
-spelled at (InvokeInterface n count) i h = ap (item_bytes at) h
-spelled at (New n) i h = ap (item_bytes at) h
-spelled at (NewArray type) i h = ap (item_bytes at) h
-spelled at (NewReferenceArray n) i h = ap (item_bytes at) h
-spelled at (NewMultiArray n dimensions) i h = ap (item_bytes at) h
-spelled at ArrayLength i h = ap (item_bytes at) h
-spelled at Throw i h = ap (item_bytes at) h
-spelled at (CheckCast n) i h = ap (item_bytes at) h
-spelled at (InstanceOf n) i h = ap (item_bytes at) h
+spelled at (ReturnValue kind) i h = ap (code_of_item at) h
+spelled at Return i h = ap (code_of_item at) h
+spelled at (Field access n) i h = ap (code_of_item at) h
+spelled at (Invoke how n) i h = ap (code_of_item at) h
+spelled at (InvokeInterface n count) i h = ap (code_of_item at) h
+spelled at (New n) i h = ap (code_of_item at) h
+spelled at (NewArray type) i h = ap (code_of_item at) h
+spelled at (NewReferenceArray n) i h = ap (code_of_item at) h
+spelled at (NewMultiArray n dimensions) i h = ap (code_of_item at) h
+spelled at ArrayLength i h = ap (code_of_item at) h
+spelled at Throw i h = ap (code_of_item at) h
+spelled at (CheckCast n) i h = ap (code_of_item at) h
+spelled at (InstanceOf n) i h = ap (code_of_item at) h
 
 -- ---- lists of items
 
 all_right : (at : ℕ) (items : List Item) (insns : List Instruction) → AreInstructions at items insns
-    → (items_bytes at items ≡ flat_map insn_bytes insns) × IsTrue (all_fit at insns)
+    → (code_of_items at items ≡ flat_map insn_bytes insns) × IsTrue (all_fit at insns)
 all_right at [] [] h = (refl, refl)
 all_right at [] (insn ∷ insns) h = absurd h
 all_right at (i ∷ items) [] h = absurd h
 all_right at (i ∷ items) (insn ∷ insns) h =
     let one = spelled at insn i h.0.spells in
-    let rest = all_right (at + length (item_bytes at i)) items insns h.1 in (
-      ap (λ b. b ++ items_bytes (at + length (item_bytes at i)) items) one ∙ ap (λ b. insn_bytes insn ++ b) rest.0,
+    let rest = all_right (at + length (code_of_item at i)) items insns h.1 in (
+      ap (λ b. b ++ code_of_items (at + length (code_of_item at i)) items) one ∙ ap (λ b. insn_bytes insn ++ b) rest.0,
       and_from _ _ h.0.fits (subst (λ (b : List ℕ). IsTrue (all_fit (at + length b) insns)) one rest.1),
     )
 
-some_right : (items : List Item) (insns : List Instruction) → 1 ≤ length items → AreInstructions 0 items insns → 1 ≤ length (items_bytes 0 items)
+some_right : (items : List Item) (insns : List Instruction) → 1 ≤ length items → AreInstructions 0 items insns → 1 ≤ length (code_of_items 0 items)
 some_right [] insns some h = absurd (omega arith)
 some_right (i ∷ items) [] some h = absurd h
 some_right (i ∷ items) (insn ∷ insns) some h =
     let one = ap length (spelled 0 insn i h.0.spells) in
-    omega (arith, some_bytes insn, length-append (item_bytes 0 i) (items_bytes (0 + length (item_bytes 0 i)) items))
+    omega (arith, some_bytes insn, length-append (code_of_item 0 i) (code_of_items (0 + length (code_of_item 0 i)) items))
 
 pub items_are_code : ItemsAreCode
 items_are_code = record {

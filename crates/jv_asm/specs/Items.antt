@@ -3,14 +3,16 @@ use Rattle.std.specs.Prelude.{◌≡◌, ⊤, ℕ, ◌+◌, ◌-◌, ◌%◌, �
 use Rattle.std.specs.List.{flat_map, list_all}
 use Rattle.std.specs.Borrow.{Bor}
 use Rattle.jv_format.specs.Format.{byte, half, quad}
-use Rattle.jv_code.specs.declared.insn.Insn.TheVariants.{Nop, NullConstant, IntConstant, LongConstant, PoolConstant, PoolLongConstant, Load, Store, StoreLong, ArrayLoad, ArrayStore, Stack, Arithmetic, Division, Negate, Shift, Convert, CompareLongs, Increment, IfInt, IfInts, IfReferences, IfNull, Goto, TableSwitch, LookupSwitch, ReturnValue, Return, Field, Invoke, InvokeInterface, New, NewArray, NewReferenceArray, NewMultiArray, ArrayLength, Throw, CheckCast, InstanceOf}
+use Rattle.jv_code.specs.declared.insn.Insn.TheVariants.{Nop, NullConstant, Compute, PoolConstant, PoolLongConstant, Load, Store, StoreLong, ArrayLoad, ReferenceArrayLoad, ArrayStore, ReferenceArrayStore, Stack, Division, Increment, Branch, Goto, TableSwitch, LookupSwitch, ReturnValue, Return, Field, Invoke, InvokeInterface, New, NewArray, NewReferenceArray, NewMultiArray, ArrayLength, Throw, CheckCast, InstanceOf}
+use Rattle.jv_code.specs.declared.kinds.Computation.{Computation}
+use Rattle.jv_code.specs.declared.kinds.Computation.TheVariants as compute
 use Rattle.jv_code.specs.declared.kinds.LocalForm.{LocalForm}
 use Rattle.jv_code.specs.declared.kinds.LocalForm.TheVariants as local
 use Rattle.jv_code.specs.declared.kinds.IncrementForm.TheVariants as increment
 use Rattle.jv_code.specs.declared.kinds.IntForm.TheVariants as int
 use Rattle.jv_code.specs.declared.kinds.IndexForm.TheVariants as index
 use Rattle.jv_code.specs.declared.kinds.JumpForm.TheVariants as jump
-use Rattle.jv_code.specs.Opcodes.{int_opcode, long_opcode, load_opcode, load_0_opcode, store_opcode, store_0_opcode, array_load_opcode, array_store_opcode, stack_opcode, number_offset, arithmetic_opcode, division_opcode, shift_opcode, conversion_opcode, if_opcode, if_ints_opcode, if_references_opcode, if_null_opcode, return_opcode, field_opcode, invoke_opcode, element_code}
+use Rattle.jv_code.specs.Opcodes.{int_opcode, long_opcode, load_opcode, load_0_opcode, store_opcode, store_0_opcode, array_load_opcode, array_store_opcode, stack_opcode, number_offset, arithmetic_opcode, division_opcode, shift_opcode, conversion_opcode, branch_opcode, return_opcode, field_opcode, invoke_opcode, element_code}
 use Rattle.jv_code.specs.Numbers.{signed8, signed16, signed32}
 use Rattle.jv_code.specs.Switches.{pair, keys_rise}
 use Rattle.jv_code.specs.Insns.{Instruction, insn_fits}
@@ -33,25 +35,25 @@ lookup_switch_bytes at default pairs =
     171 ∷ (zeros at ++ (signed32.spelling default ++ (quad.spelling (length pairs) ++ flat_map pair.spelling pairs)))
 
 -- the bytes of an item at an offset
-abbrev pub item_bytes : ℕ → Item → List ℕ
-item_bytes at (item.Plain opcode) = opcode ∷ []
-item_bytes at (item.Byte opcode n) = opcode ∷ byte.spelling n
-item_bytes at (item.SignedByte opcode z) = opcode ∷ signed8.spelling z
-item_bytes at (item.Half opcode n) = opcode ∷ half.spelling n
-item_bytes at (item.SignedHalf opcode z) = opcode ∷ signed16.spelling z
-item_bytes at (item.SignedQuad opcode z) = opcode ∷ signed32.spelling z
-item_bytes at (item.Iinc n z) = 132 ∷ (byte.spelling n ++ signed8.spelling z)
-item_bytes at (item.Wide opcode n) = 196 ∷ opcode ∷ half.spelling n
-item_bytes at (item.WideIinc n z) = 196 ∷ 132 ∷ (half.spelling n ++ signed16.spelling z)
-item_bytes at (item.Invokeinterface i count) = 185 ∷ (half.spelling i ++ (count ∷ 0 ∷ []))
-item_bytes at (item.Multianewarray i dimensions) = 197 ∷ (half.spelling i ++ byte.spelling dimensions)
-item_bytes at (item.Tableswitch default low high offsets) = table_switch_bytes at default low high offsets.now
-item_bytes at (item.Lookupswitch default pairs) = lookup_switch_bytes at default pairs.now
+abbrev pub code_of_item : ℕ → Item → List ℕ
+code_of_item at (item.Plain opcode) = opcode ∷ []
+code_of_item at (item.Byte opcode n) = opcode ∷ byte.spelling n
+code_of_item at (item.SignedByte opcode z) = opcode ∷ signed8.spelling z
+code_of_item at (item.Half opcode n) = opcode ∷ half.spelling n
+code_of_item at (item.SignedHalf opcode z) = opcode ∷ signed16.spelling z
+code_of_item at (item.SignedQuad opcode z) = opcode ∷ signed32.spelling z
+code_of_item at (item.Iinc n z) = 132 ∷ (byte.spelling n ++ signed8.spelling z)
+code_of_item at (item.Wide opcode n) = 196 ∷ opcode ∷ half.spelling n
+code_of_item at (item.WideIinc n z) = 196 ∷ 132 ∷ (half.spelling n ++ signed16.spelling z)
+code_of_item at (item.Invokeinterface i count) = 185 ∷ (half.spelling i ++ (count ∷ 0 ∷ []))
+code_of_item at (item.Multianewarray i dimensions) = 197 ∷ (half.spelling i ++ byte.spelling dimensions)
+code_of_item at (item.Tableswitch default low high offsets) = table_switch_bytes at default low high offsets.now
+code_of_item at (item.Lookupswitch default pairs) = lookup_switch_bytes at default pairs.now
 
 -- the bytes of items, the first at an offset; each next one stands behind the bytes of those before it
-abbrev pub items_bytes : ℕ → List Item → List ℕ
-items_bytes at [] = []
-items_bytes at (i ∷ items) = item_bytes at i ++ items_bytes (at + length (item_bytes at i)) items
+abbrev pub code_of_items : ℕ → List Item → List ℕ
+code_of_items at [] = []
+code_of_items at (i ∷ items) = code_of_item at i ++ code_of_items (at + length (code_of_item at i)) items
 
 -- ---- the instruction that an item is
 
@@ -60,6 +62,18 @@ abbrev pub IsLocalItem : ℕ → ℕ → ℕ → LocalForm → Item → Type 0
 IsLocalItem with_0 opcode n local.Opcode i = i ≡ item.Plain (with_0 + n)
 IsLocalItem with_0 opcode n local.Byte i = i ≡ item.Byte opcode n
 IsLocalItem with_0 opcode n local.Wide i = i ≡ item.Wide opcode n
+
+-- an instruction that only computes
+abbrev pub IsComputationItem : Computation → Item → Type 0
+IsComputationItem (compute.IntConstant z int.Opcode) i = i ≡ item.Plain (int_opcode z)
+IsComputationItem (compute.IntConstant z int.Byte) i = i ≡ item.SignedByte 16 z
+IsComputationItem (compute.IntConstant z int.Half) i = i ≡ item.SignedHalf 17 z
+IsComputationItem (compute.LongConstant l) i = i ≡ item.Plain (long_opcode l)
+IsComputationItem (compute.Arithmetic kind op) i = i ≡ item.Plain (arithmetic_opcode op + number_offset kind)
+IsComputationItem (compute.Negate kind) i = i ≡ item.Plain (116 + number_offset kind)
+IsComputationItem (compute.Shift kind op) i = i ≡ item.Plain (shift_opcode op + number_offset kind)
+IsComputationItem (compute.Convert to) i = i ≡ item.Plain (conversion_opcode to)
+IsComputationItem compute.CompareLongs i = i ≡ item.Plain 148
 
 -- a switch, whose item has numbers where the instruction has bytes
 pub record IsTableItem (at : ℕ) (padding : List ℕ) (default low high : ℤ) (offsets : List ℕ) (i : Item) : Type 0 where
@@ -78,10 +92,7 @@ pub record IsLookupItem (at : ℕ) (padding : List ℕ) (default : ℤ) (pairs :
 abbrev pub IsItemOf : ℕ → Instruction → Item → Type 0
 IsItemOf at Nop i = i ≡ item.Plain 0
 IsItemOf at NullConstant i = i ≡ item.Plain 1
-IsItemOf at (IntConstant z int.Opcode) i = i ≡ item.Plain (int_opcode z)
-IsItemOf at (IntConstant z int.Byte) i = i ≡ item.SignedByte 16 z
-IsItemOf at (IntConstant z int.Half) i = i ≡ item.SignedHalf 17 z
-IsItemOf at (LongConstant l) i = i ≡ item.Plain (long_opcode l)
+IsItemOf at (Compute computation) i = IsComputationItem computation i
 IsItemOf at (PoolConstant n index.Byte) i = i ≡ item.Byte 18 n
 IsItemOf at (PoolConstant n index.Half) i = i ≡ item.Half 19 n
 IsItemOf at (PoolLongConstant n) i = i ≡ item.Half 20 n
@@ -89,20 +100,14 @@ IsItemOf at (Load kind n form) i = IsLocalItem (load_0_opcode kind) (load_opcode
 IsItemOf at (Store kind n form) i = IsLocalItem (store_0_opcode kind) (store_opcode kind) n form i
 IsItemOf at (StoreLong n form) i = IsLocalItem 63 55 n form i
 IsItemOf at (ArrayLoad kind) i = i ≡ item.Plain (array_load_opcode kind)
+IsItemOf at ReferenceArrayLoad i = i ≡ item.Plain 50
 IsItemOf at (ArrayStore kind) i = i ≡ item.Plain (array_store_opcode kind)
+IsItemOf at ReferenceArrayStore i = i ≡ item.Plain 83
 IsItemOf at (Stack form) i = i ≡ item.Plain (stack_opcode form)
-IsItemOf at (Arithmetic kind op) i = i ≡ item.Plain (arithmetic_opcode op + number_offset kind)
 IsItemOf at (Division kind op) i = i ≡ item.Plain (division_opcode op + number_offset kind)
-IsItemOf at (Negate kind) i = i ≡ item.Plain (116 + number_offset kind)
-IsItemOf at (Shift kind op) i = i ≡ item.Plain (shift_opcode op + number_offset kind)
-IsItemOf at (Convert to) i = i ≡ item.Plain (conversion_opcode to)
-IsItemOf at CompareLongs i = i ≡ item.Plain 148
 IsItemOf at (Increment n z increment.Byte) i = i ≡ item.Iinc n z
 IsItemOf at (Increment n z increment.Wide) i = i ≡ item.WideIinc n z
-IsItemOf at (IfInt test z) i = i ≡ item.SignedHalf (if_opcode test) z
-IsItemOf at (IfInts test z) i = i ≡ item.SignedHalf (if_ints_opcode test) z
-IsItemOf at (IfReferences test z) i = i ≡ item.SignedHalf (if_references_opcode test) z
-IsItemOf at (IfNull test z) i = i ≡ item.SignedHalf (if_null_opcode test) z
+IsItemOf at (Branch test z) i = i ≡ item.SignedHalf (branch_opcode test) z
 IsItemOf at (Goto z jump.Half) i = i ≡ item.SignedHalf 167 z
 IsItemOf at (Goto z jump.Quad) i = i ≡ item.SignedQuad 200 z
 IsItemOf at (TableSwitch padding default low high offsets) i = IsTableItem at padding default low high offsets i
@@ -129,7 +134,7 @@ pub record IsInstruction (at : ℕ) (i : Item) (insn : Instruction) : Type 0 whe
 -- and so is each of a list
 abbrev pub AreInstructions : ℕ → List Item → List Instruction → Type 0
 AreInstructions at [] [] = ⊤
-AreInstructions at (i ∷ items) (insn ∷ insns) = IsInstruction at i insn × AreInstructions (at + length (item_bytes at i)) items insns
+AreInstructions at (i ∷ items) (insn ∷ insns) = IsInstruction at i insn × AreInstructions (at + length (code_of_item at i)) items insns
 AreInstructions at _ _ = ⊥
 
 -- ---- the law
@@ -151,8 +156,8 @@ lookup_right default pairs =
 -- Items that are instructions, some of them and few enough, are code, and that list of instructions. A `tableswitch` with
 -- matching bounds and a `lookupswitch` with rising keys are instructions.
 pub record ItemsAreCode : Type 0 where
-  pub code : (items : List Item) (insns : List Instruction) → 1 ≤ length items → length (items_bytes 0 items) ≤ 65535
-      → AreInstructions 0 items insns → IsCode (items_bytes 0 items) insns
+  pub code : (items : List Item) (insns : List Instruction) → 1 ≤ length items → length (code_of_items 0 items) ≤ 65535
+      → AreInstructions 0 items insns → IsCode (code_of_items 0 items) insns
   pub table : (at : ℕ) (default low high : ℤ) (offsets : Bor (List ℤ)) → IsTrue (table_right default low high offsets.now)
       → IsInstruction at (item.Tableswitch default low high offsets) (TableSwitch (zeros at) default low high (flat_map signed32.spelling offsets.now))
   pub lookup : (at : ℕ) (default : ℤ) (pairs : Bor (List (ℤ × ℤ))) → IsTrue (lookup_right default pairs.now)

@@ -3,13 +3,16 @@
 ghost use Rattle.std.specs.Prelude.{◌≡◌, ◌++◌, ◌<◌, ◌&&◌, ◌^◌, OnOk, IsTrue, length, map};
 ghost use Rattle.std.specs.List.{flat_map};
 ghost use Rattle.jv_format.specs.Format.{half, quad};
-ghost use Rattle.jv_class_parts.specs.Structure.{contents_bytes, table_bytes, table_fits, attribute_bytes, attribute_fits, exception_bytes, exception_fits};
-ghost use Rattle.jv_asm.specs.Description.{attribute_described, handler_described};
+ghost use Rattle.jv_class_parts.specs.Structure.{AttributeInfo, contents_bytes, table_bytes, table_fits, attribute_bytes, attribute_fits};
+ghost use Rattle.jv_format.specs.declared.handlers.Handler.{Handler};
+ghost use Rattle.jv_format.specs.Handlers.{handler_bytes, handler_fits};
+ghost use Rattle.jv_asm.specs.Description.{described_attribute};
 
-use crate::description::{AttributeDescription, HandlerDescription};
+use crate::description::AttributeDescription;
 use crate::part::{
     Part, half_right, halves_right, put_half, put_quad, put_table, put_three, table_right,
 };
+use jv_format::Handler;
 use std::alloc::AllocError;
 
 /// Contents behind their length.
@@ -29,9 +32,13 @@ pub(crate) fn contents_right(contents: &[u8]) -> bool
 }
 
 impl Part for AttributeDescription<'_> {
-    ghost spelled = { λ a. attribute_bytes (attribute_described a) };
+    ghost Value = { AttributeInfo };
 
-    ghost fits = { λ a. attribute_fits (attribute_described a) };
+    ghost view = { described_attribute };
+
+    ghost bytes = { attribute_bytes };
+
+    ghost fits = { attribute_fits };
 
     fn put(&self, out: &mut Vec<u8>) -> Result<(), AllocError> {
         put_half(out, self.attribute_name_index)?;
@@ -43,10 +50,14 @@ impl Part for AttributeDescription<'_> {
     }
 }
 
-impl Part for HandlerDescription {
-    ghost spelled = { λ h. exception_bytes (handler_described h) };
+impl Part for Handler {
+    ghost Value = { Handler };
 
-    ghost fits = { λ h. exception_fits (handler_described h) };
+    ghost view = { λ h. h };
+
+    ghost bytes = { handler_bytes };
+
+    ghost fits = { handler_fits };
 
     fn put(&self, out: &mut Vec<u8>) -> Result<(), AllocError> {
         put_three(out, self.start_pc, self.end_pc, self.handler_pc)?;
@@ -58,42 +69,25 @@ impl Part for HandlerDescription {
     }
 }
 
-pub(crate) fn put_attributes(
-    out: &mut Vec<u8>,
-    attributes: &[AttributeDescription<'_>],
-) -> Result<(), AllocError>
-    requires { IsTrue (table_fits attribute_fits (map attribute_described attributes.now)) }
-    ensures { OnOk result (out.new.items ≡ out.old.items ++ table_bytes attribute_bytes (map attribute_described attributes.now)) }
-{
-    put_table(out, attributes)
-}
-
-pub(crate) fn attributes_right(attributes: &[AttributeDescription<'_>]) -> bool
-    ensures { result ≡ table_fits attribute_fits (map attribute_described attributes.now) }
-{
-    table_right(attributes)
-}
-
-pub(crate) fn put_handlers(
-    out: &mut Vec<u8>,
-    handlers: &[HandlerDescription],
-) -> Result<(), AllocError>
-    requires { IsTrue (table_fits exception_fits (map handler_described handlers.now)) }
-    ensures { OnOk result (out.new.items ≡ out.old.items ++ table_bytes exception_bytes (map handler_described handlers.now)) }
+/// How many handlers there are, and the handlers.
+pub(crate) fn put_handlers(out: &mut Vec<u8>, handlers: &[Handler]) -> Result<(), AllocError>
+    requires { IsTrue (table_fits handler_fits handlers.now) }
+    ensures { OnOk result (out.new.items ≡ out.old.items ++ table_bytes handler_bytes handlers.now) }
 {
     put_table(out, handlers)
 }
 
-pub(crate) fn handlers_right(handlers: &[HandlerDescription]) -> bool
-    ensures { result ≡ table_fits exception_fits (map handler_described handlers.now) }
+/// Whether there are so few handlers that their number fits.
+pub(crate) fn are_handlers(handlers: &[Handler]) -> bool
+    ensures { result ≡ table_fits handler_fits handlers.now }
 {
     table_right(handlers)
 }
 
 /// How many bytes attributes have, their count aside.
 pub(crate) fn attributes_length(attributes: &[AttributeDescription<'_>]) -> u64
-    requires { IsTrue (table_fits attribute_fits (map attribute_described attributes.now)) }
-    ensures length { result ≡ length (flat_map attribute_bytes (map attribute_described attributes.now)) }
+    requires { IsTrue (table_fits attribute_fits (map described_attribute attributes.now)) }
+    ensures length { result ≡ length (flat_map attribute_bytes (map described_attribute attributes.now)) }
     ensures small { result < 2 ^ 60 }
 {
     let mut total = 0;

@@ -1,11 +1,11 @@
 //! Writes code.
 
-ghost use Rattle.std.specs.Prelude.{◌≡◌, ◌++◌, ◌∷◌, [], ◌+◌, ◌-◌, ◌*◌, ◌%◌, ◌<◌, ◌≤◌, ◌↔◌, Err, IfOk, OnOk, true, length, replicate};
+ghost use Rattle.std.specs.Prelude.{◌≡◌, ◌++◌, ◌∷◌, [], ◌+◌, ◌-◌, ◌*◌, ◌%◌, ◌<◌, ◌≤◌, ◌↔◌, Err, IfOk, OnOk, ℤ, true, length, replicate};
 ghost use Rattle.std.specs.List.{flat_map};
 ghost use Rattle.jv_format.specs.Format.{byte, half, quad};
 ghost use Rattle.jv_code.specs.Numbers.{signed8, signed16, signed32};
 ghost use Rattle.jv_code.specs.Switches.{pair};
-ghost use Rattle.jv_asm.specs.Items.{zeros, table_switch_bytes, lookup_switch_bytes, item_bytes, items_bytes, IsCapped, ItemsAreCode};
+ghost use Rattle.jv_asm.specs.Items.{zeros, table_switch_bytes, lookup_switch_bytes, code_of_item, code_of_items, IsCapped, ItemsAreCode};
 ghost use Rattle.jv_asm.specs.declared.fault.AsmFault.TheVariants.{TooLarge};
 
 use crate::constant::{put_bits, put_index};
@@ -27,7 +27,11 @@ pub(crate) fn put_signed_quad(out: &mut Vec<u8>, number: i32) -> Result<(), Allo
 }
 
 impl Part for i32 {
-    ghost spelled = { signed32.spelling };
+    ghost Value = { ℤ };
+
+    ghost view = { λ z. z };
+
+    ghost bytes = { signed32.spelling };
 
     ghost fits = { λ _. true };
 
@@ -41,7 +45,11 @@ impl Part for i32 {
 }
 
 impl Part for (i32, i32) {
-    ghost spelled = { pair.spelling };
+    ghost Value = { ℤ × ℤ };
+
+    ghost view = { λ p. p };
+
+    ghost bytes = { pair.spelling };
 
     ghost fits = { λ _. true };
 
@@ -123,7 +131,7 @@ fn put_zeros(out: &mut Vec<u8>, count: usize) -> Result<(), AllocError>
 }
 
 /// The opcode of a switch, its padding and its default distance.
-pub(crate) fn put_switch(out: &mut Vec<u8>, opcode: u8, default: i32) -> Result<(), AllocError>
+fn put_switch(out: &mut Vec<u8>, opcode: u8, default: i32) -> Result<(), AllocError>
     ensures { OnOk result (out.new.items ≡ out.old.items
         ++ (opcode ∷ (zeros (length out.old.items) ++ signed32.spelling default))) }
 {
@@ -133,7 +141,7 @@ pub(crate) fn put_switch(out: &mut Vec<u8>, opcode: u8, default: i32) -> Result<
     put_signed_quad(out, default)
 }
 
-pub(crate) fn put_bounds(out: &mut Vec<u8>, low: i32, high: i32) -> Result<(), AllocError>
+fn put_bounds(out: &mut Vec<u8>, low: i32, high: i32) -> Result<(), AllocError>
     ensures { OnOk result (out.new.items ≡ out.old.items ++ (signed32.spelling low ++ signed32.spelling high)) }
 {
     put_signed_quad(out, low)?;
@@ -166,9 +174,9 @@ fn put_lookupswitch(out: &mut Vec<u8>, default: i32, pairs: &[(i32, i32)]) -> Re
 }
 
 /// An item behind those before it.
-pub(crate) fn put_item(out: &mut Vec<u8>, item: &Item<'_>) -> Result<(), AllocError>
-    requires { length (item_bytes (length out.old.items) item.now) < 65536 }
-    ensures { OnOk result (out.new.items ≡ out.old.items ++ item_bytes (length out.old.items) item.now) }
+pub fn put_item(out: &mut Vec<u8>, item: &Item<'_>) -> Result<(), AllocError>
+    requires { length (code_of_item (length out.old.items) item.now) < 65536 }
+    ensures { OnOk result (out.new.items ≡ out.old.items ++ code_of_item (length out.old.items) item.now) }
 {
     match *item {
         Item::Plain(opcode) => Ok(out.push(opcode)?),
@@ -190,7 +198,7 @@ pub(crate) fn put_item(out: &mut Vec<u8>, item: &Item<'_>) -> Result<(), AllocEr
 }
 
 /// The size of a `tableswitch` at an offset, by the number of its distances.
-pub(crate) fn tableswitch_size(at: u64, count: usize) -> u64
+pub fn tableswitch_size(at: u64, count: usize) -> u64
     ensures size { IsCapped (16 - at % 4 + 4 * count) result }
     ensures small { result < 1000000 }
 {
@@ -198,7 +206,7 @@ pub(crate) fn tableswitch_size(at: u64, count: usize) -> u64
 }
 
 /// The size of a `lookupswitch` at an offset, by the number of its pairs.
-pub(crate) fn lookupswitch_size(at: u64, count: usize) -> u64
+pub fn lookupswitch_size(at: u64, count: usize) -> u64
     ensures size { IsCapped (12 - at % 4 + 8 * count) result }
     ensures small { result < 1000000 }
 {
@@ -206,8 +214,8 @@ pub(crate) fn lookupswitch_size(at: u64, count: usize) -> u64
 }
 
 /// The size of an item at an offset; 65,536 or more stands for any size from there.
-pub(crate) fn item_size(at: u64, item: &Item<'_>) -> u64
-    ensures size { IsCapped (length (item_bytes at item.now)) result }
+pub fn item_size(at: u64, item: &Item<'_>) -> u64
+    ensures size { IsCapped (length (code_of_item at item.now)) result }
     ensures small { result < 1000000 }
 {
     match *item {
@@ -229,7 +237,7 @@ pub(crate) fn item_size(at: u64, item: &Item<'_>) -> u64
 
 /// The size of items; 65,536 stands for any size from there.
 fn items_size(items: &[Item<'_>]) -> u64
-    ensures { IsCapped (length (items_bytes 0 items.now)) result }
+    ensures { IsCapped (length (code_of_items 0 items.now)) result }
 {
     let mut at = 0;
     for item in items {
@@ -243,8 +251,8 @@ fn items_size(items: &[Item<'_>]) -> u64
 
 /// The bytes of items whose size is at most 65,535.
 fn written(alloc: Global, items: &[Item<'_>]) -> Result<Vec<u8>, AllocError>
-    requires { length (items_bytes 0 items.now) < 65536 }
-    ensures { IfOk result (λ code. code.items ≡ items_bytes 0 items.now) }
+    requires { length (code_of_items 0 items.now) < 65536 }
+    ensures { IfOk result (λ code. code.items ≡ code_of_items 0 items.now) }
 {
     let mut out = Vec::new(alloc);
     for item in items {
@@ -260,9 +268,9 @@ fn written(alloc: Global, items: &[Item<'_>]) -> Result<Vec<u8>, AllocError>
 /// `TooLarge` exactly where there are more than 65,535 bytes, `Memory` where the host's memory was
 /// refused.
 pub fn write_code(alloc: Global, items: &[Item<'_>]) -> Result<Vec<u8>, AsmFault>
-    ensures ok { IfOk result (λ code. code.items ≡ items_bytes 0 items.now) }
+    ensures ok { IfOk result (λ code. code.items ≡ code_of_items 0 items.now) }
     ensures few { IfOk result (λ code. length code.items ≤ 65535) }
-    ensures too_large { (result ≡ Err TooLarge) ↔ (65535 < length (items_bytes 0 items.now)) }
+    ensures too_large { (result ≡ Err TooLarge) ↔ (65535 < length (code_of_items 0 items.now)) }
 {
     if items_size(items) > 65535 {
         return Err(AsmFault::TooLarge);

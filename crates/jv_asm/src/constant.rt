@@ -2,7 +2,7 @@
 
 ghost use Rattle.std.specs.Prelude.{◌≡◌, ◌++◌, ◌∷◌, ◌<◌, ◌&&◌, OnOk, length};
 ghost use Rattle.jv_format.specs.Format.{byte, half, quad, text};
-ghost use Rattle.jv_pool.specs.Constants.{constant_bytes, constant_fits};
+ghost use Rattle.jv_pool.specs.Constants.{Entry, constant_bytes, constant_fits, entries_of};
 ghost use Rattle.jv_pool.specs.Seen.{seen};
 
 use crate::part::{Part, half_right, halves_right, put_half, put_quad};
@@ -36,7 +36,7 @@ fn put_long_bits(out: &mut Vec<u8>, tag: u8, high: u32, low: u32) -> Result<(), 
 }
 
 /// An index behind a tag.
-pub(crate) fn put_index(out: &mut Vec<u8>, tag: u8, index: u16) -> Result<(), AllocError>
+pub fn put_index(out: &mut Vec<u8>, tag: u8, index: u16) -> Result<(), AllocError>
     ensures { OnOk result (out.new.items ≡ out.old.items ++ (tag ∷ half.spelling index)) }
 {
     out.push(tag)?;
@@ -79,9 +79,13 @@ fn quads_right(first: u32, second: u32) -> bool
 }
 
 impl Part for Constant<&[u8]> {
-    ghost spelled = { λ c. constant_bytes (seen c) };
+    ghost Value = { Entry };
 
-    ghost fits = { λ c. constant_fits (seen c) };
+    ghost view = { seen };
+
+    ghost bytes = { constant_bytes };
+
+    ghost fits = { constant_fits };
 
     fn put(&self, out: &mut Vec<u8>) -> Result<(), AllocError> {
         match *self {
@@ -119,5 +123,24 @@ impl Part for Constant<&[u8]> {
             Constant::MethodType(descriptor) => half_right(descriptor),
             Constant::InvokeDynamic(bootstrap, member) => halves_right(bootstrap, member),
         }
+    }
+}
+
+/// Whether the numbers of a constant fit their fields: all but a text with more than 65,535 bytes
+/// do.
+pub fn constant_is_right(constant: &Constant<&[u8]>) -> bool
+    ensures { result ≡ constant_fits (seen constant.now) }
+{
+    constant.is_right()
+}
+
+/// How many entries of the table a constant takes (4.4.5).
+pub fn entries(constant: &Constant<&[u8]>) -> u64
+    ensures { result ≡ length (entries_of (seen constant.now)) }
+{
+    match constant {
+        Constant::Long(_, _) => 2,
+        Constant::Double(_, _) => 2,
+        _ => 1,
     }
 }

@@ -3,6 +3,7 @@
 //! Numbers and indices are as they stand in the file; counts and lengths are those of the lists.
 //! `specs/Description.antt` says which structure of `jv_class_parts` a description stands for.
 
+use jv_format::Handler;
 use jv_pool::Constant;
 
 /// An attribute: the index of its name, and its contents (4.7).
@@ -12,23 +13,13 @@ pub struct AttributeDescription<'a> {
     pub info: &'a [u8],
 }
 
-/// An entry of an exception table (4.7.3).
-#[derive(Clone, Copy)]
-pub struct HandlerDescription {
-    pub start_pc: u16,
-    pub end_pc: u16,
-    pub handler_pc: u16,
-    /// The index of a class; 0 for every class.
-    pub catch_type: u16,
-}
-
 /// What a Code attribute holds (4.7.3).
 #[derive(Clone, Copy)]
 pub struct CodeDescription<'a> {
     pub max_stack: u16,
     pub max_locals: u16,
     pub code: &'a [u8],
-    pub exception_table: &'a [HandlerDescription],
+    pub exception_table: &'a [Handler],
     pub attributes: &'a [AttributeDescription<'a>],
 }
 

@@ -4,6 +4,7 @@ ghost use Rattle.std.specs.Prelude.{◌≡◌};
 ghost use Rattle.jv_asm.specs.declared.fault.AsmFault.TheVariants.{Memory};
 
 use std::alloc::{AllocError, AllocFailed};
+use std::fmt;
 
 /// Why nothing was written, the first that applies.
 #[derive(Clone, Copy, Debug)]
@@ -12,6 +13,15 @@ pub enum AsmFault {
     TooLarge,
     /// The host's memory was refused.
     Memory,
+}
+
+impl fmt::Display for AsmFault {
+    fn fmt<W: fmt::Write>(&self, f: &mut fmt::Formatter<W>) -> fmt::Result {
+        f.write_str(match self {
+            AsmFault::TooLarge => "too large",
+            AsmFault::Memory => "out of memory",
+        })
+    }
 }
 
 impl From<AllocError> for AsmFault {

@@ -2,15 +2,12 @@
 //! instructions.
 //!
 //! [`write_class`] writes the bytes that `jv_class_parts` defines for a structure, and
-//! [`write_code`] those that an instruction's operands spell. [`ClassBuilder`] puts a structure
-//! together, with constants found or added by value and labels in its code, and writes it alike.
+//! [`write_code`] those that an instruction's operands spell. `jv_asm_builder` puts structures and
+//! code together by calls.
 #![tactic(auto)]
 
 mod attribute;
-mod built;
-mod class_builder;
 mod code;
-mod code_builder;
 mod constant;
 mod description;
 mod fault;
@@ -18,21 +15,21 @@ mod item;
 mod law;
 mod member;
 mod part;
-mod pool_builder;
-mod step;
-mod targets;
 mod writer;
 
-pub use class_builder::{ClassBuilder, MethodBuilder};
-pub use code::{items_are_code, write_code};
-pub use code_builder::CodeBuilder;
+pub use code::{
+    item_size, items_are_code, lookupswitch_size, put_item, tableswitch_size, write_code,
+};
+pub use constant::{constant_is_right, entries, put_index};
 pub use description::{
-    AttributeDescription, CodeDescription, Description, FieldDescription, HandlerDescription,
+    AttributeDescription, CodeDescription, Description, FieldDescription,
     MethodAttributeDescription, MethodDescription,
 };
 pub use fault::AsmFault;
 pub use item::Item;
+pub use jv_format::Handler;
 pub use jv_pool::Constant;
-pub use law::{indices_name, written_reads_back};
-pub use step::Label;
-pub use writer::write_class;
+pub use law::written_reads_back;
+pub use member::Method;
+pub use part::put_half;
+pub use writer::{write_class, write_class_with};

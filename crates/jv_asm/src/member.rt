@@ -1,13 +1,13 @@
 //! Fields, methods and their code (JVMS 4.5, 4.6, 4.7.3).
 
 ghost use Rattle.std.specs.Prelude.{◌≡◌, ◌++◌, ◌<◌, ◌&&◌, OnOk, IsTrue, length, map};
+ghost use Rattle.std.specs.List.{list_all};
 ghost use Rattle.jv_format.specs.Format.{half, quad};
-ghost use Rattle.jv_class_parts.specs.Structure.{contents_bytes, table_bytes, table_fits, attribute_bytes, attribute_fits, code_bytes, code_fits, method_attribute_bytes, method_attribute_fits, field_bytes, field_fits, method_bytes, method_fits};
-ghost use Rattle.jv_asm.specs.Description.{attribute_described, code_described, method_attribute_described, field_described, method_described};
+ghost use Rattle.jv_class_parts.specs.Structure.{FieldInfo, MethodInfo, MethodAttribute, contents_bytes, table_bytes, table_fits, attribute_bytes, attribute_fits, code_bytes, code_fits, method_attribute_bytes, method_attribute_fits, field_bytes, field_fits, method_bytes, method_fits};
+ghost use Rattle.jv_asm.specs.Description.{described_attribute, described_code, described_method_attribute, described_field, described_method};
 
 use crate::attribute::{
-    attributes_length, attributes_right, contents_right, handlers_right, put_attributes,
-    put_contents, put_handlers,
+    are_handlers, attributes_length, contents_right, put_contents, put_handlers,
 };
 use crate::description::{
     AttributeDescription, CodeDescription, FieldDescription, MethodAttributeDescription,
@@ -31,27 +31,27 @@ fn put_instructions(out: &mut Vec<u8>, code: &CodeDescription<'_>) -> Result<(),
 
 /// What a Code attribute holds.
 fn put_code(out: &mut Vec<u8>, code: &CodeDescription<'_>) -> Result<(), AllocError>
-    requires { IsTrue (code_fits (code_described code.now)) }
-    ensures { OnOk result (out.new.items ≡ out.old.items ++ code_bytes (code_described code.now)) }
+    requires { IsTrue (code_fits (described_code code.now)) }
+    ensures { OnOk result (out.new.items ≡ out.old.items ++ code_bytes (described_code code.now)) }
 {
     put_instructions(out, code)?;
     put_handlers(out, code.exception_table)?;
-    put_attributes(out, code.attributes)
+    put_table(out, code.attributes)
 }
 
 fn code_right(code: &CodeDescription<'_>) -> bool
-    ensures { result ≡ code_fits (code_described code.now) }
+    ensures { result ≡ code_fits (described_code code.now) }
 {
     halves_right(code.max_stack, code.max_locals)
         && contents_right(code.code)
-        && handlers_right(code.exception_table)
-        && attributes_right(code.attributes)
+        && are_handlers(code.exception_table)
+        && table_right(code.attributes)
 }
 
 /// How many bytes a Code attribute holds.
 fn code_length(code: &CodeDescription<'_>) -> u64
-    requires { IsTrue (code_fits (code_described code.now)) }
-    ensures { result ≡ length (code_bytes (code_described code.now)) }
+    requires { IsTrue (code_fits (described_code code.now)) }
+    ensures { result ≡ length (code_bytes (described_code code.now)) }
 {
     12 + code.code.len() as u64
         + 8 * code.exception_table.len() as u64
@@ -60,7 +60,7 @@ fn code_length(code: &CodeDescription<'_>) -> u64
 
 /// Whether the numbers of a Code attribute fit, that of its bytes among them.
 pub(crate) fn whole_code_right(code: &CodeDescription<'_>) -> bool
-    ensures { result ≡ (quad.fits (length (code_bytes (code_described code.now))) && code_fits (code_described code.now)) }
+    ensures { result ≡ (quad.fits (length (code_bytes (described_code code.now))) && code_fits (described_code code.now)) }
 {
     code_right(code) && code_length(code) < 4_294_967_296
 }
@@ -71,10 +71,10 @@ pub(crate) fn put_named_code(
     name: u16,
     code: &CodeDescription<'_>,
 ) -> Result<(), AllocError>
-    requires length { IsTrue (quad.fits (length (code_bytes (code_described code.now)))) }
-    requires fits { IsTrue (code_fits (code_described code.now)) }
+    requires length { IsTrue (quad.fits (length (code_bytes (described_code code.now)))) }
+    requires fits { IsTrue (code_fits (described_code code.now)) }
     ensures { OnOk result (out.new.items ≡ out.old.items
-        ++ (half.spelling name ++ contents_bytes (code_bytes (code_described code.now)))) }
+        ++ (half.spelling name ++ contents_bytes (code_bytes (described_code code.now)))) }
 {
     put_half(out, name)?;
     put_quad(out, code_length(code) as u32)?;
@@ -82,9 +82,13 @@ pub(crate) fn put_named_code(
 }
 
 impl Part for MethodAttributeDescription<'_> {
-    ghost spelled = { λ a. method_attribute_bytes (method_attribute_described a) };
+    ghost Value = { MethodAttribute };
 
-    ghost fits = { λ a. method_attribute_fits (method_attribute_described a) };
+    ghost view = { described_method_attribute };
+
+    ghost bytes = { method_attribute_bytes };
+
+    ghost fits = { method_attribute_fits };
 
     fn put(&self, out: &mut Vec<u8>) -> Result<(), AllocError> {
         match self {
@@ -103,48 +107,14 @@ impl Part for MethodAttributeDescription<'_> {
     }
 }
 
-fn put_method_attributes(
-    out: &mut Vec<u8>,
-    method_attributes: &[MethodAttributeDescription<'_>],
-) -> Result<(), AllocError>
-    requires { IsTrue (table_fits method_attribute_fits (map method_attribute_described method_attributes.now)) }
-    ensures { OnOk result (out.new.items ≡ out.old.items ++ table_bytes method_attribute_bytes (map method_attribute_described method_attributes.now)) }
-{
-    put_table(out, method_attributes)
-}
-
-fn method_attributes_right(method_attributes: &[MethodAttributeDescription<'_>]) -> bool
-    ensures { result ≡ table_fits method_attribute_fits (map method_attribute_described method_attributes.now) }
-{
-    table_right(method_attributes)
-}
-
 impl Part for FieldDescription<'_> {
-    ghost spelled = { λ f. field_bytes (field_described f) };
+    ghost Value = { FieldInfo };
 
-    ghost fits = { λ f. field_fits (field_described f) };
+    ghost view = { described_field };
 
-    fn put(&self, out: &mut Vec<u8>) -> Result<(), AllocError> {
-        put_three(
-            out,
-            self.access_flags,
-            self.name_index,
-            self.descriptor_index,
-        )?;
-        put_attributes(out, self.attributes)
-    }
+    ghost bytes = { field_bytes };
 
-    fn is_right(&self) -> bool {
-        halves_right(self.access_flags, self.name_index)
-            && half_right(self.descriptor_index)
-            && attributes_right(self.attributes)
-    }
-}
-
-impl Part for MethodDescription<'_> {
-    ghost spelled = { λ m. method_bytes (method_described m) };
-
-    ghost fits = { λ m. method_fits (method_described m) };
+    ghost fits = { field_fits };
 
     fn put(&self, out: &mut Vec<u8>) -> Result<(), AllocError> {
         put_three(
@@ -153,44 +123,76 @@ impl Part for MethodDescription<'_> {
             self.name_index,
             self.descriptor_index,
         )?;
-        put_method_attributes(out, self.attributes)
+        put_table(out, self.attributes)
     }
 
     fn is_right(&self) -> bool {
         halves_right(self.access_flags, self.name_index)
             && half_right(self.descriptor_index)
-            && method_attributes_right(self.attributes)
+            && table_right(self.attributes)
     }
 }
 
-pub(crate) fn put_fields(
-    out: &mut Vec<u8>,
-    fields: &[FieldDescription<'_>],
-) -> Result<(), AllocError>
-    requires { IsTrue (table_fits field_fits (map field_described fields.now)) }
-    ensures { OnOk result (out.new.items ≡ out.old.items ++ table_bytes field_bytes (map field_described fields.now)) }
-{
-    put_table(out, fields)
+/// A method of a class file, however it is kept.
+pub trait Method {
+    /// What it is in a class structure (4.6).
+    ghost method: { Self → MethodInfo };
+
+    /// Writes the method behind what there is.
+    fn put(&self, out: &mut Vec<u8>) -> Result<(), AllocError>
+        requires { IsTrue (method_fits (method self.now)) }
+        ensures { OnOk result (out.new.items ≡ out.old.items ++ method_bytes (method self.now)) };
+
+    /// Whether its counts and lengths fit their fields.
+    fn is_right(&self) -> bool
+        ensures { result ≡ method_fits (method self.now) };
 }
 
-pub(crate) fn fields_right(fields: &[FieldDescription<'_>]) -> bool
-    ensures { result ≡ table_fits field_fits (map field_described fields.now) }
-{
-    table_right(fields)
+impl Method for MethodDescription<'_> {
+    ghost method = { described_method };
+
+    fn put(&self, out: &mut Vec<u8>) -> Result<(), AllocError> {
+        put_three(
+            out,
+            self.access_flags,
+            self.name_index,
+            self.descriptor_index,
+        )?;
+        put_table(out, self.attributes)
+    }
+
+    fn is_right(&self) -> bool {
+        halves_right(self.access_flags, self.name_index)
+            && half_right(self.descriptor_index)
+            && table_right(self.attributes)
+    }
 }
 
-pub(crate) fn put_methods(
-    out: &mut Vec<u8>,
-    methods: &[MethodDescription<'_>],
-) -> Result<(), AllocError>
-    requires { IsTrue (table_fits method_fits (map method_described methods.now)) }
-    ensures { OnOk result (out.new.items ≡ out.old.items ++ table_bytes method_bytes (map method_described methods.now)) }
+/// How many methods there are, and the methods.
+pub(crate) fn put_methods<M: Method>(out: &mut Vec<u8>, methods: &[M]) -> Result<(), AllocError>
+    requires { IsTrue (table_fits method_fits (map M.method methods.now)) }
+    ensures { OnOk result (out.new.items ≡ out.old.items ++ table_bytes method_bytes (map M.method methods.now)) }
 {
-    put_table(out, methods)
+    put_half(out, methods.len() as u16)?;
+    for method in methods {
+        method.put(out)?;
+    }
+    Ok(())
 }
 
-pub(crate) fn methods_right(methods: &[MethodDescription<'_>]) -> bool
-    ensures { result ≡ table_fits method_fits (map method_described methods.now) }
+fn all_methods_right<M: Method>(methods: &[M]) -> bool
+    ensures { result ≡ list_all method_fits (map M.method methods.now) }
 {
-    table_right(methods)
+    for method in methods {
+        if !method.is_right() {
+            return false;
+        }
+    }
+    true
+}
+
+pub(crate) fn methods_right<M: Method>(methods: &[M]) -> bool
+    ensures { result ≡ table_fits method_fits (map M.method methods.now) }
+{
+    methods.len() < 65536 && all_methods_right(methods)
 }

@@ -1,32 +1,44 @@
 //! What stands in a table: writing it at the end of bytes, and whether its numbers fit.
 
-ghost use Rattle.std.specs.Prelude.{◌≡◌, ◌++◌, ◌<◌, ◌&&◌, ℕ, Bool, List, OnOk, IsTrue, length};
+ghost use Rattle.std.specs.Prelude.{◌≡◌, ◌++◌, ◌<◌, ◌&&◌, ℕ, Bool, List, OnOk, IsTrue, length, map};
 ghost use Rattle.std.specs.List.{flat_map, list_all};
 ghost use Rattle.jv_format.specs.Format.{half, quad};
-ghost use Rattle.jv_class_parts.specs.Structure.{table_fits};
+ghost use Rattle.jv_class_parts.specs.Structure.{table_bytes, table_fits};
 
+use byteorder::{BigEndian, ByteOrder};
+use jv_format::are_big_endian;
 use std::alloc::AllocError;
 
 /// A part of a class file.
 pub(crate) trait Part {
-    /// The bytes of a part.
-    ghost spelled: { Self → List ℕ };
+    /// What it is a value of in a class structure.
+    ghost Value: { Type 0 };
+
+    /// Its value there.
+    ghost view: { Self → Value };
+
+    /// The bytes of such a value.
+    ghost bytes: { Value → List ℕ };
 
     /// Whether its counts and lengths fit their fields.
-    ghost fits: { Self → Bool };
+    ghost fits: { Value → Bool };
 
     /// Writes a part behind what there is.
     fn put(&self, out: &mut Vec<u8>) -> Result<(), AllocError>
-        requires { IsTrue (fits self.now) }
-        ensures { OnOk result (out.new.items ≡ out.old.items ++ spelled self.now) };
+        requires { IsTrue (fits (view self.now)) }
+        ensures { OnOk result (out.new.items ≡ out.old.items ++ bytes (view self.now)) };
 
     /// Whether its counts and lengths fit their fields.
     fn is_right(&self) -> bool
-        ensures { result ≡ fits self.now };
+        ensures { result ≡ fits (view self.now) };
 }
 
 impl Part for u16 {
-    ghost spelled = { half.spelling };
+    ghost Value = { ℕ };
+
+    ghost view = { λ n. n };
+
+    ghost bytes = { half.spelling };
 
     ghost fits = { half.fits };
 
@@ -52,19 +64,23 @@ pub(crate) fn halves_right(first: u16, second: u16) -> bool
     half_right(first) && half_right(second)
 }
 
-pub(crate) fn put_half(out: &mut Vec<u8>, number: u16) -> Result<(), AllocError>
+/// A number in two bytes.
+pub fn put_half(out: &mut Vec<u8>, number: u16) -> Result<(), AllocError>
     ensures { OnOk result (out.new.items ≡ out.old.items ++ half.spelling number) }
 {
-    out.push((number / 256) as u8)?;
-    out.push((number % 256) as u8)?;
-    Ok(())
+    are_big_endian();
+    let mut bytes = [0; 2];
+    BigEndian::write_u16(&mut bytes, number);
+    out.extend_from_slice(&bytes)
 }
 
 pub(crate) fn put_quad(out: &mut Vec<u8>, number: u32) -> Result<(), AllocError>
     ensures { OnOk result (out.new.items ≡ out.old.items ++ quad.spelling number) }
 {
-    put_half(out, (number / 65536) as u16)?;
-    put_half(out, (number % 65536) as u16)
+    are_big_endian();
+    let mut bytes = [0; 4];
+    BigEndian::write_u32(&mut bytes, number);
+    out.extend_from_slice(&bytes)
 }
 
 pub(crate) fn put_three(
@@ -82,8 +98,8 @@ pub(crate) fn put_three(
 
 /// Parts, one after the other.
 pub(crate) fn put_all<T: Part>(out: &mut Vec<u8>, items: &[T]) -> Result<(), AllocError>
-    requires { IsTrue (list_all T.fits items.now) }
-    ensures { OnOk result (out.new.items ≡ out.old.items ++ flat_map T.spelled items.now) }
+    requires { IsTrue (list_all T.fits (map T.view items.now)) }
+    ensures { OnOk result (out.new.items ≡ out.old.items ++ flat_map T.bytes (map T.view items.now)) }
 {
     for item in items {
         item.put(out)?;
@@ -93,8 +109,8 @@ pub(crate) fn put_all<T: Part>(out: &mut Vec<u8>, items: &[T]) -> Result<(), All
 
 /// How many parts there are, and the parts.
 pub(crate) fn put_table<T: Part>(out: &mut Vec<u8>, items: &[T]) -> Result<(), AllocError>
-    requires { IsTrue (table_fits T.fits items.now) }
-    ensures { OnOk result (out.new.items ≡ out.old.items ++ (half.spelling (length items.now) ++ flat_map T.spelled items.now)) }
+    requires { IsTrue (table_fits T.fits (map T.view items.now)) }
+    ensures { OnOk result (out.new.items ≡ out.old.items ++ table_bytes T.bytes (map T.view items.now)) }
 {
     put_half(out, items.len() as u16)?;
     put_all(out, items)
@@ -102,7 +118,7 @@ pub(crate) fn put_table<T: Part>(out: &mut Vec<u8>, items: &[T]) -> Result<(), A
 
 /// Whether the numbers of all parts fit.
 pub(crate) fn all_right<T: Part>(items: &[T]) -> bool
-    ensures { result ≡ list_all T.fits items.now }
+    ensures { result ≡ list_all T.fits (map T.view items.now) }
 {
     for item in items {
         if !item.is_right() {
@@ -114,7 +130,22 @@ pub(crate) fn all_right<T: Part>(items: &[T]) -> bool
 
 /// Whether there are so few parts that their number fits, and their numbers fit.
 pub(crate) fn table_right<T: Part>(items: &[T]) -> bool
-    ensures { result ≡ table_fits T.fits items.now }
+    ensures { result ≡ table_fits T.fits (map T.view items.now) }
 {
     items.len() < 65536 && all_right(items)
+}
+
+/// How many numbers there are, and the numbers.
+pub(crate) fn put_halves(out: &mut Vec<u8>, numbers: &[u16]) -> Result<(), AllocError>
+    requires { IsTrue (table_fits half.fits numbers.now) }
+    ensures { OnOk result (out.new.items ≡ out.old.items ++ table_bytes half.spelling numbers.now) }
+{
+    put_table(out, numbers)
+}
+
+/// Whether there are so few numbers that their number fits.
+pub(crate) fn are_halves(numbers: &[u16]) -> bool
+    ensures { result ≡ table_fits half.fits numbers.now }
+{
+    table_right(numbers)
 }

@@ -6,28 +6,20 @@ ghost use Rattle.jv_format.specs.Format.{half};
 ghost use Rattle.jv_pool.specs.Constants.{entries_of, pool_count, pool_bytes, pool_fits, constant_bytes, constant_fits};
 ghost use Rattle.jv_pool.specs.Seen.{seen};
 ghost use Rattle.jv_class_parts.specs.Structure.{magic, table_bytes, table_fits, body_bytes, body_fits, class_bytes};
-ghost use Rattle.jv_asm.specs.Description.{described};
+ghost use Rattle.jv_asm.specs.Description.{described_class, with_methods};
 ghost use Rattle.jv_asm.specs.Fits.{IsFit};
 ghost use Rattle.jv_asm.specs.declared.fault.AsmFault.TheVariants.{TooLarge};
 
-use crate::attribute::{attributes_right, put_attributes};
+use crate::constant::entries;
 use crate::description::Description;
 use crate::fault::AsmFault;
-use crate::member::{fields_right, methods_right, put_fields, put_methods};
-use crate::part::{all_right, half_right, halves_right, put_all, put_half, put_table, table_right};
+use crate::member::{Method, methods_right, put_methods};
+use crate::part::{
+    all_right, are_halves, half_right, halves_right, put_all, put_half, put_halves, put_table,
+    table_right,
+};
 use jv_pool::Constant;
 use std::alloc::{AllocError, Global};
-
-/// How many entries of the table a constant takes (4.4.5).
-pub(crate) fn entries(constant: &Constant<&[u8]>) -> u64
-    ensures { result ≡ length (entries_of (seen constant.now)) }
-{
-    match constant {
-        Constant::Long(_, _) => 2,
-        Constant::Double(_, _) => 2,
-        _ => 1,
-    }
-}
 
 /// One more than the entries of the table (4.1), or 65,536 where there are more than that.
 fn count_of(pool: &[Constant<&[u8]>]) -> u64
@@ -44,34 +36,21 @@ fn count_of(pool: &[Constant<&[u8]>]) -> u64
     count
 }
 
-fn constants_right(pool: &[Constant<&[u8]>]) -> bool
-    ensures { result ≡ list_all constant_fits (map seen pool.now) }
-{
-    all_right(pool)
-}
-
-pub(crate) fn put_constants(out: &mut Vec<u8>, pool: &[Constant<&[u8]>]) -> Result<(), AllocError>
-    requires { IsTrue (list_all constant_fits (map seen pool.now)) }
-    ensures { OnOk result (out.new.items ≡ out.old.items ++ flat_map constant_bytes (map seen pool.now)) }
-{
-    put_all(out, pool)
-}
-
 fn pool_right(pool: &[Constant<&[u8]>]) -> bool
     ensures { result ≡ pool_fits (map seen pool.now) }
 {
-    count_of(pool) < 65536 && constants_right(pool)
+    count_of(pool) < 65536 && all_right(pool)
 }
 
-fn body_right(description: &Description<'_>) -> bool
-    ensures { result ≡ body_fits (described description.now) }
+fn body_right<M: Method>(description: &Description<'_>, methods: &[M]) -> bool
+    ensures { result ≡ body_fits (with_methods (described_class description.now) (map M.method methods.now)) }
 {
     halves_right(description.access_flags, description.this_class)
         && half_right(description.super_class)
-        && table_right(description.interfaces)
-        && fields_right(description.fields)
-        && methods_right(description.methods)
-        && attributes_right(description.attributes)
+        && are_halves(description.interfaces)
+        && table_right(description.fields)
+        && methods_right(methods)
+        && table_right(description.attributes)
 }
 
 /// What stands before the fields, the pool aside.
@@ -90,13 +69,17 @@ pub(crate) fn put_names(
     put_half(out, access_flags)?;
     put_half(out, this_class)?;
     put_half(out, super_class)?;
-    put_table(out, interfaces)
+    put_halves(out, interfaces)
 }
 
 /// What stands behind the pool.
-fn put_body(out: &mut Vec<u8>, description: &Description<'_>) -> Result<(), AllocError>
-    requires { IsTrue (body_fits (described description.now)) }
-    ensures { OnOk result (out.new.items ≡ out.old.items ++ body_bytes (described description.now)) }
+fn put_body<M: Method>(
+    out: &mut Vec<u8>,
+    description: &Description<'_>,
+    methods: &[M],
+) -> Result<(), AllocError>
+    requires { IsTrue (body_fits (with_methods (described_class description.now) (map M.method methods.now))) }
+    ensures { OnOk result (out.new.items ≡ out.old.items ++ body_bytes (with_methods (described_class description.now) (map M.method methods.now))) }
 {
     put_names(
         out,
@@ -105,9 +88,9 @@ fn put_body(out: &mut Vec<u8>, description: &Description<'_>) -> Result<(), Allo
         description.super_class,
         description.interfaces,
     )?;
-    put_fields(out, description.fields)?;
-    put_methods(out, description.methods)?;
-    put_attributes(out, description.attributes)
+    put_table(out, description.fields)?;
+    put_methods(out, methods)?;
+    put_table(out, description.attributes)
 }
 
 /// The pool behind its count.
@@ -116,7 +99,7 @@ fn put_pool(out: &mut Vec<u8>, pool: &[Constant<&[u8]>]) -> Result<(), AllocErro
     ensures { OnOk result (out.new.items ≡ out.old.items ++ pool_bytes (map seen pool.now)) }
 {
     put_half(out, count_of(pool) as u16)?;
-    put_constants(out, pool)
+    put_all(out, pool)
 }
 
 /// What stands before the pool.
@@ -129,16 +112,20 @@ pub(crate) fn put_header(out: &mut Vec<u8>, minor: u16, major: u16) -> Result<()
 }
 
 /// Whether all counts and lengths fit their fields.
-fn is_fit(description: &Description<'_>) -> bool
-    ensures { IsTrue result ↔ IsFit (described description.now) }
+fn is_fit<M: Method>(description: &Description<'_>, methods: &[M]) -> bool
+    ensures { IsTrue result ↔ IsFit (with_methods (described_class description.now) (map M.method methods.now)) }
 {
-    pool_right(description.constant_pool) && body_right(description)
+    pool_right(description.constant_pool) && body_right(description, methods)
 }
 
 /// The bytes of a class file whose numbers fit.
-fn written(alloc: Global, description: &Description<'_>) -> Result<Vec<u8>, AllocError>
-    requires { IsFit (described description.now) }
-    ensures { IfOk result (λ bytes. bytes.items ≡ class_bytes (described description.now)) }
+fn written<M: Method>(
+    alloc: Global,
+    description: &Description<'_>,
+    methods: &[M],
+) -> Result<Vec<u8>, AllocError>
+    requires { IsFit (with_methods (described_class description.now) (map M.method methods.now)) }
+    ensures { IfOk result (λ bytes. bytes.items ≡ class_bytes (with_methods (described_class description.now) (map M.method methods.now))) }
 {
     let mut out = Vec::new(alloc);
     put_header(
@@ -147,8 +134,31 @@ fn written(alloc: Global, description: &Description<'_>) -> Result<Vec<u8>, Allo
         description.major_version,
     )?;
     put_pool(&mut out, description.constant_pool)?;
-    put_body(&mut out, description)?;
+    put_body(&mut out, description, methods)?;
     Ok(out)
+}
+
+/// The bytes of the class file that a description stands for (4.1), with these methods in place of
+/// its own.
+///
+/// # Errors
+///
+/// `TooLarge` exactly where a count or a length does not fit its field, `Memory` where the host's
+/// memory was refused.
+pub fn write_class_with<M: Method>(
+    alloc: Global,
+    description: &Description<'_>,
+    methods: &[M],
+) -> Result<Vec<u8>, AsmFault>
+    ensures ok { IfOk result (λ bytes. bytes.items ≡ class_bytes (with_methods (described_class description.now) (map M.method methods.now))) }
+    ensures fits { IsOk result → IsFit (with_methods (described_class description.now) (map M.method methods.now)) }
+    ensures too_large { (result ≡ Err TooLarge) ↔ ¬ IsFit (with_methods (described_class description.now) (map M.method methods.now)) }
+{
+    if !is_fit(description, methods) {
+        return Err(AsmFault::TooLarge);
+    }
+    let bytes = written(alloc, description, methods)?;
+    Ok(bytes)
 }
 
 /// The bytes of the class file that a description stands for (4.1).
@@ -158,13 +168,9 @@ fn written(alloc: Global, description: &Description<'_>) -> Result<Vec<u8>, Allo
 /// `TooLarge` exactly where a count or a length does not fit its field, `Memory` where the host's
 /// memory was refused.
 pub fn write_class(alloc: Global, description: &Description<'_>) -> Result<Vec<u8>, AsmFault>
-    ensures ok { IfOk result (λ bytes. bytes.items ≡ class_bytes (described description.now)) }
-    ensures fits { IsOk result → IsFit (described description.now) }
-    ensures too_large { (result ≡ Err TooLarge) ↔ ¬ IsFit (described description.now) }
+    ensures ok { IfOk result (λ bytes. bytes.items ≡ class_bytes (described_class description.now)) }
+    ensures fits { IsOk result → IsFit (described_class description.now) }
+    ensures too_large { (result ≡ Err TooLarge) ↔ ¬ IsFit (described_class description.now) }
 {
-    if !is_fit(description) {
-        return Err(AsmFault::TooLarge);
-    }
-    let bytes = written(alloc, description)?;
-    Ok(bytes)
+    write_class_with(alloc, description, description.methods)
 }

@@ -1,6 +1,11 @@
 //! The builders.
 
-use jv_asm::{AsmFault, ClassBuilder, CodeBuilder, Constant, Item, indices_name};
+use crate::shown::is_shown;
+use jv_asm_builder::{
+    AsmFault, BuilderFault, ClassBuilder, ClassFlags, CodeBuilder, Constant, FieldFlags, Item,
+    MethodFlags, Op, indices_name,
+};
+use std::alloc::Global;
 use std::test::Fail;
 
 #[test]
@@ -8,7 +13,7 @@ fn law() {
     indices_name();
 }
 
-/// The bytes of code, or none.
+/// Whether code has these bytes.
 fn has_code(code: &CodeBuilder<'_>, bytes: &[u8]) -> bool {
     match code.code() {
         Ok(written) => written.as_slice() == bytes,
@@ -16,74 +21,117 @@ fn has_code(code: &CodeBuilder<'_>, bytes: &[u8]) -> bool {
     }
 }
 
-#[test]
-fn labels(rt: HostRuntime) -> Result<(), Fail> {
-    let mut code = CodeBuilder::new(rt.alloc());
+/// Branches over a switch as it is spelled, with a handler.
+fn put_branches(code: &mut CodeBuilder<'_>) -> Result<(), BuilderFault> {
     let end = code.label()?;
     let top = code.here()?;
-    assert!(rt; code.byte(21, 7).is_ok());
-    assert!(rt; code.branch(153, end).is_ok());
-    assert!(rt; code.sipush(300).is_ok());
-    assert!(rt; code.item(Item::Tableswitch(0, 0, 0, &[1])).is_ok());
-    assert!(rt; code.branch(167, top).is_ok());
+    code.iload(7)?;
+    code.ifeq(end)?;
+    code.int(300)?;
+    code.item(Item::Tableswitch(0, 0, 0, &[1]))?;
+    code.goto(top)?;
     code.place(end);
-    assert!(rt; code.plain(177).is_ok());
-    assert!(rt; code.handler(top, end, end, 0).is_ok());
+    code.op(Op::RETURN)?;
+    code.handler(top, end, end, 0)?;
+    Ok(())
+}
+
+#[test]
+fn labels(rt: HostRuntime) {
+    let mut code = CodeBuilder::new(rt.alloc());
+    assert!(rt; put_branches(&mut code).is_ok());
     assert!(rt;
         has_code(
             &code,
             b"\x15\x07\x99\x00\x1d\x11\x01\x2c\xaa\x00\x00\x00\x00\x00\x00\x00\x00\x00\x00\x00\x00\x00\x00\x00\x00\x00\x00\x01\xa7\xff\xe4\xb1"
         )
     );
+    assert!(rt; code.offset() == 32);
+}
+
+/// Switches whose labels are placed behind and before them.
+fn put_switches(code: &mut CodeBuilder<'_>) -> Result<(), BuilderFault> {
+    let zero = code.label()?;
+    let one = code.label()?;
+    let other = code.label()?;
+    code.iload(7)?;
+    code.tableswitch(other, 5, 6, &[zero, one])?;
+    code.place(zero);
+    code.iload(7)?;
+    code.lookupswitch(other, &[(-7, one), (9, zero)])?;
+    code.place(one);
+    code.op(Op::RETURN)?;
+    code.place(other);
     Ok(())
 }
 
 #[test]
-fn switches(rt: HostRuntime) -> Result<(), Fail> {
+fn switches(rt: HostRuntime) {
     let mut code = CodeBuilder::new(rt.alloc());
-    let zero = code.label()?;
-    let one = code.label()?;
-    let other = code.label()?;
-    assert!(rt; code.byte(21, 7).is_ok());
-    assert!(rt; code.tableswitch(other, 5, 6, &[zero, one]).is_ok());
-    code.place(zero);
-    assert!(rt; code.byte(21, 7).is_ok());
-    assert!(rt; code.lookupswitch(other, &[(-7, one), (9, zero)]).is_ok());
-    code.place(one);
-    assert!(rt; code.plain(177).is_ok());
+    assert!(rt; put_switches(&mut code).is_ok());
     assert!(rt;
         has_code(
             &code,
             b"\x15\x07\xaa\x00\x00\x00\x003\x00\x00\x00\x05\x00\x00\x00\x06\x00\x00\x00\x16\x00\x00\x002\x15\x07\xab\x00\x00\x00\x00\x1b\x00\x00\x00\x02\xff\xff\xff\xf9\x00\x00\x00\x1a\x00\x00\x00\x09\xff\xff\xff\xfe\xb1"
         )
     );
+}
+
+/// A branch over so many bytes.
+fn put_far(code: &mut CodeBuilder<'_>, between: u32) -> Result<(), BuilderFault> {
+    let end = code.label()?;
+    code.goto(end)?;
+    for _ in 0..between {
+        code.op(Op::NOP)?;
+    }
+    code.place(end);
+    code.op(Op::RETURN)?;
     Ok(())
 }
 
-/// Whether code is written, where a branch goes over so many bytes.
-fn goes_over(code: &mut CodeBuilder<'_>, between: u32) -> &'static str {
-    let Ok(end) = code.label() else {
-        return "Memory";
-    };
-    let _ = code.branch(167, end);
-    for _ in 0..between {
-        let _ = code.plain(0);
-    }
-    code.place(end);
-    let _ = code.plain(177);
+/// Whether code is refused with this fault.
+fn is_refused(alloc: Global, code: &CodeBuilder<'_>, fault: &str) -> bool {
     match code.code() {
-        Ok(_) => "written",
-        Err(AsmFault::TooLarge) => "TooLarge",
-        Err(AsmFault::Memory) => "Memory",
+        Ok(_) => false,
+        Err(refused) => is_shown(alloc, refused, fault),
     }
 }
 
 #[test]
 fn far_branches(rt: HostRuntime) {
     let mut near = CodeBuilder::new(rt.alloc());
-    assert!(rt; goes_over(&mut near, 32764) == "written");
+    assert!(rt; put_far(&mut near, 32764).is_ok());
+    assert!(rt; near.code().is_ok());
     let mut far = CodeBuilder::new(rt.alloc());
-    assert!(rt; goes_over(&mut far, 32765) == "TooLarge");
+    assert!(rt; put_far(&mut far, 32765).is_ok());
+    assert!(rt; is_refused(rt.alloc(), &far, "too large"));
+}
+
+#[test]
+fn unplaced_labels(rt: HostRuntime) -> Result<(), Fail> {
+    let mut code = CodeBuilder::new(rt.alloc());
+    let label = code.label()?;
+    assert!(rt; code.goto(label).is_ok());
+    assert!(rt; code.offset_of(label).is_none());
+    assert!(rt; is_refused(rt.alloc(), &code, "a label was not placed"));
+    code.place(label);
+    assert!(rt; code.offset_of(label) == Some(3));
+    assert!(rt; code.code().is_ok());
+    Ok(())
+}
+
+#[test]
+fn two_frames(rt: HostRuntime) -> Result<(), Fail> {
+    let mut code = CodeBuilder::new(rt.alloc());
+    let label = code.label()?;
+    assert!(rt; code.frame(label, &[], &[]).is_ok());
+    assert!(rt; code.stack_map_table().is_ok());
+    assert!(rt; code.frame(label, &[], &[]).is_ok());
+    match code.stack_map_table() {
+        Ok(_) => assert!(rt; false),
+        Err(fault) => assert!(rt; is_shown(rt.alloc(), fault, "two frames at one place")),
+    }
+    Ok(())
 }
 
 /// Whether a call gave this index.
@@ -96,7 +144,7 @@ fn is_at(found: Result<u16, AsmFault>, index: u16) -> bool {
 
 #[test]
 fn constants(rt: HostRuntime) -> Result<(), Fail> {
-    let mut class = ClassBuilder::root(rt.alloc(), 0x21, b"A")?;
+    let mut class = ClassBuilder::root(rt.alloc(), ClassFlags(0x21), b"A")?;
     assert!(rt; is_at(class.long(-2), 3));
     assert!(rt; is_at(class.integer(-2), 5));
     assert!(rt; is_at(class.string(b"A"), 6));
@@ -133,7 +181,7 @@ fn length_of(class: &ClassBuilder<'_>) -> usize {
 
 #[test]
 fn full_pool(rt: HostRuntime) -> Result<(), Fail> {
-    let mut class = ClassBuilder::root(rt.alloc(), 0x21, b"A")?;
+    let mut class = ClassBuilder::root(rt.alloc(), ClassFlags(0x21), b"A")?;
     assert!(rt; fills_the_pool(&mut class));
     assert!(rt; length_of(&class) == 24 + 4 + 3 + 5 * 65532);
     Ok(())
@@ -149,21 +197,22 @@ fn has_file(class: &ClassBuilder<'_>, bytes: &[u8]) -> bool {
 
 #[test]
 fn parts(rt: HostRuntime) -> Result<(), Fail> {
-    let mut class = ClassBuilder::root(rt.alloc(), 0x600, b"A")?;
+    let mut class = ClassBuilder::root(rt.alloc(), ClassFlags(0x600), b"A")?;
     assert!(rt; class.interface(b"A").is_ok());
-    assert!(rt; class.field(0x19, b"A", b"I", &[]).is_ok());
-    assert!(rt; class.bodiless(0x401, b"A", b"I").is_ok());
-    let mut method = class.begin(1, b"A", b"I")?;
-    let start = method.code.here()?;
-    assert!(rt; method.code.plain(177).is_ok());
+    assert!(rt; class.field(FieldFlags(0x19), b"A", b"I", &[]).is_ok());
+    assert!(rt; class.bodiless(MethodFlags(0x401), b"A", b"I").is_ok());
+    let mut method = class.begin(MethodFlags::PUBLIC, b"A", b"I")?;
+    let start = method.code.label()?;
+    assert!(rt; method.code.frame(start, &[], &[]).is_ok());
+    assert!(rt; method.code.op(Op::RETURN).is_ok());
     let end = method.code.here()?;
     assert!(rt; method.code.handler(start, end, start, 2).is_ok());
-    assert!(rt; class.end(method, 3, 4, Some(b"\x00\x00")).is_ok());
+    assert!(rt; class.end(method, 3, 4).is_ok());
     assert!(rt; class.attribute(b"A", b"x").is_ok());
     assert!(rt;
         has_file(
             &class,
-            b"\xca\xfe\xba\xbe\x00\x00\x004\x00\x06\x01\x00\x01A\x07\x00\x01\x01\x00\x01I\x01\x00\x04Code\x01\x00\x0dStackMapTable\x06\x00\x00\x02\x00\x00\x00\x01\x00\x02\x00\x01\x00\x19\x00\x01\x00\x03\x00\x00\x00\x02\x04\x01\x00\x01\x00\x03\x00\x00\x00\x01\x00\x01\x00\x03\x00\x01\x00\x04\x00\x00\x00\x1d\x00\x03\x00\x04\x00\x00\x00\x01\xb1\x00\x01\x00\x00\x00\x01\x00\x00\x00\x02\x00\x01\x00\x05\x00\x00\x00\x02\x00\x00\x00\x01\x00\x01\x00\x00\x00\x01x"
+            b"\xca\xfe\xba\xbe\x00\x00\x004\x00\x06\x01\x00\x01A\x07\x00\x01\x01\x00\x01I\x01\x00\x04Code\x01\x00\x0dStackMapTable\x06\x00\x00\x02\x00\x00\x00\x01\x00\x02\x00\x01\x00\x19\x00\x01\x00\x03\x00\x00\x00\x02\x04\x01\x00\x01\x00\x03\x00\x00\x00\x01\x00\x01\x00\x03\x00\x01\x00\x04\x00\x00\x00\x24\x00\x03\x00\x04\x00\x00\x00\x01\xb1\x00\x01\x00\x00\x00\x01\x00\x00\x00\x02\x00\x01\x00\x05\x00\x00\x00\x09\x00\x01\xff\x00\x00\x00\x00\x00\x00\x00\x01\x00\x01\x00\x00\x00\x01x"
         )
     );
     Ok(())

@@ -2,8 +2,7 @@
 
 use jv_asm::{
     AsmFault, AttributeDescription, CodeDescription, Constant, Description, FieldDescription,
-    HandlerDescription, Item, MethodAttributeDescription, MethodDescription, write_class,
-    write_code,
+    Handler, Item, MethodAttributeDescription, MethodDescription, write_class, write_code,
 };
 use std::alloc::Global;
 
@@ -39,7 +38,7 @@ const METHOD: MethodDescription<'static> = MethodDescription {
     attributes: &[],
 };
 
-const HANDLER: HandlerDescription = HandlerDescription {
+const HANDLER: Handler = Handler {
     start_pc: 0,
     end_pc: 1,
     handler_pc: 1,

@@ -1,4 +1,4 @@
-//! Tests of `jv_asm`, the class writer.
+//! Tests of `jv_asm`, the class writer, and of `jv_asm_builder`.
 #![tactic(auto)]
 
 #[cfg(test)]
@@ -8,4 +8,10 @@ mod codes;
 #[cfg(test)]
 mod hi;
 #[cfg(test)]
+mod instructions;
+#[cfg(test)]
 mod large;
+#[cfg(test)]
+mod shown;
+#[cfg(test)]
+mod string_class;

@@ -1,10 +1,13 @@
-use Rattle.jv_class_parts.specs.Structure.{method_bytes, method_fits}
-use Rattle.jv_asm.specs.Description.{method_described}
-use Rattle.jv_asm.proofs.Tables.{fits_seen, table_written}
+use Rattle.std.proofs.Common.{length, subst, sym}
+use Rattle.std.specs.Prelude.{IsTrue, map, nat_lt}
+use Rattle.std.specs.List.{list_all}
+use Rattle.std.proofs.lemmas.Bool.{and_parts}
+use Rattle.jv_class_parts.specs.Structure.{method_fits}
+use Rattle.jv_asm.proofs.Mapped.{each_fits}
 use Rattle.jv_asm.proofs.member.put_methods.Goals as goal
 
-pub put_table-requires : goal.put_table-requires
-put_table-requires c = fits_seen method_fits method_described c.args.methods.now c.requires
-
-pub returns : goal.returns
-returns c = table_written method_bytes method_described c.args.methods.now c.put_table.result c.args.out.now.items c.put_table.new.out.items c.put_table.ensures
+pub put-requires : goal.put-requires
+put-requires g c =
+    subst (λ x. IsTrue (method_fits (g.M.Method.method x))) (sym c.method-item.is)
+    (each_fits method_fits g.M.Method.method c.args.methods.now c.loop-method.method-index c.method-item.result c.loop-method-test.true
+    (and_parts (nat_lt (length (map g.M.Method.method c.args.methods.now)) 65536) (list_all method_fits (map g.M.Method.method c.args.methods.now)) c.requires).1)

@@ -1,0 +1,10 @@
+use Rattle.std.proofs.Common.{length, sym, ap, ◌∙◌, Ok}
+use Rattle.std.specs.Int.{w32, cast_signed, cast_unsigned}
+use Rattle.jv_asm_builder.specs.Assembly.{distance_in, case_in}
+use Rattle.jv_asm_builder.proofs.Steps.{lookup_short}
+use Rattle.jv_asm_builder.proofs.targets.put_lookupswitch.Goals as goal
+
+pub put_item-requires : goal.put_item-requires
+put_item-requires c =
+    lookup_short (length c.args.out.now.items) (cast_signed w32 (cast_unsigned w32 c.in_ok-default.default)) c.deref.result.now (case_in (distance_in c.args.places.now c.len-at.result)) c.args.cases.now
+    ((c.in_ok-pairs.ensures {u = tt}) ∙ ap (λ v. Ok v) (sym c.deref.ensures.value)) c.requires

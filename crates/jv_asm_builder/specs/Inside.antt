@@ -1,0 +1,4 @@
+pub mod Behind
+pub mod Kept
+pub mod Methods
+pub mod Pooled
