@@ -5,7 +5,7 @@ use Rattle.std.proofs.lemmas.List.{take-append-drop, length-reverse, length-map,
 use Rattle.std.proofs.lemmas.Grind.{take-set_at}
 use Rattle.std.proofs.Math.Seq.{take-set-lt}
 use Rattle.jv_meaning.specs.Thin.Machine.{Word}
-use Rattle.jv_interp.specs.Thin.Words.{words, int_of}
+use Rattle.jv_interp.specs.Inside.Words.{words, int_of}
 
 pub words-append : (xs ys : List ℕ) → words (xs ++ ys) ≡ words ys ++ words xs
 words-append xs ys = ap (map int_of) (reverse-append xs ys) ∙ map-append int_of (reverse ys) (reverse xs)

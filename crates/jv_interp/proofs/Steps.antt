@@ -1,16 +1,16 @@
 -- A step of the code's machine is a step of the thin machine.
 use Rattle.std.proofs.Common.{◌≡◌, ℕ, ◌+◌, ◌-◌, ◌<◌, List, [], ◌∷◌, drop, Option, Some, None, Result, Ok, Err, sym, ap, ◌∙◌, arith}
 use Rattle.jv_pool.specs.Constants.{Entry}
-use Rattle.jv_meaning.specs.declared.thin.insn.Insn.{Insn}
+use Rattle.jv_meaning.specs.declared.thin.insn.ThinInsn.{ThinInsn}
 use Rattle.jv_meaning.specs.Thin.Instructions.{first_insn}
-use Rattle.jv_meaning.specs.Thin.Machine.{State, Fault, Program, Effect, ◌>>=◌, fetched, fetch, execute, act, step, step_at, next}
+use Rattle.jv_meaning.specs.Thin.Machine.{State, Fault, Program, Effect, ◌>>=◌, insn_or_fault, fetch, execute, act, step, step_at, next}
 use Rattle.jv_meaning.specs.Thin.Machine.Activity.{Method as InMethod}
 use Rattle.jv_meaning.specs.Thin.Machine.Fault.{Offset}
 use Rattle.jv_interp.specs.declared.thin.machine.Machine.{Machine}
 use Rattle.jv_interp.specs.declared.thin.machine.Stage.TheVariants as stages
 use Rattle.jv_interp.specs.declared.thin.execute.Change.{Change}
-use Rattle.jv_interp.specs.Thin.Words.{words, effect_of}
-use Rattle.jv_interp.specs.Thin.GuestState.{state_of, activity_of, locals_in}
+use Rattle.jv_interp.specs.Inside.Words.{words, effect_of}
+use Rattle.jv_interp.specs.Inside.Machine.{state_of, activity_of, locals_in}
 
 abbrev ok_effect : Effect → Result Effect Fault
 ok_effect effect = Ok effect
@@ -36,25 +36,25 @@ module _ (p : Option Program) (q : Program) (is : p ≡ Some q) (m : Machine) wh
   pub no_insn : (offset : ℕ) → m.stage ≡ stages.Method offset → first_insn (drop offset q.code.code) ≡ None → next p (state_of (locals_in p) m) ≡ Err Offset
   no_insn offset at e =
       at_offset offset at
-      ∙ ap (λ o. fetched o >>= λ i. execute q.constant_pool i.0 (words m.stack.items) >>= λ effect. act q.code (offset + i.1) (locals_in p) state effect) e
+      ∙ ap (λ o. insn_or_fault o >>= λ i. execute q.constant_pool i.0 (words m.stack.items) >>= λ effect. act q.code (offset + i.1) (locals_in p) state effect) e
 
   -- an instruction stands there
-  pub insn_executes : (offset after : ℕ) (insn : Insn) → m.stage ≡ stages.Method offset → offset < after → first_insn (drop offset q.code.code) ≡ Some (insn, after - offset)
+  pub insn_executes : (offset after : ℕ) (insn : ThinInsn) → m.stage ≡ stages.Method offset → offset < after → first_insn (drop offset q.code.code) ≡ Some (insn, after - offset)
       → next p (state_of (locals_in p) m) ≡ (execute q.constant_pool insn (words m.stack.items) >>= λ effect. act q.code after (locals_in p) (state_of (locals_in p) m) effect)
   insn_executes offset after insn at lt e =
       let place : offset + (after - offset) ≡ after = omega arith in
       at_offset offset at
-      ∙ ap (λ o. fetched o >>= λ i. execute q.constant_pool i.0 (words m.stack.items) >>= λ effect. act q.code (offset + i.1) (locals_in p) state effect) e
+      ∙ ap (λ o. insn_or_fault o >>= λ i. execute q.constant_pool i.0 (words m.stack.items) >>= λ effect. act q.code (offset + i.1) (locals_in p) state effect) e
       ∙ ap (λ k. execute q.constant_pool insn (words m.stack.items) >>= λ effect. act q.code k (locals_in p) state effect) place
 
   -- it does what its effect does
-  pub insn_acts : (offset after : ℕ) (insn : Insn) (effect : Effect) → m.stage ≡ stages.Method offset → offset < after → first_insn (drop offset q.code.code) ≡ Some (insn, after - offset)
+  pub insn_acts : (offset after : ℕ) (insn : ThinInsn) (effect : Effect) → m.stage ≡ stages.Method offset → offset < after → first_insn (drop offset q.code.code) ≡ Some (insn, after - offset)
       → execute q.constant_pool insn (words m.stack.items) ≡ Ok effect → next p (state_of (locals_in p) m) ≡ act q.code after (locals_in p) (state_of (locals_in p) m) effect
   insn_acts offset after insn effect at lt e done =
       insn_executes offset after insn at lt e ∙ ap (λ r. r >>= λ effect. act q.code after (locals_in p) state effect) done
 
   -- the same, as the code has it: the offset is what the stage holds, and the pool and the stack are lent
-  pub insn_steps : (raw offset after : ℕ) (insn : Insn) (change : Change) (pool : List Entry) (stack : List ℕ) → raw ≡ offset → m.stage ≡ stages.Method offset → raw < after
+  pub insn_steps : (raw offset after : ℕ) (insn : ThinInsn) (change : Change) (pool : List Entry) (stack : List ℕ) → raw ≡ offset → m.stage ≡ stages.Method offset → raw < after
       → first_insn (drop raw q.code.code) ≡ Some (insn, after - raw) → pool ≡ q.constant_pool → stack ≡ m.stack.items → execute pool insn (words stack) ≡ Ok (effect_of (words stack) change)
       → next p (state_of (locals_in p) m) ≡ act q.code after (locals_in p) (state_of (locals_in p) m) (effect_of (words m.stack.items) change)
   insn_steps raw offset after insn change pool stack same at lt e pools stacks done =

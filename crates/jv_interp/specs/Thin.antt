@@ -1,4 +1,1 @@
-pub mod Words
 pub mod GuestState
-pub mod Acts
-pub mod Lines

@@ -1,13 +1,13 @@
 -- The class that writes Hi is accepted.
 use Rattle.std.proofs.Common.{◌≢◌, List, [], ◌∷◌, refl, lit≤}
 use Rattle.std.specs.Prelude.{bit_and, pos}
-use Rattle.jv_meaning.specs.declared.thin.insn.Insn.{Insn}
-use Rattle.jv_meaning.specs.declared.thin.insn.Insn.TheVariants.{Constant, Invokestatic}
+use Rattle.jv_meaning.specs.declared.thin.insn.ThinInsn.{ThinInsn}
+use Rattle.jv_meaning.specs.declared.thin.insn.ThinInsn.TheVariants.{Constant, Invokestatic}
 use Rattle.jv_meaning.specs.Thin.Accepted.{IsAccepted, IsMainLike, IsShortLine, IsLine}
 use Rattle.jv_class_parts.specs.Parts.{CodeSeen, MethodSeen, code_shown, method_shown}
 use Rattle.jv_meaning.specs.Thin.Rows.{hi_pool, hi_code, hi_main, hi_class}
 
-hi_insns : List Insn
+hi_insns : List ThinInsn
 hi_insns = Constant (pos 72) ∷ Invokestatic 13 ∷ Constant (pos 105) ∷ Invokestatic 13 ∷ []
 
 hi_line : IsLine hi_pool 1 0 hi_code.code hi_insns

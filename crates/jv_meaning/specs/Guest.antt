@@ -30,22 +30,22 @@ bytes_of bytes = bytes.now
 abbrev pub guest_of : GuestFiles → Guest
 guest_of g = record { files = map bytes_of g.files.now; main = g.main.now; input = g.input.now }
 
-abbrev pub name_seen : Option (Bor (List ℕ)) → Option (List ℕ)
-name_seen None = None
-name_seen (Some name) = Some name.now
+abbrev pub optional_name_of : Option (Bor (List ℕ)) → Option (List ℕ)
+optional_name_of None = None
+optional_name_of (Some name) = Some name.now
 
-abbrev pub end_seen : End (Bor (List ℕ)) → End (List ℕ)
-end_seen Running = Running
-end_seen Returned = Returned
-end_seen (Threw name) = Threw name.now
-end_seen NoMain = NoMain
+abbrev pub ending_of : End (Bor (List ℕ)) → End (List ℕ)
+ending_of Running = Running
+ending_of Returned = Returned
+ending_of (Threw name) = Threw name.now
+ending_of NoMain = NoMain
 
-abbrev pub observed : Observation → Observed
-observed o = record {
+abbrev pub observed_of : Observation → Observed
+observed_of o = record {
   verdicts = o.verdicts.now;
   steps = o.steps;
   output = o.output.now;
   throws = o.throws;
-  last = name_seen o.last;
-  end = end_seen o.end;
+  last = optional_name_of o.last;
+  end = ending_of o.end;
 }

@@ -4,4 +4,4 @@ pub mod insn;
 pub mod law;
 pub mod rows;
 
-pub use insn::{Insn, Operator};
+pub use insn::{Operator, ThinInsn};

@@ -61,7 +61,7 @@ fn has_code_of_main(method: &Method<'_>) -> bool {
             code.max_stack == 1
                 && code.code.len() == 11
                 && code.exception_table.is_empty()
-                && code.handler(0).is_none()
+                && code.exception_table.handler(0).is_none()
         }
         None => false,
     }

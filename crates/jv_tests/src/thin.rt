@@ -4,7 +4,7 @@ use crate::files::{HI, HI_WITH_ATTRIBUTES, patched};
 use jv_class::read_class;
 use jv_interp::thin::{Guest, StepFault, first_insn, is_accepted};
 use jv_meaning::End;
-use jv_meaning::thin::{Insn, law, rows};
+use jv_meaning::thin::{ThinInsn, law, rows};
 use std::alloc::Global;
 
 #[test]
@@ -122,7 +122,7 @@ fn no_class_no_main(rt: HostRuntime) {
 /// The constant that the first instruction pushes, and its length.
 fn constant(code: &[u8]) -> Option<(i32, usize)> {
     match first_insn(code) {
-        Some((Insn::Constant(number), length)) => Some((number, length)),
+        Some((ThinInsn::Constant(number), length)) => Some((number, length)),
         _ => None,
     }
 }
@@ -145,7 +145,7 @@ fn constants(rt: HostRuntime) {
 #[test]
 fn invocations(rt: HostRuntime) {
     let found = first_insn(b"\xb8\x01\x02");
-    assert!(rt; matches!(found, Some((Insn::Invokestatic(258), 3))));
+    assert!(rt; matches!(found, Some((ThinInsn::Invokestatic(258), 3))));
 }
 
 static NO_INSTRUCTIONS: [&[u8]; 4] = [b"\x10", b"\x11\x01", b"\x00", b""];

@@ -1,9 +1,1 @@
-pub mod Calls
-pub mod Escape
-pub mod Failures
-pub mod Folder
-pub mod Host
-pub mod MainName
-pub mod Names
-pub mod Outcome
-pub mod Report
+pub mod Stop

@@ -1,11 +1,14 @@
 //! The command line.
 ghost use Rattle.std.specs.Prelude.{◌≡◌, ◌≢◌, IfOk};
 ghost use Rattle.clap.specs.Values.{kind_of};
-ghost use Rattle.jvhost.specs.Failures.{HasStatus};
+ghost use Rattle.jv_run.specs.declared.failure.Failure.TheVariants.{Memory};
+ghost use Rattle.jvhost.specs.Stop.{HasStatus};
+ghost use Rattle.jvhost.specs.declared.stop.Stop.TheVariants.{CommandLine, Run};
 
-use crate::failure::Failure;
+use crate::stop::Stop;
 use clap::error::ErrorKind;
 use clap::{Arg, Command};
+use jv_run::Failure;
 use std::alloc::{AllocError, Global};
 use std::rt::Env;
 use std::{env, io};
@@ -25,43 +28,43 @@ fn command<'a>(alloc: Global) -> Result<Command<'a>, AllocError> {
         .subcommand(run)
 }
 
-/// The failure where a word is no text.
-fn not_text(alloc: Global) -> Result<Failure, AllocError>
-    ensures { IfOk result (λ failure. HasStatus failure 2) }
+/// What ends the program where a word is no text.
+fn not_text(alloc: Global) -> Result<Stop, AllocError>
+    ensures { IfOk result (λ stop. HasStatus stop 2) }
 {
     let mut command = command(alloc)?;
     let message = "invalid UTF-8 was found in one or more arguments";
     let error = command.error(ErrorKind::InvalidValue, message)?;
-    Ok(Failure::CommandLine(error))
+    Ok(Stop::CommandLine(error))
 }
 
 /// The words of the command line, of which the first is the program's name.
-pub fn words<R: Env + AllocGlobal>(rt: &R) -> Result<Vec<String>, Failure> {
+pub fn words<R: Env + AllocGlobal>(rt: &R) -> Result<Vec<String>, Stop> {
     match env::args(rt) {
         Ok(words) => Ok(words.collect(rt.alloc())?),
-        Err(error) if error.kind() == io::ErrorKind::OutOfMemory => Err(Failure::Memory),
+        Err(error) if error.kind() == io::ErrorKind::OutOfMemory => Err(Stop::Run(Failure::Memory)),
         Err(_) => Err(not_text(rt.alloc())?),
     }
 }
 
 /// What a failed parse means.
-fn failure_of(error: clap::Error) -> Failure
-    ensures memory { kind_of error ≡ ErrorKind.OutOfMemory → result ≡ Failure.Memory }
-    ensures other { kind_of error ≢ ErrorKind.OutOfMemory → result ≡ Failure.CommandLine error }
+fn stop_of(error: clap::Error) -> Stop
+    ensures memory { kind_of error ≡ ErrorKind.OutOfMemory → result ≡ Run Memory }
+    ensures other { kind_of error ≢ ErrorKind.OutOfMemory → result ≡ CommandLine error }
 {
     if error.kind() == ErrorKind::OutOfMemory {
-        Failure::Memory
+        Stop::Run(Failure::Memory)
     } else {
-        Failure::CommandLine(error)
+        Stop::CommandLine(error)
     }
 }
 
 /// The folder that the words name.
-pub fn folder_named<'a>(alloc: Global, words: &'a [String]) -> Result<&'a str, Failure> {
+pub fn folder_named<'a>(alloc: Global, words: &'a [String]) -> Result<&'a str, Stop> {
     let command = command(alloc)?;
     let matches = match command.try_get_matches_from(words) {
         Ok(matches) => matches,
-        Err(error) => return Err(failure_of(error)),
+        Err(error) => return Err(stop_of(error)),
     };
     match matches.subcommand() {
         Some((_, run)) => Ok(run.get_str("folder").unwrap_or("")),

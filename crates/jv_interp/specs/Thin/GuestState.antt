@@ -1,43 +1,7 @@
 -- What the guest of the code stands for: what runs, and the machine's state.
-use Rattle.std.specs.Prelude.{ℕ, List, [], ◌∷◌, Option, Some, None}
-use Rattle.jv_class_parts.specs.Structure.{ClassStructure}
-use Rattle.jv_class_parts.specs.Seen.{seen_code}
-use Rattle.jv_class_parts.specs.declared.member.Code.{Code}
-use Rattle.jv_meaning.specs.Guest.{name_seen}
-use Rattle.jv_meaning.specs.Thin.Machine.{Word, Activity, State, Program, main_locals}
-use Rattle.jv_meaning.specs.Thin.Machine.Activity.{Initialization, Method, Returned, Threw, NoMain}
-use Rattle.jv_interp.specs.declared.thin.machine.Machine.{Machine}
-use Rattle.jv_interp.specs.declared.thin.machine.Stage.{Stage}
-use Rattle.jv_interp.specs.declared.thin.machine.Stage.TheVariants as stages
-use Rattle.jv_interp.specs.Thin.Words.{words}
+use Rattle.std.specs.Prelude.{Option}
+use Rattle.jv_meaning.specs.Thin.Machine.{State, Program}
 
--- what runs, and where it is
 pub record GuestState : Type 0 where
   pub program : Option Program
   pub state : State
-
--- The locals are not kept: no instruction of the thin machine looks at one.
-abbrev pub activity_of : List Word → List ℕ → Stage → Activity
-activity_of locals stack stages.Initialization = Initialization
-activity_of locals stack (stages.Method offset) = Method offset locals (words stack)
-activity_of locals stack stages.Returned = Returned
-activity_of locals stack (stages.Threw class) = Threw class.now
-activity_of locals stack stages.NoMain = NoMain
-
--- the state that a machine of the code stands for, beside locals
-abbrev pub state_of : List Word → Machine → State
-state_of locals m = record {
-  activity = activity_of locals m.stack.items m.stage;
-  output = m.output.items;
-  output_left = m.output_left;
-  throws = m.throws;
-  last = name_seen m.last;
-}
-
--- a class, and the code of its main method
-abbrev pub program_seen : ClassStructure × Code → Program
-program_seen p = record { constant_pool = p.0.constant_pool; code = seen_code p.1 }
-
-abbrev pub locals_in : Option Program → List Word
-locals_in None = []
-locals_in (Some p) = main_locals p.code

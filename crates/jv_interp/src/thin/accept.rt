@@ -6,14 +6,14 @@ ghost use Rattle.jv_pool.specs.Constants.{utf8_at, class_name_at};
 ghost use Rattle.jv_class_parts.specs.Attributes.{some_and};
 ghost use Rattle.jv_class_parts.specs.Seen.{seen_method, seen_code};
 ghost use Rattle.jv_class.specs.Rules.{is_object};
-ghost use Rattle.jv_meaning.specs.declared.thin.insn.Insn.{Insn};
-ghost use Rattle.jv_meaning.specs.Thin.Accepted.{takes, gives, IsInLine, IsLine, is_reserved, IsMainLike, IsShortLine, IsPlain, IsAccepted};
-ghost use Rattle.jv_interp.specs.Thin.Lines.{HasLine, KeepsTo, HasFreeName, IsSmallFrame, IsStraight, HasShortLine, IsMainLine, HasMainLine};
+ghost use Rattle.jv_meaning.specs.declared.thin.insn.ThinInsn.{ThinInsn};
+ghost use Rattle.jv_meaning.specs.Thin.Accepted.{operand_count, result_count, IsInLine, IsLine, is_reserved, IsMainLike, IsShortLine, IsPlain, IsAccepted};
+ghost use Rattle.jv_interp.specs.Inside.Lines.{HasLine, KeepsTo, HasFreeName, IsSmallFrame, IsStraight, HasShortLine, IsMainLine, HasMainLine};
 
 use crate::thin::decode::first_insn;
 use crate::thin::execute::names_write;
-use jv_class::{ClassFile, Code, Method, MethodFlags};
-use jv_meaning::thin::Insn;
+use jv_class::{ClassFile, Method, MethodCode, MethodFlags};
+use jv_meaning::thin::ThinInsn;
 use jv_pool::{Pool, Utf8Index};
 
 /// Whether a class name lies in a package that guests may not add to.
@@ -24,53 +24,53 @@ fn is_reserved(name: &[u8]) -> bool
 }
 
 /// How many words an instruction takes from the stack.
-fn takes(insn: Insn) -> u32
-    ensures { result ≡ takes insn }
+fn operand_count(insn: ThinInsn) -> u32
+    ensures { result ≡ operand_count insn }
 {
     match insn {
-        Insn::Constant(_) | Insn::Return => 0,
-        Insn::Pop | Insn::Negate | Insn::Invokestatic(_) => 1,
-        Insn::Binary(_) => 2,
+        ThinInsn::Constant(_) | ThinInsn::Return => 0,
+        ThinInsn::Pop | ThinInsn::Negate | ThinInsn::Invokestatic(_) => 1,
+        ThinInsn::Binary(_) => 2,
     }
 }
 
 /// How many words an instruction leaves on the stack in their place.
-fn gives(insn: Insn) -> u32
-    ensures { result ≡ gives insn }
+fn result_count(insn: ThinInsn) -> u32
+    ensures { result ≡ result_count insn }
 {
     match insn {
-        Insn::Constant(_) | Insn::Negate | Insn::Binary(_) => 1,
-        Insn::Pop | Insn::Invokestatic(_) | Insn::Return => 0,
+        ThinInsn::Constant(_) | ThinInsn::Negate | ThinInsn::Binary(_) => 1,
+        ThinInsn::Pop | ThinInsn::Invokestatic(_) | ThinInsn::Return => 0,
     }
 }
 
 /// Whether an instruction may stand in a line before the return.
-fn is_in_line(pool: &Pool<'_>, insn: Insn) -> bool
+fn is_in_line(pool: &Pool<'_>, insn: ThinInsn) -> bool
     ensures { IsTrue result ↔ IsInLine pool.now insn }
 {
     match insn {
-        Insn::Constant(_) | Insn::Pop | Insn::Negate | Insn::Binary(_) => true,
-        Insn::Invokestatic(index) => names_write(pool, index),
-        Insn::Return => false,
+        ThinInsn::Constant(_) | ThinInsn::Pop | ThinInsn::Negate | ThinInsn::Binary(_) => true,
+        ThinInsn::Invokestatic(index) => names_write(pool, index),
+        ThinInsn::Return => false,
     }
 }
 
-fn is_return(insn: Insn) -> bool
-    ensures { IsTrue result ↔ (insn ≡ Insn.Return) }
+fn is_return(insn: ThinInsn) -> bool
+    ensures { IsTrue result ↔ (insn ≡ ThinInsn.Return) }
 {
-    matches!(insn, Insn::Return)
+    matches!(insn, ThinInsn::Return)
 }
 
 /// The depth of the stack after an instruction of a line, if it keeps to the stack.
-fn depth_after(pool: &Pool<'_>, max_stack: u32, depth: u32, insn: Insn) -> Option<u32>
+fn depth_after(pool: &Pool<'_>, max_stack: u32, depth: u32, insn: ThinInsn) -> Option<u32>
     requires { depth ≤ 65536 }
-    ensures some { IfSome result (λ after. KeepsTo pool.now max_stack depth insn × (after ≡ depth - takes insn + gives insn)) }
+    ensures some { IfSome result (λ after. KeepsTo pool.now max_stack depth insn × (after ≡ depth - operand_count insn + result_count insn)) }
     ensures none { IfNone result (¬ KeepsTo pool.now max_stack depth insn) }
 {
-    if !is_in_line(pool, insn) || takes(insn) > depth {
+    if !is_in_line(pool, insn) || operand_count(insn) > depth {
         return None;
     }
-    let after = depth - takes(insn) + gives(insn);
+    let after = depth - operand_count(insn) + result_count(insn);
     if after > max_stack {
         return None;
     }
@@ -128,14 +128,14 @@ fn is_main_like(pool: &Pool<'_>, method: Method<'_>) -> bool
 }
 
 /// Whether code has neither handlers nor stack map frames.
-fn is_straight(code: Code<'_>) -> bool
+fn is_straight(code: MethodCode<'_>) -> bool
     ensures { IsTrue result ↔ IsStraight (seen_code code.entry) }
 {
     code.exception_table.is_empty() && code.stack_map_table.is_none()
 }
 
 /// Whether code is a line with a small frame.
-fn is_short_line(pool: &Pool<'_>, code: Code<'_>) -> bool
+fn is_short_line(pool: &Pool<'_>, code: MethodCode<'_>) -> bool
     ensures { IsTrue result ↔ IsShortLine pool.now (seen_code code.entry) }
 {
     is_straight(code)
@@ -143,7 +143,7 @@ fn is_short_line(pool: &Pool<'_>, code: Code<'_>) -> bool
         && is_line(pool, code.max_stack, code.code)
 }
 
-fn has_short_line(pool: &Pool<'_>, code: Option<Code<'_>>) -> bool
+fn has_short_line(pool: &Pool<'_>, code: Option<MethodCode<'_>>) -> bool
     ensures { IsTrue result ↔ HasShortLine pool.now (option_map seen_code code.entry) }
 {
     match code {

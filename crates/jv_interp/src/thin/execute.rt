@@ -5,10 +5,10 @@ ghost use Rattle.std.specs.Int.{w32, cast_signed, cast_unsigned, int_wrapping_ne
 ghost use Rattle.jv_meaning.specs.Thin.Machine.{compute, execute, names_write};
 ghost use Rattle.jv_pool.specs.Constants.{method_reference_at};
 ghost use Rattle.jv_pool.specs.Seen.{seen_member};
-ghost use Rattle.jv_interp.specs.Thin.Words.{words, effect_of, taken_by};
+ghost use Rattle.jv_interp.specs.Inside.Words.{words, effect_of, taken_by};
 
 use crate::thin::stack::top_of;
-use jv_meaning::thin::{Insn, Operator};
+use jv_meaning::thin::{Operator, ThinInsn};
 use jv_pool::{MemberName, Pool};
 
 /// What an instruction does.
@@ -68,33 +68,33 @@ pub(crate) fn names_write(pool: &Pool<'_>, index: u16) -> bool
 
 /// What an instruction does to a stack, or `None` where it doesn't fit the stack or its constant is
 /// of another kind.
-pub(crate) fn change_of(pool: &Pool<'_>, insn: Insn, stack: &[u32]) -> Option<Change>
+pub(crate) fn change_of(pool: &Pool<'_>, insn: ThinInsn, stack: &[u32]) -> Option<Change>
     ensures some { IfSome result (λ c. execute pool.now insn (words stack.now) ≡ Ok (effect_of (words stack.now) c)) }
     ensures taken { IfSome result (λ c. taken_by c ≤ length stack.now) }
     ensures none { IfNone result (IsErr (execute pool.now insn (words stack.now))) }
 {
     match insn {
-        Insn::Constant(value) => Some(Change::Replace(0, value.cast_unsigned())),
-        Insn::Pop => {
+        ThinInsn::Constant(value) => Some(Change::Replace(0, value.cast_unsigned())),
+        ThinInsn::Pop => {
             let (_top, _below) = top_of(stack)?;
             Some(Change::Discard)
         }
-        Insn::Negate => {
+        ThinInsn::Negate => {
             let (top, _below) = top_of(stack)?;
             Some(Change::Replace(1, negate(top)))
         }
-        Insn::Binary(operator) => {
+        ThinInsn::Binary(operator) => {
             let (second, below) = top_of(stack)?;
             let (first, _below) = top_of(below)?;
             Some(Change::Replace(2, compute(operator, first, second)))
         }
-        Insn::Invokestatic(index) => {
+        ThinInsn::Invokestatic(index) => {
             if !names_write(pool, index) {
                 return None;
             }
             let (top, _below) = top_of(stack)?;
             Some(Change::Write(top))
         }
-        Insn::Return => Some(Change::Leave),
+        ThinInsn::Return => Some(Change::Leave),
     }
 }

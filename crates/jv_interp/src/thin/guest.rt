@@ -1,20 +1,21 @@
 //! A guest of the thin machine.
 
 ghost use Rattle.std.specs.Prelude.{◌≡◌, ◌↔◌, Ok, Err, Some, None, OnOk, OnErr, IsErr, IsTrue, map};
-ghost use Rattle.jv_meaning.specs.Guest.{name_seen, end_seen};
+ghost use Rattle.jv_meaning.specs.Guest.{optional_name_of, ending_of};
 ghost use Rattle.jv_meaning.specs.declared.observation.End.TheVariants.{Running};
 ghost use Rattle.std.specs.Option.{option_map};
 ghost use Rattle.jv_pool.specs.Constants.{utf8_at};
 ghost use Rattle.jv_class_parts.specs.Seen.{seen_method, seen_code};
-ghost use Rattle.jv_meaning.specs.Thin.Machine.{is_named, is_main, main_code, program_of, start, next, end_of};
-ghost use Rattle.jv_interp.specs.Thin.GuestState.{GuestState, program_seen};
+ghost use Rattle.jv_meaning.specs.Thin.Machine.{equals_text, is_main, main_code, program_of, start, next, end_of_activity};
+ghost use Rattle.jv_interp.specs.Thin.GuestState.{GuestState};
+ghost use Rattle.jv_interp.specs.Inside.Machine.{program_with};
 ghost use Rattle.jv_interp.specs.declared.thin.fault.StepFault.TheVariants.{Stuck};
 
 use crate::thin::decode::insn_at;
 use crate::thin::execute::change_of;
 use crate::thin::fault::StepFault;
 use crate::thin::machine::{Machine, Stage};
-use jv_class::{ClassFile, Code, Method};
+use jv_class::{ClassFile, Method, MethodCode};
 use jv_meaning::End;
 use jv_pool::{Pool, Utf8Index};
 use std::alloc::Global;
@@ -24,22 +25,23 @@ use std::marker::Model;
 #[derive(Drop)]
 pub struct Guest<'a> {
     /// The main class, and the code of its main method.
-    program: Option<(ClassFile<'a>, Code<'a>)>,
+    program: Option<(ClassFile<'a>, MethodCode<'a>)>,
     machine: Machine,
 }
 
 impl<'a> Model for Guest<'a> {
     ghost use Rattle.std.specs.Option.{option_map};
-    ghost use Rattle.jv_interp.specs.Thin.GuestState.{GuestState, program_seen, locals_in, state_of};
+    ghost use Rattle.jv_interp.specs.Thin.GuestState.{GuestState};
+    ghost use Rattle.jv_interp.specs.Inside.Machine.{program_with, locals_in, state_of};
 
     ghost Value = { GuestState };
 
-    ghost view = { λ g. record { program = option_map program_seen g.program; state = state_of (locals_in (option_map program_seen g.program)) g.machine } };
+    ghost view = { λ g. record { program = option_map program_with g.program; state = state_of (locals_in (option_map program_with g.program)) g.machine } };
 }
 
 /// Whether the text at an index is this one.
-fn is_named(pool: &Pool<'_>, text: &[u8], index: Utf8Index) -> bool
-    ensures { result ≡ is_named text.now (utf8_at pool.now index.0) }
+fn equals_text(pool: &Pool<'_>, text: &[u8], index: Utf8Index) -> bool
+    ensures { result ≡ equals_text text.now (utf8_at pool.now index.0) }
 {
     match pool.utf8_index(index.0) {
         Some(index) => pool.utf8(index) == text,
@@ -53,8 +55,8 @@ fn is_main(pool: &Pool<'_>, method: Method<'_>) -> bool
 {
     method.access_flags.0 & 0x0001 != 0
         && method.access_flags.0 & 0x0008 != 0
-        && is_named(pool, b"main".as_slice(), method.name)
-        && is_named(
+        && equals_text(pool, b"main".as_slice(), method.name)
+        && equals_text(
             pool,
             b"([Ljava/lang/String;)V".as_slice(),
             method.descriptor,
@@ -62,7 +64,7 @@ fn is_main(pool: &Pool<'_>, method: Method<'_>) -> bool
 }
 
 /// The code of the first of some methods that is a main method.
-fn main_code<'a>(pool: &Pool<'_>, methods: &[Method<'a>]) -> Option<Code<'a>>
+fn main_code<'a>(pool: &Pool<'_>, methods: &[Method<'a>]) -> Option<MethodCode<'a>>
     ensures { option_map seen_code result ≡ main_code pool.now (map seen_method methods.now) }
 {
     let mut rest = methods;
@@ -76,8 +78,8 @@ fn main_code<'a>(pool: &Pool<'_>, methods: &[Method<'a>]) -> Option<Code<'a>>
 }
 
 /// What runs of a class for the name of a main class.
-fn program_of<'a>(class: ClassFile<'a>, main: &[u8]) -> Option<(ClassFile<'a>, Code<'a>)>
-    ensures { option_map program_seen result ≡ program_of main.now (Some class.entry) }
+fn program_of<'a>(class: ClassFile<'a>, main: &[u8]) -> Option<(ClassFile<'a>, MethodCode<'a>)>
+    ensures { option_map program_with result ≡ program_of main.now (Some class.entry) }
 {
     if class.name() != main {
         return None;
@@ -116,7 +118,7 @@ impl<'a> Guest<'a> {
 
     /// Whether the guest takes steps.
     pub fn is_running(&self) -> bool
-        ensures { IsTrue result ↔ (end_of self.now.state.activity ≡ Running) }
+        ensures { IsTrue result ↔ (end_of_activity self.now.state.activity ≡ Running) }
     {
         matches!(self.machine.stage, Stage::Initialization | Stage::Method(_))
     }
@@ -137,14 +139,14 @@ impl<'a> Guest<'a> {
 
     /// The name of the class of the last object that was thrown.
     pub fn last(&self) -> Option<&'static [u8]>
-        ensures { name_seen result ≡ self.now.state.last }
+        ensures { optional_name_of result ≡ self.now.state.last }
     {
         self.machine.last
     }
 
     /// How it ended, if it did.
     pub fn end(&self) -> End<&'static [u8]>
-        ensures { end_seen result ≡ end_of self.now.state.activity }
+        ensures { ending_of result ≡ end_of_activity self.now.state.activity }
     {
         match self.machine.stage {
             Stage::Initialization | Stage::Method(_) => End::Running,
@@ -157,7 +159,7 @@ impl<'a> Guest<'a> {
     /// Takes one step: the end of the initialization, or one instruction. After a fault the guest is
     /// as before.
     pub fn step(&mut self) -> Result<(), StepFault>
-        requires { end_of self.old.state.activity ≡ Running }
+        requires { end_of_activity self.old.state.activity ≡ Running }
         ensures ok { OnOk result (next self.old.program self.old.state ≡ Ok self.new.state) }
         ensures program { self.new.program ≡ self.old.program }
         ensures stuck { result ≡ Err Stuck → IsErr (next self.old.program self.old.state) }

@@ -1,11 +1,11 @@
 //! The state of a guest that runs.
 
 ghost use Rattle.std.specs.Prelude.{◌≡◌, ◌≢◌, ◌≤◌, ℕ, List, OnOk, OnErr, Err, [], length};
-ghost use Rattle.jv_meaning.specs.Thin.Machine.{Word, thrown};
+ghost use Rattle.jv_meaning.specs.Thin.Machine.{Word, after_throw};
 ghost use Rattle.jv_meaning.specs.Thin.Machine.Activity.{Method};
-ghost use Rattle.jv_interp.specs.Thin.Words.{taken_by};
-ghost use Rattle.jv_interp.specs.Thin.GuestState.{state_of};
-ghost use Rattle.jv_interp.specs.Thin.Acts.{Acts, IsStuck, IsSame};
+ghost use Rattle.jv_interp.specs.Inside.Words.{taken_by};
+ghost use Rattle.jv_interp.specs.Inside.Machine.{state_of};
+ghost use Rattle.jv_interp.specs.Inside.Acts.{Acts, IsStuck, IsSame};
 ghost use Rattle.jv_interp.specs.declared.thin.fault.StepFault.TheVariants.{Stuck};
 
 use crate::thin::execute::Change;
@@ -128,7 +128,7 @@ impl Machine {
 
     /// An object of a class is thrown, and nothing catches it.
     fn throw(&mut self, class: &'static [u8])
-        ensures { (locals : List Word) → state_of locals self.new ≡ thrown class.now (state_of locals self.old) }
+        ensures { (locals : List Word) → state_of locals self.new ≡ after_throw class.now (state_of locals self.old) }
     {
         self.stage = Stage::Threw(class);
         self.throws = self.throws.saturating_add(1);

@@ -1,7 +1,7 @@
 //! The operand stack as words without tags (JVMS 2.6.2), whose top is last.
 
 ghost use Rattle.std.specs.Prelude.{◌≡◌, ◌≤◌, ◌+◌, [], ◌∷◌, IfSome, IfNone, OnOk, OnErr, length, drop};
-ghost use Rattle.jv_interp.specs.Thin.Words.{words, int_of};
+ghost use Rattle.jv_interp.specs.Inside.Words.{words, int_of};
 
 use std::alloc::AllocFailed;
 

@@ -9,41 +9,41 @@ use Rattle.jv_class_parts.specs.Flags.{acc_static, acc_synchronized}
 use Rattle.jv_class_parts.specs.Parts.{CodeSeen, MethodSeen}
 use Rattle.jv_class.specs.Rules.{is_object, methods_of}
 use Rattle.jv_class.specs.ClassFile.{class_name}
-use Rattle.jv_meaning.specs.declared.thin.insn.Insn.{Insn}
-use Rattle.jv_meaning.specs.declared.thin.insn.Insn.TheVariants.{Constant, Pop, Negate, Binary, Invokestatic, Return}
+use Rattle.jv_meaning.specs.declared.thin.insn.ThinInsn.{ThinInsn}
+use Rattle.jv_meaning.specs.declared.thin.insn.ThinInsn.TheVariants.{Constant, Pop, Negate, Binary, Invokestatic, Return}
 use Rattle.jv_meaning.specs.Thin.Instructions.{first_insn}
 use Rattle.jv_meaning.specs.Thin.Machine.{names_write}
 
 -- how many ints an instruction takes from the stack, and how many it leaves there (6.5)
-abbrev pub takes : Insn → ℕ
-takes (Constant value) = 0
-takes Pop = 1
-takes Negate = 1
-takes (Binary operator) = 2
-takes (Invokestatic index) = 1
-takes Return = 0
+abbrev pub operand_count : ThinInsn → ℕ
+operand_count (Constant value) = 0
+operand_count Pop = 1
+operand_count Negate = 1
+operand_count (Binary operator) = 2
+operand_count (Invokestatic index) = 1
+operand_count Return = 0
 
-abbrev pub gives : Insn → ℕ
-gives (Constant value) = 1
-gives Pop = 0
-gives Negate = 1
-gives (Binary operator) = 1
-gives (Invokestatic index) = 0
-gives Return = 0
+abbrev pub result_count : ThinInsn → ℕ
+result_count (Constant value) = 1
+result_count Pop = 0
+result_count Negate = 1
+result_count (Binary operator) = 1
+result_count (Invokestatic index) = 0
+result_count Return = 0
 
 -- an instruction of the line: no return, and a call only of `write`
-abbrev pub IsInLine : List Entry → Insn → Type 0
+abbrev pub IsInLine : List Entry → ThinInsn → Type 0
 IsInLine pool (Invokestatic index) = IsTrue (names_write (method_reference_at pool index))
 IsInLine pool Return = ⊥
 IsInLine pool _ = Unit {0}
 
 -- The bytes are these instructions and a return, one after the other and nothing more, and from this depth of the stack
 -- on it is never lower than an instruction takes nor higher than allowed.
-abbrev pub IsLine : List Entry → (max_stack depth : ℕ) → List ℕ → List Insn → Type 0
+abbrev pub IsLine : List Entry → (max_stack depth : ℕ) → List ℕ → List ThinInsn → Type 0
 IsLine pool max_stack depth bytes [] = first_insn bytes ≡ Some (Return, length bytes)
 IsLine pool max_stack depth bytes (i ∷ insns) =
-    (size : ℕ) × (first_insn bytes ≡ Some (i, size)) × IsInLine pool i × (takes i ≤ depth) × (depth - takes i + gives i ≤ max_stack)
-    × IsLine pool max_stack (depth - takes i + gives i) (drop size bytes) insns
+    (size : ℕ) × (first_insn bytes ≡ Some (i, size)) × IsInLine pool i × (operand_count i ≤ depth) × (depth - operand_count i + result_count i ≤ max_stack)
+    × IsLine pool max_stack (depth - operand_count i + result_count i) (drop size bytes) insns
 
 -- a name in a package that guests may not add to (own)
 abbrev pub is_reserved : List ℕ → Bool
@@ -55,15 +55,15 @@ pub record IsMainLike (pool : List Entry) (m : MethodSeen) : Type 0 where
   pub unlocked : bit_and m.access_flags acc_synchronized ≡ 0
   pub descriptor : utf8_at pool m.descriptor_index ≡ Some (codes "([Ljava/lang/String;)V")
 
--- code that is a line, without handlers and stack map frames, whose arguments fit the locals, and whose frame is small
+-- code that is a line, without handlers and a StackMapTable, whose arguments fit the locals, and whose frame is small
 pub record IsShortLine (pool : List Entry) (code : CodeSeen) : Type 0 where
   pub no_handlers : code.exception_table ≡ []
   pub no_frames : code.stack_map_table ≡ None
   pub arguments : 1 ≤ code.max_locals
   pub small : code.max_locals + code.max_stack ≤ 32
-  pub line : (insns : List Insn) × IsLine pool code.max_stack 0 code.code insns
+  pub line : (insns : List ThinInsn) × IsLine pool code.max_stack 0 code.code insns
 
--- a class below java/lang/Object without interfaces and fields; other attributes than those of its code are passed over
+-- a class below java/lang/Object without interfaces and fields; attributes that the format rules do not ask about are passed over
 pub record IsPlain (c : ClassStructure) : Type 0 where
   pub superclass : IsTrue (some_and is_object (class_name_at c.constant_pool c.super_class))
   pub no_interfaces : c.interfaces ≡ []

@@ -9,7 +9,7 @@ use Rattle.jv_meaning.specs.declared.observation.Verdict.TheVariants as verdicts
 use Rattle.jv_meaning.specs.declared.observation.End.TheVariants.{Running}
 use Rattle.jv_meaning.specs.Guest.{Guest, Observed}
 use Rattle.jv_meaning.specs.Thin.Accepted.{IsAccepted}
-use Rattle.jv_meaning.specs.Thin.Machine.{State, Fault, program_of, after, end_of}
+use Rattle.jv_meaning.specs.Thin.Machine.{State, Fault, program_of, state_after, end_of_activity}
 
 -- what is found of a file: its verdict, with the class where it has one
 pub data Judgement : Type 0 where
@@ -36,15 +36,15 @@ verdict_of (Unsupported class) = verdicts.Unsupported
 verdict_of (Accepted class) = verdicts.Accepted
 
 -- the class that may run
-abbrev pub loaded : Judgement → Option ClassStructure
-loaded Version = None
-loaded Format = None
-loaded (Unsupported class) = None
-loaded (Accepted class) = Some class
+abbrev pub runnable_class_of : Judgement → Option ClassStructure
+runnable_class_of Version = None
+runnable_class_of Format = None
+runnable_class_of (Unsupported class) = None
+runnable_class_of (Accepted class) = Some class
 
 -- the state of a guest whose file was judged, after so many of its own steps
 abbrev pub alone : Judgement → Guest → Budget → ℕ → Result State Fault
-alone j g b n = after (program_of g.main (loaded j)) b.output n
+alone j g b n = state_after (program_of g.main (runnable_class_of j)) b.output n
 
 -- what a state shows
 abbrev pub observation : Judgement → ℕ → State → Observed
@@ -54,7 +54,7 @@ observation j n s = record {
   output = s.output;
   throws = s.throws;
   last = s.last;
-  end = end_of s.activity;
+  end = end_of_activity s.activity;
 }
 
 -- A guest of one file shows this after n of its own steps, alone.

@@ -11,8 +11,8 @@ use Rattle.jv_class.specs.Rules.{methods_of}
 use Rattle.jv_class.specs.ClassFile.{class_name}
 use Rattle.jv_meaning.specs.declared.observation.End.{End}
 use Rattle.jv_meaning.specs.declared.observation.End.TheVariants as ends
-use Rattle.jv_meaning.specs.declared.thin.insn.Insn.{Insn}
-use Rattle.jv_meaning.specs.declared.thin.insn.Insn.TheVariants as insns
+use Rattle.jv_meaning.specs.declared.thin.insn.ThinInsn.{ThinInsn}
+use Rattle.jv_meaning.specs.declared.thin.insn.ThinInsn.TheVariants as insns
 use Rattle.jv_meaning.specs.declared.thin.insn.Operator.{Operator}
 use Rattle.jv_meaning.specs.declared.thin.insn.Operator.TheVariants as operators
 use Rattle.jv_meaning.specs.Thin.Instructions.{first_insn}
@@ -43,7 +43,7 @@ pub record State : Type 0 where
   pub throws : ℕ
   pub last : Option (List ℕ)
 
--- what a defensive machine refuses: no instruction starts here or its constant is of another kind, the stack is too
+-- what a defensive machine refuses: no instruction of the thin machine starts here or its constant names something else, the stack is too
 -- low or too high, a word has another tag than the instruction takes
 pub data Fault : Type 0 where
   Offset : Fault
@@ -62,16 +62,16 @@ pub record Program : Type 0 where
   pub constant_pool : List Entry
   pub code : CodeSeen
 
-abbrev pub is_named : List ℕ → Option (List ℕ) → Bool
-is_named name None = false
-is_named name (Some text) = bytes_eq text name
+abbrev pub equals_text : List ℕ → Option (List ℕ) → Bool
+equals_text name None = false
+equals_text name (Some text) = bytes_eq text name
 
 -- a `public static` method `main` that takes an array of String and gives nothing (4.6)
 abbrev pub is_main : List Entry → MethodSeen → Bool
 is_main pool m =
     has m.access_flags acc_public && has m.access_flags acc_static
-    && is_named (codes "main") (utf8_at pool m.name_index)
-    && is_named (codes "([Ljava/lang/String;)V") (utf8_at pool m.descriptor_index)
+    && equals_text (codes "main") (utf8_at pool m.name_index)
+    && equals_text (codes "([Ljava/lang/String;)V") (utf8_at pool m.descriptor_index)
 
 -- the code of the first method that is the main method
 abbrev pub main_code : List Entry → List MethodSeen → Option CodeSeen
@@ -86,7 +86,7 @@ program_with pool (Some code) = Some (record { constant_pool = pool; code = code
 abbrev pub program_of : List ℕ → Option ClassStructure → Option Program
 program_of main None = None
 program_of main (Some c) =
-    if is_named main (class_name c) then program_with c.constant_pool (main_code c.constant_pool (methods_of c)) else None
+    if equals_text main (class_name c) then program_with c.constant_pool (main_code c.constant_pool (methods_of c)) else None
 
 -- ---- instructions (6.5)
 
@@ -124,7 +124,7 @@ pop_int (Reference object ∷ stack) = Err Tag
 pop_int (Unset ∷ stack) = Err Tag
 
 -- an instruction on a stack, whose top stands first
-abbrev pub execute : List Entry → Insn → List Word → Result Effect Fault
+abbrev pub execute : List Entry → ThinInsn → List Word → Result Effect Fault
 execute pool (insns.Constant value) stack = Ok (Goes (Int value ∷ stack))
 execute pool insns.Pop stack = pop stack >>= λ a. Ok (Goes a.1)
 execute pool insns.Negate stack = pop_int stack >>= λ a. Ok (Goes (Int (int_wrapping_neg w32 a.0) ∷ a.1))
@@ -144,13 +144,13 @@ abbrev pub out_of_memory : List ℕ
 out_of_memory = codes "java/lang/OutOfMemoryError"
 
 -- an object of a class is thrown: nothing catches it, and the guest is over. The number of throws stays at 2^64 - 1.
-abbrev pub thrown : List ℕ → State → State
-thrown name s = record s { activity = Threw name; throws = min (s.throws + 1) (2 ^ 64 - 1); last = Some name }
+abbrev pub after_throw : List ℕ → State → State
+after_throw name s = record s { activity = Threw name; throws = min (s.throws + 1) (2 ^ 64 - 1); last = Some name }
 
 -- a byte is written, where the budget has room for it; else the OutOfMemoryError of the start is thrown
-abbrev pub written : ℤ → Activity → State → State
-written value next s =
-    if s.output_left == 0 then thrown out_of_memory s
+abbrev pub after_write : ℤ → Activity → State → State
+after_write value next s =
+    if s.output_left == 0 then after_throw out_of_memory s
     else record s { activity = next; output = s.output ++ (cast_unsigned w32 value % 256) ∷ []; output_left = s.output_left - 1 }
 
 -- the stack stays within max_stack
@@ -160,16 +160,16 @@ test_stack code stack = if nat_le (length stack) code.max_stack then Ok stack el
 -- what an instruction's effect makes of the state, where the next one has an offset
 abbrev pub act : CodeSeen → ℕ → List Word → State → Effect → Result State Fault
 act code next locals s (Goes stack) = test_stack code stack >>= λ stack. Ok (record s { activity = Method next locals stack })
-act code next locals s (Writes value stack) = Ok (written value (Method next locals stack) s)
+act code next locals s (Writes value stack) = Ok (after_write value (Method next locals stack) s)
 act code next locals s Leaves = Ok (record s { activity = Returned })
 
 -- the instruction at an offset
-abbrev pub fetched : Option (Insn × ℕ) → Result (Insn × ℕ) Fault
-fetched None = Err Offset
-fetched (Some insn) = Ok insn
+abbrev pub insn_or_fault : Option (ThinInsn × ℕ) → Result (ThinInsn × ℕ) Fault
+insn_or_fault None = Err Offset
+insn_or_fault (Some insn) = Ok insn
 
-abbrev pub fetch : CodeSeen → ℕ → Result (Insn × ℕ) Fault
-fetch code offset = fetched (first_insn (drop offset code.code))
+abbrev pub fetch : CodeSeen → ℕ → Result (ThinInsn × ℕ) Fault
+fetch code offset = insn_or_fault (first_insn (drop offset code.code))
 
 -- One step: the end of the initialization, which has no task, enters main; or one instruction. What is over stays.
 abbrev pub step_at : Program → State → Activity → Result State Fault
@@ -186,13 +186,13 @@ step p s = step_at p s s.activity
 -- ---- runs
 
 -- nothing written and nothing thrown, with this much output allowed
-abbrev pub begun : Activity → ℕ → State
-begun activity output = record { activity = activity; output = []; output_left = output; throws = 0; last = None }
+abbrev pub state_at : Activity → ℕ → State
+state_at activity output = record { activity = activity; output = []; output_left = output; throws = 0; last = None }
 
 -- the start: the initialization of the main class, or the end where there is nothing to run
 abbrev pub start : Option Program → ℕ → State
-start None output = begun NoMain output
-start (Some p) output = begun Initialization output
+start None output = state_at NoMain output
+start (Some p) output = state_at Initialization output
 
 -- a step of what runs; nothing goes on where nothing runs
 abbrev pub next : Option Program → State → Result State Fault
@@ -200,14 +200,14 @@ next None s = Ok s
 next (Some p) s = step p s
 
 -- the state after so many steps from the start
-abbrev pub after : Option Program → ℕ → ℕ → Result State Fault
-after p output zero = Ok (start p output)
-after p output (suc n) = after p output n >>= next p
+abbrev pub state_after : Option Program → ℕ → ℕ → Result State Fault
+state_after p output zero = Ok (start p output)
+state_after p output (suc n) = state_after p output n >>= next p
 
 -- how a guest ended, if it did
-abbrev pub end_of : Activity → End (List ℕ)
-end_of Initialization = ends.Running
-end_of (Method offset locals stack) = ends.Running
-end_of Returned = ends.Returned
-end_of (Threw class) = ends.Threw class
-end_of NoMain = ends.NoMain
+abbrev pub end_of_activity : Activity → End (List ℕ)
+end_of_activity Initialization = ends.Running
+end_of_activity (Method offset locals stack) = ends.Running
+end_of_activity Returned = ends.Returned
+end_of_activity (Threw class) = ends.Threw class
+end_of_activity NoMain = ends.NoMain

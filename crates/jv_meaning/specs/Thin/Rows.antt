@@ -4,10 +4,10 @@ use Rattle.jv_pool.specs.Constants.{Entry}
 use Rattle.jv_pool.specs.declared.constant.Constant.TheVariants.{Utf8, Class, NameAndType, Methodref}
 use Rattle.jv_class_parts.specs.Structure.{CodeAttribute, MethodInfo, ClassStructure, class_bytes}
 use Rattle.jv_class_parts.specs.Structure.MethodAttribute.{Code}
-use Rattle.jv_meaning.specs.declared.thin.insn.Insn.TheVariants.{Constant}
+use Rattle.jv_meaning.specs.declared.thin.insn.ThinInsn.TheVariants.{Constant}
 use Rattle.jv_meaning.specs.declared.thin.insn.Operator.TheVariants as operators
 use Rattle.jv_meaning.specs.Thin.Instructions.{first_insn}
-use Rattle.jv_meaning.specs.Thin.Machine.{Program, program_of, after, compute}
+use Rattle.jv_meaning.specs.Thin.Machine.{Program, program_of, state_after, compute}
 use Rattle.jv_meaning.specs.Thin.Machine.Activity.{Returned, Threw, NoMain}
 use Rattle.jv_meaning.specs.Thin.Machine.Fault.{Offset, Stack}
 use Rattle.jv_meaning.specs.Thin.Accepted.{IsAccepted}
@@ -68,22 +68,22 @@ pub record WorkedRows : Type 0 where
   pub hi_accepted : IsAccepted hi_class
   pub hi_program : program_of (codes "Hi") (Some hi_class) ≡ with_code 1 hi_code.code
   -- it writes Hi and returns, in 6 steps, of which one ends the initialization of its class; then nothing goes on
-  pub hi : after (program_of (codes "Hi") (Some hi_class)) 64 6
+  pub hi : state_after (program_of (codes "Hi") (Some hi_class)) 64 6
       ≡ Ok (record { activity = Returned; output = codes "Hi"; output_left = 62; throws = 0; last = None })
-  pub hi_over : after (program_of (codes "Hi") (Some hi_class)) 64 9 ≡ after (program_of (codes "Hi") (Some hi_class)) 64 6
+  pub hi_over : state_after (program_of (codes "Hi") (Some hi_class)) 64 9 ≡ state_after (program_of (codes "Hi") (Some hi_class)) 64 6
   -- with room for one byte the second write throws
-  pub one_byte_of_output : after (program_of (codes "Hi") (Some hi_class)) 1 5
+  pub one_byte_of_output : state_after (program_of (codes "Hi") (Some hi_class)) 1 5
       ≡ Ok (record { activity = Threw (codes "java/lang/OutOfMemoryError"); output = codes "H"; output_left = 0; throws = 1; last = Some (codes "java/lang/OutOfMemoryError") })
   -- a class of another name has no main method
-  pub no_main : after (program_of (codes "Ho") (Some hi_class)) 64 0
+  pub no_main : state_after (program_of (codes "Ho") (Some hi_class)) 64 0
       ≡ Ok (record { activity = NoMain; output = []; output_left = 64; throws = 0; last = None })
   -- minus one is 255 where it is written: iconst_m1, write, return
-  pub low_byte : after (with_code 1 (2 ∷ 184 ∷ 0 ∷ 13 ∷ 177 ∷ [])) 64 4
+  pub low_byte : state_after (with_code 1 (2 ∷ 184 ∷ 0 ∷ 13 ∷ 177 ∷ [])) 64 4
       ≡ Ok (record { activity = Returned; output = 255 ∷ []; output_left = 63; throws = 0; last = None })
   -- faults: pop of an empty stack, two ints on a stack of one word, and an opcode that is no instruction here
-  pub empty_stack : after (with_code 1 (87 ∷ 177 ∷ [])) 64 2 ≡ Err Stack
-  pub full_stack : after (with_code 1 (4 ∷ 4 ∷ 177 ∷ [])) 64 3 ≡ Err Stack
-  pub no_instruction : after (with_code 1 (0 ∷ 177 ∷ [])) 64 2 ≡ Err Offset
+  pub empty_stack : state_after (with_code 1 (87 ∷ 177 ∷ [])) 64 2 ≡ Err Stack
+  pub full_stack : state_after (with_code 1 (4 ∷ 4 ∷ 177 ∷ [])) 64 3 ≡ Err Stack
+  pub no_instruction : state_after (with_code 1 (0 ∷ 177 ∷ [])) 64 2 ≡ Err Offset
   -- instructions (6.5): sipush -2, of its three bytes; an operand that is cut
   pub sipush : first_insn (17 ∷ 255 ∷ 254 ∷ 177 ∷ []) ≡ Some (Constant (negsuc 1), 3)
   pub cut_operand : first_insn (17 ∷ 255 ∷ []) ≡ None

@@ -2,7 +2,7 @@
 
 /// An instruction of the thin machine.
 #[derive(Clone, Copy)]
-pub enum Insn {
+pub enum ThinInsn {
     /// iconst, bipush and sipush push an int.
     Constant(i32),
     /// pop takes a value away.

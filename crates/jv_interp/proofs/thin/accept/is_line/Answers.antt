@@ -1,9 +1,9 @@
 use Rattle.std.proofs.Common.{◌≡◌, ℕ, ◌+◌, ◌-◌, List, drop, Some, refl, sym, ap, subst, ◌∙◌, eq-eqb, arith}
 use Rattle.std.proofs.lemmas.Bool.{eqb-true}
-use Rattle.jv_meaning.specs.declared.thin.insn.Insn.TheVariants.{Return}
+use Rattle.jv_meaning.specs.declared.thin.insn.ThinInsn.TheVariants.{Return}
 use Rattle.jv_meaning.specs.Thin.Instructions.{first_insn}
-use Rattle.jv_meaning.specs.Thin.Accepted.{takes, gives}
-use Rattle.jv_interp.specs.Thin.Lines.{HasLine, KeepsTo}
+use Rattle.jv_meaning.specs.Thin.Accepted.{operand_count, result_count}
+use Rattle.jv_interp.specs.Inside.Lines.{HasLine, KeepsTo}
 use Rattle.jv_interp.proofs.Lines.{line_from_rest, rest_from_line, no_line, line_from_return, return_from_line}
 use Rattle.jv_interp.proofs.thin.accept.is_line.Goals as goal
 
@@ -37,16 +37,16 @@ loop-insn-preserved c =
     let first = sym (c.in-Some.ensures {u = tt}).insn in
     let some = (c.in-Some-depth_after.ensures {u = tt}).some in
     let keeps : KeepsTo c.args.pool.now c.args.max_stack loop.depth insn = subst (λ (n : ℕ). KeepsTo c.args.pool.now n loop.depth insn) c.from.ensures some.0 in
-    let depth : c.in-Some-depth_after.after ≡ loop.depth - takes insn + gives insn = some.1 in
+    let depth : c.in-Some-depth_after.after ≡ loop.depth - operand_count insn + result_count insn = some.1 in
     let rest : c.split_at.result.1.now ≡ drop size loop.rest.now = c.split_at.ensures.back in
     record {
       whole = λ line. loop.invariant.whole (line_from_rest c.args.pool.now c.args.max_stack loop.depth loop.rest.now insn size first keeps
-          (subst (λ (xs : List ℕ). HasLine c.args.pool.now c.args.max_stack (loop.depth - takes insn + gives insn) xs) rest
+          (subst (λ (xs : List ℕ). HasLine c.args.pool.now c.args.max_stack (loop.depth - operand_count insn + result_count insn) xs) rest
           (subst (λ (n : ℕ). HasLine c.args.pool.now c.args.max_stack n c.split_at.result.1.now) depth line)));
       rest = λ line.
           let behind = rest_from_line c.args.pool.now c.args.max_stack loop.depth loop.rest.now insn size first other (loop.invariant.rest line) in
           subst (λ (n : ℕ). HasLine c.args.pool.now c.args.max_stack n c.split_at.result.1.now) (sym depth)
-          (subst (λ (xs : List ℕ). HasLine c.args.pool.now c.args.max_stack (loop.depth - takes insn + gives insn) xs) (sym rest) behind.1);
+          (subst (λ (xs : List ℕ). HasLine c.args.pool.now c.args.max_stack (loop.depth - operand_count insn + result_count insn) xs) (sym rest) behind.1);
       low = omega (arith, keeps.high, depth, c.ranges.max_stack.fits);
     }
 

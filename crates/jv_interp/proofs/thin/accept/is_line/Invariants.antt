@@ -1,5 +1,5 @@
 use Rattle.std.proofs.Common.{◌≤◌, length}
-use Rattle.jv_interp.specs.Thin.Lines.{HasLine}
+use Rattle.jv_interp.specs.Inside.Lines.{HasLine}
 use Rattle.jv_interp.proofs.thin.accept.is_line.Given as goal
 
 -- what is left is a line exactly where the whole code is one

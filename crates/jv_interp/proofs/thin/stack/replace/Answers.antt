@@ -1,7 +1,7 @@
 use Rattle.std.proofs.Common.{◌≡◌, ℕ, ◌-◌, List, length, arith, ◌∙◌, ap}
 use Rattle.std.specs.Prelude.{slice_set}
 use Rattle.jv_interp.proofs.Stacks.{replaced}
-use Rattle.jv_interp.specs.Thin.Words.{words}
+use Rattle.jv_interp.specs.Inside.Words.{words}
 use Rattle.jv_interp.proofs.thin.stack.replace.Goals as goal
 
 pub returns-clause-ok : goal.returns-clause-ok

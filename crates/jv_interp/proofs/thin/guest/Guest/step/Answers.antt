@@ -3,24 +3,25 @@ use Rattle.std.specs.Prelude.{IsErr}
 use Rattle.std.proofs.lemmas.Result.{on_ok_weaker}
 use Rattle.std.specs.Option.{option_map}
 use Rattle.jv_meaning.specs.Thin.Machine.{next}
-use Rattle.jv_interp.specs.Thin.GuestState.{GuestState, program_seen, locals_in}
-use Rattle.jv_interp.specs.Thin.Acts.{Acts}
+use Rattle.jv_interp.specs.Thin.GuestState.{GuestState}
+use Rattle.jv_interp.specs.Inside.Machine.{program_with, locals_in}
+use Rattle.jv_interp.specs.Inside.Acts.{Acts}
 use Rattle.jv_interp.proofs.Steps.{step_enters, insn_steps}
 use Rattle.jv_interp.proofs.thin.guest.Guest.step.Goals as goal
 
 pub returns-in-Initialization-clause-ok : goal.returns-in-Initialization-clause-ok
 returns-in-Initialization-clause-ok c =
-    let p = option_map program_seen c.self.inside.program in
-    let q = program_seen (c.in-Some.class, c.in-Some.code) in
-    let is : p ≡ Some q = ap (option_map program_seen) c.in-Some.is in
+    let p = option_map program_with c.self.inside.program in
+    let q = program_with (c.in-Some.class, c.in-Some.code) in
+    let is : p ≡ Some q = ap (option_map program_with) c.in-Some.is in
     ap (λ (g : GuestState). next g.program g.state) (sym c.self.view_is)
     ∙ step_enters p q is c.self.inside.machine _ c.in-Initialization.is (c.enter.ensures (locals_in p))
 
 pub returns-in-Some-change_of-clause-ok : goal.returns-in-Some-change_of-clause-ok
 returns-in-Some-change_of-clause-ok c =
-    let p = option_map program_seen c.self.inside.program in
-    let q = program_seen (c.in-Some.class, c.in-Some.code) in
-    let is : p ≡ Some q = ap (option_map program_seen) c.in-Some.is in
+    let p = option_map program_with c.self.inside.program in
+    let q = program_with (c.in-Some.class, c.in-Some.code) in
+    let is : p ≡ Some q = ap (option_map program_with) c.in-Some.is in
     let step = insn_steps p q is c.self.inside.machine _ c.in-Method.offset c.in-Some-insn_at.next c.in-Some-insn_at.insn c.in-Some-change_of.change
     c.pool.result.now c.deref.result.now c.in-Method.offset-is c.in-Method.is c.in-Some-insn_at.ensures.next c.in-Some-insn_at.ensures.some
     c.pool.ensures c.deref.ensures.value (c.in-Some-change_of.ensures {u = tt}).some in
@@ -29,9 +30,9 @@ returns-in-Some-change_of-clause-ok c =
 
 pub returns-in-Some-change_of-clause-stuck : goal.returns-in-Some-change_of-clause-stuck
 returns-in-Some-change_of-clause-stuck c = λ e.
-    let p = option_map program_seen c.self.inside.program in
-    let q = program_seen (c.in-Some.class, c.in-Some.code) in
-    let is : p ≡ Some q = ap (option_map program_seen) c.in-Some.is in
+    let p = option_map program_with c.self.inside.program in
+    let q = program_with (c.in-Some.class, c.in-Some.code) in
+    let is : p ≡ Some q = ap (option_map program_with) c.in-Some.is in
     let step = insn_steps p q is c.self.inside.machine _ c.in-Method.offset c.in-Some-insn_at.next c.in-Some-insn_at.insn c.in-Some-change_of.change
     c.pool.result.now c.deref.result.now c.in-Method.offset-is c.in-Method.is c.in-Some-insn_at.ensures.next c.in-Some-insn_at.ensures.some
     c.pool.ensures c.deref.ensures.value (c.in-Some-change_of.ensures {u = tt}).some in

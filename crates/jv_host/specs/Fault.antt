@@ -1,0 +1,20 @@
+-- The names of the host's refusals.
+use Rattle.std.specs.Prelude.{ℕ, List, codes}
+use Rattle.jv_host.specs.declared.fault.AdmitFault.{AdmitFault}
+use Rattle.jv_host.specs.declared.fault.AdmitFault.TheVariants as refusals
+use Rattle.jv_host.specs.declared.fault.TurnFault.{TurnFault}
+use Rattle.jv_host.specs.declared.fault.TurnFault.TheVariants as stops
+
+abbrev pub admit_fault_name : AdmitFault → List ℕ
+admit_fault_name refusals.NoFiles = codes "NoFiles"
+admit_fault_name refusals.TooManyFiles = codes "TooManyFiles"
+admit_fault_name refusals.FileTooLong = codes "FileTooLong"
+admit_fault_name refusals.InputTooLong = codes "InputTooLong"
+admit_fault_name refusals.BudgetOutOfRange = codes "BudgetOutOfRange"
+admit_fault_name refusals.TooManyGuests = codes "TooManyGuests"
+admit_fault_name refusals.HostMemory = codes "HostMemory"
+
+abbrev pub turn_fault_name : TurnFault → List ℕ
+turn_fault_name stops.NoGuest = codes "NoGuest"
+turn_fault_name (stops.Stuck steps) = codes "Stuck"
+turn_fault_name (stops.HostMemory steps) = codes "HostMemory"

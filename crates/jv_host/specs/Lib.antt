@@ -1,0 +1,5 @@
+pub mod Calls
+pub mod Fault
+pub mod Host
+pub mod Inside
+pub mod Limits

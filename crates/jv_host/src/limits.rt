@@ -1,0 +1,100 @@
+//! What the host takes.
+
+ghost use Rattle.std.specs.Prelude.{◌≡◌, ◌==◌, nat_lt, length};
+ghost use Rattle.std.specs.List.{list_any};
+ghost use Rattle.jv_meaning.specs.Guest.{guest_of};
+ghost use Rattle.jv_host.specs.Limits.{first_refusal, is_long_file, is_from_to, is_in_range};
+
+use crate::fault::AdmitFault;
+use jv_meaning::{Budget, GuestFiles};
+
+/// The most files of a guest.
+const FILES: usize = 1;
+
+/// The most bytes of a file.
+const FILE_BYTES: usize = 4_194_304;
+
+/// The most bytes of a guest's input.
+const INPUT_BYTES: usize = 16_777_216;
+
+/// The most guests.
+const GUESTS: usize = 1;
+
+fn is_from_to(least: u32, most: u32, n: u32) -> bool
+    ensures { result ≡ is_from_to least most n }
+{
+    least <= n && n <= most
+}
+
+/// Whether each number of a budget is one that a guest may have.
+fn is_in_range(budget: Budget) -> bool
+    ensures { result ≡ is_in_range budget }
+{
+    is_from_to(64, 16_777_216, budget.cells)
+        && is_from_to(64, 1_048_576, budget.words)
+        && budget.output <= 1_048_576
+}
+
+/// Whether a file is longer than a file may be.
+fn is_long_file(file: &[u8]) -> bool
+    ensures { result ≡ is_long_file file.now }
+{
+    file.len() > FILE_BYTES
+}
+
+/// Whether there is a file longer than a file may be.
+fn any_long_file(files: &[&[u8]]) -> bool
+    ensures { result ≡ list_any (λ file. is_long_file file.now) files.now }
+{
+    files.iter().any(|file| is_long_file(file))
+}
+
+fn has_no_files(files: &GuestFiles<'_>) -> bool
+    ensures { result ≡ (length (guest_of files.now).files == 0) }
+{
+    files.files.is_empty()
+}
+
+fn has_too_many_files(files: &GuestFiles<'_>) -> bool
+    ensures { result ≡ nat_lt 1 (length (guest_of files.now).files) }
+{
+    files.files.len() > FILES
+}
+
+#[tactic(auto, using(crate::proofs::Files::any_long_file))]
+fn has_long_file(files: &GuestFiles<'_>) -> bool
+    ensures { result ≡ list_any is_long_file (guest_of files.now).files }
+{
+    any_long_file(files.files)
+}
+
+fn has_long_input(files: &GuestFiles<'_>) -> bool
+    ensures { result ≡ nat_lt 16777216 (length (guest_of files.now).input) }
+{
+    files.input.len() > INPUT_BYTES
+}
+
+/// The first reason to refuse a guest, where so many are held.
+pub(crate) fn first_refusal(
+    files: &GuestFiles<'_>,
+    budget: Budget,
+    guests: usize,
+) -> Option<AdmitFault>
+    ensures { result ≡ first_refusal (guest_of files.now) budget guests }
+{
+    if has_no_files(files) {
+        Some(AdmitFault::NoFiles)
+    } else if has_too_many_files(files) {
+        Some(AdmitFault::TooManyFiles)
+    } else if has_long_file(files) {
+        Some(AdmitFault::FileTooLong)
+    } else if has_long_input(files) {
+        Some(AdmitFault::InputTooLong)
+    } else if !is_in_range(budget) {
+        Some(AdmitFault::BudgetOutOfRange)
+    } else if guests >= GUESTS {
+        Some(AdmitFault::TooManyGuests)
+    } else {
+        None
+    }
+}

@@ -1,0 +1,9 @@
+//! Tests of the host and of the program's reports.
+#![tactic(auto)]
+
+#[cfg(test)]
+mod folder;
+#[cfg(test)]
+mod host;
+#[cfg(test)]
+mod report;

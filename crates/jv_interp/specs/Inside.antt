@@ -1,0 +1,4 @@
+pub mod Acts
+pub mod Lines
+pub mod Machine
+pub mod Words

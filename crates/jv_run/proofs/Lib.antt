@@ -1,0 +1,4 @@
+pub mod ClassFileNames
+pub mod Lines
+pub mod Outcomes
+pub mod Turns

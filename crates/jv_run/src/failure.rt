@@ -1,0 +1,70 @@
+//! Why there is no report: the status that the program ends with, and its line.
+ghost use Rattle.std.specs.Prelude.{◌≡◌, Some};
+ghost use Rattle.jv_run.specs.Failure.{failure_line, failure_of, failure_status};
+ghost use Rattle.jv_run.specs.declared.failure.Failure.TheVariants.{Memory};
+
+use crate::escape::Escaped;
+use jv_host::AdmitFault;
+use std::alloc::AllocError;
+use std::fmt;
+
+/// Why there is no report.
+#[derive(Drop)]
+pub enum Failure {
+    /// The file or folder of this name can't be read.
+    Unreadable(Vec<u8>),
+    /// The host did not admit the guest.
+    Refused(AdmitFault),
+    /// The guest's machine meets a fault.
+    Stuck,
+    /// The host's memory was refused.
+    HostMemory,
+    /// The program's own memory was refused.
+    Memory,
+}
+
+/// The status that the program ends with.
+pub fn status_of(failure: &Failure) -> u8
+    ensures { result ≡ failure_status failure.now }
+{
+    match failure {
+        Failure::Unreadable(_) | Failure::Refused(_) => 3,
+        Failure::Stuck | Failure::HostMemory | Failure::Memory => 4,
+    }
+}
+
+impl fmt::Display for Failure {
+    ghost output = { λ failure. Some (failure_line failure) };
+
+    fn fmt<W: fmt::Write>(&self, f: &mut fmt::Formatter<W>) -> fmt::Result {
+        match self {
+            Failure::Unreadable(name) => {
+                let name = Escaped(name.as_slice());
+                write!(f, "jvhost: {name}: cannot be read\n")
+            }
+            Failure::Refused(fault) => write!(f, "jvhost: {fault}\n"),
+            Failure::Stuck => write!(f, "jvhost: Stuck\n"),
+            Failure::HostMemory => write!(f, "jvhost: HostMemory\n"),
+            Failure::Memory => write!(f, "jvhost: Memory\n"),
+        }
+    }
+}
+
+impl From<AllocError> for Failure {
+    ghost from_gives = { λ _ failure. failure ≡ Memory };
+
+    fn from(_error: AllocError) -> Failure {
+        Failure::Memory
+    }
+}
+
+impl From<AdmitFault> for Failure {
+    ghost from_gives = { λ fault failure. failure ≡ failure_of fault };
+
+    fn from(fault: AdmitFault) -> Failure {
+        match fault {
+            AdmitFault::HostMemory => Failure::HostMemory,
+            _ => Failure::Refused(fault),
+        }
+    }
+}

@@ -1,0 +1,215 @@
+//! What a folder holds of a guest.
+ghost use Rattle.std.specs.Prelude.{◌≡◌, ◌≢◌, ◌≤◌, ◌+◌, ◌<◌, ◌^◌, [], ◌∷◌, ◌++◌, ℕ, All, IfOk, List, codes, false, map, vec_len};
+ghost use Rattle.std.specs.IoError.{error_kind};
+ghost use Rattle.jv_meaning.specs.Guest.{bytes_of};
+ghost use Rattle.jv_run.specs.Folder.{AreClassFilesOf, IsFolderOf, IsReadUpToLimit, file_name};
+ghost use Rattle.jv_run.specs.Names.{has_name, names_of};
+
+use crate::failure::Failure;
+use crate::file::read_past_limit;
+use crate::names::{class_file_names, has_name, names_in};
+use std::alloc::{AllocError, Global};
+use std::io;
+use std::io::{Error, ErrorKind};
+use std::rt::Files;
+
+/// The most bytes of a class file, and of the file `main`.
+const CLASS_FILE_LIMIT: usize = 4_194_304;
+
+/// The most bytes of the file `input`.
+const INPUT_LIMIT: usize = 16_777_216;
+
+/// More bytes than any listing of a folder has.
+const LISTING_LIMIT: usize = 0x1_0000_0000;
+
+/// A class file.
+#[derive(Drop)]
+pub struct NamedFile {
+    /// Its name in the folder.
+    pub name: Vec<u8>,
+    /// Its bytes, or one more than the limit where there are more than that.
+    pub bytes: Vec<u8>,
+}
+
+/// What a folder holds of a guest.
+#[derive(Drop)]
+pub struct Folder {
+    /// Its class files, in byte order of their names.
+    pub class_files: Vec<NamedFile>,
+    /// The bytes of its file `main`.
+    pub main: Vec<u8>,
+    /// The bytes of its file `input`, or none where there is no such file.
+    pub input: Vec<u8>,
+}
+
+/// The path of a file in a folder.
+fn path_in(alloc: Global, folder: &str, name: &[u8]) -> Result<Vec<u8>, AllocError>
+    ensures { IfOk result (λ path. path.items ≡ folder.now ++ 47 ∷ name.now) }
+{
+    let mut path = Vec::from_slice(alloc, folder.as_bytes())?;
+    path.push(b'/')?;
+    path.extend_from_slice(name)?;
+    Ok(path)
+}
+
+/// What an error of the system means for the file or folder of this name.
+fn failure_at(name: Vec<u8>, error: &Error) -> Failure
+    ensures memory { error_kind error.now ≡ ErrorKind.OutOfMemory → result ≡ Failure.Memory }
+    ensures other { error_kind error.now ≢ ErrorKind.OutOfMemory
+        → result ≡ Failure.Unreadable name }
+{
+    if error.kind() == ErrorKind::OutOfMemory {
+        Failure::Memory
+    } else {
+        Failure::Unreadable(name)
+    }
+}
+
+/// The bytes of the file at a path, or one more than the limit where there are more than that.
+fn bytes_at<R: Files + AllocGlobal>(rt: &R, path: &[u8], limit: usize) -> io::Result<Vec<u8>>
+    requires { limit + 2 < 2 ^ 64 }
+    ensures { IfOk result (λ bytes. vec_len bytes ≤ limit + 1) }
+{
+    let Ok(path) = std::str::from_utf8(path) else {
+        return Err(Error::from(ErrorKind::InvalidFilename));
+    };
+    let mut file = std::fs::open(rt, path)?;
+    read_past_limit(rt.alloc(), &mut file, limit)
+}
+
+/// The bytes of a file in a folder.
+fn read_file<R: Files + AllocGlobal>(
+    rt: &R,
+    folder: &str,
+    name: &[u8],
+    limit: usize,
+) -> Result<Vec<u8>, Failure>
+    requires { limit + 2 < 2 ^ 64 }
+    ensures { IfOk result (λ bytes. vec_len bytes ≤ limit + 1) }
+{
+    let path = path_in(rt.alloc(), folder, name)?;
+    match bytes_at(rt, path.as_slice(), limit) {
+        Ok(bytes) => Ok(bytes),
+        Err(error) => Err(failure_at(path, &error)),
+    }
+}
+
+/// The listing of a folder: its names, each ended by a NUL.
+fn listing_at<R: Files + AllocGlobal>(rt: &R, folder: &str) -> io::Result<Vec<u8>> {
+    let mut path = String::from_str(rt.alloc(), folder)?;
+    if !folder.is_empty() {
+        path.push('/')?;
+    }
+    let mut folder = rt.open_dir(path.as_str())?;
+    read_past_limit(rt.alloc(), &mut folder, LISTING_LIMIT)
+}
+
+/// The listing of a folder, or the failure that names the folder.
+fn read_listing<R: Files + AllocGlobal>(rt: &R, folder: &str) -> Result<Vec<u8>, Failure> {
+    match listing_at(rt, folder) {
+        Ok(listing) => Ok(listing),
+        Err(error) => {
+            let name = Vec::from_slice(rt.alloc(), folder.as_bytes())?;
+            Err(failure_at(name, &error))
+        }
+    }
+}
+
+/// A class file of a folder.
+fn read_class_file<R: Files + AllocGlobal>(
+    rt: &R,
+    folder: &str,
+    name: &[u8],
+) -> Result<NamedFile, Failure>
+    ensures named { IfOk result (λ file. file_name file ≡ name.now) }
+    ensures most { IfOk result IsReadUpToLimit }
+{
+    let bytes = read_file(rt, folder, name, CLASS_FILE_LIMIT)?;
+    let name = Vec::from_slice(rt.alloc(), name)?;
+    Ok(NamedFile { name, bytes })
+}
+
+/// The class files of these names.
+fn read_class_files<R: Files + AllocGlobal>(
+    rt: &R,
+    folder: &str,
+    names: &[&[u8]],
+) -> Result<Vec<NamedFile>, Failure>
+    ensures named { IfOk result (λ files. map file_name files.items ≡ map bytes_of names.now) }
+    ensures most { IfOk result (λ files. All IsReadUpToLimit files.items) }
+{
+    let mut class_files = Vec::new(rt.alloc());
+    for name in names {
+        let class_file = read_class_file(rt, folder, name)?;
+        class_files.push(class_file).map_err(AllocError::from)?;
+    }
+    Ok(class_files)
+}
+
+/// The class files among these names, in byte order of their names.
+fn read_class_files_among<R: Files + AllocGlobal>(
+    rt: &R,
+    folder: &str,
+    names: &[&[u8]],
+) -> Result<Vec<NamedFile>, Failure>
+    ensures { IfOk result (λ files. AreClassFilesOf (map bytes_of names.now) files.items) }
+{
+    let class_names = class_file_names(rt.alloc(), names)?;
+    read_class_files(rt, folder, class_names.as_slice())
+}
+
+/// The bytes of the file `main`; one that is longer than the limit can't be read.
+fn read_main<R: Files + AllocGlobal>(rt: &R, folder: &str) -> Result<Vec<u8>, Failure>
+    ensures { IfOk result (λ main. vec_len main ≤ 4194304) }
+{
+    let main = read_file(rt, folder, b"main", CLASS_FILE_LIMIT)?;
+    if main.len() > CLASS_FILE_LIMIT {
+        return Err(Failure::Unreadable(path_in(rt.alloc(), folder, b"main")?));
+    }
+    Ok(main)
+}
+
+/// The bytes of the file `input` where it is among the names, and else none.
+fn read_input<R: Files + AllocGlobal>(
+    rt: &R,
+    folder: &str,
+    names: &[&[u8]],
+) -> Result<Vec<u8>, Failure>
+    ensures most { IfOk result (λ input. vec_len input ≤ 16777217) }
+    ensures absent { has_name (codes "input") (map bytes_of names.now) ≡ false
+        → IfOk result (λ input. input.items ≡ []) }
+{
+    if has_name(names, b"input") {
+        read_file(rt, folder, b"input", INPUT_LIMIT)
+    } else {
+        Ok(Vec::new(rt.alloc()))
+    }
+}
+
+/// Reads what a folder whose listing has these names holds of a guest.
+fn read_files<R: Files + AllocGlobal>(
+    rt: &R,
+    folder: &str,
+    names: &[&[u8]],
+) -> Result<Folder, Failure>
+    ensures { IfOk result (λ found. IsFolderOf (map bytes_of names.now) found) }
+{
+    let class_files = read_class_files_among(rt, folder, names)?;
+    let main = read_main(rt, folder)?;
+    let input = read_input(rt, folder, names)?;
+    Ok(Folder {
+        class_files,
+        main,
+        input,
+    })
+}
+
+/// Reads a folder: its listing, its class files in byte order of their names, its file `main`, and
+/// its file `input` where there is one. What fails first is the failure.
+pub fn read_folder<R: Files + AllocGlobal>(rt: &R, folder: &str) -> Result<Folder, Failure>
+    ensures { IfOk result (λ found. (listing : List ℕ) × IsFolderOf (names_of listing) found) }
+{
+    let listing = read_listing(rt, folder)?;
+    let names = names_in(rt.alloc(), listing.as_slice())?;
+    read_files(rt, folder, names.as_slice())
+}

@@ -1,0 +1,17 @@
+-- The status of the program where there is no report.
+use Rattle.std.specs.Prelude.{◌≡◌, ◌≢◌, ◌⊎◌, ℕ}
+use Rattle.clap.specs.Values.{kind_of}
+use Rattle.clap.specs.declared.error.kind.ErrorKind.{ErrorKind}
+use Rattle.clap.specs.declared.error.kind.ErrorKind.TheVariants as kinds
+use Rattle.jv_run.specs.Failure.{failure_status}
+use Rattle.jvhost.specs.declared.stop.Stop.{Stop}
+use Rattle.jvhost.specs.declared.stop.Stop.TheVariants.{CommandLine, Run}
+
+-- words that ask for help or the version have the status 0, and those of a wrong command line 2
+pub record HasWordStatus (kind : ErrorKind) (status : ℕ) : Type 0 where
+  pub wrong : kind ≢ kinds.DisplayHelp → kind ≢ kinds.DisplayVersion → status ≡ 2
+  pub asked : (kind ≡ kinds.DisplayHelp) ⊎ (kind ≡ kinds.DisplayVersion) → status ≡ 0
+
+abbrev pub HasStatus : Stop → ℕ → Type 0
+HasStatus (CommandLine error) status = HasWordStatus (kind_of error) status
+HasStatus (Run failure) status = status ≡ failure_status failure

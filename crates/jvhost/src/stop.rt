@@ -1,0 +1,46 @@
+//! What ends the program without a report.
+ghost use Rattle.std.specs.Prelude.{◌≡◌};
+ghost use Rattle.jv_run.specs.declared.failure.Failure.TheVariants.{Memory};
+ghost use Rattle.jvhost.specs.declared.stop.Stop.TheVariants.{Run};
+
+use jv_run::Failure;
+use std::alloc::AllocError;
+
+/// What ends the program without a report.
+#[derive(Drop)]
+pub enum Stop {
+    /// The words of the command line are wrong, or ask for help.
+    CommandLine(clap::Error),
+    /// There is no report on the folder's guest.
+    Run(Failure),
+}
+
+impl Stop {
+    ghost use Rattle.jvhost.specs.Stop.{HasStatus};
+
+    /// The status that the program ends with.
+    pub fn status(&self) -> u8
+        ensures { HasStatus self.now result }
+    {
+        match self {
+            Stop::CommandLine(error) => u8::try_from(error.exit_code()).unwrap_or(2),
+            Stop::Run(failure) => jv_run::status_of(failure),
+        }
+    }
+}
+
+impl From<AllocError> for Stop {
+    ghost from_gives = { λ _ stop. stop ≡ Run Memory };
+
+    fn from(_error: AllocError) -> Stop {
+        Stop::Run(Failure::Memory)
+    }
+}
+
+impl From<Failure> for Stop {
+    ghost from_gives = { λ failure stop. stop ≡ Run failure };
+
+    fn from(failure: Failure) -> Stop {
+        Stop::Run(failure)
+    }
+}
