@@ -1,6 +1,7 @@
 //! The facts of a class (JVMS 4.1, 4.5 to 4.7), in the form of `scripts/javap-facts`.
 
-use jv_class::{ClassFile, Code, ConstantValue, Field, Method};
+use jv_class::{ClassFile, ConstantValue, Field, Method, MethodCode};
+use jv_format::half_at;
 use jv_pool::Pool;
 use jv_text::decode;
 use std::alloc::Global;
@@ -75,20 +76,20 @@ fn write_constant<W: fmt::Write>(
 
 /// How many entries a StackMapTable has, by its first two bytes.
 fn maps_in(table: &[u8]) -> u16 {
-    match table {
-        [high, low, ..] => u16::from(*high) * 256 + u16::from(*low),
-        _ => 0,
+    match half_at(table) {
+        Some((count, _)) => count,
+        None => 0,
     }
 }
 
-fn write_code<W: fmt::Write>(out: &mut W, code: Option<Code<'_>>) -> fmt::Result {
+fn write_code<W: fmt::Write>(out: &mut W, code: Option<MethodCode<'_>>) -> fmt::Result {
     let Some(code) = code else {
         return write!(out, "-\t-\t-\t-\t-\n");
     };
     let stack = code.max_stack;
     let locals = code.max_locals;
     let length = code.code.len();
-    let handlers = code.exception_table.len() / 8;
+    let handlers = code.exception_table.len();
     write!(out, "{stack}\t{locals}\t{length}\t{handlers}\t")?;
     match code.stack_map_table {
         Some(table) => {
@@ -104,10 +105,10 @@ fn write_handlers<W: fmt::Write>(
     file: &str,
     pool: &Pool<'_>,
     method: usize,
-    code: Code<'_>,
+    code: MethodCode<'_>,
 ) -> fmt::Result {
-    for place in 0..u16::MAX {
-        let Some(entry) = code.handler(place) else {
+    for place in 0..code.exception_table.len() {
+        let Some(entry) = code.exception_table.handler(place) else {
             break;
         };
         let start = entry.start_pc;

@@ -1,6 +1,5 @@
 //! Shows what the reader finds in class files: for each file that the words name, a line for each
-//! fact that `javap` knows of too, how many of its prefixes are refused, and whether what is written for
-//! its parts is the file again.
+//! fact that `javap` knows of too, and how many of its prefixes are refused.
 //!
 //! The gate runs it on the class files in `data`, and compares what it shows with what `javap` said
 //! of them. The word `rules` names a table of files for the rules of the format.
@@ -10,7 +9,6 @@ mod bytes;
 mod facts;
 mod prefixes;
 mod rules;
-mod written;
 
 use jv_class::{ClassFault, read_class};
 use std::alloc::Global;
@@ -39,9 +37,7 @@ fn write_file<W: fmt::Write>(out: &mut W, alloc: Global, name: &str, bytes: &[u8
     }
     let refused = prefixes::refused(alloc, bytes);
     let longer = prefixes::longer_is_refused(alloc, bytes);
-    write!(out, "{name}\trefused\t{refused}\t{longer}\n")?;
-    let same = written::is_written_back(alloc, bytes);
-    write!(out, "{name}\twritten\t{same}\n")
+    write!(out, "{name}\trefused\t{refused}\t{longer}\n")
 }
 
 /// Writes the facts of the files that the words behind the first name.
