@@ -1,0 +1,3 @@
+pub mod Flow
+pub mod FrameFlow
+pub mod Rows
