@@ -5,17 +5,18 @@ use Rattle.std.specs.List.{All, AllByRecursion, find}
 use Rattle.std.specs.Option.{option_map}
 use Rattle.std.specs.Str.{bytes_eq}
 use Rattle.std.proofs.lemmas.Bool.{and_parts, and_from}
-use Rattle.std.proofs.lemmas.List.Elements.{All-head, All-tail, All-nil, All-cons}
+use Rattle.std.proofs.lemmas.List.Elements.{All-head, All-tail}
 use Rattle.std.proofs.lemmas.Slice.Eq.{bytes_eq-Decides}
 use Rattle.jv_format.specs.Format.{◌>>=◌}
 use Rattle.jv_pool.specs.Constants.{Entry, NameAndDescriptor, name_and_descriptor, named_at, class_name_at}
 use Rattle.jv_class_parts.specs.Structure.{FieldInfo, MethodInfo, ClassStructure}
 use Rattle.jv_class_parts.specs.Attributes.{some_and}
-use Rattle.jv_class_parts.specs.Parts.{field_shown, method_shown}
-use Rattle.jv_class.specs.Rules.{NoTwoAlike, KeepsFieldRules, KeepsMethodRules, IsClassAt, field_texts, method_texts}
+use Rattle.jv_class_parts.specs.Parts.{method_shown}
+use Rattle.jv_class.specs.Rules.{NoTwoAlike, IsClassAt, KeepsFieldRules, KeepsMethodRules}
+use Rattle.jv_class.proofs.ShownOf.{all_also}
 use Rattle.jv_class.specs.ClassFile.{class_name}
 use Rattle.jv_class.specs.Class.{Field, Method, Class, all_found, initial_value, field_of, method_of, super_of, class_of, IsSomeClass, OneOfEachName}
-use Rattle.jv_class.proofs.Kept.{all_unseen, some_there}
+use Rattle.jv_class.proofs.Kept.{some_there}
 use Rattle.jv_class.proofs.Keys.{super_there}
 
 -- ---- something is found
@@ -33,10 +34,6 @@ found_all look [] h = refl
 found_all look (x ∷ xs) h =
     then_some (look x) _ (All-head (λ y. IsSome (look y)) x xs h)
     (λ b. then_some (all_found look xs) _ (found_all look xs (All-tail (λ y. IsSome (look y)) x xs h)) (λ others. refl))
-
-all_also : {A : Type 0} (P Q : A → Type 0) → ((a : A) → P a → Q a) → (xs : List A) → All P xs → All Q xs
-all_also P Q f [] h = All-nil Q
-all_also P Q f (x ∷ xs) h = All-cons Q x xs (f x (All-head P x xs h)) (all_also P Q f xs (All-tail P x xs h))
 
 interface_there : (pool : List Entry) (o : Option (List ℕ)) (test : List ℕ → Bool) → IsTrue (some_and test o) → IsSome o
 interface_there pool None test h = absurd cc
@@ -58,13 +55,13 @@ some_class c w =
     then_some (all_found (class_name_at pool) c.interfaces) _
     (found_all (class_name_at pool) c.interfaces (all_also (IsClassAt pool) (λ i. IsSome (class_name_at pool i)) (λ i h. interface_there pool (class_name_at pool i) _ h) c.interfaces rules.itself.supers.interfaces)) (λ interfaces.
     then_some (all_found (field_of pool) c.fields) _
-    (found_all (field_of pool) c.fields (all_also (λ f. KeepsFieldRules pool c.access_flags (field_shown pool f)) (λ f. IsSome (field_of pool f))
+    (found_all (field_of pool) c.fields (all_also (KeepsFieldRules pool c.access_flags) (λ f. IsSome (field_of pool f))
     (λ f h. mapped_some _ (named_at pool f.name_index f.descriptor_index) (some_there (named_at pool f.name_index f.descriptor_index) _ h)) c.fields
-    (all_unseen (KeepsFieldRules pool c.access_flags) (field_shown pool) c.fields rules.members.fields))) (λ fields.
+    rules.members.fields)) (λ fields.
     then_some (all_found (method_of pool) c.methods) _
-    (found_all (method_of pool) c.methods (all_also (λ m. KeepsMethodRules pool c.access_flags (method_shown pool m)) (λ m. IsSome (method_of pool m))
+    (found_all (method_of pool) c.methods (all_also (KeepsMethodRules pool c.access_flags) (λ m. IsSome (method_of pool m))
     (λ m h. mapped_some _ (named_at pool m.name_index m.descriptor_index) (some_there (named_at pool m.name_index m.descriptor_index) _ h)) c.methods
-    (all_unseen (KeepsMethodRules pool c.access_flags) (method_shown pool) c.methods rules.members.methods))) (λ methods. refl)))))
+    rules.members.methods)) (λ methods. refl)))))
 
 -- ---- one of each name
 
@@ -171,17 +168,13 @@ parts c class e =
     let methods = bind (all_found (method_of c.constant_pool) c.methods) _ class fields.2 in
     (fields.1 ∙ ap (λ l. Some l) cc, methods.1 ∙ ap (λ l. Some l) cc)
 
-map_twice : {X Y Z : Type 0} (f : Y → Z) (g : X → Y) (xs : List X) → map f (map g xs) ≡ map (λ x. f (g x)) xs
-map_twice f g [] = refl
-map_twice f g (x ∷ xs) = ap (λ l. f (g x) ∷ l) (map_twice f g xs)
-
 pub one_of_each : OneOfEachName
 one_of_each c class w e =
     let found = parts c class e in
     let pool : List Entry = c.constant_pool in
     record {
       field = found_itself (λ (f : FieldInfo). named_at pool f.name_index f.descriptor_index) (field_made pool) (λ f. f.name) (λ f. f.descriptor) (λ a t. refl) c.fields class.fields found.0
-          (subst NoTwoAlike (map_twice (field_texts pool) (field_shown pool) c.fields) w.rules.unlike.fields);
+          w.rules.unlike.fields;
       method = found_itself (λ (m : MethodInfo). named_at pool m.name_index m.descriptor_index) (method_made pool) (λ m. m.name) (λ m. m.descriptor) (λ a t. refl) c.methods class.methods found.1
-          (subst NoTwoAlike (map_twice (method_texts pool) (method_shown pool) c.methods) w.rules.unlike.methods);
+          w.rules.unlike.methods;
     }

@@ -8,7 +8,7 @@ use Rattle.jv_text.proofs.Methods.{one_method}
 use Rattle.jv_pool.specs.declared.facts.FieldFacts.{FieldFacts}
 use Rattle.jv_pool.specs.declared.facts.MethodFacts.{MethodFacts}
 use Rattle.jv_pool.specs.Facts.{AreFieldFacts, AreMethodFacts}
-use Rattle.std.specs.Prelude.{is_none}
+use Rattle.std.specs.Prelude.{is_none, is_some}
 use Rattle.jv_pool.specs.Constants.{Entry, NameAndDescriptor}
 use Rattle.jv_pool.specs.declared.facts.TextFacts.{TextFacts}
 use Rattle.jv_pool.specs.Facts.{AreFacts, value_of_type}
@@ -27,9 +27,9 @@ no_floating_method text facts h = (
 pub field_right : (pool : List Entry) (flags : ℕ) (f : FieldSeen) (texts : NameAndDescriptor) (name : TextFacts) (facts : FieldFacts) (r : Bool)
     → AreFacts texts.name name → AreFieldFacts texts.descriptor facts
     → r ≡ (name.unqualified && field_flags_right (has flags acc_interface) f.access_flags && value_right pool facts.value f.constant_value)
-    → (IsTrue r → IsFieldRight pool flags f texts) × (IsFieldRight pool flags f texts → IsTrue r)
+    → (IsTrue r → IsFieldRight pool flags f.access_flags f.constant_value texts) × (IsFieldRight pool flags f.access_flags f.constant_value texts → IsTrue r)
 field_right pool flags f texts name facts r n h e =
-    let there : IsTrue r → IsFieldRight pool flags f texts = λ t.
+    let there : IsTrue r → IsFieldRight pool flags f.access_flags f.constant_value texts = λ t.
     let all = and_parts (name.unqualified && field_flags_right (has flags acc_interface) f.access_flags) (value_right pool facts.value f.constant_value) (sym e ∙ t) in
     let two = and_parts name.unqualified (field_flags_right (has flags acc_interface) f.access_flags) all.0 in
     record {
@@ -37,27 +37,27 @@ field_right pool flags f texts name facts r n h e =
       type = h.type;
       described = h.described;
       flags_right = two.1;
-      value = ap (λ v. value_right pool v f.constant_value) (sym h.value) ∙ all.1;
+      value_kind = ap (λ v. value_right pool v f.constant_value) (sym h.value) ∙ all.1;
     } in
-    let back : IsFieldRight pool flags f texts → IsTrue r = λ k.
+    let back : IsFieldRight pool flags f.access_flags f.constant_value texts → IsTrue r = λ k.
     let same : h.type ≡ k.type = one_field texts.descriptor h.type k.type h.described k.described in
     e ∙ and_from (name.unqualified && field_flags_right (has flags acc_interface) f.access_flags) (value_right pool facts.value f.constant_value)
     (and_from name.unqualified (field_flags_right (has flags acc_interface) f.access_flags) (n.unqualified ∙ k.named) k.flags_right)
-    (ap (λ v. value_right pool v f.constant_value) (h.value ∙ ap value_of_type same) ∙ k.value) in
+    (ap (λ v. value_right pool v f.constant_value) (h.value ∙ ap value_of_type same) ∙ k.value_kind) in
     (there, back)
 
 pub method_right : (flags : ℕ) (m : MethodSeen) (texts : NameAndDescriptor) (name descriptor : List ℕ) → texts.name ≡ name → texts.descriptor ≡ descriptor
     → (known : TextFacts) (facts : MethodFacts) (r : Bool) → IsTrue known.method_name → AreFacts texts.name known → AreMethodFacts texts.descriptor facts
     → r ≡ ((method_flags_right (has flags acc_interface) name m.access_flags && init_right (has flags acc_interface) name facts.void && clinit_right name descriptor m.access_flags)
-    && slots_right m.access_flags facts.slots && code_there_right name m)
-    → (IsTrue r → IsMethodRight flags m texts) × (IsMethodRight flags m texts → IsTrue r)
+    && slots_right m.access_flags facts.slots && code_there_right name m.access_flags (is_some m.code))
+    → (IsTrue r → IsMethodRight flags m.access_flags (is_some m.code) texts) × (IsMethodRight flags m.access_flags (is_some m.code) texts → IsTrue r)
 method_right flags m texts name descriptor e1 e2 known facts r named n h e =
     let A : Bool = method_flags_right (has flags acc_interface) name m.access_flags in
     let B : Bool = init_right (has flags acc_interface) name facts.void in
     let C : Bool = clinit_right name descriptor m.access_flags in
     let D : Bool = slots_right m.access_flags facts.slots in
-    let E : Bool = code_there_right name m in
-    let there : IsTrue r → IsMethodRight flags m texts = λ t.
+    let E : Bool = code_there_right name m.access_flags (is_some m.code) in
+    let there : IsTrue r → IsMethodRight flags m.access_flags (is_some m.code) texts = λ t.
     let all = and_parts ((A && B && C) && D) E (sym e ∙ t) in
     let four = and_parts (A && B && C) D all.0 in
     let three = and_parts (A && B) C four.0 in
@@ -70,14 +70,14 @@ method_right flags m texts name descriptor e1 e2 known facts r named n h e =
       init = ap (λ x. init_right (has flags acc_interface) x (is_none h.type.result)) e1 ∙ ap (init_right (has flags acc_interface) name) (sym h.void) ∙ two.1;
       clinit = ap (λ x. clinit_right x texts.descriptor m.access_flags) e1 ∙ ap (λ x. clinit_right name x m.access_flags) e2 ∙ three.1;
       few_slots = ap (slots_right m.access_flags) (sym h.slots) ∙ four.1;
-      code = ap (λ x. code_there_right x m) e1 ∙ all.1;
+      code_there = ap (λ x. code_there_right x m.access_flags (is_some m.code)) e1 ∙ all.1;
     } in
-    let back : IsMethodRight flags m texts → IsTrue r = λ k.
+    let back : IsMethodRight flags m.access_flags (is_some m.code) texts → IsTrue r = λ k.
     let same : h.type ≡ k.type = one_method texts.descriptor h.type k.type h.described k.described in
     let a : IsTrue A = ap (λ x. method_flags_right (has flags acc_interface) x m.access_flags) (sym e1) ∙ k.flags_right in
     let b : IsTrue B = ap (init_right (has flags acc_interface) name) (h.void ∙ ap (λ (t : MethodDescriptor). is_none t.result) same) ∙ ap (λ x. init_right (has flags acc_interface) x (is_none k.type.result)) (sym e1) ∙ k.init in
     let c : IsTrue C = ap (λ x. clinit_right name x m.access_flags) (sym e2) ∙ ap (λ x. clinit_right x texts.descriptor m.access_flags) (sym e1) ∙ k.clinit in
     let d : IsTrue D = ap (slots_right m.access_flags) (h.slots ∙ ap slots same) ∙ k.few_slots in
-    let f : IsTrue E = ap (λ x. code_there_right x m) (sym e1) ∙ k.code in
+    let f : IsTrue E = ap (λ x. code_there_right x m.access_flags (is_some m.code)) (sym e1) ∙ k.code_there in
     e ∙ and_from ((A && B && C) && D) E (and_from (A && B && C) D (and_from (A && B) C (and_from A B a b) c) d) f in
     (there, back)

@@ -1,13 +1,14 @@
 -- Numbers of pairs of texts differ exactly where the pairs do.
 use Rattle.std.proofs.Common.{◌≡◌, ◌≢◌, ℕ, ◌+◌, ◌*◌, ◌<◌, Bool, true, false, cond, eqb, List, [], ◌∷◌, ◌++◌, length, take, drop, get_or, Option, Some, None, ◌⊎◌, ⊎_elim, refl, sym, ap, subst, ◌∙◌, arith}
 use Rattle.std.specs.Prelude.{IsSome, IsTrue, nat_eq, unwrap_or, map, ◌||◌}
-use Rattle.std.specs.Option.{IsSomeAnd}
+use Rattle.std.specs.Option.{IsSomeAnd, option_map}
 use Rattle.std.specs.List.{All, AllZip, AllByRecursion, IsDistinct, list_any}
 use Rattle.std.proofs.lemmas.Bool.{cases_order, eqb-true}
 use Rattle.std.proofs.lemmas.Bool.Decides.{nat_tests}
 use Rattle.std.proofs.lemmas.Grind.{common_steps}
 use Rattle.std.proofs.lemmas.List.{take_more, take-append-drop}
-use Rattle.std.proofs.lemmas.List.Elements.{All-head, All-tail, All-nil, All-cons}
+use Rattle.std.proofs.lemmas.List.Elements.{All-head, All-tail, All-nil, All-cons, All-get_or}
+use Rattle.std.proofs.lemmas.Option.{slice_get_within, get_or_from_slice_get}
 use Rattle.jv_format.specs.Format.{◌>>=◌}
 use Rattle.jv_pool.specs.Constants.{Entry, NameAndDescriptor, name_and_descriptor, utf8_at, named_at, class_name_at}
 use Rattle.jv_pool.specs.declared.index.ClassIndex.{ClassIndex}
@@ -17,8 +18,12 @@ use Rattle.jv_class_parts.specs.Attributes.{some_and}
 use Rattle.jv_class_parts.specs.declared.member.Field.{Field}
 use Rattle.jv_class_parts.specs.declared.member.Method.{Method}
 use Rattle.jv_class_parts.specs.Structure.{ClassStructure}
-use Rattle.jv_class.specs.Rules.{NoTwoAlike, field_texts, method_texts, is_object, is_no_array_name, is_class_at, IsNameRight, IsClassAt, AreSupersRight, fields_of, methods_of, AreMembersRight, KeepsFieldRules, KeepsMethodRules, IsFieldRight, IsMethodRight}
-use Rattle.jv_class.proofs.Kept.{all_there, all_unseen}
+use Rattle.std.specs.Prelude.{is_some, IfSome, slice_get}
+use Rattle.jv_class.proofs.ShownOf.{members_shown}
+use Rattle.jv_class.specs.Rules.{AreMembersRight, NoTwoAlike, is_object, is_no_array_name, is_class_at, IsNameRight, IsClassAt, AreSupersRight, IsFieldRight, IsMethodRight}
+use Rattle.jv_class.specs.Inside.Shown.{shown_field_texts, shown_method_texts, KeepsFieldShown, KeepsMethodShown}
+use Rattle.jv_class_parts.specs.Parts.{fields_of, methods_of}
+use Rattle.jv_class.proofs.Kept.{all_there, all_unseen, some_there}
 use Rattle.jv_class.specs.Inside.Reading.{IsFirst, IsKeyOf, IsFieldKey, IsMethodKey}
 
 -- ---- lists of numbers
@@ -153,37 +158,37 @@ map_map : {X Y Z : Type 0} (f : Y → Z) (g : X → Y) (xs : List X) → map (λ
 map_map f g [] = refl
 map_map f g (x ∷ xs) = ap (λ r. f (g x) ∷ r) (map_map f g xs)
 
-pub unlike_fields : (pool : List Entry) (xs : List Field) (ks : List ℕ) → AllZip (IsFieldKey pool) xs ks → All (λ x. IsSome (field_texts pool (seen_field x))) xs
+pub unlike_fields : (pool : List Entry) (xs : List Field) (ks : List ℕ) → AllZip (IsFieldKey pool) xs ks → All (λ x. IsSome (shown_field_texts pool (seen_field x))) xs
     → (b : Bool) → (IsTrue b → IsDistinct nat_eq ks) × (IsDistinct nat_eq ks → IsTrue b)
-    → (IsTrue b → NoTwoAlike (map (field_texts pool) (map seen_field xs))) × (NoTwoAlike (map (field_texts pool) (map seen_field xs)) → IsTrue b)
+    → (IsTrue b → NoTwoAlike (map (shown_field_texts pool) (map seen_field xs))) × (NoTwoAlike (map (shown_field_texts pool) (map seen_field xs)) → IsTrue b)
 unlike_fields pool xs ks zip some b h =
-    let same = map_map (field_texts pool) seen_field xs in (
+    let same = map_map (shown_field_texts pool) seen_field xs in (
       (λ t. subst NoTwoAlike same (unlike_from_keys pool (λ (f : Field). f.name.0) (λ (f : Field). f.descriptor.0) xs ks zip some (h.0 t))),
       (λ u. h.1 (keys_from_unlike pool (λ (f : Field). f.name.0) (λ (f : Field). f.descriptor.0) xs ks zip (subst NoTwoAlike (sym same) u))),
     )
 
-pub unlike_methods : (pool : List Entry) (xs : List Method) (ks : List ℕ) → AllZip (IsMethodKey pool) xs ks → All (λ x. IsSome (method_texts pool (seen_method x))) xs
+pub unlike_methods : (pool : List Entry) (xs : List Method) (ks : List ℕ) → AllZip (IsMethodKey pool) xs ks → All (λ x. IsSome (shown_method_texts pool (seen_method x))) xs
     → (b : Bool) → (IsTrue b → IsDistinct nat_eq ks) × (IsDistinct nat_eq ks → IsTrue b)
-    → (IsTrue b → NoTwoAlike (map (method_texts pool) (map seen_method xs))) × (NoTwoAlike (map (method_texts pool) (map seen_method xs)) → IsTrue b)
+    → (IsTrue b → NoTwoAlike (map (shown_method_texts pool) (map seen_method xs))) × (NoTwoAlike (map (shown_method_texts pool) (map seen_method xs)) → IsTrue b)
 unlike_methods pool xs ks zip some b h =
-    let same = map_map (method_texts pool) seen_method xs in (
+    let same = map_map (shown_method_texts pool) seen_method xs in (
       (λ t. subst NoTwoAlike same (unlike_from_keys pool (λ (m : Method). m.name.0) (λ (m : Method). m.descriptor.0) xs ks zip some (h.0 t))),
       (λ u. h.1 (keys_from_unlike pool (λ (m : Method). m.name.0) (λ (m : Method). m.descriptor.0) xs ks zip (subst NoTwoAlike (sym same) u))),
     )
 
 -- ---- the texts of members that keep their rules are there
 
-pub fields_there : (c : ClassStructure) (pool : List Entry) (xs : List Field) → pool ≡ c.constant_pool → map seen_field xs ≡ fields_of c → AreMembersRight c → All (λ x. IsSome (field_texts pool (seen_field x))) xs
+pub fields_there : (c : ClassStructure) (pool : List Entry) (xs : List Field) → pool ≡ c.constant_pool → map seen_field xs ≡ fields_of c → AreMembersRight c → All (λ x. IsSome (shown_field_texts pool (seen_field x))) xs
 fields_there c pool xs e is right =
-    let all : All (KeepsFieldRules c.constant_pool c.access_flags) (map seen_field xs) = subst (λ fs. All (KeepsFieldRules c.constant_pool c.access_flags) fs) (sym is) right.fields in
-    let some : All (λ f. IsSome (field_texts c.constant_pool f)) (map seen_field xs) = all_there (field_texts c.constant_pool) (λ f. IsFieldRight c.constant_pool c.access_flags f) (map seen_field xs) all in
-    all_unseen (λ f. IsSome (field_texts pool f)) seen_field xs (subst (λ p. All (λ f. IsSome (field_texts p f)) (map seen_field xs)) (sym e) some)
+    let all : All (KeepsFieldShown c.constant_pool c.access_flags) (map seen_field xs) = subst (λ fs. All (KeepsFieldShown c.constant_pool c.access_flags) fs) (sym is) (members_shown c right).fields in
+    let some : All (λ f. IsSome (shown_field_texts c.constant_pool f)) (map seen_field xs) = all_there (shown_field_texts c.constant_pool) (λ f. IsFieldRight c.constant_pool c.access_flags f.access_flags f.constant_value) (map seen_field xs) all in
+    all_unseen (λ f. IsSome (shown_field_texts pool f)) seen_field xs (subst (λ p. All (λ f. IsSome (shown_field_texts p f)) (map seen_field xs)) (sym e) some)
 
-pub methods_there : (c : ClassStructure) (pool : List Entry) (xs : List Method) → pool ≡ c.constant_pool → map seen_method xs ≡ methods_of c → AreMembersRight c → All (λ x. IsSome (method_texts pool (seen_method x))) xs
+pub methods_there : (c : ClassStructure) (pool : List Entry) (xs : List Method) → pool ≡ c.constant_pool → map seen_method xs ≡ methods_of c → AreMembersRight c → All (λ x. IsSome (shown_method_texts pool (seen_method x))) xs
 methods_there c pool xs e is right =
-    let all : All (KeepsMethodRules c.constant_pool c.access_flags) (map seen_method xs) = subst (λ fs. All (KeepsMethodRules c.constant_pool c.access_flags) fs) (sym is) right.methods in
-    let some : All (λ f. IsSome (method_texts c.constant_pool f)) (map seen_method xs) = all_there (method_texts c.constant_pool) (λ m. IsMethodRight c.access_flags m) (map seen_method xs) all in
-    all_unseen (λ f. IsSome (method_texts pool f)) seen_method xs (subst (λ p. All (λ f. IsSome (method_texts p f)) (map seen_method xs)) (sym e) some)
+    let all : All (KeepsMethodShown c.constant_pool c.access_flags) (map seen_method xs) = subst (λ fs. All (KeepsMethodShown c.constant_pool c.access_flags) fs) (sym is) (members_shown c right).methods in
+    let some : All (λ f. IsSome (shown_method_texts c.constant_pool f)) (map seen_method xs) = all_there (shown_method_texts c.constant_pool) (λ m. IsMethodRight c.access_flags m.access_flags (is_some m.code)) (map seen_method xs) all in
+    all_unseen (λ f. IsSome (shown_method_texts pool f)) seen_method xs (subst (λ p. All (λ f. IsSome (shown_method_texts p f)) (map seen_method xs)) (sym e) some)
 
 class_there : (o : Option (List ℕ)) → IsTrue (some_and is_no_array_name o) → IsSome o
 class_there None h = absurd cc
@@ -232,3 +237,33 @@ named_unless_zero false pool index other h = some_named _ (class_name_at pool in
 pub super_there : (pool : List Entry) (index : ℕ) (name : Option (List ℕ)) → IsSomeAnd name (IsNameRight pool index) → (index ≡ 0 → ⊥) → IsSome (class_name_at pool index)
 super_there pool index None h other = absurd h
 super_there pool index (Some name) h other = named_unless_zero (is_object name) pool index other h.superclass
+
+-- ---- a member at a place
+
+module _ {X Y : Type 0} (seen : X → Y) (pool : List Entry) (texts : Y → Option NameAndDescriptor) (keeps : NameAndDescriptor → Y → Type 0) where
+  pub texts_at : (ys : List Y) (place : ℕ) (o : Option X) → All (λ y. IsSomeAnd (texts y) (λ t. keeps t y)) ys → option_map seen o ≡ slice_get ys place → IfSome o (λ x. IsSome (texts (seen x)))
+  texts_at ys place None all e = tt
+  texts_at ys place (Some x) all e =
+      let lt = slice_get_within ys place (seen x) (sym e) in
+      let same = get_or_from_slice_get ys place (seen x) (seen x) (sym e) in
+      some_there (texts (seen x)) (λ t. keeps t (seen x)) (subst (λ y. IsSomeAnd (texts y) (λ t. keeps t y)) same (All-get_or (λ y. IsSomeAnd (texts y) (λ t. keeps t y)) ys place (seen x) lt all))
+
+if_some_same : {X : Type 0} (o : Option X) (P Q : X → Type 0) → ((x : X) → P x → Q x) → IfSome o P → IfSome o Q
+if_some_same None P Q f h = tt
+if_some_same (Some x) P Q f h = f x h
+
+pub field_there : (c : ClassStructure) (place : ℕ) (o : Option Field) → AreMembersRight c → option_map seen_field o ≡ slice_get (fields_of c) place
+    → IfSome o (λ f. IsSome (utf8_at c.constant_pool f.name.0)) × IfSome o (λ f. IsSome (utf8_at c.constant_pool f.descriptor.0))
+field_there c place o right e =
+    let there = texts_at seen_field c.constant_pool (shown_field_texts c.constant_pool) (λ t f. IsFieldRight c.constant_pool c.access_flags f.access_flags f.constant_value t) (fields_of c) place o (members_shown c right).fields e in (
+      if_some_same o _ _ (λ f h. first_there (utf8_at c.constant_pool f.name.0) (utf8_at c.constant_pool f.descriptor.0) h) there,
+      if_some_same o _ _ (λ f h. second_there (utf8_at c.constant_pool f.name.0) (utf8_at c.constant_pool f.descriptor.0) h) there,
+    )
+
+pub method_there : (c : ClassStructure) (place : ℕ) (o : Option Method) → AreMembersRight c → option_map seen_method o ≡ slice_get (methods_of c) place
+    → IfSome o (λ m. IsSome (utf8_at c.constant_pool m.name.0)) × IfSome o (λ m. IsSome (utf8_at c.constant_pool m.descriptor.0))
+method_there c place o right e =
+    let there = texts_at seen_method c.constant_pool (shown_method_texts c.constant_pool) (λ t m. IsMethodRight c.access_flags m.access_flags (is_some m.code) t) (methods_of c) place o (members_shown c right).methods e in (
+      if_some_same o _ _ (λ m h. first_there (utf8_at c.constant_pool m.name.0) (utf8_at c.constant_pool m.descriptor.0) h) there,
+      if_some_same o _ _ (λ m h. second_there (utf8_at c.constant_pool m.name.0) (utf8_at c.constant_pool m.descriptor.0) h) there,
+    )

@@ -27,13 +27,18 @@ use Rattle.jv_pool.specs.Constants.{NameAndDescriptor, name_and_descriptor}
 use Rattle.jv_pool.specs.Facts.{value_of_base, value_of_element, value_of_type}
 use Rattle.jv_class_parts.specs.Structure.{ClassStructure}
 use Rattle.jv_class_parts.specs.Parts.{FieldSeen}
-use Rattle.jv_class.specs.Rules.{is_integer, is_long, is_string, takes, value_right, IsFieldRight, KeepsFieldRules, KeepsClassRules, fields_of}
-use Rattle.jv_class.specs.Supported.{HasNoFloating, IsSupportedField, IsSupported}
+use Rattle.jv_class.specs.Rules.{is_integer, is_long, is_string, takes, value_right, IsFieldRight, KeepsClassRules}
+use Rattle.jv_class.proofs.ShownOf.{members_shown, supported_shown}
+use Rattle.jv_class.specs.Inside.Shown.{KeepsFieldShown}
+use Rattle.jv_class_parts.specs.Parts.{fields_of}
+use Rattle.jv_class.specs.Supported.{HasNoFloating, IsSupported}
+use Rattle.jv_class.proofs.ShownOf.{members_shown, supported_shown}
+use Rattle.jv_class.specs.Inside.Shown.{IsFieldShownSupported}
 use Rattle.std.specs.Prelude.{IfSome, IfNone}
 use Rattle.jv_class_parts.specs.Seen.{seen_field}
 use Rattle.jv_class_parts.specs.declared.member.Field.{Field}
 use Rattle.jv_class.specs.declared.constant_value.ConstantValue.{ConstantValue}
-use Rattle.jv_class.specs.Value.{is_value, value_number, index_of_value, value_of_field}
+use Rattle.jv_class.specs.Value.{is_value, value_number, value_of_field}
 use Rattle.jv_class.proofs.Kept.{at_indices}
 
 string_in_pool : (pool : List Entry) (o : Option Entry) → ((c : Entry) → o ≡ Some c → KeepsRules pool c) → option_map kind_of o ≡ Some kinds.String → IsSome (string_in pool o)
@@ -107,32 +112,32 @@ both_ways : (b : Bool) → b ≡ true → IsTrue (not b) → ⊥
 both_ways b t n = cc
 
 module _ (pool : List Entry) (flags : ℕ) (f : FieldSeen) (index : ℕ) (at : f.constant_value ≡ Some index) where
-  right_value : (texts : NameAndDescriptor) → IsFieldRight pool flags f texts → HasNoFloating texts.descriptor → is_value (kind_at pool index) ≡ true
+  right_value : (texts : NameAndDescriptor) → IsFieldRight pool flags f.access_flags f.constant_value texts → HasNoFloating texts.descriptor → is_value (kind_at pool index) ≡ true
   right_value texts right none =
-      taken (value_of_type right.type) (kind_at pool index) (ap (value_right pool (value_of_type right.type)) (sym at) ∙ right.value)
+      taken (value_of_type right.type) (kind_at pool index) (ap (value_right pool (value_of_type right.type)) (sym at) ∙ right.value_kind)
       (λ e. both_ways (is_floating right.type) (floating_type right.type e) (none.field right.type right.described))
 
-  by_texts : (n d : Option (List ℕ)) → IsSomeAnd (n >>= λ a. d >>= λ b. Some (name_and_descriptor a b)) (IsFieldRight pool flags f) → IsSomeAnd d HasNoFloating → is_value (kind_at pool index) ≡ true
+  by_texts : (n d : Option (List ℕ)) → IsSomeAnd (n >>= λ a. d >>= λ b. Some (name_and_descriptor a b)) (IsFieldRight pool flags f.access_flags f.constant_value) → IsSomeAnd d HasNoFloating → is_value (kind_at pool index) ≡ true
   by_texts None d right none = absurd right
   by_texts (Some n) None right none = absurd right
   by_texts (Some n) (Some d) right none = right_value (name_and_descriptor n d) right none
 
-  pub value_kept : KeepsFieldRules pool flags f → IsSupportedField pool f → is_value (kind_at pool index) ≡ true
+  pub value_kept : KeepsFieldShown pool flags f → IsFieldShownSupported pool f → is_value (kind_at pool index) ≡ true
   value_kept right none = by_texts (utf8_at pool f.name_index) (utf8_at pool f.descriptor_index) right none
 
 pub value_is : (c : ClassStructure) → KeepsClassRules c → IsSupported c → (place : ℕ) (f : FieldSeen) (index : ℕ) → slice_get (fields_of c) place ≡ Some f → f.constant_value ≡ Some index → is_value (kind_at c.constant_pool index) ≡ true
 value_is c rules supported place f index there at =
     let lt = slice_get_within (fields_of c) place f there in
     let same = get_or_from_slice_get (fields_of c) place f f there in
-    let right : KeepsFieldRules c.constant_pool c.access_flags f = subst (KeepsFieldRules c.constant_pool c.access_flags) same (All-get_or (KeepsFieldRules c.constant_pool c.access_flags) (fields_of c) place f lt rules.members.fields) in
-    let none : IsSupportedField c.constant_pool f = subst (IsSupportedField c.constant_pool) same (All-get_or (IsSupportedField c.constant_pool) (fields_of c) place f lt supported.fields) in
+    let right : KeepsFieldShown c.constant_pool c.access_flags f = subst (KeepsFieldShown c.constant_pool c.access_flags) same (All-get_or (KeepsFieldShown c.constant_pool c.access_flags) (fields_of c) place f lt (members_shown c rules.members).fields) in
+    let none : IsFieldShownSupported c.constant_pool f = subst (IsFieldShownSupported c.constant_pool) same (All-get_or (IsFieldShownSupported c.constant_pool) (fields_of c) place f lt (supported_shown c supported).fields) in
     value_kept c.constant_pool c.access_flags f index at right none
 
 pub value_same : (c : ClassStructure) → KeepsClassRules c → IsSupported c → (place : ℕ) (f : Field) (index : ℕ) (o : Option Field) → option_map seen_field o ≡ slice_get (fields_of c) place → o ≡ Some f → f.constant_value ≡ Some index
     → (r : Option ConstantValue) → IfSome r (λ v. value_number v ≡ index) → IfNone r (is_value (kind_at c.constant_pool index) ≡ false) → option_map value_number r ≡ value_of_field c place
 value_same c rules supported place f index o seen is at (Some v) same none =
     let there : slice_get (fields_of c) place ≡ Some (seen_field f) = sym seen ∙ ap (option_map seen_field) is in
-    ap Some same ∙ sym at ∙ sym (ap (λ (x : Option FieldSeen). x >>= index_of_value) there)
+    ap Some same ∙ sym at ∙ sym (ap (λ (x : Option FieldSeen). x >>= λ g. g.constant_value) there)
 value_same c rules supported place f index o seen is at None same none =
     let there : slice_get (fields_of c) place ≡ Some (seen_field f) = sym seen ∙ ap (option_map seen_field) is in
     let yes = value_is c rules supported place (seen_field f) index there at in

@@ -1,6 +1,4 @@
 -- The rules on the names, types and flags of a class, its fields and its methods (JVMS 4.1, 4.5, 4.6, 4.7.2, 4.7.3).
--- Those on a field speak of what is shown of it: its flags, its indices, and the index of its constant value; those on a
--- method of its flags, its indices and its code, if it has one.
 use Rattle.std.specs.Prelude.{◌≢◌, ⊤, ℕ, ◌+◌, Bool, true, false, not, ◌&&◌, ◌==◌, nat_le, List, [], ◌∷◌, map, Option, Some, None, is_some, is_none, IsTrue, codes, if◌then◌else◌}
 use Rattle.std.specs.List.{All, AllByRecursion}
 use Rattle.std.specs.Option.{IsSomeAnd}
@@ -15,9 +13,8 @@ use Rattle.jv_pool.specs.declared.facts.ConstantValueKind.TheVariants as values
 use Rattle.jv_pool.specs.Constants.{Entry, NameAndDescriptor, named_at, kind_at, class_name_at}
 use Rattle.jv_text.specs.Name.{is_array_name, is_init}
 use Rattle.jv_pool.specs.Facts.{value_of_type}
-use Rattle.jv_class_parts.specs.Structure.{ClassStructure}
-use Rattle.jv_class_parts.specs.Attributes.{some_and}
-use Rattle.jv_class_parts.specs.Parts.{FieldSeen, MethodSeen, field_shown, method_shown}
+use Rattle.jv_class_parts.specs.Structure.{FieldInfo, MethodInfo, ClassStructure}
+use Rattle.jv_class_parts.specs.Attributes.{some_and, sole, static_value, codes_of}
 use Rattle.jv_class_parts.specs.Flags.{has, acc_static, acc_native, acc_interface, acc_abstract, class_flags_right, visibility_right, volatile_right, interface_field_right, abstract_right, interface_method_right, init_flags_right}
 
 -- ---- names
@@ -91,18 +88,21 @@ abbrev pub value_right : List Entry → ConstantValueKind → Option ℕ → Boo
 value_right pool value None = true
 value_right pool value (Some index) = takes value (kind_at pool index)
 
--- what a field's name, descriptor, flags and value have to do with one another
-pub record IsFieldRight (pool : List Entry) (class_flags : ℕ) (f : FieldSeen) (texts : NameAndDescriptor) : Type 0 where
+-- what a field's name, descriptor, flags and the index of its constant value, if it has one, have to do with one another
+pub record IsFieldRight (pool : List Entry) (class_flags flags : ℕ) (value : Option ℕ) (texts : NameAndDescriptor) : Type 0 where
   pub named : IsTrue (is_unqualified_name texts.name)
   pub type : FieldTypeOf (List ℕ)
   pub described : IsField texts.descriptor type
-  pub flags_right : IsTrue (field_flags_right (has class_flags acc_interface) f.access_flags)
-  pub value : IsTrue (value_right pool (value_of_type type) f.constant_value)
+  pub flags_right : IsTrue (field_flags_right (has class_flags acc_interface) flags)
+  pub value_kind : IsTrue (value_right pool (value_of_type type) value)
 
--- a field's indices name such texts
-abbrev pub KeepsFieldRules : List Entry → ℕ → FieldSeen → Type 0
+-- the name and the descriptor that a field's indices name
+abbrev pub field_texts : List Entry → FieldInfo → Option NameAndDescriptor
+field_texts pool f = named_at pool f.name_index f.descriptor_index
+
+abbrev pub KeepsFieldRules : List Entry → ℕ → FieldInfo → Type 0
 KeepsFieldRules pool class_flags f =
-    IsSomeAnd (named_at pool f.name_index f.descriptor_index) (IsFieldRight pool class_flags f)
+    IsSomeAnd (field_texts pool f) (IsFieldRight pool class_flags f.access_flags (static_value pool f))
 
 -- ---- its methods (4.6)
 
@@ -134,32 +134,32 @@ slots_right flags count = nat_le ((if has flags acc_static then 0 else 1) + coun
 abbrev pub is_bodiless : List ℕ → ℕ → Bool
 is_bodiless name flags = not (is_clinit name) && has flags (acc_abstract + acc_native)
 
-abbrev pub code_there_right : List ℕ → MethodSeen → Bool
-code_there_right name m = if is_bodiless name m.access_flags then is_none m.code else is_some m.code
+abbrev pub has_code : MethodInfo → Bool
+has_code m = is_some (sole (codes_of m))
 
--- what a method's name, descriptor, flags and code have to do with one another
-pub record IsMethodRight (class_flags : ℕ) (m : MethodSeen) (texts : NameAndDescriptor) : Type 0 where
+abbrev pub code_there_right : List ℕ → ℕ → Bool → Bool
+code_there_right name flags code = if is_bodiless name flags then not code else code
+
+-- what a method's name, descriptor, flags and whether it has code have to do with one another
+pub record IsMethodRight (class_flags flags : ℕ) (code : Bool) (texts : NameAndDescriptor) : Type 0 where
   pub named : IsTrue (is_method_name texts.name)
   pub type : MethodDescriptor
   pub described : IsMethod texts.descriptor type
-  pub flags_right : IsTrue (method_flags_right (has class_flags acc_interface) texts.name m.access_flags)
+  pub flags_right : IsTrue (method_flags_right (has class_flags acc_interface) texts.name flags)
   pub init : IsTrue (init_right (has class_flags acc_interface) texts.name (is_none type.result))
-  pub clinit : IsTrue (clinit_right texts.name texts.descriptor m.access_flags)
-  pub few_slots : IsTrue (slots_right m.access_flags (slots type))
-  pub code : IsTrue (code_there_right texts.name m)
+  pub clinit : IsTrue (clinit_right texts.name texts.descriptor flags)
+  pub few_slots : IsTrue (slots_right flags (slots type))
+  pub code_there : IsTrue (code_there_right texts.name flags code)
 
--- a method's indices name such texts
-abbrev pub KeepsMethodRules : List Entry → ℕ → MethodSeen → Type 0
+-- the name and the descriptor that a method's indices name
+abbrev pub method_texts : List Entry → MethodInfo → Option NameAndDescriptor
+method_texts pool m = named_at pool m.name_index m.descriptor_index
+
+abbrev pub KeepsMethodRules : List Entry → ℕ → MethodInfo → Type 0
 KeepsMethodRules pool class_flags m =
-    IsSomeAnd (named_at pool m.name_index m.descriptor_index) (IsMethodRight class_flags m)
+    IsSomeAnd (method_texts pool m) (IsMethodRight class_flags m.access_flags (has_code m))
 
 -- ---- no two fields, and no two methods, have the same name and descriptor (4.5, 4.6)
-
-abbrev pub field_texts : List Entry → FieldSeen → Option NameAndDescriptor
-field_texts pool f = named_at pool f.name_index f.descriptor_index
-
-abbrev pub method_texts : List Entry → MethodSeen → Option NameAndDescriptor
-method_texts pool m = named_at pool m.name_index m.descriptor_index
 
 -- none is like a later one
 abbrev pub NoTwoAlike : List (Option NameAndDescriptor) → Type 0
@@ -167,12 +167,6 @@ NoTwoAlike [] = ⊤
 NoTwoAlike (texts ∷ others) = AllByRecursion (λ other. texts ≢ other) others × NoTwoAlike others
 
 -- ---- the whole
-
-abbrev pub fields_of : ClassStructure → List FieldSeen
-fields_of c = map (field_shown c.constant_pool) c.fields
-
-abbrev pub methods_of : ClassStructure → List MethodSeen
-methods_of c = map (method_shown c.constant_pool) c.methods
 
 pub record AreSupersRight (c : ClassStructure) : Type 0 where
   pub interface_super : IsTrue (interface_super_right c.constant_pool c.access_flags c.super_class)
@@ -184,12 +178,12 @@ pub record IsClassRight (c : ClassStructure) : Type 0 where
   pub supers : AreSupersRight c
 
 pub record AreMembersRight (c : ClassStructure) : Type 0 where
-  pub fields : All (KeepsFieldRules c.constant_pool c.access_flags) (fields_of c)
-  pub methods : All (KeepsMethodRules c.constant_pool c.access_flags) (methods_of c)
+  pub fields : All (KeepsFieldRules c.constant_pool c.access_flags) c.fields
+  pub methods : All (KeepsMethodRules c.constant_pool c.access_flags) c.methods
 
 pub record AreMembersUnlike (c : ClassStructure) : Type 0 where
-  pub fields : NoTwoAlike (map (field_texts c.constant_pool) (fields_of c))
-  pub methods : NoTwoAlike (map (method_texts c.constant_pool) (methods_of c))
+  pub fields : NoTwoAlike (map (field_texts c.constant_pool) c.fields)
+  pub methods : NoTwoAlike (map (method_texts c.constant_pool) c.methods)
 
 pub record KeepsClassRules (c : ClassStructure) : Type 0 where
   pub itself : IsClassRight c

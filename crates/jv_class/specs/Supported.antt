@@ -9,9 +9,8 @@ use Rattle.jv_pool.specs.declared.constant.Constant.TheVariants.{Utf8, Integer, 
 use Rattle.jv_pool.specs.Constants.{Entry, utf8_at}
 use Rattle.jv_text.specs.Name.{is_array_name}
 use Rattle.jv_class_parts.specs.Structure.{ClassStructure}
-use Rattle.jv_class_parts.specs.Parts.{FieldSeen, MethodSeen}
 use Rattle.jv_class_parts.specs.Flags.{has, acc_native, acc_synchronized}
-use Rattle.jv_class.specs.Rules.{is_clinit, fields_of, methods_of}
+use Rattle.jv_class.specs.Rules.{is_clinit}
 
 -- no field descriptor of float, double or an array of these
 abbrev pub HasNoFloatingField : List ℕ → Type 0
@@ -45,18 +44,18 @@ IsSupportedConstant pool (MethodHandle kind index) = ⊥
 IsSupportedConstant pool (MethodType descriptor) = ⊥
 IsSupportedConstant pool (InvokeDynamic bootstrap name_and_type) = ⊥
 
-abbrev pub IsSupportedField : List Entry → FieldSeen → Type 0
-IsSupportedField pool f = IsSomeAnd (utf8_at pool f.descriptor_index) HasNoFloating
+-- the descriptor at an index
+abbrev pub IsSupportedType : List Entry → ℕ → Type 0
+IsSupportedType pool descriptor_index = IsSomeAnd (utf8_at pool descriptor_index) HasNoFloating
 
 -- a method other than `<clinit>` is neither native nor synchronized
 abbrev pub is_supported_method : List ℕ → ℕ → Bool
 is_supported_method name flags = is_clinit name || not (has flags (acc_native + acc_synchronized))
 
-pub record IsSupportedMethod (pool : List Entry) (m : MethodSeen) : Type 0 where
-  pub described : IsSomeAnd (utf8_at pool m.descriptor_index) HasNoFloating
-  pub flags : IsSomeAnd (utf8_at pool m.name_index) (λ name. IsTrue (is_supported_method name m.access_flags))
+abbrev pub AreSupportedFlags : List Entry → ℕ → ℕ → Type 0
+AreSupportedFlags pool name_index flags = IsSomeAnd (utf8_at pool name_index) (λ name. IsTrue (is_supported_method name flags))
 
 pub record IsSupported (c : ClassStructure) : Type 0 where
   pub constants : All (IsSupportedConstant c.constant_pool) c.constant_pool
-  pub fields : All (IsSupportedField c.constant_pool) (fields_of c)
-  pub methods : All (IsSupportedMethod c.constant_pool) (methods_of c)
+  pub fields : All (λ f. IsSupportedType c.constant_pool f.descriptor_index) c.fields
+  pub methods : All (λ m. IsSupportedType c.constant_pool m.descriptor_index × AreSupportedFlags c.constant_pool m.name_index m.access_flags) c.methods

@@ -4,8 +4,8 @@ use Rattle.jv_format.specs.Format.{◌>>=◌}
 use Rattle.jv_pool.specs.declared.constant.Kind.{Kind}
 use Rattle.jv_pool.specs.Constants.{Entry, integer_at, long_at, string_at}
 use Rattle.jv_class_parts.specs.Structure.{ClassStructure}
-use Rattle.jv_class_parts.specs.Parts.{FieldSeen}
-use Rattle.jv_class.specs.Rules.{is_integer, is_long, is_string, fields_of}
+use Rattle.jv_class.specs.Rules.{is_integer, is_long, is_string}
+use Rattle.jv_class_parts.specs.Parts.{fields_of}
 use Rattle.jv_class.specs.declared.constant_value.ConstantValue.{ConstantValue}
 use Rattle.jv_class.specs.declared.constant_value.ConstantValue.TheVariants as values
 
@@ -24,9 +24,6 @@ IsValueNamed pool (values.String index) = IsSome (string_at pool index.0)
 abbrev pub is_value : Option Kind → Bool
 is_value constant = is_integer constant || (is_long constant || is_string constant)
 
-abbrev pub index_of_value : FieldSeen → Option ℕ
-index_of_value f = f.constant_value
-
 -- the index of the value of the field at a place
 abbrev pub value_of_field : ClassStructure → ℕ → Option ℕ
-value_of_field c place = slice_get (fields_of c) place >>= index_of_value
+value_of_field c place = slice_get (fields_of c) place >>= λ f. f.constant_value

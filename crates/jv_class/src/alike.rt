@@ -8,7 +8,8 @@ ghost use Rattle.std.specs.List.{All, AllZip, IsDistinct};
 ghost use Rattle.jv_pool.specs.Constants.{utf8_at};
 ghost use Rattle.jv_class_parts.specs.Seen.{seen_field, seen_method};
 ghost use Rattle.jv_class.specs.Inside.Reading.{IsKeyOf, IsFieldKey, IsMethodKey, FailsForMemory};
-ghost use Rattle.jv_class.specs.Rules.{field_texts, method_texts, NoTwoAlike, AreMembersRight, AreMembersUnlike};
+ghost use Rattle.jv_class.specs.Rules.{NoTwoAlike, AreMembersRight, AreMembersUnlike};
+ghost use Rattle.jv_class.specs.Inside.Shown.{shown_field_texts, shown_method_texts, AreShownUnlike};
 ghost use Rattle.jv_class.specs.declared.fault.ClassFault.TheVariants.{Memory};
 
 use crate::fault::ClassFault;
@@ -41,7 +42,7 @@ fn all_differ(alloc: Global, keys: &[u32]) -> Result<bool, ClassFault>
 }
 
 fn field_keys(alloc: Global, pool: &Pool<'_>, fields: &[Field]) -> Result<Vec<u32>, ClassFault>
-    requires { All (λ f. IsSome (field_texts pool.now (seen_field f))) fields.now }
+    requires { All (λ f. IsSome (shown_field_texts pool.now (seen_field f))) fields.now }
     ensures ok { IfOk result (λ keys. AllZip (IsFieldKey pool.now) fields.now keys.items) }
     ensures memory { FailsForMemory result }
 {
@@ -59,7 +60,7 @@ fn method_keys(
     pool: &Pool<'_>,
     methods: &[Method<'_>],
 ) -> Result<Vec<u32>, ClassFault>
-    requires { All (λ m. IsSome (method_texts pool.now (seen_method m))) methods.now }
+    requires { All (λ m. IsSome (shown_method_texts pool.now (seen_method m))) methods.now }
     ensures ok { IfOk result (λ keys. AllZip (IsMethodKey pool.now) methods.now keys.items) }
     ensures memory { FailsForMemory result }
 {
@@ -74,8 +75,8 @@ fn method_keys(
 
 /// Whether no two fields have the same name and descriptor.
 fn fields_are_unlike(alloc: Global, pool: &Pool<'_>, fields: &[Field]) -> Result<bool, ClassFault>
-    requires { All (λ f. IsSome (field_texts pool.now (seen_field f))) fields.now }
-    ensures ok { IfOk result (λ unlike. IsTrue unlike ↔ NoTwoAlike (map (field_texts pool.now) (map seen_field fields.now))) }
+    requires { All (λ f. IsSome (shown_field_texts pool.now (seen_field f))) fields.now }
+    ensures ok { IfOk result (λ unlike. IsTrue unlike ↔ NoTwoAlike (map (shown_field_texts pool.now) (map seen_field fields.now))) }
     ensures memory { FailsForMemory result }
 {
     let keys = field_keys(alloc, pool, fields)?;
@@ -88,12 +89,24 @@ fn methods_are_unlike(
     pool: &Pool<'_>,
     methods: &[Method<'_>],
 ) -> Result<bool, ClassFault>
-    requires { All (λ m. IsSome (method_texts pool.now (seen_method m))) methods.now }
-    ensures ok { IfOk result (λ unlike. IsTrue unlike ↔ NoTwoAlike (map (method_texts pool.now) (map seen_method methods.now))) }
+    requires { All (λ m. IsSome (shown_method_texts pool.now (seen_method m))) methods.now }
+    ensures ok { IfOk result (λ unlike. IsTrue unlike ↔ NoTwoAlike (map (shown_method_texts pool.now) (map seen_method methods.now))) }
     ensures memory { FailsForMemory result }
 {
     let keys = method_keys(alloc, pool, methods)?;
     all_differ(alloc, &keys)
+}
+
+/// The same of each as it was read.
+fn shown_are_unlike(alloc: Global, parts: &Parts<'_>) -> Result<bool, ClassFault>
+    requires { AreMembersRight parts.now }
+    ensures ok { IfOk result (λ unlike. IsTrue unlike ↔ AreShownUnlike parts.now) }
+    ensures memory { FailsForMemory result }
+{
+    if !fields_are_unlike(alloc, parts.pool(), parts.fields())? {
+        return Ok(false);
+    }
+    methods_are_unlike(alloc, parts.pool(), parts.methods())
 }
 
 /// Whether no two fields, and no two methods, are alike.
@@ -102,8 +115,5 @@ pub(crate) fn members_are_unlike(alloc: Global, parts: &Parts<'_>) -> Result<boo
     ensures ok { IfOk result (λ unlike. IsTrue unlike ↔ AreMembersUnlike parts.now) }
     ensures memory { FailsForMemory result }
 {
-    if !fields_are_unlike(alloc, parts.pool(), parts.fields())? {
-        return Ok(false);
-    }
-    methods_are_unlike(alloc, parts.pool(), parts.methods())
+    shown_are_unlike(alloc, parts)
 }

@@ -10,7 +10,9 @@ ghost use Rattle.jv_class_parts.specs.Structure.{body_fits};
 ghost use Rattle.jv_class_parts.specs.Seen.{seen_index, seen_field, seen_method};
 ghost use Rattle.jv_class.specs.ClassFile.{class_name, IsWellFormed};
 ghost use Rattle.jv_class.specs.ClassFile.{super_index};
-ghost use Rattle.jv_class.specs.Rules.{fields_of, methods_of, AreMembersRight, KeepsClassRules};
+ghost use Rattle.jv_class.specs.Rules.{AreMembersRight, KeepsClassRules};
+ghost use Rattle.jv_class.specs.Inside.Shown.{AreShownRight, AreShownSupported};
+ghost use Rattle.jv_class_parts.specs.Parts.{fields_of, methods_of};
 ghost use Rattle.jv_class.specs.Supported.{IsSupported};
 ghost use Rattle.jv_class.specs.Value.{value_number, IsValueNamed, value_of_field};
 ghost use Rattle.jv_class.specs.declared.fault.ClassFault.TheVariants.{Version, Format, Unsupported};
@@ -44,20 +46,33 @@ impl<'a> Model for ClassFile<'a> {
     ghost invariant = { λ c. IsWellFormed c.parts × IsSupported c.parts };
 }
 
-/// Whether fields and methods keep the rules of their own.
-fn members_are_right(parts: &Parts<'_>) -> bool
-    ensures { IsTrue result ↔ AreMembersRight parts.now }
+/// Whether fields and methods, as they were read, keep the rules of their own.
+fn shown_are_right(parts: &Parts<'_>) -> bool
+    ensures { IsTrue result ↔ AreShownRight parts.now }
 {
     field_rules::keep_rules(parts.pool(), parts.access_flags(), parts.fields())
         && method_rules::keep_rules(parts.pool(), parts.access_flags(), parts.methods())
 }
 
-fn is_supported(parts: &Parts<'_>) -> bool
-    ensures { IsTrue result ↔ IsSupported parts.now }
+/// Whether fields and methods keep the rules of their own.
+fn members_are_right(parts: &Parts<'_>) -> bool
+    ensures { IsTrue result ↔ AreMembersRight parts.now }
+{
+    shown_are_right(parts)
+}
+
+fn shown_are_supported(parts: &Parts<'_>) -> bool
+    ensures { IsTrue result ↔ AreShownSupported parts.now }
 {
     are_supported_constants(parts.pool())
         && are_supported_fields(parts.pool(), parts.fields())
         && are_supported_methods(parts.pool(), parts.methods())
+}
+
+fn is_supported(parts: &Parts<'_>) -> bool
+    ensures { IsTrue result ↔ IsSupported parts.now }
+{
+    shown_are_supported(parts)
 }
 
 /// The class of these parts, where they keep the rules and the profile supports them.

@@ -4,6 +4,7 @@ ghost use Rattle.std.specs.Prelude.{◌≡◌};
 ghost use Rattle.jv_class.specs.declared.fault.ClassFault.TheVariants.{Memory};
 
 use std::alloc::AllocFailed;
+use std::fmt;
 
 /// Why bytes were not read as a class file, the first that applies.
 #[derive(Clone, Copy, Debug)]
@@ -16,6 +17,17 @@ pub enum ClassFault {
     Unsupported,
     /// The host's memory was refused.
     Memory,
+}
+
+impl fmt::Display for ClassFault {
+    fn fmt<W: fmt::Write>(&self, f: &mut fmt::Formatter<W>) -> fmt::Result {
+        f.write_str(match self {
+            ClassFault::Version => "another version",
+            ClassFault::Format => "no class file",
+            ClassFault::Unsupported => "beyond the profile",
+            ClassFault::Memory => "out of memory",
+        })
+    }
 }
 
 impl<T: Drop> From<AllocFailed<T>> for ClassFault {

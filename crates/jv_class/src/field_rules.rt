@@ -6,7 +6,8 @@ ghost use Rattle.jv_pool.specs.Constants.{NameAndDescriptor};
 ghost use Rattle.jv_pool.specs.Facts.{AreFacts};
 ghost use Rattle.jv_class_parts.specs.Flags.{has, acc_interface};
 ghost use Rattle.jv_class_parts.specs.Seen.{seen_field};
-ghost use Rattle.jv_class.specs.Rules.{interface_field_flags_right, field_flags_right, takes, value_right, IsFieldRight, KeepsFieldRules};
+ghost use Rattle.jv_class.specs.Rules.{interface_field_flags_right, field_flags_right, takes, value_right, IsFieldRight};
+ghost use Rattle.jv_class.specs.Inside.Shown.{KeepsFieldShown};
 
 use crate::flags::{are_not_final_and_volatile, are_of_interface_field, have_one_visibility};
 use bitflags::Flags;
@@ -81,7 +82,7 @@ fn is_right_field(
     descriptor: TextFacts,
 ) -> bool
     ensures { (texts : NameAndDescriptor) → AreFacts texts.name name → AreFacts texts.descriptor descriptor
-        → (IsTrue result ↔ IsFieldRight pool.now class_flags.0 (seen_field field) texts) }
+        → (IsTrue result ↔ IsFieldRight pool.now class_flags.0 field.access_flags.0 field.constant_value texts) }
 {
     match descriptor.field {
         Some(facts) => is_right(pool, class_flags, field, name, facts),
@@ -90,7 +91,7 @@ fn is_right_field(
 }
 
 fn keeps_rules(pool: &Pool<'_>, class_flags: ClassFlags, field: Field) -> bool
-    ensures { IsTrue result ↔ KeepsFieldRules pool.now class_flags.0 (seen_field field) }
+    ensures { IsTrue result ↔ KeepsFieldShown pool.now class_flags.0 (seen_field field) }
 {
     let Some(name) = pool.utf8_index(field.name.0) else {
         return false;
@@ -109,14 +110,14 @@ fn keeps_rules(pool: &Pool<'_>, class_flags: ClassFlags, field: Field) -> bool
 
 /// Whether each field keeps the rules.
 pub(crate) fn keep_rules(pool: &Pool<'_>, class_flags: ClassFlags, fields: &[Field]) -> bool
-    ensures { IsTrue result ↔ All (KeepsFieldRules pool.now class_flags.0) (map seen_field fields.now) }
+    ensures { IsTrue result ↔ All (KeepsFieldShown pool.now class_flags.0) (map seen_field fields.now) }
 {
     each_keeps_rules(pool, class_flags, fields)
 }
 
 /// The same of each as it was read.
 fn each_keeps_rules(pool: &Pool<'_>, class_flags: ClassFlags, fields: &[Field]) -> bool
-    ensures { IsTrue result ↔ All (λ x. KeepsFieldRules pool.now class_flags.0 (seen_field x)) fields.now }
+    ensures { IsTrue result ↔ All (λ x. KeepsFieldShown pool.now class_flags.0 (seen_field x)) fields.now }
 {
     fields
         .iter()

@@ -1,12 +1,13 @@
 //! The rules that a method keeps (JVMS 4.6, 4.7.3).
 
-ghost use Rattle.std.specs.Prelude.{◌≡◌, ◌↔◌, ◌&&◌, IsTrue, map};
+ghost use Rattle.std.specs.Prelude.{◌≡◌, ◌↔◌, ◌&&◌, IsTrue, is_some, map};
 ghost use Rattle.std.specs.List.{All};
 ghost use Rattle.jv_pool.specs.Constants.{NameAndDescriptor};
 ghost use Rattle.jv_pool.specs.Facts.{AreFacts};
 ghost use Rattle.jv_class_parts.specs.Flags.{has, acc_interface};
 ghost use Rattle.jv_class_parts.specs.Seen.{seen_method};
-ghost use Rattle.jv_class.specs.Rules.{interface_flags_right, named_flags_right, method_flags_right, init_right, clinit_right, slots_right, is_bodiless, code_there_right, IsMethodRight, KeepsMethodRules};
+ghost use Rattle.jv_class.specs.Rules.{interface_flags_right, named_flags_right, method_flags_right, init_right, clinit_right, slots_right, is_bodiless, code_there_right, IsMethodRight};
+ghost use Rattle.jv_class.specs.Inside.Shown.{KeepsMethodShown};
 
 use crate::flags::{
     are_apart_from_abstract, are_of_init, are_of_interface_method, have_one_visibility,
@@ -88,7 +89,7 @@ fn is_bodiless(name: &[u8], flags: MethodFlags) -> bool
 
 /// Whether a method has code exactly where it has to.
 fn code_is_right(name: &[u8], method: Method<'_>) -> bool
-    ensures { result ≡ code_there_right name.now (seen_method method.entry) }
+    ensures { result ≡ code_there_right name.now method.entry.access_flags.0 (is_some (seen_method method.entry).code) }
 {
     if is_bodiless(name, method.access_flags) {
         method.code.is_none()
@@ -125,7 +126,7 @@ fn is_right(
         && init_right (has class_flags.0 acc_interface) name.now facts.void
         && clinit_right name.now descriptor.now method.entry.access_flags.0)
         && slots_right method.entry.access_flags.0 facts.slots
-        && code_there_right name.now (seen_method method.entry)) }
+        && code_there_right name.now method.entry.access_flags.0 (is_some (seen_method method.entry).code)) }
 {
     names_are_right(
         class_flags.intersects(ClassFlags::INTERFACE),
@@ -148,7 +149,7 @@ fn is_right_method(
 ) -> bool
     ensures { (texts : NameAndDescriptor) → texts.name ≡ name.now → texts.descriptor ≡ descriptor.now
         → AreFacts texts.name name_facts → AreFacts texts.descriptor descriptor_facts
-        → (IsTrue result ↔ IsMethodRight class_flags.0 (seen_method method.entry) texts) }
+        → (IsTrue result ↔ IsMethodRight class_flags.0 method.entry.access_flags.0 (is_some (seen_method method.entry).code) texts) }
 {
     match descriptor_facts.method {
         Some(facts) => {
@@ -159,7 +160,7 @@ fn is_right_method(
 }
 
 fn keeps_rules(pool: &Pool<'_>, class_flags: ClassFlags, method: Method<'_>) -> bool
-    ensures { IsTrue result ↔ KeepsMethodRules pool.now class_flags.0 (seen_method method.entry) }
+    ensures { IsTrue result ↔ KeepsMethodShown pool.now class_flags.0 (seen_method method.entry) }
 {
     let Some(name) = pool.utf8_index(method.name.0) else {
         return false;
@@ -179,14 +180,14 @@ fn keeps_rules(pool: &Pool<'_>, class_flags: ClassFlags, method: Method<'_>) -> 
 
 /// Whether each method keeps the rules.
 pub(crate) fn keep_rules(pool: &Pool<'_>, class_flags: ClassFlags, methods: &[Method<'_>]) -> bool
-    ensures { IsTrue result ↔ All (KeepsMethodRules pool.now class_flags.0) (map seen_method methods.now) }
+    ensures { IsTrue result ↔ All (KeepsMethodShown pool.now class_flags.0) (map seen_method methods.now) }
 {
     each_keeps_rules(pool, class_flags, methods)
 }
 
 /// The same of each as it was read.
 fn each_keeps_rules(pool: &Pool<'_>, class_flags: ClassFlags, methods: &[Method<'_>]) -> bool
-    ensures { IsTrue result ↔ All (λ x. KeepsMethodRules pool.now class_flags.0 (seen_method x)) methods.now }
+    ensures { IsTrue result ↔ All (λ x. KeepsMethodShown pool.now class_flags.0 (seen_method x)) methods.now }
 {
     methods
         .iter()

@@ -8,7 +8,8 @@ ghost use Rattle.jv_pool.specs.Facts.{IsFieldKnown, IsMethodKnown, AreFacts};
 ghost use Rattle.jv_pool.specs.Seen.{seen};
 ghost use Rattle.jv_class_parts.specs.Seen.{seen_field, seen_method};
 ghost use Rattle.jv_class.specs.Inside.Reading.{IsSupportedAt};
-ghost use Rattle.jv_class.specs.Supported.{HasNoFloatingField, HasNoFloatingMethod, HasNoFloating, IsNoFloatingArray, IsSupportedConstant, IsSupportedField, IsSupportedMethod, is_supported_method};
+ghost use Rattle.jv_class.specs.Supported.{HasNoFloatingField, HasNoFloatingMethod, HasNoFloating, IsNoFloatingArray, IsSupportedConstant, is_supported_method};
+ghost use Rattle.jv_class.specs.Inside.Shown.{IsFieldShownSupported, IsMethodShownSupported};
 
 use crate::names::is_clinit;
 use bitflags::Flags;
@@ -103,14 +104,14 @@ pub(crate) fn are_supported_constants(pool: &Pool<'_>) -> bool
 
 /// Whether each field's type is one of the profile.
 pub(crate) fn are_supported_fields(pool: &Pool<'_>, fields: &[Field]) -> bool
-    ensures { IsTrue result ↔ All (IsSupportedField pool.now) (map seen_field fields.now) }
+    ensures { IsTrue result ↔ All (IsFieldShownSupported pool.now) (map seen_field fields.now) }
 {
     each_field_is_supported(pool, fields)
 }
 
 /// The same of each as it was read.
 fn each_field_is_supported(pool: &Pool<'_>, fields: &[Field]) -> bool
-    ensures { IsTrue result ↔ All (λ x. IsSupportedField pool.now (seen_field x)) fields.now }
+    ensures { IsTrue result ↔ All (λ x. IsFieldShownSupported pool.now (seen_field x)) fields.now }
 {
     fields
         .iter()
@@ -133,7 +134,7 @@ fn is_supported_at(pool: &Pool<'_>, name: u16, flags: MethodFlags) -> bool
 }
 
 fn is_supported_method(pool: &Pool<'_>, method: Method<'_>) -> bool
-    ensures { IsTrue result ↔ IsSupportedMethod pool.now (seen_method method.entry) }
+    ensures { IsTrue result ↔ IsMethodShownSupported pool.now (seen_method method.entry) }
 {
     has_no_floating_at(pool, method.descriptor.0)
         && is_supported_at(pool, method.name.0, method.access_flags)
@@ -141,14 +142,14 @@ fn is_supported_method(pool: &Pool<'_>, method: Method<'_>) -> bool
 
 /// Whether each method is one of the profile.
 pub(crate) fn are_supported_methods(pool: &Pool<'_>, methods: &[Method<'_>]) -> bool
-    ensures { IsTrue result ↔ All (IsSupportedMethod pool.now) (map seen_method methods.now) }
+    ensures { IsTrue result ↔ All (IsMethodShownSupported pool.now) (map seen_method methods.now) }
 {
     each_method_is_supported(pool, methods)
 }
 
 /// The same of each as it was read.
 fn each_method_is_supported(pool: &Pool<'_>, methods: &[Method<'_>]) -> bool
-    ensures { IsTrue result ↔ All (λ x. IsSupportedMethod pool.now (seen_method x)) methods.now }
+    ensures { IsTrue result ↔ All (λ x. IsMethodShownSupported pool.now (seen_method x)) methods.now }
 {
     methods
         .iter()

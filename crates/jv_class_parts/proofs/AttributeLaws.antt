@@ -4,7 +4,8 @@ use Rattle.std.specs.Prelude.{IsTrue, ◌&&◌, filter, is_some, codes, nat_lt}
 use Rattle.std.specs.Option.{option_map}
 use Rattle.std.specs.List.{list_all}
 use Rattle.std.proofs.lemmas.Bool.{and_parts, and_from}
-use Rattle.jv_format.specs.Format.{◌>>=◌, half, quad, both, contents, such_that}
+use Rattle.jv_format.specs.Format.{◌>>=◌, half, quad}
+use Rattle.jv_format.specs.Readers.{both, contents, such_that}
 use Rattle.jv_format.proofs.Laws.{IsFormat, half_is, both_is, such_is, contents_is}
 use Rattle.jv_pool.specs.Constants.{Entry}
 use Rattle.jv_class_parts.specs.Structure.{AttributeInfo, attribute_bytes, attribute_fits, table_fits}

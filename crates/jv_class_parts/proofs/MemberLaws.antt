@@ -4,7 +4,8 @@ use Rattle.std.specs.Prelude.{IsTrue, ◌&&◌, ◌⊎◌, not, map, codes, nat_
 use Rattle.std.specs.Option.{option_map}
 use Rattle.std.specs.List.{flat_map, list_all}
 use Rattle.std.proofs.lemmas.Bool.{and_parts, and_from, not-true, not_from_false}
-use Rattle.jv_format.specs.Format.{Format, ◌>>=◌, half, quad, both, contents, such_that, paired, enclosed, case_of, found_as, passed}
+use Rattle.jv_format.specs.Format.{Format, ◌>>=◌, half, quad}
+use Rattle.jv_format.specs.Readers.{both, contents, such_that, paired, enclosed, case_of, found_as, passed}
 use Rattle.jv_format.proofs.Laws.{is_some, IsFormat, half_is, both_is, such_is, contents_is, paired_is, enclosed_is, case_is, choice_is}
 use Rattle.jv_pool.specs.Constants.{Entry}
 use Rattle.jv_format.specs.declared.handlers.Handler.{Handler}

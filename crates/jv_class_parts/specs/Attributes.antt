@@ -1,9 +1,9 @@
 -- Which attributes a class file's structures may have (JVMS 4.7).
 -- Code, StackMapTable and ConstantValue are looked at; every other attribute is passed over by its length (4.7.1) (own).
-use Rattle.std.specs.Prelude.{ℕ, Bool, true, false, not, ◌&&◌, nat_lt, List, [], ◌∷◌, length, filter, Option, Some, None, is_some, codes, if◌then◌else◌}
+use Rattle.std.specs.Prelude.{ℕ, ◌+◌, ◌*◌, Bool, true, false, not, ◌&&◌, nat_lt, List, [], ◌∷◌, length, filter, Option, Some, None, is_some, codes, if◌then◌else◌}
 use Rattle.std.specs.List.{list_all, flat_map}
 use Rattle.std.specs.Str.{bytes_eq}
-use Rattle.jv_format.specs.Format.{◌>>=◌, half}
+use Rattle.jv_format.specs.Format.{◌>>=◌}
 use Rattle.jv_pool.specs.Constants.{Entry, utf8_at}
 use Rattle.jv_class_parts.specs.Structure.{AttributeInfo, CodeAttribute, MethodAttribute, FieldInfo, MethodInfo, ClassStructure}
 use Rattle.jv_class_parts.specs.Structure.MethodAttribute.{Code, Other}
@@ -43,13 +43,13 @@ all_named pool attributes = list_all (is_named pool) attributes
 abbrev pub constant_values : List Entry → FieldInfo → List AttributeInfo
 constant_values pool f = filter (has_name pool (codes "ConstantValue")) f.attributes
 
--- its two bytes are an index
-abbrev pub index_in : ℕ × List ℕ → Option ℕ
-index_in (index, []) = Some index
-index_in (index, more) = None
+-- two bytes are an index
+abbrev pub index_in : List ℕ → Option ℕ
+index_in (high ∷ low ∷ []) = Some (high * 256 + low)
+index_in _ = None
 
 abbrev pub value_index : AttributeInfo → Option ℕ
-value_index a = half.read a.info >>= index_in
+value_index a = index_in a.info
 
 -- the index of the constant that a static field has as its value, where it has one; on other fields the attribute is
 -- passed over

@@ -1,5 +1,5 @@
 -- What a class file's bytes behind its version spell (JVMS 4.1), before the rules on names, types and flags.
-use Rattle.std.specs.Prelude.{◌≡◌, ℕ, List, ◌++◌, IsTrue, Option}
+use Rattle.std.specs.Prelude.{◌≡◌, ℕ, List, ◌++◌, map, IsTrue, Option}
 use Rattle.std.specs.Option.{option_map}
 use Rattle.jv_format.specs.declared.handlers.Handler.{Handler}
 use Rattle.jv_pool.specs.Constants.{Entry, pool_bytes}
@@ -70,3 +70,10 @@ method_shown pool m = record {
   descriptor_index = m.descriptor_index;
   code = option_map (code_shown pool) (sole (codes_of m));
 }
+
+-- those of a class
+abbrev pub fields_of : ClassStructure → List FieldSeen
+fields_of c = map (field_shown c.constant_pool) c.fields
+
+abbrev pub methods_of : ClassStructure → List MethodSeen
+methods_of c = map (method_shown c.constant_pool) c.methods

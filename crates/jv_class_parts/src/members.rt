@@ -1,7 +1,8 @@
 //! Reads fields and methods (JVMS 4.5, 4.6, 4.7.3).
 
 ghost use Rattle.std.specs.Prelude.{◌≡◌};
-ghost use Rattle.jv_format.specs.Format.{Finds, half, both, enclosed, contents, such_that};
+ghost use Rattle.jv_format.specs.Format.{Finds, half};
+ghost use Rattle.jv_format.specs.Readers.{both, enclosed, contents, such_that};
 ghost use Rattle.jv_format.specs.Handlers.{handlers_of};
 ghost use Rattle.jv_class_parts.specs.Flags.{has, acc_static};
 ghost use Rattle.jv_class_parts.specs.Seen.{seen_field, seen_code, seen_method};

@@ -4,7 +4,8 @@ use Rattle.std.specs.Int.{w32, cast_signed}
 use Rattle.std.specs.Ordering.{int_eq}
 use Rattle.std.specs.Option.{option_map}
 use Rattle.std.specs.List.{flat_map, list_all}
-use Rattle.jv_format.specs.Format.{Format, quad, both}
+use Rattle.jv_format.specs.Format.{Format, quad}
+use Rattle.jv_format.specs.Readers.{both}
 use Rattle.jv_code.specs.Numbers.{signed32}
 
 -- the bytes between the opcode at an offset and the next multiple of four, counted from the start of the code

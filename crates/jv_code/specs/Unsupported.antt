@@ -4,7 +4,7 @@
 use Rattle.std.specs.Prelude.{◌≡◌, ℕ, Bool, false, ◌&&◌, ◌||◌, List, [], ◌∷◌, ◌++◌, IsTrue, nat_le, ◌==◌}
 use Rattle.std.specs.List.{flat_map}
 use Rattle.jv_code.specs.Insns.{Instruction, insn_bytes}
-use Rattle.jv_code.specs.Places.{all_fit}
+use Rattle.jv_code.specs.Places.{all_fit, IsCode}
 
 abbrev pub is_from_to : ℕ → ℕ → ℕ → Bool
 is_from_to first last opcode = nat_le first opcode && nat_le opcode last
@@ -46,3 +46,7 @@ pub record IsUnsupported (bytes : List ℕ) : Type 0 where
   pub spelled : bytes ≡ flat_map insn_bytes before ++ rest
   pub fit : IsTrue (all_fit 0 before)
   pub front : IsTrue (front_unsupported rest)
+
+-- A law: code has nothing outside the profile.
+abbrev pub CodeIsSupported : Type 0
+CodeIsSupported = (bytes : List ℕ) (insns : List Instruction) → IsCode bytes insns → IsUnsupported bytes → ⊥

@@ -1,11 +1,10 @@
 -- The handlers that bytes are, eight bytes each.
-use Rattle.std.proofs.Common.{◌≡◌, ℕ, zero, suc, ◌+◌, ◌*◌, ◌/◌, ◌%◌, ◌<◌, ◌≤◌, ◌&&◌, Bool, List, [], ◌∷◌, ◌++◌, length, drop, Option, Some, None, refl, sym, ap, ◌∙◌, arith}
-use Rattle.std.specs.Prelude.{IsTrue, slice_get}
-use Rattle.std.specs.List.{flat_map, list_all}
-use Rattle.std.proofs.lemmas.Bool.{and_parts, ltb-true}
+use Rattle.std.proofs.Common.{◌≡◌, ℕ, zero, suc, ◌+◌, ◌*◌, ◌/◌, ◌%◌, List, [], ◌∷◌, length, drop, Option, refl, arith}
+use Rattle.std.specs.Prelude.{slice_get}
+use Rattle.std.specs.List.{list_all}
+use Rattle.std.proofs.lemmas.Bool.{and_parts}
 use Rattle.jv_format.specs.declared.handlers.Handler.{Handler}
-use Rattle.jv_format.specs.Numbers.{u2_bytes, u2_fits}
-use Rattle.jv_format.specs.Handlers.{handler_bytes, handler_fits, handler, handlers_in, HandlersStand}
+use Rattle.jv_format.specs.Handlers.{handler_fits, handlers_in, HandlersStand}
 
 pub handlers_count : (bytes : List ℕ) → length (handlers_in bytes) ≡ length bytes / 8
 handlers_count (a ∷ b ∷ c ∷ d ∷ e ∷ f ∷ g ∷ h ∷ rest) = let more = handlers_count rest in omega (arith, more)

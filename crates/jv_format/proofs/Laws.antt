@@ -1,14 +1,15 @@
 -- What is read is spelled so, and what is spelled so is read, whatever follows.
-use Rattle.std.proofs.Common.{◌≡◌, ℕ, zero, suc, ◌+◌, ◌*◌, ◌/◌, ◌%◌, ◌<◌, ◌≤◌, ◌-◌, Bool, true, false, cond, eqb, ltb, ◌&&◌, List, [], ◌∷◌, ◌++◌, length, take, drop, eq-eqb, Option, Some, None, refl, sym, ap, subst, ◌∙◌, append_assoc, arith}
+use Rattle.std.proofs.Common.{◌≡◌, ℕ, zero, suc, ◌+◌, ◌<◌, ◌≤◌, ◌-◌, Bool, true, false, cond, eqb, ltb, ◌&&◌, List, [], ◌∷◌, ◌++◌, length, take, drop, eq-eqb, Option, Some, None, refl, sym, ap, subst, ◌∙◌, append_assoc, arith}
 use Rattle.std.specs.Int.{Width, w8, w16, w32, w64, w128, cast_signed, cast_unsigned}
 use mir.Val.{bits, hbits, SFits, sel}
 use Rattle.std.proofs.lemmas.Int.{to_z-of_z, of_z-to_z}
-use Rattle.std.specs.Prelude.{ℤ, pos, negsuc, ◌^◌, IsTrue, nat_lt}
+use Rattle.std.specs.Prelude.{ℤ, pos, negsuc, ◌^◌, IsTrue}
 use Rattle.std.specs.List.{flat_map, list_all}
 use Rattle.std.proofs.lemmas.Bool.{and_parts, and_from, ltb-false, le-ltb, lt-ltb, ltb-true, eqb-true}
 use Rattle.std.proofs.lemmas.Grind.{common_steps}
 use Rattle.std.proofs.lemmas.List.{append-nil, take_at, drop_at, take-append-drop, length-append, length-take}
-use Rattle.jv_format.specs.Format.{Format, ◌>>=◌, IsBytes, byte, half, both, text, list_read, list_of, never, case_of, spelled_at, fits_at, found_as, front, after, then_read, such_that, passed, bytes_of, quad, signed, signed_fits, signed_read, paired, joined, second_read, contents, alone, whole, enclosed_read, enclosed}
+use Rattle.jv_format.specs.Format.{Format, ◌>>=◌, IsBytes, byte, half, text, front, quad}
+use Rattle.jv_format.specs.Readers.{both, list_read, list_of, never, case_of, spelled_at, fits_at, found_as, after, then_read, such_that, passed, bytes_of, signed, signed_fits, signed_read, paired, joined, second_read, contents, alone, whole, enclosed_read, enclosed}
 
 abbrev pub just : {A : Type 0} → A → Option A
 just x = Some x

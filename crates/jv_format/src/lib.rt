@@ -10,7 +10,8 @@
 mod handlers;
 mod law;
 
-ghost use Rattle.jv_format.specs.Format.{Finds, byte, bytes_of, half, quad, text};
+ghost use Rattle.jv_format.specs.Format.{Finds, byte, half, quad, text};
+ghost use Rattle.jv_format.specs.Readers.{bytes_of};
 
 use byteorder::{BigEndian, ByteOrder};
 pub use handlers::{ExceptionTable, Handler};

@@ -1,6 +1,7 @@
 -- What the functions that read and test a class say of its parts.
-use Rattle.std.specs.Prelude.{◌≡◌, ◌≢◌, ℕ, ◌+◌, ◌*◌, ◌<◌, List, Option, Some, None, Result, Ok, Err, ◌==◌, if◌then◌else◌}
-use Rattle.jv_format.specs.Format.{Format, half, quad, both, such_that}
+use Rattle.std.specs.Prelude.{◌≡◌, ◌≢◌, ℕ, ◌+◌, ◌*◌, ◌<◌, List, Some, Result, Ok, Err, ◌==◌}
+use Rattle.jv_format.specs.Format.{Format, half, quad}
+use Rattle.jv_format.specs.Readers.{both, such_that}
 use Rattle.jv_pool.specs.Constants.{Entry, at_index, utf8_at}
 use Rattle.jv_class_parts.specs.Structure.{ClassStructure}
 use Rattle.jv_class_parts.specs.Parts.{IsBehindVersion}

@@ -4,7 +4,8 @@ use Rattle.std.specs.Prelude.{◌≡◌, ℕ, zero, suc, ◌*◌, Bool, true, fa
 use Rattle.std.specs.Option.{option_map}
 use Rattle.std.proofs.Common.{inl, inr}
 use Rattle.std.specs.List.{flat_map}
-use Rattle.jv_format.specs.Format.{Format, ◌>>=◌, half, both, list_of, front, found_as, after, such_that, paired, contents, whole, enclosed, case_of}
+use Rattle.jv_format.specs.Format.{Format, ◌>>=◌, half, front}
+use Rattle.jv_format.specs.Readers.{both, list_of, found_as, after, such_that, paired, contents, whole, enclosed, case_of}
 use Rattle.jv_format.specs.declared.handlers.Handler.{Handler}
 use Rattle.jv_format.specs.Handlers.{handler_bytes, handler_fits, handler, handlers_in}
 use Rattle.jv_pool.specs.Constants.{Entry, utf8_at}

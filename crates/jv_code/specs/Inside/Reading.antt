@@ -1,7 +1,8 @@
 -- How an instruction is read from the front of bytes.
 use Rattle.std.specs.Prelude.{◌≡◌, ℕ, ℤ, true, List, [], ◌∷◌, Option, Some, None, nat_lt, ◌==◌, if◌then◌else◌}
 use Rattle.std.specs.Borrow.{Bor}
-use Rattle.jv_format.specs.Format.{Format, ◌>>=◌, byte, half, both, such_that, found_as}
+use Rattle.jv_format.specs.Format.{Format, ◌>>=◌, byte, half}
+use Rattle.jv_format.specs.Readers.{both, such_that, found_as}
 use Rattle.jv_code.specs.declared.insn.Insn.{Insn}
 use Rattle.jv_code.specs.declared.insn.Insn.TheVariants.{Nop, NullConstant, Compute, PoolConstant, PoolLongConstant, Load, Store, StoreLong, ArrayLoad, ReferenceArrayLoad, ArrayStore, ReferenceArrayStore, Stack, Division, Increment, Branch, Goto, TableSwitch, LookupSwitch, ReturnValue, Return, Field, Invoke, InvokeInterface, New, NewArray, NewReferenceArray, NewMultiArray, ArrayLength, Throw, CheckCast, InstanceOf}
 use Rattle.jv_code.specs.declared.kinds.LocalForm.{LocalForm}

@@ -1,6 +1,7 @@
 -- How the operands of a switch are read from the front of bytes.
 use Rattle.std.specs.Prelude.{ℕ, ◌+◌, ◌-◌, ◌*◌, ◌/◌, ◌%◌, ℤ, pos, negsuc, ◌-ℤ◌, List, length, Option, None}
-use Rattle.jv_format.specs.Format.{Format, quad, front, both, paired, after, such_that, bytes_of}
+use Rattle.jv_format.specs.Format.{Format, quad, front}
+use Rattle.jv_format.specs.Readers.{both, paired, after, such_that, bytes_of}
 use Rattle.jv_code.specs.Numbers.{signed32}
 use Rattle.jv_code.specs.Switches.{distances_fit, pairs_right}
 

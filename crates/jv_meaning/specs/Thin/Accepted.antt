@@ -7,7 +7,8 @@ use Rattle.jv_class_parts.specs.Structure.{ClassStructure}
 use Rattle.jv_class_parts.specs.Attributes.{some_and}
 use Rattle.jv_class_parts.specs.Flags.{acc_static, acc_synchronized}
 use Rattle.jv_class_parts.specs.Parts.{CodeSeen, MethodSeen}
-use Rattle.jv_class.specs.Rules.{is_object, methods_of}
+use Rattle.jv_class.specs.Rules.{is_object}
+use Rattle.jv_class_parts.specs.Parts.{methods_of}
 use Rattle.jv_class.specs.ClassFile.{class_name}
 use Rattle.jv_meaning.specs.declared.thin.insn.ThinInsn.{ThinInsn}
 use Rattle.jv_meaning.specs.declared.thin.insn.ThinInsn.TheVariants.{Constant, Pop, Negate, Binary, Invokestatic, Return}

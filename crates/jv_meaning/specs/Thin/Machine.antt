@@ -7,7 +7,7 @@ use Rattle.jv_pool.specs.Constants.{Entry, utf8_at, MemberReference, method_refe
 use Rattle.jv_class_parts.specs.Structure.{ClassStructure}
 use Rattle.jv_class_parts.specs.Flags.{has, acc_public, acc_static}
 use Rattle.jv_class_parts.specs.Parts.{CodeSeen, MethodSeen}
-use Rattle.jv_class.specs.Rules.{methods_of}
+use Rattle.jv_class_parts.specs.Parts.{methods_of}
 use Rattle.jv_class.specs.ClassFile.{class_name}
 use Rattle.jv_meaning.specs.declared.observation.End.{End}
 use Rattle.jv_meaning.specs.declared.observation.End.TheVariants as ends

@@ -3,7 +3,8 @@ use Rattle.std.specs.Prelude.{◌≡◌, ℕ, zero, suc, Bool, true, false, List
 use Rattle.std.specs.Option.{option_map}
 use Rattle.std.specs.List.{flat_map, list_all}
 use Rattle.std.specs.Borrow.{Bor}
-use Rattle.jv_format.specs.Format.{Format, ◌>>=◌, byte, half, quad, both, text, never, after, found_as}
+use Rattle.jv_format.specs.Format.{Format, ◌>>=◌, byte, half, quad, text}
+use Rattle.jv_format.specs.Readers.{both, never, after, found_as}
 use Rattle.jv_pool.specs.declared.constant.Constant.{Constant}
 use Rattle.jv_pool.specs.declared.constant.Constant.TheVariants.{Utf8, Integer, Float, Long, Double, Class, String, Fieldref, Methodref, InterfaceMethodref, NameAndType, MethodHandle, MethodType, InvokeDynamic}
 use Rattle.jv_pool.specs.declared.shape.QuadKind.{QuadKind}

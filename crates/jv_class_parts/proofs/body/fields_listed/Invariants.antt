@@ -1,6 +1,6 @@
 use Rattle.std.proofs.Common.{◌≡◌, ◌-◌}
 use Rattle.std.specs.Prelude.{map}
-use Rattle.jv_format.specs.Format.{list_read}
+use Rattle.jv_format.specs.Readers.{list_read}
 use Rattle.jv_class_parts.specs.Inside.Reading.{field_kept}
 use Rattle.jv_format.proofs.Laws.{with_front}
 use Rattle.jv_class_parts.specs.Seen.{seen_field}

@@ -1,4 +1,4 @@
-use Rattle.std.proofs.Common.{ℕ, List, refl, sym, subst, arith}
+use Rattle.std.proofs.Common.{ℕ, List, refl, sym, subst, arith, rules}
 use Rattle.jv_format.specs.Format.{IsBytes}
 use Rattle.jv_format.proofs.Laws.{IsBytes-rest}
 use Rattle.jv_pool.specs.Constants.{pool_bytes}
@@ -38,3 +38,6 @@ returns-clause-format c = λ e d b.
     let pool : IsPool front c.in-Ok.found.0 = subst (λ (x : List ℕ). IsPool x c.in-Ok.found.0) (sym c.split_at.ensures.front) c.in-Ok.ensures.ok in
     no_body c.one_pool.ensures front rest c.in-Ok.found.0 small pool (no_whole _ ((body_kept c.in-Ok.found.0).read rest) c.in-Err.fault e c.in-Err.ensures) d
     (subst (λ (x : List ℕ). IsBehindVersion x d) c.split_at.ensures.by_index.0 b)
+
+pub returns-in-Err-Memory-clause-format : goal.returns-in-Err-Memory-clause-format
+returns-in-Err-Memory-clause-format c = search rules
