@@ -8,7 +8,7 @@ use Rattle.jv_text.specs.declared.descriptor.Element.TheVariants as elements
 use Rattle.jv_text.specs.declared.descriptor.FieldTypeOf.{FieldTypeOf}
 use Rattle.jv_text.specs.Descriptor.{base_letter}
 use Rattle.jv_frames.specs.declared.verification.VerificationTypeOf.TheVariants as types
-use Rattle.jv_frames.specs.Reference.{FrameType}
+use Rattle.jv_frames.specs.Types.{FrameType}
 use Rattle.jv_loader.specs.World.{Loaded, World, class_named}
 use Rattle.jv_loader.specs.Above.{superclasses}
 use Rattle.jv_loader.specs.Verdicts.{is_interface, is_loadable}
@@ -39,21 +39,21 @@ is_above_arrays name =
 abbrev pub same_base : Base → Base → Bool
 same_base a b = base_letter a == base_letter b
 
--- Types by their dimensions and elements: an array flows to an array as its component does, and to a class above arrays;
--- a primitive type, as a component, only to itself.
-abbrev pub type_flows : World → ℕ → Element (List ℕ) → ℕ → Element (List ℕ) → Bool
-type_flows world zero (elements.Base a) zero (elements.Base b) = same_base a b
-type_flows world zero (elements.Class x) zero (elements.Class y) = class_flows world x y
-type_flows world zero (elements.Base a) zero (elements.Class y) = false
-type_flows world zero (elements.Class x) zero (elements.Base b) = false
-type_flows world zero e (suc n) f = false
-type_flows world (suc m) e zero (elements.Class y) = is_above_arrays y
-type_flows world (suc m) e zero (elements.Base b) = false
-type_flows world (suc m) e (suc n) f = type_flows world m e n f
+-- Components by their dimensions and elements: a primitive type flows to itself alone, a class as a class does, and an array
+-- to an array as its component does, and to a class above arrays.
+abbrev pub component_flows : World → ℕ → Element (List ℕ) → ℕ → Element (List ℕ) → Bool
+component_flows world zero (elements.Base a) zero (elements.Base b) = same_base a b
+component_flows world zero (elements.Class x) zero (elements.Class y) = class_flows world x y
+component_flows world zero (elements.Base a) zero (elements.Class y) = false
+component_flows world zero (elements.Class x) zero (elements.Base b) = false
+component_flows world zero e (suc n) f = false
+component_flows world (suc m) e zero (elements.Class y) = is_above_arrays y
+component_flows world (suc m) e zero (elements.Base b) = false
+component_flows world (suc m) e (suc n) f = component_flows world m e n f
 
 -- ---- all types
 
--- an uninitialized type flows to itself and to top alone
+-- an array flows to an array as its component does; an uninitialized type flows to itself and to top alone
 abbrev pub flows : World → FrameType → FrameType → Bool
 flows world type types.Top = true
 flows world types.Int types.Int = true
@@ -65,5 +65,5 @@ flows world types.UninitializedThis types.UninitializedThis = true
 flows world (types.Uninitialized o) (types.Uninitialized p) = o == p
 flows world (types.Class x) (types.Class y) = class_flows world x y
 flows world (types.Array a) (types.Class y) = is_above_arrays y
-flows world (types.Array a) (types.Array b) = type_flows world a.dimensions a.element b.dimensions b.element
+flows world (types.Array a) (types.Array b) = component_flows world a.dimensions a.element b.dimensions b.element
 flows world _ _ = false

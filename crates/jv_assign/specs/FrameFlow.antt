@@ -1,7 +1,7 @@
 -- Which frame can stand where another is expected (JVMS 4.10.1.2, 4.10.1.4).
 use Rattle.std.specs.Prelude.{ℕ, Bool, true, false, not, ◌&&◌, ◌||◌, List, [], ◌∷◌}
 use Rattle.jv_frames.specs.declared.verification.VerificationTypeOf.TheVariants as types
-use Rattle.jv_frames.specs.Reference.{FrameType}
+use Rattle.jv_frames.specs.Types.{FrameType}
 use Rattle.jv_frames.specs.Frames.{Frame}
 use Rattle.jv_loader.specs.World.{World}
 use Rattle.jv_assign.specs.Flow.{flows}

@@ -5,11 +5,11 @@ use Rattle.jv_text.specs.declared.descriptor.Element.{Element}
 use Rattle.jv_text.specs.declared.descriptor.Element.TheVariants as elements
 use Rattle.jv_text.specs.declared.descriptor.FieldTypeOf.{FieldTypeOf}
 use Rattle.jv_frames.specs.declared.verification.VerificationTypeOf.TheVariants as types
-use Rattle.jv_frames.specs.Reference.{FrameType}
+use Rattle.jv_frames.specs.Types.{FrameType}
 use Rattle.jv_frames.specs.Frames.{Frame}
 use Rattle.jv_class.specs.Class.{Class}
 use Rattle.jv_loader.specs.World.{World, world_of}
-use Rattle.jv_loader.specs.FileContent.FileContent.{Holds}
+use Rattle.jv_loader_files.specs.declared.content.Content.TheVariants.{Holds}
 use Rattle.jv_loader.specs.Rows.{object, object_name, interface, public_class, class_with}
 use Rattle.jv_assign.specs.Flow.{flows}
 use Rattle.jv_assign.specs.FrameFlow.{frame_flows}
@@ -24,27 +24,39 @@ world =
 abbrev pub class : List ℕ → FrameType
 class name = types.Class name
 
+-- the array whose components have these dimensions and this element
 abbrev pub array : ℕ → Element (List ℕ) → FrameType
 array dimensions element = types.Array (record { dimensions = dimensions; element = element })
 
-abbrev pub ints : ℕ → FrameType
-ints dimensions = array dimensions (elements.Base bases.Int)
+abbrev pub ints : FrameType
+ints = array 0 (elements.Base bases.Int)
 
-abbrev pub objects : ℕ → List ℕ → FrameType
-objects dimensions name = array dimensions (elements.Class name)
+abbrev pub arrays_of_ints : FrameType
+arrays_of_ints = array 1 (elements.Base bases.Int)
+
+abbrev pub longs : FrameType
+longs = array 0 (elements.Base bases.Long)
+
+abbrev pub objects : List ℕ → FrameType
+objects name = array 0 (elements.Class name)
+
+abbrev pub arrays_of : List ℕ → FrameType
+arrays_of name = array 1 (elements.Class name)
 
 abbrev pub frame : List FrameType → List FrameType → Bool → Frame
 frame locals stack flag = record { locals = locals; stack = stack; flag_this_uninit = flag }
 
 pub record WorkedRows : Type 0 where
-  pub ints_to_object : flows world (ints 1) (class object_name) ≡ true
-  pub ints_to_serializable : flows world (ints 1) (class (codes "java/io/Serializable")) ≡ true
-  pub ints_to_objects : flows world (ints 1) (objects 1 object_name) ≡ false
-  pub ints_of_ints_to_objects : flows world (ints 2) (objects 1 object_name) ≡ true
-  pub ints_to_longs : flows world (ints 1) (array 1 (elements.Base bases.Long)) ≡ false
-  pub objects_to_serializables : flows world (objects 1 object_name) (objects 1 (codes "java/io/Serializable")) ≡ true
-  pub array_to_interface : flows world (ints 1) (class (codes "I")) ≡ false
-  pub null_to_ints : flows world types.Null (ints 1) ≡ true
+  pub ints_to_object : flows world ints (class object_name) ≡ true
+  pub ints_to_serializable : flows world ints (class (codes "java/io/Serializable")) ≡ true
+  pub ints_to_objects : flows world ints (objects object_name) ≡ false
+  pub arrays_of_ints_to_objects : flows world arrays_of_ints (objects object_name) ≡ true
+  pub ints_to_longs : flows world ints longs ≡ false
+  pub arrays_of_ints_to_ints : flows world arrays_of_ints ints ≡ false
+  pub ints_to_arrays_of_ints : flows world ints arrays_of_ints ≡ false
+  pub objects_to_serializables : flows world (objects object_name) (objects (codes "java/io/Serializable")) ≡ true
+  pub array_to_interface : flows world ints (class (codes "I")) ≡ false
+  pub null_to_ints : flows world types.Null ints ≡ true
   pub null_to_int : flows world types.Null types.Int ≡ false
   pub uninitialized_to_top : flows world (types.Uninitialized 3) types.Top ≡ true
   pub uninitialized_to_object : flows world (types.Uninitialized 3) (class object_name) ≡ false
@@ -55,9 +67,9 @@ pub record WorkedRows : Type 0 where
   pub class_to_superclass : flows world (class (codes "C")) (class (codes "P")) ≡ true
   pub superclass_to_class : flows world (class (codes "P")) (class (codes "C")) ≡ false
   pub object_to_interface : flows world (class object_name) (class (codes "I")) ≡ true
-  pub classes_to_superclasses : flows world (objects 2 (codes "C")) (objects 2 (codes "P")) ≡ true
+  pub classes_to_superclasses : flows world (arrays_of (codes "C")) (arrays_of (codes "P")) ≡ true
   pub to_unloadable_interface : flows world (class object_name) (class (codes "Broken")) ≡ false
-  pub missings_to_objects : flows world (objects 1 (codes "Missing")) (objects 1 object_name) ≡ false
+  pub missings_to_objects : flows world (objects (codes "Missing")) (objects object_name) ≡ false
   -- a long flows to top in a local variable, and on the stack it does not
   pub long_in_local : frame_flows world (frame (types.Long ∷ types.Top ∷ []) [] false) (frame (types.Top ∷ types.Top ∷ []) [] false) ≡ true
   pub long_on_stack : frame_flows world (frame [] (types.Long ∷ []) false) (frame [] (types.Top ∷ []) false) ≡ false

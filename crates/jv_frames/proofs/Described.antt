@@ -1,11 +1,10 @@
 -- What a Class constant names is a class, or an array by its descriptor.
-use Rattle.std.proofs.Common.{◌≡◌, ℕ, Bool, true, false, cond, List, [], ◌∷◌, Option, Some, None, inl, inr, refl, sym, ap, subst, ◌∙◌}
-use Rattle.std.specs.Prelude.{◌⊎◌, ◌==◌, eqb, length, not, IsSome, IsTrue}
+use Rattle.std.proofs.Common.{◌≡◌, ℕ, Bool, true, false, List, [], ◌∷◌, Option, Some, None, inl, inr, refl, ap, subst}
+use Rattle.std.specs.Prelude.{◌==◌, length, not, IsSome, IsTrue}
 use Rattle.std.specs.List.{list_all, slice_split, onto_first}
 use Rattle.std.proofs.lemmas.Bool.{and_parts, eqb-true}
 use Rattle.jv_text.specs.declared.descriptor.FieldTypeOf.{FieldTypeOf}
 use Rattle.jv_text.specs.Name.{is_name_byte, is_unqualified_name, is_class_name, is_array_name}
-use Rattle.jv_text.specs.Descriptor.{IsField}
 use Rattle.jv_text.specs.Types.{field_type_of, TypesAgree}
 use Rattle.jv_pool.specs.Rules.{IsArrayDescriptor, NamesClass}
 

@@ -1,1 +1,4 @@
 pub mod Reading
+pub mod Nodes
+pub mod Steps
+pub mod Table

@@ -1,5 +1,7 @@
 pub mod Bytes
-pub mod Reference
+pub mod Types
 pub mod Frames
-pub mod Walk
+pub mod Initial
+pub mod Entries
+pub mod Rows
 pub mod Inside

@@ -1,120 +1,97 @@
-//! The local entries of a frame, and how a change leads to the next frame's (JVMS 4.7.4).
+//! A frame's entries.
 
-ghost use Rattle.std.specs.Prelude.{◌≡◌, ◌<◌, ◌≤◌, ◌^◌, ◌++◌, length, map, take, IfOk};
-ghost use Rattle.jv_frames.specs.Frames.{width, words};
-ghost use Rattle.jv_frames.specs.Inside.Reading.{seen_type, seen_types};
+ghost use Rattle.std.specs.Prelude.{◌≡◌, [], ◌∷◌, MatchOption};
+ghost use Rattle.jv_frames.specs.Inside.Nodes.{chain, frame_in};
 
-use crate::change::Change;
-use crate::verification::{VerificationType, VerificationTypeOf};
-use std::alloc::{AllocError, Global};
+use crate::entry::FrameEntry;
+use crate::nodes::{KeptFrame, Nodes};
 use std::marker::Model;
 
-fn width(entry: VerificationType<'_>) -> usize
-    ensures { result ≡ width (seen_type entry.entry) }
-{
-    match entry {
-        VerificationTypeOf::Long => 2,
-        _ => 1,
-    }
-}
-
-/// The words of entries: two for a long, one for every other type.
-pub(crate) fn words_of(entries: &[VerificationType<'_>]) -> usize
-    requires { length entries.now < 2 ^ 63 }
-    ensures { result ≡ words (map seen_type entries.now) }
-{
-    let mut words = 0;
-    for entry in entries {
-        words += width(*entry);
-    }
-    words
-}
-
-/// The local entries of a frame, with the count of their words.
+/// The entries of a frame that are left, the last first, which of a stack is the top.
 #[derive(Drop)]
-pub(crate) struct LocalEntries<'a> {
-    entries: Vec<VerificationType<'a>>,
-    filled: usize,
+pub struct Entries<'m> {
+    nodes: &'m Nodes,
+    top: u32,
 }
 
-impl<'a> Model for LocalEntries<'a> {
-    ghost use Rattle.std.specs.Prelude.{◌≡◌, List};
-    ghost use Rattle.jv_frames.specs.Reference.{FrameType};
-    ghost use Rattle.jv_frames.specs.Frames.{words};
-    ghost use Rattle.jv_frames.specs.Inside.Reading.{seen_types};
+impl<'m> Model for Entries<'m> {
+    ghost use Rattle.std.specs.Prelude.{List};
+    ghost use Rattle.jv_frames.specs.declared.entry.FrameEntry.{FrameEntry};
 
-    ghost Value = { List FrameType };
+    ghost Value = { List FrameEntry };
 
-    ghost view = { λ e. seen_types e.entries };
+    ghost use Rattle.jv_frames.specs.Inside.Nodes.{chain};
 
-    ghost invariant = { λ e. e.filled ≡ words (seen_types e.entries) };
+    ghost view = { λ e. chain e.nodes.now e.top };
 }
 
-impl<'a> LocalEntries<'a> {
-    /// A frame's entries, as they are given.
-    pub(crate) fn new(
-        alloc: Global,
-        entries: &[VerificationType<'a>],
-    ) -> Result<LocalEntries<'a>, AllocError>
-        ensures { IfOk result (λ e. e ≡ map seen_type entries.now) }
+impl<'m> Entries<'m> {
+    /// The entries from a node on down.
+    fn from(nodes: &'m Nodes, top: u32) -> Entries<'m>
+        ensures { result ≡ chain nodes.now top }
     {
-        let entries = entries.to_vec(alloc)?;
-        let filled = words_of(&entries);
-        Ok(LocalEntries { entries, filled })
+        Entries { nodes, top }
     }
 
-    /// How many entries there are.
-    pub(crate) fn count(&self) -> usize
-        ensures { result ≡ length self.now }
+    /// Goes below the first entry that is left, and gives it; `None` where none is.
+    pub fn next(&mut self) -> Option<FrameEntry>
+        ensures { MatchOption result (self.old ≡ []) (λ entry. self.old ≡ entry ∷ self.new) }
     {
-        self.entries.len()
+        let (entry, below) = self.nodes.at(self.top)?;
+        self.top = below;
+        Some(entry)
+    }
+}
+
+/// A frame of a stack map: its local entries and its stack, where a long is one entry.
+#[derive(Drop)]
+pub struct MapFrame<'m> {
+    nodes: &'m Nodes,
+    frame: KeptFrame,
+}
+
+impl<'m> Model for MapFrame<'m> {
+    ghost use Rattle.jv_frames.specs.Entries.{ReadFrame};
+
+    ghost Value = { ReadFrame };
+
+    ghost use Rattle.jv_frames.specs.Inside.Nodes.{frame_in};
+
+    ghost view = { λ f. frame_in f.nodes.now f.frame };
+}
+
+impl<'m> MapFrame<'m> {
+    pub(crate) fn of(nodes: &'m Nodes, frame: KeptFrame) -> MapFrame<'m>
+        ensures { result ≡ frame_in nodes.now frame }
+    {
+        MapFrame { nodes, frame }
     }
 
-    /// How many words they fill.
-    pub(crate) fn words(&self) -> usize
-        ensures { result ≡ words self.now }
+    /// The frame's offset in the code, in bytes.
+    pub fn offset(&self) -> u32
+        ensures { result ≡ self.now.offset }
     {
-        self.filled
+        self.frame.offset
     }
 
-    /// The entries.
-    pub(crate) fn entries(&self) -> &[VerificationType<'a>]
-        ensures { map seen_type result.now ≡ self.now }
+    /// The words of the local entries: the local variables that they take, from the first on.
+    pub fn local_words(&self) -> u16
+        ensures { result ≡ self.now.local_words }
     {
-        &self.entries
+        self.frame.local_words
     }
 
-    /// Drops all but so many entries.
-    fn keep(&mut self, kept: usize)
-        ensures { self.new ≡ take kept self.old }
+    /// The local entries, from the last on.
+    pub fn locals(&self) -> Entries<'m>
+        ensures { result ≡ self.now.locals }
     {
-        if kept < self.entries.len() {
-            let (_kept, dropped) = self.entries.split_at(kept);
-            self.filled -= words_of(dropped);
-            self.entries.truncate(kept);
-        }
+        Entries::from(self.nodes, self.frame.locals)
     }
 
-    /// Adds entries behind those that are there. On an error these stay as they are.
-    fn add(&mut self, added: &[VerificationType<'a>]) -> Result<(), AllocError>
-        requires { length added.now < 2 ^ 63 }
-        ensures { IfOk result (λ _. self.new ≡ self.old ++ map seen_type added.now) }
+    /// The stack's items, from the top on.
+    pub fn stack(&self) -> Entries<'m>
+        ensures { result ≡ self.now.stack }
     {
-        self.entries.extend_from_slice(added)?;
-        self.filled += words_of(added);
-        Ok(())
-    }
-
-    /// Goes over to the entries of the frame that the change makes.
-    ///
-    /// # Errors
-    ///
-    /// Where the host had no memory for the entries; only those that the change keeps are then
-    /// there.
-    pub(crate) fn apply(&mut self, change: &Change<'a>) -> Result<(), AllocError>
-        ensures { IfOk result (λ _. self.new ≡ take change.now.kept self.old ++ seen_types change.now.added) }
-    {
-        self.keep(change.kept);
-        self.add(&change.added)
+        Entries::from(self.nodes, self.frame.stack)
     }
 }

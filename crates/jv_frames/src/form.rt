@@ -2,9 +2,8 @@
 
 use crate::item::Item;
 
-/// The `stack_map_frame` of 4.7.4, in its seven forms. `L` is a list of items: a vector in the
-/// code, a list in definitions. A number alone is the `offset_delta`.
-#[derive(Drop)]
+/// The `stack_map_frame` of 4.7.4, in its seven forms, where `L` is a list of items. A number alone
+/// is the `offset_delta`. Definitions speak of these; the code goes from bytes to entries at once.
 pub enum Form<L> {
     /// Types 0 to 63, `same_frame`: the type is the delta.
     Same(u8),

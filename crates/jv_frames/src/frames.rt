@@ -1,149 +1,122 @@
 //! The frames of a method (JVMS 4.7.4).
 
-ghost use Rattle.std.specs.Prelude.{◌≡◌, ◌<◌, ◌≤◌, ◌+◌, ◌++◌, List, [], length, take, map, IfOk, Err};
+ghost use Rattle.std.specs.Prelude.{◌≡◌, ◌≢◌, ◌<◌, List, [], length, map, slice_get, Some, IfOk, IfSome, IfNone, Err};
+ghost use Rattle.std.specs.List.{All};
+ghost use Rattle.std.specs.Option.{option_map};
 ghost use Rattle.jv_frames.specs.declared.fault.FrameFault.TheVariants.{BadFrames};
-ghost use Rattle.jv_frames.specs.Frames.{MapFrame, HasFrames, words, is_within, frames_from, frames_by, frame_from, changed};
-ghost use Rattle.jv_frames.specs.Inside.Reading.{IsGiven, seen_type, seen_types, seen_form, seen_change, whole_table};
+ghost use Rattle.jv_frames.specs.Types.{FrameType};
+ghost use Rattle.jv_frames.specs.Frames.{PlacedFrame, Maps};
+ghost use Rattle.jv_frames.specs.Entries.{frames_placed, HaveWidths, HoldsKnown, HasItsWords, offset_of};
+ghost use Rattle.jv_frames.specs.Inside.Nodes.{frame_in, AreRising};
 
-use crate::change::{Change, change_of};
-use crate::cursor::FrameCursor;
-use crate::entries::{LocalEntries, words_of};
+use crate::entries::MapFrame;
 use crate::fault::FrameFault;
-use crate::form::Form;
-use crate::item::Item;
 use crate::limits::Limits;
-use crate::reading::whole_table;
-use crate::verification::VerificationType;
-use jv_pool::Pool;
-use std::alloc::{AllocError, Global};
+use crate::nodes::{KeptFrame, Nodes};
+use crate::reading::read_table;
+use crate::width::Width;
+use jv_pool::{Pool, kinds_name};
+use jv_text::types_agree;
+use std::alloc::Global;
 use std::marker::Model;
 
-/// The frames of a method, kept as what each changes: in memory linear in the initial entries and
-/// in the bytes that were read.
-#[derive(Drop)]
-pub struct MapFrames<'a> {
-    initial: Vec<VerificationType<'a>>,
-    changes: Vec<Change<'a>>,
-}
-
-impl<'a> Model for MapFrames<'a> {
-    ghost use Rattle.std.specs.Prelude.{List, map};
-    ghost use Rattle.jv_frames.specs.Frames.{MapFrame, frames_by};
-    ghost use Rattle.jv_frames.specs.Inside.Reading.{seen_types, seen_change};
-
-    ghost Value = { List MapFrame };
-
-    ghost view = { λ f. frames_by (seen_types f.initial) (map seen_change f.changes.items) };
-}
-
-/// Goes over to the frame behind these entries, where it is within the limits, and gives what it
-/// changes.
-fn next_change<'a>(
-    alloc: Global,
-    pool: &Pool<'a>,
-    limits: Limits,
-    base: u32,
-    locals: &mut LocalEntries<'a>,
-    form: &Form<Vec<Item>>,
-) -> Result<Change<'a>, FrameFault>
-    requires { base + 65535 < 4294967296 }
-    ensures locals { IfOk result (λ c. locals.new ≡ take c.kept locals.old ++ seen_types c.added) }
-    ensures offset { IfOk result (λ c. c.offset ≤ base + 65535) }
-    ensures frame { IsGiven (frame_from pool.now limits base locals.old (seen_form form.now)) (λ c. changed locals.old (seen_change c)) result }
-{
-    let change = change_of(alloc, pool, base, locals.count(), form)?;
-    locals.apply(&change)?;
-    if locals.words() <= usize::from(limits.max_locals)
-        && words_of(&change.stack) <= usize::from(limits.max_stack)
-    {
-        Ok(change)
-    } else {
-        Err(FrameFault::BadFrames)
-    }
-}
-
-/// What each of the frames changes, where each is within the limits.
-fn changes_of<'a>(
-    alloc: Global,
-    pool: &Pool<'a>,
-    limits: Limits,
-    before: &[VerificationType<'a>],
-    forms: &[Form<Vec<Item>>],
-) -> Result<Vec<Change<'a>>, FrameFault>
-    requires { length forms.now < 65536 }
-    ensures { IsGiven (frames_from pool.now limits 0 (map seen_type before.now) (map seen_form forms.now))
-        (λ changes. frames_by (map seen_type before.now) (map seen_change changes.items)) result }
-{
-    let mut locals = LocalEntries::new(alloc, before)?;
-    let mut changes = Vec::new(alloc);
-    let mut base = 0;
-    let mut rest = forms;
-    while let Some((form, after)) = rest.split_first() {
-        let change = next_change(alloc, pool, limits, base, &mut locals, form)?;
-        base = change.offset + 1;
-        changes.push(change)?;
-        rest = after;
-    }
-    Ok(changes)
-}
-
-/// The frames that the contents of a StackMapTable attribute have behind the initial local
-/// entries, each within the limits.
+/// The frames of a method, by place, in the order of their offsets.
 ///
-/// The offset of a frame can be past every instruction; that it is an instruction's is not asked
-/// here, nor that the offset of an uninitialized type is that of a `new`.
+/// They take 16 bytes a frame and 8 a local entry or stack item that the stack map has; what
+/// frames share is kept once. Room for one entry a byte of the stack map is reserved.
+#[derive(Drop)]
+pub struct MapFrames {
+    nodes: Nodes,
+    frames: Vec<KeptFrame>,
+}
+
+impl Model for MapFrames {
+    ghost use Rattle.std.specs.Prelude.{List, map};
+    ghost use Rattle.jv_frames.specs.Entries.{ReadFrame};
+
+    ghost Value = { List ReadFrame };
+
+    ghost use Rattle.jv_frames.specs.Inside.Nodes.{frame_in, AreRising};
+
+    ghost view = { λ f. map (frame_in f.nodes) f.frames.items };
+
+    ghost invariant = { λ f. AreRising f.frames.items };
+}
+
+/// The frames that the contents of a StackMapTable attribute have behind initial local entries of
+/// these widths, each within the limits.
+///
+/// Which types the initial local entries have makes no difference here, and an Object's class is
+/// left as its index. The offset of a frame can be past every instruction; that it is an
+/// instruction's is not asked, nor that the offset of an uninitialized type is that of a `new`.
 ///
 /// # Errors
 ///
-/// `BadFrames` where the bytes have no such frames; `Memory` where the host had none for them.
-pub fn read_frames<'a>(
+/// `BadFrames` where the bytes have no such frames; `Memory` where the host had none for them,
+/// where they have more than 4,294,967,295 entries, or where there are more than 65,536 initial
+/// ones.
+pub fn read_frames(
     alloc: Global,
     bytes: &[u8],
-    pool: &Pool<'a>,
-    initial: &[VerificationType<'a>],
+    pool: &Pool<'_>,
+    widths: &[Width],
     limits: Limits,
-) -> Result<MapFrames<'a>, FrameFault>
-    ensures ok { IfOk result (λ frames. HasFrames pool.now limits (map seen_type initial.now) bytes.now frames) }
+) -> Result<MapFrames, FrameFault>
+    ensures ok { (types : List FrameType) → HaveWidths types widths.now
+        → IfOk result (λ frames. Maps pool.now limits types bytes.now (frames_placed pool.now types limits.max_locals frames)) }
+    ensures known { IfOk result (λ frames. All (HoldsKnown pool.now widths.now) frames) }
+    ensures words { IfOk result (λ frames. All (HasItsWords widths.now) frames) }
     ensures bad { result ≡ Err BadFrames
-        → (frames : List MapFrame) → HasFrames pool.now limits (map seen_type initial.now) bytes.now frames → ⊥ }
+        → (types : List FrameType) → HaveWidths types widths.now → (frames : List PlacedFrame) → Maps pool.now limits types bytes.now frames → ⊥ }
 {
-    let forms = whole_table(alloc, bytes)?;
-    let changes = changes_of(alloc, pool, limits, initial, &forms)?;
-    let mut kept = Vec::new(alloc);
-    kept.extend_from_slice(initial)?;
-    Ok(MapFrames {
-        initial: kept,
-        changes,
-    })
+    pool.keeps_rules();
+    kinds_name();
+    types_agree();
+    let table = read_table(alloc, bytes, pool, widths, limits)?;
+    Ok(table.frames())
 }
 
 /// The frames of a method that has no StackMapTable attribute: none.
-pub fn no_frames<'a>(alloc: Global) -> MapFrames<'a>
+pub fn no_frames(alloc: Global) -> MapFrames
     ensures { result ≡ [] }
 {
     MapFrames {
-        initial: Vec::new(alloc),
-        changes: Vec::new(alloc),
+        nodes: Nodes::none(alloc),
+        frames: Vec::new(alloc),
     }
 }
 
-impl<'a> MapFrames<'a> {
+impl MapFrames {
+    /// The frames that were kept, with their entries among the nodes.
+    pub(crate) fn of(nodes: Nodes, frames: Vec<KeptFrame>) -> MapFrames
+        requires { AreRising frames.items }
+        ensures { result ≡ map (frame_in nodes) frames.items }
+    {
+        MapFrames { nodes, frames }
+    }
+
     /// How many frames there are.
     pub fn count(&self) -> usize
         ensures { result ≡ length self.now }
     {
-        self.changes.len()
+        self.frames.len()
     }
 
-    /// The place before the first frame.
-    ///
-    /// # Errors
-    ///
-    /// Where the host had no memory for the initial local entries.
-    pub fn cursor<'m>(&'m self, alloc: Global) -> Result<FrameCursor<'m, 'a>, AllocError>
-        ensures { IfOk result (λ c. c.left ≡ self.now) }
+    /// The frame at a place, which counts from 0.
+    pub fn frame_at(&self, place: usize) -> MapFrame<'_>
+        requires { place < length self.now }
+        ensures { slice_get self.now place ≡ Some result }
     {
-        let locals = LocalEntries::new(alloc, &self.initial)?;
-        Ok(FrameCursor::before(locals, &self.changes))
+        MapFrame::of(&self.nodes, self.frames[place])
+    }
+
+    /// The place of the frame at an offset in the code, in bytes; `None` where none stands there.
+    pub fn place_of(&self, offset: u32) -> Option<usize>
+        ensures found { IfSome result (λ place. option_map offset_of (slice_get self.now place) ≡ Some offset) }
+        ensures none { IfNone result (All (λ f. f.offset ≢ offset) self.now) }
+    {
+        self.frames
+            .binary_search_by_key(&offset, |frame| frame.offset)
+            .ok()
     }
 }

@@ -1,14 +1,18 @@
-//! Reads frames as a stack map has them from the front of bytes.
+//! Reads frames from the front of bytes into a table.
 
-ghost use Rattle.std.specs.Prelude.{◌≡◌, map};
-ghost use Rattle.std.specs.Prelude.{◌<◌, length, IfOk};
+ghost use Rattle.std.specs.Prelude.{◌≡◌, ◌<◌, ◌≤◌, [], length};
 ghost use Rattle.jv_format.specs.Format.{Finds};
-ghost use Rattle.jv_frames.specs.Inside.Reading.{IsFound, IsGiven, item, items_of, counted, append_contents, full_contents, short_contents, form, form_contents, forms_of, table, whole_table, seen_form};
+ghost use Rattle.jv_frames.specs.Inside.Reading.{IsGiven, item};
+ghost use Rattle.jv_frames.specs.Inside.Steps.{item_laid, items_laid, counted_laid, short_begun, append_begun, full_begun, form_begun, frame_read, frames_read, started, table_read};
 
+use crate::entry::entry_of;
 use crate::fault::FrameFault;
-use crate::form::Form;
 use crate::item::Item;
+use crate::limits::Limits;
+use crate::table::FrameTable;
+use crate::width::Width;
 use jv_format::{byte_at, half_at};
+use jv_pool::Pool;
 use std::alloc::Global;
 
 /// The item at the front, and what follows it.
@@ -34,146 +38,212 @@ fn item_at(bytes: &[u8]) -> Option<(Item, &[u8])>
     }
 }
 
-/// As many items as the number says, and what follows them.
-fn items_at(alloc: Global, count: u16, bytes: &[u8]) -> Result<(Vec<Item>, &[u8]), FrameFault>
-    ensures { IsGiven ((items_of count).read bytes.now) (λ x. (x.0.items, x.1.now)) result }
+/// Lays the item at the front, and gives what follows it.
+fn lay_item<'b>(
+    table: &mut FrameTable<'_>,
+    pool: &Pool<'_>,
+    bytes: &'b [u8],
+) -> Result<&'b [u8], FrameFault>
+    ensures { IsGiven (item_laid pool.now table.old bytes.now) (λ rest. (table.new, rest.now)) result }
 {
-    let mut items = Vec::new(alloc);
-    let mut rest = bytes;
-    for _ in 0..count {
-        let Some((item, after)) = item_at(rest) else {
-            return Err(FrameFault::BadFrames);
-        };
-        items.push(item)?;
-        rest = after;
-    }
-    Ok((items, rest))
+    let Some((item, rest)) = item_at(bytes) else {
+        return Err(FrameFault::BadFrames);
+    };
+    let Some(entry) = entry_of(pool, item) else {
+        return Err(FrameFault::BadFrames);
+    };
+    table.push(entry)?;
+    Ok(rest)
 }
 
-/// The count at the front and the items behind it, and what follows them.
-fn counted_at(alloc: Global, bytes: &[u8]) -> Result<(Vec<Item>, &[u8]), FrameFault>
-    ensures { IsGiven (counted.read bytes.now) (λ x. (x.0.items, x.1.now)) result }
+/// Lays as many items as the number says, and gives what follows them.
+fn lay_items<'b>(
+    table: &mut FrameTable<'_>,
+    pool: &Pool<'_>,
+    count: u16,
+    bytes: &'b [u8],
+) -> Result<&'b [u8], FrameFault>
+    ensures { IsGiven (items_laid pool.now count table.old bytes.now) (λ rest. (table.new, rest.now)) result }
+{
+    let mut rest = bytes;
+    for _ in 0..count {
+        rest = lay_item(table, pool, rest)?;
+    }
+    Ok(rest)
+}
+
+/// Lays the items behind the count at the front, and gives what follows them.
+fn lay_counted<'b>(
+    table: &mut FrameTable<'_>,
+    pool: &Pool<'_>,
+    bytes: &'b [u8],
+) -> Result<&'b [u8], FrameFault>
+    ensures { IsGiven (counted_laid pool.now table.old bytes.now) (λ rest. (table.new, rest.now)) result }
 {
     let Some((count, rest)) = half_at(bytes) else {
         return Err(FrameFault::BadFrames);
     };
-    items_at(alloc, count, rest)
+    lay_items(table, pool, count, rest)
 }
 
-/// The frame of a type below 252, and what follows it.
-fn short_at(tag: u8, bytes: &[u8]) -> Option<(Form<Vec<Item>>, &[u8])>
+/// Begins the frame of a type below 252; its delta, and what follows it.
+fn begin_short<'b>(
+    table: &mut FrameTable<'_>,
+    pool: &Pool<'_>,
+    tag: u8,
+    bytes: &'b [u8],
+) -> Result<(u16, &'b [u8]), FrameFault>
     requires { tag < 252 }
-    ensures { IsFound (short_contents tag bytes.now) (λ x. (seen_form x.0, x.1.now)) result }
+    ensures { IsGiven (short_begun pool.now tag table.old bytes.now) (λ x. ((x.0, table.new), x.1.now)) result }
 {
     if tag < 64 {
-        Some((Form::Same(tag), bytes))
+        Ok((u16::from(tag), bytes))
     } else if tag < 128 {
-        let (item, rest) = item_at(bytes)?;
-        Some((Form::SameItem(tag - 64, item), rest))
+        let rest = lay_item(table, pool, bytes)?;
+        Ok((u16::from(tag - 64), rest))
     } else if tag < 247 {
-        None
-    } else if tag == 247 {
-        let (delta, rest) = half_at(bytes)?;
-        let (item, rest) = item_at(rest)?;
-        Some((Form::SameItemExtended(delta, item), rest))
-    } else if tag < 251 {
-        let (delta, rest) = half_at(bytes)?;
-        Some((Form::Chop(251 - tag, delta), rest))
+        Err(FrameFault::BadFrames)
     } else {
-        let (delta, rest) = half_at(bytes)?;
-        Some((Form::SameExtended(delta), rest))
+        begin_extended(table, pool, tag, bytes)
     }
 }
 
-/// The frame of a type from 252 to 254, and what follows it.
-fn append_at(
-    alloc: Global,
+/// Begins the frame of a type from 247 to 251; its delta, and what follows it.
+fn begin_extended<'b>(
+    table: &mut FrameTable<'_>,
+    pool: &Pool<'_>,
+    tag: u8,
+    bytes: &'b [u8],
+) -> Result<(u16, &'b [u8]), FrameFault>
+    requires low { 247 ≤ tag }
+    requires high { tag < 252 }
+    ensures { IsGiven (short_begun pool.now tag table.old bytes.now) (λ x. ((x.0, table.new), x.1.now)) result }
+{
+    let Some((delta, rest)) = half_at(bytes) else {
+        return Err(FrameFault::BadFrames);
+    };
+    if tag == 247 {
+        let rest = lay_item(table, pool, rest)?;
+        Ok((delta, rest))
+    } else if tag < 251 {
+        if table.chop(251 - tag) {
+            Ok((delta, rest))
+        } else {
+            Err(FrameFault::BadFrames)
+        }
+    } else {
+        Ok((delta, rest))
+    }
+}
+
+/// Begins the frame of a type from 252 to 254, which adds so many local entries; its delta, and
+/// what follows it.
+fn begin_append<'b>(
+    table: &mut FrameTable<'_>,
+    pool: &Pool<'_>,
     count: u16,
-    bytes: &[u8],
-) -> Result<(Form<Vec<Item>>, &[u8]), FrameFault>
-    ensures { IsGiven (append_contents count bytes.now) (λ x. (seen_form x.0, x.1.now)) result }
+    bytes: &'b [u8],
+) -> Result<(u16, &'b [u8]), FrameFault>
+    ensures { IsGiven (append_begun pool.now count table.old bytes.now) (λ x. ((x.0, table.new), x.1.now)) result }
 {
     let Some((delta, rest)) = half_at(bytes) else {
         return Err(FrameFault::BadFrames);
     };
-    let (locals, rest) = items_at(alloc, count, rest)?;
-    Ok((Form::Append(delta, locals), rest))
+    table.resume();
+    let rest = lay_items(table, pool, count, rest)?;
+    table.settle();
+    Ok((delta, rest))
 }
 
-/// The frame of type 255, and what follows it.
-fn full_at(alloc: Global, bytes: &[u8]) -> Result<(Form<Vec<Item>>, &[u8]), FrameFault>
-    ensures { IsGiven (full_contents bytes.now) (λ x. (seen_form x.0, x.1.now)) result }
+/// Begins the frame of type 255; its delta, and what follows it.
+fn begin_full<'b>(
+    table: &mut FrameTable<'_>,
+    pool: &Pool<'_>,
+    bytes: &'b [u8],
+) -> Result<(u16, &'b [u8]), FrameFault>
+    ensures { IsGiven (full_begun pool.now table.old bytes.now) (λ x. ((x.0, table.new), x.1.now)) result }
 {
     let Some((delta, rest)) = half_at(bytes) else {
         return Err(FrameFault::BadFrames);
     };
-    let (locals, rest) = counted_at(alloc, rest)?;
-    let (stack, rest) = counted_at(alloc, rest)?;
-    Ok((Form::Full(delta, locals, stack), rest))
+    let rest = lay_counted(table, pool, rest)?;
+    table.settle();
+    let rest = lay_counted(table, pool, rest)?;
+    Ok((delta, rest))
 }
 
-/// The frame whose type and whose further bytes these are, and what follows it.
-fn contents_at(alloc: Global, tag: u8, bytes: &[u8]) -> Result<(Form<Vec<Item>>, &[u8]), FrameFault>
-    ensures { IsGiven (form_contents tag bytes.now) (λ x. (seen_form x.0, x.1.now)) result }
+/// Begins the frame whose type and whose further bytes these are; its delta, and what follows it.
+fn begin<'b>(
+    table: &mut FrameTable<'_>,
+    pool: &Pool<'_>,
+    tag: u8,
+    bytes: &'b [u8],
+) -> Result<(u16, &'b [u8]), FrameFault>
+    ensures { IsGiven (form_begun pool.now tag table.old bytes.now) (λ x. ((x.0, table.new), x.1.now)) result }
 {
     if tag < 252 {
-        match short_at(tag, bytes) {
-            Some(found) => Ok(found),
-            None => Err(FrameFault::BadFrames),
-        }
+        begin_short(table, pool, tag, bytes)
     } else if tag < 255 {
-        append_at(alloc, u16::from(tag - 251), bytes)
+        begin_append(table, pool, u16::from(tag - 251), bytes)
     } else {
-        full_at(alloc, bytes)
+        begin_full(table, pool, bytes)
     }
 }
 
-/// The frame at the front, and what follows it.
-fn form_at(alloc: Global, bytes: &[u8]) -> Result<(Form<Vec<Item>>, &[u8]), FrameFault>
-    ensures { IsGiven (form.read bytes.now) (λ x. (seen_form x.0, x.1.now)) result }
+/// Reads the frame at the front, and gives what follows it.
+fn read_frame<'b>(
+    table: &mut FrameTable<'_>,
+    pool: &Pool<'_>,
+    limits: Limits,
+    bytes: &'b [u8],
+) -> Result<&'b [u8], FrameFault>
+    requires { length table.old.frames < 65535 }
+    ensures { IsGiven (frame_read pool.now limits table.old bytes.now) (λ rest. (table.new, rest.now)) result }
 {
     let Some((tag, rest)) = byte_at(bytes) else {
         return Err(FrameFault::BadFrames);
     };
-    contents_at(alloc, tag, rest)
+    let (delta, rest) = begin(table, pool, tag, rest)?;
+    table.finish(limits, delta)?;
+    Ok(rest)
 }
 
-/// As many frames as the number says, and what follows them.
-fn forms_at(
-    alloc: Global,
+/// Reads as many frames as the number says, and gives what follows them.
+fn read_frames_at<'b>(
+    table: &mut FrameTable<'_>,
+    pool: &Pool<'_>,
+    limits: Limits,
     count: u16,
-    bytes: &[u8],
-) -> Result<(Vec<Form<Vec<Item>>>, &[u8]), FrameFault>
-    ensures { IsGiven ((forms_of count).read bytes.now) (λ x. (map seen_form x.0.items, x.1.now)) result }
+    bytes: &'b [u8],
+) -> Result<&'b [u8], FrameFault>
+    requires { table.old.frames ≡ [] }
+    ensures { IsGiven (frames_read pool.now limits count table.old bytes.now) (λ rest. (table.new, rest.now)) result }
 {
-    let mut forms = Vec::new(alloc);
     let mut rest = bytes;
     for _ in 0..count {
-        let (form, after) = form_at(alloc, rest)?;
-        forms.push(form)?;
-        rest = after;
+        rest = read_frame(table, pool, limits, rest)?;
     }
-    Ok((forms, rest))
+    Ok(rest)
 }
 
-/// The count at the front and the frames behind it, and what follows them.
-fn table_at(alloc: Global, bytes: &[u8]) -> Result<(Vec<Form<Vec<Item>>>, &[u8]), FrameFault>
-    ensures { IsGiven (table.read bytes.now) (λ x. (map seen_form x.0.items, x.1.now)) result }
+/// The frames of the table that the bytes are, behind initial local entries of these widths.
+pub(crate) fn read_table<'i>(
+    alloc: Global,
+    bytes: &[u8],
+    pool: &Pool<'_>,
+    widths: &'i [Width],
+    limits: Limits,
+) -> Result<FrameTable<'i>, FrameFault>
+    ensures { IsGiven (table_read pool.now limits (started widths.now) bytes.now) (λ t. t) result }
 {
     let Some((count, rest)) = half_at(bytes) else {
         return Err(FrameFault::BadFrames);
     };
-    forms_at(alloc, count, rest)
-}
-
-/// The frames of the table that the bytes are.
-pub(crate) fn whole_table(alloc: Global, bytes: &[u8]) -> Result<Vec<Form<Vec<Item>>>, FrameFault>
-    ensures few { IfOk result (λ forms. length forms.items < 65536) }
-    ensures forms { IsGiven (whole_table bytes.now) (λ forms. map seen_form forms.items) result }
-{
-    let (forms, rest) = table_at(alloc, bytes)?;
+    let capacity = bytes.len().saturating_add(widths.len());
+    let mut table = FrameTable::new(alloc, widths, capacity)?;
+    let rest = read_frames_at(&mut table, pool, limits, count, rest)?;
     if rest.is_empty() {
-        Ok(forms)
+        Ok(table)
     } else {
         Err(FrameFault::BadFrames)
     }

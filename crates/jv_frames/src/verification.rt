@@ -2,9 +2,8 @@
 
 use jv_text::FieldTypeOf;
 
-/// The type of a local variable or of a stack item. `T` is a class's name: its bytes in the code,
-/// their list in definitions.
-#[derive(Clone, Copy)]
+/// The type of a local variable or of a stack item, where `T` is a class's name: a list of bytes
+/// in definitions.
 pub enum VerificationTypeOf<T> {
     /// Any word, which no instruction can use; also the second word of a long.
     Top,
@@ -18,11 +17,8 @@ pub enum VerificationTypeOf<T> {
     UninitializedThis,
     /// A class or an interface, by its name.
     Class(T),
-    /// An array, of one dimension at least.
+    /// An array, by the type of its components.
     Array(FieldTypeOf<T>),
     /// What the `new` at this offset in the code, in bytes, made.
     Uninitialized(u16),
 }
-
-/// A type whose class name is a part of the class file.
-pub type VerificationType<'a> = VerificationTypeOf<&'a [u8]>;

@@ -1,78 +1,83 @@
 //! Frames of each form.
 
 use crate::support::{LIMITS, POOL, frames_in};
-use jv_frames::{FrameCursor, Limits, MapFrames, VerificationType, VerificationTypeOf, no_frames};
+use jv_frames::{Entries, FrameEntry, Limits, MapFrames, no_frames};
 use jv_pool::read_pool;
-use jv_text::FieldTypeOf;
 use std::alloc::Global;
 
-/// A frame as the tests have it: its offset, and a letter for each of its local entries and of its
-/// stack.
-type Row = (u32, &'static [u8], &'static [u8]);
+/// A frame as the tests have it: its offset, a letter for each of its local entries from the last
+/// on, their words, and a letter for each item of its stack from the top on.
+type Row = (u32, &'static [u8], u16, &'static [u8]);
 
-/// The letter of a verification type.
-fn letter(entry: VerificationType<'_>) -> u8 {
+/// The letter of an entry; the initial ones are a, b and c.
+fn letter(entry: FrameEntry) -> u8 {
     match entry {
-        VerificationTypeOf::Top => b'T',
-        VerificationTypeOf::Int => b'I',
-        VerificationTypeOf::Long => b'J',
-        VerificationTypeOf::Null => b'N',
-        VerificationTypeOf::UninitializedThis => b'U',
-        VerificationTypeOf::Class(b"A") => b'A',
-        VerificationTypeOf::Array(FieldTypeOf { dimensions: 2, .. }) => b'2',
-        VerificationTypeOf::Uninitialized(7) => b'7',
+        FrameEntry::Top => b'T',
+        FrameEntry::Int => b'I',
+        FrameEntry::Long => b'J',
+        FrameEntry::Null => b'N',
+        FrameEntry::UninitializedThis => b'U',
+        FrameEntry::Object(2) => b'A',
+        FrameEntry::Object(4) => b'2',
+        FrameEntry::Uninitialized(7) => b'7',
+        FrameEntry::Initial(0) => b'a',
+        FrameEntry::Initial(1) => b'b',
+        FrameEntry::Initial(2) => b'c',
         _ => b'?',
     }
 }
 
-/// Whether the entries have these letters.
-fn are(entries: &[VerificationType<'_>], letters: &[u8]) -> bool {
-    if entries.len() != letters.len() {
+/// Whether the entries that are left have these letters.
+fn are(mut entries: Entries<'_>, letters: &[u8]) -> bool {
+    for wanted in letters {
+        match entries.next() {
+            Some(entry) => {
+                if letter(entry) != *wanted {
+                    return false;
+                }
+            }
+            None => return false,
+        }
+    }
+    entries.next().is_none()
+}
+
+/// Whether the frame at a place, and at the row's offset, is that of a row.
+fn is_row(frames: &MapFrames, place: usize, row: Row) -> bool {
+    if place >= frames.count() {
         return false;
     }
-    for (entry, wanted) in entries.iter().zip(letters) {
-        if letter(*entry) != *wanted {
+    let frame = frames.frame_at(place);
+    let (offset, locals, words, stack) = row;
+    frames.place_of(offset) == Some(place)
+        && frame.offset() == offset
+        && frame.local_words() == words
+        && are(frame.locals(), locals)
+        && are(frame.stack(), stack)
+}
+
+/// Whether the frames are those of the rows.
+fn are_rows(frames: &MapFrames, rows: &[Row]) -> bool {
+    for (place, row) in rows.iter().enumerate() {
+        if !is_row(frames, place, *row) {
             return false;
         }
     }
-    true
+    frames.count() == rows.len()
 }
 
-/// Whether the next frame is that of a row; goes to it.
-fn goes_to(cursor: &mut FrameCursor<'_, '_>, row: Row) -> bool {
-    let (offset, locals, stack) = row;
-    cursor.next_offset() == Some(offset)
-        && matches!(cursor.advance(), Ok(true))
-        && cursor.offset() == offset
-        && are(cursor.locals(), locals)
-        && are(cursor.stack(), stack)
-}
-
-/// Whether the frames are those of the rows, one after the other.
-fn are_rows(alloc: Global, frames: &MapFrames<'_>, rows: &[Row]) -> bool {
-    let Ok(mut cursor) = frames.cursor(alloc) else {
-        return false;
-    };
-    for row in rows {
-        if !goes_to(&mut cursor, *row) {
-            return false;
-        }
-    }
-    cursor.next_offset().is_none() && matches!(cursor.advance(), Ok(false))
-}
-
-/// Whether the bytes are the frames of the rows.
-fn are_read(alloc: Global, bytes: &[u8], limits: Limits, rows: &[Row]) -> bool {
+/// Whether the bytes are the frames of the rows, and none stands at an offset.
+fn are_read(alloc: Global, bytes: &[u8], limits: Limits, rows: &[Row], vacant: u32) -> bool {
     let Ok((pool, _)) = read_pool(alloc, POOL) else {
         return false;
     };
     match frames_in(alloc, bytes, &pool, limits) {
-        Ok(frames) => frames.count() == rows.len() && are_rows(alloc, &frames, rows),
+        Ok(frames) => are_rows(&frames, rows) && frames.place_of(vacant).is_none(),
         Err(_) => false,
     }
 }
 
-static CHOPPED: [Row; 2] = [(10, b"AJI", b""), (14, b"A", b"")];
+static CHOPPED: [Row; 2] = [(10, b"cba", 4, b""), (14, b"a", 1, b"")];
 
 #[test]
 fn chopped(rt: HostRuntime) {
@@ -81,40 +86,45 @@ fn chopped(rt: HostRuntime) {
         max_stack: 0,
     };
     let bytes = b"\x00\x02\x0a\xf9\x00\x03";
-    assert!(rt; are_read(rt.alloc(), bytes, limits, &CHOPPED));
+    assert!(rt; are_read(rt.alloc(), bytes, limits, &CHOPPED, 11));
 }
 
 /// One item at 0, one at 0 + 1 + 300, and none at 301 + 1 + 2 and 304 + 1 + 0.
 static STACKED: [Row; 4] = [
-    (0, b"AJI", b"J"),
-    (301, b"AJI", b"7"),
-    (304, b"AJI", b""),
-    (305, b"AJI", b""),
+    (0, b"cba", 4, b"J"),
+    (301, b"cba", 4, b"7"),
+    (304, b"cba", 4, b""),
+    (305, b"cba", 4, b""),
 ];
 
 #[test]
 fn stacked(rt: HostRuntime) {
     let bytes = b"\x00\x04\x40\x04\xf7\x01\x2c\x08\x00\x07\xfb\x00\x02\x00";
-    assert!(rt; are_read(rt.alloc(), bytes, LIMITS, &STACKED));
+    assert!(rt; are_read(rt.alloc(), bytes, LIMITS, &STACKED, 306));
 }
 
 /// All entries go, and then null and an array are added.
-static APPENDED: [Row; 2] = [(0, b"", b""), (1, b"N2", b"")];
+static APPENDED: [Row; 2] = [(0, b"", 0, b""), (1, b"2N", 2, b"")];
 
 #[test]
 fn appended(rt: HostRuntime) {
     let bytes = b"\x00\x02\xf8\x00\x00\xfd\x00\x00\x05\x07\x00\x04";
-    assert!(rt; are_read(rt.alloc(), bytes, LIMITS, &APPENDED));
+    assert!(rt; are_read(rt.alloc(), bytes, LIMITS, &APPENDED, 2));
 }
 
-/// A long as the last two local variables; uninitialized `this` and top on the stack. The second
-/// offset is past all code.
-static FULL: [Row; 2] = [(5, b"TIJ", b"UT"), (65541, b"TIJ", b"")];
+/// A long as the last two local variables; top above uninitialized `this` on the stack, and a
+/// class. The second offset is past all code.
+static FULL: [Row; 3] = [
+    (5, b"JIT", 4, b"TU"),
+    (65541, b"JIT", 4, b""),
+    (65542, b"A", 1, b""),
+];
 
 #[test]
 fn full(rt: HostRuntime) {
-    let bytes = b"\x00\x02\xff\x00\x05\x00\x03\x00\x01\x04\x00\x02\x06\x00\xfb\xff\xff";
-    assert!(rt; are_read(rt.alloc(), bytes, LIMITS, &FULL));
+    let bytes =
+        b"\x00\x03\xff\x00\x05\x00\x03\x00\x01\x04\x00\x02\x06\x00\xfb\xff\xff\xff\x00\x00\x00\x01\x07\x00\x02\x00\x00";
+    assert!(rt; are_read(rt.alloc(), bytes, LIMITS, &FULL, 6));
 }
 
 #[test]

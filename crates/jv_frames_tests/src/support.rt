@@ -1,6 +1,6 @@
 //! What the tests share.
 
-use jv_frames::{FrameFault, Limits, MapFrames, VerificationTypeOf, read_frames};
+use jv_frames::{FrameFault, Limits, MapFrames, Width, read_frames};
 use jv_pool::{Pool, read_pool};
 use std::alloc::Global;
 
@@ -14,18 +14,14 @@ pub(crate) const LIMITS: Limits = Limits {
 };
 
 /// The frames of the bytes behind class A, long and int.
-pub(crate) fn frames_in<'a>(
+pub(crate) fn frames_in(
     alloc: Global,
     bytes: &[u8],
-    pool: &Pool<'a>,
+    pool: &Pool<'_>,
     limits: Limits,
-) -> Result<MapFrames<'a>, FrameFault> {
-    let initial = [
-        VerificationTypeOf::Class(b"A".as_slice()),
-        VerificationTypeOf::Long,
-        VerificationTypeOf::Int,
-    ];
-    read_frames(alloc, bytes, pool, &initial, limits)
+) -> Result<MapFrames, FrameFault> {
+    let widths = [Width::One, Width::Two, Width::One];
+    read_frames(alloc, bytes, pool, &widths, limits)
 }
 
 /// Whether the bytes are refused as having no frames within the limits.

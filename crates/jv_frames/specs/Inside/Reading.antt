@@ -1,41 +1,13 @@
--- How a StackMapTable's contents are read, and what a value of the code stands for (JVMS 4.7.4).
-use Rattle.std.specs.Prelude.{◌≡◌, ℕ, ◌-◌, List, [], ◌∷◌, length, map, nat_lt, Option, Some, None, Result, Ok, Err, Vec, ◌==◌, if◌then◌else◌}
-use Rattle.std.specs.declared.alloc.Global.{Global}
-use Rattle.std.specs.Borrow.{Bor}
-use Rattle.jv_format.specs.Format.{Format, ◌>>=◌, half, both, list_of, after, found_as}
-use Rattle.jv_text.specs.Seen.{seen_field}
+-- How a StackMapTable's contents are read (JVMS 4.7.4).
+use Rattle.std.specs.Prelude.{◌≡◌, ℕ, ◌-◌, List, [], ◌∷◌, length, nat_lt, Option, Some, None, Result, Ok, Err, ◌==◌, if◌then◌else◌}
+use Rattle.jv_format.specs.Format.{Format, ◌>>=◌, half}
+use Rattle.jv_format.specs.Readers.{both, list_of, after, found_as}
 use Rattle.jv_frames.specs.declared.item.Item.{Item}
 use Rattle.jv_frames.specs.declared.item.Item.TheVariants as items
-use Rattle.jv_frames.specs.declared.form.Form.{Form}
 use Rattle.jv_frames.specs.declared.form.Form.TheVariants.{Same, SameItem, SameItemExtended, Chop, SameExtended, Append, Full}
 use Rattle.jv_frames.specs.declared.fault.FrameFault.{FrameFault}
 use Rattle.jv_frames.specs.declared.fault.FrameFault.TheVariants.{BadFrames, Memory}
-use Rattle.jv_frames.specs.declared.verification.VerificationTypeOf.{VerificationTypeOf}
-use Rattle.jv_frames.specs.declared.verification.VerificationTypeOf.TheVariants as types
 use Rattle.jv_frames.specs.Bytes.{MapForm, item_bytes, item_fits, form_bytes, form_fits}
-use Rattle.jv_frames.specs.Reference.{FrameType}
-use Rattle.jv_frames.specs.declared.change.ChangeOf.{ChangeOf}
-use Rattle.jv_frames.specs.Frames.{Change}
-
--- a type, without where its name lies in memory
-abbrev pub seen_type : VerificationTypeOf (Bor (List ℕ)) → FrameType
-seen_type types.Top = types.Top
-seen_type types.Int = types.Int
-seen_type types.Long = types.Long
-seen_type types.Null = types.Null
-seen_type types.UninitializedThis = types.UninitializedThis
-seen_type (types.Class name) = types.Class name.now
-seen_type (types.Array type) = types.Array (seen_field type)
-seen_type (types.Uninitialized offset) = types.Uninitialized offset
-
-abbrev pub seen_form : Form (Vec Item Global) → MapForm
-seen_form (Same delta) = Same delta
-seen_form (SameItem delta item) = SameItem delta item
-seen_form (SameItemExtended delta item) = SameItemExtended delta item
-seen_form (Chop count delta) = Chop count delta
-seen_form (SameExtended delta) = SameExtended delta
-seen_form (Append delta locals) = Append delta locals.items
-seen_form (Full delta locals stack) = Full delta locals.items stack.items
 
 -- ---- items
 
@@ -149,11 +121,6 @@ whole_table bytes = table.read bytes >>= whole
 
 -- ---- what functions give
 
--- What a function found, seen by view, is this.
-abbrev pub IsFound : {A X : Type 0} → Option A → (X → A) → Option X → Type 0
-IsFound read view None = read ≡ None
-IsFound read view (Some x) = read ≡ Some (view x)
-
 -- a fault where there is this
 abbrev pub Fails : {A : Type 0} → FrameFault → Option A → Type 0
 Fails BadFrames read = read ≡ None
@@ -163,10 +130,3 @@ Fails Memory read = Unit {0}
 abbrev pub IsGiven : {A X : Type 0} → Option A → (X → A) → Result X FrameFault → Type 0
 IsGiven read view (Ok x) = read ≡ Some (view x)
 IsGiven read view (Err e) = Fails e read
-
--- types, without where their names lie in memory
-abbrev pub seen_types : Vec (VerificationTypeOf (Bor (List ℕ))) Global → List FrameType
-seen_types list = map seen_type list.items
-
-abbrev pub seen_change : ChangeOf (Vec (VerificationTypeOf (Bor (List ℕ))) Global) → Change
-seen_change c = record { offset = c.offset; kept = c.kept; added = seen_types c.added; stack = seen_types c.stack }

@@ -1,4 +1,4 @@
-use Rattle.jv_frames.proofs.Table.{OneMaps-holds}
+use Rattle.jv_frames.proofs.Mapped.{OneMaps-holds}
 use Rattle.jv_frames.proofs.law.one_maps.Goals as goal
 
 pub returns : goal.returns
