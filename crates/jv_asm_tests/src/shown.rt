@@ -1,5 +1,6 @@
-//! Faults as they are shown.
+//! What calls answered, and what was written.
 
+use jv_asm_builder::CodeBuilder;
 use std::alloc::Global;
 use std::fmt::Display;
 
@@ -7,6 +8,14 @@ use std::fmt::Display;
 pub fn is_shown<T: Display + Drop>(alloc: Global, value: T, want: &str) -> bool {
     match format!(in alloc; "{value}") {
         Ok(text) => text.as_str() == want,
+        Err(_) => false,
+    }
+}
+
+/// Whether code has these bytes.
+pub fn has_code(code: &CodeBuilder<'_>, bytes: &[u8]) -> bool {
+    match code.code() {
+        Ok(written) => written.as_slice() == bytes,
         Err(_) => false,
     }
 }

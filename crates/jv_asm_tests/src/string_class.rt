@@ -1,7 +1,9 @@
 //! `equals` of java/lang/String, with its five frames.
 
 use jv_asm_builder::VerificationType::{Integer, Object};
-use jv_asm_builder::{BuilderFault, ClassBuilder, ClassFlags, CodeBuilder, FieldFlags, Op};
+use jv_asm_builder::{
+    ClassBuilder, ClassFlags, CodeBuilder, FieldFlags, Label, Op, VerificationType as Type,
+};
 use std::alloc::Global;
 
 /// The indices of the classes and of the field.
@@ -12,122 +14,155 @@ struct Names {
     value: u16,
 }
 
-fn class<'a>(alloc: Global) -> Result<ClassBuilder<'a>, BuilderFault> {
-    let flags = ClassFlags::PUBLIC | ClassFlags::SUPER;
-    let mut class = ClassBuilder::new(alloc, flags, b"java/lang/String", b"java/lang/Object")?;
-    class.field(FieldFlags::PRIVATE, b"value", b"[C", &[])?;
-    Ok(class)
+/// `if (!(other instanceof String)) return false;`
+fn puts_class_test(code: &mut CodeBuilder<'_>, names: &Names) -> bool {
+    let Ok(is_string) = code.label() else {
+        return false;
+    };
+    let types = [Object(names.string), Object(names.object)];
+    code.aload(1).is_ok()
+        && code.instanceof(names.string).is_ok()
+        && code.ifne(is_string).is_ok()
+        && code.int(0).is_ok()
+        && code.op(Op::IRETURN).is_ok()
+        && code.frame(is_string, &types, &[]).is_ok()
 }
 
-/// `if (!(other instanceof String)) return false;`
-fn put_class_test(code: &mut CodeBuilder<'_>, names: &Names) -> Result<(), BuilderFault> {
-    let is_string = code.label()?;
-    code.aload(1)?;
-    code.instanceof(names.string)?;
-    code.ifne(is_string)?;
-    code.int(0)?;
-    code.op(Op::IRETURN)?;
-    code.frame(
-        is_string,
-        &[Object(names.string), Object(names.object)],
-        &[],
-    )?;
-    Ok(())
+/// `array.value.length`
+fn puts_length(code: &mut CodeBuilder<'_>, string: u16, names: &Names) -> bool {
+    code.aload(string).is_ok()
+        && code.getfield(names.value).is_ok()
+        && code.op(Op::ARRAYLENGTH).is_ok()
 }
 
 /// `String that = (String) other; if (that.value.length != value.length) return false;`
-fn put_length_test(code: &mut CodeBuilder<'_>, names: &Names) -> Result<(), BuilderFault> {
-    let is_as_long = code.label()?;
-    code.aload(1)?;
-    code.checkcast(names.string)?;
-    code.astore(2)?;
-    code.aload(2)?;
-    code.getfield(names.value)?;
-    code.op(Op::ARRAYLENGTH)?;
-    code.aload(0)?;
-    code.getfield(names.value)?;
-    code.op(Op::ARRAYLENGTH)?;
-    code.if_icmpeq(is_as_long)?;
-    code.int(0)?;
-    code.op(Op::IRETURN)?;
-    code.frame(
-        is_as_long,
-        &[
-            Object(names.string),
-            Object(names.object),
-            Object(names.string),
-        ],
-        &[],
-    )?;
-    Ok(())
+fn puts_length_test(code: &mut CodeBuilder<'_>, names: &Names) -> bool {
+    let Ok(is_as_long) = code.label() else {
+        return false;
+    };
+    let types = [
+        Object(names.string),
+        Object(names.object),
+        Object(names.string),
+    ];
+    code.aload(1).is_ok()
+        && code.checkcast(names.string).is_ok()
+        && code.astore(2).is_ok()
+        && puts_length(code, 2, names)
+        && puts_length(code, 0, names)
+        && code.if_icmpeq(is_as_long).is_ok()
+        && code.int(0).is_ok()
+        && code.op(Op::IRETURN).is_ok()
+        && code.frame(is_as_long, &types, &[]).is_ok()
+}
+
+/// The labels of the loop.
+#[derive(Clone, Copy)]
+struct Loop {
+    top: Label,
+    next: Label,
+    done: Label,
+}
+
+fn labels_in(code: &mut CodeBuilder<'_>) -> Option<Loop> {
+    let Ok(top) = code.label() else {
+        return None;
+    };
+    let Ok(next) = code.label() else {
+        return None;
+    };
+    match code.label() {
+        Ok(done) => Some(Loop { top, next, done }),
+        Err(_) => None,
+    }
+}
+
+/// `int i = 0; i < value.length`
+fn puts_head(code: &mut CodeBuilder<'_>, names: &Names, labels: Loop, types: &[Type]) -> bool {
+    code.int(0).is_ok()
+        && code.istore(3).is_ok()
+        && code.frame(labels.top, types, &[]).is_ok()
+        && code.iload(3).is_ok()
+        && puts_length(code, 0, names)
+        && code.if_icmpge(labels.done).is_ok()
+}
+
+/// `if (value[i] != that.value[i]) return false;`
+fn puts_char_test(code: &mut CodeBuilder<'_>, names: &Names, labels: Loop) -> bool {
+    puts_char(code, 0, names)
+        && puts_char(code, 2, names)
+        && code.if_icmpeq(labels.next).is_ok()
+        && code.int(0).is_ok()
+        && code.op(Op::IRETURN).is_ok()
+}
+
+/// `i++`, and `return true;` behind the loop
+fn puts_end(code: &mut CodeBuilder<'_>, labels: Loop, types: &[Type]) -> bool {
+    code.frame(labels.next, types, &[]).is_ok()
+        && code.iinc(3, 1).is_ok()
+        && code.goto(labels.top).is_ok()
+        && code.frame(labels.done, types, &[]).is_ok()
+        && code.int(1).is_ok()
+        && code.op(Op::IRETURN).is_ok()
 }
 
 /// `for (int i = 0; i < value.length; i++) if (value[i] != that.value[i]) return false;`
-fn put_loop(code: &mut CodeBuilder<'_>, names: &Names) -> Result<(), BuilderFault> {
+fn puts_loop(code: &mut CodeBuilder<'_>, names: &Names) -> bool {
     let types = [
         Object(names.string),
         Object(names.object),
         Object(names.string),
         Integer,
     ];
-    let top = code.label()?;
-    let next = code.label()?;
-    let done = code.label()?;
-    code.int(0)?;
-    code.istore(3)?;
-    code.frame(top, &types, &[])?;
-    code.iload(3)?;
-    code.aload(0)?;
-    code.getfield(names.value)?;
-    code.op(Op::ARRAYLENGTH)?;
-    code.if_icmpge(done)?;
-    put_char(code, 0, names)?;
-    put_char(code, 2, names)?;
-    code.if_icmpeq(next)?;
-    code.int(0)?;
-    code.op(Op::IRETURN)?;
-    code.frame(next, &types, &[])?;
-    code.iinc(3, 1)?;
-    code.goto(top)?;
-    code.frame(done, &types, &[])?;
-    code.int(1)?;
-    code.op(Op::IRETURN)?;
-    Ok(())
+    match labels_in(code) {
+        Some(labels) => {
+            puts_head(code, names, labels, &types)
+                && puts_char_test(code, names, labels)
+                && puts_end(code, labels, &types)
+        }
+        None => false,
+    }
 }
 
 /// `string.value[i]`
-fn put_char(code: &mut CodeBuilder<'_>, string: u16, names: &Names) -> Result<(), BuilderFault> {
-    code.aload(string)?;
-    code.getfield(names.value)?;
-    code.iload(3)?;
-    code.op(Op::CALOAD)?;
-    Ok(())
+fn puts_char(code: &mut CodeBuilder<'_>, string: u16, names: &Names) -> bool {
+    code.aload(string).is_ok()
+        && code.getfield(names.value).is_ok()
+        && code.iload(3).is_ok()
+        && code.op(Op::CALOAD).is_ok()
 }
 
-fn put_equals(code: &mut CodeBuilder<'_>, names: &Names) -> Result<(), BuilderFault> {
-    put_class_test(code, names)?;
-    put_length_test(code, names)?;
-    put_loop(code, names)
+fn puts_equals(code: &mut CodeBuilder<'_>, names: &Names) -> bool {
+    puts_class_test(code, names) && puts_length_test(code, names) && puts_loop(code, names)
 }
 
-fn names_in(class: &mut ClassBuilder<'_>) -> Result<Names, BuilderFault> {
-    let string = class.class(b"java/lang/String")?;
-    let object = class.class(b"java/lang/Object")?;
-    let value = class.fieldref(b"java/lang/String", b"value", b"[C")?;
-    Ok(Names {
-        string,
-        object,
-        value,
-    })
+fn names_in(class: &mut ClassBuilder<'_>) -> Option<Names> {
+    let Ok(string) = class.class(b"java/lang/String") else {
+        return None;
+    };
+    let Ok(object) = class.class(b"java/lang/Object") else {
+        return None;
+    };
+    match class.fieldref(b"java/lang/String", b"value", b"[C") {
+        Ok(value) => Some(Names {
+            string,
+            object,
+            value,
+        }),
+        Err(_) => None,
+    }
 }
 
-/// The code of `equals`.
-fn equals<'a>(alloc: Global) -> Result<CodeBuilder<'a>, BuilderFault> {
-    let mut class = class(alloc)?;
-    let names = names_in(&mut class)?;
-    let mut code = CodeBuilder::new(alloc);
-    put_equals(&mut code, &names)?;
-    Ok(code)
+/// The indices in a class `java/lang/String` with its field.
+fn names_of_class(alloc: Global) -> Option<Names> {
+    let flags = ClassFlags::PUBLIC | ClassFlags::SUPER;
+    match ClassBuilder::new(alloc, flags, b"java/lang/String", b"java/lang/Object") {
+        Ok(mut class) => match class.field(FieldFlags::PRIVATE, b"value", b"[C", &[]) {
+            Ok(()) => names_in(&mut class),
+            Err(_) => None,
+        },
+        Err(_) => None,
+    }
 }
 
 /// Whether code has these bytes, and its StackMapTable those.
@@ -150,8 +185,11 @@ const FRAMES: &[u8] =
 
 #[test]
 fn equals_is_built(rt: HostRuntime) {
-    match equals(rt.alloc()) {
-        Ok(code) => assert!(rt; has_code(&code, EQUALS, FRAMES)),
-        Err(_) => assert!(rt; false),
+    match names_of_class(rt.alloc()) {
+        Some(names) => {
+            let mut code = CodeBuilder::new(rt.alloc());
+            assert!(rt; puts_equals(&mut code, &names) && has_code(&code, EQUALS, FRAMES));
+        }
+        None => assert!(rt; false),
     }
 }

@@ -1,7 +1,8 @@
 -- What is read where an instruction is known to stand is what is read there.
 use Rattle.std.proofs.Common.{◌≡◌, ℕ, ◌*◌, Bool, true, false, cond, eqb, List, [], ◌∷◌, Some, None, refl, ap, subst, ◌∙◌}
 use Rattle.std.proofs.lemmas.Bool.{eqb-true}
-use Rattle.jv_format.specs.Format.{Format, ◌>>=◌, quad, both, after, such_that, bytes_of, passed, then_read, found_as}
+use Rattle.jv_format.specs.Format.{Format, ◌>>=◌, quad}
+use Rattle.jv_format.specs.Readers.{both, after, such_that, bytes_of, passed, then_read, found_as}
 use Rattle.jv_format.proofs.Laws.{is_some, bind_some}
 use Rattle.jv_code.specs.Numbers.{signed32}
 use Rattle.jv_code.specs.Switches.{pairs_right}

@@ -3,7 +3,8 @@ use Rattle.std.proofs.Common.{◌≡◌, ℕ, suc, ◌+◌, ◌-◌, ◌*◌, �
 use Rattle.std.specs.Prelude.{ℤ, pos, negsuc, IsTrue, ◌-ℤ◌, nat_lt}
 use Rattle.std.specs.Int.{w8, w16, w32}
 use Rattle.std.proofs.lemmas.Bool.{eqb-true, ltb-true, lt-ltb, and_parts}
-use Rattle.jv_format.specs.Format.{Format, ◌>>=◌, IsBytes, byte, half, quad, both, bytes_of, found_as}
+use Rattle.jv_format.specs.Format.{Format, ◌>>=◌, IsBytes, byte, half, quad}
+use Rattle.jv_format.specs.Readers.{both, bytes_of, found_as}
 use Rattle.jv_format.proofs.Laws.{is_some, IsFormat, bind_some, byte_is, half_is, quad_is, signed_is, bytes_is, both_is, paired_is, such_is, after_is, took, again_as}
 use Rattle.jv_code.specs.declared.insn.Insn.TheVariants.{Nop, NullConstant, Compute, PoolConstant, PoolLongConstant, Load, Store, StoreLong, ArrayLoad, ReferenceArrayLoad, ArrayStore, ReferenceArrayStore, Stack, Division, Increment, Branch, Goto, TableSwitch, LookupSwitch, ReturnValue, Return, Field, Invoke, InvokeInterface, New, NewArray, NewReferenceArray, NewMultiArray, ArrayLength, Throw, CheckCast, InstanceOf}
 use Rattle.jv_code.specs.declared.kinds.ElementType.{ElementType}

@@ -4,7 +4,8 @@ use Rattle.std.specs.Prelude.{◌==◌, IsTrue}
 use Rattle.std.proofs.lemmas.Bool.{eqb-true}
 use Rattle.std.proofs.lemmas.List.{length-append, length-drop, drop-drop}
 use Rattle.std.proofs.Math.Seq.{drop-append_seam}
-use Rattle.jv_format.specs.Format.{Format, IsBytes, byte, half, both, found_as}
+use Rattle.jv_format.specs.Format.{Format, IsBytes, byte, half}
+use Rattle.jv_format.specs.Readers.{both, found_as}
 use Rattle.jv_format.proofs.Laws.{IsFormat, bind_some, byte_is, half_is, both_is}
 use Rattle.jv_code.specs.declared.shapes.OpcodeShape.{OpcodeShape}
 use Rattle.jv_code.specs.declared.shapes.OpcodeShape.TheVariants as shape

@@ -3,6 +3,7 @@ use Rattle.std.proofs.Common.{◌≡◌, ℕ, ◌+◌, ◌-◌, ◌<◌, Bool, t
 use Rattle.std.specs.Prelude.{IsTrue, is_none, not}
 use Rattle.std.specs.List.{flat_map}
 use Rattle.std.proofs.lemmas.Bool.{and_parts, eqb-true, leb-true, false≢true}
+use Rattle.std.proofs.lemmas.List.{append-nil}
 use Rattle.jv_format.specs.Format.{◌>>=◌}
 use Rattle.jv_format.proofs.Laws.{one_form}
 use Rattle.jv_code.specs.Insns.{Instruction, insn_bytes, insn_fits}
@@ -10,10 +11,10 @@ use Rattle.jv_code.specs.declared.shapes.OpcodeShape.{OpcodeShape}
 use Rattle.jv_code.specs.Inside.Shapes.{shape_at}
 use Rattle.jv_code.specs.Places.{all_fit}
 use Rattle.jv_code.specs.Inside.Reading.{insn, insn_read, operands}
-use Rattle.jv_code.specs.Unsupported.{is_from_to, moves_floats, computes_floats, is_unsupported, makes_floats, is_wide_float, front_unsupported, IsUnsupported}
+use Rattle.jv_code.specs.Unsupported.{is_from_to, moves_floats, computes_floats, is_unsupported, makes_floats, is_wide_float, front_unsupported, IsUnsupported, CodeIsSupported}
 use Rattle.jv_code.proofs.Tables.{all_below, one_below}
 use Rattle.jv_code.proofs.Laws.{insn_is}
-use Rattle.jv_code.proofs.Sizes.{size, size-cons}
+use Rattle.jv_code.proofs.Sizes.{size, size-cons, shorter}
 use Rattle.jv_code.proofs.Fronts.{Front, Front-place}
 
 or_parts : (a b : Bool) → IsTrue (a || b) → IsTrue a ⊎ IsTrue b
@@ -139,3 +140,10 @@ Front-unsupported before bytes rest none front u =
 
 pub is_unsupported_at : (before : List Instruction) (bytes rest : List ℕ) → Front before bytes rest → IsTrue (front_unsupported rest) → IsUnsupported bytes
 is_unsupported_at before bytes rest front h = record { before = before; rest = rest; spelled = front.is; fit = front.fit; front = h }
+
+-- behind all instructions of some code nothing is left
+pub code_is_supported : CodeIsSupported
+code_is_supported bytes insns code u =
+    let front : Front insns bytes [] = record { is = code.spelled ∙ sym (append-nil (flat_map insn_bytes insns)); fit = code.fit } in
+    let none = Front-unsupported insns bytes [] (λ i after h e. omega (arith, shorter i [] after e)) front u in
+    cc

@@ -10,10 +10,17 @@ ghost use Rattle.jv_code.specs.Operands.{HasBytes, least_operands};
 use crate::insn::Insn;
 use crate::reading::{read_insn, read_known_insn};
 use jv_format::{byte_at, half_at};
+use std::fmt;
 
 /// The bytes are no code: they are no list of instructions, or none at all, or too many.
 #[derive(Clone, Copy, Debug)]
 pub struct BadCode;
+
+impl fmt::Display for BadCode {
+    fn fmt<W: fmt::Write>(&self, f: &mut fmt::Formatter<W>) -> fmt::Result {
+        f.write_str("no code")
+    }
+}
 
 /// The code of a method: from 1 to 65,535 bytes that are a list of instructions.
 #[derive(Clone, Copy)]

@@ -3,6 +3,7 @@
 ghost use Rattle.jv_code.specs.Places.{OneList, StandsInList, StartsApart, OneAtOffset, FitsThere, NextStarts, EachHasDistance, KeysRise};
 ghost use Rattle.jv_code.specs.Operands.{StandsAsSpelled, BytesJoin};
 ghost use Rattle.jv_code.specs.Switches.{DistancesStand, PairsStand};
+ghost use Rattle.jv_code.specs.Unsupported.{CodeIsSupported};
 
 /// Bytes are one list of instructions at most.
 pub fn one_list()
@@ -63,4 +64,9 @@ pub fn stands_as_spelled()
 /// Bytes at an offset and those behind them are bytes at that offset.
 pub fn bytes_join()
     ensures { BytesJoin }
+{}
+
+/// Code, a list of instructions of the profile, has nothing outside the profile.
+pub fn code_is_supported()
+    ensures { CodeIsSupported }
 {}

@@ -22,8 +22,9 @@ pub use kinds::{
     LongValue, NumberElement, NumberKind, ShiftOperator, StackForm, Test, ValueKind, WordKind,
 };
 pub use law::{
-    bytes_join, distances_stand, each_has_distance, fits_there, keys_rise, next_starts,
-    one_at_offset, one_list, pairs_stand, stands_as_spelled, stands_in_list, starts_apart,
+    bytes_join, code_is_supported, distances_stand, each_has_distance, fits_there, keys_rise,
+    next_starts, one_at_offset, one_list, pairs_stand, stands_as_spelled, stands_in_list,
+    starts_apart,
 };
 pub use profile::unsupported;
 pub use starts::Starts;

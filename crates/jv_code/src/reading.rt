@@ -1,7 +1,8 @@
 //! Reads an instruction from the front of bytes (JVMS 6.5).
 
 ghost use Rattle.std.specs.Prelude.{◌≡◌};
-ghost use Rattle.jv_format.specs.Format.{Finds, byte, half, both};
+ghost use Rattle.jv_format.specs.Format.{Finds, byte, half};
+ghost use Rattle.jv_format.specs.Readers.{both};
 ghost use Rattle.jv_code.specs.declared.kinds.LocalForm.TheVariants as local;
 ghost use Rattle.jv_code.specs.Numbers.{signed8, signed16, signed32};
 ghost use Rattle.jv_code.specs.Inside.Reading.{made, indexed, with_local, whole_insn, branch_by, goto_by, far_goto_by, byte_constant, half_constant, pool_byte, increment_by, wide_increment_by, invoke_interface_of, new_array_of, new_multi_array_of, count, element_at, element_type, dimensions, wide_operands, wide_read, operands, insn_read, known_insn_read, Reads};

@@ -2,7 +2,8 @@
 
 ghost use Rattle.std.specs.Prelude.{◌≡◌, ◌∷◌, [], ◌↔◌, ◌-ℤ◌, ◌<ℤ◌, ◌<◌, length, slice_get, IfSome, IfNone, IsTrue, None};
 ghost use Rattle.std.specs.Option.{option_map};
-ghost use Rattle.jv_format.specs.Format.{Finds, paired};
+ghost use Rattle.jv_format.specs.Format.{Finds};
+ghost use Rattle.jv_format.specs.Readers.{paired};
 ghost use Rattle.jv_code.specs.Numbers.{signed32};
 ghost use Rattle.jv_code.specs.Switches.{distances_in, pair, pairs_in, keys_rise, pairs_right, pair_distance, distance_for};
 ghost use Rattle.jv_code.specs.Inside.SwitchReading.{padding, distance_bytes, bounds, distance_bytes_between, pairs_of, pairs, known_pairs};
@@ -42,7 +43,7 @@ fn first_of_distances(bytes: &[u8]) -> Option<i32>
 
 /// The distance at a place, from 0, of a tableswitch's distances; `None` where there are no more.
 #[inline]
-#[tactic(auto, using(crate::proofs::Distances::none_past, crate::proofs::Distances::distance_there))]
+#[tactic(auto, using(crate::proofs::Distances::none_past))]
 pub fn distance_at(bytes: &[u8], place: usize) -> Option<i32>
     ensures { result ≡ slice_get (distances_in bytes.now) place }
 {
@@ -69,7 +70,7 @@ pub fn first_pair(bytes: &[u8]) -> Option<((i32, i32), &[u8])>
 /// The pair of a key and its distance at a place, from 0, of a lookupswitch's pairs; `None` where
 /// there are no more.
 #[inline]
-#[tactic(auto, using(crate::proofs::Pairs::no_pair_past, crate::proofs::Pairs::pair_there))]
+#[tactic(auto, using(crate::proofs::Pairs::no_pair_past))]
 pub fn pair_at(bytes: &[u8], place: usize) -> Option<(i32, i32)>
     ensures { result ≡ slice_get (pairs_in bytes.now) place }
 {

@@ -6,7 +6,8 @@ use Rattle.std.proofs.lemmas.Bool.{and_parts, and_from, eqb-true}
 use Rattle.std.proofs.lemmas.Bool.Decides.{nat_tests}
 use Rattle.std.proofs.lemmas.Grind.{common_steps}
 use Rattle.std.proofs.lemmas.List.{length-append, take_at}
-use Rattle.jv_format.specs.Format.{Format, byte, half, quad, both, text, never, then_read, ◌>>=◌, IsBytes}
+use Rattle.jv_format.specs.Format.{Format, byte, half, quad, text, ◌>>=◌, IsBytes}
+use Rattle.jv_format.specs.Readers.{both, never, then_read}
 use Rattle.jv_format.proofs.Laws.{is_some, IsFormat, Took, byte_is, half_is, quad_is, both_is, text_is, never_is, choice_is, after_is, by_test, took, again_as, bind_some, IsBytes-rest}
 use Rattle.jv_pool.specs.declared.constant.Constant.TheVariants.{Utf8, Integer, Float, Long, Double, Class, String, Fieldref, Methodref, InterfaceMethodref, NameAndType, MethodHandle, MethodType, InvokeDynamic}
 use Rattle.jv_pool.specs.declared.shape.QuadKind.{QuadKind}

@@ -4,6 +4,7 @@ ghost use Rattle.std.specs.Prelude.{◌≡◌};
 ghost use Rattle.jv_pool.specs.declared.fault.PoolFault.TheVariants.{Memory};
 
 use std::alloc::AllocFailed;
+use std::fmt;
 
 /// Why there is no pool.
 #[derive(Clone, Copy, Debug)]
@@ -12,6 +13,15 @@ pub enum PoolFault {
     BadPool,
     /// The host had no memory for the pool.
     Memory,
+}
+
+impl fmt::Display for PoolFault {
+    fn fmt<W: fmt::Write>(&self, f: &mut fmt::Formatter<W>) -> fmt::Result {
+        f.write_str(match self {
+            PoolFault::BadPool => "no constant pool",
+            PoolFault::Memory => "out of memory",
+        })
+    }
 }
 
 impl<T: Drop> From<AllocFailed<T>> for PoolFault {

@@ -3,6 +3,7 @@
 ghost use Rattle.std.specs.Prelude.{◌≡◌};
 
 use std::alloc::AllocFailed;
+use std::fmt;
 
 /// A primitive type.
 #[derive(Clone, Copy, PartialEq, Eq)]
@@ -57,6 +58,12 @@ pub struct MethodShape<'a> {
 #[derive(Clone, Copy, Debug)]
 pub struct BadDescriptor;
 
+impl fmt::Display for BadDescriptor {
+    fn fmt<W: fmt::Write>(&self, f: &mut fmt::Formatter<W>) -> fmt::Result {
+        f.write_str("no descriptor")
+    }
+}
+
 /// Why there is no method type.
 #[derive(Clone, Copy, Debug)]
 pub enum DescFault {
@@ -64,6 +71,15 @@ pub enum DescFault {
     BadDescriptor,
     /// No memory was left for the parameters.
     Memory,
+}
+
+impl fmt::Display for DescFault {
+    fn fmt<W: fmt::Write>(&self, f: &mut fmt::Formatter<W>) -> fmt::Result {
+        f.write_str(match self {
+            DescFault::BadDescriptor => "no method descriptor",
+            DescFault::Memory => "out of memory",
+        })
+    }
 }
 
 impl<T: Drop> From<AllocFailed<T>> for DescFault {

@@ -1,3 +1,4 @@
+use Rattle.std.proofs.Common.{rules}
 use Rattle.jv_asm.proofs.Sizes.{table_item, lookup_item}
 use Rattle.jv_asm.proofs.code.item_size.Goals as goal
 
@@ -8,3 +9,6 @@ returns-in-Tableswitch-clause-size c =
 pub returns-in-Lookupswitch-clause-size : goal.returns-in-Lookupswitch-clause-size
 returns-in-Lookupswitch-clause-size c =
     lookup_item c.args.at c.args.item.now c.in-Lookupswitch.field-0 c.in-Lookupswitch.pairs _ c.in-Lookupswitch.is c.lookupswitch_size.ensures.size
+
+pub returns-in-Wide-clause-size : goal.returns-in-Wide-clause-size
+returns-in-Wide-clause-size c = search rules

@@ -1,3 +1,4 @@
+use Rattle.std.proofs.lemmas.Grind.{common_steps}
 use Rattle.std.proofs.Common.{arith, ◌++◌, ◌∷◌, []}
 use Rattle.jv_code.specs.Insns.{instruction_of}
 use Rattle.jv_code.proofs.Fronts.{Front-push, Front-none}
@@ -9,3 +10,6 @@ returns-in_default c = (λ no. absurd cc, λ h. absurd (Front-none _ _ _ (grind 
 pub loop-rest-preserved : goal.loop-rest-preserved
 loop-rest-preserved c =
     (c.loop-rest.invariant.0 ++ instruction_of c.in-Some._insn ∷ [], Front-push _ _ _ _ _ c.in-Some.ensures.found c.in-Some.ensures.fits c.loop-rest.invariant.1)
+
+pub returns : goal.returns
+returns c = grind (arith, common_steps)

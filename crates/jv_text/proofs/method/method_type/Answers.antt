@@ -11,3 +11,6 @@ pub returns-clause-bad : goal.returns-clause-bad
 returns-clause-bad c = λ _.
     let end = c.is_at_end.ensures.0 (grind (arith, common_steps)) in
     Front-no_result _ _ _ _ c.loop-rest.invariant end.0 end.1 c.in-None.ensures.none
+
+pub loop-rest-preserved : goal.loop-rest-preserved
+loop-rest-preserved c = grind (arith, common_steps)

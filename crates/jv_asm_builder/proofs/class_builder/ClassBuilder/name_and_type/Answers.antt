@@ -1,4 +1,4 @@
-use Rattle.std.proofs.Common.{ap, Err}
+use Rattle.std.proofs.Common.{ap, Err, rules}
 use Rattle.jv_asm.specs.declared.fault.AsmFault.TheVariants.{TooLarge}
 use Rattle.jv_asm_builder.proofs.Joined.{grown_both, types_none_first, same_error}
 use Rattle.jv_asm_builder.proofs.class_builder.ClassBuilder.name_and_type.Goals as goal
@@ -10,3 +10,9 @@ pub returns-in_err-name-clause-too_large : goal.returns-in_err-name-clause-too_l
 returns-in_err-name-clause-too_large c = λ e.
     types_none_first c.args.self.now.constant_pool c.args.name.now c.args.descriptor.now
     ((c.in_err-name.ensures {u = tt}).too_large (ap (λ f. Err f) (same_error c.from_residual.result c.in_err-name.field-0.0 TooLarge c.from_residual.ensures.1 e)))
+
+pub returns-clause-ok : goal.returns-clause-ok
+returns-clause-ok c = search rules
+
+pub returns-clause-too_large : goal.returns-clause-too_large
+returns-clause-too_large c = search rules

@@ -1,4 +1,4 @@
-use Rattle.std.proofs.Common.{ap, Err, []}
+use Rattle.std.proofs.Common.{ap, Err, [], rules}
 use Rattle.jv_asm.specs.declared.fault.AsmFault.TheVariants.{TooLarge}
 use Rattle.jv_asm_builder.proofs.Joined.{classes_none_last, same_error}
 use Rattle.jv_asm_builder.proofs.class_builder.ClassBuilder.new.Goals as goal
@@ -8,3 +8,6 @@ returns-in_err-index-clause-too_large c = λ e.
     let root = c.in_ok-class.class in
     classes_none_last [] c.args.name.now c.args.super_name.now root.constant_pool root.this_class (c.in_ok-class.ensures {u = tt}).ok.named
     ((c.in_err-index.ensures {u = tt}).too_large (ap (λ f. Err f) (same_error c.from_residual-in_err-index.result c.in_err-index.field-0.0 TooLarge c.from_residual-in_err-index.ensures.1 e)))
+
+pub returns-clause-ok : goal.returns-clause-ok
+returns-clause-ok c = search rules

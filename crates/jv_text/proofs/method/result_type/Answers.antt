@@ -1,0 +1,6 @@
+use Rattle.std.proofs.Common.{arith}
+use Rattle.std.proofs.lemmas.Grind.{common_steps}
+use Rattle.jv_text.proofs.method.result_type.Goals as goal
+
+pub returns-in-41-clause-found : goal.returns-in-41-clause-found
+returns-in-41-clause-found c = grind (arith, common_steps)
