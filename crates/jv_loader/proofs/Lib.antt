@@ -1,1 +1,1 @@
-pub mod Contents
+mod Up

@@ -1,6 +1,6 @@
-pub mod FileContent
 pub mod World
 pub mod Above
+pub mod Laws
 pub mod Overriding
 pub mod Verdicts
 pub mod LookUps

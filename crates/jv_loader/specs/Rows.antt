@@ -2,8 +2,8 @@
 -- there are two classes of the system in each world, java/lang/Object and host/Io, which is final.
 use Rattle.std.specs.Prelude.{◌≡◌, ℕ, List, [], ◌∷◌, Option, Some, None, codes}
 use Rattle.jv_class.specs.Class.{Class, Field, Method}
-use Rattle.jv_loader.specs.FileContent.{FileContent}
-use Rattle.jv_loader.specs.FileContent.FileContent.{OtherVersion, NoClassFile, MoreThanProfile, Holds}
+use Rattle.jv_loader_files.specs.FileContent.{FileContent}
+use Rattle.jv_loader_files.specs.declared.content.Content.TheVariants.{OtherVersion, NoClassFile, MoreThanProfile, Holds}
 use Rattle.std.specs.Prelude.{map}
 use Rattle.std.specs.Option.{option_map, option_and_then}
 use Rattle.jv_loader.specs.World.{World, world_of, class_named}

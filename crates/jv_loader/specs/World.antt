@@ -4,8 +4,8 @@ use Rattle.std.specs.List.{find, list_any, starts_with}
 use Rattle.std.specs.Str.{bytes_eq}
 use Rattle.jv_class_parts.specs.Flags.{has, acc_public}
 use Rattle.jv_class.specs.Class.{Class}
-use Rattle.jv_loader.specs.FileContent.{FileContent}
-use Rattle.jv_loader.specs.FileContent.FileContent.{Holds}
+use Rattle.jv_loader_files.specs.FileContent.{FileContent}
+use Rattle.jv_loader_files.specs.declared.content.Content.TheVariants.{Holds}
 
 -- a class with its defining loader: the system's, or the guest's
 pub record Loaded : Type 0 where

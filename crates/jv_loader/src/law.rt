@@ -1,18 +1,19 @@
-//! Laws of files and of worlds.
+//! Laws of a guest's classes.
 
-ghost use Rattle.jv_loader.specs.FileContent.{OneContent};
+ghost use Rattle.jv_loader.specs.Laws.{AboveByWays, AboveIsTransitive};
 ghost use Rattle.jv_loader.specs.Rows.{WorkedRows};
-
-use jv_class::one_structure;
-
-/// A file of a guest holds one thing.
-pub fn one_content()
-    ensures { OneContent }
-{
-    one_structure();
-}
 
 /// Worked rows of what is wrong with a guest's files, computed.
 pub fn worked_rows()
     ensures { WorkedRows }
+{}
+
+/// A class is above another exactly where a way of direct supers leads up to it (JVMS 5.3.5).
+pub fn above_by_ways()
+    ensures { AboveByWays }
+{}
+
+/// What is above a class that is above another is above the other.
+pub fn above_is_transitive()
+    ensures { AboveIsTransitive }
 {}

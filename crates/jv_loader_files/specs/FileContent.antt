@@ -1,32 +1,28 @@
 -- What stands in a file of a guest: the first of four that applies (own order).
-use Rattle.std.specs.Prelude.{◌≡◌, ⊤, ℕ, List, [], ◌∷◌, Some, slice_get}
-use Rattle.std.specs.Option.{IsSomeAnd}
+use Rattle.std.specs.Prelude.{◌≡◌, ⊤, ℕ, List, [], ◌∷◌, Option, Some, IfSome}
+use Rattle.std.specs.List.{All}
 use Rattle.jv_code.specs.Unsupported.{IsUnsupported}
+use Rattle.jv_class_parts.specs.Parts.{CodeSeen}
 use Rattle.jv_class_parts.specs.Structure.{ClassStructure}
-use Rattle.jv_class.specs.Class.{Class, Method, class_of}
+use Rattle.jv_class.specs.Class.{Class, class_of}
 use Rattle.jv_class.specs.ClassFile.{IsClassFile, IsOtherVersion}
 use Rattle.jv_class.specs.Supported.{IsSupported}
+use Rattle.jv_loader_files.specs.declared.content.Content.{Content}
+use Rattle.jv_loader_files.specs.declared.content.Content.TheVariants.{OtherVersion, NoClassFile, MoreThanProfile, Holds}
 
--- a class file of another version; no class file; one with more than this host's profile has; or a class
-pub data FileContent : Type 0 where
-  OtherVersion : FileContent
-  NoClassFile : FileContent
-  MoreThanProfile : FileContent
-  Holds : Class → FileContent
+-- a class file of another version; no class file; one with more than this host's profile has; or a class, by its names
+abbrev pub FileContent : Type 0
+FileContent = Content Class
 
--- the method's code is these bytes
-abbrev pub HasCode : Method → List ℕ → Type 0
-HasCode m bytes = IsSomeAnd m.code (λ code. code.code ≡ bytes)
-
--- no method's code begins with instructions of the profile that one outside it follows
-pub record HasProfileCode (class : Class) : Type 0 where
-  pub each : (place : ℕ) (m : Method) (bytes : List ℕ) → slice_get class.methods place ≡ Some m → HasCode m bytes → IsUnsupported bytes → ⊥
+-- the code doesn't begin with instructions of the profile that one outside it follows
+abbrev pub HasProfileCode : Option CodeSeen → Type 0
+HasProfileCode code = IfSome code (λ c. ¬ IsUnsupported c.code)
 
 -- the structure is one that the profile supports, its code included, and this is the class that it is
 pub record IsClass (c : ClassStructure) (class : Class) : Type 0 where
   pub named : class_of c ≡ Some class
   pub supported : IsSupported c
-  pub code : HasProfileCode class
+  pub code : All (λ m. HasProfileCode m.code) class.methods
 
 abbrev pub IsContent : List ℕ → FileContent → Type 0
 IsContent bytes OtherVersion = IsOtherVersion bytes

@@ -1,0 +1,22 @@
+//! The host's memory was refused.
+
+ghost use Rattle.std.specs.Prelude.{◌≡◌};
+
+use std::alloc::AllocFailed;
+use std::fmt;
+
+/// The host had no memory for what was asked.
+#[derive(Clone, Copy, Debug)]
+pub struct Memory;
+
+impl fmt::Display for Memory {
+    fn fmt<W: fmt::Write>(&self, f: &mut fmt::Formatter<W>) -> fmt::Result {
+        f.write_str("out of memory")
+    }
+}
+
+impl<T: Drop> From<AllocFailed<T>> for Memory {
+    fn from(_e: AllocFailed<T>) -> Memory {
+        Memory
+    }
+}

@@ -1,0 +1,11 @@
+use Rattle.std.proofs.Common.{◌≡◌, ◌++◌, take}
+use Rattle.std.specs.Prelude.{map}
+use Rattle.jv_class_parts.specs.Structure.{class_bytes}
+use Rattle.jv_loader_system.specs.Throwables.{throwable_class_file}
+use Rattle.jv_loader_system.specs.Inside.Table.{row_of}
+use Rattle.jv_loader_system.proofs.throwables.put_files.Given as goal
+
+abbrev pub invariant-loop-class : goal.invariant-loop-class
+invariant-loop-class l =
+    map (λ file. file.items) l.files.items
+    ≡ map (λ file. file.items) l.fn.files.items ++ map (λ class. class_bytes (throwable_class_file (row_of class))) (take l.class-index l.classes)

@@ -1,0 +1,16 @@
+//! The system classes (JVMS 2.17, own selection). A private part of `jv_loader`.
+#![tactic(auto)]
+
+mod files;
+mod flag;
+mod interface;
+mod law;
+mod object;
+mod opcode;
+mod string;
+mod throwable;
+mod throwables;
+mod written;
+
+pub use files::{SystemFiles, system_files};
+pub use law::worked_rows;

@@ -1,0 +1,22 @@
+//! Files of descriptions that are known to fit.
+
+ghost use Rattle.std.specs.Prelude.{◌≡◌, IfOk};
+ghost use Rattle.jv_class_parts.specs.Structure.{class_bytes};
+ghost use Rattle.jv_asm.specs.Description.{described_class};
+ghost use Rattle.jv_asm.specs.Fits.{IsFit};
+
+use jv_asm::{AsmFault, Description, write_class};
+use jv_loader_files::Memory;
+use std::alloc::Global;
+
+/// The file of a description whose counts and lengths fit their fields.
+pub(crate) fn written(alloc: Global, description: &Description<'_>) -> Result<Vec<u8>, Memory>
+    requires { IsFit (described_class description.now) }
+    ensures { IfOk result (λ file. file.items ≡ class_bytes (described_class description.now)) }
+{
+    match write_class(alloc, description) {
+        Ok(file) => Ok(file),
+        Err(AsmFault::Memory) => Err(Memory),
+        Err(AsmFault::TooLarge) => unreachable!(),
+    }
+}
