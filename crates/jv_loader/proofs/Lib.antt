@@ -1,1 +1,2 @@
 mod Up
+mod Standing

@@ -18,17 +18,17 @@ use Rattle.jv_loader.specs.Laws.{IsWayUp, AboveByWays, AboveIsTransitive}
 -- ---- elements
 
 module _ {X : Type 0} where
-  none : (y : X) → Contains [] y → ⊥
+  pub none : (y : X) → Contains [] y → ⊥
   none y h = absurd (omega (arith, h.1))
 
-  single : (x y : X) → Contains (x ∷ []) y → x ≡ y
+  pub single : (x y : X) → Contains (x ∷ []) y → x ≡ y
   single x y (zero, less, e) = e
   single x y (suc k, less, e) = absurd (omega (arith, less))
 
-  first : (x : X) (xs : List X) → Contains (x ∷ xs) x
+  pub first : (x : X) (xs : List X) → Contains (x ∷ xs) x
   first x xs = Contains-append_left (x ∷ []) xs x (zero, omega arith, refl)
 
-  later : (x : X) (xs : List X) (y : X) → Contains xs y → Contains (x ∷ xs) y
+  pub later : (x : X) (xs : List X) (y : X) → Contains xs y → Contains (x ∷ xs) y
   later x xs y h = Contains-append_right (x ∷ []) xs y h
 
 module _ {X Y : Type 0} (f : X → List Y) where
@@ -49,21 +49,24 @@ module _ {X Y : Type 0} (f : X → List Y) where
       by_part again (inr there) = Contains-append_right (f z) (flat_map f xs) y (again there)
 
 module _ {X Y : Type 0} (look : X → Option Y) where
-  in_found : (xs : List X) (y : Y) → Contains (filter_map look xs) y → (x : X) × (look x ≡ Some y)
+  in_found : (xs : List X) (y : Y) → Contains (filter_map look xs) y → (x : X) × Contains xs x × (look x ≡ Some y)
   in_found [] y h = absurd (none y h)
   in_found (x ∷ xs) y h = by_look (λ k. in_found xs y k) (look x) refl h
     where
-      by_part : (Contains (filter_map look xs) y → (z : X) × (look z ≡ Some y)) → (w : Y) → look x ≡ Some w → Contains (w ∷ []) y ⊎ Contains (filter_map look xs) y → (z : X) × (look z ≡ Some y)
-      by_part again w e (inl here) = (x, e ∙ ap (λ v. Some v) (single w y here))
-      by_part again w e (inr there) = again there
+      further : (z : X) × Contains xs z × (look z ≡ Some y) → (z : X) × Contains (x ∷ xs) z × (look z ≡ Some y)
+      further found = (found.0, later x xs found.0 found.1, found.2)
 
-      by_look : (Contains (filter_map look xs) y → (z : X) × (look z ≡ Some y)) → (o : Option Y) → look x ≡ o → Contains (cons_option o (filter_map look xs)) y → (z : X) × (look z ≡ Some y)
-      by_look again None e k = again k
+      by_part : (Contains (filter_map look xs) y → (z : X) × Contains xs z × (look z ≡ Some y)) → (w : Y) → look x ≡ Some w → Contains (w ∷ []) y ⊎ Contains (filter_map look xs) y → (z : X) × Contains (x ∷ xs) z × (look z ≡ Some y)
+      by_part again w e (inl here) = (x, first x xs, e ∙ ap (λ v. Some v) (single w y here))
+      by_part again w e (inr there) = further (again there)
+
+      by_look : (Contains (filter_map look xs) y → (z : X) × Contains xs z × (look z ≡ Some y)) → (o : Option Y) → look x ≡ o → Contains (cons_option o (filter_map look xs)) y → (z : X) × Contains (x ∷ xs) z × (look z ≡ Some y)
+      by_look again None e k = further (again k)
       by_look again (Some w) e k = by_part again w e (Contains-append_cases (w ∷ []) (filter_map look xs) y k)
 
 -- ---- a class in the world is the one of its name
 
-same_name : (a b : List ℕ) → bytes_eq a b ≡ true → a ≡ b
+pub same_name : (a b : List ℕ) → bytes_eq a b ≡ true → a ≡ b
 same_name a b e = (bytes_eq-Decides a b).0 e
 
 found_is_named : (world : World) (name : List ℕ) (s : Loaded) → class_named world name ≡ Some s → s.class.name ≡ name
@@ -77,10 +80,26 @@ found_is_named (l ∷ world) name s e = by_test (bytes_eq l.class.name name) ref
     by_test true t again e = ap (λ (m : Loaded). m.class.name) (sym (some_same e)) ∙ same_name l.class.name name t
     by_test false t again e = again e
 
-super_is_named : (world : World) (class : Class) (s : Loaded) → Contains (supers_in world class) s → class_named world s.class.name ≡ Some s
+pub super_is_named : (world : World) (class : Class) (s : Loaded) → Contains (supers_in world class) s → class_named world s.class.name ≡ Some s
 super_is_named world class s h =
     let found = in_found (class_named world) (super_names class) s h in
-    ap (class_named world) (found_is_named world found.0 s found.1) ∙ found.1
+    ap (class_named world) (found_is_named world found.0 s found.2) ∙ found.2
+
+-- a super has a name among those of the supers
+pub found_super : (world : World) (class : Class) (s : Loaded) → Contains (supers_in world class) s → (name : List ℕ) × Contains (super_names class) name × (class_named world name ≡ Some s)
+found_super world class s h = in_found (class_named world) (super_names class) s h
+
+-- what has a name stands in the world
+pub named_stands : (world : World) (name : List ℕ) (s : Loaded) → class_named world name ≡ Some s → Contains world s
+named_stands [] name s e = absurd cc
+named_stands (l ∷ world) name s e = by_test (bytes_eq l.class.name name) (λ k. named_stands world name s k) e
+  where
+    some_same : Some l ≡ Some s → l ≡ s
+    some_same e = cc
+
+    by_test : (b : Bool) → (class_named world name ≡ Some s → Contains world s) → cond b (Some l) (class_named world name) ≡ Some s → Contains (l ∷ world) s
+    by_test true again e = subst (Contains (l ∷ world)) (some_same e) (first l world)
+    by_test false again e = later l world s (again e)
 
 one_of_name : (world : World) (a b : Loaded) → class_named world a.class.name ≡ Some a → class_named world b.class.name ≡ Some b → a.class.name ≡ b.class.name → a ≡ b
 one_of_name world a b ha hb e = some_same (sym ha ∙ ap (class_named world) e ∙ hb)
@@ -88,13 +107,13 @@ one_of_name world a b ha hb e = some_same (sym ha ∙ ap (class_named world) e �
     some_same : Some a ≡ Some b → a ≡ b
     some_same e = cc
 
-abbrev name_of : Loaded → List ℕ
+abbrev pub name_of : Loaded → List ℕ
 name_of l = l.class.name
 
-abbrev names_of : List Loaded → List (List ℕ)
+abbrev pub names_of : List Loaded → List (List ℕ)
 names_of ls = map name_of ls
 
-named_is_member : (world : World) (name : List ℕ) (s : Loaded) → class_named world name ≡ Some s → is_member bytes_eq (names_of world) name ≡ true
+pub named_is_member : (world : World) (name : List ℕ) (s : Loaded) → class_named world name ≡ Some s → is_member bytes_eq (names_of world) name ≡ true
 named_is_member [] name s e = absurd cc
 named_is_member (l ∷ world) name s e = by_test (bytes_eq l.class.name name) refl (λ k. named_is_member world name s k) e
   where
@@ -132,14 +151,14 @@ at_distance world (suc k) class to (by ∷ more) few way =
 
 -- ---- ways that meet no class twice
 
-abbrev IsFresh : List ℕ → List Loaded → Type 0
+abbrev pub IsFresh : List ℕ → List Loaded → Type 0
 IsFresh name ls = AllByRecursion (λ other. bytes_eq name other ≡ false) (names_of ls)
 
-abbrev NoTwo : List Loaded → Type 0
+abbrev pub NoTwo : List Loaded → Type 0
 NoTwo [] = ⊤
 NoTwo (l ∷ ls) = IsFresh l.class.name ls × NoTwo ls
 
-distinct : (ls : List Loaded) → NoTwo ls → IsDistinct bytes_eq (names_of ls)
+pub distinct : (ls : List Loaded) → NoTwo ls → IsDistinct bytes_eq (names_of ls)
 unfolding IsDistinct
 distinct [] h = search
 distinct (l ∷ ls) h = IsDistinct-cons bytes_eq l.class.name (names_of ls) h.0 (distinct ls h.1)

@@ -1,6 +1,6 @@
 //! Laws of a guest's classes.
 
-ghost use Rattle.jv_loader.specs.Laws.{AboveByWays, AboveIsTransitive};
+ghost use Rattle.jv_loader.specs.Laws.{AboveByWays, AboveIsTransitive, LoadableByAll};
 ghost use Rattle.jv_loader.specs.Rows.{WorkedRows};
 
 /// Worked rows of what is wrong with a guest's files, computed.
@@ -16,4 +16,9 @@ pub fn above_by_ways()
 /// What is above a class that is above another is above the other.
 pub fn above_is_transitive()
     ensures { AboveIsTransitive }
+{}
+
+/// A class is loadable exactly where it and all classes above it stand themselves (JVMS 5.3.5).
+pub fn loadable_by_all()
+    ensures { LoadableByAll }
 {}

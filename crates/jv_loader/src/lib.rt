@@ -8,4 +8,4 @@ mod law;
 
 pub use jv_loader_files::{Content, FileClass, Memory, one_content, read_content};
 pub use jv_loader_system::{SystemFiles, system_files};
-pub use law::{above_by_ways, above_is_transitive, worked_rows};
+pub use law::{above_by_ways, above_is_transitive, loadable_by_all, worked_rows};
