@@ -15,7 +15,7 @@ use Rattle.jv_class.specs.ClassFile.{class_name, IsWellFormed}
 
 -- the constant that a static field has as its value (4.7.2), before the store into the field narrows it: an int of 32
 -- bits, also of a short, char, byte or boolean; a long of 64; or the bytes of a string's text. That of a field of a
--- floating point type, which no supported class has, is not looked at.
+-- floating point type, which no supported class has, may be any.
 pub data InitialValue : Type 0 where
   IntValue : ℤ → InitialValue
   LongValue : ℤ → InitialValue

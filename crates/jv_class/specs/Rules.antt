@@ -118,7 +118,7 @@ method_flags_right in_interface name flags =
     if is_clinit name then true
     else visibility_right flags && abstract_right flags && interface_flags_right in_interface flags && named_flags_right name flags
 
--- `<init>` is void (2.9) and in no interface (own)
+-- `<init>` is void (4.4.2, here of the declared method too) and in no interface (own)
 abbrev pub init_right : Bool → List ℕ → Bool → Bool
 init_right in_interface name void = if is_init name then not in_interface && void else true
 
@@ -130,10 +130,11 @@ clinit_right name descriptor flags = if is_clinit name then has flags acc_static
 abbrev pub slots_right : ℕ → ℕ → Bool
 slots_right flags count = nat_le ((if has flags acc_static then 0 else 1) + count) 255
 
--- a method has no code where it is abstract or native, `<clinit>` aside, and else has it (4.7.3)
+-- a method has no code where it is abstract or native, `<clinit>` aside (own), and else has it (4.7.3)
 abbrev pub is_bodiless : List ℕ → ℕ → Bool
 is_bodiless name flags = not (is_clinit name) && has flags (acc_abstract + acc_native)
 
+-- it has one Code attribute
 abbrev pub has_code : MethodInfo → Bool
 has_code m = is_some (sole (codes_of m))
 

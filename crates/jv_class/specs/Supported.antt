@@ -1,5 +1,5 @@
 -- Which class files this host's integer profile supports, code aside (own): none with floating point numbers, method
--- handles or dynamic call sites (JVMS 4.4), and none with native or synchronized methods (4.6).
+-- handles, method types or dynamic call sites (JVMS 4.4), and none with native or synchronized methods (4.6), `<clinit>` aside.
 use Rattle.std.specs.Prelude.{⊤, ℕ, ◌+◌, Bool, not, ◌||◌, List, IsTrue}
 use Rattle.std.specs.List.{All}
 use Rattle.std.specs.Option.{IsSomeAnd}

@@ -138,7 +138,7 @@ impl<'a> ClassFile<'a> {
         self.parts.pool()
     }
 
-    /// The access flags (JVMS 4.1, table 4.1-B).
+    /// The access flags (JVMS 4.1, table 4.1-A).
     pub fn access_flags(&self) -> ClassFlags
         ensures { result.0 ≡ self.now.access_flags }
     {

@@ -1,4 +1,4 @@
-//! Which access flags go together (JVMS tables 4.1-B, 4.5-A and 4.6-A).
+//! Which access flags go together (JVMS tables 4.1-A, 4.5-A and 4.6-A).
 
 ghost use Rattle.std.specs.Prelude.{◌≡◌};
 ghost use Rattle.jv_class_parts.specs.Flags.{class_flags_right, visibility, visibility_right, volatile_right, interface_field_right, abstract_right, interface_method_right, init_flags_right};

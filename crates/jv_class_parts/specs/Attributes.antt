@@ -52,7 +52,7 @@ abbrev pub value_index : AttributeInfo → Option ℕ
 value_index a = index_in a.info
 
 -- the index of the constant that a static field has as its value, where it has one; on other fields the attribute is
--- passed over
+-- passed over (own)
 abbrev pub static_value : List Entry → FieldInfo → Option ℕ
 static_value pool f =
     if has f.access_flags acc_static then sole (constant_values pool f) >>= value_index else None

@@ -1,4 +1,4 @@
--- Access flags of classes, fields and methods (JVMS tables 4.1-B, 4.5-A and 4.6-A), and which of them go together.
+-- Access flags of classes, fields and methods (JVMS tables 4.1-A, 4.5-A and 4.6-A), and which of them go together.
 -- Bits without a name there are not looked at.
 use Rattle.std.specs.Prelude.{ℕ, ◌+◌, Bool, true, not, ◌&&◌, ◌||◌, ◌==◌, bit_and, if◌then◌else◌}
 

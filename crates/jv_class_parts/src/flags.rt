@@ -1,11 +1,11 @@
-//! Access flags (JVMS tables 4.1-B, 4.5-A and 4.6-A). A value keeps every bit of the file, also
+//! Access flags (JVMS tables 4.1-A, 4.5-A and 4.6-A). A value keeps every bit of the file, also
 //! those without a name.
 
 ghost use Rattle.std.specs.Prelude.{⊤, [], ◌∷◌, codes};
 
 use bitflags::{Flag, Flags, bitflag_items};
 
-/// The access flags of a class or an interface (JVMS 4.1, table 4.1-B).
+/// The access flags of a class or an interface (JVMS 4.1, table 4.1-A).
 #[derive(Clone, Copy)]
 pub struct ClassFlags(pub u16);
 

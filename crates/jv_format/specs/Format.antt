@@ -40,7 +40,7 @@ half_read (a ∷ b ∷ rest) = Some (a * 256 + b, rest)
 abbrev pub half : Format ℕ
 half = record { spelling = u2_bytes; fits = u2_fits; read = half_read }
 
--- that many bytes
+-- as many bytes of the front as the number says, and the rest
 abbrev pub front : ℕ × List ℕ → Option (List ℕ × List ℕ)
 front n = if nat_lt (length n.1) n.0 then None else Some (take n.0 n.1, drop n.0 n.1)
 

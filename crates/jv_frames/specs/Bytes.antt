@@ -9,7 +9,7 @@ use Rattle.jv_frames.specs.declared.form.Form.TheVariants.{Same, SameItem, SameI
 
 -- ---- items
 
--- a tag, and for two of them a number
+-- a tag, and for two of them a number; Float (2) and Double (3) have no item (own)
 abbrev pub item_bytes : Item → List ℕ
 item_bytes items.Top = 0 ∷ []
 item_bytes items.Integer = 1 ∷ []
@@ -27,7 +27,7 @@ item_fits _ = true
 
 -- ---- frames
 
--- a frame whose lists of items are lists
+-- a stack_map_frame, by its form, with its items
 abbrev pub MapForm : Type 0
 MapForm = Form (List Item)
 
@@ -38,7 +38,7 @@ counted_bytes list = half.spelling (length list) ++ flat_map item_bytes list
 abbrev pub counted_fits : List Item → Bool
 counted_fits list = half.fits (length list) && list_all item_fits list
 
--- a type, and what the form of that type holds
+-- a frame_type, and what the form of that type holds
 abbrev pub form_bytes : MapForm → List ℕ
 form_bytes (Same delta) = delta ∷ []
 form_bytes (SameItem delta item) = (64 + delta) ∷ item_bytes item

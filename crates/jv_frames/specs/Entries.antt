@@ -1,5 +1,6 @@
 -- What frames that were read hold (JVMS 4.7.4), and which frames by words they stand for. An entry is an item of the map, or
--- an initial local entry, by its place; so which types the initial ones have is the caller's affair, and no class has a name.
+-- an initial local entry, by its place; so which types the initial ones have is the caller's affair, and an entry has its class by
+-- the index of its constant.
 use Rattle.std.specs.Prelude.{◌≡◌, ℕ, ◌<◌, List, length, map, sum_by, slice_index_or, unwrap_or, IsSome}
 use Rattle.std.specs.List.{All}
 use Rattle.jv_pool.specs.Constants.{Entry, class_name_at}

@@ -30,8 +30,8 @@ type_of pool (items.Uninitialized offset) = Some (types.Uninitialized offset)
 -- ---- one frame behind another
 
 -- A frame as a map has it: its offset in the code, in bytes, and its entries, where a long is one. Both lists have the
--- last entry first; that of the stack is its top. An entry is a type here; what follows is said of whatever may stand for
--- one, since the frames that the code keeps are made in the same way.
+-- last entry first; that of the stack is its top. An entry is a type in `Maps`; what follows is said of whatever may stand
+-- for one, since the frames that the code keeps are made in the same way.
 pub record MapFrame (T : Type 0) : Type 0 where
   pub offset : ℕ
   pub locals : List T
@@ -99,8 +99,8 @@ is_within limits frame = nat_le (words frame.locals) limits.max_locals && nat_le
 
 -- ---- words
 
--- A frame by words (4.10.1.2): each local variable's type, from the first on, a long as long and top; the stack's items,
--- the top first, where a long is one item of two words; and whether `this` is uninitialized.
+-- A frame by words (4.10.1.4): each local variable's type, from the first on, a long as long and top; the stack's items,
+-- the top first, where a long is one item of two words (own); and flagThisUninit.
 pub record Frame : Type 0 where
   pub locals : List FrameType
   pub stack : List FrameType

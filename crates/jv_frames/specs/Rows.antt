@@ -5,10 +5,10 @@ use Rattle.jv_text.specs.declared.descriptor.Element.{Element}
 use Rattle.jv_text.specs.declared.descriptor.Element.TheVariants as elements
 use Rattle.jv_text.specs.declared.descriptor.FieldTypeOf.{FieldTypeOf}
 use Rattle.jv_frames.specs.declared.item.Item.TheVariants as items
-use Rattle.jv_frames.specs.declared.form.Form.TheVariants.{Same, SameItem, Chop, Append, Full}
+use Rattle.jv_frames.specs.declared.form.Form.TheVariants.{Same, SameItem, SameItemExtended, Chop, SameExtended, Append, Full}
 use Rattle.jv_frames.specs.declared.limits.Limits.{Limits}
 use Rattle.jv_frames.specs.declared.verification.VerificationTypeOf.TheVariants as types
-use Rattle.jv_frames.specs.Bytes.{MapForm}
+use Rattle.jv_frames.specs.Bytes.{MapForm, table_bytes}
 use Rattle.jv_frames.specs.Types.{FrameType, reference_type}
 use Rattle.jv_frames.specs.Frames.{MapFrame, map_frame, frames_behind, is_within, type_of, by_words}
 use Rattle.jv_frames.specs.Initial.{initial_entries, initial_frame}
@@ -38,7 +38,16 @@ limits = record { max_locals = 4; max_stack = 2 }
 abbrev pub frames_of : List MapForm → Option (List (MapFrame FrameType))
 frames_of forms = frames_behind (type_of []) (is_within limits) 0 (types.Int ∷ types.Long ∷ types.Class (codes "A") ∷ []) forms
 
+-- one frame of each form
+abbrev pub forms : List MapForm
+forms =
+    Same 5 ∷ SameItem 3 items.Integer ∷ SameItemExtended 300 (items.Object 7) ∷ Chop 2 1 ∷ SameExtended 64 ∷ Append 1 (items.Long ∷ [])
+    ∷ Full 2 (items.Top ∷ []) (items.Null ∷ []) ∷ []
+
 pub record WorkedRows : Type 0 where
+  -- the bytes of a map: its count, and each frame
+  pub bytes : table_bytes forms
+      ≡ 0 ∷ 7 ∷ 5 ∷ 67 ∷ 1 ∷ 247 ∷ 1 ∷ 44 ∷ 7 ∷ 0 ∷ 7 ∷ 249 ∷ 0 ∷ 1 ∷ 251 ∷ 0 ∷ 64 ∷ 252 ∷ 0 ∷ 1 ∷ 4 ∷ 255 ∷ 0 ∷ 2 ∷ 0 ∷ 1 ∷ 0 ∷ 0 ∷ 1 ∷ 5 ∷ []
   -- what Class constants name
   pub names_class : reference_type (codes "A") ≡ Some (types.Class (codes "A"))
   pub names_array : reference_type (codes "[[J") ≡ Some (array 1 (elements.Base bases.Long))

@@ -33,7 +33,7 @@ reference_type text =
 
 -- ---- the values of a field type (4.3.2)
 
--- an int for each of the small types; float and double, which no supported class has, have no type here but top
+-- an int for each of the small types; float and double, which no supported class has, have no type here but top (own)
 abbrev pub primitive_type : Base → FrameType
 primitive_type bases.Byte = types.Int
 primitive_type bases.Char = types.Int

@@ -1,4 +1,4 @@
--- What stands in a file of a guest: the first of four that applies (own order).
+-- What stands in a file: the first of four that applies (own order).
 use Rattle.std.specs.Prelude.{◌≡◌, ⊤, ℕ, List, [], ◌∷◌, Option, Some, IfSome}
 use Rattle.std.specs.List.{All}
 use Rattle.jv_code.specs.Unsupported.{IsUnsupported}
@@ -10,11 +10,13 @@ use Rattle.jv_class.specs.Supported.{IsSupported}
 use Rattle.jv_loader_files.specs.declared.content.Content.{Content}
 use Rattle.jv_loader_files.specs.declared.content.Content.TheVariants.{OtherVersion, NoClassFile, MoreThanProfile, Holds}
 
--- a class file of another version; no class file; one with more than this host's profile has; or a class, by its names
+-- bytes that begin like a class file of another version; no class file; one with more than this host's profile has; or a
+-- class, by its names
 abbrev pub FileContent : Type 0
 FileContent = Content Class
 
--- the code doesn't begin with instructions of the profile that one outside it follows
+-- there is no code, or it does not begin with instructions of the profile and then one that the profile leaves out; it may
+-- be ill formed all the same
 abbrev pub HasProfileCode : Option CodeSeen → Type 0
 HasProfileCode code = IfSome code (λ c. ¬ IsUnsupported c.code)
 
@@ -30,7 +32,7 @@ IsContent bytes NoClassFile = (¬ IsOtherVersion bytes) × ((c : ClassStructure)
 IsContent bytes MoreThanProfile = (c : ClassStructure) × IsClassFile bytes c × ((class : Class) → IsClass c class → ⊥)
 IsContent bytes (Holds class) = (c : ClassStructure) × IsClassFile bytes c × IsClass c class
 
--- what the files of a guest hold, one by one
+-- what files hold, one by one
 abbrev pub AreContents : List (List ℕ) → List FileContent → Type 0
 AreContents [] [] = ⊤
 AreContents (bytes ∷ more) (file ∷ files) = IsContent bytes file × AreContents more files

@@ -2,11 +2,11 @@
 
 use jv_class::ClassFile;
 
-/// What a file of a guest holds, the first of the four that applies; `C` is a class, as it was read
+/// What a file holds, the first of the four that applies; `C` is a class, as it was read
 /// in the code, and by its names in definitions.
 #[derive(Drop)]
 pub enum Content<C> {
-    /// A class file of a version other than 52.0 (JVMS 4.1).
+    /// Bytes that begin like a class file of a version other than 52.0 (JVMS 4.1).
     OtherVersion,
     /// No class file (JVMS 4.1 to 4.7).
     NoClassFile,

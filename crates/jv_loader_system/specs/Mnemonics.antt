@@ -1,5 +1,5 @@
--- Instructions by their mnemonics (JVMS 6.5), each in its shortest spelling: the number of a local in the opcode, an int
--- in the opcode or in one byte.
+-- Instructions by their mnemonics (JVMS 6.5): the number of a local, below 4, in the opcode; an int of -1 to 5 in the
+-- opcode or another in one byte. Each is used within these bounds alone.
 use Rattle.std.specs.Prelude.{ℕ, ◌+◌, ℤ, pos, ◌-ℤ◌, List, [], ◌∷◌, ◌++◌, length, Option}
 use Rattle.jv_code.specs.declared.insn.Insn.TheVariants.{Compute, Load, Store, ArrayLoad, Increment, Branch, Goto, ReturnValue, Return, Field, Invoke, ArrayLength, CheckCast, InstanceOf}
 use Rattle.jv_code.specs.declared.kinds.Computation.TheVariants.{IntConstant, Arithmetic}

@@ -47,7 +47,7 @@ frames_name = 8
 
 -- <init>()V
 abbrev pub init_body : Body
-init_body = record { max_stack = 0; max_locals = 1; code = return ∷ [] }
+init_body = record { max_stack = 0; max_locals = 1; code = return ∷ [] }  -- 0
 
 -- equals(Ljava/lang/Object;)Z
 abbrev pub equals_body : Body

@@ -1,8 +1,9 @@
 -- Worked rows of the system classes, computed.
-use Rattle.std.specs.Prelude.{◌≡◌, ℕ, Bool, true, not, ◌&&◌, ◌||◌, nat_eq, List, [], ◌∷◌, length, map, Some, IsTrue, codes}
+use Rattle.std.specs.Prelude.{◌≡◌, ℕ, Bool, true, not, ◌&&◌, ◌||◌, nat_eq, List, [], ◌∷◌, length, map, Option, Some, None, IsTrue, codes}
 use Rattle.std.specs.List.{flat_map, list_all, list_any, starts_with}
 use Rattle.std.specs.Str.{bytes_eq}
 use Rattle.jv_code.specs.Insns.{insn_bytes}
+use Rattle.jv_class.specs.Class.{Class}
 use Rattle.jv_pool.specs.Constants.{Entry, MemberReference, utf8_at, class_name_at, field_reference_at, method_reference_at}
 use Rattle.jv_loader_system.specs.Mnemonics.{offsets, targets}
 use Rattle.jv_loader_system.specs.Members.{Body}
@@ -79,12 +80,13 @@ pub record RowIndices (row : throwables.ThrowableRow) : Type 0 where
   pub super_message_init : method_reference_at (throwables.constants row) throwables.super_message_init ≡ Some (member row.super_name (codes "<init>") (codes "(Ljava/lang/String;)V"))
   pub code_name : HasText (throwables.constants row) throwables.code_name (codes "Code")
 
--- ---- code: where instructions stand, where they jump, and how many bytes they have
+-- ---- code: where instructions stand, where they jump, and how many bytes those with frames have
 
 abbrev pub size : Body → ℕ
 size body = length (flat_map insn_bytes body.code)
 
 pub record CodeRows : Type 0 where
+  pub object_init : offsets 0 object.init_body.code ≡ 0 ∷ []
   pub object_equals : offsets 0 object.equals_body.code ≡ 0 ∷ 1 ∷ 2 ∷ 5 ∷ 6 ∷ 7 ∷ 8 ∷ []
   pub object_equals_label : targets 0 object.equals_body.code ≡ Some 7 ∷ []
   pub object_equals_size : size object.equals_body ≡ 9
@@ -96,7 +98,10 @@ pub record CodeRows : Type 0 where
   pub equals : offsets 0 string.equals_body.code ≡ 0 ∷ 1 ∷ 4 ∷ 7 ∷ 8 ∷ 9 ∷ 10 ∷ 13 ∷ 14 ∷ 15 ∷ 18 ∷ 19 ∷ 20 ∷ 23 ∷ 24 ∷ 27 ∷ 28 ∷ 29 ∷ 30 ∷ 31 ∷ 32 ∷ 33 ∷ 36 ∷ 37 ∷ 40 ∷ 41 ∷ 44 ∷ 45 ∷ 46 ∷ 47 ∷ 50 ∷ 51 ∷ 52 ∷ 55 ∷ 56 ∷ 57 ∷ 60 ∷ 63 ∷ 64 ∷ []
   pub equals_labels : targets 0 string.equals_body.code ≡ Some 9 ∷ Some 29 ∷ Some 63 ∷ Some 57 ∷ Some 31 ∷ []
   pub equals_size : size string.equals_body ≡ 65
+  pub throwable_init : offsets 0 throwable.init_body.code ≡ 0 ∷ 1 ∷ 4 ∷ []
   pub throwable_message : offsets 0 throwable.message_init_body.code ≡ 0 ∷ 1 ∷ 4 ∷ 5 ∷ 6 ∷ 9 ∷ []
+  pub get_message : offsets 0 throwable.get_message_body.code ≡ 0 ∷ 1 ∷ 4 ∷ []
+  pub row_init : offsets 0 throwables.init_body.code ≡ 0 ∷ 1 ∷ 4 ∷ []
   pub row_message : offsets 0 throwables.message_init_body.code ≡ 0 ∷ 1 ∷ 2 ∷ 5 ∷ []
 
 -- ---- the classes
@@ -113,11 +118,23 @@ all_differ (name ∷ others) = not (list_any (bytes_eq name) others) && all_diff
 abbrev pub is_reserved : List ℕ → Bool
 is_reserved name = starts_with nat_eq name (codes "java/") || starts_with nat_eq name (codes "host/")
 
+abbrev pub is_name : List ℕ → Bool
+is_name name = list_any (bytes_eq name) names
+
+abbrev pub is_super : Option (List ℕ) → Bool
+is_super None = true
+is_super (Some name) = is_name name
+
+abbrev pub has_supers : Class → Bool
+has_supers c = is_super c.super_class && list_all is_name c.interfaces
+
 pub record ClassRows : Type 0 where
   pub with_files : length classes_with_files ≡ 32
   pub all : length system_classes ≡ 33
   pub differ : IsTrue (all_differ names)
   pub reserved : IsTrue (list_all is_reserved names)
+  -- the supers of each are among them
+  pub supers : IsTrue (list_all has_supers system_classes)
 
 pub record WorkedRows : Type 0 where
   pub object : ObjectIndices

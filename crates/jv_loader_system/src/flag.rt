@@ -1,4 +1,4 @@
-//! Access flags of the system classes and their members (JVMS tables 4.1-B, 4.5-A, 4.6-A).
+//! Access flags of the system classes and their members (JVMS tables 4.1-A, 4.5-A, 4.6-A).
 
 pub(crate) const PUBLIC: u16 = 0x0001;
 

@@ -1,4 +1,4 @@
-//! The system classes (JVMS 2.17, own selection). A private part of `jv_loader`.
+//! The system classes (JVMS 2.12, own selection). A private part of `jv_loader`.
 #![tactic(auto)]
 
 mod files;

@@ -10,14 +10,14 @@ Rows = List (List Bool)
 abbrev pub IsSquare : Rows → Type 0
 IsSquare rows = All (λ row. length row ≡ length rows) rows
 
--- a number is related to one; behind the rows none is
+-- whether the first number is related to the second; a number that is no row's is related to none
 abbrev pub related : Rows → ℕ → ℕ → Bool
 related rows from to = get_or (get_or rows from []) to false
 
 abbrev pub empty : ℕ → Rows
 empty size = replicate size (replicate size false)
 
--- one pair more
+-- one pair more, where both are numbers of rows
 abbrev pub with_pair : Rows → ℕ → ℕ → Rows
 with_pair rows from to = set rows from (set (get_or rows from []) to true)
 
@@ -30,7 +30,7 @@ IsWay rows from (by ∷ more) to = IsTrue (related rows from by) × IsWay rows b
 abbrev pub Reaches : Rows → ℕ → ℕ → Type 0
 Reaches rows from to = (between : List ℕ) × IsWay rows from between to
 
--- A law: of what is reached there is a way with fewer between than there are numbers.
+-- A law: of what is reached there is a way with at most as many between as there are numbers.
 abbrev pub ShortWays : Type 0
 ShortWays =
     (rows : Rows) (from to : ℕ) → IsSquare rows → Reaches rows from to

@@ -2,7 +2,7 @@
 
 ghost use Rattle.jv_loader_tables.specs.Ways.{ShortWays};
 
-/// What is reached at all is reached in at most as many steps as there are numbers.
+/// What is reached at all is reached by way of at most as many numbers as there are.
 pub fn short_ways()
     ensures { ShortWays }
 {}
