@@ -12,7 +12,7 @@ use Rattle.jv_class.specs.Class.{Class, Method, all_found, field_of, method_of, 
 use Rattle.jv_class.specs.ClassFile.{OneStructure, IsClassFile, class_name}
 use Rattle.jv_class_parts.specs.Parts.{methods_of}
 use Rattle.jv_class.specs.Supported.{IsSupported}
-use Rattle.jv_loader_files.specs.FileContent.{HasProfileCode, IsClass, IsContent, OneContent}
+use Rattle.jv_loader_files.specs.FileContent.{HasNoUnsupportedCode, IsProfileClass, IsContent, OneContent}
 use Rattle.jv_loader_files.specs.declared.content.Content.{Content}
 use Rattle.jv_loader_files.specs.declared.content.Content.TheVariants.{OtherVersion, NoClassFile, MoreThanProfile, Holds}
 
@@ -31,10 +31,10 @@ one_content law bytes NoClassFile (Holds class) h k = absurd (h.1 k.0 k.1)
 one_content law bytes MoreThanProfile OtherVersion h k = absurd (law.other bytes h.0 h.1 k)
 one_content law bytes MoreThanProfile NoClassFile h k = absurd (k.1 h.0 h.1)
 one_content law bytes MoreThanProfile MoreThanProfile h k = refl
-one_content law bytes MoreThanProfile (Holds class) h k = absurd (h.2 class (subst (λ c. IsClass c class) (law.same bytes k.0 h.0 k.1 h.1) k.2))
+one_content law bytes MoreThanProfile (Holds class) h k = absurd (h.2 class (subst (λ c. IsProfileClass c class) (law.same bytes k.0 h.0 k.1 h.1) k.2))
 one_content law bytes (Holds class) OtherVersion h k = absurd (law.other bytes h.0 h.1 k)
 one_content law bytes (Holds class) NoClassFile h k = absurd (k.1 h.0 h.1)
-one_content law bytes (Holds class) MoreThanProfile h k = absurd (k.2 class (subst (λ c. IsClass c class) (law.same bytes h.0 k.0 h.1 k.1) h.2))
+one_content law bytes (Holds class) MoreThanProfile h k = absurd (k.2 class (subst (λ c. IsProfileClass c class) (law.same bytes h.0 k.0 h.1 k.1) h.2))
 one_content law bytes (Holds class) (Holds other) h k =
     let same = law.same bytes h.0 k.0 h.1 k.1 in
     ap (λ c. Holds c) (some_same class other (sym h.2.named ∙ ap class_of same ∙ k.2.named))
@@ -89,17 +89,17 @@ methods_found c class e =
     let methods = then_parts (all_found (method_of c.constant_pool) c.methods) _ class fields.2 in
     methods.1 ∙ ap (λ found. Some found.methods) (some_parts _ _ methods.2)
 
-profile_code : (c : ClassStructure) (class : Class) → class_of c ≡ Some class → All (λ m. HasProfileCode m.code) (methods_of c) ↔ All (λ m. HasProfileCode m.code) class.methods
+profile_code : (c : ClassStructure) (class : Class) → class_of c ≡ Some class → All (λ m. HasNoUnsupportedCode m.code) (methods_of c) ↔ All (λ m. HasNoUnsupportedCode m.code) class.methods
 profile_code c class e =
     let same = codes_found c.constant_pool c.methods class.methods (methods_found c class e) in
-    let shown = all_mapped HasProfileCode shown_code (methods_of c) in
-    let found = all_mapped HasProfileCode method_code class.methods in (
-      λ all. found.1 (subst (All HasProfileCode) (sym same) (shown.0 all)),
-      λ all. shown.1 (subst (All HasProfileCode) same (found.0 all)),
+    let shown = all_mapped HasNoUnsupportedCode shown_code (methods_of c) in
+    let found = all_mapped HasNoUnsupportedCode method_code class.methods in (
+      λ all. found.1 (subst (All HasNoUnsupportedCode) (sym same) (shown.0 all)),
+      λ all. shown.1 (subst (All HasNoUnsupportedCode) same (found.0 all)),
     )
 
 -- a class within the profile
-pub holds : (bytes : List ℕ) (c : ClassStructure) → IsClassFile bytes c → IsSupported c → IsSome (class_of c) → All (λ m. HasProfileCode m.code) (methods_of c) → IsSomeAnd (option_map Holds (class_of c)) (IsContent bytes)
+pub holds : (bytes : List ℕ) (c : ClassStructure) → IsClassFile bytes c → IsSupported c → IsSome (class_of c) → All (λ m. HasNoUnsupportedCode m.code) (methods_of c) → IsSomeAnd (option_map Holds (class_of c)) (IsContent bytes)
 holds bytes c file supported some all = by_class (class_of c) refl some
   where
     by_class : (o : Option Class) → class_of c ≡ o → IsSome o → IsSomeAnd (option_map Holds o) (IsContent bytes)
@@ -107,7 +107,7 @@ holds bytes c file supported some all = by_class (class_of c) refl some
     by_class (Some class) e s = (c, file, record { named = e; supported = supported; code = (profile_code c class e).0 all })
 
 -- one with other code
-pub beyond : (bytes : List ℕ) (c : ClassStructure) → IsClassFile bytes c → (All (λ m. HasProfileCode m.code) (methods_of c) → ⊥) → IsContent bytes MoreThanProfile
+pub beyond : (bytes : List ℕ) (c : ClassStructure) → IsClassFile bytes c → (All (λ m. HasNoUnsupportedCode m.code) (methods_of c) → ⊥) → IsContent bytes MoreThanProfile
 beyond bytes c file other = (c, file, λ class is. other ((profile_code c class is.named).1 is.code))
 
 -- one with other constants or members

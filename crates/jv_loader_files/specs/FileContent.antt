@@ -17,20 +17,20 @@ FileContent = Content Class
 
 -- there is no code, or it does not begin with instructions of the profile and then one that the profile leaves out; it may
 -- be ill formed all the same
-abbrev pub HasProfileCode : Option CodeSeen → Type 0
-HasProfileCode code = IfSome code (λ c. ¬ IsUnsupported c.code)
+abbrev pub HasNoUnsupportedCode : Option CodeSeen → Type 0
+HasNoUnsupportedCode code = IfSome code (λ c. ¬ IsUnsupported c.code)
 
 -- the structure is one that the profile supports, its code included, and this is the class that it is
-pub record IsClass (c : ClassStructure) (class : Class) : Type 0 where
+pub record IsProfileClass (c : ClassStructure) (class : Class) : Type 0 where
   pub named : class_of c ≡ Some class
   pub supported : IsSupported c
-  pub code : All (λ m. HasProfileCode m.code) class.methods
+  pub code : All (λ m. HasNoUnsupportedCode m.code) class.methods
 
 abbrev pub IsContent : List ℕ → FileContent → Type 0
 IsContent bytes OtherVersion = IsOtherVersion bytes
 IsContent bytes NoClassFile = (¬ IsOtherVersion bytes) × ((c : ClassStructure) → IsClassFile bytes c → ⊥)
-IsContent bytes MoreThanProfile = (c : ClassStructure) × IsClassFile bytes c × ((class : Class) → IsClass c class → ⊥)
-IsContent bytes (Holds class) = (c : ClassStructure) × IsClassFile bytes c × IsClass c class
+IsContent bytes MoreThanProfile = (c : ClassStructure) × IsClassFile bytes c × ((class : Class) → IsProfileClass c class → ⊥)
+IsContent bytes (Holds class) = (c : ClassStructure) × IsClassFile bytes c × IsProfileClass c class
 
 -- what files hold, one by one
 abbrev pub AreContents : List (List ℕ) → List FileContent → Type 0

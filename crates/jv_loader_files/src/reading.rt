@@ -4,7 +4,7 @@ ghost use Rattle.std.specs.Prelude.{◌↔◌, IsTrue, IfOk, IsSomeAnd};
 ghost use Rattle.std.specs.List.{All};
 ghost use Rattle.jv_class_parts.specs.Seen.{seen_method};
 ghost use Rattle.jv_class_parts.specs.Parts.{methods_of};
-ghost use Rattle.jv_loader_files.specs.FileContent.{HasProfileCode, IsContent};
+ghost use Rattle.jv_loader_files.specs.FileContent.{HasNoUnsupportedCode, IsContent};
 ghost use Rattle.jv_loader_files.specs.Inside.Reading.{content_of};
 
 use crate::content::{Content, FileClass};
@@ -15,7 +15,7 @@ use std::alloc::Global;
 
 /// Whether the method's code, where it has any, stays within the profile.
 fn has_profile_code(method: Method<'_>) -> bool
-    ensures { IsTrue result ↔ HasProfileCode (seen_method method.entry).code }
+    ensures { IsTrue result ↔ HasNoUnsupportedCode (seen_method method.entry).code }
 {
     match method.code {
         Some(code) => !unsupported(code.code),
@@ -24,14 +24,14 @@ fn has_profile_code(method: Method<'_>) -> bool
 }
 
 fn each_has_profile_code(methods: &[Method<'_>]) -> bool
-    ensures { IsTrue result ↔ All (λ m. HasProfileCode (seen_method m).code) methods.now }
+    ensures { IsTrue result ↔ All (λ m. HasNoUnsupportedCode (seen_method m).code) methods.now }
 {
     methods.iter().all(|method| has_profile_code(*method))
 }
 
 /// Whether the code of each method stays within the profile.
 fn is_within_profile(class: &ClassFile<'_>) -> bool
-    ensures { IsTrue result ↔ All (λ m. HasProfileCode m.code) (methods_of class.now) }
+    ensures { IsTrue result ↔ All (λ m. HasNoUnsupportedCode m.code) (methods_of class.now) }
 {
     each_has_profile_code(class.methods())
 }

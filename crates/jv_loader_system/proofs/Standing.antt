@@ -11,7 +11,7 @@ use Rattle.jv_code.specs.Unsupported.{IsUnsupported, CodeIsSupported}
 use Rattle.jv_class_parts.specs.Structure.{ClassStructure, class_bytes}
 use Rattle.jv_class.specs.Class.{Class, Method, class_of}
 use Rattle.jv_asm.specs.Law.{CanBeRead, WrittenReadsBack}
-use Rattle.jv_loader_files.specs.FileContent.{HasProfileCode, IsClass, AreContents}
+use Rattle.jv_loader_files.specs.FileContent.{HasNoUnsupportedCode, IsProfileClass, AreContents}
 use Rattle.jv_loader_files.specs.declared.content.Content.TheVariants.{Holds}
 use Rattle.jv_loader_system.specs.Interfaces.{interface, interface_file}
 use Rattle.jv_loader_system.specs.Object as object
@@ -41,7 +41,7 @@ within_profile laws insns h u =
     laws.code (flat_map insn_bytes insns) insns code u
 
 abbrev HasCode : Method → Type 0
-HasCode m = HasProfileCode m.code
+HasCode m = HasNoUnsupportedCode m.code
 
 all_have : (methods : List Method) → AllByRecursion HasCode methods → All HasCode methods
 all_have [] h = All-nil HasCode
@@ -51,7 +51,7 @@ all_have (m ∷ methods) h = All-cons HasCode m methods h.0 (all_have methods h.
 
 record Stands (c : ClassStructure) (class : Class) : Type 0 where
   pub read : CanBeRead c
-  pub is : IsClass c class
+  pub is : IsProfileClass c class
 
 abbrev AreStanding : List ClassStructure → List Class → Type 0
 AreStanding [] [] = ⊤
