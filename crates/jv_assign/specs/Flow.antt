@@ -9,9 +9,9 @@ use Rattle.jv_text.specs.declared.descriptor.FieldTypeOf.{FieldTypeOf}
 use Rattle.jv_text.specs.Descriptor.{base_letter}
 use Rattle.jv_frames.specs.declared.verification.VerificationTypeOf.TheVariants as types
 use Rattle.jv_frames.specs.Types.{FrameType}
-use Rattle.jv_loader.specs.World.{Loaded, World, class_named}
-use Rattle.jv_loader.specs.Above.{superclasses}
-use Rattle.jv_loader.specs.Verdicts.{is_interface, is_loadable}
+use Rattle.jv_loader_world.specs.World.{Loaded, World, class_named}
+use Rattle.jv_loader_world.specs.Above.{superclasses}
+use Rattle.jv_loader_world.specs.Verdicts.{is_interface, is_loadable}
 
 -- ---- classes, by their names
 

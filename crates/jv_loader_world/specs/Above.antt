@@ -3,7 +3,7 @@ use Rattle.std.specs.Prelude.{ℕ, zero, suc, Bool, List, [], ◌∷◌, ◌++�
 use Rattle.std.specs.List.{filter_map, flat_map, list_any}
 use Rattle.std.specs.Str.{bytes_eq}
 use Rattle.jv_class.specs.Class.{Class}
-use Rattle.jv_loader.specs.World.{Loaded, World, class_named}
+use Rattle.jv_loader_world.specs.World.{Loaded, World, class_named}
 
 -- the names of the direct supers: the superclass, and the superinterfaces in the order of the file
 abbrev pub superclass_names : Option (List ℕ) → List (List ℕ)

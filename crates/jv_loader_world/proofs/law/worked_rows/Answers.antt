@@ -1,5 +1,5 @@
 use Rattle.std.proofs.Common.{refl}
-use Rattle.jv_loader.proofs.law.worked_rows.Goals as goal
+use Rattle.jv_loader_world.proofs.law.worked_rows.Goals as goal
 
 pub returns : goal.returns
 returns c = record {

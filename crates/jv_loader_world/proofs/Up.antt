@@ -11,9 +11,9 @@ use Rattle.std.proofs.lemmas.Map.Keys.{IsDistinct-cons}
 use Rattle.std.proofs.lemmas.Map.Made.{length-le_from_is_member}
 use Rattle.std.proofs.lemmas.Slice.Eq.{bytes_eq-Decides}
 use Rattle.jv_class.specs.Class.{Class}
-use Rattle.jv_loader.specs.World.{Loaded, World, class_named}
-use Rattle.jv_loader.specs.Above.{super_names, supers_in, above_within}
-use Rattle.jv_loader.specs.Laws.{IsWayUp, AboveByWays, AboveIsTransitive}
+use Rattle.jv_loader_world.specs.World.{Loaded, World, class_named}
+use Rattle.jv_loader_world.specs.Above.{super_names, supers_in, above_within}
+use Rattle.jv_loader_world.specs.Laws.{IsWayUp, AboveByWays, AboveIsTransitive}
 
 -- ---- elements
 

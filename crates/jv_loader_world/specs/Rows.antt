@@ -6,10 +6,10 @@ use Rattle.jv_loader_files.specs.FileContent.{FileContent}
 use Rattle.jv_loader_files.specs.declared.content.Content.TheVariants.{OtherVersion, NoClassFile, MoreThanProfile, Holds}
 use Rattle.std.specs.Prelude.{map}
 use Rattle.std.specs.Option.{option_map, option_and_then}
-use Rattle.jv_loader.specs.World.{World, world_of, class_named}
-use Rattle.jv_loader.specs.LookUps.{lookup_field, lookup_method, superinterfaces}
-use Rattle.jv_loader.specs.Verdicts.{LoadVerdict, load_verdict}
-use Rattle.jv_loader.specs.Verdicts.LoadVerdict.{Version, Format, Unsupported, Reserved, Duplicate, Circular, NoSuper, WrongKind, NoAccess, FinalBroken}
+use Rattle.jv_loader_world.specs.World.{World, world_of, class_named}
+use Rattle.jv_loader_world.specs.LookUps.{lookup_field, lookup_method, superinterfaces}
+use Rattle.jv_loader_world.specs.Verdicts.{LoadVerdict, load_verdict}
+use Rattle.jv_loader_world.specs.Verdicts.LoadVerdict.{Version, Format, Unsupported, Reserved, Duplicate, Circular, NoSuper, WrongKind, NoAccess, FinalBroken}
 
 -- ---- classes
 

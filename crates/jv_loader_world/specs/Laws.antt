@@ -2,9 +2,9 @@
 use Rattle.std.specs.Prelude.{◌↔◌, Bool, true, not, ◌&&◌, ◌||◌, List, [], ◌∷◌, IsTrue}
 use Rattle.std.specs.List.{Contains}
 use Rattle.jv_class.specs.Class.{Class}
-use Rattle.jv_loader.specs.World.{Loaded, World}
-use Rattle.jv_loader.specs.Above.{supers_in, above, is_circular}
-use Rattle.jv_loader.specs.Verdicts.{each_super, have_right_kind, can_name_supers, is_loadable}
+use Rattle.jv_loader_world.specs.World.{Loaded, World}
+use Rattle.jv_loader_world.specs.Above.{supers_in, above, is_circular}
+use Rattle.jv_loader_world.specs.Verdicts.{each_super, have_right_kind, can_name_supers, is_loadable}
 
 -- a way up: each class on it is a direct super of the one before
 abbrev pub IsWayUp : World → Class → List Loaded → Loaded → Type 0

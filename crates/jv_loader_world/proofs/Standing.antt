@@ -10,11 +10,11 @@ use Rattle.std.proofs.lemmas.List.{length-map}
 use Rattle.std.proofs.lemmas.List.Elements.{Contains-append_cases}
 use Rattle.std.proofs.lemmas.Map.Made.{length-le_from_is_member}
 use Rattle.jv_class.specs.Class.{Class}
-use Rattle.jv_loader.specs.World.{Loaded, World, class_named}
-use Rattle.jv_loader.specs.Above.{super_names, supers_in, above, is_circular}
-use Rattle.jv_loader.specs.Verdicts.{passes, each_super, have_right_kind, can_name_supers, is_loadable_within, is_loadable}
-use Rattle.jv_loader.specs.Laws.{IsWayUp, stands_itself, SystemStandsAlone, LoadableByAll}
-use Rattle.jv_loader.proofs.Up.{none, single, first, later, same_name, super_is_named, name_of, names_of, named_is_member, named_stands, NoTwo, IsFresh, distinct, above_by_ways, above_is_transitive, found_super}
+use Rattle.jv_loader_world.specs.World.{Loaded, World, class_named}
+use Rattle.jv_loader_world.specs.Above.{super_names, supers_in, above, is_circular}
+use Rattle.jv_loader_world.specs.Verdicts.{passes, each_super, have_right_kind, can_name_supers, is_loadable_within, is_loadable}
+use Rattle.jv_loader_world.specs.Laws.{IsWayUp, stands_itself, SystemStandsAlone, LoadableByAll}
+use Rattle.jv_loader_world.proofs.Up.{none, single, first, later, same_name, super_is_named, name_of, names_of, named_is_member, named_stands, NoTwo, IsFresh, distinct, above_by_ways, above_is_transitive, found_super}
 
 -- ---- tests
 

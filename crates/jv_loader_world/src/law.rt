@@ -1,7 +1,7 @@
 //! Laws of a guest's classes.
 
-ghost use Rattle.jv_loader.specs.Laws.{AboveByWays, AboveIsTransitive, LoadableByAll};
-ghost use Rattle.jv_loader.specs.Rows.{WorkedRows};
+ghost use Rattle.jv_loader_world.specs.Laws.{AboveByWays, AboveIsTransitive, LoadableByAll};
+ghost use Rattle.jv_loader_world.specs.Rows.{WorkedRows};
 
 /// Worked rows of what is wrong with a guest's files, computed.
 pub fn worked_rows()

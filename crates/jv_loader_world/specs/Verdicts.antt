@@ -6,9 +6,9 @@ use Rattle.jv_class_parts.specs.Flags.{has, acc_final, acc_interface}
 use Rattle.jv_class.specs.Class.{Class, Method}
 use Rattle.jv_loader_files.specs.FileContent.{FileContent}
 use Rattle.jv_loader_files.specs.declared.content.Content.TheVariants.{OtherVersion, NoClassFile, MoreThanProfile, Holds}
-use Rattle.jv_loader.specs.World.{Loaded, World, class_named, is_reserved, has_class, classes_in, loaded, world_of, can_name}
-use Rattle.jv_loader.specs.Above.{super_names, superclass_in, superclasses, is_circular}
-use Rattle.jv_loader.specs.Overriding.{Declared, is_instance, overriding}
+use Rattle.jv_loader_world.specs.World.{Loaded, World, class_named, is_reserved, has_class, classes_in, loaded, world_of, can_name}
+use Rattle.jv_loader_world.specs.Above.{super_names, superclass_in, superclasses, is_circular}
+use Rattle.jv_loader_world.specs.Overriding.{Declared, is_instance, overriding}
 
 pub data LoadVerdict : Type 0 where
   Version : LoadVerdict

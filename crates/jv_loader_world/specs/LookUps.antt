@@ -5,10 +5,10 @@ use Rattle.std.specs.Option.{option_map}
 use Rattle.std.specs.Str.{bytes_eq}
 use Rattle.jv_class_parts.specs.Flags.{has, acc_public, acc_private, acc_static, acc_abstract}
 use Rattle.jv_class.specs.Class.{Class, Field, field_named, method_named}
-use Rattle.jv_loader.specs.World.{Loaded, World, class_named}
-use Rattle.jv_loader.specs.Above.{superclass_names, superclasses, is_above}
-use Rattle.jv_loader.specs.Overriding.{Declared}
-use Rattle.jv_loader.specs.Verdicts.{is_interface, declared_by}
+use Rattle.jv_loader_world.specs.World.{Loaded, World, class_named}
+use Rattle.jv_loader_world.specs.Above.{superclass_names, superclasses, is_above}
+use Rattle.jv_loader_world.specs.Overriding.{Declared}
+use Rattle.jv_loader_world.specs.Verdicts.{is_interface, declared_by}
 
 -- ---- the order of a search: a class, what its own superinterfaces lead to, and what its superclass leads to. A class that
 -- the search has begun before is passed over.

@@ -1,0 +1,6 @@
+//! A guest's classes (JVMS 5.3): definitions of their world, and laws. A private part of `jv_loader`.
+#![tactic(auto)]
+
+mod law;
+
+pub use law::{above_by_ways, above_is_transitive, loadable_by_all, worked_rows};
