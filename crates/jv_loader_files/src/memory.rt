@@ -2,7 +2,7 @@
 
 ghost use Rattle.std.specs.Prelude.{◌≡◌};
 
-use std::alloc::AllocFailed;
+use std::alloc::{AllocError, AllocFailed};
 use std::fmt;
 
 /// The host had no memory for what was asked.
@@ -17,6 +17,12 @@ impl fmt::Display for Memory {
 
 impl<T: Drop> From<AllocFailed<T>> for Memory {
     fn from(_e: AllocFailed<T>) -> Memory {
+        Memory
+    }
+}
+
+impl From<AllocError> for Memory {
+    fn from(_e: AllocError) -> Memory {
         Memory
     }
 }

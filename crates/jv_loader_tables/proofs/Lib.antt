@@ -1,3 +1,4 @@
-mod Rows
-mod Ways
-mod NamesIn
+pub mod Rows
+pub mod Ways
+pub mod NamesIn
+pub mod Each

@@ -37,7 +37,7 @@ not_past xs n h = elim (nat_lt n (length xs)) as (λ t. nat_lt n (length xs) ≡
     clash : false ≡ true → ⊥
     clash e = cc
 
-to_below : (rows : Rows) (from to : ℕ) → IsSquare rows → IsTrue (related rows from to) → to < length rows
+pub to_below : (rows : Rows) (from to : ℕ) → IsSquare rows → IsTrue (related rows from to) → to < length rows
 to_below rows from to square h = elim (nat_lt from (length rows)) as (λ t. nat_lt from (length rows) ≡ t → to < length rows) [
   | true ↦ λ e.
       let size = square from [] (ltb-true from (length rows) e) in
@@ -156,23 +156,23 @@ distinct (x ∷ xs) h = IsDistinct-cons nat_eq x xs h.0 (distinct xs h.1)
 record Short (rows : Rows) (from to : ℕ) : Type 0 where
   between : List ℕ
   way : IsWay rows from between to
-  once : NoTwo between
+  once : NoTwo (to ∷ between)
 
 record ShortFresh (rows : Rows) (from to : ℕ) : Type 0 where
   between : List ℕ
   way : IsWay rows from between to
-  once : NoTwo between
+  once : NoTwo (to ∷ between)
   fresh : IsFresh from between
 
 -- a number is not on a way, or a way goes on from it
-on_way : (rows : Rows) (n from to : ℕ) (xs : List ℕ) → IsWay rows from xs to → NoTwo xs → IsFresh n xs ⊎ ShortFresh rows n to
+on_way : (rows : Rows) (n from to : ℕ) (xs : List ℕ) → IsWay rows from xs to → NoTwo (to ∷ xs) → IsFresh n xs ⊎ ShortFresh rows n to
 on_way rows n from to [] way once = inl search
 on_way rows n from to (x ∷ xs) way once =
     elim (nat_eq n x) as (λ t. nat_eq n x ≡ t → IsFresh n (x ∷ xs) ⊎ ShortFresh rows n to) [
       | true ↦ λ e.
           let is : n ≡ x = eqb-true n x e in
-          inr (record { between = xs; way = subst (λ m. IsWay rows m xs to) (sym is) way.1; once = once.1; fresh = subst (λ m. IsFresh m xs) (sym is) once.0 })
-      | false ↦ λ e. later e (on_way rows n x to xs way.1 once.1)
+          inr (record { between = xs; way = subst (λ m. IsWay rows m xs to) (sym is) way.1; once = (once.0.1, once.1.1); fresh = subst (λ m. IsFresh m xs) (sym is) once.1.0 })
+      | false ↦ λ e. later e (on_way rows n x to xs way.1 (once.0.1, once.1.1))
     ] refl
   where
     later : nat_eq n x ≡ false → IsFresh n xs ⊎ ShortFresh rows n to → IsFresh n (x ∷ xs) ⊎ ShortFresh rows n to
@@ -180,15 +180,22 @@ on_way rows n from to (x ∷ xs) way once =
     later e (inr short) = inr short
 
 cut : (rows : Rows) (from x to : ℕ) → IsTrue (related rows from x) → Short rows x to → Short rows from to
-cut rows from x to step short = by_way (on_way rows x x to short.between short.way short.once)
+cut rows from x to step short = elim (nat_eq to x) as (λ t. nat_eq to x ≡ t → Short rows from to) [
+  | true ↦ λ e. record { between = []; way = subst (λ m. IsTrue (related rows from m)) (sym (eqb-true to x e)) step; once = (search, search) }
+  | false ↦ λ e. by_way e (on_way rows x x to short.between short.way short.once)
+] refl
   where
-    by_way : IsFresh x short.between ⊎ ShortFresh rows x to → Short rows from to
-    by_way (inl fresh) = record { between = x ∷ short.between; way = (step, short.way); once = (fresh, short.once) }
-    by_way (inr on) = record { between = x ∷ on.between; way = (step, on.way); once = (on.fresh, on.once) }
+    by_way : nat_eq to x ≡ false → IsFresh x short.between ⊎ ShortFresh rows x to → Short rows from to
+    by_way e (inl fresh) = record { between = x ∷ short.between; way = (step, short.way); once = ((e, short.once.0), (fresh, short.once.1)) }
+    by_way e (inr on) = record { between = x ∷ on.between; way = (step, on.way); once = ((e, on.once.0), (on.fresh, on.once.1)) }
 
 shortened : (rows : Rows) (from to : ℕ) (xs : List ℕ) → IsWay rows from xs to → Short rows from to
-shortened rows from to [] way = record { between = []; way = way; once = search }
+shortened rows from to [] way = record { between = []; way = way; once = (search, search) }
 shortened rows from to (x ∷ xs) way = cut rows from x to way.0 (shortened rows x to xs way.1)
+
+end_below : (rows : Rows) (from to : ℕ) (xs : List ℕ) → IsSquare rows → IsWay rows from xs to → to < length rows
+end_below rows from to [] square way = to_below rows from to square way
+end_below rows from to (x ∷ xs) square way = end_below rows x to xs square way.1
 
 all_below : (rows : Rows) (from to : ℕ) (xs : List ℕ) → IsSquare rows → IsWay rows from xs to → (q : ℕ) → list_any (nat_eq q) xs ≡ true → q < length rows
 all_below rows from to [] square way q h = absurd cc
@@ -201,4 +208,13 @@ all_below rows from to (x ∷ xs) square way q h =
 pub short_ways : ShortWays
 short_ways rows from to square way =
     let short = shortened rows from to way.0 way.1 in
-    (short.between, short.way, length-le_from_distinct_below short.between (length rows) (distinct short.between short.once) (all_below rows from to short.between square short.way))
+    let few = length-le_from_distinct_below (to ∷ short.between) (length rows) (distinct (to ∷ short.between) short.once) below in
+    (short.between, short.way, omega (arith, few))
+  where
+    below : (q : ℕ) → list_any (nat_eq q) (to ∷ (shortened rows from to way.0 way.1).between) ≡ true → q < length rows
+    below q h =
+        let short = shortened rows from to way.0 way.1 in
+        elim (nat_eq q to) as (λ t. nat_eq q to ≡ t → (t || list_any (nat_eq q) short.between) ≡ true → q < length rows) [
+          | true ↦ λ e _. subst (λ n. n < length rows) (sym (eqb-true q to e)) (end_below rows from to short.between square short.way)
+          | false ↦ λ e g. all_below rows from to short.between square short.way q g
+        ] refl h

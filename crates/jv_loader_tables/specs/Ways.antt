@@ -1,5 +1,5 @@
 -- Relations on the numbers below some number, and the ways along them.
-use Rattle.std.specs.Prelude.{◌≡◌, ℕ, ◌≤◌, Bool, true, false, List, [], ◌∷◌, length, get_or, set, replicate, IsTrue}
+use Rattle.std.specs.Prelude.{◌≡◌, ℕ, Bool, true, false, List, [], ◌∷◌, length, get_or, set, replicate, nat_eq, Option, Some, None, IfSome, IsTrue, ◌<◌}
 use Rattle.std.specs.List.{All}
 
 -- for each number, from 0, a row that tells of each whether it is related to it
@@ -21,6 +21,14 @@ empty size = replicate size (replicate size false)
 abbrev pub with_pair : Rows → ℕ → ℕ → Rows
 with_pair rows from to = set rows from (set (get_or rows from []) to true)
 
+-- a number that is there is below a size
+abbrev pub IsBelow : ℕ → Option ℕ → Type 0
+IsBelow size place = IfSome place (λ n. n < size)
+
+abbrev pub is_there : ℕ → Option ℕ → Bool
+is_there number None = false
+is_there number (Some n) = nat_eq number n
+
 -- a way from one number to another, with those between
 abbrev pub IsWay : Rows → ℕ → List ℕ → ℕ → Type 0
 IsWay rows from [] to = IsTrue (related rows from to)
@@ -30,8 +38,8 @@ IsWay rows from (by ∷ more) to = IsTrue (related rows from by) × IsWay rows b
 abbrev pub Reaches : Rows → ℕ → ℕ → Type 0
 Reaches rows from to = (between : List ℕ) × IsWay rows from between to
 
--- A law: of what is reached there is a way with at most as many between as there are numbers.
+-- A law: of what is reached there is a way with fewer between than there are numbers.
 abbrev pub ShortWays : Type 0
 ShortWays =
     (rows : Rows) (from to : ℕ) → IsSquare rows → Reaches rows from to
-    → (between : List ℕ) × IsWay rows from between to × (length between ≤ length rows)
+    → (between : List ℕ) × IsWay rows from between to × (length between < length rows)

@@ -2,7 +2,7 @@
 
 ghost use Rattle.jv_loader_tables.specs.Ways.{ShortWays};
 
-/// What is reached at all is reached by way of at most as many numbers as there are.
+/// What is reached at all is reached by way of fewer numbers than there are.
 pub fn short_ways()
     ensures { ShortWays }
 {}

@@ -11,7 +11,6 @@ use std::marker::Model;
 
 /// Names, no two equal; each has the number of those that came before it. A look-up costs one hash
 /// of the name, however many there are.
-#[derive(Drop)]
 pub struct Names<'a> {
     names: IndexSet<&'a [u8], RandomState>,
 }
@@ -23,6 +22,12 @@ impl<'a> Model for Names<'a> {
     ghost Value = { List (List ℕ) };
 
     ghost view = { λ n. texts_of n.names.keys };
+}
+
+impl Drop for Names<'_> {
+    fn drop(self) {
+        let Names { names: _ } = self;
+    }
 }
 
 impl<'a> Names<'a> {

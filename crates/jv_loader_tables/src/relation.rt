@@ -1,15 +1,14 @@
 //! A relation as a table.
 
-ghost use Rattle.std.specs.Prelude.{◌≡◌, ◌↔◌, ◌<◌, ◌||◌, ◌&&◌, ℕ, false, IsTrue, IfOk, OnOk, OnErr, length, get_or};
-ghost use Rattle.std.specs.List.{All};
-ghost use Rattle.jv_loader_tables.specs.Ways.{Rows, related, with_pair, empty, IsSquare, Reaches};
+ghost use Rattle.std.specs.Prelude.{◌≡◌, ◌↔◌, ◌<◌, ◌||◌, ◌&&◌, ℕ, false, IsTrue, IfOk, OnOk, OnErr, length, get_or, nat_eq};
+ghost use Rattle.std.specs.List.{All, list_any};
+ghost use Rattle.jv_loader_tables.specs.Ways.{Rows, related, with_pair, empty, IsSquare, Reaches, IsBelow, is_there};
 ghost use Rattle.jv_loader_tables.specs.Inside.Steps.{rows_of};
 
 use std::alloc::{AllocError, Global};
 use std::marker::Model;
 
 /// A relation on the numbers below its size.
-#[derive(Drop)]
 pub struct Relation {
     rows: Vec<Vec<bool>>,
 }
@@ -23,6 +22,12 @@ impl Model for Relation {
     ghost view = { λ r. rows_of r.rows.items };
 
     ghost invariant = { λ r. IsSquare (rows_of r.rows.items) };
+}
+
+impl Drop for Relation {
+    fn drop(self) {
+        let Relation { rows: _ } = self;
+    }
 }
 
 /// Also true where the other row is.
@@ -76,6 +81,19 @@ fn close_rows(rows: &mut [Vec<bool>], other: &mut [bool])
     }
 }
 
+/// Whether the marks are true where the row is.
+fn is_within(row: &[bool], marks: &[bool]) -> bool
+    requires { length row.now ≡ length marks.now }
+    ensures { IsTrue result ↔ ((to : ℕ) → IsTrue (get_or row.now to false) → IsTrue (get_or marks.now to false)) }
+{
+    for to in 0..row.len() {
+        if row[to] && !marks[to] {
+            return false;
+        }
+    }
+    true
+}
+
 impl Relation {
     /// No number is related to one.
     ///
@@ -109,6 +127,38 @@ impl Relation {
         self.rows[from][to] = true;
     }
 
+    /// Each row is as long as there are rows. The call does nothing.
+    pub fn is_square(&self)
+        ensures { IsSquare self.now }
+    {
+        let _rows = &self.rows;
+    }
+
+    /// Relates a number to one, where that is there.
+    pub fn relate_if(&mut self, from: usize, to: Option<usize>)
+        requires from { from < length self.now }
+        requires to { IsBelow (length self.now) to }
+        ensures size { length self.new ≡ length self.old }
+        ensures related { (a b : ℕ) → related self.new a b ≡ (related self.old a b || (nat_eq a from && is_there b to)) }
+    {
+        self.is_square();
+        if let Some(number) = to {
+            self.relate(from, number);
+        }
+    }
+
+    /// Relates a number to each that is there.
+    pub fn relate_each(&mut self, from: usize, to: &[Option<usize>])
+        requires from { from < length self.now }
+        requires to { All (IsBelow (length self.now)) to.now }
+        ensures size { length self.new ≡ length self.old }
+        ensures related { (a b : ℕ) → related self.new a b ≡ (related self.old a b || (nat_eq a from && list_any (is_there b) to.now)) }
+    {
+        for number in to {
+            self.relate_if(from, *number);
+        }
+    }
+
     /// Whether a number is related to one.
     pub fn holds(&self, from: usize, to: usize) -> bool
         requires from { from < length self.now }
@@ -116,6 +166,15 @@ impl Relation {
         ensures { result ≡ related self.now from to }
     {
         self.rows[from][to]
+    }
+
+    /// Whether a number is related to marked ones alone.
+    pub fn has_only(&self, from: usize, marks: &[bool]) -> bool
+        requires from { from < length self.now }
+        requires marks { length marks.now ≡ length self.now }
+        ensures { IsTrue result ↔ ((to : ℕ) → IsTrue (related self.now from to) → IsTrue (get_or marks.now to false)) }
+    {
+        is_within(&self.rows[from], marks)
     }
 
     /// Relates each number to all that it reaches in one step or more.

@@ -1,2 +1,2 @@
-mod Up
-mod Standing
+pub mod Up
+pub mod Standing

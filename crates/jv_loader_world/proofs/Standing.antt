@@ -160,7 +160,7 @@ direct world class s h = (above_by_ways world class s).1 ([], h)
 all_above : (world : World) (l s : Loaded) → AllStand world l → Contains (supers_in world l.class) s → AllStand world s
 all_above world l s all h = (all.1 s (direct world l.class s h), λ to k. all.1 to (above_is_transitive world l.class s to (direct world l.class s h) k))
 
-named_super : (world : World) (names : List (List ℕ)) (name : List ℕ) (s : Loaded) → Contains names name → class_named world name ≡ Some s → Contains (filter_map (class_named world) names) s
+pub named_super : (world : World) (names : List (List ℕ)) (name : List ℕ) (s : Loaded) → Contains names name → class_named world name ≡ Some s → Contains (filter_map (class_named world) names) s
 named_super world [] name s h e = absurd (none name h)
 named_super world (n ∷ names) name s h e = by_part (λ k. named_super world names name s k e) (Contains-append_cases (n ∷ []) names name h)
   where

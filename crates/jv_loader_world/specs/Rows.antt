@@ -8,8 +8,9 @@ use Rattle.std.specs.Prelude.{map}
 use Rattle.std.specs.Option.{option_map, option_and_then}
 use Rattle.jv_loader_world.specs.World.{World, world_of, class_named}
 use Rattle.jv_loader_world.specs.LookUps.{lookup_field, lookup_method, superinterfaces}
-use Rattle.jv_loader_world.specs.Verdicts.{LoadVerdict, load_verdict}
-use Rattle.jv_loader_world.specs.Verdicts.LoadVerdict.{Version, Format, Unsupported, Reserved, Duplicate, Circular, NoSuper, WrongKind, NoAccess, FinalBroken}
+use Rattle.jv_loader_world.specs.Verdicts.{load_verdict}
+use Rattle.jv_loader_world.specs.declared.verdict.LoadVerdict.{LoadVerdict}
+use Rattle.jv_loader_world.specs.declared.verdict.LoadVerdict.TheVariants.{Version, Format, Unsupported, Reserved, Duplicate, Circular, NoSuper, WrongKind, NoAccess, FinalBroken}
 
 -- ---- classes
 

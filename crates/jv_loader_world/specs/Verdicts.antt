@@ -6,21 +6,11 @@ use Rattle.jv_class_parts.specs.Flags.{has, acc_final, acc_interface}
 use Rattle.jv_class.specs.Class.{Class, Method}
 use Rattle.jv_loader_files.specs.FileContent.{FileContent}
 use Rattle.jv_loader_files.specs.declared.content.Content.TheVariants.{OtherVersion, NoClassFile, MoreThanProfile, Holds}
+use Rattle.jv_loader_world.specs.declared.verdict.LoadVerdict.{LoadVerdict}
+use Rattle.jv_loader_world.specs.declared.verdict.LoadVerdict.TheVariants.{Version, Format, Unsupported, Reserved, Duplicate, Circular, NoSuper, WrongKind, NoAccess, FinalBroken}
 use Rattle.jv_loader_world.specs.World.{Loaded, World, class_named, is_reserved, has_class, classes_in, loaded, world_of, can_name}
 use Rattle.jv_loader_world.specs.Above.{super_names, superclass_in, superclasses, is_circular}
 use Rattle.jv_loader_world.specs.Overriding.{Declared, is_instance, overriding}
-
-pub data LoadVerdict : Type 0 where
-  Version : LoadVerdict
-  Format : LoadVerdict
-  Unsupported : LoadVerdict
-  Reserved : LoadVerdict
-  Duplicate : LoadVerdict
-  Circular : LoadVerdict
-  NoSuper : LoadVerdict
-  WrongKind : LoadVerdict
-  NoAccess : LoadVerdict
-  FinalBroken : LoadVerdict
 
 -- ---- supers
 

@@ -2,5 +2,7 @@
 #![tactic(auto)]
 
 mod law;
+mod verdict;
 
 pub use law::{above_by_ways, above_is_transitive, loadable_by_all, worked_rows};
+pub use verdict::LoadVerdict;
