@@ -1,0 +1,6 @@
+mod Places
+mod Loaded
+mod Adding
+mod AllFound
+mod Unlike
+mod OfFile

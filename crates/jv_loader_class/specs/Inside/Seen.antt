@@ -1,0 +1,32 @@
+-- A field or a method as it is kept.
+use Rattle.std.specs.Prelude.{ℕ, Bool, ◌&&◌, List}
+use Rattle.std.specs.Borrow.{Bor}
+use Rattle.std.specs.Str.{bytes_eq}
+use Rattle.jv_class.specs.Class.{Field, Method}
+use Rattle.jv_loader_class.specs.declared.member.Member.{Member}
+
+-- a field or a method, as far as it is kept
+pub record MemberSeen : Type 0 where
+  pub access_flags : ℕ
+  pub name : List ℕ
+  pub descriptor : List ℕ
+
+abbrev pub member_made : ℕ → List ℕ → List ℕ → MemberSeen
+member_made access_flags name descriptor = record { access_flags = access_flags; name = name; descriptor = descriptor }
+
+abbrev pub member_seen : Member → MemberSeen
+member_seen m = member_made m.access_flags m.name.now m.descriptor.now
+
+abbrev pub field_seen : Field → MemberSeen
+field_seen f = member_made f.access_flags f.name f.descriptor
+
+abbrev pub method_seen : Method → MemberSeen
+method_seen m = member_made m.access_flags m.name m.descriptor
+
+-- an entry of the table of members: name and descriptor, and flags
+abbrev pub entry_seen : (Bor (List ℕ) × Bor (List ℕ)) × ℕ → MemberSeen
+entry_seen e = member_made e.1 e.0.0.now e.0.1.now
+
+-- the member has this name and this descriptor
+abbrev pub declares : List ℕ → List ℕ → MemberSeen → Bool
+declares name descriptor m = bytes_eq m.name name && bytes_eq m.descriptor descriptor
