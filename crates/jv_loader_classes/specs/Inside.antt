@@ -1,0 +1,5 @@
+pub mod Direct
+pub mod Listed
+pub mod Tests
+pub mod Rows
+pub mod Told
