@@ -1,0 +1,22 @@
+use Rattle.std.proofs.Common.{◌≤◌, length, ap, ◌∙◌, subst, arith}
+use Rattle.std.proofs.lemmas.List.{take_all}
+use Rattle.jv_loader_world.specs.World.{package_of}
+use Rattle.jv_loader_finals.specs.Inside.Numbers.{AreTheirs}
+use Rattle.jv_loader_finals.proofs.Numbering.{numbered_step, all_numbered}
+use Rattle.jv_loader_finals.proofs.packages.package_numbers.Goals as goal
+
+pub loop-class-preserved : goal.loop-class-preserved
+loop-class-preserved c =
+    let step = numbered_step c.loop-class.names c.place_of.new.names c.package.result.now c.args.classes.now c.loop-class.class-index c.class-item.result c.loop-class.numbers.items c.push.new.self.items c.in_ok-place.place c.number.result c.by_system.result
+    c.loop-class.invariant.theirs c.loop-class.invariant.few (omega arith) c.class-item.is
+    (c.package.ensures ∙ ap package_of c.name.ensures) c.by_system.ensures c.in_ok-place.ensures.names c.in_ok-place.ensures.place c.number.ensures c.in_ok-push.ensures.items
+    in
+    record { theirs = step.0; few = step.1 }
+
+pub returns : goal.returns
+returns c =
+    let past : length c.args.classes.now ≤ c.loop-class.class-index = omega arith in
+    let whole : AreTheirs c.loop-class.names c.args.classes.now c.loop-class.numbers.items =
+    subst (λ ls. AreTheirs c.loop-class.names ls c.loop-class.numbers.items) (take_all c.loop-class.class-index c.args.classes.now past) c.loop-class.invariant.theirs
+    in
+    all_numbered c.loop-class.names c.args.classes.now c.loop-class.numbers.items whole (omega (arith, c.loop-class.invariant.few))

@@ -1,0 +1,5 @@
+pub mod Stamps
+pub mod Numbers
+pub mod Fronts
+pub mod Overridden
+pub mod Steps

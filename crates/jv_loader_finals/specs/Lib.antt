@@ -1,0 +1,4 @@
+pub mod Classes
+pub mod Packages
+pub mod Finals
+pub mod Inside
