@@ -1,0 +1,9 @@
+pub mod Classes
+pub mod Among
+pub mod Next
+pub mod Found
+pub mod Standing
+pub mod Tests
+pub mod Candidates
+pub mod Only
+pub mod Chain

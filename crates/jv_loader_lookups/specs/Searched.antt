@@ -1,0 +1,10 @@
+-- Classes of a world by their numbers.
+use Rattle.std.specs.Prelude.{ℕ, ◌<◌, List, length, slice_get}
+use Rattle.std.specs.List.{All, filter_map}
+use Rattle.jv_loader_world.specs.World.{Loaded, World}
+
+abbrev pub classes_at : World → List ℕ → List Loaded
+classes_at world numbers = filter_map (slice_get world) numbers
+
+abbrev pub AreNumbers : World → List ℕ → Type 0
+AreNumbers world numbers = All (λ k. k < length world) numbers

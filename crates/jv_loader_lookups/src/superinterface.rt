@@ -1,0 +1,187 @@
+//! Where a method is found in the superinterfaces of a class (JVMS 5.4.3.3).
+
+ghost use Rattle.std.specs.Prelude.{◌≡◌, ◌<◌, length, IfSome};
+ghost use Rattle.std.specs.List.{list_any, filter_map};
+ghost use Rattle.std.specs.Option.{option_and_then};
+ghost use Rattle.jv_loader_world.specs.LookUps.{searched_from, without_itself, first_found, only, superinterface_method};
+ghost use Rattle.jv_loader_classes.specs.Inside.Told.{IsAt};
+ghost use Rattle.jv_loader_lookups.specs.Searched.{classes_at, AreNumbers};
+ghost use Rattle.jv_loader_lookups.specs.Places.{method_at, IsMethodPlace};
+ghost use Rattle.jv_loader_lookups.specs.Inside.Members.{candidate_in, below_in, candidates_at, specific_in};
+
+use crate::declared::{declared_method, is_concrete, is_inheritable};
+use crate::place::Place;
+use jv_loader_classes::ClassTable;
+
+/// Whether a class is an interface other than that from which the search goes.
+fn is_superinterface(table: &ClassTable<'_>, from: usize, class: usize) -> bool
+    requires from { from < length table.now }
+    requires class { class < length table.now }
+    ensures { IsAt table.now from (λ l. IsAt table.now class (λ c. result ≡ without_itself l c)) }
+{
+    table.is_numbered();
+    if class == from {
+        return false;
+    }
+    table.classes()[class].is_interface()
+}
+
+/// The method of a superinterface that can be inherited.
+fn candidate(
+    table: &ClassTable<'_>,
+    from: usize,
+    class: usize,
+    name: &[u8],
+    descriptor: &[u8],
+) -> Option<Place>
+    requires from { from < length table.now }
+    requires class { class < length table.now }
+    ensures found { IsAt table.now from (λ l. IsAt table.now class (λ c. option_and_then (method_at table.now) result ≡ candidate_in name.now descriptor.now l c)) }
+    ensures place { IfSome result (IsMethodPlace table.now) }
+{
+    if !is_superinterface(table, from, class) {
+        return None;
+    }
+    let Some(place) = declared_method(table, class, name, descriptor) else {
+        return None;
+    };
+    if !is_inheritable(table, place) {
+        return None;
+    }
+    Some(place)
+}
+
+/// The first method that can be inherited.
+fn first_candidate(
+    table: &ClassTable<'_>,
+    from: usize,
+    searched: &[usize],
+    name: &[u8],
+    descriptor: &[u8],
+) -> Option<Place>
+    requires from { from < length table.now }
+    requires searched { AreNumbers table.now searched.now }
+    ensures found { IsAt table.now from (λ l. option_and_then (method_at table.now) result ≡ first_found (candidate_in name.now descriptor.now l) (classes_at table.now searched.now)) }
+    ensures place { IfSome result (IsMethodPlace table.now) }
+{
+    for class in searched {
+        if let Some(place) = candidate(table, from, *class, name, descriptor) {
+            return Some(place);
+        }
+    }
+    None
+}
+
+/// Whether another class is below a class, and has a method that can be inherited.
+fn is_below_candidate(
+    table: &ClassTable<'_>,
+    from: usize,
+    class: usize,
+    other: usize,
+    name: &[u8],
+    descriptor: &[u8],
+) -> bool
+    requires from { from < length table.now }
+    requires class { class < length table.now }
+    requires other { other < length table.now }
+    ensures { IsAt table.now from (λ l. IsAt table.now class (λ by. IsAt table.now other (λ c. result ≡ below_in table.now name.now descriptor.now l by c))) }
+{
+    table.is_numbered();
+    if other == class || !table.is_above(class, other) {
+        return false;
+    }
+    candidate(table, from, other, name, descriptor).is_some()
+}
+
+/// Whether such a method stands in a class below a class.
+fn has_below(
+    table: &ClassTable<'_>,
+    from: usize,
+    searched: &[usize],
+    class: usize,
+    name: &[u8],
+    descriptor: &[u8],
+) -> bool
+    requires from { from < length table.now }
+    requires searched { AreNumbers table.now searched.now }
+    requires class { class < length table.now }
+    ensures { IsAt table.now from (λ l. IsAt table.now class (λ by. result ≡ list_any (below_in table.now name.now descriptor.now l by) (classes_at table.now searched.now))) }
+{
+    for other in searched {
+        if is_below_candidate(table, from, class, *other, name, descriptor) {
+            return true;
+        }
+    }
+    false
+}
+
+/// The method of a superinterface that can be inherited, where it is not abstract, and none stands below it.
+fn specific(
+    table: &ClassTable<'_>,
+    from: usize,
+    searched: &[usize],
+    class: usize,
+    name: &[u8],
+    descriptor: &[u8],
+) -> Option<Place>
+    requires from { from < length table.now }
+    requires searched { AreNumbers table.now searched.now }
+    requires class { class < length table.now }
+    ensures found { IsAt table.now from (λ l. IsAt table.now class (λ c. option_and_then (method_at table.now) result ≡ specific_in table.now (candidates_at table.now searched.now name.now descriptor.now l) name.now descriptor.now l c)) }
+    ensures place { IfSome result (IsMethodPlace table.now) }
+{
+    let Some(place) = candidate(table, from, class, name, descriptor) else {
+        return None;
+    };
+    if !is_concrete(table, place) {
+        return None;
+    }
+    if has_below(table, from, searched, class, name, descriptor) {
+        return None;
+    }
+    Some(place)
+}
+
+/// The one method that is not abstract and has none below it.
+fn only_specific(
+    table: &ClassTable<'_>,
+    from: usize,
+    searched: &[usize],
+    name: &[u8],
+    descriptor: &[u8],
+) -> Option<Place>
+    requires from { from < length table.now }
+    requires searched { AreNumbers table.now searched.now }
+    ensures found { IsAt table.now from (λ l. option_and_then (method_at table.now) result ≡ only (filter_map (specific_in table.now (candidates_at table.now searched.now name.now descriptor.now l) name.now descriptor.now l) (classes_at table.now searched.now))) }
+    ensures place { IfSome result (IsMethodPlace table.now) }
+{
+    let mut found = None;
+    for class in searched {
+        if let Some(place) = specific(table, from, searched, *class, name, descriptor) {
+            if found.is_some() {
+                return None;
+            }
+            found = Some(place);
+        }
+    }
+    found
+}
+
+/// The one maximally specific method that is not abstract, else the first in order (JVMS 5.4.3.3).
+pub(crate) fn superinterface_method(
+    table: &ClassTable<'_>,
+    from: usize,
+    searched: &[usize],
+    name: &[u8],
+    descriptor: &[u8],
+) -> Option<Place>
+    requires from { from < length table.now }
+    requires searched { AreNumbers table.now searched.now }
+    ensures found { IsAt table.now from (λ l. classes_at table.now searched.now ≡ searched_from table.now l → option_and_then (method_at table.now) result ≡ superinterface_method table.now l name.now descriptor.now) }
+    ensures place { IfSome result (IsMethodPlace table.now) }
+{
+    if let Some(place) = only_specific(table, from, searched, name, descriptor) {
+        return Some(place);
+    }
+    first_candidate(table, from, searched, name, descriptor)
+}
