@@ -2,4 +2,8 @@
 #![tactic(auto)]
 
 #[cfg(test)]
+mod class;
+#[cfg(test)]
+mod load;
+#[cfg(test)]
 mod system;

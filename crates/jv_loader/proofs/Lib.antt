@@ -1,0 +1,7 @@
+pub mod Contents
+pub mod InSystem
+pub mod Putting
+pub mod Unlike
+pub mod Joining
+pub mod Whole
+pub mod Searching

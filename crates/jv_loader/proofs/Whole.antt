@@ -1,0 +1,50 @@
+-- A guest's classes, loaded.
+use Rattle.std.proofs.Common.{◌≡◌, ℕ, ◌<◌, suc, List, [], ◌∷◌, length, map, Option, Result, refl, sym, ap, ◌∙◌, subst, append-nil}
+use Rattle.std.specs.Prelude.{slice_get}
+use Rattle.std.specs.List.{All}
+use Rattle.std.proofs.lemmas.List.{length-map}
+use Rattle.jv_loader_files.specs.FileContent.{FileContent, AreContents}
+use Rattle.jv_loader_system.specs.SystemClasses.{system_classes}
+use Rattle.jv_loader_world.specs.declared.verdict.LoadVerdict.{LoadVerdict}
+use Rattle.jv_loader_world.specs.World.{World, world_of}
+use Rattle.jv_loader_world.specs.Laws.{SystemStandsAlone}
+use Rattle.jv_loader.specs.Loading.{AreLoaded}
+use Rattle.jv_loader.specs.Inside.System.{system_world}
+use Rattle.jv_loader.specs.Inside.Files.{ArePut, with_files, entries_from, verdict_of_entry, IsPlace}
+use Rattle.jv_loader.proofs.InSystem.{stands_alone}
+use Rattle.jv_loader.proofs.Joining.{world_is, verdict_is, as_many, all_places}
+
+module _ (files : List (List ℕ)) (before after : World) (entries : List (Result ℕ LoadVerdict)) (start : before ≡ system_world) (put : ArePut files before after entries) where
+  put_world : after ≡ with_files system_world put.contents
+  put_world = put.world ∙ ap (λ w. with_files w put.contents) start
+
+  whole_world : after ≡ world_of system_classes put.contents
+  whole_world = put_world ∙ world_is put.contents
+
+  whole_entries : entries ≡ entries_from system_world put.contents
+  whole_entries = put.entry ∙ ap (λ w. entries_from w put.contents) start
+
+  pub alone : SystemStandsAlone after
+  alone = subst SystemStandsAlone (sym whole_world) (stands_alone put.contents)
+
+  pub places : All (IsPlace after) entries
+  places = subst (λ es. All (IsPlace after) es) (sym whole_entries) (all_places system_world after put.contents ([], put_world ∙ sym (append-nil (with_files system_world put.contents))))
+
+  read_as_many : (bytes : List (List ℕ)) (contents : List FileContent) → AreContents bytes contents → length contents ≡ length bytes
+  read_as_many [] [] h = refl
+  read_as_many [] (f ∷ contents) h = absurd h
+  read_as_many (b ∷ bytes) [] h = absurd h
+  read_as_many (b ∷ bytes) (f ∷ contents) h = ap suc (read_as_many bytes contents h.1)
+
+  pub loaded_all : (verdicts : List (Option LoadVerdict)) → verdicts ≡ map (verdict_of_entry after) entries → AreLoaded files (record { world = after; verdicts = verdicts })
+  loaded_all verdicts e =
+      let same = read_as_many files put.contents put.read in
+      record {
+        contents = put.contents;
+        read = put.read;
+        world = whole_world;
+        count = ap length e ∙ (length-map entries (verdict_of_entry after) ∙ (ap length whole_entries ∙ (as_many system_world put.contents ∙ same)));
+        verdict = λ place less.
+            ap (λ vs. slice_get vs place) (e ∙ (ap (map (verdict_of_entry after)) whole_entries ∙ ap (λ w. map (verdict_of_entry w) (entries_from system_world put.contents)) whole_world))
+            ∙ verdict_is put.contents place (subst (λ n. place < n) (sym same) less);
+      }

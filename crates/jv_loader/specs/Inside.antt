@@ -1,0 +1,4 @@
+pub mod System
+pub mod Files
+pub mod Finals
+pub mod Searches

@@ -1,0 +1,132 @@
+//! A guest's classes, loaded.
+
+ghost use Rattle.std.specs.Prelude.{◌≡◌, ◌<◌, Some, IfOk, IfSome, length, slice_get};
+ghost use Rattle.std.specs.Option.{option_and_then};
+ghost use Rattle.jv_loader_world.specs.LookUps.{lookup_field, lookup_method};
+ghost use Rattle.jv_loader_classes.specs.Inside.Told.{IsAt};
+ghost use Rattle.jv_loader_lookups.specs.Places.{field_at, method_at, IsFieldPlace, IsMethodPlace};
+ghost use Rattle.jv_loader.specs.Loading.{AreLoaded};
+ghost use Rattle.jv_loader.specs.Inside.Files.{texts_of};
+ghost use Rattle.jv_loader.specs.Inside.Searches.{IsSearch};
+
+use crate::entry::put_files;
+use crate::searches::searches_of;
+use crate::system::system_list;
+use crate::verdicts::verdicts_of;
+use jv_loader_classes::ClassTable;
+use jv_loader_files::Memory;
+use jv_loader_lookups::{Place, lookup_field, lookup_method};
+use jv_loader_system::SystemFiles;
+use jv_loader_world::LoadVerdict;
+use std::alloc::Global;
+use std::hash::RandomState;
+use std::marker::Model;
+
+/// A guest's classes (JVMS 5.3), and what is wrong with each of its files before its methods are looked
+/// at.
+pub struct Classes<'a> {
+    table: ClassTable<'a>,
+    verdicts: Vec<Option<LoadVerdict>>,
+    searches: Vec<Vec<usize>>,
+}
+
+impl<'a> Model for Classes<'a> {
+    ghost use Rattle.jv_loader.specs.Loading.{Loading};
+
+    ghost Value = { Loading };
+
+    ghost use Rattle.jv_loader.specs.Inside.Searches.{AreSearches, lists_of};
+
+    ghost view = { λ c. record { world = c.table; verdicts = c.verdicts.items } };
+
+    ghost invariant = { λ c. AreSearches c.table (lists_of c.searches.items) };
+}
+
+impl Drop for Classes<'_> {
+    fn drop(self) {
+        let Classes {
+            table: _,
+            verdicts: _,
+            searches: _,
+        } = self;
+    }
+}
+
+impl<'a> Classes<'a> {
+    /// Reads the files of a guest, and makes the table of their classes behind the system's; names are
+    /// hashed with the state.
+    ///
+    /// # Errors
+    ///
+    /// Where the host had no memory for them; nothing is then kept.
+    pub fn load(
+        alloc: Global,
+        state: RandomState,
+        system: &'a SystemFiles,
+        files: &'a [&'a [u8]],
+    ) -> Result<Classes<'a>, Memory>
+        ensures { IfOk result (λ classes. AreLoaded (texts_of files.now) classes) }
+    {
+        let mut list = system_list(alloc, state, system)?;
+        let entries = put_files(alloc, state, &mut list, files)?;
+        let table = ClassTable::of(alloc, list)?;
+        let verdicts = verdicts_of(alloc, state, &table, &entries)?;
+        let searches = searches_of(alloc, &table)?;
+        Ok(Classes {
+            table,
+            verdicts,
+            searches,
+        })
+    }
+
+    /// The classes by number: those of the system, and those of the files in their order.
+    pub fn table(&self) -> &ClassTable<'a>
+        ensures { result.now ≡ self.now.world }
+    {
+        &self.table
+    }
+
+    /// How many files there are.
+    pub fn file_count(&self) -> usize
+        ensures { result ≡ length self.now.verdicts }
+    {
+        self.verdicts.len()
+    }
+
+    /// What is wrong with the file at a place, the first at 0, before its methods are looked at; `None`
+    /// where these decide.
+    pub fn load_verdict(&self, file: usize) -> Option<LoadVerdict>
+        requires { file < length self.now.verdicts }
+        ensures { slice_get self.now.verdicts file ≡ Some result }
+    {
+        self.verdicts[file]
+    }
+
+    /// The classes that a search for a member from a class meets, in its order.
+    fn searched(&self, class: usize) -> &[usize]
+        requires { class < length self.now.world }
+        ensures { IsSearch self.now.world class result.now }
+    {
+        &self.searches[class]
+    }
+
+    /// The field of a name and a descriptor that a search from a class finds first, without access (JVMS
+    /// 5.4.3.2). It costs one hash for each class that the search meets.
+    pub fn lookup_field(&self, class: usize, name: &[u8], descriptor: &[u8]) -> Option<Place>
+        requires { class < length self.now.world }
+        ensures found { IsAt self.now.world class (λ l. option_and_then (field_at self.now.world) result ≡ lookup_field self.now.world l name.now descriptor.now) }
+        ensures place { IfSome result (IsFieldPlace self.now.world) }
+    {
+        lookup_field(self.table(), self.searched(class), name, descriptor)
+    }
+
+    /// The method of a name and a descriptor that a class or an interface has or inherits, without access
+    /// (JVMS 5.4.3.3, 5.4.3.4).
+    pub fn lookup_method(&self, class: usize, name: &[u8], descriptor: &[u8]) -> Option<Place>
+        requires { class < length self.now.world }
+        ensures found { IsAt self.now.world class (λ l. option_and_then (method_at self.now.world) result ≡ lookup_method self.now.world l name.now descriptor.now) }
+        ensures place { IfSome result (IsMethodPlace self.now.world) }
+    {
+        lookup_method(self.table(), class, self.searched(class), name, descriptor)
+    }
+}

@@ -1,0 +1,125 @@
+//! The verdicts on a guest's files before their methods are looked at.
+
+ghost use Rattle.std.specs.Prelude.{◌≡◌, ◌<◌, [], false, IfOk, length, map};
+ghost use Rattle.jv_loader_world.specs.Above.{is_circular, superclasses};
+ghost use Rattle.jv_loader_world.specs.Verdicts.{verdict_of_class, breaks_final};
+ghost use Rattle.jv_loader_classes.specs.Inside.Told.{IsAt};
+ghost use Rattle.std.specs.List.{All};
+ghost use Rattle.jv_loader.specs.Inside.Files.{verdict_of_entry, IsPlace};
+ghost use Rattle.jv_loader.specs.Inside.Finals.{AreTold};
+
+use crate::entry::Entry;
+use jv_loader_classes::ClassTable;
+use jv_loader_finals::{Marks, breaks_final, final_declarers, package_numbers};
+use jv_loader_world::LoadVerdict;
+use std::alloc::{AllocError, Global};
+use std::hash::RandomState;
+
+/// What is known of finals and packages.
+#[derive(Drop)]
+struct Finals {
+    declarers: Vec<bool>,
+    packages: Vec<usize>,
+    marks: Marks,
+}
+
+/// What is known of the finals and the packages of a table's classes.
+fn finals_of(
+    alloc: Global,
+    state: RandomState,
+    table: &ClassTable<'_>,
+) -> Result<Finals, AllocError>
+    ensures { IfOk result (AreTold table.now) }
+{
+    let classes = table.classes();
+    let declarers = final_declarers(alloc, classes)?;
+    let packages = package_numbers(alloc, state, classes)?;
+    let marks = Marks::new(alloc, 2 * classes.len())?;
+    Ok(Finals {
+        declarers,
+        packages,
+        marks,
+    })
+}
+
+/// Whether a class that is not circular overrides a final method of a superclass (JVMS 4.10).
+fn overrides_final(
+    alloc: Global,
+    table: &ClassTable<'_>,
+    finals: &mut Finals,
+    number: usize,
+) -> Result<bool, AllocError>
+    requires number { number < length table.now }
+    requires finals { AreTold table.now finals.now }
+    requires circular { IsAt table.now number (λ l. is_circular table.now l.class ≡ false) }
+    ensures found { IfOk result (λ broken. IsAt table.now number (λ l. broken ≡ breaks_final l [] (superclasses table.now l.class))) }
+    ensures finals { AreTold table.now finals.new }
+{
+    table.is_numbered();
+    let chain = table.superclasses(alloc, number)?;
+    Ok(breaks_final(
+        table.classes(),
+        &finals.declarers,
+        &finals.packages,
+        &mut finals.marks,
+        number,
+        &chain,
+    ))
+}
+
+/// What is wrong with a class before its methods are looked at.
+fn verdict_of(
+    alloc: Global,
+    table: &ClassTable<'_>,
+    finals: &mut Finals,
+    number: usize,
+) -> Result<Option<LoadVerdict>, AllocError>
+    requires number { number < length table.now }
+    requires finals { AreTold table.now finals.now }
+    ensures verdict { IfOk result (λ verdict. IsAt table.now number (λ l. verdict ≡ verdict_of_class table.now l)) }
+    ensures finals { AreTold table.now finals.new }
+{
+    if let Some(verdict) = table.fault_of_supers(number) {
+        return Ok(Some(verdict));
+    }
+    if table.has_final_super(number) || overrides_final(alloc, table, finals, number)? {
+        return Ok(Some(LoadVerdict::FinalBroken));
+    }
+    Ok(None)
+}
+
+/// The verdict on a file, where its entry is known.
+fn verdict_of_entry(
+    alloc: Global,
+    table: &ClassTable<'_>,
+    finals: &mut Finals,
+    entry: Entry,
+) -> Result<Option<LoadVerdict>, AllocError>
+    requires place { IsPlace table.now entry }
+    requires finals { AreTold table.now finals.now }
+    ensures verdict { IfOk result (λ verdict. verdict ≡ verdict_of_entry table.now entry) }
+    ensures finals { AreTold table.now finals.new }
+{
+    match entry {
+        Ok(number) => verdict_of(alloc, table, finals, number),
+        Err(verdict) => Ok(Some(verdict)),
+    }
+}
+
+/// The verdicts on files, where their entries are known.
+pub(crate) fn verdicts_of(
+    alloc: Global,
+    state: RandomState,
+    table: &ClassTable<'_>,
+    entries: &[Entry],
+) -> Result<Vec<Option<LoadVerdict>>, AllocError>
+    requires { All (IsPlace table.now) entries.now }
+    ensures { IfOk result (λ verdicts. verdicts.items ≡ map (verdict_of_entry table.now) entries.now) }
+{
+    let mut finals = finals_of(alloc, state, table)?;
+    let mut verdicts = Vec::new(alloc);
+    for entry in entries {
+        verdicts.push(verdict_of_entry(alloc, table, &mut finals, *entry)?)?;
+    }
+    Ok(verdicts)
+}
