@@ -1,0 +1,11 @@
+mod Found
+mod Searched
+mod Resolved
+mod Run
+mod Chain
+mod Places
+mod Unchanged
+mod Finals
+mod Loading
+mod Errors
+mod OneWalk

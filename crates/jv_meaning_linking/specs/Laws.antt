@@ -1,0 +1,199 @@
+-- Laws of resolution, selection, initialization order and layouts, as the soundness of verified code needs them; and one
+-- that lets a search for what overrides keep one bit.
+use Rattle.std.specs.Prelude.{◌≡◌, ◌↔◌, ◌⊎◌, ◌≢◌, ℕ, not, IsTrue, IsFalse, List, [], Option, Some, None, Ok, Err, codes, Bool, ◌+◌, ◌&&◌, ◌||◌, ◌∷◌, map, if◌then◌else◌}
+use Rattle.std.specs.List.{Contains}
+use Rattle.std.specs.Option.{ok_or}
+use Rattle.jv_text.specs.Name.{is_init}
+use Rattle.jv_pool.specs.Constants.{MemberReference}
+use Rattle.jv_class_parts.specs.Flags.{has, acc_public, acc_private, acc_protected, acc_final, visibility_right}
+use Rattle.jv_class.specs.Class.{Method, field_named, method_named}
+use Rattle.jv_loader_world.specs.World.{Loaded, World, class_named, same_package}
+use Rattle.jv_loader_world.specs.Above.{above, is_circular, superclass_in, superclasses}
+use Rattle.jv_loader_world.specs.Overriding.{Declared, is_instance, alike_in, overriding}
+use Rattle.jv_loader_world.specs.Verdicts.{is_interface, is_loadable, breaks_final}
+use Rattle.jv_loader_world.specs.LookUps.{DeclaredField, is_concrete}
+use Rattle.jv_loader_world.specs.Laws.{SystemStandsAlone}
+use Rattle.jv_meaning_linking.specs.Uses.{Use, Site}
+use Rattle.jv_meaning_linking.specs.Uses.Use.{Invokevirtual, Invokespecial, Invokeinterface}
+use Rattle.jv_meaning_linking.specs.LinkErrors.{LinkError, ◌>>=◌}
+use Rattle.jv_meaning_linking.specs.LinkErrors.LinkError.{VerifyError, NoSuchFieldError, NoSuchMethodError}
+use Rattle.jv_meaning_linking.specs.Operands.{MethodReference}
+use Rattle.jv_meaning_linking.specs.ClassResolution.{error_of_class, resolve_text, resolve_class, member_class}
+use Rattle.jv_meaning_linking.specs.Access.{can_access}
+use Rattle.jv_meaning_linking.specs.Kind.{has_field_kind, can_use_final, has_method_kind, is_static_method}
+use Rattle.jv_meaning_linking.specs.FieldResolution.{resolve_field}
+use Rattle.jv_meaning_linking.specs.MethodResolution.{MethodTarget, is_own_init, resolve_method}
+use Rattle.jv_meaning_linking.specs.Selection.{upward, object_class, begins_above, special_start, select}
+use Rattle.jv_meaning_linking.specs.InitializationOrder.{init_order}
+use Rattle.jv_meaning_linking.specs.Layout.{layout, IsLayout, Extends}
+
+abbrev pub IsAtOrAbove : World → Loaded → Loaded → Type 0
+IsAtOrAbove world l other = (other ≡ l) ⊎ Contains (above world l.class) other
+
+abbrev pub IsObject : World → Loaded → Type 0
+IsObject world l = class_named world (codes "java/lang/Object") ≡ Some l
+
+-- ---- resolution
+
+-- A law: the classes that can be resolved are those that are loadable.
+abbrev pub LoadableResolves : Type 0
+LoadableResolves =
+    (world : World) (l : Loaded) → SystemStandsAlone world → Contains world l → (error_of_class world l ≡ None) ↔ IsTrue (is_loadable world l)
+
+-- the class that a reference to a member names, for an array java/lang/Object
+abbrev pub IsNamed : World → Loaded → MemberReference → LinkError → Loaded → Type 0
+IsNamed world current reference error named =
+    (resolve_text world current reference.class >>= (λ c. ok_or (member_class world c) error)) ≡ Ok named
+
+-- what an instruction uses is a field of the constant's name and type, which the named class or one above it declares, and
+-- which it can access, is of the kind to use, and can write
+pub record IsUsed (world : World) (site : Site) (how : Use) (reference : MemberReference) (named : Loaded) (d : DeclaredField) : Type 0 where
+  pub named_so : IsNamed world site.by reference NoSuchFieldError named
+  pub place : IsAtOrAbove world named d.by
+  pub declared : field_named d.by.class reference.name reference.descriptor ≡ Some d.field
+  pub name : d.field.name ≡ reference.name
+  pub descriptor : d.field.descriptor ≡ reference.descriptor
+  pub access : IsTrue (can_access world site.by named d.by d.field.access_flags)
+  pub kind : IsTrue (has_field_kind how d.field)
+  pub final : IsTrue (can_use_final how site d)
+
+-- A law: what `resolve_field` answers is such a field.
+abbrev pub FieldIsUsed : Type 0
+FieldIsUsed =
+    (world : World) (site : Site) (how : Use) (reference : MemberReference) (d : DeclaredField)
+    → resolve_field world site how reference ≡ Ok d → (named : Loaded) × IsUsed world site how reference named d
+
+-- what an instruction calls is a method of the constant's name and type, which the named class, one above it or
+-- java/lang/Object declares, and which it can access and is of the kind to call
+pub record IsCalled (world : World) (site : Site) (how : Use) (reference : MethodReference) (t : MethodTarget) : Type 0 where
+  pub named_so : IsNamed world site.by reference.member NoSuchMethodError t.named
+  pub place : IsAtOrAbove world t.named t.declared.by ⊎ IsObject world t.declared.by
+  pub declared : method_named t.declared.by.class reference.member.name reference.member.descriptor ≡ Some t.declared.method
+  pub name : t.declared.method.name ≡ reference.member.name
+  pub descriptor : t.declared.method.descriptor ≡ reference.member.descriptor
+  pub access : IsTrue (can_access world site.by t.named t.declared.by t.declared.method.access_flags)
+  pub constructor : IsTrue (is_own_init how t)
+  pub kind : IsTrue (has_method_kind how t.declared.method)
+
+-- A law: what `resolve_method` answers is such a method.
+abbrev pub MethodIsCalled : Type 0
+MethodIsCalled =
+    (world : World) (site : Site) (how : Use) (reference : MethodReference) (t : MethodTarget)
+    → resolve_method world site how reference ≡ Ok t → IsCalled world site how reference t
+
+-- ---- selection
+
+-- what runs in place of a method, from a class on, is an instance method of its name and type that is not abstract, and that
+-- the class, a superclass or a superinterface declares
+pub record IsRun (world : World) (l : Loaded) (called ran : Declared) : Type 0 where
+  pub place : Contains (upward world l) ran.by ⊎ (IsTrue (is_interface ran.by) × Contains (above world l.class) ran.by)
+  pub declared : method_named ran.by.class called.method.name called.method.descriptor ≡ Some ran.method
+  pub name : ran.method.name ≡ called.method.name
+  pub descriptor : ran.method.descriptor ≡ called.method.descriptor
+  pub instance : IsTrue (not (is_static_method ran.method))
+  pub concrete : IsTrue (is_concrete ran)
+
+-- A law: what `select` answers for invokevirtual and invokeinterface is such a method, from the object's class on, or for an
+-- array from java/lang/Object.
+abbrev pub SelectedIsRun : Type 0
+SelectedIsRun =
+    (world : World) (site : Site) (how : Use) (t s : MethodTarget) (object : Option Loaded) (l : Loaded)
+    → (how ≡ Invokevirtual) ⊎ (how ≡ Invokeinterface) → object_class world object ≡ Ok l
+    → select world site how t object ≡ Ok s → (s.named ≡ t.named) × IsRun world l t.declared s.declared
+
+-- A law: so is what it answers for invokespecial, `<init>` aside, from the class where the search begins, or behind an
+-- interface from java/lang/Object.
+abbrev pub SpecialIsRun : Type 0
+SpecialIsRun =
+    (world : World) (site : Site) (t s : MethodTarget) (object : Option Loaded)
+    → IsTrue (not (is_init t.declared.method.name)) → select world site Invokespecial t object ≡ Ok s
+    → (s.named ≡ t.named)
+    × (IsRun world (special_start world site.by t.named) t.declared s.declared
+    ⊎ ((root : Loaded) × IsTrue (is_interface (special_start world site.by t.named)) × IsObject world root × IsRun world root t.declared s.declared))
+
+-- A law: `<init>` runs itself.
+abbrev pub InitIsRun : Type 0
+InitIsRun =
+    (world : World) (site : Site) (t s : MethodTarget) (object : Option Loaded)
+    → IsTrue (is_init t.declared.method.name) → select world site Invokespecial t object ≡ Ok s → s ≡ t
+
+-- A law: neither resolution nor selection answers VerifyError.
+pub record NeverVerifyError : Type 0 where
+  pub class : (world : World) (site : Site) (how : Option Use) (text : List ℕ) → resolve_class world site how text ≢ Err VerifyError
+  pub field : (world : World) (site : Site) (how : Use) (reference : MemberReference) → resolve_field world site how reference ≢ Err VerifyError
+  pub method : (world : World) (site : Site) (how : Use) (reference : MethodReference) → resolve_method world site how reference ≢ Err VerifyError
+  pub selected : (world : World) (site : Site) (how : Use) (t : MethodTarget) (object : Option Loaded) → select world site how t object ≢ Err VerifyError
+
+-- ---- overriding in one walk down the classes, which keeps one bit
+
+-- every class's method can override it, where it is not private
+abbrev pub is_open : Declared → Bool
+is_open d = has d.method.access_flags (acc_public + acc_protected)
+
+-- a method overrides the first, or one that overrides it, where an open one is among these, or else in the first's package
+abbrev pub joins : Bool → Declared → Declared → Bool
+joins open_before e d = not (has d.method.access_flags acc_private) && (open_before || same_package d.by e.by)
+
+abbrev pub walked : Declared → Bool → List (Option Declared) → List Declared
+walked e open_before [] = []
+walked e open_before (None ∷ more) = walked e open_before more
+walked e open_before (Some d ∷ more) =
+    if joins open_before e d then d ∷ walked e (open_before || is_open d) more else walked e open_before more
+
+-- A law: these are what overrides a method that is not private.
+abbrev pub OverridingInOneWalk : Type 0
+OverridingInOneWalk =
+    (e : Declared) (m : Method) (ls : List Loaded) → IsTrue (not (has e.method.access_flags acc_private))
+    → overriding (e ∷ []) m ls ≡ e ∷ walked e (is_open e) (map (λ l. alike_in l m) ls)
+
+-- ---- methods that nothing overrides
+
+-- a target as resolution answers it, at or above the object's class
+pub record IsAboveObject (world : World) (l : Loaded) (d : Declared) : Type 0 where
+  pub object : class_named world l.class.name ≡ Some l
+  pub place : Contains (upward world l) d.by
+  pub declared : method_named d.by.class d.method.name d.method.descriptor ≡ Some d.method
+  pub instance : IsTrue (is_instance d.method)
+  pub concrete : IsTrue (is_concrete d)
+
+-- A law: invokevirtual of a private method runs it.
+abbrev pub PrivateIsRun : Type 0
+PrivateIsRun =
+    (world : World) (site : Site) (t : MethodTarget) (l : Loaded) → IsAboveObject world l t.declared
+    → IsTrue (visibility_right t.declared.method.access_flags) → IsTrue (has t.declared.method.access_flags acc_private)
+    → select world site Invokevirtual t (Some l) ≡ Ok t
+
+-- none of these classes has a method that overrides a final one of a superclass
+abbrev pub NoneBreaksFinal : World → List Loaded → Type 0
+NoneBreaksFinal world ls = (c : Loaded) → Contains ls c → IsFalse (breaks_final c [] (superclasses world c.class))
+
+-- A law: and so does that of a final method, where the object's class and those above it break no final method.
+abbrev pub FinalIsRun : Type 0
+FinalIsRun =
+    (world : World) (site : Site) (t : MethodTarget) (l : Loaded) → IsAboveObject world l t.declared
+    → IsTrue (has t.declared.method.access_flags acc_final) → IsFalse (is_circular world t.declared.by.class)
+    → NoneBreaksFinal world (upward world l) → select world site Invokevirtual t (Some l) ≡ Ok t
+
+-- A law: invokespecial of a method that the named class declares runs it, where it is no superclass of the current class.
+abbrev pub NamedIsRun : Type 0
+NamedIsRun =
+    (world : World) (site : Site) (t : MethodTarget) (object : Option Loaded) → t.declared.by ≡ t.named
+    → method_named t.named.class t.declared.method.name t.declared.method.descriptor ≡ Some t.declared.method
+    → IsTrue (is_instance t.declared.method) → IsTrue (is_concrete t.declared) → IsFalse (begins_above world site.by t.named)
+    → select world site Invokespecial t object ≡ Ok t
+
+-- ---- objects
+
+-- A law: the layout of a class is right.
+abbrev pub LayoutIsRight : Type 0
+LayoutIsRight = (world : World) (l : Loaded) → IsLayout world l (layout world l)
+
+-- A law: it goes on where that of the superclass ends, unless a circle is above the class.
+abbrev pub LayoutExtends : Type 0
+LayoutExtends =
+    (world : World) (l s : Loaded) → ((c : Loaded) → Contains (above world l.class) c → IsFalse (is_circular world c.class))
+    → superclass_in world l.class ≡ Some s → Extends (layout world l) (layout world s)
+
+-- A law: what is initialized before a class is above it.
+abbrev pub InitOrderIsAbove : Type 0
+InitOrderIsAbove = (world : World) (l s : Loaded) → Contains (init_order world l) s → Contains (above world l.class) s

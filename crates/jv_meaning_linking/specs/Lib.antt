@@ -1,0 +1,17 @@
+pub mod Uses
+pub mod LinkErrors
+pub mod Operands
+pub mod ClassResolution
+pub mod Access
+pub mod Kind
+pub mod FieldResolution
+pub mod MethodResolution
+pub mod Selection
+pub mod InitializationOrder
+pub mod Layout
+pub mod Samples
+pub mod ResolutionRows
+pub mod SelectionRows
+pub mod ObjectRows
+pub mod Rows
+pub mod Laws

@@ -1,0 +1,108 @@
+//! Laws of linking.
+
+ghost use Rattle.jv_meaning_linking.specs.Laws.{LoadableResolves, FieldIsUsed, MethodIsCalled, SelectedIsRun, SpecialIsRun, InitIsRun, PrivateIsRun, FinalIsRun, NamedIsRun, NeverVerifyError, LayoutIsRight, LayoutExtends, InitOrderIsAbove, OverridingInOneWalk};
+ghost use Rattle.jv_meaning_linking.specs.Rows.{WorkedRows};
+
+use jv_loader_world::{above_by_ways, above_is_transitive, loadable_by_all};
+
+/// Worked rows of linking, computed.
+pub fn worked_rows()
+    ensures { WorkedRows }
+{}
+
+/// The classes that can be resolved are those that are loadable (JVMS 5.3.5, 5.4.3.1).
+pub fn loadable_resolves()
+    ensures { LoadableResolves }
+{
+    above_by_ways();
+    above_is_transitive();
+    loadable_by_all();
+}
+
+/// The field that an instruction uses is the one that its constant names, and it can use it (JVMS 5.4.3.2, 5.4.4, 6.5).
+pub fn field_is_used()
+    ensures { FieldIsUsed }
+{
+    above_by_ways();
+    above_is_transitive();
+}
+
+/// The method that an instruction calls is the one that its constant names, and it can call it (JVMS 5.4.3.3, 5.4.3.4,
+/// 5.4.4, 6.5).
+pub fn method_is_called()
+    ensures { MethodIsCalled }
+{
+    above_by_ways();
+    above_is_transitive();
+}
+
+/// What invokevirtual and invokeinterface run is an instance method of the target's name and type, not abstract, at or above
+/// the object's class (JVMS 6.5).
+pub fn selected_is_run()
+    ensures { SelectedIsRun }
+{
+    above_by_ways();
+    above_is_transitive();
+}
+
+/// What invokespecial runs, `<init>` aside, is such a method at or above the class where it starts (JVMS 6.5).
+pub fn special_is_run()
+    ensures { SpecialIsRun }
+{
+    above_by_ways();
+    above_is_transitive();
+}
+
+/// An `<init>` that was resolved is run itself (JVMS 6.5).
+pub fn init_is_run()
+    ensures { InitIsRun }
+{}
+
+/// Neither resolution nor selection answers VerifyError (JVMS 5.4, own).
+pub fn never_verify_error()
+    ensures { NeverVerifyError }
+{}
+
+/// What overrides a method along a chain of classes is known in one walk down, which keeps one bit (JVMS 5.4.5).
+pub fn overriding_in_one_walk()
+    ensures { OverridingInOneWalk }
+{}
+
+/// invokevirtual of a private method runs it (JVMS 5.4.5, 6.5).
+pub fn private_is_run()
+    ensures { PrivateIsRun }
+{}
+
+/// invokevirtual of a final method runs it, where no final method is broken (JVMS 5.3.5, 5.4.5, 6.5).
+pub fn final_is_run()
+    ensures { FinalIsRun }
+{
+    above_by_ways();
+    above_is_transitive();
+}
+
+/// invokespecial of a method of the named class itself runs it, unless a superclass is named (JVMS 6.5).
+pub fn named_is_run()
+    ensures { NamedIsRun }
+{}
+
+/// Each field of an object has words of its own, and the object has no others (own).
+pub fn layout_is_right()
+    ensures { LayoutIsRight }
+{}
+
+/// An object has the fields of its class's superclass where an object of that has them (own).
+pub fn layout_extends()
+    ensures { LayoutExtends }
+{
+    above_by_ways();
+    above_is_transitive();
+}
+
+/// What is initialized before a class is above it (JVMS 5.5).
+pub fn init_order_is_above()
+    ensures { InitOrderIsAbove }
+{
+    above_by_ways();
+    above_is_transitive();
+}
