@@ -78,6 +78,16 @@ fn is_first_of_guest(classes: &Classes<'_>, name: &[u8]) -> bool {
                 && object < table.count()
                 && table.is_subclass(number, object)
                 && table.is_loadable(number)
+                && classes
+                    .lookup_method(
+                        number,
+                        b"equals".as_slice(),
+                        b"(Ljava/lang/Object;)Z".as_slice(),
+                    )
+                    .is_some()
+                && classes
+                    .lookup_field(number, b"x".as_slice(), b"I".as_slice())
+                    .is_none()
         }
         _ => false,
     }
