@@ -1,15 +1,14 @@
--- Laws of resolution, selection, initialization order and layouts, as the soundness of verified code needs them; and one
--- that lets a search for what overrides keep one bit.
-use Rattle.std.specs.Prelude.{◌≡◌, ◌↔◌, ◌⊎◌, ◌≢◌, ℕ, not, IsTrue, IsFalse, List, [], Option, Some, None, Ok, Err, codes, Bool, ◌+◌, ◌&&◌, ◌||◌, ◌∷◌, map, if◌then◌else◌}
+-- Laws of resolution, selection, initialization order and layouts, as the soundness of verified code needs them.
+use Rattle.std.specs.Prelude.{◌≡◌, ◌↔◌, ◌⊎◌, ◌≢◌, ℕ, not, IsTrue, IsFalse, List, [], Option, Some, None, Ok, Err, codes}
 use Rattle.std.specs.List.{Contains}
 use Rattle.std.specs.Option.{ok_or}
 use Rattle.jv_text.specs.Name.{is_init}
 use Rattle.jv_pool.specs.Constants.{MemberReference}
-use Rattle.jv_class_parts.specs.Flags.{has, acc_public, acc_private, acc_protected, acc_final, visibility_right}
-use Rattle.jv_class.specs.Class.{Method, field_named, method_named}
-use Rattle.jv_loader_world.specs.World.{Loaded, World, class_named, same_package}
+use Rattle.jv_class_parts.specs.Flags.{has, acc_private, acc_final, visibility_right}
+use Rattle.jv_class.specs.Class.{field_named, method_named}
+use Rattle.jv_loader_world.specs.World.{Loaded, World, class_named}
 use Rattle.jv_loader_world.specs.Above.{above, is_circular, superclass_in, superclasses}
-use Rattle.jv_loader_world.specs.Overriding.{Declared, is_instance, alike_in, overriding}
+use Rattle.jv_loader_world.specs.Overriding.{Declared, is_instance}
 use Rattle.jv_loader_world.specs.Verdicts.{is_interface, is_loadable, breaks_final}
 use Rattle.jv_loader_world.specs.LookUps.{DeclaredField, is_concrete}
 use Rattle.jv_loader_world.specs.Laws.{SystemStandsAlone}
@@ -123,28 +122,6 @@ pub record NeverVerifyError : Type 0 where
   pub field : (world : World) (site : Site) (how : Use) (reference : MemberReference) → resolve_field world site how reference ≢ Err VerifyError
   pub method : (world : World) (site : Site) (how : Use) (reference : MethodReference) → resolve_method world site how reference ≢ Err VerifyError
   pub selected : (world : World) (site : Site) (how : Use) (t : MethodTarget) (object : Option Loaded) → select world site how t object ≢ Err VerifyError
-
--- ---- overriding in one walk down the classes, which keeps one bit
-
--- every class's method can override it, where it is not private
-abbrev pub is_open : Declared → Bool
-is_open d = has d.method.access_flags (acc_public + acc_protected)
-
--- a method overrides the first, or one that overrides it, where an open one is among these, or else in the first's package
-abbrev pub joins : Bool → Declared → Declared → Bool
-joins open_before e d = not (has d.method.access_flags acc_private) && (open_before || same_package d.by e.by)
-
-abbrev pub walked : Declared → Bool → List (Option Declared) → List Declared
-walked e open_before [] = []
-walked e open_before (None ∷ more) = walked e open_before more
-walked e open_before (Some d ∷ more) =
-    if joins open_before e d then d ∷ walked e (open_before || is_open d) more else walked e open_before more
-
--- A law: these are what overrides a method that is not private.
-abbrev pub OverridingInOneWalk : Type 0
-OverridingInOneWalk =
-    (e : Declared) (m : Method) (ls : List Loaded) → IsTrue (not (has e.method.access_flags acc_private))
-    → overriding (e ∷ []) m ls ≡ e ∷ walked e (is_open e) (map (λ l. alike_in l m) ls)
 
 -- ---- methods that nothing overrides
 

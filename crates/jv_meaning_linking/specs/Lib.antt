@@ -15,3 +15,4 @@ pub mod SelectionRows
 pub mod ObjectRows
 pub mod Rows
 pub mod Laws
+pub mod Inside

@@ -1,6 +1,7 @@
 //! Laws of linking.
 
-ghost use Rattle.jv_meaning_linking.specs.Laws.{LoadableResolves, FieldIsUsed, MethodIsCalled, SelectedIsRun, SpecialIsRun, InitIsRun, PrivateIsRun, FinalIsRun, NamedIsRun, NeverVerifyError, LayoutIsRight, LayoutExtends, InitOrderIsAbove, OverridingInOneWalk};
+ghost use Rattle.jv_meaning_linking.specs.Laws.{LoadableResolves, FieldIsUsed, MethodIsCalled, SelectedIsRun, SpecialIsRun, InitIsRun, PrivateIsRun, FinalIsRun, NamedIsRun, NeverVerifyError, LayoutIsRight, LayoutExtends, InitOrderIsAbove};
+ghost use Rattle.jv_meaning_linking.specs.Inside.OneWalk.{OverridingInOneWalk};
 ghost use Rattle.jv_meaning_linking.specs.Rows.{WorkedRows};
 
 use jv_loader_world::{above_by_ways, above_is_transitive, loadable_by_all};
@@ -63,7 +64,8 @@ pub fn never_verify_error()
     ensures { NeverVerifyError }
 {}
 
-/// What overrides a method along a chain of classes is known in one walk down, which keeps one bit (JVMS 5.4.5).
+/// What overrides a method along a chain of classes is known in one walk down, which keeps one bit (JVMS 5.4.5): for the
+/// code that selects methods.
 pub fn overriding_in_one_walk()
     ensures { OverridingInOneWalk }
 {}
