@@ -9,3 +9,4 @@ mod Finals
 mod Loading
 mod Errors
 mod OneWalk
+mod Enumerated

@@ -1,16 +1,16 @@
 -- Laws of resolution, selection, initialization order and layouts, as the soundness of verified code needs them.
-use Rattle.std.specs.Prelude.{◌≡◌, ◌↔◌, ◌⊎◌, ◌≢◌, ℕ, not, IsTrue, IsFalse, List, [], Option, Some, None, Ok, Err, codes}
+use Rattle.std.specs.Prelude.{◌≡◌, ◌↔◌, ◌⊎◌, ◌≢◌, ⊤, ◌∷◌, ◌++◌, ℕ, not, IsTrue, IsFalse, List, [], Option, Some, None, Ok, Err, codes}
 use Rattle.std.specs.List.{Contains}
 use Rattle.std.specs.Option.{ok_or}
 use Rattle.jv_text.specs.Name.{is_init}
 use Rattle.jv_pool.specs.Constants.{MemberReference}
 use Rattle.jv_class_parts.specs.Flags.{has, acc_private, acc_final, visibility_right}
-use Rattle.jv_class.specs.Class.{field_named, method_named}
+use Rattle.jv_class.specs.Class.{Class, field_named, method_named}
 use Rattle.jv_loader_world.specs.World.{Loaded, World, class_named}
 use Rattle.jv_loader_world.specs.Above.{above, is_circular, superclass_in, superclasses}
 use Rattle.jv_loader_world.specs.Overriding.{Declared, is_instance}
 use Rattle.jv_loader_world.specs.Verdicts.{is_interface, is_loadable, breaks_final}
-use Rattle.jv_loader_world.specs.LookUps.{DeclaredField, is_concrete}
+use Rattle.jv_loader_world.specs.LookUps.{DeclaredField, is_concrete, is_among}
 use Rattle.jv_loader_world.specs.Laws.{SystemStandsAlone}
 use Rattle.jv_meaning_linking.specs.Uses.{Use, Site}
 use Rattle.jv_meaning_linking.specs.Uses.Use.{Invokevirtual, Invokespecial, Invokeinterface}
@@ -23,7 +23,7 @@ use Rattle.jv_meaning_linking.specs.Kind.{has_field_kind, can_use_final, has_met
 use Rattle.jv_meaning_linking.specs.FieldResolution.{resolve_field}
 use Rattle.jv_meaning_linking.specs.MethodResolution.{MethodTarget, is_own_init, resolve_method}
 use Rattle.jv_meaning_linking.specs.Selection.{upward, object_class, begins_above, special_start, select}
-use Rattle.jv_meaning_linking.specs.InitializationOrder.{init_order}
+use Rattle.jv_meaning_linking.specs.InitializationOrder.{interfaces_in, declares_default, init_order}
 use Rattle.jv_meaning_linking.specs.Layout.{layout, IsLayout, Extends}
 
 abbrev pub IsAtOrAbove : World → Loaded → Loaded → Type 0
@@ -171,6 +171,48 @@ LayoutExtends =
     (world : World) (l s : Loaded) → ((c : Loaded) → Contains (above world l.class) c → IsFalse (is_circular world c.class))
     → superclass_in world l.class ≡ Some s → Extends (layout world l) (layout world s)
 
--- A law: what is initialized before a class is above it.
+-- ---- what is initialized before a class
+
+-- A law: it is above the class.
 abbrev pub InitOrderIsAbove : Type 0
 InitOrderIsAbove = (world : World) (l s : Loaded) → Contains (init_order world l) s → Contains (above world l.class) s
+
+-- a way up by direct superinterfaces alone
+abbrev pub IsInterfaceWay : World → Class → List Loaded → Loaded → Type 0
+IsInterfaceWay world class [] to = Contains (interfaces_in world class) to
+IsInterfaceWay world class (by ∷ more) to = Contains (interfaces_in world class) by × IsInterfaceWay world by.class more to
+
+-- by such a way, so none that its superclass alone leads to
+abbrev pub IsOwnSuperinterface : World → Loaded → Loaded → Type 0
+IsOwnSuperinterface world l s = (between : List Loaded) × IsInterfaceWay world l.class between s
+
+abbrev pub IsBefore : World → Loaded → Loaded → Type 0
+IsBefore world l s = IsOwnSuperinterface world l s × IsTrue (declares_default s)
+
+-- of each of a list, behind those that stand before it
+abbrev pub EachBehind : (List Loaded → Loaded → Type 0) → List Loaded → List Loaded → Type 0
+EachBehind P before [] = ⊤
+EachBehind P before (l ∷ more) = P before l × EachBehind P (before ++ l ∷ []) more
+
+-- it is not given yet, and what is to be initialized before it is
+pub record IsNext (world : World) (before : List Loaded) (l : Loaded) : Type 0 where
+  pub once : IsFalse (is_among before l)
+  pub behind : (s : Loaded) → IsBefore world l s → Contains before s
+
+abbrev pub behind_superclass : Option Loaded → List Loaded → List Loaded
+behind_superclass None interfaces = interfaces
+behind_superclass (Some superclass) interfaces = superclass ∷ interfaces
+
+-- The superclass, and then exactly the superinterfaces that the class's own lead to and that declare a method which is
+-- neither abstract nor static, each once, and behind its own superinterfaces.
+pub record IsInitOrder (world : World) (l : Loaded) (order : List Loaded) : Type 0 where
+  pub interfaces : List Loaded
+  pub parts : order ≡ behind_superclass (superclass_in world l.class) interfaces
+  pub those : (s : Loaded) → Contains interfaces s ↔ IsBefore world l s
+  pub one_by_one : EachBehind (IsNext world) [] interfaces
+
+-- A law: so is the order for a class with no circle above it.
+abbrev pub InitOrderIsRight : Type 0
+InitOrderIsRight =
+    (world : World) (l : Loaded) → IsFalse (is_interface l) → ((c : Loaded) → Contains (above world l.class) c → IsFalse (is_circular world c.class))
+    → IsInitOrder world l (init_order world l)

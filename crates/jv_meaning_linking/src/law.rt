@@ -1,6 +1,6 @@
 //! Laws of linking.
 
-ghost use Rattle.jv_meaning_linking.specs.Laws.{LoadableResolves, FieldIsUsed, MethodIsCalled, SelectedIsRun, SpecialIsRun, InitIsRun, PrivateIsRun, FinalIsRun, NamedIsRun, NeverVerifyError, LayoutIsRight, LayoutExtends, InitOrderIsAbove};
+ghost use Rattle.jv_meaning_linking.specs.Laws.{LoadableResolves, FieldIsUsed, MethodIsCalled, SelectedIsRun, SpecialIsRun, InitIsRun, PrivateIsRun, FinalIsRun, NamedIsRun, NeverVerifyError, LayoutIsRight, LayoutExtends, InitOrderIsAbove, InitOrderIsRight};
 ghost use Rattle.jv_meaning_linking.specs.Inside.OneWalk.{OverridingInOneWalk};
 ghost use Rattle.jv_meaning_linking.specs.Rows.{WorkedRows};
 
@@ -104,6 +104,15 @@ pub fn layout_extends()
 /// What is initialized before a class is above it (JVMS 5.5).
 pub fn init_order_is_above()
     ensures { InitOrderIsAbove }
+{
+    above_by_ways();
+    above_is_transitive();
+}
+
+/// Before a class its superclass is initialized, and then exactly the superinterfaces with a method that is neither abstract
+/// nor static, each once and behind its own superinterfaces (JVMS 5.5).
+pub fn init_order_is_right()
+    ensures { InitOrderIsRight }
 {
     above_by_ways();
     above_is_transitive();
