@@ -53,7 +53,7 @@ module _ {X : Type 0} (test : X → Bool) where
       by_test true e = absurd (clash (in_any test xs x k e) h)
       by_test false e = e
 
-  one_passes : (xs : List X) → IsTrue (list_any test xs) → (x : X) × Contains xs x × IsTrue (test x)
+  pub one_passes : (xs : List X) → IsTrue (list_any test xs) → (x : X) × Contains xs x × IsTrue (test x)
   one_passes [] t = absurd cc
   one_passes (x ∷ xs) t = by_test (test x) refl t (λ k. one_passes xs k)
     where

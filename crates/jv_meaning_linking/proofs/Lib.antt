@@ -10,3 +10,4 @@ mod Loading
 mod Errors
 mod OneWalk
 mod Enumerated
+mod ByRule

@@ -45,7 +45,7 @@ module _ {A B : Type 0} (look : A → Option B) where
 
 -- ---- methods that override
 
-any_of_joined : (test : Declared → Bool) (ds es : List Declared) → IsTrue (list_any test ds) → IsTrue (list_any test (ds ++ es))
+pub any_of_joined : (test : Declared → Bool) (ds es : List Declared) → IsTrue (list_any test ds) → IsTrue (list_any test (ds ++ es))
 any_of_joined test [] es h = absurd cc
 any_of_joined test (d ∷ ds) es h = by_test (test d) h (λ k. any_of_joined test ds es k)
   where
@@ -54,7 +54,7 @@ any_of_joined test (d ∷ ds) es h = by_test (test d) h (λ k. any_of_joined tes
     by_test false h again = again h
 
 -- what overrides is there all along
-stays : (test : Declared → Bool) (found : List Declared) (m : Method) (ls : List Loaded) → IsTrue (list_any test found) → IsTrue (list_any test (overriding found m ls))
+pub stays : (test : Declared → Bool) (found : List Declared) (m : Method) (ls : List Loaded) → IsTrue (list_any test found) → IsTrue (list_any test (overriding found m ls))
 stays test found m [] h = h
 stays test found m (l ∷ ls) h = stays test (with_declared found (alike_in l m)) m ls (by_declared (alike_in l m))
   where

@@ -1,6 +1,7 @@
 //! Laws of linking.
 
 ghost use Rattle.jv_meaning_linking.specs.Laws.{LoadableResolves, FieldIsUsed, MethodIsCalled, SelectedIsRun, SpecialIsRun, InitIsRun, PrivateIsRun, FinalIsRun, NamedIsRun, NeverVerifyError, LayoutIsRight, LayoutExtends, InitOrderIsAbove, InitOrderIsRight};
+ghost use Rattle.jv_meaning_linking.specs.OverridingRule.{OverridingIsByRule};
 ghost use Rattle.jv_meaning_linking.specs.Inside.OneWalk.{OverridingInOneWalk};
 ghost use Rattle.jv_meaning_linking.specs.Rows.{WorkedRows};
 
@@ -62,6 +63,11 @@ pub fn init_is_run()
 /// Neither resolution nor selection answers VerifyError (JVMS 5.4, own).
 pub fn never_verify_error()
     ensures { NeverVerifyError }
+{}
+
+/// What is found to override a method along a chain of classes is what overrides it by the rule (JVMS 5.4.5).
+pub fn overriding_is_by_rule()
+    ensures { OverridingIsByRule }
 {}
 
 /// What overrides a method along a chain of classes is known in one walk down, which keeps one bit (JVMS 5.4.5): for the
