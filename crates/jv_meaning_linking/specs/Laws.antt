@@ -182,10 +182,11 @@ abbrev pub IsInterfaceWay : World → Class → List Loaded → Loaded → Type 
 IsInterfaceWay world class [] to = Contains (interfaces_in world class) to
 IsInterfaceWay world class (by ∷ more) to = Contains (interfaces_in world class) by × IsInterfaceWay world by.class more to
 
--- by such a way, so none that its superclass alone leads to
+-- by such a way from the class, so none that its superclass alone leads to
 abbrev pub IsOwnSuperinterface : World → Loaded → Loaded → Type 0
 IsOwnSuperinterface world l s = (between : List Loaded) × IsInterfaceWay world l.class between s
 
+-- one that is to be initialized before the class: it declares a method that is neither abstract nor static
 abbrev pub IsBefore : World → Loaded → Loaded → Type 0
 IsBefore world l s = IsOwnSuperinterface world l s × IsTrue (declares_default s)
 
@@ -194,11 +195,12 @@ abbrev pub EachBehind : (List Loaded → Loaded → Type 0) → List Loaded → 
 EachBehind P before [] = ⊤
 EachBehind P before (l ∷ more) = P before l × EachBehind P (before ++ l ∷ []) more
 
--- it is not given yet, and what is to be initialized before it is
+-- it is not among those before it, and those of its superinterfaces that are to be initialized are
 pub record IsNext (world : World) (before : List Loaded) (l : Loaded) : Type 0 where
   pub once : IsFalse (is_among before l)
   pub behind : (s : Loaded) → IsBefore world l s → Contains before s
 
+-- the superclass first, where there is one in the world
 abbrev pub behind_superclass : Option Loaded → List Loaded → List Loaded
 behind_superclass None interfaces = interfaces
 behind_superclass (Some superclass) interfaces = superclass ∷ interfaces
