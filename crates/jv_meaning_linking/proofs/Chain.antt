@@ -46,10 +46,10 @@ superclass_is_named world class s e = by_name class.super_class e
     by_name None e = absurd cc
     by_name (Some name) e = ap (class_named world) (found_is_named world name s e) ∙ e
 
-abbrev name_of : Loaded → List ℕ
+abbrev pub name_of : Loaded → List ℕ
 name_of l = l.class.name
 
-abbrev names_of : List Loaded → List (List ℕ)
+abbrev pub names_of : List Loaded → List (List ℕ)
 names_of ls = map name_of ls
 
 named_is_member : (world : World) (name : List ℕ) (s : Loaded) → class_named world name ≡ Some s → is_member bytes_eq (names_of world) name ≡ true
@@ -66,10 +66,10 @@ named_is_member (l ∷ world) name s e = by_test (bytes_eq l.class.name name) re
 
 -- ---- classes whose names differ
 
-abbrev IsFresh : List ℕ → List Loaded → Type 0
+abbrev pub IsFresh : List ℕ → List Loaded → Type 0
 IsFresh name ls = AllByRecursion (λ other. bytes_eq name other ≡ false) (names_of ls)
 
-abbrev NoTwo : List Loaded → Type 0
+abbrev pub NoTwo : List Loaded → Type 0
 NoTwo [] = ⊤
 NoTwo (l ∷ ls) = IsFresh l.class.name ls × NoTwo ls
 
@@ -86,7 +86,7 @@ all_in_world world (l ∷ ls) all q h = by_test (bytes_eq q l.class.name) refl (
     by_test true t again h = subst (λ name. is_member bytes_eq (names_of world) name ≡ true) (sym (same_text q l.class.name t)) (named_is_member world l.class.name l (all l (first l ls)))
     by_test false t again h = again h
 
-few : (world : World) (ls : List Loaded) → NoTwo ls → AllOf (IsNamedIn world) ls → length ls ≤ length world
+pub few : (world : World) (ls : List Loaded) → NoTwo ls → AllOf (IsNamedIn world) ls → length ls ≤ length world
 few world ls once all =
     let bound = length-le_from_is_member nat_list_eq_equiv (names_of ls) (names_of world) (distinct ls once) (all_in_world world ls all) in
     omega (arith, bound, length-map ls name_of, length-map world name_of)

@@ -17,7 +17,7 @@ use Rattle.jv_meaning_linking.specs.Laws.{NoneBreaksFinal, FinalIsRun}
 use Rattle.jv_meaning_linking.proofs.Found.{none, first, later, split, same_text}
 use Rattle.jv_meaning_linking.proofs.Searched.{AllOf, superclass_is_above}
 use Rattle.jv_meaning_linking.proofs.Chain.{in_any, chain_is_above}
-use Rattle.jv_meaning_linking.proofs.Unchanged.{OnlyItself, only_is_run}
+use Rattle.jv_meaning_linking.proofs.Unchanged.{OnlyItself, class_has, only_is_run}
 
 clash : {b : Bool} → IsTrue b → IsFalse b → ⊥
 clash h k = unlike (sym h ∙ k)
@@ -244,10 +244,10 @@ module _ (ways : AboveByWays) (above_above : AboveIsTransitive) (world : World) 
 
         by_line : InLine (length world) d.by e.by → d.by.class.name ≡ e.by.class.name
         by_line (inl f) = ap (λ (x : Loaded). x.class.name) f
-        by_line (inr (inl j)) = absurd (clash o (not_overridden d.by (keeps d.by h) j))
+        by_line (inr (inl j)) = absurd (clash (class_has world d e o) (not_overridden d.by (keeps d.by h) j))
         by_line (inr (inr j)) =
             sym (same_text e.by.class.name d.by.class.name (or_false (same_class e.by d.by)
-            (subst (λ ls. IsTrue (list_any (λ x. same_class x.by d.by) (overriding (e ∷ []) e.method ls))) (none_below e.by d.by straight (superclass_is_above ways above_above world e.by.class d.by j)) o)))
+            (subst (λ ls. IsTrue (list_any (λ x. same_class x.by d.by) (overriding (e ∷ []) e.method ls))) (none_below e.by d.by straight (superclass_is_above ways above_above world e.by.class d.by j)) (class_has world d e o))))
 
 pub final_is_run : AboveByWays → AboveIsTransitive → FinalIsRun
 final_is_run ways above_above world site t l is final straight keeps =

@@ -9,3 +9,5 @@ mod Finals
 mod Loading
 mod Errors
 mod OneWalk
+mod Enumerated
+mod ByRule

@@ -12,7 +12,7 @@ use Rattle.jv_class_parts.specs.Flags.{has, acc_private}
 use Rattle.jv_class.specs.Class.{Method}
 use Rattle.jv_loader_world.specs.World.{Loaded, package_of, same_loader, same_package}
 use Rattle.jv_loader_world.specs.Overriding.{Declared, is_package_private, overrides_itself, alike_in, with_declared, overriding}
-use Rattle.jv_meaning_linking.specs.Laws.{is_open, joins, walked, OverridingInOneWalk}
+use Rattle.jv_meaning_linking.specs.Inside.OneWalk.{is_open, joins, walked, OverridingInOneWalk}
 use Rattle.jv_meaning_linking.proofs.Found.{same_text}
 use Rattle.jv_meaning_linking.proofs.Unchanged.{narrowed}
 

@@ -80,6 +80,20 @@ module _ (world : World) (P : Loaded → Type 0) (up : (l s : Loaded) → P l �
   pub of_superclasses : (class : Class) → ((s : Loaded) → Contains (supers_in world class) s → P s) → AllOf P (superclasses world class)
   of_superclasses class here = of_chain (length world) (superclass_in world class) (λ s e. here s (superclass_is_super world class s e))
 
+-- ---- what is given behind a class
+
+module _ (world : World) (P : Loaded → Type 0) (up : (l s : Loaded) → P l → Contains (interfaces_in world l.class) s → P s) where
+  pub of_given : (k : ℕ) (given : List Loaded) (l : Loaded) → AllOf P given → P l → AllOf P (given_within world k given l)
+  of_given zero given l all here = all
+  of_given (suc k) given l all here = by_test (is_among given l) (λ ls m h i. of_given k ls m h i)
+    where
+      by_test : (b : Bool) → ((ls : List Loaded) (m : Loaded) → AllOf P ls → P m → AllOf P (given_within world k ls m))
+          → AllOf P (if b then given else fold (given_within world k) given (interfaces_in world l.class) ++ l ∷ [])
+      by_test true again = all
+      by_test false again =
+          of_joined P (fold (given_within world k) given (interfaces_in world l.class)) l
+          (of_fold P (given_within world k) again given (interfaces_in world l.class) all (λ s h. up l s here h)) here
+
 -- ---- above
 
 module _ (ways : AboveByWays) (above_above : AboveIsTransitive) (world : World) where
@@ -104,26 +118,15 @@ module _ (ways : AboveByWays) (above_above : AboveIsTransitive) (world : World) 
       let found = in_found (class_named world) names s h in
       direct class s (found_in (class_named world) (super_names class) found.0 s (sub found.0 found.1) found.2)
 
-  interfaces_above : (class : Class) → AllOf (λ s. Contains (above world class) s) (interfaces_in world class)
+  pub interfaces_above : (class : Class) → AllOf (λ s. Contains (above world class) s) (interfaces_in world class)
   interfaces_above class = named_above class class.interfaces (λ name h. Contains-append_right (superclass_names class.super_class) class.interfaces name h)
-
-  given_is_above : (class : Class) (k : ℕ) (given : List Loaded) (l : Loaded) → AllOf (λ s. Contains (above world class) s) given → Contains (above world class) l → AllOf (λ s. Contains (above world class) s) (given_within world k given l)
-  given_is_above class zero given l all here = all
-  given_is_above class (suc k) given l all here = by_test (is_among given l) (λ ls m h i. given_is_above class k ls m h i)
-    where
-      by_test : (b : Bool) → ((ls : List Loaded) (m : Loaded) → AllOf (λ s. Contains (above world class) s) ls → Contains (above world class) m → AllOf (λ s. Contains (above world class) s) (given_within world k ls m))
-          → AllOf (λ s. Contains (above world class) s) (if b then given else fold (given_within world k) given (interfaces_in world l.class) ++ l ∷ [])
-      by_test true again = all
-      by_test false again =
-          of_joined (λ s. Contains (above world class) s) (fold (given_within world k) given (interfaces_in world l.class)) l
-          (of_fold (λ s. Contains (above world class) s) (given_within world k) again given (interfaces_in world l.class) all (λ s h. above_above world class l s here (interfaces_above l.class s h))) here
 
   pub init_order_is_above : (l : Loaded) → AllOf (λ s. Contains (above world l.class) s) (init_order world l)
   init_order_is_above l s h = by_kind (is_interface l) h
     where
       from_enumerated : Contains (filter declares_default (enumerated world l.class)) s → Contains (above world l.class) s
       from_enumerated h =
-          of_fold (λ c. Contains (above world l.class) c) (given_within world (length world)) (λ ls m all here. given_is_above l.class (length world) ls m all here) [] (interfaces_in world l.class)
+          of_fold (λ c. Contains (above world l.class) c) (given_within world (length world)) (of_given world (λ c. Contains (above world l.class) c) (λ by t here i. above_above world l.class by t here (interfaces_above by.class t i)) (length world)) [] (interfaces_in world l.class)
           (λ c k. absurd (none c k)) (interfaces_above l.class) s (in_filter declares_default (enumerated world l.class) s h).0
 
       by_part : Contains (filter_map (class_named world) (superclass_names l.class.super_class)) s ⊎ Contains (filter declares_default (enumerated world l.class)) s → Contains (above world l.class) s

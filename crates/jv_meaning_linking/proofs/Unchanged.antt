@@ -3,7 +3,9 @@ use Rattle.std.proofs.Common.{◌≡◌, ℕ, ◌+◌, Bool, true, false, not, �
 use Rattle.std.specs.Prelude.{◌⊎◌, ◌==◌, IsTrue, Ok, bit_and, codes, if◌then◌else◌}
 use Rattle.std.specs.List.{Contains, list_any}
 use Rattle.std.specs.Option.{option_or, unwrap_or}
+use Rattle.std.specs.Str.{bytes_eq}
 use Rattle.std.specs.Cmp.Lexicographic.{nat_list_eq_equiv}
+use Rattle.std.proofs.lemmas.Bool.{and_parts}
 use Rattle.std.proofs.lemmas.Bool.Decides.{Decides-eqb}
 use Rattle.std.proofs.lemmas.Nat.{and_assoc}
 use Rattle.jv_text.specs.Name.{is_init}
@@ -20,7 +22,7 @@ use Rattle.jv_meaning_linking.specs.LinkErrors.{◌>>=◌, provided}
 use Rattle.jv_meaning_linking.specs.LinkErrors.LinkError.{AbstractMethodError}
 use Rattle.jv_meaning_linking.specs.Access.{same_class}
 use Rattle.jv_meaning_linking.specs.MethodResolution.{MethodTarget, target}
-use Rattle.jv_meaning_linking.specs.Selection.{upward, classes_below, overrides, overriding_in, first_overriding, first_alike, found_or_default, interface_first, special_first, special_start, select_from, select}
+use Rattle.jv_meaning_linking.specs.Selection.{upward, classes_below, are_alike, has_overriding, overrides, overriding_in, first_overriding, first_alike, found_or_default, interface_first, special_first, special_start, select_from, select}
 use Rattle.jv_meaning_linking.specs.Laws.{IsAboveObject, PrivateIsRun, NamedIsRun}
 use Rattle.jv_meaning_linking.proofs.Found.{none, first, later, split, passed, same_text}
 use Rattle.jv_meaning_linking.proofs.Chain.{IsNamedIn, superclasses_are_named}
@@ -43,7 +45,7 @@ module _ {A B : Type 0} (look : A → Option B) where
 
 -- ---- methods that override
 
-any_of_joined : (test : Declared → Bool) (ds es : List Declared) → IsTrue (list_any test ds) → IsTrue (list_any test (ds ++ es))
+pub any_of_joined : (test : Declared → Bool) (ds es : List Declared) → IsTrue (list_any test ds) → IsTrue (list_any test (ds ++ es))
 any_of_joined test [] es h = absurd cc
 any_of_joined test (d ∷ ds) es h = by_test (test d) h (λ k. any_of_joined test ds es k)
   where
@@ -52,7 +54,7 @@ any_of_joined test (d ∷ ds) es h = by_test (test d) h (λ k. any_of_joined tes
     by_test false h again = again h
 
 -- what overrides is there all along
-stays : (test : Declared → Bool) (found : List Declared) (m : Method) (ls : List Loaded) → IsTrue (list_any test found) → IsTrue (list_any test (overriding found m ls))
+pub stays : (test : Declared → Bool) (found : List Declared) (m : Method) (ls : List Loaded) → IsTrue (list_any test found) → IsTrue (list_any test (overriding found m ls))
 stays test found m [] h = h
 stays test found m (l ∷ ls) h = stays test (with_declared found (alike_in l m)) m ls (by_declared (alike_in l m))
   where
@@ -78,8 +80,24 @@ alone e never m (l ∷ ls) = ap (λ found. overriding found m ls) (by_declared (
 pub alike_itself : (d : Declared) → method_named d.by.class d.method.name d.method.descriptor ≡ Some d.method → IsTrue (is_instance d.method) → alike_in d.by d.method ≡ Some d
 alike_itself d e i = ap (declared_if d.by) e ∙ ap (λ b. if b then Some d else None) i
 
-overrides_same : (world : World) (d : Declared) → IsTrue (overrides world d d)
-overrides_same world d = stays (λ o. same_class o.by d.by) (d ∷ []) d.method (classes_below world d.by d.by) (ap (λ b. b || false) (nat_list_eq_equiv.refl d.by.class.name))
+has_itself : (world : World) (d : Declared) → IsTrue (has_overriding world d.by d)
+has_itself world d = stays (λ o. same_class o.by d.by) (d ∷ []) d.method (classes_below world d.by d.by) (ap (λ b. b || false) (nat_list_eq_equiv.refl d.by.class.name))
+
+both : (a b : Bool) → IsTrue a → IsTrue b → IsTrue (a && b)
+both true b h k = k
+both false b h k = absurd cc
+
+alike_same : (m : Method) → IsTrue (is_instance m) → IsTrue (are_alike m m)
+alike_same m i =
+    both (is_instance m && is_instance m && bytes_eq m.name m.name) (bytes_eq m.descriptor m.descriptor)
+    (both (is_instance m && is_instance m) (bytes_eq m.name m.name) (both (is_instance m) (is_instance m) i i) (nat_list_eq_equiv.refl m.name))
+    (nat_list_eq_equiv.refl m.descriptor)
+
+overrides_same : (world : World) (d : Declared) → IsTrue (is_instance d.method) → IsTrue (overrides world d d)
+overrides_same world d i = both (are_alike d.method d.method) (has_overriding world d.by d) (alike_same d.method i) (has_itself world d)
+
+pub class_has : (world : World) (d e : Declared) → IsTrue (overrides world d e) → IsTrue (has_overriding world d.by e)
+class_has world d e o = (and_parts (are_alike d.method e.method) (has_overriding world d.by e) o).1
 
 abbrev pub OnlyItself : World → Loaded → Declared → Type 0
 OnlyItself world l e = (d : Declared) → Contains (upward world l) d.by → IsTrue (overrides world d e) → d.by.class.name ≡ e.by.class.name
@@ -108,7 +126,7 @@ module _ (world : World) (l : Loaded) (e : Declared) (is : IsAboveObject world l
 
   overriding_itself : overriding_in world e e.by ≡ Some e
   overriding_itself =
-      ap (passing (λ d. overrides world d e)) (alike_itself e is.declared is.instance) ∙ ap (λ b. if b then Some e else None) (overrides_same world e)
+      ap (passing (λ d. overrides world d e)) (alike_itself e is.declared is.instance) ∙ ap (λ b. if b then Some e else None) (overrides_same world e is.instance)
 
   pub itself_first : OnlyItself world l e → first_overriding world e l ≡ Some e
   itself_first single = first_is (overriding_in world e) (upward world l) e.by e is.place overriding_itself (λ c d h f. the_same single c d h f)
@@ -179,7 +197,7 @@ private_is_run world site t l is right private = only_is_run world site t l is s
     single : OnlyItself world l e
     single d h o =
         sym (same_text e.by.class.name d.by.class.name (or_false (same_class e.by d.by)
-        (subst (λ found. IsTrue (list_any (λ o. same_class o.by d.by) found)) (alone e (private_stays e right private) e.method (classes_below world d.by e.by)) o)))
+        (subst (λ found. IsTrue (list_any (λ o. same_class o.by d.by) found)) (alone e (private_stays e right private) e.method (classes_below world d.by e.by)) (class_has world d e o))))
 
 -- ---- invokespecial of a method of the named class
 

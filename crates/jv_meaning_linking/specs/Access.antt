@@ -13,10 +13,10 @@ same_class a b = bytes_eq a.class.name b.class.name
 abbrev pub in_line : World → Loaded → Loaded → Bool
 in_line world a b = is_subclass world a b || is_subclass world b a
 
--- A protected member is open to subclasses of the class that declares it: where it belongs to objects, by way of a named
--- class that is in line with the current one.
-abbrev pub open_to_subclass : World → Loaded → Loaded → Loaded → ℕ → Bool
-open_to_subclass world current named by flags =
+-- A protected member is accessible to subclasses of the class that declares it: an instance field or method by way of a
+-- named class that is in line with the current one.
+abbrev pub is_accessible_below : World → Loaded → Loaded → Loaded → ℕ → Bool
+is_accessible_below world current named by flags =
     is_subclass world current by && (has flags acc_static || in_line world named current)
 
 -- the current class can access a member with these flags that a class declares, by way of the class that is named
@@ -24,4 +24,4 @@ abbrev pub can_access : World → Loaded → Loaded → Loaded → ℕ → Bool
 can_access world current named by flags =
     if has flags acc_public then true
     else if has flags acc_private then same_class current by
-    else same_package current by || (has flags acc_protected && open_to_subclass world current named by flags)
+    else same_package current by || (has flags acc_protected && is_accessible_below world current named by flags)

@@ -1,4 +1,4 @@
--- Which fields and methods an instruction can use (JVMS 6.5): static ones or those of objects, and final fields.
+-- Which fields and methods an instruction can use (JVMS 6.5): static or instance ones, and final fields.
 use Rattle.std.specs.Prelude.{Bool, true, not, ◌+◌, ◌&&◌, ◌||◌}
 use Rattle.jv_text.specs.Name.{is_init}
 use Rattle.jv_class_parts.specs.Flags.{has, acc_private, acc_static, acc_final}
@@ -14,7 +14,7 @@ use Rattle.jv_meaning_linking.specs.Access.{same_class}
 abbrev pub is_static_field : Field → Bool
 is_static_field f = has f.access_flags acc_static
 
--- getstatic and putstatic use static fields, getfield and putfield those of objects
+-- getstatic and putstatic use static fields, getfield and putfield instance fields
 abbrev pub has_field_kind : Use → Field → Bool
 has_field_kind Getstatic f = is_static_field f
 has_field_kind Putstatic f = is_static_field f
@@ -22,7 +22,7 @@ has_field_kind Getfield f = not (is_static_field f)
 has_field_kind Putfield f = not (is_static_field f)
 has_field_kind _ f = true
 
--- a final field is written by its own class alone: one of objects by putfield in `<init>`, a static one by putstatic in
+-- a final field is written by its own class alone: an instance field by putfield in `<init>`, a static one by putstatic in
 -- `<clinit>`
 abbrev pub can_set_final : Use → Site → DeclaredField → Bool
 can_set_final Putfield site d = is_init site.method.name && same_class site.by d.by
@@ -37,7 +37,7 @@ can_use_final how site d = not (has d.field.access_flags acc_final) || can_set_f
 abbrev pub is_static_method : Method → Bool
 is_static_method m = has m.access_flags acc_static
 
--- invokestatic calls static methods, the others those of objects, and invokeinterface none that is private
+-- invokestatic calls static methods, the others instance methods, and invokeinterface none that is private
 abbrev pub has_method_kind : Use → Method → Bool
 has_method_kind Invokestatic m = is_static_method m
 has_method_kind Invokevirtual m = not (is_static_method m)

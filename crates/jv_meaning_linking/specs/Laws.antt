@@ -1,17 +1,16 @@
--- Laws of resolution, selection, initialization order and layouts, as the soundness of verified code needs them; and one
--- that lets a search for what overrides keep one bit.
-use Rattle.std.specs.Prelude.{◌≡◌, ◌↔◌, ◌⊎◌, ◌≢◌, ℕ, not, IsTrue, IsFalse, List, [], Option, Some, None, Ok, Err, codes, Bool, ◌+◌, ◌&&◌, ◌||◌, ◌∷◌, map, if◌then◌else◌}
+-- Laws of resolution, selection, initialization order and layouts, as the soundness of verified code needs them.
+use Rattle.std.specs.Prelude.{◌≡◌, ◌↔◌, ◌⊎◌, ◌≢◌, ⊤, ◌∷◌, ◌++◌, ℕ, not, IsTrue, IsFalse, List, [], Option, Some, None, Ok, Err, codes}
 use Rattle.std.specs.List.{Contains}
 use Rattle.std.specs.Option.{ok_or}
 use Rattle.jv_text.specs.Name.{is_init}
 use Rattle.jv_pool.specs.Constants.{MemberReference}
-use Rattle.jv_class_parts.specs.Flags.{has, acc_public, acc_private, acc_protected, acc_final, visibility_right}
-use Rattle.jv_class.specs.Class.{Method, field_named, method_named}
-use Rattle.jv_loader_world.specs.World.{Loaded, World, class_named, same_package}
+use Rattle.jv_class_parts.specs.Flags.{has, acc_private, acc_final, visibility_right}
+use Rattle.jv_class.specs.Class.{Class, field_named, method_named}
+use Rattle.jv_loader_world.specs.World.{Loaded, World, class_named}
 use Rattle.jv_loader_world.specs.Above.{above, is_circular, superclass_in, superclasses}
-use Rattle.jv_loader_world.specs.Overriding.{Declared, is_instance, alike_in, overriding}
+use Rattle.jv_loader_world.specs.Overriding.{Declared, is_instance}
 use Rattle.jv_loader_world.specs.Verdicts.{is_interface, is_loadable, breaks_final}
-use Rattle.jv_loader_world.specs.LookUps.{DeclaredField, is_concrete}
+use Rattle.jv_loader_world.specs.LookUps.{DeclaredField, is_concrete, is_among}
 use Rattle.jv_loader_world.specs.Laws.{SystemStandsAlone}
 use Rattle.jv_meaning_linking.specs.Uses.{Use, Site}
 use Rattle.jv_meaning_linking.specs.Uses.Use.{Invokevirtual, Invokespecial, Invokeinterface}
@@ -24,7 +23,7 @@ use Rattle.jv_meaning_linking.specs.Kind.{has_field_kind, can_use_final, has_met
 use Rattle.jv_meaning_linking.specs.FieldResolution.{resolve_field}
 use Rattle.jv_meaning_linking.specs.MethodResolution.{MethodTarget, is_own_init, resolve_method}
 use Rattle.jv_meaning_linking.specs.Selection.{upward, object_class, begins_above, special_start, select}
-use Rattle.jv_meaning_linking.specs.InitializationOrder.{init_order}
+use Rattle.jv_meaning_linking.specs.InitializationOrder.{interfaces_in, declares_default, init_order}
 use Rattle.jv_meaning_linking.specs.Layout.{layout, IsLayout, Extends}
 
 abbrev pub IsAtOrAbove : World → Loaded → Loaded → Type 0
@@ -124,28 +123,6 @@ pub record NeverVerifyError : Type 0 where
   pub method : (world : World) (site : Site) (how : Use) (reference : MethodReference) → resolve_method world site how reference ≢ Err VerifyError
   pub selected : (world : World) (site : Site) (how : Use) (t : MethodTarget) (object : Option Loaded) → select world site how t object ≢ Err VerifyError
 
--- ---- overriding in one walk down the classes, which keeps one bit
-
--- every class's method can override it, where it is not private
-abbrev pub is_open : Declared → Bool
-is_open d = has d.method.access_flags (acc_public + acc_protected)
-
--- a method overrides the first, or one that overrides it, where an open one is among these, or else in the first's package
-abbrev pub joins : Bool → Declared → Declared → Bool
-joins open_before e d = not (has d.method.access_flags acc_private) && (open_before || same_package d.by e.by)
-
-abbrev pub walked : Declared → Bool → List (Option Declared) → List Declared
-walked e open_before [] = []
-walked e open_before (None ∷ more) = walked e open_before more
-walked e open_before (Some d ∷ more) =
-    if joins open_before e d then d ∷ walked e (open_before || is_open d) more else walked e open_before more
-
--- A law: these are what overrides a method that is not private.
-abbrev pub OverridingInOneWalk : Type 0
-OverridingInOneWalk =
-    (e : Declared) (m : Method) (ls : List Loaded) → IsTrue (not (has e.method.access_flags acc_private))
-    → overriding (e ∷ []) m ls ≡ e ∷ walked e (is_open e) (map (λ l. alike_in l m) ls)
-
 -- ---- methods that nothing overrides
 
 -- a target as resolution answers it, at or above the object's class
@@ -194,6 +171,50 @@ LayoutExtends =
     (world : World) (l s : Loaded) → ((c : Loaded) → Contains (above world l.class) c → IsFalse (is_circular world c.class))
     → superclass_in world l.class ≡ Some s → Extends (layout world l) (layout world s)
 
--- A law: what is initialized before a class is above it.
+-- ---- what is initialized before a class
+
+-- A law: it is above the class.
 abbrev pub InitOrderIsAbove : Type 0
 InitOrderIsAbove = (world : World) (l s : Loaded) → Contains (init_order world l) s → Contains (above world l.class) s
+
+-- a way up by direct superinterfaces alone
+abbrev pub IsInterfaceWay : World → Class → List Loaded → Loaded → Type 0
+IsInterfaceWay world class [] to = Contains (interfaces_in world class) to
+IsInterfaceWay world class (by ∷ more) to = Contains (interfaces_in world class) by × IsInterfaceWay world by.class more to
+
+-- by such a way from the class, so none that its superclass alone leads to
+abbrev pub IsOwnSuperinterface : World → Loaded → Loaded → Type 0
+IsOwnSuperinterface world l s = (between : List Loaded) × IsInterfaceWay world l.class between s
+
+-- one that is to be initialized before the class: it declares a method that is neither abstract nor static
+abbrev pub IsBefore : World → Loaded → Loaded → Type 0
+IsBefore world l s = IsOwnSuperinterface world l s × IsTrue (declares_default s)
+
+-- of each of a list, behind those that stand before it
+abbrev pub EachBehind : (List Loaded → Loaded → Type 0) → List Loaded → List Loaded → Type 0
+EachBehind P before [] = ⊤
+EachBehind P before (l ∷ more) = P before l × EachBehind P (before ++ l ∷ []) more
+
+-- it is not among those before it, and those of its superinterfaces that are to be initialized are
+pub record IsNext (world : World) (before : List Loaded) (l : Loaded) : Type 0 where
+  pub once : IsFalse (is_among before l)
+  pub behind : (s : Loaded) → IsBefore world l s → Contains before s
+
+-- the superclass first, where there is one in the world
+abbrev pub behind_superclass : Option Loaded → List Loaded → List Loaded
+behind_superclass None interfaces = interfaces
+behind_superclass (Some superclass) interfaces = superclass ∷ interfaces
+
+-- The superclass, and then exactly the superinterfaces that the class's own lead to and that declare a method which is
+-- neither abstract nor static, each once, and behind its own superinterfaces.
+pub record IsInitOrder (world : World) (l : Loaded) (order : List Loaded) : Type 0 where
+  pub interfaces : List Loaded
+  pub parts : order ≡ behind_superclass (superclass_in world l.class) interfaces
+  pub those : (s : Loaded) → Contains interfaces s ↔ IsBefore world l s
+  pub one_by_one : EachBehind (IsNext world) [] interfaces
+
+-- A law: so is the order for a class with no circle above it.
+abbrev pub InitOrderIsRight : Type 0
+InitOrderIsRight =
+    (world : World) (l : Loaded) → IsFalse (is_interface l) → ((c : Loaded) → Contains (above world l.class) c → IsFalse (is_circular world c.class))
+    → IsInitOrder world l (init_order world l)

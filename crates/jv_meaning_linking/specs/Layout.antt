@@ -58,7 +58,7 @@ abbrev pub EachTwoApart : List Placed → Type 0
 EachTwoApart [] = ⊤
 EachTwoApart (p ∷ more) = AllByRecursion (AreApart p) more × EachTwoApart more
 
--- each field of an object has a place, within the object's words, and no word belongs to two
+-- each field of an object has a place, within the object's words, and no two have a word in common
 pub record IsLayout (world : World) (l : Loaded) (places : List Placed) : Type 0 where
   pub fields : map (λ p. p.field) places ≡ instance_fields world l
   pub within : AllByRecursion (λ p. end_of p ≤ object_words world l) places

@@ -14,4 +14,6 @@ pub mod ResolutionRows
 pub mod SelectionRows
 pub mod ObjectRows
 pub mod Rows
+pub mod OverridingRule
 pub mod Laws
+pub mod Inside

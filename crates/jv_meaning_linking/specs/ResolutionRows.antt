@@ -8,9 +8,9 @@ use Rattle.jv_meaning_linking.specs.Operands.MethodConstant.{Methodref, Interfac
 use Rattle.jv_meaning_linking.specs.Operands.{through}
 use Rattle.jv_meaning_linking.specs.Samples.{x, m, constructor, class, with_fields, implementing, interface, in_m, in_init, in_clinit, class_from, member, x_from, m_from, method_from}
 
--- A is open to all, L extends a class that is not there, M extends L, O is above itself, U extends O, S extends an interface,
--- q/N extends p/P, which is not public; F is final, G extends it, T and p/T are abstract, p/L is like L and not public, and
--- java/X takes a reserved name
+-- A is public, L extends a class that is not there, M extends L, O is above itself, U extends O, S extends an interface,
+-- q/N extends p/P, which is not public; F is final, G extends it, T is abstract, p/T is too and not public, p/L is like L and
+-- not public, and java/X takes a reserved name
 abbrev pub A : Class
 A = class (codes "A") object_name []
 
@@ -72,7 +72,7 @@ pub record ClassRows : Type 0 where
 
 -- ---- fields
 
--- p/P has a field x with these flags, q/C extends it, q/D extends q/C, and q/E extends p/P; q/B is no subclass
+-- p/P, public, has a field x with these flags, q/C extends it, q/D extends q/C, and q/E extends p/P; q/B is no subclass
 abbrev pub C : Class
 C = class (codes "q/C") (codes "p/P") []
 
@@ -114,9 +114,11 @@ pub record FieldRows : Type 0 where
   pub getstatic_of_object : x_from (family (P 1)) (in_m C) Getstatic (codes "p/P") ≡ Err IncompatibleClassChangeError
   pub putstatic_of_object : x_from (family (P 1)) (in_m C) Putstatic (codes "p/P") ≡ Err IncompatibleClassChangeError
   pub access_before_kind : x_from (family (P 10)) (in_m C) Getfield (codes "p/P") ≡ Err IllegalAccessError
-  -- final fields are written by `<init>` or `<clinit>` of their own class, and read by all
+  -- final fields are written by `<init>` or `<clinit>` of their own class, also where the constant names a subclass, and read
+  -- by all
   pub final_in_init : x_from (family (P 17)) (in_init (P 17)) Putfield (codes "p/P") ≡ Ok (codes "p/P")
   pub final_in_m : x_from (family (P 17)) (in_m (P 17)) Putfield (codes "p/P") ≡ Err IllegalAccessError
+  pub final_through_subclass : x_from (family (P 17)) (in_init (P 17)) Putfield (codes "q/C") ≡ Ok (codes "p/P")
   pub final_below : x_from (family (P 17)) (in_init C) Putfield (codes "p/P") ≡ Err IllegalAccessError
   pub final_in_clinit : x_from (family (P 17)) (in_clinit (P 17)) Putfield (codes "p/P") ≡ Err IllegalAccessError
   pub final_read : x_from (family (P 17)) (in_m C) Getfield (codes "p/P") ≡ Ok (codes "p/P")
@@ -134,7 +136,8 @@ with_m flags = class (codes "p/P") object_name (m flags)
 abbrev pub with_constructor : ℕ → Class
 with_constructor flags = class (codes "p/P") object_name (constructor flags)
 
--- interfaces: I and K have a default m, V a private one, W a static one, E has none
+-- interfaces: I and K have a default m, V a private one, W a static one, B and N an abstract one, E has none; J extends I with
+-- none, and Z with a static one. The class P has a private m and H extends it, F implements B, and G extends F
 abbrev pub V : Class
 V = interface (codes "V") [] (m 2)
 
@@ -146,6 +149,14 @@ interfaces =
     ∷ V
     ∷ interface (codes "W") [] (m 9)
     ∷ interface (codes "E") [] []
+    ∷ interface (codes "B") [] (m 1025)
+    ∷ interface (codes "N") [] (m 1025)
+    ∷ interface (codes "J") (codes "I" ∷ []) []
+    ∷ interface (codes "Z") (codes "I" ∷ []) (m 9)
+    ∷ class (codes "P") object_name (m 2)
+    ∷ implementing (codes "H") (codes "P") (codes "I" ∷ []) []
+    ∷ implementing (codes "F") object_name (codes "B" ∷ []) []
+    ∷ implementing (codes "G") (codes "F") (codes "N" ∷ []) []
     ∷ implementing (codes "C") object_name (codes "I" ∷ codes "K" ∷ []) []
     ∷ implementing (codes "D") object_name (codes "V" ∷ codes "W" ∷ []) []
     ∷ []
@@ -157,6 +168,13 @@ pub record MethodRows : Type 0 where
   -- of two unrelated defaults the first; neither a private nor a static one of an interface is inherited
   pub first_default : m_from interfaces (in_m A) Invokevirtual Methodref (codes "C") ≡ Ok (codes "I")
   pub not_inherited : m_from interfaces (in_m A) Invokevirtual Methodref (codes "D") ≡ Err NoSuchMethodError
+  -- of two abstract ones that of the class's own interfaces, before its superclass's
+  pub first_abstract : m_from interfaces (in_m A) Invokevirtual Methodref (codes "G") ≡ Ok (codes "N")
+  -- a private method of a superclass comes before a default
+  pub private_before_default : m_from interfaces (in_m A) Invokevirtual Methodref (codes "H") ≡ Err IllegalAccessError
+  -- of an interface, from a superinterface; a static one of its own comes before that
+  pub from_superinterface : m_from interfaces (in_m A) Invokeinterface InterfaceMethodref (codes "J") ≡ Ok (codes "I")
+  pub static_before_default : m_from interfaces (in_m A) Invokeinterface InterfaceMethodref (codes "Z") ≡ Err IncompatibleClassChangeError
   -- the constant is that of the named class's kind
   pub method_of_interface : m_from interfaces (in_m A) Invokestatic Methodref (codes "W") ≡ Err IncompatibleClassChangeError
   pub interface_method_of_class : m_from interfaces (in_m A) Invokeinterface InterfaceMethodref (codes "C") ≡ Err IncompatibleClassChangeError
@@ -189,7 +207,12 @@ pub record MethodRows : Type 0 where
   pub invokeinterface_of_private : m_from interfaces (in_m V) Invokeinterface InterfaceMethodref (codes "V") ≡ Err IncompatibleClassChangeError
   pub invokespecial_of_private : m_from interfaces (in_m V) Invokespecial InterfaceMethodref (codes "V") ≡ Ok (codes "V")
   pub access_before_kind : m_from (family (with_m 10)) (in_m C) Invokevirtual Methodref (codes "p/P") ≡ Err IllegalAccessError
+  -- a private method of the current class
+  pub own_private : m_from (family (with_m 2)) (in_m (with_m 2)) Invokespecial Methodref (codes "p/P") ≡ Ok (codes "p/P")
   -- an `<init>` that the named class declares, and one that only its superclass has, behind access
   pub own_constructor : method_from (family (with_constructor 1)) (in_m C) Invokespecial (through Methodref (member (codes "p/P") (codes "<init>") (codes "()V"))) ≡ Ok (codes "p/P")
   pub inherited_constructor : method_from (family (with_constructor 1)) (in_m C) Invokespecial (through Methodref (member (codes "q/C") (codes "<init>") (codes "()V"))) ≡ Err NoSuchMethodError
+  -- a protected `<init>` of another package, from a subclass and from another class
+  pub protected_constructor : method_from (family (with_constructor 4)) (in_init C) Invokespecial (through Methodref (member (codes "p/P") (codes "<init>") (codes "()V"))) ≡ Ok (codes "p/P")
+  pub protected_from_other : method_from (family (with_constructor 4)) (in_m B) Invokespecial (through Methodref (member (codes "p/P") (codes "<init>") (codes "()V"))) ≡ Err IllegalAccessError
   pub access_before_constructor : method_from (family (with_constructor 2)) (in_m C) Invokespecial (through Methodref (member (codes "q/C") (codes "<init>") (codes "()V"))) ≡ Err IllegalAccessError

@@ -17,8 +17,8 @@ use Rattle.jv_meaning_linking.specs.FieldResolution.{resolve_field}
 use Rattle.jv_meaning_linking.specs.MethodResolution.{MethodTarget, resolve_method}
 use Rattle.jv_meaning_linking.specs.Selection.{select}
 
--- ---- members: x of type int, m of no arguments and no result, and others of that descriptor. Flags: public 1, private 2,
--- protected 4, static 8, final 16, abstract 1024, package-private 0.
+-- ---- members: x of type int, m and `<init>` of no arguments and no result, `equals` of an object, with a boolean result.
+-- Flags: public 1, private 2, protected 4, static 8, final 16, abstract 1024, package-private 0.
 
 abbrev pub x : ℕ → List Field
 x flags = record { access_flags = flags; name = codes "x"; descriptor = codes "I"; initial = None } ∷ []
@@ -68,14 +68,15 @@ world_with classes = world_of system (map (λ c. Holds c) classes)
 abbrev pub guest : Class → Loaded
 guest class = loaded false class
 
--- ---- sites: in m, in `<init>` and in `<clinit>` of a class of the guest
-
-abbrev pub in_method : List ℕ → Class → Site
-in_method name class = record { by = guest class; method = method 1 name (codes "()V") }
+-- ---- sites
 
 -- in m of a class of the system
 abbrev pub in_system : Class → Site
 in_system class = record { by = loaded true class; method = method 1 (codes "m") (codes "()V") }
+
+-- in m, in `<init>` and in `<clinit>` of a class of the guest
+abbrev pub in_method : List ℕ → Class → Site
+in_method name class = record { by = guest class; method = method 1 name (codes "()V") }
 
 abbrev pub in_m : Class → Site
 in_m class = in_method (codes "m") class

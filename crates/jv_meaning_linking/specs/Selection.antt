@@ -9,7 +9,7 @@ use Rattle.jv_class_parts.specs.Flags.{has, acc_public}
 use Rattle.jv_class.specs.Class.{Method}
 use Rattle.jv_loader_world.specs.World.{Loaded, World, class_named}
 use Rattle.jv_loader_world.specs.Above.{is_above, superclass_in, superclasses}
-use Rattle.jv_loader_world.specs.Overriding.{Declared, alike_in, overriding}
+use Rattle.jv_loader_world.specs.Overriding.{Declared, is_instance, alike_in, overriding}
 use Rattle.jv_loader_world.specs.Verdicts.{is_interface}
 use Rattle.jv_loader_world.specs.LookUps.{is_among, first_found, candidates, maximally_specific, is_concrete, is_public_instance, passing, method_if_loaded}
 use Rattle.jv_meaning_linking.specs.Uses.{Use, Site}
@@ -29,10 +29,18 @@ upward world l = l ∷ superclasses world l.class
 abbrev pub classes_below : World → Loaded → Loaded → List Loaded
 classes_below world l other = reverse (filter (λ c. is_above world other.class.name c.class) (upward world l))
 
--- An instance method overrides another: it is the same method, or stands below it and overrides it itself, or by way of a
--- third between them. It is asked of a method with the other's name and descriptor, the class's own.
+-- instance methods of one name and descriptor; `<init>` is none
+abbrev pub are_alike : Method → Method → Bool
+are_alike m other = is_instance m && is_instance other && bytes_eq m.name other.name && bytes_eq m.descriptor other.descriptor
+
+-- a class declares a method itself, or declares one of its name and descriptor below it that overrides it: itself, or by way
+-- of a third between them
+abbrev pub has_overriding : World → Loaded → Declared → Bool
+has_overriding world l e = list_any (λ o. same_class o.by l) (overriding (e ∷ []) e.method (classes_below world l e.by))
+
+-- A method overrides another, each as its class declares it: they are alike, and its class has it for one that overrides.
 abbrev pub overrides : World → Declared → Declared → Bool
-overrides world d e = list_any (λ o. same_class o.by d.by) (overriding (e ∷ []) e.method (classes_below world d.by e.by))
+overrides world d e = are_alike d.method e.method && has_overriding world d.by e
 
 -- ---- instance methods upward from a class
 

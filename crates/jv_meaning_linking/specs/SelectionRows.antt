@@ -1,14 +1,15 @@
 -- Worked rows: which method a call runs, computed. Each row resolves the call and then selects; what is shown is the class
 -- that declares the method.
-use Rattle.std.specs.Prelude.{◌≡◌, ℕ, List, [], ◌∷◌, ◌++◌, Option, Some, None, Ok, Err, codes}
+use Rattle.std.specs.Prelude.{◌≡◌, ℕ, Bool, true, false, List, [], ◌∷◌, ◌++◌, Option, Some, None, Ok, Err, codes}
 use Rattle.jv_class.specs.Class.{Class, Method}
-use Rattle.jv_loader_world.specs.Rows.{object_name}
+use Rattle.jv_loader_world.specs.Rows.{object_name, method_m}
 use Rattle.jv_meaning_linking.specs.Uses.Use.{Invokevirtual, Invokespecial, Invokestatic, Invokeinterface}
 use Rattle.jv_meaning_linking.specs.LinkErrors.{OrError}
 use Rattle.jv_meaning_linking.specs.LinkErrors.LinkError.{IncompatibleClassChangeError, IllegalAccessError, AbstractMethodError}
+use Rattle.jv_meaning_linking.specs.Selection.{overrides}
 use Rattle.jv_meaning_linking.specs.Operands.MethodConstant.{Methodref, InterfaceMethodref}
 use Rattle.jv_meaning_linking.specs.Operands.{MethodConstant, MethodReference, through}
-use Rattle.jv_meaning_linking.specs.Samples.{m, constructor, equals, open_class, class, implementing, interface, in_m, in_system, in_init, member, m_of, m_run, run_from}
+use Rattle.jv_meaning_linking.specs.Samples.{m, method, constructor, equals, open_class, class, implementing, interface, in_m, in_system, in_init, world_with, guest, member, m_of, m_run, run_from}
 
 -- ---- invokevirtual along a chain of classes, each with an m of these flags
 
@@ -76,6 +77,14 @@ pK = below open_class (codes "p/K") 1
 abbrev pub beside_private : List Class
 beside_private = first 2 ∷ pG 1 ∷ []
 
+-- whether a method of a class overrides p/A's, which is public; p/M is below p/A
+abbrev pub two_methods : Class
+two_methods = class (codes "p/M") (codes "p/A") (m 1 ++ method 1 (codes "other") (codes "()V") ∷ [])
+
+abbrev pub overrides_first : Class → Method → Bool
+overrides_first by called =
+    overrides (world_with (first 1 ∷ two_methods ∷ [])) (record { by = guest by; method = called }) (record { by = guest (first 1); method = method_m 1 })
+
 pub record VirtualRows : Type 0 where
   -- p/A's m is package-private: q/B's doesn't override it, p/C's does
   pub on_first : virtual_run across pA pA ≡ Ok (codes "p/A")
@@ -99,11 +108,15 @@ pub record VirtualRows : Type 0 where
   -- the first that overrides is abstract
   pub abstract : virtual_run (around 1025) (first 1) (pG 1025) ≡ Err AbstractMethodError
   pub below_abstract : virtual_run (around 1025) (first 1) pH ≡ Ok (codes "p/H")
+  -- of one class's methods the one of that name overrides, and no other
+  pub same_name : overrides_first two_methods (method_m 1) ≡ true
+  pub other_name : overrides_first two_methods (method 1 (codes "other") (codes "()V")) ≡ false
 
 -- ---- invokevirtual and invokeinterface with methods of superinterfaces
 
 -- I and K have a default m; J and L extend I with a default, R with an abstract one, S and T with none; B has an abstract m
--- alone, V a private one, E none. P has a public m, Q a package-private one, and Z one that is abstract too.
+-- alone, V a private one, E none. The classes P, Q, Y and Z have an m: public, package-private, private, and package-private
+-- and abstract.
 abbrev pub I : Class
 I = interface (codes "I") [] (m 1)
 
@@ -215,15 +228,19 @@ G = class (codes "G") (codes "H") (m 1 ++ constructor 1)
 abbrev pub F : Class
 F = implementing (codes "F") (codes "G") (codes "I" ∷ codes "W" ∷ []) (m 1 ++ constructor 1)
 
--- N extends M, whose m is abstract; D extends O, which extends G and has no m
+-- N extends M, whose m is abstract
 abbrev pub M : Class
 M = class (codes "M") object_name (m 1025)
 
 abbrev pub N : Class
 N = class (codes "N") (codes "M") (m 1)
 
+-- D extends O, which extends G, and neither has an m
 abbrev pub O : Class
 O = class (codes "O") (codes "G") []
+
+abbrev pub D : Class
+D = class (codes "D") (codes "O") []
 
 -- X extends A, whose m is private, and A extends H
 abbrev pub A : Class
@@ -231,9 +248,6 @@ A = class (codes "A") (codes "H") (m 2)
 
 abbrev pub X : Class
 X = class (codes "X") (codes "A") []
-
-abbrev pub D : Class
-D = class (codes "D") (codes "O") []
 
 -- a class with a static m
 abbrev pub with_static : Class
@@ -256,6 +270,8 @@ pub record SpecialRows : Type 0 where
   pub inherited : special_run D Methodref (codes "O") ≡ Ok (codes "G")
   -- a private method of the direct superclass is run, without a look at access
   pub private_above : special_run X Methodref (codes "H") ≡ Ok (codes "A")
+  -- a private method of the current class
+  pub own_private : special_run A Methodref (codes "A") ≡ Ok (codes "A")
   pub itself : special_run F Methodref (codes "F") ≡ Ok (codes "F")
   pub abstract : special_run N Methodref (codes "M") ≡ Err AbstractMethodError
   -- a direct superinterface's default; a private one of the interface itself; two that are unrelated; one of

@@ -1,6 +1,8 @@
 //! Laws of linking.
 
-ghost use Rattle.jv_meaning_linking.specs.Laws.{LoadableResolves, FieldIsUsed, MethodIsCalled, SelectedIsRun, SpecialIsRun, InitIsRun, PrivateIsRun, FinalIsRun, NamedIsRun, NeverVerifyError, LayoutIsRight, LayoutExtends, InitOrderIsAbove, OverridingInOneWalk};
+ghost use Rattle.jv_meaning_linking.specs.Laws.{LoadableResolves, FieldIsUsed, MethodIsCalled, SelectedIsRun, SpecialIsRun, InitIsRun, PrivateIsRun, FinalIsRun, NamedIsRun, NeverVerifyError, LayoutIsRight, LayoutExtends, InitOrderIsAbove, InitOrderIsRight};
+ghost use Rattle.jv_meaning_linking.specs.OverridingRule.{OverridingIsByRule};
+ghost use Rattle.jv_meaning_linking.specs.Inside.OneWalk.{OverridingInOneWalk};
 ghost use Rattle.jv_meaning_linking.specs.Rows.{WorkedRows};
 
 use jv_loader_world::{above_by_ways, above_is_transitive, loadable_by_all};
@@ -63,7 +65,13 @@ pub fn never_verify_error()
     ensures { NeverVerifyError }
 {}
 
-/// What overrides a method along a chain of classes is known in one walk down, which keeps one bit (JVMS 5.4.5).
+/// What is found to override a method along a chain of classes is what overrides it by the rule (JVMS 5.4.5).
+pub fn overriding_is_by_rule()
+    ensures { OverridingIsByRule }
+{}
+
+/// What overrides a method along a chain of classes is known in one walk down, which keeps one bit (JVMS 5.4.5): for the
+/// code that selects methods.
 pub fn overriding_in_one_walk()
     ensures { OverridingInOneWalk }
 {}
@@ -102,6 +110,15 @@ pub fn layout_extends()
 /// What is initialized before a class is above it (JVMS 5.5).
 pub fn init_order_is_above()
     ensures { InitOrderIsAbove }
+{
+    above_by_ways();
+    above_is_transitive();
+}
+
+/// Before a class its superclass is initialized, and then exactly the superinterfaces with a method that is neither abstract
+/// nor static, each once and behind its own superinterfaces (JVMS 5.5).
+pub fn init_order_is_right()
+    ensures { InitOrderIsRight }
 {
     above_by_ways();
     above_is_transitive();
