@@ -1,0 +1,3 @@
+pub mod Names
+pub mod Components
+pub mod Lists

@@ -1,3 +1,4 @@
 pub mod Flow
 pub mod FrameFlow
 pub mod Rows
+pub mod Seen

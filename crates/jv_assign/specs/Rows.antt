@@ -1,13 +1,11 @@
 -- Worked rows: what flows to what, computed.
-use Rattle.std.specs.Prelude.{◌≡◌, ℕ, Bool, true, false, List, [], ◌∷◌, Option, Some, None, codes}
+use Rattle.std.specs.Prelude.{◌≡◌, ℕ, Bool, true, false, List, [], ◌∷◌, Some, codes}
 use Rattle.jv_text.specs.declared.descriptor.Base.TheVariants as bases
 use Rattle.jv_text.specs.declared.descriptor.Element.{Element}
 use Rattle.jv_text.specs.declared.descriptor.Element.TheVariants as elements
-use Rattle.jv_text.specs.declared.descriptor.FieldTypeOf.{FieldTypeOf}
 use Rattle.jv_frames.specs.declared.verification.VerificationTypeOf.TheVariants as types
 use Rattle.jv_frames.specs.Types.{FrameType}
 use Rattle.jv_frames.specs.Frames.{Frame}
-use Rattle.jv_class.specs.Class.{Class}
 use Rattle.jv_loader_world.specs.World.{World, world_of}
 use Rattle.jv_loader_files.specs.declared.content.Content.TheVariants.{Holds}
 use Rattle.jv_loader_world.specs.Rows.{object, object_name, interface, public_class, class_with}

@@ -1,6 +1,15 @@
-//! Assignability (JVMS 4.10.1.2): definitions.
+//! Assignability (JVMS 4.10.1.2): which verification type, and which frame, can stand where another is
+//! expected. A question on two types costs at most two hashes, one of a name each, and no memory.
 #![tactic(auto)]
 
+mod arrays;
+mod classes;
+mod frame;
+mod frames;
 mod law;
+mod types;
 
+pub use frame::Frame;
+pub use frames::frame_flows;
 pub use law::worked_rows;
+pub use types::flows;

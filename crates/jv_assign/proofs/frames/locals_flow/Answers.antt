@@ -1,0 +1,11 @@
+use Rattle.std.proofs.Common.{◌∙◌}
+use Rattle.jv_assign.specs.Flow.{flows}
+use Rattle.jv_assign.specs.Seen.{seen_type}
+use Rattle.jv_assign.proofs.Lists.{as_pairs, of_two_lengths}
+use Rattle.jv_assign.proofs.frames.locals_flow.Goals as goal
+
+pub returns-then-from-to : goal.returns-then-from-to
+returns-then-from-to c = c.local_pairs_flow.ensures ∙ as_pairs (flows c.args.table.now) seen_type c.args.from.now c.args.to.now c.if-from-to.true
+
+pub returns-else-from-to : goal.returns-else-from-to
+returns-else-from-to c = of_two_lengths (flows c.args.table.now) seen_type c.args.from.now c.args.to.now c.if-from-to.false

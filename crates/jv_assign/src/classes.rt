@@ -1,0 +1,61 @@
+//! Classes, by their names.
+
+ghost use Rattle.std.specs.Prelude.{◌≡◌, ◌<◌, ◌&&◌, ◌||◌, false, length};
+ghost use Rattle.std.specs.Str.{bytes_eq};
+ghost use Rattle.jv_loader_world.specs.World.{class_named};
+ghost use Rattle.jv_loader_world.specs.LookUps.{is_subclass};
+ghost use Rattle.jv_loader_world.specs.Verdicts.{is_interface, is_loadable};
+ghost use Rattle.jv_loader_classes.specs.Inside.Told.{IsAt};
+ghost use Rattle.jv_assign.specs.Flow.{is_loadable_interface, is_loadable_below, class_flows};
+
+use jv_loader_classes::ClassTable;
+
+/// Whether a class is an interface that can be loaded (JVMS 5.3.5).
+fn is_loadable_interface(table: &ClassTable<'_>, number: usize) -> bool
+    requires { number < length table.now }
+    ensures { IsAt table.now number (λ l. result ≡ is_loadable table.now l && is_interface l) }
+{
+    table.is_loadable(number) && table.classes()[number].is_interface()
+}
+
+/// Whether a class can be loaded (JVMS 5.3.5) and is another or below it on the chain of superclasses.
+fn is_loadable_subclass(table: &ClassTable<'_>, number: usize, of: usize) -> bool
+    requires number { number < length table.now }
+    requires of { of < length table.now }
+    ensures { IsAt table.now number (λ l. IsAt table.now of (λ to. result ≡ is_loadable table.now l && is_subclass table.now l to)) }
+{
+    table.is_loadable(number) && table.is_subclass(number, of)
+}
+
+/// Whether the class of a name is there, can be loaded (JVMS 5.3.5) and is another or below it on the chain
+/// of superclasses.
+fn named_is_loadable_subclass(table: &ClassTable<'_>, name: &[u8], of: usize) -> bool
+    requires { of < length table.now }
+    ensures { IsAt table.now of (λ to. bytes_eq name.now to.class.name ≡ false → result ≡ is_loadable_below table.now to.class.name (class_named table.now name.now)) }
+{
+    let Some(number) = table.find(name) else {
+        return false;
+    };
+    is_loadable_subclass(table, number, of)
+}
+
+/// Whether a class flows to another of another name: a loadable interface, or, where it is loadable, one of
+/// its superclasses (JVMS 4.10.1.2).
+fn flows_to_other(table: &ClassTable<'_>, from: &[u8], to: &[u8]) -> bool
+    requires { bytes_eq from.now to.now ≡ false }
+    ensures { result ≡ is_loadable_interface table.now (class_named table.now to.now) || is_loadable_below table.now to.now (class_named table.now from.now) }
+{
+    table.is_numbered();
+    let Some(number) = table.find(to) else {
+        return false;
+    };
+    is_loadable_interface(table, number) || named_is_loadable_subclass(table, from, number)
+}
+
+/// Whether a class flows to another, by their names (JVMS 4.10.1.2). Where the names are equal, nothing is
+/// looked up.
+pub(crate) fn class_flows(table: &ClassTable<'_>, from: &[u8], to: &[u8]) -> bool
+    ensures { result ≡ class_flows table.now from.now to.now }
+{
+    from == to || flows_to_other(table, from, to)
+}
