@@ -1,0 +1,5 @@
+use Rattle.std.proofs.Common.{rules}
+use Rattle.jv_assign.proofs.types.flows_to_class.Goals as goal
+
+pub returns-in-Array : goal.returns-in-Array
+returns-in-Array c = search rules
