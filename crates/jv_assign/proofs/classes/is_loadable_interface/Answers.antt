@@ -1,4 +1,4 @@
-use Rattle.std.proofs.Common.{◌∙◌, ◌&&◌, Some, sym, ap, get_or}
+use Rattle.std.proofs.Common.{◌∙◌, ◌&&◌, sym, ap, get_or}
 use Rattle.std.specs.Prelude.{slice_get}
 use Rattle.jv_loader_world.specs.Verdicts.{is_interface}
 use Rattle.jv_loader_classes.proofs.Told.{class_at, same_some}
