@@ -2,6 +2,8 @@
 #![tactic(auto)]
 
 #[cfg(test)]
+mod assign;
+#[cfg(test)]
 mod class;
 #[cfg(test)]
 mod load;

@@ -5,7 +5,7 @@ use std::alloc::Global;
 use std::hash::RandomState;
 
 /// Files of a guest; in `VERDICTS` stands what is wrong with each.
-static FILES: [&[u8]; 16] = [
+pub(crate) static FILES: [&[u8]; 16] = [
     // no class file
     b"",
     // of version 51
