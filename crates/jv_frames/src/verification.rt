@@ -1,6 +1,9 @@
 //! The types of local variables and stack items (JVMS 4.10.1.2).
 
+ghost use Rattle.std.specs.Prelude.{◌≡◌};
+
 use jv_text::FieldTypeOf;
+use std::alloc::AllocError;
 
 /// The type of a local variable or of a stack item, where `T` is a class's name: a list of bytes
 /// in definitions.
@@ -22,3 +25,15 @@ pub enum VerificationTypeOf<T> {
     /// What the `new` at this offset in the code, in bytes, made.
     Uninitialized(u16),
 }
+
+impl<T: Copy> Clone for VerificationTypeOf<T> {
+    ghost is_clone = { λ x y. y ≡ x };
+
+    ghost is_infallible = { λ _. Unit {0} };
+
+    fn clone(&self) -> Result<Self, AllocError> {
+        Ok(*self)
+    }
+}
+
+impl<T: Copy> Copy for VerificationTypeOf<T> {}
