@@ -1,4 +1,4 @@
--- Where handlers stand in code (JVMS 4.7.3, 4.10.1.3).
+-- Where handlers stand in code (JVMS 4.7.3, 4.10.1.6).
 use Rattle.std.specs.Prelude.{ℕ, ◌<◌, List}
 use Rattle.std.specs.List.{All}
 use Rattle.jv_format.specs.declared.handlers.Handler.{Handler}

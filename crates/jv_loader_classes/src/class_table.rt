@@ -3,7 +3,7 @@
 ghost use Rattle.std.specs.Prelude.{◌≡◌, ◌<◌, IfOk, IsSomeAnd, length, slice_get};
 ghost use Rattle.jv_loader_world.specs.Above.{is_above, is_circular, superclasses};
 ghost use Rattle.jv_loader_world.specs.Laws.{SystemStandsAlone};
-ghost use Rattle.jv_loader_world.specs.LookUps.{is_subclass};
+ghost use Rattle.jv_loader_world.specs.LookUps.{is_among, is_subclass};
 ghost use Rattle.jv_loader_world.specs.Verdicts.{is_loadable, each_super, have_right_kind, can_name_supers, has_final_super};
 ghost use Rattle.jv_loader_classes.specs.Numbers.{number_named, superclass_number, super_numbers, IsNumbered};
 ghost use Rattle.std.specs.List.{All, filter_map};
@@ -141,6 +141,15 @@ impl<'a> ClassTable<'a> {
     {
         self.is_numbered();
         number == of || self.superclasses.holds(number, of)
+    }
+
+    /// Whether a class is on the chain of another's superclasses.
+    pub fn is_superclass(&self, above: usize, number: usize) -> bool
+        requires above { above < length self.now }
+        requires number { number < length self.now }
+        ensures { IsAt self.now number (λ l. IsAt self.now above (λ to. result ≡ is_among (superclasses self.now l.class) to)) }
+    {
+        self.superclasses.holds(number, above)
     }
 
     /// Whether a class can be loaded (JVMS 5.3.5).

@@ -1,4 +1,4 @@
-use Rattle.std.proofs.Common.{arith}
+use Rattle.std.proofs.Common.{arith, rules}
 use Rattle.jv_class.specs.ClassFile.{IsClassFile}
 use Rattle.jv_class.specs.Inside.Reading.{IsWholeBehind}
 use Rattle.jv_class.proofs.Kept.{if_ok_same}
@@ -27,3 +27,6 @@ returns-clause-unsupported c = λ e.
 pub returns-clause-format_no_class : goal.returns-clause-format_no_class
 returns-clause-format_no_class c = λ e d h.
     c.class_behind.ensures.format e d (behind_class c.args.bytes.now c.in-Some.rest.now c.in-Some.minor c.in-Some.major c.in-Some.ensures d h)
+
+pub returns-then-minor-ne0-clause-format_no_version : goal.returns-then-minor-ne0-clause-format_no_version
+returns-then-minor-ne0-clause-format_no_version c = search rules

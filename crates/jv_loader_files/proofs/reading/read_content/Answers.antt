@@ -1,3 +1,4 @@
+use Rattle.std.proofs.Common.{rules}
 use Rattle.jv_loader_files.proofs.Contents.{holds, beyond, clash}
 use Rattle.jv_loader_files.proofs.reading.read_content.Goals as goal
 
@@ -8,3 +9,6 @@ returns-then-is_within_profile c =
 pub returns-in-Ok : goal.returns-in-Ok
 returns-in-Ok c =
     beyond c.args.bytes.now c.in-Ok.class c.in-Ok.ensures.ok (λ all. clash c.is_within_profile.result (c.is_within_profile.ensures.1 all) c.if-is_within_profile.false)
+
+pub returns-in-Err-Unsupported : goal.returns-in-Err-Unsupported
+returns-in-Err-Unsupported c = search rules

@@ -1,4 +1,5 @@
-use Rattle.std.proofs.Common.{◌∙◌, sym, subst, arith}
+use Rattle.std.proofs.lemmas.Grind.{common_steps}
+use Rattle.std.proofs.Common.{◌∙◌, sym, subst, arith, rules}
 use Rattle.std.specs.Prelude.{IsTrue, map}
 use Rattle.jv_pool.specs.Constants.{constant_fits}
 use Rattle.jv_pool.specs.Seen.{seen}
@@ -25,3 +26,9 @@ returns-clause-too_large c =
     let right : IsTrue (constant_fits (seen c.args.constant)) = sym c.constant_is_right.ensures ∙ c.if-not-constant_is_right.false in
     let room = room_at (map seen c.self.inside.constants.items) c.args.self.now (seen c.args.constant) c.self.inside.indices c.self.inside.count c.self.view_is c.self.invariant new right (omega arith) in
     (λ e. absurd cc, λ none. absurd (none room))
+
+pub returns-then-count-gt65535-clause-too_large : goal.returns-then-count-gt65535-clause-too_large
+returns-then-count-gt65535-clause-too_large c = grind (arith, common_steps)
+
+pub add-requires-clause-count : goal.add-requires-clause-count
+add-requires-clause-count c = search rules

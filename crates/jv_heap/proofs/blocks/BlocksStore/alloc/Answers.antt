@@ -1,4 +1,4 @@
-use Rattle.std.proofs.Common.{◌≡◌, ◌+◌, map, length, replicate, [], ◌∷◌, ◌++◌, ap, ◌∙◌, arith}
+use Rattle.std.proofs.Common.{◌≡◌, ◌+◌, map, length, replicate, [], ◌∷◌, ◌++◌, ap, ◌∙◌, arith, rules}
 use Rattle.jv_heap.specs.Inside.Layouts.{numbered}
 use Rattle.jv_heap.proofs.Contents.{grows}
 use Rattle.jv_heap.proofs.Rows.{add_words, longer, greatest_row, row_count}
@@ -32,3 +32,12 @@ returns-clause-content c =
     let next = longer (λ v. v.items) c.args.self.now.blocks.items c.add_zeros.new.blocks.items _ (c.in_ok-add_zeros.ensures {u = tt}).ok in
     let same : length c.args.self.now.blocks.items + 1 ≡ c.len-address.result = omega (arith, next, c.len-address.ensures, c.add_zeros.new.blocks.ok.0) in
     added ∙ ap (λ n. numbered 0 (map (λ v. v.items) c.args.self.now.blocks.items) ++ (n, replicate c.args.len 0) ∷ []) same
+
+pub invariant_of-self-2-clause-few : goal.invariant_of-self-2-clause-few
+invariant_of-self-2-clause-few c = search rules
+
+pub returns-clause-room : goal.returns-clause-room
+returns-clause-room c = search rules
+
+pub returns-in_err-add_zeros-clause-sure : goal.returns-in_err-add_zeros-clause-sure
+returns-in_err-add_zeros-clause-sure c = search rules

@@ -1,4 +1,4 @@
-use Rattle.std.proofs.Common.{ap, sym, arith, ◌∙◌, vec_len}
+use Rattle.std.proofs.Common.{ap, sym, arith, ◌∙◌, vec_len, rules}
 use Rattle.jv_heap.specs.Inside.Layouts.{fill}
 use Rattle.jv_heap.proofs.Fills.{fill_count, fill_held}
 use Rattle.jv_heap.proofs.cells.CellsStore.reserve.Goals as goal
@@ -20,3 +20,6 @@ invariant_of-self-2-clause-few c =
 
 pub returns-in_err-reserve-2-clause-nothing : goal.returns-in_err-reserve-2-clause-nothing
 returns-in_err-reserve-2-clause-nothing c e = absurd (omega (arith, e, (c.in_err-reserve-2.ensures {u = tt}).full, fill_count c.args.self.now.starts.items _ c.args.self.now.filled, c.len.ensures, c.len-2.ensures, c.reserve.ensures.len, c.args.self.now.starts.ok.0, c.args.self.now.starts_fit))
+
+pub invariant_of-self-2-clause-words_fit : goal.invariant_of-self-2-clause-words_fit
+invariant_of-self-2-clause-words_fit c = search rules
