@@ -129,7 +129,7 @@ module _ {X : Type 0} where
       by_part again (inl k) = (x, first x xs, single (f x) y k)
       by_part again (inr k) = let found = again k in (found.0, later x xs found.0 found.1, found.2)
 
-  each_passes : (test : X → Bool) (xs : List X) (x : X) → IsTrue (list_all test xs) → Contains xs x → IsTrue (test x)
+  pub each_passes : (test : X → Bool) (xs : List X) (x : X) → IsTrue (list_all test xs) → Contains xs x → IsTrue (test x)
   each_passes test [] x all h = absurd (none x h)
   each_passes test (y ∷ xs) x all h =
       let parts = and_parts (test y) (list_all test xs) all in
@@ -154,7 +154,7 @@ named_in_system (c ∷ classes) guests name s h e = by_test (bytes_eq c.name nam
     by_test true again h e = subst (λ (l : Loaded). IsTrue l.by_system) (same e) refl
     by_test false again h e = again h e
 
-of_system : (guests : List Class) (l : Loaded) → Contains (map (loaded true) system_classes ++ map (loaded false) guests) l → IsTrue l.by_system → (c : Class) × Contains system_classes c × (loaded true c ≡ l)
+pub of_system : (guests : List Class) (l : Loaded) → Contains (map (loaded true) system_classes ++ map (loaded false) guests) l → IsTrue l.by_system → (c : Class) × Contains system_classes c × (loaded true c ≡ l)
 of_system guests l h t = by_part (Contains-append_cases (map (loaded true) system_classes) (map (loaded false) guests) l h)
   where
     unlike : IsTrue false → ⊥

@@ -5,3 +5,4 @@ pub mod Unlike
 pub mod Joining
 pub mod Whole
 pub mod Searching
+pub mod Straightness

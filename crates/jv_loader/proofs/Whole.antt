@@ -10,7 +10,7 @@ use Rattle.jv_loader_world.specs.World.{World, world_of}
 use Rattle.jv_loader_world.specs.Laws.{SystemStandsAlone}
 use Rattle.jv_loader.specs.Loading.{AreLoaded}
 use Rattle.jv_loader.specs.Inside.System.{system_world}
-use Rattle.jv_loader.specs.Inside.Files.{ArePut, with_files, entries_from, verdict_of_entry, IsPlace}
+use Rattle.jv_loader.specs.Inside.Files.{ArePut, with_files, entries_from, verdict_of_entry, IsPlace, IsOfFiles}
 use Rattle.jv_loader.proofs.InSystem.{stands_alone}
 use Rattle.jv_loader.proofs.Joining.{world_is, verdict_is, as_many, all_places}
 
@@ -23,6 +23,9 @@ module _ (files : List (List ℕ)) (before after : World) (entries : List (Resul
 
   whole_entries : entries ≡ entries_from system_world put.contents
   whole_entries = put.entry ∙ ap (λ w. entries_from w put.contents) start
+
+  pub of_files : IsOfFiles after
+  of_files = (put.contents, whole_world)
 
   pub alone : SystemStandsAlone after
   alone = subst SystemStandsAlone (sym whole_world) (stands_alone put.contents)

@@ -5,8 +5,10 @@ ghost use Rattle.std.specs.Option.{option_and_then};
 ghost use Rattle.jv_loader_world.specs.LookUps.{lookup_field, lookup_method};
 ghost use Rattle.jv_loader_classes.specs.Inside.Told.{IsAt};
 ghost use Rattle.jv_loader_lookups.specs.Places.{field_at, method_at, IsFieldPlace, IsMethodPlace};
+ghost use Rattle.jv_loader_lookups.specs.Defaults.{defaults, AreDefaults, IsDefaultPlace};
 ghost use Rattle.jv_loader.specs.Loading.{AreLoaded};
-ghost use Rattle.jv_loader.specs.Inside.Files.{texts_of};
+ghost use Rattle.jv_loader.specs.Straight.{AreStraight};
+ghost use Rattle.jv_loader.specs.Inside.Files.{texts_of, IsOfFiles};
 ghost use Rattle.jv_loader.specs.Inside.Searches.{IsSearch};
 
 use crate::entry::put_files;
@@ -15,9 +17,9 @@ use crate::system::system_list;
 use crate::verdicts::verdicts_of;
 use jv_loader_classes::ClassTable;
 use jv_loader_files::Memory;
-use jv_loader_lookups::{Place, lookup_field, lookup_method};
+use jv_loader_lookups::{Defaults, Place, lookup_field, lookup_method, superinterface_defaults};
 use jv_loader_system::SystemFiles;
-use jv_loader_world::LoadVerdict;
+use jv_loader_world::{LoadVerdict, above_by_ways, loadable_by_all};
 use std::alloc::Global;
 use std::hash::RandomState;
 use std::marker::Model;
@@ -39,7 +41,9 @@ impl<'a> Model for Classes<'a> {
 
     ghost view = { λ c. record { world = c.table; verdicts = c.verdicts.items } };
 
-    ghost invariant = { λ c. AreSearches c.table (lists_of c.searches.items) };
+    ghost use Rattle.jv_loader.specs.Straight.{AreStraight};
+
+    ghost invariant = { λ c. AreSearches c.table (lists_of c.searches.items) × AreStraight c.table };
 }
 
 impl Drop for Classes<'_> {
@@ -50,6 +54,17 @@ impl Drop for Classes<'_> {
             searches: _,
         } = self;
     }
+}
+
+/// No class of a guest's world that can be loaded is above itself, and java/lang/Object can be loaded
+/// (JVMS 5.3.5). The call does nothing.
+fn are_straight(table: &ClassTable<'_>)
+    requires { IsOfFiles table.now }
+    ensures { AreStraight table.now }
+{
+    above_by_ways();
+    loadable_by_all();
+    let _table = table;
 }
 
 impl<'a> Classes<'a> {
@@ -72,6 +87,7 @@ impl<'a> Classes<'a> {
         let table = ClassTable::of(alloc, list)?;
         let verdicts = verdicts_of(alloc, state, &table, &entries)?;
         let searches = searches_of(alloc, &table)?;
+        are_straight(&table);
         Ok(Classes {
             table,
             verdicts,
@@ -84,6 +100,14 @@ impl<'a> Classes<'a> {
         ensures { result.now ≡ self.now.world }
     {
         &self.table
+    }
+
+    /// No class that can be loaded is above itself, and java/lang/Object can be loaded (JVMS 5.3.5). The
+    /// call does nothing.
+    pub fn are_straight(&self)
+        ensures { AreStraight self.now.world }
+    {
+        let _table = &self.table;
     }
 
     /// How many files there are.
@@ -128,5 +152,15 @@ impl<'a> Classes<'a> {
         ensures place { IfSome result (IsMethodPlace self.now.world) }
     {
         lookup_method(self.table(), class, self.searched(class), name, descriptor)
+    }
+
+    /// The maximally specific methods of a name and a descriptor that the superinterfaces of a class
+    /// declare and that are not abstract (JVMS 5.4.3.3, 6.5).
+    pub fn superinterface_defaults(&self, class: usize, name: &[u8], descriptor: &[u8]) -> Defaults
+        requires { class < length self.now.world }
+        ensures found { IsAt self.now.world class (λ l. AreDefaults self.now.world result (defaults self.now.world l name.now descriptor.now)) }
+        ensures place { IsDefaultPlace self.now.world result }
+    {
+        superinterface_defaults(self.table(), class, self.searched(class), name, descriptor)
     }
 }

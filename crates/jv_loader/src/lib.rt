@@ -12,6 +12,6 @@ pub use classes::Classes;
 pub use jv_loader_class::{LoadedClass, Member};
 pub use jv_loader_classes::ClassTable;
 pub use jv_loader_files::Memory;
-pub use jv_loader_lookups::Place;
+pub use jv_loader_lookups::{Defaults, Place};
 pub use jv_loader_system::{SystemFiles, system_files};
 pub use jv_loader_world::LoadVerdict;

@@ -125,7 +125,7 @@ above_other world all d e f = ap (λ b. b && not (list_any (is_below world d) al
 pub most_specific : (world : World) (all : List Declared) (d : Declared) → is_concrete d ≡ true → list_any (is_below world d) all ≡ false → is_specific world all d ≡ true
 most_specific world all d e f = ap (λ b. b && not (list_any (is_below world d) all)) e ∙ ap not f
 
-specific_same : (world : World) (searched : List ℕ) (name descriptor : List ℕ) (l : Loaded)
+pub specific_same : (world : World) (searched : List ℕ) (name descriptor : List ℕ) (l : Loaded)
     → filter is_concrete (maximally_specific world (candidates_at world searched name descriptor l)) ≡ filter_map (specific_in world (candidates_at world searched name descriptor l) name descriptor l) (classes_at world searched)
 specific_same world searched name descriptor l =
     let all = candidates_at world searched name descriptor l in

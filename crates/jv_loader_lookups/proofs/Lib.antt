@@ -7,3 +7,4 @@ pub mod Tests
 pub mod Candidates
 pub mod Only
 pub mod Chain
+pub mod Defaulting

@@ -1,3 +1,4 @@
 pub mod Searched
 pub mod Places
+pub mod Defaults
 pub mod Inside

@@ -8,7 +8,7 @@ use std::alloc::{AllocError, Global};
 use std::marker::Model;
 
 /// Numbers below a size in the order in which they came, with a mark for each.
-pub(crate) struct Begun {
+pub struct Begun {
     order: Vec<usize>,
     marks: Vec<bool>,
 }
@@ -32,7 +32,11 @@ impl Drop for Begun {
 
 impl Begun {
     /// No number yet.
-    pub(crate) fn new(alloc: Global, size: usize) -> Result<Begun, AllocError>
+    ///
+    /// # Errors
+    ///
+    /// Where the host had no memory for the marks.
+    pub fn new(alloc: Global, size: usize) -> Result<Begun, AllocError>
         ensures { IfOk result (λ b. b ≡ numbers_below size []) }
     {
         let marks = vec![in alloc; false; size]?;
@@ -43,15 +47,19 @@ impl Begun {
     }
 
     /// Whether a number is there.
-    pub(crate) fn has(&self, number: usize) -> bool
+    pub fn has(&self, number: usize) -> bool
         requires { number < self.now.size }
         ensures { result ≡ list_any (nat_eq number) self.now.numbers }
     {
         self.marks[number]
     }
 
-    /// Adds a number. Where the host had no memory for it, nothing has changed.
-    pub(crate) fn add(&mut self, number: usize) -> Result<(), AllocError>
+    /// Adds a number.
+    ///
+    /// # Errors
+    ///
+    /// Where the host had no memory for it; nothing has then changed.
+    pub fn add(&mut self, number: usize) -> Result<(), AllocError>
         requires { number < self.old.size }
         ensures ok { OnOk result (self.new ≡ numbers_below self.old.size (self.old.numbers ++ number ∷ [])) }
         ensures refused { OnErr result (self.new ≡ self.old) }
@@ -62,7 +70,7 @@ impl Begun {
     }
 
     /// The numbers in the order in which they came.
-    pub(crate) fn numbers(self) -> Vec<usize>
+    pub fn numbers(self) -> Vec<usize>
         ensures { result.items ≡ self.numbers }
     {
         let Begun { order, marks: _ } = self;

@@ -4,13 +4,17 @@
 
 mod begun;
 mod declared;
+mod defaults;
 mod field;
 mod method;
 mod place;
 mod searching;
 mod superinterface;
 
+pub use begun::Begun;
+pub use defaults::Defaults;
 pub use field::lookup_field;
-pub use method::lookup_method;
+pub use method::{lookup_method, method_of_object};
 pub use place::Place;
-pub use searching::searched_from;
+pub use searching::{interfaces_of, searched_from};
+pub use superinterface::superinterface_defaults;

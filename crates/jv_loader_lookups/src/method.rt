@@ -61,8 +61,8 @@ fn lookup_class_method(
     superinterface_method(table, from, searched, name, descriptor)
 }
 
-/// The public instance method that java/lang/Object declares (JVMS 5.4.3.4).
-fn method_of_object(table: &ClassTable<'_>, name: &[u8], descriptor: &[u8]) -> Option<Place>
+/// The public instance method of a name and a descriptor that java/lang/Object declares (JVMS 5.4.3.4).
+pub fn method_of_object(table: &ClassTable<'_>, name: &[u8], descriptor: &[u8]) -> Option<Place>
     ensures found { option_and_then (method_at table.now) result ≡ passing is_public_instance (method_if_loaded name.now descriptor.now (class_named table.now (codes "java/lang/Object"))) }
     ensures place { IfSome result (IsMethodPlace table.now) }
 {

@@ -12,7 +12,7 @@ use jv_loader_classes::ClassTable;
 use std::alloc::{AllocError, Global};
 
 /// The numbers of the direct superinterfaces of a class, each where it is there.
-fn interfaces_of<'t>(table: &'t ClassTable<'_>, number: usize) -> &'t [Option<usize>]
+pub fn interfaces_of<'t>(table: &'t ClassTable<'_>, number: usize) -> &'t [Option<usize>]
     requires { number < length table.now }
     ensures { IsAt table.now number (λ l. result.now ≡ map (number_named table.now) l.class.interfaces) }
 {

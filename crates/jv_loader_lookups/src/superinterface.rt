@@ -7,9 +7,11 @@ ghost use Rattle.jv_loader_world.specs.LookUps.{searched_from, without_itself, f
 ghost use Rattle.jv_loader_classes.specs.Inside.Told.{IsAt};
 ghost use Rattle.jv_loader_lookups.specs.Searched.{classes_at, AreNumbers};
 ghost use Rattle.jv_loader_lookups.specs.Places.{method_at, IsMethodPlace};
-ghost use Rattle.jv_loader_lookups.specs.Inside.Members.{candidate_in, below_in, candidates_at, specific_in};
+ghost use Rattle.jv_loader_lookups.specs.Inside.Members.{candidate_in, below_in, candidates_at, specific_in, is_specific_at};
+ghost use Rattle.jv_loader_lookups.specs.Defaults.{defaults, AreDefaults, IsDefaultPlace};
 
 use crate::declared::{declared_method, is_concrete, is_inheritable};
+use crate::defaults::Defaults;
 use crate::place::Place;
 use jv_loader_classes::ClassTable;
 
@@ -184,4 +186,48 @@ pub(crate) fn superinterface_method(
         return Some(place);
     }
     first_candidate(table, from, searched, name, descriptor)
+}
+
+/// Whether there is such a method that is not abstract and has none below it.
+fn has_specific(
+    table: &ClassTable<'_>,
+    from: usize,
+    searched: &[usize],
+    name: &[u8],
+    descriptor: &[u8],
+) -> bool
+    requires from { from < length table.now }
+    requires searched { AreNumbers table.now searched.now }
+    ensures { IsAt table.now from (λ l. result ≡ list_any (is_specific_at table.now (candidates_at table.now searched.now name.now descriptor.now l) name.now descriptor.now l) (classes_at table.now searched.now)) }
+{
+    for class in searched {
+        if specific(table, from, searched, *class, name, descriptor).is_some() {
+            return true;
+        }
+    }
+    false
+}
+
+/// The maximally specific methods of a class's superinterfaces that are not abstract, by what a search
+/// from it meets (JVMS 5.4.3.3, 6.5). It takes no memory.
+pub fn superinterface_defaults(
+    table: &ClassTable<'_>,
+    from: usize,
+    searched: &[usize],
+    name: &[u8],
+    descriptor: &[u8],
+) -> Defaults
+    requires from { from < length table.now }
+    requires searched { AreNumbers table.now searched.now }
+    ensures found { IsAt table.now from (λ l. classes_at table.now searched.now ≡ searched_from table.now l → AreDefaults table.now result (defaults table.now l name.now descriptor.now)) }
+    ensures place { IsDefaultPlace table.now result }
+{
+    if let Some(place) = only_specific(table, from, searched, name, descriptor) {
+        return Defaults::One(place);
+    }
+    if has_specific(table, from, searched, name, descriptor) {
+        Defaults::Several
+    } else {
+        Defaults::Absent
+    }
 }

@@ -6,7 +6,8 @@ use Rattle.jv_loader_files.specs.FileContent.{FileContent, AreContents}
 use Rattle.jv_loader_files.specs.declared.content.Content.TheVariants.{OtherVersion, NoClassFile, MoreThanProfile, Holds}
 use Rattle.jv_loader_world.specs.declared.verdict.LoadVerdict.{LoadVerdict}
 use Rattle.jv_loader_world.specs.declared.verdict.LoadVerdict.TheVariants.{Version, Format, Unsupported, Reserved, Duplicate}
-use Rattle.jv_loader_world.specs.World.{World, loaded, is_reserved}
+use Rattle.jv_loader_world.specs.World.{World, loaded, is_reserved, world_of}
+use Rattle.jv_loader_system.specs.SystemClasses.{system_classes}
 use Rattle.jv_loader_world.specs.Verdicts.{verdict_of_class}
 use Rattle.jv_loader_classes.specs.Numbers.{number_named}
 
@@ -55,3 +56,7 @@ verdict_of_entry world (Ok number) = option_and_then (verdict_of_class world) (s
 -- a class's number is that of a class
 abbrev pub IsPlace : World → Result ℕ LoadVerdict → Type 0
 IsPlace world entry = IfOk entry (λ number. number < length world)
+
+-- the world of the system's classes and those of some files
+abbrev pub IsOfFiles : World → Type 0
+IsOfFiles world = (contents : List FileContent) × (world ≡ world_of system_classes contents)

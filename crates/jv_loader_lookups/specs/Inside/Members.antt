@@ -32,3 +32,6 @@ is_specific world all d = is_concrete d && not (list_any (is_below world d) all)
 
 abbrev pub specific_in : World → List Declared → List ℕ → List ℕ → Loaded → Loaded → Option Declared
 specific_in world all name descriptor l c = passing (is_specific world all) (candidate_in name descriptor l c)
+
+abbrev pub is_specific_at : World → List Declared → List ℕ → List ℕ → Loaded → Loaded → Bool
+is_specific_at world all name descriptor l c = is_some (specific_in world all name descriptor l c)

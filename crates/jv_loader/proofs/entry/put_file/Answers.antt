@@ -1,4 +1,4 @@
-use Rattle.std.proofs.Common.{refl}
+use Rattle.std.proofs.Common.{refl, rules}
 use Rattle.jv_loader_files.specs.FileContent.{IsContent}
 use Rattle.jv_loader_files.specs.declared.content.Content.TheVariants.{MoreThanProfile, Holds}
 use Rattle.jv_loader.proofs.Contents.{has_more, has_class}
@@ -15,3 +15,9 @@ returns-in_ok-put_class-in-Holds c =
       c.in_ok-put_class-in-Holds.ensures.world,
       c.in_ok-put_class-in-Holds.ensures.entry,
     )
+
+pub put_class-requires : goal.put_class-requires
+put_class-requires c = search rules
+
+pub returns-in-OtherVersion : goal.returns-in-OtherVersion
+returns-in-OtherVersion c = search rules

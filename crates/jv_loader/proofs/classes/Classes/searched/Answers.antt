@@ -9,7 +9,7 @@ pub index-requires : goal.index-requires
 index-requires c =
     let world = ap (λ (v : Loading). length v.world) c.self.view_is in
     let many = length-map c.self.inside.searches.items numbers_in in
-    omega (arith, c.requires, world, many, c.self.invariant.many, c.self.inside.searches.ok.0)
+    omega (arith, c.requires, world, many, c.self.invariant.0.many, c.self.inside.searches.ok.0)
 
 pub returns : goal.returns
 returns c =
@@ -18,6 +18,6 @@ returns c =
     let size = ap (λ (v : Loading). length v.world) c.self.view_is in
     let many = length-map lists numbers_in in
     let within : c.args.class < length c.self.inside.table = omega (arith, c.requires, size) in
-    let there : c.args.class < length lists = omega (arith, within, many, c.self.invariant.many) in
+    let there : c.args.class < length lists = omega (arith, within, many, c.self.invariant.0.many) in
     let list = list_there lists c.args.class c.index.result.now there c.index.ensures ∙ sym c.deref.ensures.value in
-    subst (λ w. IsSearch w c.args.class c.deref.result.now) world (subst (IsSearch c.self.inside.table c.args.class) list (c.self.invariant.each c.args.class within))
+    subst (λ w. IsSearch w c.args.class c.deref.result.now) world (subst (IsSearch c.self.inside.table c.args.class) list (c.self.invariant.0.each c.args.class within))
