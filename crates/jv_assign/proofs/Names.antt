@@ -10,7 +10,7 @@ use Rattle.jv_loader_world.specs.Verdicts.{is_interface, is_loadable}
 use Rattle.jv_loader_world.proofs.Up.{same_name}
 use Rattle.jv_loader_classes.specs.Numbers.{number_named, IsNumbered}
 use Rattle.jv_loader_classes.proofs.Numbers.{numbered}
-use Rattle.jv_assign.specs.Flow.{is_loadable_interface, is_loadable_below}
+use Rattle.jv_assign.specs.Flow.{is_loadable_interface, is_loadable_below, class_flows}
 
 -- a name without a number is that of no class
 pub no_class : (world : World) (name : List ℕ) → number_named world name ≡ None → class_named world name ≡ None
@@ -105,3 +105,8 @@ interface_not world from name to b below other at is not_so rest =
     ∙ (ap (λ n. is_loadable_below world n (class_named world from)) named
     ∙ (ap (λ c. c || is_loadable_below world name (class_named world from)) (sym not_so ∙ is)
     ∙ ap (λ o. is_loadable_interface world o || is_loadable_below world name (class_named world from)) (sym at)))
+
+-- of two names
+pub of_others : (world : World) (x y : List ℕ) → bytes_eq x y ≡ false
+    → (is_loadable_interface world (class_named world y) || is_loadable_below world y (class_named world x)) ≡ class_flows world x y
+of_others world x y other = sym (ap (λ b. b || (is_loadable_interface world (class_named world y) || is_loadable_below world y (class_named world x))) other)

@@ -1,10 +1,12 @@
 //! Classes, by their names.
 
-ghost use Rattle.std.specs.Prelude.{◌≡◌, ◌<◌, ◌&&◌, ◌||◌, false, length};
+ghost use Rattle.std.specs.Prelude.{◌≡◌, ◌<◌, ◌&&◌, ◌||◌, ℕ, List, false, length};
+ghost use Rattle.std.specs.Option.{ForSome};
 ghost use Rattle.std.specs.Str.{bytes_eq};
 ghost use Rattle.jv_loader_world.specs.World.{class_named};
 ghost use Rattle.jv_loader_world.specs.LookUps.{is_subclass};
 ghost use Rattle.jv_loader_world.specs.Verdicts.{is_interface, is_loadable};
+ghost use Rattle.jv_loader_classes.specs.Numbers.{number_named};
 ghost use Rattle.jv_loader_classes.specs.Inside.Told.{IsAt};
 ghost use Rattle.jv_assign.specs.Flow.{is_loadable_interface, is_loadable_below, class_flows};
 
@@ -27,13 +29,15 @@ fn is_loadable_subclass(table: &ClassTable<'_>, number: usize, of: usize) -> boo
     table.is_loadable(number) && table.is_subclass(number, of)
 }
 
-/// Whether the class of a name is there, can be loaded (JVMS 5.3.5) and is another or below it on the chain
-/// of superclasses.
-fn named_is_loadable_subclass(table: &ClassTable<'_>, name: &[u8], of: usize) -> bool
-    requires { of < length table.now }
-    ensures { IsAt table.now of (λ to. bytes_eq name.now to.class.name ≡ false → result ≡ is_loadable_below table.now to.class.name (class_named table.now name.now)) }
+/// Whether the class of a name, by its number where there is one, can be loaded (JVMS 5.3.5) and is another or
+/// below it on the chain of superclasses.
+fn named_is_loadable_subclass(table: &ClassTable<'_>, from: Option<usize>, of: usize) -> bool
+    requires from { ForSome from (λ n. n < length table.now) }
+    requires of { of < length table.now }
+    ensures { (name : List ℕ) → from ≡ number_named table.now name
+        → IsAt table.now of (λ to. bytes_eq name to.class.name ≡ false → result ≡ is_loadable_below table.now to.class.name (class_named table.now name)) }
 {
-    let Some(number) = table.find(name) else {
+    let Some(number) = from else {
         return false;
     };
     is_loadable_subclass(table, number, of)
@@ -49,7 +53,8 @@ fn flows_to_other(table: &ClassTable<'_>, from: &[u8], to: &[u8]) -> bool
     let Some(number) = table.find(to) else {
         return false;
     };
-    is_loadable_interface(table, number) || named_is_loadable_subclass(table, from, number)
+    is_loadable_interface(table, number)
+        || named_is_loadable_subclass(table, table.find(from), number)
 }
 
 /// Whether a class flows to another, by their names (JVMS 4.10.1.2). Where the names are equal, nothing is
@@ -58,4 +63,18 @@ pub(crate) fn class_flows(table: &ClassTable<'_>, from: &[u8], to: &[u8]) -> boo
     ensures { result ≡ class_flows table.now from.now to.now }
 {
     from == to || flows_to_other(table, from, to)
+}
+
+/// Whether a class flows to another of another name, by the numbers of the classes of these names, where there
+/// are such classes: a loadable interface, or, where it is loadable, one of its superclasses (JVMS 4.10.1.2).
+pub fn other_class_flows(table: &ClassTable<'_>, from: Option<usize>, to: Option<usize>) -> bool
+    requires from { ForSome from (λ n. n < length table.now) }
+    requires to { ForSome to (λ n. n < length table.now) }
+    ensures { (x y : List ℕ) → from ≡ number_named table.now x → to ≡ number_named table.now y → bytes_eq x y ≡ false → result ≡ class_flows table.now x y }
+{
+    table.is_numbered();
+    let Some(number) = to else {
+        return false;
+    };
+    is_loadable_interface(table, number) || named_is_loadable_subclass(table, from, number)
 }

@@ -9,6 +9,7 @@ mod frames;
 mod law;
 mod types;
 
+pub use classes::other_class_flows;
 pub use frame::Frame;
 pub use frames::frame_flows;
 pub use law::worked_rows;

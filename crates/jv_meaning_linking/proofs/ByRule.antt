@@ -15,7 +15,7 @@ use Rattle.jv_meaning_linking.proofs.Enumerated.{one_passes}
 
 -- ---- a walk in two parts
 
-in_parts : (found : List Declared) (m : Method) (higher lower : List Loaded) → overriding found m (higher ++ lower) ≡ overriding (overriding found m higher) m lower
+pub in_parts : (found : List Declared) (m : Method) (higher lower : List Loaded) → overriding found m (higher ++ lower) ≡ overriding (overriding found m higher) m lower
 in_parts found m [] lower = refl
 in_parts found m (l ∷ higher) lower = in_parts (with_declared found (alike_in l m)) m higher lower
 

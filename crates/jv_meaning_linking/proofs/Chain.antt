@@ -123,7 +123,7 @@ module _ (ways : AboveByWays) (above_above : AboveIsTransitive) (world : World) 
   abbrev pub NoCircle : Loaded → Type 0
   NoCircle l = IsFalse (is_circular world l.class)
 
-  fresh : (l : Loaded) (ls : List Loaded) → NoCircle l → AllOf (λ s. Contains (above world l.class) s) ls → IsFresh l.class.name ls
+  pub fresh : (l : Loaded) (ls : List Loaded) → NoCircle l → AllOf (λ s. Contains (above world l.class) s) ls → IsFresh l.class.name ls
   fresh l [] straight all = tt
   fresh l (s ∷ ls) straight all = (by_test (bytes_eq l.class.name s.class.name) refl, fresh l ls straight (λ c h. all c (later s ls c h)))
     where

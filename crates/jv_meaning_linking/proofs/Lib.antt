@@ -1,13 +1,14 @@
-mod Found
-mod Searched
+pub mod Found
+pub mod Searched
 mod Resolved
-mod Run
-mod Chain
-mod Places
-mod Unchanged
+pub mod Run
+pub mod Chain
+pub mod Places
+pub mod Unchanged
 mod Finals
 mod Loading
 mod Errors
 mod OneWalk
 mod Enumerated
-mod ByRule
+pub mod ByRule
+mod Upward

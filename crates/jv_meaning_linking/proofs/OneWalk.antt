@@ -32,7 +32,7 @@ nothing_left (suc (suc (suc (suc (suc (suc zero)))))) few a b = absurd (not_zero
 nothing_left (suc (suc (suc (suc (suc (suc (suc zero))))))) few a b = absurd (not_zero 1 a)
 nothing_left (suc (suc (suc (suc (suc (suc (suc (suc n)))))))) few a b = absurd (omega (arith, few))
 
-no_bit : (n : ℕ) → not (n == 0) ≡ false → n ≡ 0
+pub no_bit : (n : ℕ) → not (n == 0) ≡ false → n ≡ 0
 no_bit n h = by_test (n == 0) refl h
   where
     by_test : (b : Bool) → (n == 0) ≡ b → not b ≡ false → n ≡ 0
@@ -43,7 +43,7 @@ no_bit n h = by_test (n == 0) refl h
         unlike f = cc
 
 -- neither private nor open
-package_private : (d : Declared) → has d.method.access_flags acc_private ≡ false → is_open d ≡ false → is_package_private d.method ≡ true
+pub package_private : (d : Declared) → has d.method.access_flags acc_private ≡ false → is_open d ≡ false → is_package_private d.method ≡ true
 package_private d private open_is =
     ap (λ n. not (not (n == 0)))
     (nothing_left (bit_and d.method.access_flags 7) (and_le_r d.method.access_flags 7)
@@ -52,7 +52,7 @@ package_private d private open_is =
 
 -- ---- packages
 
-package_goes_on : (x d e : Loaded) → same_package d e ≡ true → same_package x d ≡ same_package x e
+pub package_goes_on : (x d e : Loaded) → same_package d e ≡ true → same_package x d ≡ same_package x e
 package_goes_on x d e h =
     ap (λ b. same_loader x.by_system b && bytes_eq (package_of x.class.name) (package_of d.class.name)) (loader d.by_system e.by_system parts.0)
     ∙ ap (λ name. same_loader x.by_system e.by_system && bytes_eq (package_of x.class.name) name) (same_text (package_of d.class.name) (package_of e.class.name) parts.1)

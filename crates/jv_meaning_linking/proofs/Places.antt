@@ -38,7 +38,7 @@ apart n (d ∷ ds) = (weaker (λ p. n + width d ≤ p.place) (AreApart (placed d
 pub layout_is_right : LayoutIsRight
 layout_is_right world l = record { fields = fields_stay 0 (instance_fields world l); within = weaker (λ p. end_of p ≤ 0 + object_words world l) (λ p. end_of p ≤ object_words world l) (λ p h. omega (arith, h)) (layout world l) (within 0 (instance_fields world l)); apart = apart 0 (instance_fields world l) }
 
-placed_go_on : (n : ℕ) (ds es : List DeclaredField) → placed_from n (ds ++ es) ≡ placed_from n ds ++ placed_from (n + sum_by width ds) es
+pub placed_go_on : (n : ℕ) (ds es : List DeclaredField) → placed_from n (ds ++ es) ≡ placed_from n ds ++ placed_from (n + sum_by width ds) es
 placed_go_on n [] es = ap (λ k. placed_from k es) (let e : n ≡ n + 0 = omega arith in e)
 placed_go_on n (d ∷ ds) es =
     let all : sum_by width (d ∷ ds) ≡ width d + sum_by width ds = sum_by-cons width d ds in

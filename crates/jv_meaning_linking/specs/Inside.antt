@@ -1,1 +1,2 @@
 pub mod OneWalk
+pub mod Upward

@@ -3,6 +3,7 @@
 ghost use Rattle.jv_meaning_linking.specs.Laws.{LoadableResolves, FieldIsUsed, MethodIsCalled, SelectedIsRun, SpecialIsRun, InitIsRun, PrivateIsRun, FinalIsRun, NamedIsRun, NeverVerifyError, LayoutIsRight, LayoutExtends, InitOrderIsAbove, InitOrderIsRight};
 ghost use Rattle.jv_meaning_linking.specs.OverridingRule.{OverridingIsByRule};
 ghost use Rattle.jv_meaning_linking.specs.Inside.OneWalk.{OverridingInOneWalk};
+ghost use Rattle.jv_meaning_linking.specs.Inside.Upward.{OverridingUpward};
 ghost use Rattle.jv_meaning_linking.specs.Rows.{WorkedRows};
 
 use jv_loader_world::{above_by_ways, above_is_transitive, loadable_by_all};
@@ -74,6 +75,12 @@ pub fn overriding_is_by_rule()
 /// code that selects methods.
 pub fn overriding_in_one_walk()
     ensures { OverridingInOneWalk }
+{}
+
+/// Whether a method below a chain of classes overrides one above it is known from the chain's classes one by one, upward
+/// (JVMS 5.4.5): for the code that selects methods.
+pub fn overriding_upward()
+    ensures { OverridingUpward }
 {}
 
 /// invokevirtual of a private method runs it (JVMS 5.4.5, 6.5).

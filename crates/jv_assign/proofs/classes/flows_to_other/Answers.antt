@@ -17,4 +17,4 @@ returns-else-is_loadable_interface c =
     let world = c.args.table.now in
     let there = stands_at world c.args.to.now c.in-Some.number (sym c.find.ensures ∙ c.in-Some.is) in
     interface_not world c.args.from.now c.args.to.now there.0 _ _ c.requires there.2 (c.is_loadable_interface.ensures there.0 there.1) c.if-is_loadable_interface.false
-    (c.named_is_loadable_subclass.ensures there.0 there.1)
+    (c.named_is_loadable_subclass.ensures c.args.from.now c.find-else-is_loadable_interface.ensures there.0 there.1)
