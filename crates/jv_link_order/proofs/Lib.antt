@@ -1,0 +1,3 @@
+pub mod GivenSoFar
+pub mod Fields
+pub mod Defaulting

@@ -1,0 +1,102 @@
+//! What a call runs where a method was found, or none.
+
+ghost use Rattle.std.specs.Prelude.{◌≡◌, ◌<◌, Some, IfOk, IfSome, length};
+ghost use Rattle.std.specs.Option.{option_and_then};
+ghost use Rattle.jv_loader_world.specs.Overriding.{Declared};
+ghost use Rattle.jv_loader_classes.specs.Inside.Told.{IsAt};
+ghost use Rattle.jv_loader_lookups.specs.Places.{method_at, IsMethodPlace};
+ghost use Rattle.jv_meaning_linking.specs.Selection.{superinterface_default, not_abstract, found_or_default, public_or_default};
+ghost use Rattle.jv_link_resolution.specs.Seen.{answer_at};
+ghost use Rattle.jv_link_selection.specs.Inside.Called.{public_one};
+
+use crate::alike::{is_concrete, is_public};
+use jv_link_resolution::{LinkError, method_at};
+use jv_loader::{ClassTable, Classes, Defaults, Place};
+
+/// A method that is not abstract.
+fn not_abstract(table: &ClassTable<'_>, place: Place) -> Result<Place, LinkError>
+    requires { IsMethodPlace table.now place }
+    ensures found { (d : Declared) → method_at table.now place ≡ Some d → answer_at (method_at table.now) result ≡ Some (not_abstract d) }
+    ensures place { IfOk result (IsMethodPlace table.now) }
+{
+    if is_concrete(table, place) {
+        Ok(place)
+    } else {
+        Err(LinkError::AbstractMethodError)
+    }
+}
+
+/// A method that is public and, which is asked then, not abstract.
+fn public_one(table: &ClassTable<'_>, place: Place) -> Result<Place, LinkError>
+    requires { IsMethodPlace table.now place }
+    ensures found { (d : Declared) → method_at table.now place ≡ Some d → answer_at (method_at table.now) result ≡ Some (public_one d) }
+    ensures place { IfOk result (IsMethodPlace table.now) }
+{
+    if !is_public(table, place) {
+        return Err(LinkError::IllegalAccessError);
+    }
+    not_abstract(table, place)
+}
+
+/// The one default of a class's superinterfaces with the name and the descriptor of a method.
+fn superinterface_default(
+    table: &ClassTable<'_>,
+    classes: &Classes<'_>,
+    class: usize,
+    called: Place,
+) -> Result<Place, LinkError>
+    requires same { classes.now.world ≡ table.now }
+    requires class { class < length table.now }
+    requires called { IsMethodPlace table.now called }
+    ensures found { IsAt table.now class (λ l. (e : Declared) → method_at table.now called ≡ Some e → answer_at (method_at table.now) result ≡ Some (superinterface_default table.now l e.method)) }
+    ensures place { IfOk result (IsMethodPlace table.now) }
+{
+    let called = method_at(table, called);
+    match classes.superinterface_defaults(class, called.name, called.descriptor) {
+        Defaults::Absent => Err(LinkError::AbstractMethodError),
+        Defaults::One(place) => Ok(place),
+        Defaults::Several => Err(LinkError::IncompatibleClassChangeError),
+    }
+}
+
+/// What was found, where it is not abstract, or else the one default.
+pub(crate) fn found_or_default(
+    table: &ClassTable<'_>,
+    classes: &Classes<'_>,
+    class: usize,
+    called: Place,
+    found: Option<Place>,
+) -> Result<Place, LinkError>
+    requires same { classes.now.world ≡ table.now }
+    requires class { class < length table.now }
+    requires called { IsMethodPlace table.now called }
+    requires found { IfSome found (IsMethodPlace table.now) }
+    ensures found { IsAt table.now class (λ l. (e : Declared) → method_at table.now called ≡ Some e → answer_at (method_at table.now) result ≡ Some (found_or_default table.now l e.method (option_and_then (method_at table.now) found))) }
+    ensures place { IfOk result (IsMethodPlace table.now) }
+{
+    match found {
+        Some(place) => not_abstract(table, place),
+        None => superinterface_default(table, classes, class, called),
+    }
+}
+
+/// What was found, where it is public and not abstract, or else the one default.
+pub(crate) fn public_or_default(
+    table: &ClassTable<'_>,
+    classes: &Classes<'_>,
+    class: usize,
+    called: Place,
+    found: Option<Place>,
+) -> Result<Place, LinkError>
+    requires same { classes.now.world ≡ table.now }
+    requires class { class < length table.now }
+    requires called { IsMethodPlace table.now called }
+    requires found { IfSome found (IsMethodPlace table.now) }
+    ensures found { IsAt table.now class (λ l. (e : Declared) → method_at table.now called ≡ Some e → answer_at (method_at table.now) result ≡ Some (public_or_default table.now l e.method (option_and_then (method_at table.now) found))) }
+    ensures place { IfOk result (IsMethodPlace table.now) }
+{
+    match found {
+        Some(place) => public_one(table, place),
+        None => superinterface_default(table, classes, class, called),
+    }
+}

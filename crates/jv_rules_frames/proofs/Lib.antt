@@ -1,0 +1,2 @@
+pub mod Storing
+pub mod Replacing

@@ -1,0 +1,47 @@
+-- Frames whose classes are numbers of names, and the frames that they stand for (JVMS 4.10.1.4).
+use Rattle.std.specs.Prelude.{◌≡◌, ℕ, Bool, true, false, List, ◌∷◌, sum_by, Some, None}
+use Rattle.jv_frames.specs.declared.verification.VerificationTypeOf.{VerificationTypeOf}
+use Rattle.jv_frames.specs.declared.verification.VerificationTypeOf.TheVariants as types
+use Rattle.jv_frames.specs.Types.{FrameType}
+use Rattle.jv_frames.specs.Frames.{Frame}
+use Rattle.jv_meaning_typing.specs.FrameChanges.{stored}
+use Rattle.jv_rules_types.specs.Typed.{typed_all}
+
+abbrev pub Item : Type 0
+Item = VerificationTypeOf ℕ
+
+-- the local variables, the first first, the stack, the top first, and the flag that `this` may not be initialized
+pub record NumberFrame : Type 0 where
+  pub locals : List Item
+  pub stack : List Item
+  pub flag_this_uninit : Bool
+
+-- the frame that it stands for, by the names with these numbers
+abbrev pub frame_of : List (List ℕ) → NumberFrame → Frame
+frame_of names f = record { locals = typed_all names f.locals; stack = typed_all names f.stack; flag_this_uninit = f.flag_this_uninit }
+
+-- an item more on top
+abbrev pub topped : NumberFrame → Item → NumberFrame
+topped f item = record f { stack = item ∷ f.stack }
+
+-- two words for a long, one for every other type
+abbrev pub item_words : Item → ℕ
+item_words types.Long = 2
+item_words _ = 1
+
+abbrev pub stack_words : List Item → ℕ
+stack_words items = sum_by item_words items
+
+abbrev pub with_locals : List Item → NumberFrame → NumberFrame
+with_locals locals f = record f { locals = locals }
+
+abbrev pub with_stack : List Item → NumberFrame → NumberFrame
+with_stack stack f = record f { stack = stack }
+
+abbrev pub without_flag : NumberFrame → NumberFrame
+without_flag f = record f { flag_this_uninit = false }
+
+-- Words are stored in local variables from an index on, or there are not as many.
+abbrev pub Stores : Bool → List FrameType → ℕ → List FrameType → List FrameType → Type 0
+Stores true words index old new = stored words index old ≡ Some new
+Stores false words index old new = stored words index old ≡ None

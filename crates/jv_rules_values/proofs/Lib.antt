@@ -1,0 +1,3 @@
+pub mod Storing
+pub mod Making
+pub mod Parting

@@ -1,0 +1,139 @@
+//! Instructions on arrays (JVMS 4.10.1.9).
+
+ghost use Rattle.std.specs.Prelude.{◌≡◌, ℕ, List, ◌∷◌, []};
+ghost use Rattle.std.specs.List.{list_any};
+ghost use Rattle.std.specs.Option.{option_map};
+ghost use Rattle.jv_frames.specs.Types.{value_type};
+ghost use Rattle.jv_frames.specs.declared.verification.VerificationTypeOf.TheVariants as variants;
+ghost use Rattle.jv_assign.specs.FrameFlow.{item_flows};
+ghost use Rattle.jv_meaning_typing.specs.FrameChanges.{taken_as_any, exchanged};
+ghost use Rattle.jv_meaning_typing.specs.NumberRules.{array_of_base, number_arrays, element_number, new_array_type};
+ghost use Rattle.jv_meaning_typing.specs.ValueRules.{array_load, array_store, reference_component, reference_array_load, is_array_or_null};
+ghost use Rattle.jv_rules_types.specs.Typed.{typed, typed_field, typed_all};
+ghost use Rattle.jv_rules_frames.specs.Numbered.{frame_of};
+ghost use Rattle.jv_rules_values.specs.Outcomes.{IsOutcome, Takes};
+
+use crate::outcome::Outcome;
+use crate::stack::{exchange, take};
+use jv_code::{ElementType, NumberElement};
+use jv_frames::VerificationTypeOf;
+use jv_rules_frames::TypeFrame;
+use jv_rules_types::{Item, TypeNames};
+use jv_text::{Base, Element, FieldTypeOf};
+
+/// The array of a primitive type.
+pub fn array_of_base(base: Base) -> Item
+    ensures { (names : List (List ℕ)) → typed names result ≡ array_of_base base }
+{
+    VerificationTypeOf::Array(FieldTypeOf {
+        dimensions: 0,
+        element: Element::Base(base),
+    })
+}
+
+fn flows_to_array_of(types: &TypeNames<'_, '_>, item: Item, base: Base) -> bool
+    ensures { result ≡ item_flows types.now.world (typed types.now.names item) (array_of_base base) }
+{
+    types.item_flows(item, array_of_base(base))
+}
+
+/// Whether an item can be an array of such numbers.
+fn is_number_array(types: &TypeNames<'_, '_>, item: Item, element: NumberElement) -> bool
+    ensures { result ≡ list_any (item_flows types.now.world (typed types.now.names item)) (number_arrays element) }
+{
+    match element {
+        NumberElement::Int => flows_to_array_of(types, item, Base::Int),
+        NumberElement::Long => flows_to_array_of(types, item, Base::Long),
+        NumberElement::ByteOrBoolean => {
+            flows_to_array_of(types, item, Base::Byte)
+                || flows_to_array_of(types, item, Base::Boolean)
+        }
+        NumberElement::Char => flows_to_array_of(types, item, Base::Char),
+        NumberElement::Short => flows_to_array_of(types, item, Base::Short),
+    }
+}
+
+/// Takes an array of such numbers.
+fn take_number_array(
+    types: &TypeNames<'_, '_>,
+    frame: &mut TypeFrame,
+    element: NumberElement,
+) -> bool
+    ensures { Takes types.now.names (taken_as_any types.now.world (number_arrays element) (typed_all types.now.names frame.old.stack)) frame.old frame.new result }
+{
+    match frame.pop() {
+        None => false,
+        Some(item) => is_number_array(types, item, element),
+    }
+}
+
+/// The type of such a number on the stack.
+fn element_number(element: NumberElement) -> Item
+    ensures { (names : List (List ℕ)) → typed names result ≡ element_number element }
+{
+    match element {
+        NumberElement::Long => VerificationTypeOf::Long,
+        _ => VerificationTypeOf::Int,
+    }
+}
+
+/// Loads a number of an array.
+pub fn array_load(
+    types: &TypeNames<'_, '_>,
+    frame: &mut TypeFrame,
+    element: NumberElement,
+) -> Outcome
+    ensures { IsOutcome types.now.names (array_load types.now.world element (frame_of types.now.names frame.old)) frame.new result }
+{
+    if take(types, frame, &[VerificationTypeOf::Int]) && take_number_array(types, frame, element) {
+        Outcome::Gives(element_number(element))
+    } else {
+        Outcome::Fails
+    }
+}
+
+/// Stores a number in an array.
+pub fn array_store(
+    types: &TypeNames<'_, '_>,
+    frame: &mut TypeFrame,
+    element: NumberElement,
+) -> Outcome
+    ensures { IsOutcome types.now.names (array_store types.now.world element (frame_of types.now.names frame.old)) frame.new result }
+{
+    if take(
+        types,
+        frame,
+        &[VerificationTypeOf::Int, element_number(element)],
+    ) && take_number_array(types, frame, element)
+    {
+        Outcome::Leaves
+    } else {
+        Outcome::Fails
+    }
+}
+
+/// The array that `newarray` makes.
+fn new_array_type(element: ElementType) -> Item
+    ensures { (names : List (List ℕ)) → typed names result ≡ new_array_type element }
+{
+    match element {
+        ElementType::Boolean => array_of_base(Base::Boolean),
+        ElementType::Char => array_of_base(Base::Char),
+        ElementType::Byte => array_of_base(Base::Byte),
+        ElementType::Short => array_of_base(Base::Short),
+        ElementType::Int => array_of_base(Base::Int),
+        ElementType::Long => array_of_base(Base::Long),
+    }
+}
+
+/// Takes a length and gives an array of numbers.
+pub fn new_array(types: &TypeNames<'_, '_>, frame: &mut TypeFrame, element: ElementType) -> Outcome
+    ensures { IsOutcome types.now.names (exchanged types.now.world (variants.Int ∷ []) (new_array_type element ∷ []) (frame_of types.now.names frame.old)) frame.new result }
+{
+    exchange(
+        types,
+        frame,
+        &[VerificationTypeOf::Int],
+        Some(new_array_type(element)),
+    )
+}
