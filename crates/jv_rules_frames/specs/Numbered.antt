@@ -1,5 +1,5 @@
 -- Frames whose classes are numbers of names, and the frames that they stand for (JVMS 4.10.1.4).
-use Rattle.std.specs.Prelude.{◌≡◌, ℕ, Bool, true, false, List, ◌∷◌, sum_by, Some, None}
+use Rattle.std.specs.Prelude.{◌≡◌, ℕ, Bool, true, false, List, [], ◌∷◌, replicate, sum_by, Some, None}
 use Rattle.jv_frames.specs.declared.verification.VerificationTypeOf.{VerificationTypeOf}
 use Rattle.jv_frames.specs.declared.verification.VerificationTypeOf.TheVariants as types
 use Rattle.jv_frames.specs.Types.{FrameType}
@@ -37,6 +37,13 @@ with_locals locals f = record f { locals = locals }
 
 abbrev pub with_stack : List Item → NumberFrame → NumberFrame
 with_stack stack f = record f { stack = stack }
+
+-- local variables that hold nothing, an empty stack, and no flag
+abbrev pub blank : ℕ → NumberFrame
+blank max_locals = record { locals = replicate max_locals types.Top; stack = []; flag_this_uninit = false }
+
+abbrev pub with_flag : Bool → NumberFrame → NumberFrame
+with_flag flag f = record f { flag_this_uninit = flag }
 
 abbrev pub without_flag : NumberFrame → NumberFrame
 without_flag f = record f { flag_this_uninit = false }

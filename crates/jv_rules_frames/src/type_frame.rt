@@ -1,11 +1,11 @@
 //! A frame that is changed in place.
 
-ghost use Rattle.std.specs.Prelude.{◌≡◌, ℕ, List, ◌+◌, [], ◌∷◌, length, slice_get, MatchOption, OnOk, OnErr, IfNone, IsSome};
+ghost use Rattle.std.specs.Prelude.{◌≡◌, ℕ, List, ◌+◌, [], ◌∷◌, length, slice_get, MatchOption, reverse, IfOk, OnOk, OnErr, IfNone, IsSome};
 ghost use Rattle.std.specs.List.{list_any};
 ghost use Rattle.jv_frames.specs.Frames.{type_by_words};
 ghost use Rattle.jv_meaning_typing.specs.FrameChanges.{is_same_object, replaced};
 ghost use Rattle.jv_rules_types.specs.Typed.{typed, typed_all};
-ghost use Rattle.jv_rules_frames.specs.Numbered.{topped, with_locals, with_stack, without_flag, stack_words, item_words, Stores};
+ghost use Rattle.jv_rules_frames.specs.Numbered.{blank, topped, with_flag, with_locals, with_stack, without_flag, stack_words, item_words, Stores};
 
 use crate::locals::store;
 use crate::objects::{has_object, replace_all};
@@ -56,6 +56,55 @@ fn words_of(item: Item) -> usize
 }
 
 impl TypeFrame {
+    /// Local variables that hold nothing, an empty stack, and no flag.
+    ///
+    /// # Errors
+    ///
+    /// Where the host had no memory for the local variables.
+    pub fn new(alloc: Global, max_locals: u16) -> Result<TypeFrame, AllocError>
+        ensures { IfOk result (λ frame. frame ≡ blank max_locals) }
+    {
+        let mut locals = Vec::new(alloc);
+        locals.resize(usize::from(max_locals), VerificationTypeOf::Top)?;
+        Ok(TypeFrame {
+            locals,
+            stack: Vec::new(alloc),
+            words: 0,
+            flag: false,
+        })
+    }
+
+    /// Takes all from the local variables and the stack, and the flag.
+    pub fn clear(&mut self)
+        ensures { self.new ≡ blank (length self.old.locals) }
+    {
+        self.locals.fill(VerificationTypeOf::Top);
+        self.stack.clear();
+        self.words = 0;
+        self.clear_flag();
+    }
+
+    /// `this` may not be initialized, or is.
+    pub fn set_flag(&mut self, flag: bool)
+        ensures { self.new ≡ with_flag flag self.old }
+    {
+        self.flag = flag;
+    }
+
+    /// How many items the stack has.
+    pub fn height(&self) -> usize
+        ensures { result ≡ length self.now.stack }
+    {
+        self.stack.len()
+    }
+
+    /// Turns the stack over: what was on top comes to be the lowest.
+    pub fn turn_stack(&mut self)
+        ensures { self.new ≡ with_stack (reverse self.old.stack) self.old }
+    {
+        self.stack.reverse();
+    }
+
     /// Whether `this` may not be initialized.
     pub fn flag_this_uninit(&self) -> bool
         ensures { result ≡ self.now.flag_this_uninit }

@@ -1,6 +1,6 @@
 //! Names of classes by number.
 
-ghost use Rattle.std.specs.Prelude.{◌≡◌, ◌<◌, ◌++◌, [], ◌∷◌, codes, length, get_or, IfOk, IfSome, Some, None, slice_get, position};
+ghost use Rattle.std.specs.Prelude.{◌≡◌, ◌<◌, ◌++◌, [], ◌∷◌, codes, length, get_or, IfOk, OnErr, ◌≤◌, IfSome, Some, None, slice_get, position};
 ghost use Rattle.std.specs.Str.{bytes_eq};
 ghost use Rattle.jv_loader_classes.specs.Numbers.{number_named};
 ghost use Rattle.jv_rules_types.specs.Typed.{name_at, GoesOn};
@@ -15,7 +15,8 @@ use std::marker::Model;
 
 /// A place as a number of 32 bits; want of memory where it has none.
 fn as_number(place: usize) -> Result<u32, AllocError>
-    ensures { IfOk result (λ n. n ≡ place) }
+    ensures number { IfOk result (λ n. n ≡ place) }
+    ensures refused { OnErr result (4294967296 ≤ place) }
 {
     match u32::try_from(place) {
         Ok(number) => Ok(number),
@@ -131,6 +132,7 @@ impl<'t, 'a> TypeNames<'t, 'a> {
         requires { position (bytes_eq name.now) self.now.names ≡ None }
         ensures number { IfOk result (λ n. slice_get self.new.names n ≡ Some name.now) }
         ensures goes_on { GoesOn self.old.names self.new.names }
+        ensures refused { OnErr result (self.new.names ≡ self.old.names) }
         ensures world { self.new.world ≡ self.old.world }
     {
         let number = as_number(self.names.count())?;
@@ -149,6 +151,7 @@ impl<'t, 'a> TypeNames<'t, 'a> {
     pub fn number_of(&mut self, name: &'a [u8]) -> Result<u32, AllocError>
         ensures number { IfOk result (λ n. slice_get self.new.names n ≡ Some name.now) }
         ensures goes_on { GoesOn self.old.names self.new.names }
+        ensures refused { OnErr result (self.new.names ≡ self.old.names) }
         ensures world { self.new.world ≡ self.old.world }
     {
         match self.names.place_of(name) {

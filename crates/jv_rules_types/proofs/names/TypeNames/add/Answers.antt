@@ -31,7 +31,7 @@ returns-clause-number c =
     let name = c.args.name.now in
     let none : position (bytes_eq name) names ≡ None = subst (λ (w : TypeWorld). position (bytes_eq name) w.names ≡ None) (sym c.self.view_is) c.requires in
     let new : c.add.new.self ≡ names ++ name ∷ [] = c.in_ok-add.ensures.ok ∙ joined names name none in
-    ap (slice_get c.add.new.self) (c.in_ok-number.ensures ∙ c.count.ensures)
+    ap (slice_get c.add.new.self) (c.in_ok-number.ensures.number ∙ c.count.ensures)
     ∙ (ap (λ ns. slice_get ns (length names)) new ∙ last_one names name)
 
 pub returns-clause-goes_on : goal.returns-clause-goes_on
