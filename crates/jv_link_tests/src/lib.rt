@@ -1,0 +1,30 @@
+//! Tests of linking: tables of rows, each with a use at a site and what it comes to, over guests of a few
+//! classes.
+#![tactic(auto)]
+
+#[cfg(test)]
+mod class;
+#[cfg(test)]
+mod defaults;
+#[cfg(test)]
+mod field;
+#[cfg(test)]
+mod files;
+#[cfg(test)]
+mod guest;
+#[cfg(test)]
+mod layout;
+#[cfg(test)]
+mod method;
+#[cfg(test)]
+mod named;
+#[cfg(test)]
+mod order;
+#[cfg(test)]
+mod overriding;
+#[cfg(test)]
+mod row;
+#[cfg(test)]
+mod site;
+#[cfg(test)]
+mod special;
