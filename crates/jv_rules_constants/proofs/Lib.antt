@@ -1,0 +1,5 @@
+pub mod Lasting
+pub mod Arguments
+pub mod Descriptors
+pub mod Keeping
+pub mod Finding

@@ -1,0 +1,2 @@
+pub mod PoolTypes
+pub mod Inside
