@@ -1,0 +1,2 @@
+pub mod ByTypes
+pub mod Flags

@@ -1,0 +1,67 @@
+//! Instructions that name a class or an array (JVMS 4.10.1.9).
+
+ghost use Rattle.std.specs.Prelude.{[], ◌∷◌, replicate};
+ghost use Rattle.jv_frames.specs.declared.verification.VerificationTypeOf.TheVariants as variants;
+ghost use Rattle.jv_meaning_typing.specs.FrameChanges.{taken, exchanged};
+ghost use Rattle.jv_meaning_typing.specs.Named.{object_type};
+ghost use Rattle.jv_rules_types.specs.Typed.{typed, typed_all};
+ghost use Rattle.jv_rules_frames.specs.Numbered.{frame_of};
+ghost use Rattle.jv_rules_values.specs.Outcomes.{IsOutcome, Takes};
+
+use jv_frames::VerificationTypeOf;
+use jv_rules_frames::TypeFrame;
+use jv_rules_types::{Item, TypeNames};
+use jv_rules_values::{Outcome, exchange, take_as};
+
+/// Takes a class or an array, and gives it as the type to which it is cast.
+pub fn cast(types: &TypeNames<'_, '_>, frame: &mut TypeFrame, target: Item) -> Outcome
+    ensures { IsOutcome types.now.names (exchanged types.now.world (object_type ∷ []) (typed types.now.names target ∷ []) (frame_of types.now.names frame.old)) frame.new result }
+{
+    let object = VerificationTypeOf::Class(types.object());
+    exchange(types, frame, &[object], Some(target))
+}
+
+/// Takes a class or an array, and gives an int.
+pub fn test_instance(types: &TypeNames<'_, '_>, frame: &mut TypeFrame) -> Outcome
+    ensures { IsOutcome types.now.names (exchanged types.now.world (object_type ∷ []) (variants.Int ∷ []) (frame_of types.now.names frame.old)) frame.new result }
+{
+    let object = VerificationTypeOf::Class(types.object());
+    exchange(types, frame, &[object], Some(VerificationTypeOf::Int))
+}
+
+/// Takes a length, and gives an array.
+pub fn new_reference_array(types: &TypeNames<'_, '_>, frame: &mut TypeFrame, array: Item) -> Outcome
+    ensures { IsOutcome types.now.names (exchanged types.now.world (variants.Int ∷ []) (typed types.now.names array ∷ []) (frame_of types.now.names frame.old)) frame.new result }
+{
+    exchange(types, frame, &[VerificationTypeOf::Int], Some(array))
+}
+
+/// Takes so many ints.
+fn take_ints(types: &TypeNames<'_, '_>, frame: &mut TypeFrame, count: u8) -> bool
+    ensures { Takes types.now.names (taken types.now.world (replicate count variants.Int) (typed_all types.now.names frame.old.stack)) frame.old frame.new result }
+{
+    let mut left = count;
+    while left > 0 {
+        if !take_as(types, frame, VerificationTypeOf::Int) {
+            return false;
+        }
+        left -= 1;
+    }
+    true
+}
+
+/// Takes a length for each of so many dimensions, and gives an array.
+pub fn new_multi_array(
+    types: &TypeNames<'_, '_>,
+    frame: &mut TypeFrame,
+    dimensions: u8,
+    array: Item,
+) -> Outcome
+    ensures { IsOutcome types.now.names (exchanged types.now.world (replicate dimensions variants.Int) (typed types.now.names array ∷ []) (frame_of types.now.names frame.old)) frame.new result }
+{
+    if take_ints(types, frame, dimensions) {
+        Outcome::Gives(array)
+    } else {
+        Outcome::Fails
+    }
+}

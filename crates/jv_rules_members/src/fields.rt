@@ -1,0 +1,90 @@
+//! Instructions on fields (JVMS 4.10.1.8, 4.10.1.9): getstatic, putstatic, getfield, putfield.
+
+ghost use Rattle.std.specs.Prelude.{◌∷◌};
+ghost use Rattle.jv_meaning_typing.specs.Environment.{Environment};
+ghost use Rattle.jv_meaning_typing.specs.Named.{FieldUse};
+ghost use Rattle.jv_meaning_typing.specs.MemberRules.{access_field};
+ghost use Rattle.jv_rules_types.specs.Typed.{typed, typed_all};
+ghost use Rattle.jv_rules_frames.specs.Numbered.{frame_of};
+ghost use Rattle.jv_rules_values.specs.Outcomes.{IsOutcome, Takes, given};
+ghost use Rattle.jv_rules_members.specs.Operands.{IsField};
+ghost use Rattle.jv_rules_members.specs.Inside.ByTypes.{got, taken_to_store, put, accessed};
+
+use crate::receivers::{is_receiver, take_receiver};
+use jv_code::FieldAccess;
+use jv_frames::VerificationTypeOf;
+use jv_rules_frames::TypeFrame;
+use jv_rules_types::{Item, TypeNames};
+use jv_rules_values::{Outcome, exchange, take};
+
+/// A field as an instruction names it: the class that is named, and the type of the field's values.
+#[derive(Clone, Copy)]
+pub struct FieldOperand {
+    pub owner: Item,
+    pub value: Item,
+    /// The current class, to which the object has to flow too, if the field is guarded (JVMS 4.10.1.8).
+    pub guard: Option<Item>,
+    /// Whether a constructor may store to the field before it calls another one: by way of the current class.
+    pub sets_own: bool,
+}
+
+/// Takes an object, and gives the field's value.
+fn get_field(types: &TypeNames<'_, '_>, frame: &mut TypeFrame, field: FieldOperand) -> Outcome
+    ensures { IsOutcome types.now.names (got types.now.world (typed types.now.names field.owner ∷ given types.now.names field.guard) (typed types.now.names field.value) (frame_of types.now.names frame.old)) frame.new result }
+{
+    if take_receiver(types, frame, field.owner, field.guard) {
+        Outcome::Gives(field.value)
+    } else {
+        Outcome::Fails
+    }
+}
+
+/// Takes the object whose field is stored to.
+fn take_for_store(types: &TypeNames<'_, '_>, frame: &mut TypeFrame, field: FieldOperand) -> bool
+    ensures { Takes types.now.names (taken_to_store types.now.world field.sets_own (typed types.now.names field.owner ∷ given types.now.names field.guard) (typed_all types.now.names frame.old.stack)) frame.old frame.new result }
+{
+    match frame.pop() {
+        None => false,
+        Some(VerificationTypeOf::UninitializedThis) => field.sets_own,
+        Some(item) => is_receiver(types, item, field.owner, field.guard),
+    }
+}
+
+/// Takes a value and an object.
+fn put_field(types: &TypeNames<'_, '_>, frame: &mut TypeFrame, field: FieldOperand) -> Outcome
+    ensures { IsOutcome types.now.names (put types.now.world field.sets_own (typed types.now.names field.owner ∷ given types.now.names field.guard) (typed types.now.names field.value) (frame_of types.now.names frame.old)) frame.new result }
+{
+    if take(types, frame, &[field.value]) && take_for_store(types, frame, field) {
+        Outcome::Leaves
+    } else {
+        Outcome::Fails
+    }
+}
+
+fn access_by(
+    types: &TypeNames<'_, '_>,
+    frame: &mut TypeFrame,
+    access: FieldAccess,
+    field: FieldOperand,
+) -> Outcome
+    ensures { IsOutcome types.now.names (accessed types.now.world access field.sets_own (typed types.now.names field.owner ∷ given types.now.names field.guard) (typed types.now.names field.value) (frame_of types.now.names frame.old)) frame.new result }
+{
+    match access {
+        FieldAccess::GetStatic => exchange(types, frame, &[], Some(field.value)),
+        FieldAccess::PutStatic => exchange(types, frame, &[field.value], None),
+        FieldAccess::GetField => get_field(types, frame, field),
+        FieldAccess::PutField => put_field(types, frame, field),
+    }
+}
+
+/// Gets or sets a field, of an object or of the class.
+pub fn access_field(
+    types: &TypeNames<'_, '_>,
+    frame: &mut TypeFrame,
+    access: FieldAccess,
+    field: FieldOperand,
+) -> Outcome
+    ensures { (env : Environment) (named : FieldUse) → IsField types.now env named field → IsOutcome types.now.names (access_field env access named (frame_of types.now.names frame.old)) frame.new result }
+{
+    access_by(types, frame, access, field)
+}
