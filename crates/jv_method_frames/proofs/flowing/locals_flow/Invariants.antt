@@ -1,0 +1,19 @@
+use Rattle.std.proofs.Common.{◌≡◌, ◌≤◌, ◌-◌, ℕ, List, length, map, reverse, drop}
+use Rattle.std.specs.List.{list_any}
+use Rattle.std.specs.Option.{option_map}
+use Rattle.jv_frames.specs.Frames.{expanded, is_uninitialized_this}
+use Rattle.jv_assign.specs.Flow.{flows}
+use Rattle.jv_assign.specs.FrameFlow.{all_flow, item_flows}
+use Rattle.jv_meaning_typing.specs.Rule.{without_object}
+use Rattle.jv_rules_types.specs.Typed.{typed, typed_all}
+use Rattle.jv_method_frames.specs.Mapped.{names_of, world_of, types_of}
+use Rattle.jv_method_frames.specs.Inside.Locals.{FlowsBehind, ItemsFlow}
+use Rattle.jv_method_frames.proofs.flowing.locals_flow.Given as goal
+
+abbrev pub invariant-loop-entry : goal.invariant-loop-entry
+invariant-loop-entry l =
+    let locals = without_object (option_map (typed (names_of l.types)) l.object) (typed_all (names_of l.types) l.frame.locals) in
+    FlowsBehind (world_of l.types) locals (all_flow (flows (world_of l.types)) locals (expanded (length l.frame.locals) (reverse (types_of l.types l.map.locals)))) (types_of l.types l.entries) l.at
+
+abbrev pub decreases-loop-entry : goal.decreases-loop-entry
+decreases-loop-entry l = length l.entries

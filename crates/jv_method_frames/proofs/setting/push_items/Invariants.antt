@@ -1,0 +1,15 @@
+use Rattle.std.proofs.Common.{◌≡◌, ◌≤◌, ◌-◌, ◌++◌, ℕ, List, length, map, reverse, take}
+use Rattle.jv_frames.specs.Frames.{expanded}
+use Rattle.jv_rules_types.specs.Typed.{typed, typed_all}
+use Rattle.jv_rules_frames.specs.Numbered.{with_locals, with_stack}
+use Rattle.jv_method_frames.specs.Mapped.{names_of, world_of, types_of}
+use Rattle.jv_method_frames.specs.Inside.Locals.{SetBehind, PushedSoFar}
+use Rattle.jv_method_frames.proofs.setting.push_items.Given as goal
+
+abbrev pub invariant-loop-entry : goal.invariant-loop-entry
+invariant-loop-entry l =
+    PushedSoFar (typed_all (names_of l.types) l.frame.stack) (types_of l.types l.entries) (types_of l.types l.map.stack)
+    × (l.frame ≡ with_stack l.frame.stack l.fn.frame)
+
+abbrev pub decreases-loop-entry : goal.decreases-loop-entry
+decreases-loop-entry l = length l.entries

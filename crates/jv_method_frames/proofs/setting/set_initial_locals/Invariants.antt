@@ -1,0 +1,15 @@
+use Rattle.std.proofs.Common.{◌≡◌, ◌≤◌, ◌-◌, ◌++◌, ℕ, List, length, map, reverse, take}
+use Rattle.jv_frames.specs.Frames.{expanded}
+use Rattle.jv_rules_types.specs.Typed.{typed, typed_all}
+use Rattle.jv_rules_frames.specs.Numbered.{with_locals, with_stack}
+use Rattle.jv_method_frames.specs.Mapped.{names_of, world_of, types_of}
+use Rattle.jv_method_frames.specs.Inside.Locals.{SetBehind, PushedSoFar}
+use Rattle.jv_method_frames.proofs.setting.set_initial_locals.Given as goal
+
+abbrev pub invariant-loop-left : goal.invariant-loop-left
+invariant-loop-left l =
+    ((names : List (List ℕ)) → SetBehind (typed_all names l.frame.locals) (expanded (length l.fn.frame.locals) (typed_all names l.entries)) (typed_all names (take l.left l.entries)) l.at)
+    × (l.frame ≡ with_locals l.frame.locals l.fn.frame) × (l.left ≤ length l.entries)
+
+abbrev pub decreases-loop-left : goal.decreases-loop-left
+decreases-loop-left l = l.left

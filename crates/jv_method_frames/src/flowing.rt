@@ -1,0 +1,158 @@
+//! What flows into a frame of the stack map (JVMS 4.10.1.2, 4.10.1.4).
+
+ghost use Rattle.std.specs.Prelude.{◌≡◌, ◌≤◌, ◌&&◌, ◌||◌, not, ℕ, List, ◌∷◌, [], length, map, reverse};
+ghost use Rattle.std.specs.List.{list_any};
+ghost use Rattle.std.specs.Option.{option_map};
+ghost use Rattle.jv_frames.specs.Frames.{expanded, is_uninitialized_this};
+ghost use Rattle.jv_frames.specs.Types.{width};
+ghost use Rattle.jv_frames.specs.declared.verification.VerificationTypeOf.TheVariants as variants;
+ghost use Rattle.jv_assign.specs.Flow.{flows};
+ghost use Rattle.jv_assign.specs.FrameFlow.{all_flow, item_flows, frame_flows};
+ghost use Rattle.jv_meaning_typing.specs.FrameChanges.{is_same_object};
+ghost use Rattle.jv_meaning_typing.specs.Rule.{without_object};
+ghost use Rattle.jv_rules_types.specs.Typed.{typed, typed_all};
+ghost use Rattle.jv_rules_frames.specs.Numbered.{frame_of};
+ghost use Rattle.jv_method_frames.specs.Mapped.{names_of, world_of, types_of, entry_words, map_frame, thrown_frame};
+ghost use Rattle.jv_method_frames.specs.Inside.Locals.{left_in};
+
+use crate::entries::EntryTypes;
+use jv_frames::{Entries, MapFrame, VerificationTypeOf};
+use jv_rules_frames::TypeFrame;
+use jv_rules_types::Item;
+
+/// The words of a local entry.
+pub(crate) fn words_of(item: Item) -> u16
+    ensures { (names : List (List ℕ)) → result ≡ width (typed names item) }
+{
+    match item {
+        VerificationTypeOf::Long => 2,
+        _ => 1,
+    }
+}
+
+fn is_same_object(one: Item, other: Item) -> bool
+    ensures { (names : List (List ℕ)) → result ≡ is_same_object (typed names one) (typed names other) }
+{
+    match (one, other) {
+        (VerificationTypeOf::UninitializedThis, VerificationTypeOf::UninitializedThis) => true,
+        (VerificationTypeOf::Uninitialized(one), VerificationTypeOf::Uninitialized(other)) => {
+            one == other
+        }
+        _ => false,
+    }
+}
+
+/// The type of a local variable once an object cannot be used any more.
+fn left_in(object: Option<Item>, local: Item) -> Item
+    ensures { (names : List (List ℕ)) → typed names result ≡ left_in (option_map (typed names) object) (typed names local) }
+{
+    match object {
+        Some(object) if is_same_object(object, local) => VerificationTypeOf::Top,
+        _ => local,
+    }
+}
+
+/// Whether the local variables flow to a frame's entries, once an object cannot be used any more.
+fn locals_flow(
+    types: &EntryTypes<'_, '_, '_>,
+    frame: &TypeFrame,
+    object: Option<Item>,
+    map: &MapFrame<'_>,
+) -> bool
+    requires { map.now.local_words ≡ entry_words types.now map.now }
+    ensures { result ≡ all_flow (flows (world_of types.now)) (without_object (option_map (typed (names_of types.now)) object) (typed_all (names_of types.now) frame.now.locals)) (expanded (length frame.now.locals) (reverse (types_of types.now map.now.locals))) }
+{
+    let mut at = map.local_words();
+    if usize::from(at) > frame.local_count() {
+        return false;
+    }
+    let mut entries = map.locals();
+    while let Some(entry) = entries.next() {
+        let item = types.item(entry);
+        at -= words_of(item);
+        let Some(local) = frame.local(at) else {
+            return false;
+        };
+        if !types.names().flows(left_in(object, local), item) {
+            return false;
+        }
+    }
+    true
+}
+
+/// Whether the stack's items flow to a frame's, one by one.
+fn stack_flows(types: &EntryTypes<'_, '_, '_>, frame: &TypeFrame, map: &MapFrame<'_>) -> bool
+    ensures { result ≡ all_flow (item_flows (world_of types.now)) (typed_all (names_of types.now) frame.now.stack) (types_of types.now map.now.stack) }
+{
+    let height = frame.height();
+    let mut left = height;
+    let mut entries = map.stack();
+    while let Some(entry) = entries.next() {
+        let Some(item) = frame.item(height - left) else {
+            return false;
+        };
+        if !types.names().item_flows(item, types.item(entry)) {
+            return false;
+        }
+        left -= 1;
+    }
+    left == 0
+}
+
+/// Whether `this` may not be initialized in a frame of the map: whether it is among the local entries.
+pub(crate) fn has_this(types: &EntryTypes<'_, '_, '_>, map: &MapFrame<'_>) -> bool
+    ensures { result ≡ list_any is_uninitialized_this (reverse (types_of types.now map.now.locals)) }
+{
+    let mut entries = map.locals();
+    while let Some(entry) = entries.next() {
+        if matches!(types.item(entry), VerificationTypeOf::UninitializedThis) {
+            return true;
+        }
+    }
+    false
+}
+
+/// Whether a frame of the map may have `this` as the frame before it has it.
+fn flag_flows(types: &EntryTypes<'_, '_, '_>, frame: &TypeFrame, map: &MapFrame<'_>) -> bool
+    ensures { result ≡ (not frame.now.flag_this_uninit || list_any is_uninitialized_this (reverse (types_of types.now map.now.locals))) }
+{
+    !frame.flag_this_uninit() || has_this(types, map)
+}
+
+/// Whether a frame flows into a frame of the map, with as many local variables.
+pub fn frame_flows(types: &EntryTypes<'_, '_, '_>, frame: &TypeFrame, map: &MapFrame<'_>) -> bool
+    requires { map.now.local_words ≡ entry_words types.now map.now }
+    ensures { result ≡ frame_flows (world_of types.now) (frame_of (names_of types.now) frame.now) (map_frame types.now (length frame.now.locals) map.now) }
+{
+    locals_flow(types, frame, None, map)
+        && stack_flows(types, frame, map)
+        && flag_flows(types, frame, map)
+}
+
+/// Whether what was thrown alone on the stack flows to a frame's stack.
+fn thrown_stack_flows(types: &EntryTypes<'_, '_, '_>, thrown: Item, map: &MapFrame<'_>) -> bool
+    ensures { result ≡ all_flow (item_flows (world_of types.now)) (typed (names_of types.now) thrown ∷ []) (types_of types.now map.now.stack) }
+{
+    let mut entries = map.stack();
+    let Some(entry) = entries.next() else {
+        return false;
+    };
+    types.names().item_flows(thrown, types.item(entry)) && entries.next().is_none()
+}
+
+/// Whether the frame with which a handler begins flows into a frame of the map: that before the instruction, without
+/// the object that the instruction constructs, and with what was thrown alone on the stack (JVMS 4.10.1.6).
+pub fn thrown_flows(
+    types: &EntryTypes<'_, '_, '_>,
+    frame: &TypeFrame,
+    object: Option<Item>,
+    thrown: Item,
+    map: &MapFrame<'_>,
+) -> bool
+    requires { map.now.local_words ≡ entry_words types.now map.now }
+    ensures { result ≡ frame_flows (world_of types.now) (thrown_frame (names_of types.now) frame.now object thrown) (map_frame types.now (length frame.now.locals) map.now) }
+{
+    locals_flow(types, frame, object, map)
+        && thrown_stack_flows(types, thrown, map)
+        && flag_flows(types, frame, map)
+}

@@ -1,0 +1,4 @@
+pub mod Plain
+pub mod Members
+pub mod Called
+pub mod Arrays
