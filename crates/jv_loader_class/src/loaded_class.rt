@@ -1,10 +1,11 @@
 //! A class of a guest's world.
 
-ghost use Rattle.std.specs.Prelude.{◌≡◌, ◌&&◌, ◌<◌, length, position, slice_get, Some, IfOk, IfSome, IfNone, true};
+ghost use Rattle.std.specs.Prelude.{◌≡◌, ◌&&◌, ◌<◌, length, position, slice_get, Some, IfOk, IfSome, IfNone, IsTrue, true};
 ghost use Rattle.std.specs.Option.{IsSomeAnd, option_and_then, option_copied};
 ghost use Rattle.std.specs.Str.{bytes_eq};
 ghost use Rattle.jv_class_parts.specs.Flags.{has, acc_final};
 ghost use Rattle.jv_class.specs.Class.{class_of, field_named, method_named};
+ghost use Rattle.jv_class.specs.Rules.{is_no_array_name};
 ghost use Rattle.jv_loader_system.specs.Io.{io};
 ghost use Rattle.jv_loader_world.specs.World.{loaded, same_package, can_name};
 ghost use Rattle.jv_loader_world.specs.Verdicts.{is_interface};
@@ -103,6 +104,15 @@ impl<'a> LoadedClass<'a> {
         ensures none { IfNone result (self.now ≡ loaded true io) }
     {
         self.file.as_ref()
+    }
+
+    /// The name of the class is none of an array (JVMS 4.1). The call does nothing.
+    pub fn is_no_array(&self)
+        ensures { IsTrue (is_no_array_name self.now.class.name) }
+    {
+        if let Some(file) = &self.file {
+            file.is_well_formed();
+        }
     }
 
     /// Whether the system's loader has defined the class, and not the guest's (JVMS 5.3).

@@ -1,6 +1,6 @@
 -- Classes as a list keeps them.
 use Rattle.std.proofs.Common.{◌≡◌, ℕ, zero, suc, ◌+◌, Bool, true, false, cond, List, [], ◌∷◌, ◌++◌, ◌||◌, length, nat_lt, Some, None, refl, sym, ap, ◌∙◌, subst, arith, inl, inr}
-use Rattle.std.specs.Prelude.{slice_get, ◌⊎◌}
+use Rattle.std.specs.Prelude.{slice_get, IsTrue, ◌⊎◌}
 use Rattle.std.specs.List.{position, position_or_len, position_from, list_any}
 use Rattle.std.proofs.lemmas.Iterator.Adapters.{position_from-zero}
 use Rattle.std.specs.Str.{bytes_eq}
@@ -8,8 +8,9 @@ use Rattle.std.specs.Cmp.Lexicographic.{nat_list_eq_equiv}
 use Rattle.std.proofs.lemmas.List.{length-map, map-append}
 use Rattle.std.proofs.lemmas.List.Recursion.{is_position_or_len}
 use Rattle.jv_loader_tables.specs.Names.{with_name}
+use Rattle.jv_class.specs.Rules.{is_no_array_name}
 use Rattle.jv_loader_world.specs.World.{Loaded}
-use Rattle.jv_loader_classes.specs.Numbers.{number_named, IsNumbered}
+use Rattle.jv_loader_classes.specs.Numbers.{number_named, IsNumbered, AreNoArrays}
 use Rattle.jv_loader_classes.specs.Inside.Listed.{name_of, names_of}
 
 -- ---- positions by recursion
@@ -109,3 +110,10 @@ numbered_more ls c none numbers place l e = by_part (in_two_parts ls c l place e
     by_part (inr h) =
         subst (λ (m : Loaded). number_named (ls ++ c ∷ []) m.class.name ≡ Some place) h.1
         (found_last (λ m. bytes_eq m.class.name c.class.name) ls c none (nat_list_eq_equiv.refl c.class.name) ∙ ap (λ n. Some n) (sym h.0))
+
+pub no_arrays_more : (ls : List Loaded) (c : Loaded) → IsTrue (is_no_array_name c.class.name) → AreNoArrays ls → AreNoArrays (ls ++ c ∷ [])
+no_arrays_more ls c last others place l e = by_part (in_two_parts ls c l place e)
+  where
+    by_part : (slice_get ls place ≡ Some l) ⊎ ((place ≡ length ls) × (c ≡ l)) → IsTrue (is_no_array_name l.class.name)
+    by_part (inl at) = others place l at
+    by_part (inr h) = subst (λ (m : Loaded). IsTrue (is_no_array_name m.class.name)) h.1 last

@@ -1,9 +1,10 @@
 -- Classes by number: the number of a class is its place in the world.
-use Rattle.std.specs.Prelude.{◌≡◌, ℕ, List, map, Option, Some, slice_get}
+use Rattle.std.specs.Prelude.{◌≡◌, ℕ, List, map, Option, Some, IsTrue, slice_get}
 use Rattle.std.specs.List.{position}
 use Rattle.std.specs.Str.{bytes_eq}
 use Rattle.jv_format.specs.Format.{◌>>=◌}
 use Rattle.jv_class.specs.Class.{Class}
+use Rattle.jv_class.specs.Rules.{is_no_array_name}
 use Rattle.jv_loader_world.specs.World.{Loaded, World}
 use Rattle.jv_loader_world.specs.Above.{super_names}
 
@@ -13,6 +14,10 @@ number_named world name = position (λ l. bytes_eq l.class.name name) world
 -- each class of the world is the one of its name
 abbrev pub IsNumbered : World → Type 0
 IsNumbered world = (place : ℕ) (l : Loaded) → slice_get world place ≡ Some l → number_named world l.class.name ≡ Some place
+
+-- no class of the world has the name of an array (JVMS 4.1)
+abbrev pub AreNoArrays : World → Type 0
+AreNoArrays world = (place : ℕ) (l : Loaded) → slice_get world place ≡ Some l → IsTrue (is_no_array_name l.class.name)
 
 -- the number of the superclass, where the class has one and it is in the world
 abbrev pub superclass_number : World → Class → Option ℕ

@@ -5,7 +5,7 @@ ghost use Rattle.jv_loader_world.specs.Above.{is_above, is_circular, superclasse
 ghost use Rattle.jv_loader_world.specs.Laws.{SystemStandsAlone};
 ghost use Rattle.jv_loader_world.specs.LookUps.{is_among, is_subclass};
 ghost use Rattle.jv_loader_world.specs.Verdicts.{is_loadable, each_super, have_right_kind, can_name_supers, has_final_super};
-ghost use Rattle.jv_loader_classes.specs.Numbers.{number_named, superclass_number, super_numbers, IsNumbered};
+ghost use Rattle.jv_loader_classes.specs.Numbers.{number_named, superclass_number, super_numbers, IsNumbered, AreNoArrays};
 ghost use Rattle.std.specs.List.{All, filter_map};
 ghost use Rattle.jv_loader_classes.specs.Faults.{fault_of_supers};
 ghost use Rattle.jv_loader_classes.specs.Inside.Told.{IsAt};
@@ -84,6 +84,13 @@ impl<'a> ClassTable<'a> {
         ensures { IsNumbered self.now }
     {
         self.list.is_numbered();
+    }
+
+    /// No class has the name of an array (JVMS 4.1). The call does nothing.
+    pub fn are_no_arrays(&self)
+        ensures { AreNoArrays self.now }
+    {
+        self.list.are_no_arrays();
     }
 
     /// How many classes there are.

@@ -1,7 +1,7 @@
 //! Classes in the order in which they came.
 
 ghost use Rattle.std.specs.Prelude.{◌≡◌, ◌<◌, ◌++◌, [], ◌∷◌, None, Some, IfSome, OnOk, OnErr, length, slice_get};
-ghost use Rattle.jv_loader_classes.specs.Numbers.{number_named, IsNumbered};
+ghost use Rattle.jv_loader_classes.specs.Numbers.{number_named, IsNumbered, AreNoArrays};
 
 use jv_loader_class::LoadedClass;
 use jv_loader_tables::Names;
@@ -19,14 +19,14 @@ pub struct ClassList<'a> {
 impl<'a> Model for ClassList<'a> {
     ghost use Rattle.std.specs.Prelude.{◌≡◌};
     ghost use Rattle.jv_loader_world.specs.World.{World};
-    ghost use Rattle.jv_loader_classes.specs.Numbers.{IsNumbered};
+    ghost use Rattle.jv_loader_classes.specs.Numbers.{IsNumbered, AreNoArrays};
     ghost use Rattle.jv_loader_classes.specs.Inside.Listed.{names_of};
 
     ghost Value = { World };
 
     ghost view = { λ l. l.classes.items };
 
-    ghost invariant = { λ l. (l.names ≡ names_of l.classes.items) × IsNumbered l.classes.items };
+    ghost invariant = { λ l. (l.names ≡ names_of l.classes.items) × IsNumbered l.classes.items × AreNoArrays l.classes.items };
 }
 
 impl Drop for ClassList<'_> {
@@ -52,6 +52,13 @@ impl<'a> ClassList<'a> {
     /// Each class is the one of its name. The call does nothing.
     pub fn is_numbered(&self)
         ensures { IsNumbered self.now }
+    {
+        let _names = &self.names;
+    }
+
+    /// No class has the name of an array (JVMS 4.1). The call does nothing.
+    pub fn are_no_arrays(&self)
+        ensures { AreNoArrays self.now }
     {
         let _names = &self.names;
     }
@@ -87,6 +94,7 @@ impl<'a> ClassList<'a> {
         ensures ok { OnOk result (self.new ≡ self.old ++ class.entry ∷ []) }
         ensures refused { OnErr result (self.new ≡ self.old) }
     {
+        class.is_no_array();
         self.classes.reserve(1)?;
         self.names.add(class.name())?;
         self.classes.push_reserved(class);

@@ -4,7 +4,7 @@ ghost use Rattle.std.specs.Prelude.{◌≡◌, ◌<◌, ◌++◌, [], ◌∷◌,
 ghost use Rattle.std.specs.Str.{bytes_eq};
 ghost use Rattle.jv_loader_classes.specs.Numbers.{number_named};
 ghost use Rattle.jv_rules_types.specs.Typed.{name_at, GoesOn};
-ghost use Rattle.jv_rules_types.specs.Inside.Kept.{AreNames};
+ghost use Rattle.jv_rules_types.specs.Inside.Kept.{AreDistinct, AreNames};
 
 use jv_frames::VerificationTypeOf;
 use jv_loader_classes::ClassTable;
@@ -87,8 +87,22 @@ impl<'t, 'a> TypeNames<'t, 'a> {
         self.table
     }
 
+    /// How many names there are.
+    pub fn count(&self) -> usize
+        ensures { result ≡ length self.now.names }
+    {
+        self.names.count()
+    }
+
+    /// No name has two numbers. The call does nothing.
+    pub fn are_distinct(&self)
+        ensures { AreDistinct self.now.names }
+    {
+        let _classes = &self.classes;
+    }
+
     /// The place of the name with a number: that of java/lang/Object where none has the number.
-    fn place(&self, number: u32) -> usize
+    pub fn place(&self, number: u32) -> usize
         ensures within { result < length self.now.names }
         ensures same { get_or self.now.names result (codes "java/lang/Object") ≡ name_at self.now.names number }
     {

@@ -1,8 +1,8 @@
 use Rattle.std.proofs.Common.{◌≡◌, ◌∙◌, ap, sym, subst, ◌++◌, ◌∷◌, [], None}
 use Rattle.jv_loader_tables.specs.Names.{with_name}
-use Rattle.jv_loader_classes.specs.Numbers.{number_named, IsNumbered}
+use Rattle.jv_loader_classes.specs.Numbers.{number_named, IsNumbered, AreNoArrays}
 use Rattle.jv_loader_classes.specs.Inside.Listed.{names_of}
-use Rattle.jv_loader_classes.proofs.Listing.{new_name, numbered_more}
+use Rattle.jv_loader_classes.proofs.Listing.{new_name, numbered_more, no_arrays_more}
 use Rattle.jv_loader_classes.proofs.list.ClassList.add.Goals as goal
 
 pub invariant_of-self-2 : goal.invariant_of-self-2
@@ -13,4 +13,5 @@ invariant_of-self-2 c =
       c.in_ok-add.ensures.ok ∙ (ap (λ name. with_name c.self.inside.names name) c.name.ensures
           ∙ (ap (λ ns. with_name ns c.args.class.class.name) c.self.invariant.0 ∙ (new_name ls c.args.class free ∙ ap names_of (sym items)))),
       subst IsNumbered (sym items) (numbered_more ls c.args.class free c.self.invariant.1),
+      subst AreNoArrays (sym items) (no_arrays_more ls c.args.class c.is_no_array.ensures c.self.invariant.2),
     )
