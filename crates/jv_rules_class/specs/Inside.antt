@@ -1,0 +1,4 @@
+pub mod Named
+pub mod Marked
+pub mod Guarded
+pub mod Kept

@@ -1,0 +1,22 @@
+-- Marks on names, by their numbers.
+use Rattle.std.specs.Prelude.{◌≡◌, ℕ, ◌<◌, Bool, false, List, length, get_or}
+use Rattle.std.specs.List.{list_any}
+use Rattle.std.specs.Str.{bytes_eq}
+use Rattle.jv_pool.specs.Constants.{Entry}
+use Rattle.jv_meaning_typing.specs.MemberRules.{is_named}
+use Rattle.jv_rules_types.specs.Typed.{name_at}
+use Rattle.jv_rules_class.specs.Inside.Named.{class_named_at}
+
+-- the constant at an index names the class of this name
+abbrev pub names_it : List Entry → List ℕ → ℕ → Bool
+names_it pool name index = is_named name (class_named_at pool index)
+
+-- the names of the classes that the constants at these indices name are marked, and no others
+pub record AreMarkedAt (names : List (List ℕ)) (pool : List Entry) (indices : List ℕ) (marks : List Bool) : Type 0 where
+  pub size : length marks ≡ length names
+  pub marked : (place : ℕ) → place < length names → get_or marks place false ≡ list_any (names_it pool (name_at names place)) indices
+
+-- those among some names are marked, and no others
+pub record AreMarked (names : List (List ℕ)) (marked : List (List ℕ)) (marks : List Bool) : Type 0 where
+  pub size : length marks ≡ length names
+  pub mark : (place : ℕ) → place < length names → get_or marks place false ≡ list_any (λ other. bytes_eq other (name_at names place)) marked

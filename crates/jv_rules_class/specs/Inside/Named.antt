@@ -1,0 +1,20 @@
+-- The classes that constants name.
+use Rattle.std.specs.Prelude.{ℕ, List, Option, Some, None}
+use Rattle.jv_format.specs.Format.{◌>>=◌}
+use Rattle.jv_pool.specs.Constants.{Entry}
+use Rattle.jv_frames.specs.declared.verification.VerificationTypeOf.TheVariants as types
+use Rattle.jv_frames.specs.Types.{FrameType}
+use Rattle.jv_rules_constants.specs.PoolTypes.{class_type_at}
+
+-- the class that a type is an object of
+abbrev pub class_in : Option FrameType → Option (List ℕ)
+class_in (Some (types.Class name)) = Some name
+class_in _ = None
+
+-- the class, and no array, that the Class constant at an index names (4.4.1)
+abbrev pub class_named_at : List Entry → ℕ → Option (List ℕ)
+class_named_at pool index = class_in (class_type_at pool index)
+
+-- the same of an index that may be none
+abbrev pub class_named_by : List Entry → Option ℕ → Option (List ℕ)
+class_named_by pool index = index >>= class_named_at pool
