@@ -1,5 +1,5 @@
 -- Local variables against entries, from the last on.
-use Rattle.std.proofs.Common.{◌≡◌, ℕ, zero, suc, ◌+◌, ◌-◌, ◌<◌, ◌≤◌, Bool, true, false, ◌&&◌, List, [], ◌∷◌, ◌++◌, length, map, drop, reverse, replicate, Option, Some, None, refl, sym, ap, subst, get_or, ◌∙◌, arith, append_assoc, length-append, length-drop}
+use Rattle.std.proofs.Common.{◌≡◌, ℕ, zero, suc, ◌+◌, ◌-◌, ◌<◌, ◌≤◌, Bool, true, false, ◌&&◌, List, [], ◌∷◌, ◌++◌, length, drop, reverse, replicate, Option, Some, None, refl, sym, ap, subst, get_or, ◌∙◌, arith, append_assoc, length-append, length-drop}
 use Rattle.std.specs.Prelude.{slice_get}
 use Rattle.std.proofs.lemmas.Option.{slice_get_within}
 use Rattle.std.specs.List.{flat_map}
@@ -19,7 +19,7 @@ use Rattle.jv_meaning_typing.specs.Rule.{without_object}
 use Rattle.jv_rules_types.specs.Typed.{TypeWorld, typed, typed_all}
 use Rattle.jv_rules_frames.specs.Numbered.{Item}
 use Rattle.jv_method_frames.specs.Inside.Locals.{left_in, words_of_entries, FlowsBehind}
-use Rattle.jv_method_frames.proofs.Lists.{smaller, at_place, behind_front, too_few, to_top, to_tops}
+use Rattle.jv_method_frames.proofs.Lists.{at_place, behind_front, too_few, to_tops}
 
 -- ---- words
 

@@ -55,7 +55,7 @@ fn push_items(
 ///
 /// # Errors
 ///
-/// Where the host had no memory for its stack.
+/// Where the host had no memory for its stack; the frame is then of no more use.
 pub fn set_to_map(
     types: &EntryTypes<'_, '_, '_>,
     frame: &mut TypeFrame,

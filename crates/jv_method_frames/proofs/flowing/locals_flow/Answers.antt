@@ -1,14 +1,13 @@
-use Rattle.std.proofs.Common.{◌≡◌, ℕ, suc, ◌+◌, ◌-◌, ◌≤◌, ◌<◌, Bool, true, false, List, [], ◌∷◌, length, map, reverse, refl, sym, ap, subst, ◌∙◌, arith}
+use Rattle.std.proofs.Common.{length, reverse, sym, ap, subst, ◌∙◌, arith}
 use Rattle.std.specs.Option.{option_map}
 use Rattle.jv_frames.specs.Frames.{expanded}
-use Rattle.jv_frames.specs.Types.{words}
 use Rattle.jv_assign.specs.Flow.{flows}
 use Rattle.jv_assign.specs.FrameFlow.{all_flow}
 use Rattle.jv_meaning_typing.specs.Rule.{without_object}
 use Rattle.jv_rules_types.specs.Typed.{typed, typed_all}
 use Rattle.jv_method_frames.specs.Mapped.{world_of, names_of, types_of, type_of}
 use Rattle.jv_method_frames.specs.Inside.Locals.{FlowsBehind}
-use Rattle.jv_method_frames.proofs.Behind.{no_room, begins, ends, without_length, enough, no_local, goes_on, flows_not}
+use Rattle.jv_method_frames.proofs.Behind.{no_room, begins, without_length, no_local, goes_on, flows_not}
 use Rattle.jv_method_frames.proofs.flowing.locals_flow.Goals as goal
 
 pub returns-then-from-local_count : goal.returns-then-from-local_count

@@ -1,13 +1,12 @@
-use Rattle.std.proofs.Common.{◌≡◌, ◌≤◌, ◌-◌, ℕ, List, length, map, reverse, drop}
-use Rattle.std.specs.List.{list_any}
+use Rattle.std.proofs.Common.{length, reverse}
 use Rattle.std.specs.Option.{option_map}
-use Rattle.jv_frames.specs.Frames.{expanded, is_uninitialized_this}
+use Rattle.jv_frames.specs.Frames.{expanded}
 use Rattle.jv_assign.specs.Flow.{flows}
-use Rattle.jv_assign.specs.FrameFlow.{all_flow, item_flows}
+use Rattle.jv_assign.specs.FrameFlow.{all_flow}
 use Rattle.jv_meaning_typing.specs.Rule.{without_object}
 use Rattle.jv_rules_types.specs.Typed.{typed, typed_all}
 use Rattle.jv_method_frames.specs.Mapped.{names_of, world_of, types_of}
-use Rattle.jv_method_frames.specs.Inside.Locals.{FlowsBehind, ItemsFlow}
+use Rattle.jv_method_frames.specs.Inside.Locals.{FlowsBehind}
 use Rattle.jv_method_frames.proofs.flowing.locals_flow.Given as goal
 
 abbrev pub invariant-loop-entry : goal.invariant-loop-entry

@@ -1,4 +1,4 @@
-use Rattle.std.proofs.Common.{◌≡◌, ℕ, suc, ◌+◌, ◌-◌, ◌≤◌, ◌<◌, Bool, true, false, List, [], ◌∷◌, length, map, reverse, refl, sym, ap, ◌∙◌, arith}
+use Rattle.std.proofs.Common.{sym, ap, ◌∙◌}
 use Rattle.jv_assign.specs.FrameFlow.{item_flows}
 use Rattle.jv_rules_types.specs.Typed.{TypeWorld, typed}
 use Rattle.jv_method_frames.specs.Mapped.{world_of, names_of, types_of, type_of}

@@ -1,9 +1,8 @@
-use Rattle.std.proofs.Common.{◌≡◌, ◌≤◌, ◌-◌, ◌++◌, ℕ, List, length, map, reverse, take}
-use Rattle.jv_frames.specs.Frames.{expanded}
-use Rattle.jv_rules_types.specs.Typed.{typed, typed_all}
-use Rattle.jv_rules_frames.specs.Numbered.{with_locals, with_stack}
-use Rattle.jv_method_frames.specs.Mapped.{names_of, world_of, types_of}
-use Rattle.jv_method_frames.specs.Inside.Locals.{SetBehind, PushedSoFar}
+use Rattle.std.proofs.Common.{◌≡◌, length}
+use Rattle.jv_rules_types.specs.Typed.{typed_all}
+use Rattle.jv_rules_frames.specs.Numbered.{with_stack}
+use Rattle.jv_method_frames.specs.Mapped.{names_of, types_of}
+use Rattle.jv_method_frames.specs.Inside.Locals.{PushedSoFar}
 use Rattle.jv_method_frames.proofs.setting.push_items.Given as goal
 
 abbrev pub invariant-loop-entry : goal.invariant-loop-entry

@@ -1,9 +1,9 @@
-use Rattle.std.proofs.Common.{◌≡◌, ◌≤◌, ◌-◌, ◌++◌, ℕ, List, length, map, reverse, take}
+use Rattle.std.proofs.Common.{◌≡◌, length, reverse}
 use Rattle.jv_frames.specs.Frames.{expanded}
-use Rattle.jv_rules_types.specs.Typed.{typed, typed_all}
-use Rattle.jv_rules_frames.specs.Numbered.{with_locals, with_stack}
-use Rattle.jv_method_frames.specs.Mapped.{names_of, world_of, types_of}
-use Rattle.jv_method_frames.specs.Inside.Locals.{SetBehind, PushedSoFar}
+use Rattle.jv_rules_types.specs.Typed.{typed_all}
+use Rattle.jv_rules_frames.specs.Numbered.{with_locals}
+use Rattle.jv_method_frames.specs.Mapped.{names_of, types_of}
+use Rattle.jv_method_frames.specs.Inside.Locals.{SetBehind}
 use Rattle.jv_method_frames.proofs.setting.set_locals.Given as goal
 
 abbrev pub invariant-loop-entry : goal.invariant-loop-entry

@@ -1,14 +1,12 @@
-use Rattle.std.proofs.Common.{◌≡◌, ℕ, suc, ◌+◌, ◌-◌, ◌≤◌, ◌<◌, Bool, true, false, List, [], ◌∷◌, ◌++◌, length, map, take, replicate, reverse, refl, sym, ap, subst, get_or, ◌∙◌, arith}
-use Rattle.std.proofs.lemmas.List.{length-replicate, reverse-append, map-append}
+use Rattle.std.proofs.Common.{◌≡◌, length, reverse, ap, ◌∙◌}
+use Rattle.std.proofs.lemmas.List.{length-replicate}
 use Rattle.jv_frames.specs.declared.verification.VerificationTypeOf.TheVariants as variants
-use Rattle.jv_frames.specs.Frames.{expanded, by_words}
-use Rattle.jv_frames.specs.Types.{FrameType, width, words}
+use Rattle.jv_frames.specs.Frames.{expanded}
 use Rattle.jv_rules_types.specs.Typed.{typed, typed_all}
-use Rattle.jv_rules_frames.specs.Numbered.{Item, NumberFrame, with_locals}
+use Rattle.jv_rules_frames.specs.Numbered.{Item, NumberFrame}
 use Rattle.jv_rules_frames.proofs.Replacing.{map_reversed}
-use Rattle.jv_method_frames.specs.Mapped.{names_of, types_of, type_of}
-use Rattle.jv_method_frames.specs.Inside.Locals.{SetBehind}
-use Rattle.jv_method_frames.proofs.Settings.{set_one, set_room, set_end, set_start, filled, words_reversed, taken_typed, frame_made, this_typed}
+use Rattle.jv_method_frames.specs.Mapped.{names_of, types_of}
+use Rattle.jv_method_frames.proofs.Settings.{frame_made}
 use Rattle.jv_method_frames.proofs.setting.set_to_map.Goals as goal
 
 pub returns-in_err-push_items-clause-same : goal.returns-in_err-push_items-clause-same
