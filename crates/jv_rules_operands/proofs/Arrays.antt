@@ -1,12 +1,12 @@
 -- Arrays that a Class constant names have a dimension.
-use Rattle.std.proofs.Common.{◌≡◌, ℕ, suc, ◌-◌, ◌≤◌, nat_le, Bool, true, false, not, ◌==◌, ◌&&◌, length, List, [], ◌∷◌, Option, Some, None, refl, sym, ap, ◌∙◌, arith, drop, if◌then◌else◌}
+use Rattle.std.proofs.Common.{◌≡◌, ℕ, suc, ◌-◌, ◌≤◌, nat_le, Bool, true, false, ◌==◌, ◌&&◌, length, List, [], ◌∷◌, Option, Some, None, refl, sym, ap, ◌∙◌, arith, drop, if◌then◌else◌}
 use Rattle.std.specs.Option.{option_map, option_and_then}
 use Rattle.jv_format.specs.Format.{◌>>=◌}
 use Rattle.jv_text.specs.declared.descriptor.Element.{Element}
 use Rattle.jv_text.specs.declared.descriptor.FieldTypeOf.{FieldTypeOf}
 use Rattle.jv_text.specs.Name.{is_array_name, is_class_name}
 use Rattle.jv_text.specs.Descriptor.{is_field_type}
-use Rattle.jv_text.specs.Types.{field_type_of, type_at, type_alone, with_dimensions, brackets, element_at}
+use Rattle.jv_text.specs.Types.{field_type_of, type_alone, with_dimensions, brackets, element_at}
 use Rattle.jv_meaning_typing.specs.Named.{when, named_type, array_with, class_components}
 
 if_some : {A : Type 0} (b : Bool) (x t : A) → (if b then Some x else None) ≡ Some t → x ≡ t

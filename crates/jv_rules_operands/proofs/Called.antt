@@ -1,5 +1,5 @@
 -- Methods that are called, by the types of what their constants name.
-use Rattle.std.proofs.Common.{◌≡◌, ℕ, Bool, true, false, not, ◌&&◌, ◌||◌, List, [], ◌∷◌, map, Option, Some, None, refl, sym, ap, subst, ◌∙◌, if◌then◌else◌}
+use Rattle.std.proofs.Common.{◌≡◌, ℕ, Bool, true, false, not, ◌&&◌, List, Option, Some, None, refl, sym, ap, subst, ◌∙◌, if◌then◌else◌}
 use Rattle.std.specs.Option.{option_map}
 use Rattle.jv_format.specs.Format.{◌>>=◌}
 use Rattle.jv_text.specs.declared.descriptor.FieldTypeOf.{FieldTypeOf}
@@ -7,14 +7,12 @@ use Rattle.jv_text.specs.Descriptor.{MethodDescriptor}
 use Rattle.jv_text.specs.Name.{is_array_name, is_class_name, is_init}
 use Rattle.jv_text.specs.Types.{field_type_of, method_type_of}
 use Rattle.jv_class.specs.Rules.{is_clinit}
-use Rattle.jv_pool.specs.Constants.{MemberReference}
 use Rattle.jv_frames.specs.declared.verification.VerificationTypeOf.TheVariants as types
-use Rattle.jv_frames.specs.Types.{FrameType, array_of, reference_type, value_type}
-use Rattle.jv_meaning_linking.specs.Operands.{MethodConstant, MethodReference, through}
-use Rattle.jv_meaning_linking.specs.Operands.MethodConstant.{Methodref, InterfaceMethodref}
+use Rattle.jv_frames.specs.Types.{FrameType, array_of, reference_type}
+use Rattle.jv_meaning_linking.specs.Operands.{MethodReference, through}
 use Rattle.jv_meaning_typing.specs.Named.{when, MethodUse, method_use, result_types, can_be_of}
 use Rattle.jv_meaning_typing.specs.MemberRules.{is_of_class}
-use Rattle.jv_rules_types.specs.Typed.{typed, typed_field, typed_all}
+use Rattle.jv_rules_types.specs.Typed.{typed, typed_all}
 use Rattle.jv_rules_frames.specs.Numbered.{Item}
 use Rattle.jv_rules_constants.specs.declared.texts.MethodTypes.{MethodTypes}
 use Rattle.jv_rules_constants.specs.PoolTypes.{CallTypes, call_types, typed_call, typed_result}

@@ -1,9 +1,9 @@
 -- Members by the indices of their parts, and by their texts.
-use Rattle.std.proofs.Common.{◌≡◌, ℕ, Bool, true, false, List, Option, Some, None, refl, sym, ap, ◌∙◌}
+use Rattle.std.proofs.Common.{◌≡◌, ℕ, Bool, true, false, List, Option, Some, None, refl, ap, ◌∙◌}
 use Rattle.std.specs.Option.{option_map, option_or}
 use Rattle.jv_format.specs.Format.{◌>>=◌}
 use Rattle.jv_pool.specs.declared.constant.Constant.TheVariants.{Utf8, Integer, Float, Long, Double, Class, String, Fieldref, Methodref, InterfaceMethodref, NameAndType, MethodHandle, MethodType, InvokeDynamic}
-use Rattle.jv_pool.specs.Constants.{Entry, MemberReference, at_index, class_name_at, utf8_at, name_and_type_in, name_and_descriptor, member_of, method_reference_in, interface_method_reference_in}
+use Rattle.jv_pool.specs.Constants.{Entry, at_index, class_name_at, utf8_at, name_and_type_in, name_and_descriptor, member_of, method_reference_in, interface_method_reference_in}
 use Rattle.jv_meaning_linking.specs.Operands.{MethodConstant, MethodReference, through}
 use Rattle.jv_meaning_linking.specs.Operands.MethodConstant.{Methodref as of_class, InterfaceMethodref as of_interface}
 use Rattle.jv_rules_operands.specs.declared.indices.MemberIndices.{MemberIndices}

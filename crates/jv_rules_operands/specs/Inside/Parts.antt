@@ -1,5 +1,5 @@
 -- What constants of members refer to, by indices (JVMS 4.4.2, 4.4.6).
-use Rattle.std.specs.Prelude.{◌≡◌, ℕ, Bool, true, false, List, Option, Some, None}
+use Rattle.std.specs.Prelude.{ℕ, Bool, true, false, List, Option, Some, None}
 use Rattle.std.specs.Option.{option_map}
 use Rattle.jv_format.specs.Format.{◌>>=◌}
 use Rattle.jv_pool.specs.declared.constant.Constant.TheVariants.{Fieldref, Methodref, InterfaceMethodref, NameAndType}

@@ -1,11 +1,11 @@
-use Rattle.std.proofs.Common.{◌≡◌, ℕ, List, refl, sym, ap, subst, ◌∙◌, arith, Option, Some, None}
-use Rattle.std.specs.Option.{option_map, option_copied, option_or}
+use Rattle.std.proofs.Common.{◌≡◌, ℕ, List, refl, sym, ap, subst, ◌∙◌, Some, None}
+use Rattle.std.specs.Option.{option_map, option_copied}
 use Rattle.jv_format.specs.Format.{◌>>=◌}
 use Rattle.jv_pool.specs.Constants.{Entry, at_index, class_name_at, utf8_at}
-use Rattle.jv_meaning_typing.specs.Environment.{Environment, current_class}
+use Rattle.jv_meaning_typing.specs.Environment.{Environment}
 use Rattle.jv_meaning_typing.specs.Named.{method_named_by}
 use Rattle.jv_rules_types.specs.Typed.{typed}
-use Rattle.jv_rules_constants.specs.PoolTypes.{typed_call, call_types_at}
+use Rattle.jv_rules_constants.specs.PoolTypes.{typed_call}
 use Rattle.jv_rules_operands.specs.Operands.{HasPool, NamesMethod}
 use Rattle.jv_rules_operands.specs.declared.methods.CalledTypes.{CalledTypes}
 use Rattle.jv_rules_operands.specs.declared.indices.MethodIndices.{MethodIndices}
