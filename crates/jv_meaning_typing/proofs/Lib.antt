@@ -1,7 +1,7 @@
-mod Starts
-mod Agreement
+pub mod Starts
+pub mod Agreement
 mod OneFault
 mod OneVerdict
-mod Falling
+pub mod Falling
 mod Verdicts
 mod MapVerdicts

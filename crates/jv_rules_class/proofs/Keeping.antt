@@ -1,5 +1,8 @@
 -- What the current class knows.
-use Rattle.std.proofs.Common.{◌≡◌, ℕ, Bool, false, List, get_or, Option, Some, None, sym, ap, subst, ◌∙◌}
+use Rattle.std.proofs.Common.{◌≡◌, ℕ, Bool, true, false, List, get_or, Option, Some, None, refl, sym, ap, subst, ◌∙◌}
+use Rattle.std.specs.Str.{bytes_eq}
+use Rattle.std.proofs.lemmas.Slice.Eq.{bytes_eq-Decides}
+use Rattle.jv_text.specs.Name.{is_array_name}
 use Rattle.jv_pool.specs.Constants.{MemberReference, field_reference_at}
 use Rattle.jv_loader_world.specs.World.{Loaded, World, class_named}
 use Rattle.jv_loader_world.specs.Verdicts.{is_interface}
@@ -11,11 +14,11 @@ use Rattle.jv_meaning_linking.specs.Operands.{MethodReference, method_operand}
 use Rattle.jv_link_resolution.specs.Inside.References.{method_operand_in}
 use Rattle.jv_meaning_typing.specs.Environment.{Environment}
 use Rattle.jv_meaning_typing.specs.Named.{is_guarded_field, is_guarded_method}
-use Rattle.jv_meaning_typing.specs.MemberRules.{is_interface_named}
+use Rattle.jv_meaning_typing.specs.MemberRules.{is_named, is_interface_named}
 use Rattle.jv_rules_constants.specs.PoolTypes.{PoolTypes}
 use Rattle.jv_rules_class.specs.Current.{CurrentClass, IsOfClass}
 use Rattle.jv_rules_class.specs.Inside.Guarded.{is_guarded_field as is_guarded_field_in, is_guarded_method as is_guarded_method_in}
-use Rattle.jv_rules_class.specs.Inside.Kept.{IsKept}
+use Rattle.jv_rules_class.specs.Inside.Kept.{IsNoArray, IsKept}
 
 -- ---- interfaces
 
@@ -51,3 +54,16 @@ module _ (constants : PoolTypes) (class : Loaded) (name : ℕ) (superclass : Opt
           ap (λ w. is_guarded_method_in w env.site.by m.member) of.world
           ∙ (ap (λ (l : Loaded). is_guarded_method_in constants.types.world l m.member) of.by
           ∙ ((kept.guards index).method m (subst (λ p. method_operand_in p index ≡ Some m) (sym kept.pool) e) ∙ sym is))
+
+-- ---- arrays
+
+pub no_array_is : (text : List ℕ) (name : Option (List ℕ)) → IsNoArray name → is_array_name text ≡ true → is_named text name ≡ false
+no_array_is text None none array = refl
+no_array_is text (Some name) none array = by_test (bytes_eq text name) refl
+  where
+    clash : true ≡ false → ⊥
+    clash e = cc
+
+    by_test : (b : Bool) → bytes_eq text name ≡ b → b ≡ false
+    by_test false e = refl
+    by_test true e = absurd (clash (sym array ∙ (ap is_array_name ((bytes_eq-Decides text name).0 e) ∙ none)))

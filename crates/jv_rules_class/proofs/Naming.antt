@@ -17,7 +17,8 @@ use Rattle.jv_loader_classes.specs.Numbers.{number_named, AreNoArrays}
 use Rattle.jv_loader_classes.proofs.Told.{stands_at}
 use Rattle.jv_assign.proofs.Names.{has_name}
 use Rattle.jv_rules_types.specs.Typed.{name_at}
-use Rattle.jv_rules_class.specs.Inside.Named.{class_in, class_named_at}
+use Rattle.jv_rules_class.specs.Inside.Named.{class_in, class_named_at, class_named_by}
+use Rattle.jv_rules_class.specs.Inside.Kept.{IsNoArray}
 
 -- ---- a text as the name of a class
 
@@ -99,3 +100,31 @@ named_class pool index kinds right = by_text (class_name_at pool index) refl rig
     by_text : (o : Option (List ℕ)) → class_name_at pool index ≡ o → IsTrue (some_and is_no_array_name o) → class_in (o >>= reference_type) ≡ o
     by_text None e h = refl
     by_text (Some text) e h = class_known text (kinds.class index text e) (by_test (is_array_name text) h)
+
+-- ---- no array is named
+
+text_no_array : (text : List ℕ) → IsNoArray (class_in (reference_type text))
+text_no_array text = by_array (is_array_name text) refl
+  where
+    of_array : (o : Option (FieldTypeOf (List ℕ))) → IsNoArray (class_in (o >>= array_of))
+    of_array None = tt
+    of_array (Some type) = tt
+
+    by_class : (b : Bool) → is_array_name text ≡ false → IsNoArray (class_in (cond b (Some (types.Class text)) None))
+    by_class true e = e
+    by_class false e = tt
+
+    by_array : (b : Bool) → is_array_name text ≡ b → IsNoArray (class_in (cond b (field_type_of text >>= array_of) (cond (is_class_name text) (Some (types.Class text)) None)))
+    by_array true e = of_array (field_type_of text)
+    by_array false e = by_class (is_class_name text) e
+
+pub named_no_array : (pool : List Entry) (index : ℕ) → IsNoArray (class_named_at pool index)
+named_no_array pool index = by_text (class_name_at pool index)
+  where
+    by_text : (o : Option (List ℕ)) → IsNoArray (class_in (o >>= reference_type))
+    by_text None = tt
+    by_text (Some text) = text_no_array text
+
+pub named_by_no_array : (pool : List Entry) (index : Option ℕ) → IsNoArray (class_named_by pool index)
+named_by_no_array pool None = tt
+named_by_no_array pool (Some index) = named_no_array pool index

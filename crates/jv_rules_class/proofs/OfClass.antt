@@ -20,8 +20,8 @@ use Rattle.jv_rules_types.specs.Typed.{name_at}
 use Rattle.jv_rules_constants.specs.PoolTypes.{PoolTypes}
 use Rattle.jv_rules_class.specs.Inside.Named.{class_named_at, class_named_by}
 use Rattle.jv_rules_class.specs.Inside.Marked.{names_it, AreMarkedAt}
-use Rattle.jv_rules_class.specs.Inside.Kept.{AreGuards, IsKept}
-use Rattle.jv_rules_class.proofs.Naming.{named_class}
+use Rattle.jv_rules_class.specs.Inside.Kept.{AreGuards, IsNoArray, IsKept}
+use Rattle.jv_rules_class.proofs.Naming.{named_class, named_no_array, named_by_no_array}
 
 chained : {A B : Type 0} (o : Option A) (f : A → Option B) (y : B) → (o >>= f) ≡ Some y → (a : A) × (o ≡ Some a) × (f a ≡ Some y)
 chained None f y e = absurd cc
@@ -116,10 +116,11 @@ module _ (c : ClassStructure) (kinds : NamesByKind c.constant_pool) (well : IsWe
   known constants l name superclass direct guarded same of named above marked guards =
       let is = parts c l.class of in
       let one_name : Some (name_at constants.types.names name) ≡ Some l.class.name = sym named ∙ (ap (λ p. class_named_at p c.this_class) same ∙ (itself_named ∙ is.name)) in
+      let is_above : class_named_by constants.pool (super_index c) ≡ l.class.super_class = ap (λ p. class_named_by p (super_index c)) same ∙ super_named l.class.super_class is.super_class in
       record {
         pool = same ∙ is.pool;
         named = one one_name;
-        superclass_named = above ∙ (ap (λ p. class_named_by p (super_index c)) same ∙ super_named l.class.super_class is.super_class);
+        superclass_named = above ∙ is_above;
         interfaces = record {
           size = marked.size;
           mark = λ place below.
@@ -128,6 +129,8 @@ module _ (c : ClassStructure) (kinds : NamesByKind c.constant_pool) (well : IsWe
               ∙ same_any (name_at constants.types.names place) c.interfaces l.class.interfaces well.rules.itself.supers.interfaces is.interfaces);
         };
         guards = guards;
+        no_array = subst IsNoArray (named ∙ one_name) (named_no_array constants.pool c.this_class);
+        no_array_above = subst IsNoArray is_above (named_by_no_array constants.pool (super_index c));
       }
     where
       one : {a b : List ℕ} → Some a ≡ Some b → a ≡ b

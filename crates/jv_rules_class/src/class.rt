@@ -1,7 +1,8 @@
 //! The current class.
 
-ghost use Rattle.std.specs.Prelude.{◌≡◌, ◌<◌, length, Some, IfOk};
+ghost use Rattle.std.specs.Prelude.{◌≡◌, ◌<◌, ℕ, List, length, true, false, Some, IfOk};
 ghost use Rattle.std.specs.Str.{bytes_eq};
+ghost use Rattle.jv_text.specs.Name.{is_array_name};
 ghost use Rattle.jv_pool.specs.Constants.{MemberReference, field_reference_at};
 ghost use Rattle.jv_class.specs.Class.{class_of};
 ghost use Rattle.jv_loader_world.specs.World.{class_named};
@@ -131,6 +132,14 @@ impl<'e, 't, 'a> CurrentClass<'e, 't, 'a> {
             Some(superclass) => self.constants.names().same_name(name, superclass),
             None => false,
         }
+    }
+
+    /// Neither the class nor its superclass has the name of an array. The call does nothing.
+    pub fn has_no_array_name(&self)
+        ensures itself { (text : List ℕ) → is_array_name text ≡ true → bytes_eq text self.now.by.class.name ≡ false }
+        ensures superclass { (text : List ℕ) → is_array_name text ≡ true → is_named text self.now.by.class.super_class ≡ false }
+    {
+        let _class = &self.class;
     }
 
     /// Whether a name is that of an interface.
