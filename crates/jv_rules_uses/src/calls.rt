@@ -1,0 +1,121 @@
+//! Methods that are called.
+
+ghost use Rattle.jv_meaning_typing.specs.Environment.{Environment};
+ghost use Rattle.jv_meaning_typing.specs.Named.{MethodUse};
+ghost use Rattle.jv_meaning_typing.specs.MemberRules.{invoke_super, invoke_special, invoke, invoke_rule, invoke_interface_rule};
+ghost use Rattle.jv_rules_frames.specs.Numbered.{frame_of};
+ghost use Rattle.jv_rules_values.specs.Outcomes.{IsOutcome};
+ghost use Rattle.jv_rules_uses.specs.Method.{IsOfMethod};
+ghost use Rattle.jv_rules_uses.specs.Inside.Used.{Calls};
+
+use crate::constructors::{class_number, invoke_init};
+use crate::context::MethodContext;
+use crate::operands::{called_types_at, method_operand};
+use jv_code::Invocation;
+use jv_rules_frames::TypeFrame;
+use jv_rules_members::{invoke_interface, invoke_static, invoke_super, invoke_virtual};
+use jv_rules_operands::CalledTypes;
+use jv_rules_values::Outcome;
+
+/// Calls a method other than `<init>` of the current class or of one above it.
+fn invoke_above(
+    context: &MethodContext<'_, '_, '_, '_>,
+    frame: &mut TypeFrame,
+    index: u16,
+    called: CalledTypes<'_>,
+) -> Outcome
+    ensures { (env : Environment) → IsOfMethod context.now env → (named : MethodUse) → Calls context.now.class.types.names env index called.entry named → IsOutcome context.now.class.types.names (invoke_super env named (frame_of context.now.class.types.names frame.old)) frame.new result }
+{
+    match class_number(called.owner) {
+        Some(owner) => {
+            invoke_super(
+                context.types(),
+                frame,
+                method_operand(context, index, called),
+                context.class().current(),
+                context.class().is_near(owner),
+            )
+        }
+        None => Outcome::Fails,
+    }
+}
+
+fn invoke_special(
+    context: &MethodContext<'_, '_, '_, '_>,
+    frame: &mut TypeFrame,
+    index: u16,
+    called: CalledTypes<'_>,
+) -> Outcome
+    ensures { (env : Environment) → IsOfMethod context.now env → (named : MethodUse) → Calls context.now.class.types.names env index called.entry named → IsOutcome context.now.class.types.names (invoke_special env named (frame_of context.now.class.types.names frame.old)) frame.new result }
+{
+    if called.is_init {
+        invoke_init(context, frame, index, called)
+    } else {
+        invoke_above(context, frame, index, called)
+    }
+}
+
+fn invoke_as(
+    context: &MethodContext<'_, '_, '_, '_>,
+    frame: &mut TypeFrame,
+    how: Invocation,
+    index: u16,
+    called: CalledTypes<'_>,
+) -> Outcome
+    ensures { (env : Environment) → IsOfMethod context.now env → (named : MethodUse) → Calls context.now.class.types.names env index called.entry named → IsOutcome context.now.class.types.names (invoke env how named (frame_of context.now.class.types.names frame.old)) frame.new result }
+{
+    match how {
+        Invocation::Virtual => {
+            invoke_virtual(
+                context.types(),
+                frame,
+                method_operand(context, index, called),
+            )
+        }
+        Invocation::Special => invoke_special(context, frame, index, called),
+        Invocation::Static => {
+            invoke_static(
+                context.types(),
+                frame,
+                method_operand(context, index, called),
+            )
+        }
+    }
+}
+
+/// Calls the method that an index names, as invokevirtual, invokespecial or invokestatic does.
+pub fn invoke(
+    context: &MethodContext<'_, '_, '_, '_>,
+    frame: &mut TypeFrame,
+    how: Invocation,
+    index: u16,
+) -> Outcome
+    ensures { (env : Environment) → IsOfMethod context.now env → IsOutcome context.now.class.types.names (invoke_rule env how index (frame_of context.now.class.types.names frame.old)) frame.new result }
+{
+    match called_types_at(context, index) {
+        Some(called) => invoke_as(context, frame, how, index, called),
+        None => Outcome::Fails,
+    }
+}
+
+/// Calls the method that an index names, as invokeinterface does, with the number behind the index.
+pub fn invoke_of_interface(
+    context: &MethodContext<'_, '_, '_, '_>,
+    frame: &mut TypeFrame,
+    index: u16,
+    count: u8,
+) -> Outcome
+    ensures { (env : Environment) → IsOfMethod context.now env → IsOutcome context.now.class.types.names (invoke_interface_rule env index count (frame_of context.now.class.types.names frame.old)) frame.new result }
+{
+    match called_types_at(context, index) {
+        Some(called) => {
+            invoke_interface(
+                context.types(),
+                frame,
+                method_operand(context, index, called),
+                count,
+            )
+        }
+        None => Outcome::Fails,
+    }
+}
