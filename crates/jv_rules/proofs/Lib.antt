@@ -1,0 +1,4 @@
+pub mod Arms
+pub mod Counts
+pub mod Named
+pub mod OnStack

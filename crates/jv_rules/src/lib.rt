@@ -1,0 +1,16 @@
+//! The rule of each instruction (JVMS 4.10.1.9), on a frame that is changed in place: one call an instruction, to the rule of
+//! its kind in the crates below.
+#![tactic(auto)]
+
+mod branches;
+mod classes;
+mod constants;
+mod effect;
+mod law;
+mod returns;
+mod rule;
+mod words;
+
+pub use jv_rules_uses::{MethodContext, constructed_object};
+pub use law::keeps_local_count;
+pub use rule::apply;
