@@ -1,0 +1,69 @@
+//! The pass over a method's code.
+
+ghost use Rattle.std.specs.Prelude.{◌≡◌, Some, IfOk, length};
+ghost use Rattle.jv_meaning_typing.specs.Environment.{Environment};
+ghost use Rattle.jv_rules_frames.specs.Numbered.{frame_of};
+ghost use Rattle.jv_method_code.specs.Pass.{IsOfPass, maps_of, names_in};
+ghost use Rattle.jv_method_code.specs.Found.{IsFound};
+ghost use Rattle.jv_method_code.specs.Inside.Walk.{Reaches};
+
+use crate::fault::CodeFault;
+use crate::pass::Pass;
+use crate::step::step;
+use jv_code::{falls_through, stands_in_list, starts_apart};
+use jv_meaning_typing::VerifyRule;
+use jv_method_frames::set_to_initial;
+use jv_rules_frames::TypeFrame;
+use std::alloc::{AllocError, Global};
+
+/// Goes over all instructions from the first on, before which the frame stands.
+fn walk(
+    pass: &Pass<'_, '_, '_, '_, '_>,
+    frame: &mut TypeFrame,
+) -> Result<Option<CodeFault>, AllocError>
+    requires locals { length frame.old.locals ≡ pass.now.max_locals }
+    requires method { (env : Environment) × IsOfPass pass.now env }
+    ensures { (env : Environment) → IsOfPass pass.now env → Reaches env (maps_of pass.now) 0 (Some (frame_of (names_in pass.now) frame.old)) → IfOk result (IsFound env (maps_of pass.now)) }
+{
+    stands_in_list();
+    starts_apart();
+    let code = pass.context.code();
+    let size = code.size();
+    let mut falls = true;
+    let mut offset = 0;
+    while offset < size {
+        let (insn, next) = code.insn_at(offset);
+        if let Some(rule) = step(pass, frame, falls, offset, &insn)? {
+            return Ok(Some(CodeFault { offset, rule }));
+        }
+        falls = falls_through(&insn);
+        if falls && next == size {
+            return Ok(Some(CodeFault {
+                offset,
+                rule: VerifyRule::EndOfCode,
+            }));
+        }
+        offset = next;
+    }
+    Ok(None)
+}
+
+/// Checks the code of a method whose handlers and stack map keep their rules: the first rule that is broken at the least
+/// offset, if one is.
+///
+/// # Errors
+///
+/// Where the host had no memory for the frame.
+pub fn check_code(
+    alloc: Global,
+    pass: &Pass<'_, '_, '_, '_, '_>,
+) -> Result<Option<CodeFault>, AllocError>
+    requires { (env : Environment) × IsOfPass pass.now env }
+    ensures { (env : Environment) → IsOfPass pass.now env → IfOk result (IsFound env (maps_of pass.now)) }
+{
+    stands_in_list();
+    starts_apart();
+    let mut frame = TypeFrame::new(alloc, pass.max_locals)?;
+    set_to_initial(&mut frame, pass.initial, pass.words);
+    walk(pass, &mut frame)
+}
