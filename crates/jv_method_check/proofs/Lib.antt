@@ -1,0 +1,4 @@
+pub mod EntryWords
+pub mod Environments
+pub mod Parts
+pub mod Judging
