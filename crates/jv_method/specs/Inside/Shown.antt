@@ -1,0 +1,29 @@
+-- The methods of a class as its file shows them (JVMS 4.6), and what is found of one.
+use Rattle.std.specs.Prelude.{◌≡◌, List, map, Option, Some, None, IsSome}
+use Rattle.std.specs.Option.{option_map}
+use Rattle.jv_pool.specs.Constants.{Entry, named_at}
+use Rattle.jv_class_parts.specs.Parts.{MethodSeen}
+use Rattle.jv_class_parts.specs.Seen.{seen_method}
+use Rattle.jv_class_parts.specs.declared.member.Method.{Method as ShownMethod}
+use Rattle.jv_class.specs.Class.{Method, all_found}
+use Rattle.jv_loader_world.specs.World.{Loaded, World}
+use Rattle.jv_loader_world.specs.Verdicts.{declared_by}
+use Rattle.jv_meaning_typing.specs.Judgement.{BreaksRule}
+use Rattle.jv_meaning_typing.specs.Typing.{HasTyping}
+use Rattle.jv_method_code.specs.declared.fault.CodeFault.{CodeFault}
+
+-- the method that is shown so, by its names
+abbrev pub method_in : List Entry → MethodSeen → Option Method
+method_in pool shown =
+    option_map
+    (λ texts. record { access_flags = shown.access_flags; name = texts.name; descriptor = texts.descriptor; code = shown.code })
+    (named_at pool shown.name_index shown.descriptor_index)
+
+-- these are the methods of the class
+abbrev pub AreMethodsOf : Loaded → List ShownMethod → Type 0
+AreMethodsOf l methods = all_found (method_in l.class.constant_pool) (map seen_method methods) ≡ Some l.class.methods
+
+-- the first rule that a method with code breaks, and where; none where it has no code, or its code has a typing
+abbrev pub IsMethodJudged : World → Loaded → Method → Option CodeFault → Type 0
+IsMethodJudged world l m None = IsSome m.code → HasTyping world (declared_by l m)
+IsMethodJudged world l m (Some fault) = IsSome m.code × BreaksRule world (declared_by l m) fault.offset fault.rule

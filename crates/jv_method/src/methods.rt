@@ -1,0 +1,130 @@
+//! The methods of a class against all rules.
+
+ghost use Rattle.std.specs.Prelude.{◌≡◌, ◌<◌, Some, IfOk, IsSome, is_some, length};
+ghost use Rattle.std.specs.List.{list_any};
+ghost use Rattle.jv_class.specs.Class.{Method as NamedMethod, class_of};
+ghost use Rattle.jv_class_parts.specs.Seen.{seen_method};
+ghost use Rattle.jv_loader_classes.specs.Inside.Told.{IsAt};
+ghost use Rattle.jv_method.specs.Methods.{AreJudged};
+ghost use Rattle.jv_method.specs.Inside.Shown.{method_in, AreMethodsOf, IsMethodJudged};
+
+use jv_class::{ClassFile, Method};
+use jv_link_resolution::class_at;
+use jv_loader::Classes;
+use jv_meaning_typing::VerifyFault;
+use jv_method_check::{CodeFault, check_method};
+use jv_rules_class::CurrentClass;
+use jv_rules_constants::ConstantTypes;
+use std::alloc::{AllocError, Global};
+use std::hash::RandomState;
+
+/// The first rule that a method breaks, where it has code.
+fn check_code<'a>(
+    alloc: Global,
+    class: &CurrentClass<'_, '_, 'a>,
+    method: &Method<'a>,
+) -> Result<Option<CodeFault>, AllocError>
+    requires { IsSome (method_in class.now.by.class.constant_pool (seen_method method.now)) }
+    ensures { (m : NamedMethod) → method_in class.now.by.class.constant_pool (seen_method method.now) ≡ Some m → IfOk result (IsMethodJudged class.now.types.world class.now.by m) }
+{
+    match &method.code {
+        Some(code) => check_method(alloc, class, method, code),
+        None => Ok(None),
+    }
+}
+
+/// A fault in the code of the method at a place.
+fn fault_at(method: u16, fault: CodeFault) -> VerifyFault
+    ensures method { result.method ≡ method }
+    ensures offset { result.offset ≡ fault.offset }
+    ensures rule { result.rule ≡ fault.rule }
+{
+    VerifyFault {
+        method,
+        offset: fault.offset,
+        rule: fault.rule,
+    }
+}
+
+/// The first rule that the first ill-typed of the methods of a class breaks.
+fn first_fault<'a>(
+    alloc: Global,
+    class: &CurrentClass<'_, '_, 'a>,
+    methods: &[Method<'a>],
+) -> Result<Option<VerifyFault>, AllocError>
+    requires methods { AreMethodsOf class.now.by methods.now }
+    requires count { length methods.now < 65536 }
+    ensures { IfOk result (AreJudged class.now.types.world class.now.by) }
+{
+    for place in 0..methods.len() {
+        if let Some(fault) = check_code(alloc, class, &methods[place])? {
+            return Ok(Some(fault_at(place as u16, fault)));
+        }
+    }
+    Ok(None)
+}
+
+/// The first rule that the first ill-typed method of the class of a file breaks, where a method has code.
+fn check_file<'a>(
+    alloc: Global,
+    state: RandomState,
+    classes: &Classes<'a>,
+    class: usize,
+    file: &ClassFile<'a>,
+) -> Result<Option<VerifyFault>, AllocError>
+    requires class { class < length classes.now.world }
+    requires file { IsAt classes.now.world class (λ l. class_of file.now ≡ Some l.class) }
+    ensures { IfOk result (λ fault. IsAt classes.now.world class (λ l. AreJudged classes.now.world l fault)) }
+{
+    file.is_well_formed();
+    let constants = ConstantTypes::new(alloc, state, classes.table(), file.pool())?;
+    let current = CurrentClass::new(alloc, classes, class, file, &constants)?;
+    first_fault(alloc, &current, file.methods())
+}
+
+/// Whether one of the methods has code.
+fn has_code(methods: &[Method<'_>]) -> bool
+    ensures { result ≡ list_any (λ m. is_some m.code) methods.now }
+{
+    methods.iter().any(|method| method.code.is_some())
+}
+
+/// The first rule that the first ill-typed method of the class of a file breaks. Takes no memory where no method has code.
+fn check_shown<'a>(
+    alloc: Global,
+    state: RandomState,
+    classes: &Classes<'a>,
+    class: usize,
+    file: &ClassFile<'a>,
+) -> Result<Option<VerifyFault>, AllocError>
+    requires class { class < length classes.now.world }
+    requires file { IsAt classes.now.world class (λ l. class_of file.now ≡ Some l.class) }
+    ensures { IfOk result (λ fault. IsAt classes.now.world class (λ l. AreJudged classes.now.world l fault)) }
+{
+    if has_code(file.methods()) {
+        check_file(alloc, state, classes, class, file)
+    } else {
+        Ok(None)
+    }
+}
+
+/// Checks the methods of the class with a number: the first method that is not type safe, the first rule that it breaks
+/// (JVMS 4.10.1), and where; `None` where each method with code has a typing. Names are hashed with the state.
+///
+/// # Errors
+///
+/// Where the host had no memory for what is known of the class, or for the frames of a method.
+pub fn check_methods<'a>(
+    alloc: Global,
+    state: RandomState,
+    classes: &Classes<'a>,
+    class: usize,
+) -> Result<Option<VerifyFault>, AllocError>
+    requires { class < length classes.now.world }
+    ensures { IfOk result (λ fault. IsAt classes.now.world class (λ l. AreJudged classes.now.world l fault)) }
+{
+    match class_at(classes.table(), class).file() {
+        Some(file) => check_shown(alloc, state, classes, class, file),
+        None => Ok(None),
+    }
+}
