@@ -129,6 +129,20 @@ fn read_class_file<R: Files + AllocGlobal>(
     Ok(NamedFile { name, bytes })
 }
 
+/// The class file at a path, which failures name; one byte more than the limit where there are more
+/// than that.
+pub fn read_class<R: Files + AllocGlobal>(rt: &R, path: &str) -> Result<Vec<u8>, Failure>
+    ensures { IfOk result (λ bytes. vec_len bytes ≤ 4194305) }
+{
+    match bytes_at(rt, path.as_bytes(), CLASS_FILE_LIMIT) {
+        Ok(bytes) => Ok(bytes),
+        Err(error) => {
+            let name = Vec::from_slice(rt.alloc(), path.as_bytes())?;
+            Err(failure_at(name, &error))
+        }
+    }
+}
+
 /// The class files of these names.
 fn read_class_files<R: Files + AllocGlobal>(
     rt: &R,

@@ -13,7 +13,7 @@ mod report;
 
 pub use escape::Escaped;
 pub use failure::{Failure, status_of};
-pub use folder::{Folder, NamedFile, read_folder};
+pub use folder::{Folder, NamedFile, read_class, read_folder};
 pub use main_name::main_name_of;
 pub use names::{class_file_names, names_in};
 pub use outcome::{Outcome, run_folder};

@@ -7,25 +7,51 @@ ghost use Rattle.jvhost.specs.declared.stop.Stop.TheVariants.{CommandLine, Run};
 
 use crate::stop::Stop;
 use clap::error::ErrorKind;
-use clap::{Arg, Command};
+use clap::{Arg, ArgMatches, Command};
 use jv_run::Failure;
 use std::alloc::{AllocError, Global};
 use std::rt::Env;
 use std::{env, io};
 
-/// The program's command line: `jvhost run FOLDER`.
-fn command<'a>(alloc: Global) -> Result<Command<'a>, AllocError> {
+/// What the words of a command line ask for.
+#[derive(Drop)]
+pub enum Task<'a> {
+    /// To run the guest in the folder of this name.
+    Run(&'a str),
+    /// To check the files of these names.
+    Check(Vec<&'a str>),
+}
+
+/// The command `run FOLDER`.
+fn run_command<'a>(alloc: Global) -> Result<Command<'a>, AllocError> {
     let folder = Arg::new(alloc, "folder")
         .value_name("FOLDER")
         .help("The folder with the guest's class files and the file `main`")
         .required(true);
-    let run = Command::new(alloc, "run")
+    Command::new(alloc, "run")
         .about("Runs the class files of a folder as one guest, and reports what it showed")
-        .arg(folder)?;
+        .arg(folder)
+}
+
+/// The command `check FILE...`.
+fn check_command<'a>(alloc: Global) -> Result<Command<'a>, AllocError> {
+    let file = Arg::new(alloc, "file")
+        .value_name("FILE")
+        .help("A class file of the guest")
+        .required(true)
+        .num_args(1..);
+    Command::new(alloc, "check")
+        .about("Checks class files as those of one guest, and runs nothing")
+        .arg(file)
+}
+
+/// The program's command line: `jvhost run FOLDER`, or `jvhost check FILE...`.
+fn command<'a>(alloc: Global) -> Result<Command<'a>, AllocError> {
     Command::new(alloc, "jvhost")
-        .about("Runs class files")
+        .about("Checks and runs class files")
         .subcommand_required(true)
-        .subcommand(run)
+        .subcommand(run_command(alloc)?)?
+        .subcommand(check_command(alloc)?)
 }
 
 /// What ends the program where a word is no text.
@@ -59,15 +85,29 @@ fn stop_of(error: clap::Error) -> Stop
     }
 }
 
-/// The folder that the words name.
-pub fn folder_named<'a>(alloc: Global, words: &'a [String]) -> Result<&'a str, Stop> {
+/// The files that the words behind `check` name.
+fn files_named<'a>(alloc: Global, check: &ArgMatches<'a>) -> Result<Vec<&'a str>, AllocError> {
+    Vec::from_slice(alloc, check.get_strs("file").unwrap_or(&[]))
+}
+
+/// What the words behind the name of a command ask for.
+fn task_in<'a>(alloc: Global, name: &str, found: &ArgMatches<'a>) -> Result<Task<'a>, AllocError> {
+    if name == "check" {
+        Ok(Task::Check(files_named(alloc, found)?))
+    } else {
+        Ok(Task::Run(found.get_str("folder").unwrap_or("")))
+    }
+}
+
+/// What the words ask for.
+pub fn task_of<'a>(alloc: Global, words: &'a [String]) -> Result<Task<'a>, Stop> {
     let command = command(alloc)?;
     let matches = match command.try_get_matches_from(words) {
         Ok(matches) => matches,
         Err(error) => return Err(stop_of(error)),
     };
     match matches.subcommand() {
-        Some((_, run)) => Ok(run.get_str("folder").unwrap_or("")),
-        None => Ok(""),
+        Some((name, found)) => Ok(task_in(alloc, name, found)?),
+        None => Ok(Task::Run("")),
     }
 }

@@ -1,21 +1,31 @@
-//! Runs the class files of a folder as one guest, and reports what it showed.
+//! Checks class files, or runs those of a folder as one guest, and reports what was found.
 #![tactic(auto)]
 
+mod check;
 mod command_line;
 mod stop;
 
-use crate::command_line::{folder_named, words};
+use crate::check::check_named;
+use crate::command_line::{Task, task_of, words};
 use crate::stop::Stop;
-use jv_run::{Outcome, read_folder, run_folder};
+use jv_run::{Failure, Outcome, read_folder, run_folder};
 use std::process::ExitCode;
+use std::random::RandomSource;
 use std::rt::{Env, Files};
 
-/// Does what the words of the command line say.
-fn carry_out<R: Files + Env + AllocGlobal>(rt: &R) -> Result<Outcome, Stop> {
-    let words = words(rt)?;
-    let word = folder_named(rt.alloc(), words.as_slice())?;
+/// Runs the guest in the folder of this name.
+fn run_named<R: Files + AllocGlobal>(rt: &R, word: &str) -> Result<Outcome, Failure> {
     let folder = read_folder(rt, word)?;
-    Ok(run_folder(rt.alloc(), word, &folder)?)
+    run_folder(rt.alloc(), word, &folder)
+}
+
+/// Does what the words of the command line say.
+fn carry_out<R: Files + Env + RandomSource + AllocGlobal>(rt: &R) -> Result<Outcome, Stop> {
+    let words = words(rt)?;
+    match task_of(rt.alloc(), words.as_slice())? {
+        Task::Run(word) => Ok(run_named(rt, word)?),
+        Task::Check(names) => Ok(check_named(rt, names.as_slice())?),
+    }
 }
 
 /// Prints why there is no report: where the words ask for help on standard output, and else on
@@ -29,7 +39,7 @@ fn print_stop<R: Print + Eprint>(rt: &R, stop: &Stop) {
 
 /// Does what the words of the command line say, and gives the status to end with. A write that
 /// fails changes no status.
-fn status_of_command<R: Files + Env + Print + Eprint + AllocGlobal>(rt: &R) -> u8 {
+fn status_of_command<R: Files + Env + RandomSource + Print + Eprint + AllocGlobal>(rt: &R) -> u8 {
     match carry_out(rt) {
         Ok(outcome) => {
             let _ = rt.print(outcome.report.as_str());

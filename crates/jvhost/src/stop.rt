@@ -11,7 +11,7 @@ use std::alloc::AllocError;
 pub enum Stop {
     /// The words of the command line are wrong, or ask for help.
     CommandLine(clap::Error),
-    /// There is no report on the folder's guest.
+    /// There is no report.
     Run(Failure),
 }
 

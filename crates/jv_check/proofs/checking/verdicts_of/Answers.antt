@@ -1,0 +1,15 @@
+use Rattle.std.proofs.Common.{map, sym, subst}
+use Rattle.jv_loader.specs.Loading.{AreLoaded}
+use Rattle.jv_meaning.specs.Guest.{bytes_of}
+use Rattle.jv_method.specs.Files.{AreVerdicts}
+use Rattle.jv_check.proofs.checking.verdicts_of.Goals as goal
+
+pub returns : goal.returns
+returns c =
+    let files = map bytes_of c.args.files.now in
+    let loaded : AreLoaded files c.in_ok-classes.classes = c.in_ok-classes.ensures in
+    record {
+      contents = loaded.contents;
+      read = loaded.read;
+      found = subst (AreVerdicts loaded.contents) (sym c.in_ok-listed.ensures) (c.in_ok-verified.ensures files loaded).verdicts;
+    }

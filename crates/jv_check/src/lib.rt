@@ -1,0 +1,8 @@
+//! A private part of the program `jvhost`: what `check` says of the files of a guest.
+#![tactic(auto)]
+
+mod checking;
+mod limits;
+mod report;
+
+pub use checking::check_files;

@@ -1,0 +1,92 @@
+"""Changes bytes of code, handlers and stack maps in the examples' classes: damage.py EXAMPLES FOLDER COUNT SEED.
+Writes the damaged files, and a list of each with its folder, its class's name and the file that it was."""
+import glob
+import os
+import random
+import struct
+import sys
+
+
+def half(spelled, at):
+    return struct.unpack(">H", spelled[at : at + 2])[0]
+
+
+def word(spelled, at):
+    return struct.unpack(">I", spelled[at : at + 4])[0]
+
+
+def parts_of(spelled):
+    """The class's name, and where code, handlers and stack maps stand."""
+    texts, classes, at, index = {}, {}, 10, 1
+    while index < half(spelled, 8):
+        tag = spelled[at]
+        if tag == 1:
+            length = half(spelled, at + 1)
+            texts[index] = spelled[at + 3 : at + 3 + length]
+            at += 3 + length
+        elif tag in (5, 6):
+            at, index = at + 9, index + 1
+        elif tag in (7, 8, 16):
+            classes[index] = half(spelled, at + 1)
+            at += 3
+        else:
+            at += 4 if tag == 15 else 5
+        index += 1
+    name = texts[classes[half(spelled, at + 2)]].decode().replace("/", ".")
+    at += 8 + 2 * half(spelled, at + 6)
+    parts = []
+    for is_method in (False, True):
+        count, at = half(spelled, at), at + 2
+        for _ in range(count):
+            attributes, at = half(spelled, at + 6), at + 8
+            for _ in range(attributes):
+                if is_method and texts[half(spelled, at)] == b"Code":
+                    parts += parts_of_code(spelled, at + 6, texts)
+                at += 6 + word(spelled, at + 2)
+    return name, parts
+
+
+def parts_of_code(spelled, at, texts):
+    end = at + 8 + word(spelled, at + 4)
+    parts = [(at + 8, end)]
+    handlers = end + 2 + 8 * half(spelled, end)
+    if handlers > end + 2:
+        parts.append((end + 2, handlers))
+    count, at = half(spelled, handlers), handlers + 2
+    for _ in range(count):
+        if texts[half(spelled, at)] == b"StackMapTable":
+            parts.append((at + 8, at + 6 + word(spelled, at + 2)))
+        at += 6 + word(spelled, at + 2)
+    return parts
+
+
+def damaged(spelled, parts):
+    changed = bytearray(spelled)
+    for _ in range(random.choice((1, 1, 1, 2))):
+        start, end = random.choice(parts)
+        at = random.randrange(start, end)
+        changed[at] = random.choice(
+            (random.randrange(256), (changed[at] + random.choice((1, 2, 254, 255))) % 256, changed[random.randrange(start, end)])
+        )
+    return bytes(changed)
+
+
+examples, folder, count, seed = sys.argv[1:]
+random.seed(int(seed))
+files = []
+for path in sorted(glob.glob(f"{examples}/*/*.class")):
+    if "/host/" in path or "/unsupported/" in path or path.endswith("/Audited.class"):
+        continue
+    with open(path, "rb") as file:
+        spelled = file.read()
+    name, parts = parts_of(spelled)
+    if parts:
+        files.append((path, spelled, name, parts))
+lines = []
+for number in range(int(count)):
+    path, spelled, name, parts = random.choice(files)
+    with open(f"{folder}/{number}.class", "wb") as file:
+        file.write(damaged(spelled, parts))
+    lines.append(f"{folder}/{number}.class\t{os.path.dirname(path)}\t{name}\t{path}\n")
+with open(f"{folder}/list", "w") as file:
+    file.writelines(lines)
