@@ -1,7 +1,7 @@
 -- The structure that a description of a class file stands for: the same parts, slices seen as lists.
 use Rattle.std.specs.Prelude.{List, map}
-use Rattle.jv_pool.specs.Seen.{seen}
-use Rattle.jv_class_parts.specs.Structure.{AttributeInfo, CodeAttribute, MethodAttribute, Code, Other, FieldInfo, MethodInfo, ClassStructure}
+use Rattle.jv_class.specs.of_pool.Seen.{seen}
+use Rattle.jv_class.specs.of_class_parts.Structure.{AttributeInfo, CodeAttribute, MethodAttribute, Code, Other, FieldInfo, MethodInfo, ClassStructure}
 use Rattle.jv_asm.specs.declared.description.AttributeDescription.{AttributeDescription}
 use Rattle.jv_asm.specs.declared.description.CodeDescription.{CodeDescription}
 use Rattle.jv_asm.specs.declared.description.MethodAttributeDescription.{MethodAttributeDescription}

@@ -1,7 +1,7 @@
 -- The law of the class writer: what it writes of a well-formed structure is a class file, and reads back.
 use Rattle.std.specs.Prelude.{◌≡◌}
-use Rattle.jv_class_parts.specs.Structure.{ClassStructure, class_bytes}
-use Rattle.jv_class_parts.specs.Parts.{is_52_0}
+use Rattle.jv_class.specs.of_class_parts.Structure.{ClassStructure, class_bytes}
+use Rattle.jv_class.specs.of_class_parts.Parts.{is_52_0}
 use Rattle.jv_class.specs.ClassFile.{IsWellFormed, IsClassFile, OneStructure}
 use Rattle.jv_asm.specs.Fits.{IsFit}
 

@@ -3,8 +3,8 @@
 //! Numbers and indices are as they stand in the file; counts and lengths are those of the lists.
 //! `specs/Description.antt` says which structure of `jv_class_parts` a description stands for.
 
+use jv_class::of_pool::Constant;
 use jv_format::Handler;
-use jv_pool::Constant;
 
 /// An attribute: the index of its name, and its contents (4.7).
 #[derive(Clone, Copy)]

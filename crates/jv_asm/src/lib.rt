@@ -27,8 +27,8 @@ pub use description::{
 };
 pub use fault::AsmFault;
 pub use item::Item;
+pub use jv_class::of_pool::Constant;
 pub use jv_format::Handler;
-pub use jv_pool::Constant;
 pub use law::written_reads_back;
 pub use member::Method;
 pub use part::put_half;

@@ -3,9 +3,9 @@
 ghost use Rattle.std.specs.Prelude.{◌≡◌, ◌++◌, ◌<◌, ◌≤◌, ◌↔◌, Err, IfOk, IsOk, OnOk, IsTrue, length, map};
 ghost use Rattle.std.specs.List.{flat_map, list_all};
 ghost use Rattle.jv_format.specs.Format.{half};
-ghost use Rattle.jv_pool.specs.Constants.{entries_of, pool_count, pool_bytes, pool_fits, constant_bytes, constant_fits};
-ghost use Rattle.jv_pool.specs.Seen.{seen};
-ghost use Rattle.jv_class_parts.specs.Structure.{magic, table_bytes, table_fits, body_bytes, body_fits, class_bytes};
+ghost use Rattle.jv_class.specs.of_pool.Constants.{entries_of, pool_count, pool_bytes, pool_fits, constant_bytes, constant_fits};
+ghost use Rattle.jv_class.specs.of_pool.Seen.{seen};
+ghost use Rattle.jv_class.specs.of_class_parts.Structure.{magic, table_bytes, table_fits, body_bytes, body_fits, class_bytes};
 ghost use Rattle.jv_asm.specs.Description.{described_class, with_methods};
 ghost use Rattle.jv_asm.specs.Fits.{IsFit};
 ghost use Rattle.jv_asm.specs.declared.fault.AsmFault.TheVariants.{TooLarge};
@@ -18,7 +18,7 @@ use crate::part::{
     all_right, are_halves, half_right, halves_right, put_all, put_half, put_halves, put_table,
     table_right,
 };
-use jv_pool::Constant;
+use jv_class::of_pool::Constant;
 use std::alloc::{AllocError, Global};
 
 /// One more than the entries of the table (4.1), or 65,536 where there are more than that.

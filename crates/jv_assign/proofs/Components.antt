@@ -2,7 +2,7 @@
 use Rattle.std.proofs.Common.{◌≡◌, ℕ, zero, suc, ◌<◌, List, false, refl, arith}
 use Rattle.jv_text.specs.declared.descriptor.Element.{Element}
 use Rattle.jv_text.specs.declared.descriptor.Element.TheVariants as elements
-use Rattle.jv_loader_world.specs.World.{World}
+use Rattle.jv_loader_classes.specs.of_loader_world.World.{World}
 use Rattle.jv_assign.specs.Flow.{component_flows}
 
 -- of as many dimensions: as the elements

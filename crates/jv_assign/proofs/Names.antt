@@ -3,11 +3,11 @@ use Rattle.std.proofs.Common.{◌≡◌, ℕ, zero, suc, Bool, true, false, ◌&
 use Rattle.std.specs.Prelude.{slice_get}
 use Rattle.std.specs.List.{list_any}
 use Rattle.std.specs.Str.{bytes_eq}
-use Rattle.jv_loader_world.specs.World.{Loaded, World, class_named}
-use Rattle.jv_loader_world.specs.Above.{class_if_named, chain_within, superclass_in, superclasses}
-use Rattle.jv_loader_world.specs.LookUps.{is_subclass}
-use Rattle.jv_loader_world.specs.Verdicts.{is_interface, is_loadable}
-use Rattle.jv_loader_world.proofs.Up.{same_name}
+use Rattle.jv_loader_classes.specs.of_loader_world.World.{Loaded, World, class_named}
+use Rattle.jv_loader_classes.specs.of_loader_world.Above.{class_if_named, chain_within, superclass_in, superclasses}
+use Rattle.jv_loader_classes.specs.of_loader_world.LookUps.{is_subclass}
+use Rattle.jv_loader_classes.specs.of_loader_world.Verdicts.{is_interface, is_loadable}
+use Rattle.jv_loader_classes.proofs.laws_of_loader_world.Up.{same_name}
 use Rattle.jv_loader_classes.specs.Numbers.{number_named, IsNumbered}
 use Rattle.jv_loader_classes.proofs.Numbers.{numbered}
 use Rattle.jv_assign.specs.Flow.{is_loadable_interface, is_loadable_below, class_flows}

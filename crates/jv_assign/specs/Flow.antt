@@ -8,9 +8,9 @@ use Rattle.jv_text.specs.declared.descriptor.Element.TheVariants as elements
 use Rattle.jv_text.specs.Descriptor.{base_letter}
 use Rattle.jv_frames.specs.declared.verification.VerificationTypeOf.TheVariants as types
 use Rattle.jv_frames.specs.Types.{FrameType}
-use Rattle.jv_loader_world.specs.World.{Loaded, World, class_named}
-use Rattle.jv_loader_world.specs.Above.{superclasses}
-use Rattle.jv_loader_world.specs.Verdicts.{is_interface, is_loadable}
+use Rattle.jv_loader_classes.specs.of_loader_world.World.{Loaded, World, class_named}
+use Rattle.jv_loader_classes.specs.of_loader_world.Above.{superclasses}
+use Rattle.jv_loader_classes.specs.of_loader_world.Verdicts.{is_interface, is_loadable}
 
 -- ---- classes, by their names
 

@@ -3,7 +3,7 @@ use Rattle.std.specs.Prelude.{Bool, true, false, not, ◌&&◌, ◌||◌, List, 
 use Rattle.jv_frames.specs.declared.verification.VerificationTypeOf.TheVariants as types
 use Rattle.jv_frames.specs.Types.{FrameType}
 use Rattle.jv_frames.specs.Frames.{Frame}
-use Rattle.jv_loader_world.specs.World.{World}
+use Rattle.jv_loader_classes.specs.of_loader_world.World.{World}
 use Rattle.jv_assign.specs.Flow.{flows}
 
 -- two lists of one length, item by item

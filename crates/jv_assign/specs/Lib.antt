@@ -2,3 +2,4 @@ pub mod Flow
 pub mod FrameFlow
 pub mod Rows
 pub mod Seen
+pub use Rattle.jv_loader_classes.specs as of_loader_classes

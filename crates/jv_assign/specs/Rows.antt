@@ -6,9 +6,9 @@ use Rattle.jv_text.specs.declared.descriptor.Element.TheVariants as elements
 use Rattle.jv_frames.specs.declared.verification.VerificationTypeOf.TheVariants as types
 use Rattle.jv_frames.specs.Types.{FrameType}
 use Rattle.jv_frames.specs.Frames.{Frame}
-use Rattle.jv_loader_world.specs.World.{World, world_of}
-use Rattle.jv_loader_files.specs.declared.content.Content.TheVariants.{Holds}
-use Rattle.jv_loader_world.specs.Rows.{object, object_name, interface, public_class, class_with}
+use Rattle.jv_loader_classes.specs.of_loader_world.World.{World, world_of}
+use Rattle.jv_loader_classes.specs.of_loader_files.declared.content.Content.TheVariants.{Holds}
+use Rattle.jv_loader_classes.specs.of_loader_world.Rows.{object, object_name, interface, public_class, class_with}
 use Rattle.jv_assign.specs.Flow.{flows}
 use Rattle.jv_assign.specs.FrameFlow.{frame_flows}
 

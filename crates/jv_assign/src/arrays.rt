@@ -4,7 +4,7 @@ ghost use Rattle.std.specs.Prelude.{◌≡◌, ℕ, List};
 ghost use Rattle.jv_text.specs.declared.descriptor.Element.{Element};
 ghost use Rattle.jv_text.specs.Descriptor.{base_letter};
 ghost use Rattle.jv_text.specs.Seen.{seen_element};
-ghost use Rattle.jv_loader_world.specs.World.{World};
+ghost use Rattle.jv_loader_classes.specs.of_loader_world.World.{World};
 ghost use Rattle.jv_assign.specs.Flow.{same_base, is_above_arrays, component_flows};
 
 use crate::classes::class_flows;

@@ -3,9 +3,9 @@
 ghost use Rattle.std.specs.Prelude.{◌≡◌, ◌<◌, ◌&&◌, ◌||◌, ℕ, List, false, length};
 ghost use Rattle.std.specs.Option.{ForSome};
 ghost use Rattle.std.specs.Str.{bytes_eq};
-ghost use Rattle.jv_loader_world.specs.World.{class_named};
-ghost use Rattle.jv_loader_world.specs.LookUps.{is_subclass};
-ghost use Rattle.jv_loader_world.specs.Verdicts.{is_interface, is_loadable};
+ghost use Rattle.jv_loader_classes.specs.of_loader_world.World.{class_named};
+ghost use Rattle.jv_loader_classes.specs.of_loader_world.LookUps.{is_subclass};
+ghost use Rattle.jv_loader_classes.specs.of_loader_world.Verdicts.{is_interface, is_loadable};
 ghost use Rattle.jv_loader_classes.specs.Numbers.{number_named};
 ghost use Rattle.jv_loader_classes.specs.Inside.Told.{IsAt};
 ghost use Rattle.jv_assign.specs.Flow.{is_loadable_interface, is_loadable_below, class_flows};

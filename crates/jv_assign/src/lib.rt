@@ -12,5 +12,6 @@ mod types;
 pub use classes::other_class_flows;
 pub use frame::Frame;
 pub use frames::frame_flows;
+pub use jv_loader_classes as of_loader_classes;
 pub use law::worked_rows;
 pub use types::flows;

@@ -3,7 +3,7 @@
 ghost use Rattle.std.specs.Prelude.{◌≡◌};
 ghost use Rattle.jv_frames.specs.declared.verification.VerificationTypeOf.TheVariants as variants;
 ghost use Rattle.jv_text.specs.Seen.{seen_field};
-ghost use Rattle.jv_loader_world.specs.World.{World};
+ghost use Rattle.jv_loader_classes.specs.of_loader_world.World.{World};
 ghost use Rattle.jv_assign.specs.Flow.{flows};
 ghost use Rattle.jv_assign.specs.Seen.{seen_type};
 

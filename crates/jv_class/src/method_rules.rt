@@ -2,8 +2,8 @@
 
 ghost use Rattle.std.specs.Prelude.{◌≡◌, ◌↔◌, ◌&&◌, IsTrue, is_some, map};
 ghost use Rattle.std.specs.List.{All};
-ghost use Rattle.jv_pool.specs.Constants.{NameAndDescriptor};
-ghost use Rattle.jv_pool.specs.Facts.{AreFacts};
+ghost use Rattle.jv_class_parts.specs.of_pool.Constants.{NameAndDescriptor};
+ghost use Rattle.jv_class_parts.specs.of_pool.Facts.{AreFacts};
 ghost use Rattle.jv_class_parts.specs.Flags.{has, acc_interface};
 ghost use Rattle.jv_class_parts.specs.Seen.{seen_method};
 ghost use Rattle.jv_class.specs.Rules.{interface_flags_right, named_flags_right, method_flags_right, init_right, clinit_right, slots_right, is_bodiless, code_there_right, IsMethodRight};
@@ -14,9 +14,9 @@ use crate::flags::{
 };
 use crate::names::{is_clinit, is_no_arguments_void};
 use bitflags::Flags;
+use jv_class_parts::of_pool::{MethodFacts, Pool, TextFacts};
+use jv_class_parts::of_text::is_init;
 use jv_class_parts::{ClassFlags, Method, MethodFlags};
-use jv_pool::{MethodFacts, Pool, TextFacts};
-use jv_text::is_init;
 
 /// Abstract and native.
 const WITHOUT_CODE: MethodFlags = MethodFlags(0x0500);

@@ -1,8 +1,8 @@
 -- A class as it is kept with its file.
 use Rattle.std.proofs.Common.{◌≡◌, Bool, Option, Some, None, refl, sym, ap, ◌∙◌}
 use Rattle.std.specs.Prelude.{IsSome, unwrap_or}
-use Rattle.jv_class_parts.specs.Structure.{ClassStructure}
-use Rattle.jv_class.specs.Class.{Class, class_of}
+use Rattle.jv_loader_world.specs.of_class_parts.Structure.{ClassStructure}
+use Rattle.jv_loader_world.specs.of_class.Class.{Class, class_of}
 use Rattle.jv_loader_system.specs.Io.{io}
 use Rattle.jv_loader_class.specs.declared.kept.Kept.{Kept}
 use Rattle.jv_loader_class.specs.Inside.Kept.{Keeps, class_in, IsLoaded}

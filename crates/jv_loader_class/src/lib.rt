@@ -11,5 +11,6 @@ mod members;
 mod package;
 mod reading;
 
+pub use jv_loader_world as of_loader_world;
 pub use loaded_class::LoadedClass;
 pub use member::Member;

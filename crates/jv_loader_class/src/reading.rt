@@ -3,9 +3,9 @@
 ghost use Rattle.std.specs.Prelude.{◌≡◌, IfOk, IsSome, Some, map};
 ghost use Rattle.std.specs.List.{All};
 ghost use Rattle.std.specs.Option.{option_copied};
-ghost use Rattle.jv_pool.specs.Constants.{class_name_at, utf8_at};
-ghost use Rattle.jv_class.specs.Class.{Class, all_found, class_of, super_of};
-ghost use Rattle.jv_class.specs.Rules.{NoTwoAlike};
+ghost use Rattle.jv_loader_world.specs.of_pool.Constants.{class_name_at, utf8_at};
+ghost use Rattle.jv_loader_world.specs.of_class.Class.{Class, all_found, class_of, super_of};
+ghost use Rattle.jv_loader_world.specs.of_class.Rules.{NoTwoAlike};
 ghost use Rattle.jv_loader_class.specs.Inside.Kept.{Keeps, text_of};
 ghost use Rattle.jv_loader_class.specs.Inside.Seen.{field_seen, member_seen, method_seen};
 ghost use Rattle.jv_loader_class.specs.Inside.Found.{field_at, field_texts, interface_at, member_at, method_at, method_texts};
@@ -13,8 +13,8 @@ ghost use Rattle.jv_loader_class.specs.Inside.Found.{field_at, field_texts, inte
 use crate::kept::Kept;
 use crate::member::Member;
 use crate::members::Members;
-use jv_class::{ClassFile, Field, Method};
-use jv_pool::{ClassIndex, Pool, Utf8Index};
+use jv_loader_world::of_class::{ClassFile, Field, Method};
+use jv_loader_world::of_pool::{ClassIndex, Pool, Utf8Index};
 use std::alloc::{AllocError, Global};
 use std::hash::RandomState;
 

@@ -6,10 +6,10 @@ use Rattle.std.specs.Str.{bytes_eq}
 use Rattle.std.specs.Cmp.Lexicographic.{nat_list_eq_equiv}
 use Rattle.std.proofs.lemmas.List.Elements.{Contains-append_cases}
 use Rattle.jv_loader_tables.specs.Ways.{Rows, related, IsSquare, IsWay, Reaches, ShortWays}
-use Rattle.jv_loader_world.specs.World.{Loaded, World, class_named}
-use Rattle.jv_loader_world.specs.Above.{superclass_in, class_if_named, chain_within, superclasses}
-use Rattle.jv_loader_world.specs.LookUps.{is_among}
-use Rattle.jv_loader_world.proofs.Up.{none, first, later, single, same_name}
+use Rattle.jv_loader_class.specs.of_loader_world.World.{Loaded, World, class_named}
+use Rattle.jv_loader_class.specs.of_loader_world.Above.{superclass_in, class_if_named, chain_within, superclasses}
+use Rattle.jv_loader_class.specs.of_loader_world.LookUps.{is_among}
+use Rattle.jv_loader_class.proofs.laws_of_loader_world.Up.{none, first, later, single, same_name}
 use Rattle.jv_loader_classes.specs.Numbers.{IsNumbered}
 use Rattle.jv_loader_classes.specs.Inside.Direct.{IsToSuperclass}
 use Rattle.jv_loader_classes.proofs.Numbers.{numbered, number_at}

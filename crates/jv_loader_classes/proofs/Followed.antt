@@ -5,11 +5,11 @@ use Rattle.std.specs.List.{All, filter_map, list_all, cons_option}
 use Rattle.std.proofs.lemmas.List.Elements.{All-append}
 use Rattle.std.proofs.lemmas.Option.{slice_get-get_or}
 use Rattle.jv_format.specs.Format.{◌>>=◌}
-use Rattle.jv_class.specs.Class.{Class}
+use Rattle.jv_loader_class.specs.of_class.Class.{Class}
 use Rattle.jv_loader_tables.specs.Ways.{IsBelow}
-use Rattle.jv_loader_world.specs.World.{Loaded, World, class_named}
-use Rattle.jv_loader_world.specs.Above.{superclass_in, class_if_named, chain_within, superclasses}
-use Rattle.jv_loader_world.specs.Verdicts.{passes}
+use Rattle.jv_loader_class.specs.of_loader_world.World.{Loaded, World, class_named}
+use Rattle.jv_loader_class.specs.of_loader_world.Above.{superclass_in, class_if_named, chain_within, superclasses}
+use Rattle.jv_loader_class.specs.of_loader_world.Verdicts.{passes}
 use Rattle.jv_loader_classes.specs.Numbers.{number_named, superclass_number}
 use Rattle.jv_loader_classes.specs.Inside.Told.{IsAt}
 use Rattle.jv_loader_classes.specs.Inside.Tests.{passes_at, marked_at}

@@ -6,3 +6,4 @@ pub mod Tests
 pub mod Rows
 pub mod Told
 pub mod Followed
+pub use Rattle.jv_loader_class.proofs.laws_of_loader_world

@@ -8,8 +8,8 @@ use Rattle.std.specs.Cmp.Lexicographic.{nat_list_eq_equiv}
 use Rattle.std.proofs.lemmas.List.{length-map, map-append}
 use Rattle.std.proofs.lemmas.List.Recursion.{is_position_or_len}
 use Rattle.jv_loader_tables.specs.Names.{with_name}
-use Rattle.jv_class.specs.Rules.{is_no_array_name}
-use Rattle.jv_loader_world.specs.World.{Loaded}
+use Rattle.jv_loader_class.specs.of_class.Rules.{is_no_array_name}
+use Rattle.jv_loader_class.specs.of_loader_world.World.{Loaded}
 use Rattle.jv_loader_classes.specs.Numbers.{number_named, IsNumbered, AreNoArrays}
 use Rattle.jv_loader_classes.specs.Inside.Listed.{name_of, names_of}
 

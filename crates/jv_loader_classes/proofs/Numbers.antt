@@ -7,7 +7,7 @@ use Rattle.std.proofs.lemmas.Option.{slice_get_past, slice_get_within, get_or_fr
 use Rattle.std.proofs.lemmas.List.{map-append}
 use Rattle.std.proofs.lemmas.Grind.{common_steps}
 use Rattle.std.proofs.lemmas.Bool.{ltb-true, ltb-false}
-use Rattle.jv_loader_world.specs.World.{Loaded, World, class_named}
+use Rattle.jv_loader_class.specs.of_loader_world.World.{Loaded, World, class_named}
 use Rattle.jv_loader_classes.specs.Numbers.{number_named}
 
 module _ {X : Type 0} (test : X → Bool) where

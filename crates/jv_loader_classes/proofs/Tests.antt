@@ -4,10 +4,10 @@ use Rattle.std.specs.Prelude.{not, is_some}
 use Rattle.std.specs.Option.{option_copied}
 use Rattle.std.specs.Borrow.{Bor}
 use Rattle.std.specs.List.{list_all}
-use Rattle.jv_class.specs.Class.{Class}
-use Rattle.jv_loader_world.specs.World.{Loaded, World, class_named}
-use Rattle.jv_loader_world.specs.Above.{super_names, superclass_names}
-use Rattle.jv_loader_world.specs.Verdicts.{passes, each_super, is_interface, superclass_passes, have_right_kind}
+use Rattle.jv_loader_class.specs.of_class.Class.{Class}
+use Rattle.jv_loader_class.specs.of_loader_world.World.{Loaded, World, class_named}
+use Rattle.jv_loader_class.specs.of_loader_world.Above.{super_names, superclass_names}
+use Rattle.jv_loader_class.specs.of_loader_world.Verdicts.{passes, each_super, is_interface, superclass_passes, have_right_kind}
 use Rattle.jv_loader_classes.specs.Numbers.{number_named, super_numbers}
 use Rattle.jv_loader_classes.specs.Inside.Tests.{passes_at, first_and_others}
 use Rattle.jv_loader_classes.proofs.Numbers.{number_at, numbered}

@@ -9,11 +9,11 @@ use Rattle.std.proofs.lemmas.List.Elements.{Contains-append_cases, All-cons}
 use Rattle.std.proofs.lemmas.Option.{slice_get-get_or}
 use Rattle.jv_format.specs.Format.{◌>>=◌}
 use Rattle.jv_loader_tables.specs.Ways.{Rows, related, IsBelow, is_there}
-use Rattle.jv_loader_world.specs.World.{Loaded, World, class_named}
-use Rattle.jv_loader_world.specs.Above.{super_names, class_if_named}
-use Rattle.jv_loader_world.proofs.Up.{none, first, later, single, same_name, found_super}
+use Rattle.jv_loader_class.specs.of_loader_world.World.{Loaded, World, class_named}
+use Rattle.jv_loader_class.specs.of_loader_world.Above.{super_names, class_if_named}
+use Rattle.jv_loader_class.proofs.laws_of_loader_world.Up.{none, first, later, single, same_name, found_super}
 use Rattle.std.specs.Str.{bytes_eq}
-use Rattle.jv_loader_world.proofs.Standing.{named_super}
+use Rattle.jv_loader_class.proofs.laws_of_loader_world.Standing.{named_super}
 use Rattle.jv_loader_classes.specs.Numbers.{number_named, super_numbers, superclass_number, IsNumbered}
 use Rattle.jv_loader_classes.specs.Inside.Direct.{IsDirectSuper, IsDirect, IsSuperclass}
 use Rattle.jv_loader_classes.specs.Inside.Rows.{row_of, numbers_of, all_super_numbers, AreAllBelow}

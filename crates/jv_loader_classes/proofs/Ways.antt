@@ -9,13 +9,13 @@ use Rattle.std.proofs.lemmas.Option.{slice_get-get_or, slice_get_within, get_or_
 use Rattle.std.proofs.lemmas.List.{get_or-map}
 use Rattle.jv_loader_tables.proofs.Ways.{to_below}
 use Rattle.jv_loader_classes.specs.Inside.Told.{TellsAbove, AreAllMarked}
-use Rattle.jv_class.specs.Class.{Class}
+use Rattle.jv_loader_class.specs.of_class.Class.{Class}
 use Rattle.jv_loader_tables.specs.Ways.{Rows, related, IsSquare, IsWay, Reaches}
-use Rattle.jv_loader_world.specs.World.{Loaded, World, class_named}
-use Rattle.jv_loader_world.specs.Above.{supers_in, above, is_above}
-use Rattle.jv_loader_world.specs.Laws.{IsWayUp, stands_itself, SystemStandsAlone, LoadableByAll}
-use Rattle.jv_loader_world.specs.Verdicts.{is_loadable}
-use Rattle.jv_loader_world.proofs.Up.{none, first, later, single, same_name, super_is_named, above_by_ways}
+use Rattle.jv_loader_class.specs.of_loader_world.World.{Loaded, World, class_named}
+use Rattle.jv_loader_class.specs.of_loader_world.Above.{supers_in, above, is_above}
+use Rattle.jv_loader_class.specs.of_loader_world.Laws.{IsWayUp, stands_itself, SystemStandsAlone, LoadableByAll}
+use Rattle.jv_loader_class.specs.of_loader_world.Verdicts.{is_loadable}
+use Rattle.jv_loader_class.proofs.laws_of_loader_world.Up.{none, first, later, single, same_name, super_is_named, above_by_ways}
 use Rattle.jv_loader_classes.specs.Numbers.{IsNumbered}
 use Rattle.jv_loader_classes.specs.Inside.Direct.{IsDirect}
 use Rattle.jv_loader_classes.proofs.Numbers.{numbered, number_at}

@@ -1,10 +1,10 @@
 -- What is wrong with the supers of a class, finals aside: the first that applies (JVMS 5.3.5, 5.4.4; own order).
 use Rattle.std.specs.Prelude.{not, Option, Some, None, if◌then◌else◌}
-use Rattle.jv_loader_world.specs.declared.verdict.LoadVerdict.{LoadVerdict}
-use Rattle.jv_loader_world.specs.declared.verdict.LoadVerdict.TheVariants.{Circular, NoSuper, WrongKind, NoAccess}
-use Rattle.jv_loader_world.specs.World.{Loaded, World}
-use Rattle.jv_loader_world.specs.Above.{is_circular}
-use Rattle.jv_loader_world.specs.Verdicts.{each_super, is_loadable, have_right_kind, can_name_supers}
+use Rattle.jv_loader_class.specs.of_loader_world.declared.verdict.LoadVerdict.{LoadVerdict}
+use Rattle.jv_loader_class.specs.of_loader_world.declared.verdict.LoadVerdict.TheVariants.{Circular, NoSuper, WrongKind, NoAccess}
+use Rattle.jv_loader_class.specs.of_loader_world.World.{Loaded, World}
+use Rattle.jv_loader_class.specs.of_loader_world.Above.{is_circular}
+use Rattle.jv_loader_class.specs.of_loader_world.Verdicts.{each_super, is_loadable, have_right_kind, can_name_supers}
 
 abbrev pub fault_of_supers : World → Loaded → Option LoadVerdict
 fault_of_supers world l =

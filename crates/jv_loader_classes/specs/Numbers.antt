@@ -3,10 +3,10 @@ use Rattle.std.specs.Prelude.{◌≡◌, ℕ, List, map, Option, Some, IsTrue, s
 use Rattle.std.specs.List.{position}
 use Rattle.std.specs.Str.{bytes_eq}
 use Rattle.jv_format.specs.Format.{◌>>=◌}
-use Rattle.jv_class.specs.Class.{Class}
-use Rattle.jv_class.specs.Rules.{is_no_array_name}
-use Rattle.jv_loader_world.specs.World.{Loaded, World}
-use Rattle.jv_loader_world.specs.Above.{super_names}
+use Rattle.jv_loader_class.specs.of_class.Class.{Class}
+use Rattle.jv_loader_class.specs.of_class.Rules.{is_no_array_name}
+use Rattle.jv_loader_class.specs.of_loader_world.World.{Loaded, World}
+use Rattle.jv_loader_class.specs.of_loader_world.Above.{super_names}
 
 abbrev pub number_named : World → List ℕ → Option ℕ
 number_named world name = position (λ l. bytes_eq l.class.name name) world

@@ -1,10 +1,10 @@
 //! The classes of a world, with what is asked of their supers at hand.
 
 ghost use Rattle.std.specs.Prelude.{◌≡◌, ◌<◌, IfOk, IsSomeAnd, length, slice_get};
-ghost use Rattle.jv_loader_world.specs.Above.{is_above, is_circular, superclasses};
-ghost use Rattle.jv_loader_world.specs.Laws.{SystemStandsAlone};
-ghost use Rattle.jv_loader_world.specs.LookUps.{is_among, is_subclass};
-ghost use Rattle.jv_loader_world.specs.Verdicts.{is_loadable, each_super, have_right_kind, can_name_supers, has_final_super};
+ghost use Rattle.jv_loader_class.specs.of_loader_world.Above.{is_above, is_circular, superclasses};
+ghost use Rattle.jv_loader_class.specs.of_loader_world.Laws.{SystemStandsAlone};
+ghost use Rattle.jv_loader_class.specs.of_loader_world.LookUps.{is_among, is_subclass};
+ghost use Rattle.jv_loader_class.specs.of_loader_world.Verdicts.{is_loadable, each_super, have_right_kind, can_name_supers, has_final_super};
 ghost use Rattle.jv_loader_classes.specs.Numbers.{number_named, superclass_number, super_numbers, IsNumbered, AreNoArrays};
 ghost use Rattle.std.specs.List.{All, filter_map};
 ghost use Rattle.jv_loader_classes.specs.Faults.{fault_of_supers};
@@ -14,8 +14,8 @@ use crate::list::ClassList;
 use crate::supers::{are_marked, can_name_supers, have_right_kind, is_final_at, superclass_of};
 use crate::table::{above_of, all_loadable, all_stand, all_supers, superclasses_of};
 use jv_loader_class::LoadedClass;
+use jv_loader_class::of_loader_world::LoadVerdict;
 use jv_loader_tables::Relation;
-use jv_loader_world::LoadVerdict;
 use std::alloc::{AllocError, Global};
 use std::marker::Model;
 
@@ -30,7 +30,7 @@ pub struct ClassTable<'a> {
 }
 
 impl<'a> Model for ClassTable<'a> {
-    ghost use Rattle.jv_loader_world.specs.World.{World};
+    ghost use Rattle.jv_loader_class.specs.of_loader_world.World.{World};
     ghost use Rattle.jv_loader_classes.specs.Inside.Rows.{numbers_of};
     ghost use Rattle.jv_loader_classes.specs.Inside.Told.{IsTable};
 

@@ -18,7 +18,7 @@ pub struct ClassList<'a> {
 
 impl<'a> Model for ClassList<'a> {
     ghost use Rattle.std.specs.Prelude.{◌≡◌};
-    ghost use Rattle.jv_loader_world.specs.World.{World};
+    ghost use Rattle.jv_loader_class.specs.of_loader_world.World.{World};
     ghost use Rattle.jv_loader_classes.specs.Numbers.{IsNumbered, AreNoArrays};
     ghost use Rattle.jv_loader_classes.specs.Inside.Listed.{names_of};
 

@@ -2,11 +2,11 @@
 
 ghost use Rattle.std.specs.Prelude.{◌≡◌, IfOk, map, not, true};
 ghost use Rattle.std.specs.List.{list_all};
-ghost use Rattle.jv_class_parts.specs.Flags.{has, acc_final};
-ghost use Rattle.jv_loader_world.specs.World.{World, can_name};
-ghost use Rattle.jv_loader_world.specs.Above.{superclass_names, is_circular};
-ghost use Rattle.jv_loader_world.specs.Laws.{stands_itself};
-ghost use Rattle.jv_loader_world.specs.Verdicts.{is_interface, have_right_kind, each_super, can_name_supers};
+ghost use Rattle.jv_loader_class.specs.of_class_parts.Flags.{has, acc_final};
+ghost use Rattle.jv_loader_class.specs.of_loader_world.World.{World, can_name};
+ghost use Rattle.jv_loader_class.specs.of_loader_world.Above.{superclass_names, is_circular};
+ghost use Rattle.jv_loader_class.specs.of_loader_world.Laws.{stands_itself};
+ghost use Rattle.jv_loader_class.specs.of_loader_world.Verdicts.{is_interface, have_right_kind, each_super, can_name_supers};
 ghost use Rattle.jv_loader_classes.specs.Numbers.{number_named, super_numbers, superclass_number};
 ghost use Rattle.jv_loader_classes.specs.Inside.Tests.{passes_at, marked_at, first_and_others};
 

@@ -4,8 +4,8 @@ ghost use Rattle.std.specs.Prelude.{◌≡◌, ◌↔◌, ◌||◌, ◌<◌, ℕ
 ghost use Rattle.std.specs.List.{list_any};
 ghost use Rattle.jv_loader_tables.specs.Ways.{related, is_there, IsSquare};
 ghost use Rattle.jv_loader_classes.specs.Numbers.{IsNumbered};
-ghost use Rattle.jv_loader_world.specs.Laws.{stands_itself, SystemStandsAlone};
-ghost use Rattle.jv_loader_world.specs.Verdicts.{is_loadable};
+ghost use Rattle.jv_loader_class.specs.of_loader_world.Laws.{stands_itself, SystemStandsAlone};
+ghost use Rattle.jv_loader_class.specs.of_loader_world.Verdicts.{is_loadable};
 ghost use Rattle.jv_loader_classes.specs.Inside.Direct.{IsToSuperclass};
 ghost use Rattle.jv_loader_classes.specs.Inside.Told.{TellsAbove, TellsSuperclasses, AreAllMarked};
 ghost use Rattle.jv_loader_classes.specs.Inside.Rows.{numbers_of, all_super_numbers, AreAllBelow};
@@ -13,8 +13,8 @@ ghost use Rattle.jv_loader_classes.specs.Inside.Rows.{numbers_of, all_super_numb
 use crate::list::ClassList;
 use crate::supers::{stands_itself, superclass_of, supers_of};
 use jv_loader_class::LoadedClass;
+use jv_loader_class::of_loader_world::loadable_by_all;
 use jv_loader_tables::{Relation, short_ways};
-use jv_loader_world::loadable_by_all;
 use std::alloc::{AllocError, Global};
 
 /// The numbers of the direct supers of each class.

@@ -12,6 +12,8 @@ mod memory;
 mod reading;
 
 pub use content::{Content, FileClass};
+pub use jv_class as of_class;
+pub use jv_class::of_pool;
 pub use law::one_content;
 pub use memory::Memory;
 pub use reading::read_content;

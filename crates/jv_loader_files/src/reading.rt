@@ -2,8 +2,8 @@
 
 ghost use Rattle.std.specs.Prelude.{◌↔◌, IsTrue, IfOk, IsSomeAnd};
 ghost use Rattle.std.specs.List.{All};
-ghost use Rattle.jv_class_parts.specs.Seen.{seen_method};
-ghost use Rattle.jv_class_parts.specs.Parts.{methods_of};
+ghost use Rattle.jv_class.specs.of_class_parts.Seen.{seen_method};
+ghost use Rattle.jv_class.specs.of_class_parts.Parts.{methods_of};
 ghost use Rattle.jv_loader_files.specs.FileContent.{HasNoUnsupportedCode, IsContent};
 ghost use Rattle.jv_loader_files.specs.Inside.Reading.{content_of};
 

@@ -13,16 +13,16 @@ use Rattle.jv_text.specs.Text.{unit_bytes, text_bytes, is_unit}
 use Rattle.jv_text.specs.Name.{is_unqualified_name, is_class_name, is_method_name}
 use Rattle.jv_text.specs.Descriptor.{MethodDescriptor, slots, is_floating, is_floating_method}
 use Rattle.jv_text.specs.Types.{field_type_of, method_type_of, TypesAgree}
-use Rattle.jv_pool.specs.declared.constant.Constant.TheVariants.{Utf8, Integer, Float, Long, Double, Class, String, Fieldref, Methodref, InterfaceMethodref, NameAndType, MethodHandle, MethodType, InvokeDynamic}
-use Rattle.jv_pool.specs.Constants.{Entry, NameAndDescriptor, named_at, pool_fits, utf8_at, class_name_at, name_and_type_at}
-use Rattle.jv_pool.specs.Facts.{value_of_type}
-use Rattle.jv_pool.specs.Rules.{IsFieldDescriptor, IsMethodDescriptor, IsDescriptor, NamesField, special_name_right, NamesMethod, KeepsRules}
-use Rattle.jv_class_parts.specs.Structure.{FieldInfo, MethodInfo, ClassStructure, body_fits}
-use Rattle.jv_class_parts.specs.Attributes.{attributes_right, static_value}
-use Rattle.jv_class_parts.specs.Flags.{has, acc_interface, class_flags_right}
-use Rattle.jv_class_parts.specs.Parts.{is_52_0}
-use Rattle.jv_class.specs.Rules.{is_no_array_name, is_class_at, super_right, interface_super_right, field_flags_right, value_right, IsFieldRight, method_flags_right, init_right, clinit_right, slots_right, code_there_right, IsMethodRight, field_texts, method_texts, has_code, NoTwoAlike, KeepsClassRules}
-use Rattle.jv_class.specs.Supported.{HasNoFloating, IsSupportedConstant, IsSupportedType, AreSupportedFlags, is_supported_method, IsSupported}
+use Rattle.jv_loader_files.specs.of_pool.declared.constant.Constant.TheVariants.{Utf8, Integer, Float, Long, Double, Class, String, Fieldref, Methodref, InterfaceMethodref, NameAndType, MethodHandle, MethodType, InvokeDynamic}
+use Rattle.jv_loader_files.specs.of_pool.Constants.{Entry, NameAndDescriptor, named_at, pool_fits, utf8_at, class_name_at, name_and_type_at}
+use Rattle.jv_loader_files.specs.of_pool.Facts.{value_of_type}
+use Rattle.jv_loader_files.specs.of_pool.Rules.{IsFieldDescriptor, IsMethodDescriptor, IsDescriptor, NamesField, special_name_right, NamesMethod, KeepsRules}
+use Rattle.jv_loader_files.specs.of_class_parts.Structure.{FieldInfo, MethodInfo, ClassStructure, body_fits}
+use Rattle.jv_loader_files.specs.of_class_parts.Attributes.{attributes_right, static_value}
+use Rattle.jv_loader_files.specs.of_class_parts.Flags.{has, acc_interface, class_flags_right}
+use Rattle.jv_loader_files.specs.of_class_parts.Parts.{is_52_0}
+use Rattle.jv_loader_files.specs.of_class.Rules.{is_no_array_name, is_class_at, super_right, interface_super_right, field_flags_right, value_right, IsFieldRight, method_flags_right, init_right, clinit_right, slots_right, code_there_right, IsMethodRight, field_texts, method_texts, has_code, NoTwoAlike, KeepsClassRules}
+use Rattle.jv_loader_files.specs.of_class.Supported.{HasNoFloating, IsSupportedConstant, IsSupportedType, AreSupportedFlags, is_supported_method, IsSupported}
 use Rattle.jv_asm.specs.Law.{CanBeRead}
 
 -- ---- tests of what may be there

@@ -8,8 +8,8 @@ use Rattle.jv_text.specs.Types.{TypesAgree}
 use Rattle.jv_code.specs.Insns.{Instruction, insn_bytes}
 use Rattle.jv_code.specs.Places.{all_fit, IsCode}
 use Rattle.jv_code.specs.Unsupported.{IsUnsupported, CodeIsSupported}
-use Rattle.jv_class_parts.specs.Structure.{ClassStructure, class_bytes}
-use Rattle.jv_class.specs.Class.{Class, Method, class_of}
+use Rattle.jv_loader_files.specs.of_class_parts.Structure.{ClassStructure, class_bytes}
+use Rattle.jv_loader_files.specs.of_class.Class.{Class, Method, class_of}
 use Rattle.jv_asm.specs.Law.{CanBeRead, WrittenReadsBack}
 use Rattle.jv_loader_files.specs.FileContent.{HasNoUnsupportedCode, IsProfileClass, AreContents}
 use Rattle.jv_loader_files.specs.declared.content.Content.TheVariants.{Holds}

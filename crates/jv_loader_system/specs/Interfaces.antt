@@ -1,10 +1,10 @@
 -- The interfaces without members, java/lang/Cloneable and java/io/Serializable (own selection).
 use Rattle.std.specs.Prelude.{ℕ, ◌+◌, List, [], ◌∷◌, Some, codes}
-use Rattle.jv_pool.specs.declared.constant.Constant.TheVariants.{Utf8, Class as ClassConstant}
-use Rattle.jv_pool.specs.Constants.{Entry}
-use Rattle.jv_class_parts.specs.Flags.{acc_public, acc_interface, acc_abstract}
-use Rattle.jv_class_parts.specs.Structure.{ClassStructure}
-use Rattle.jv_class.specs.Class.{Class}
+use Rattle.jv_loader_files.specs.of_pool.declared.constant.Constant.TheVariants.{Utf8, Class as ClassConstant}
+use Rattle.jv_loader_files.specs.of_pool.Constants.{Entry}
+use Rattle.jv_loader_files.specs.of_class_parts.Flags.{acc_public, acc_interface, acc_abstract}
+use Rattle.jv_loader_files.specs.of_class_parts.Structure.{ClassStructure}
+use Rattle.jv_loader_files.specs.of_class.Class.{Class}
 
 -- ---- constants, and their indices
 

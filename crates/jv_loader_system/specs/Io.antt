@@ -1,7 +1,7 @@
 -- host/Io, which is built in without a file: `read` and `write` have no code (own).
 use Rattle.std.specs.Prelude.{◌+◌, [], ◌∷◌, Some, codes}
-use Rattle.jv_class_parts.specs.Flags.{acc_public, acc_static, acc_final, acc_super}
-use Rattle.jv_class.specs.Class.{Class}
+use Rattle.jv_loader_files.specs.of_class_parts.Flags.{acc_public, acc_static, acc_final, acc_super}
+use Rattle.jv_loader_files.specs.of_class.Class.{Class}
 use Rattle.jv_loader_system.specs.Members.{method_without_code}
 
 abbrev pub io : Class

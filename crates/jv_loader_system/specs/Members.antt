@@ -2,10 +2,10 @@
 use Rattle.std.specs.Prelude.{ℕ, List, [], ◌∷◌, Option, Some, None}
 use Rattle.std.specs.List.{flat_map}
 use Rattle.jv_code.specs.Insns.{Instruction, insn_bytes}
-use Rattle.jv_class_parts.specs.Structure.{AttributeInfo, CodeAttribute, FieldInfo, MethodInfo}
-use Rattle.jv_class_parts.specs.Structure.MethodAttribute.{Code}
-use Rattle.jv_class_parts.specs.Parts.{CodeSeen}
-use Rattle.jv_class.specs.Class.{Field, Method}
+use Rattle.jv_loader_files.specs.of_class_parts.Structure.{AttributeInfo, CodeAttribute, FieldInfo, MethodInfo}
+use Rattle.jv_loader_files.specs.of_class_parts.Structure.MethodAttribute.{Code}
+use Rattle.jv_loader_files.specs.of_class_parts.Parts.{CodeSeen}
+use Rattle.jv_loader_files.specs.of_class.Class.{Field, Method}
 
 -- what a method does, with the least limits that verify
 pub record Body : Type 0 where

@@ -3,8 +3,8 @@ use Rattle.std.specs.Prelude.{◌≡◌, ℕ, Bool, true, not, ◌&&◌, ◌||�
 use Rattle.std.specs.List.{flat_map, list_all, list_any, starts_with}
 use Rattle.std.specs.Str.{bytes_eq}
 use Rattle.jv_code.specs.Insns.{insn_bytes}
-use Rattle.jv_class.specs.Class.{Class}
-use Rattle.jv_pool.specs.Constants.{Entry, MemberReference, utf8_at, class_name_at, field_reference_at, method_reference_at}
+use Rattle.jv_loader_files.specs.of_class.Class.{Class}
+use Rattle.jv_loader_files.specs.of_pool.Constants.{Entry, MemberReference, utf8_at, class_name_at, field_reference_at, method_reference_at}
 use Rattle.jv_loader_system.specs.Mnemonics.{offsets, targets}
 use Rattle.jv_loader_system.specs.Members.{Body}
 use Rattle.jv_loader_system.specs.Interfaces as interfaces

@@ -1,7 +1,7 @@
 -- The system's classes, in one order (own selection): the 32 that have files, and host/Io behind them.
 use Rattle.std.specs.Prelude.{ℕ, List, [], ◌∷◌, ◌++◌, map}
-use Rattle.jv_class_parts.specs.Structure.{ClassStructure, class_bytes}
-use Rattle.jv_class.specs.Class.{Class}
+use Rattle.jv_loader_files.specs.of_class_parts.Structure.{ClassStructure, class_bytes}
+use Rattle.jv_loader_files.specs.of_class.Class.{Class}
 use Rattle.jv_loader_files.specs.FileContent.{FileContent}
 use Rattle.jv_loader_files.specs.declared.content.Content.TheVariants.{Holds}
 use Rattle.jv_loader_system.specs.Interfaces.{cloneable, cloneable_file, serializable, serializable_file}

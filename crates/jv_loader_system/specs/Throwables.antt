@@ -1,10 +1,10 @@
 -- The classes below java/lang/Throwable (own selection): each has two constructors, which call those of its superclass.
 use Rattle.std.specs.Prelude.{ℕ, ◌+◌, List, [], ◌∷◌, Some, None, codes}
-use Rattle.jv_pool.specs.declared.constant.Constant.TheVariants.{Utf8, Class as ClassConstant, NameAndType, Methodref}
-use Rattle.jv_pool.specs.Constants.{Entry}
-use Rattle.jv_class_parts.specs.Flags.{acc_public, acc_super, acc_abstract}
-use Rattle.jv_class_parts.specs.Structure.{ClassStructure}
-use Rattle.jv_class.specs.Class.{Class}
+use Rattle.jv_loader_files.specs.of_pool.declared.constant.Constant.TheVariants.{Utf8, Class as ClassConstant, NameAndType, Methodref}
+use Rattle.jv_loader_files.specs.of_pool.Constants.{Entry}
+use Rattle.jv_loader_files.specs.of_class_parts.Flags.{acc_public, acc_super, acc_abstract}
+use Rattle.jv_loader_files.specs.of_class_parts.Structure.{ClassStructure}
+use Rattle.jv_loader_files.specs.of_class.Class.{Class}
 use Rattle.jv_loader_system.specs.Mnemonics.{aload, invokespecial, return}
 use Rattle.jv_loader_system.specs.Members.{Body, method, method_info}
 

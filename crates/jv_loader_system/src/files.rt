@@ -1,7 +1,7 @@
 //! The files of the system classes.
 
 ghost use Rattle.std.specs.Prelude.{◌≡◌, ◌<◌, ◌++◌, [], ◌∷◌, Some, IfOk, OnOk, length, map, slice_get};
-ghost use Rattle.jv_class_parts.specs.Structure.{class_bytes};
+ghost use Rattle.jv_loader_files.specs.of_class_parts.Structure.{class_bytes};
 ghost use Rattle.jv_loader_files.specs.FileContent.{AreContents};
 ghost use Rattle.jv_loader_system.specs.Interfaces.{cloneable_file, serializable_file};
 ghost use Rattle.jv_loader_system.specs.Object.{object_file};

@@ -1,7 +1,7 @@
 //! java/lang/Cloneable and java/io/Serializable.
 
 ghost use Rattle.std.specs.Prelude.{◌≡◌, IfOk};
-ghost use Rattle.jv_class_parts.specs.Structure.{class_bytes};
+ghost use Rattle.jv_loader_files.specs.of_class_parts.Structure.{class_bytes};
 ghost use Rattle.jv_loader_system.specs.Interfaces.{cloneable_file, serializable_file};
 
 use crate::flag::INTERFACE;

@@ -1,7 +1,7 @@
 //! java/lang/String.
 
 ghost use Rattle.std.specs.Prelude.{◌≡◌, IfOk};
-ghost use Rattle.jv_class_parts.specs.Structure.{class_bytes};
+ghost use Rattle.jv_loader_files.specs.of_class_parts.Structure.{class_bytes};
 ghost use Rattle.jv_loader_system.specs.String.{string_file};
 
 use crate::flag::{FINAL_CLASS, PRIVATE_FINAL, PUBLIC};

@@ -1,7 +1,7 @@
 //! java/lang/Throwable.
 
 ghost use Rattle.std.specs.Prelude.{◌≡◌, IfOk};
-ghost use Rattle.jv_class_parts.specs.Structure.{class_bytes};
+ghost use Rattle.jv_loader_files.specs.of_class_parts.Structure.{class_bytes};
 ghost use Rattle.jv_loader_system.specs.Throwable.{throwable_file};
 
 use crate::flag::{CLASS, PRIVATE, PUBLIC};

@@ -2,7 +2,7 @@
 
 ghost use Rattle.std.specs.Prelude.{◌≡◌, ◌++◌, IfOk, OnOk, map};
 ghost use Rattle.std.specs.List.{All};
-ghost use Rattle.jv_class_parts.specs.Structure.{class_bytes};
+ghost use Rattle.jv_loader_files.specs.of_class_parts.Structure.{class_bytes};
 ghost use Rattle.jv_asm.specs.Fits.{IsFit};
 ghost use Rattle.jv_loader_system.specs.Throwables.{throwable_class_file, throwable_rows};
 ghost use Rattle.jv_loader_system.specs.Inside.Table.{row_of};

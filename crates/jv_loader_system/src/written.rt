@@ -1,7 +1,7 @@
 //! Files of descriptions that are known to fit.
 
 ghost use Rattle.std.specs.Prelude.{◌≡◌, IfOk};
-ghost use Rattle.jv_class_parts.specs.Structure.{class_bytes};
+ghost use Rattle.jv_loader_files.specs.of_class_parts.Structure.{class_bytes};
 ghost use Rattle.jv_asm.specs.Description.{described_class};
 ghost use Rattle.jv_asm.specs.Fits.{IsFit};
 

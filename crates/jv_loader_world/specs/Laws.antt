@@ -1,7 +1,7 @@
 -- What holds of the classes above a class (JVMS 5.3.5), and of those that are loadable.
 use Rattle.std.specs.Prelude.{◌↔◌, Bool, true, not, ◌&&◌, ◌||◌, List, [], ◌∷◌, IsTrue}
 use Rattle.std.specs.List.{Contains}
-use Rattle.jv_class.specs.Class.{Class}
+use Rattle.jv_loader_files.specs.of_class.Class.{Class}
 use Rattle.jv_loader_world.specs.World.{Loaded, World}
 use Rattle.jv_loader_world.specs.Above.{supers_in, above, is_circular}
 use Rattle.jv_loader_world.specs.Verdicts.{each_super, have_right_kind, can_name_supers, is_loadable}

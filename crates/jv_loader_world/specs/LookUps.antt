@@ -3,8 +3,8 @@ use Rattle.std.specs.Prelude.{ℕ, zero, suc, Bool, not, ◌&&◌, ◌+◌, List
 use Rattle.std.specs.List.{filter_map, fold, list_any}
 use Rattle.std.specs.Option.{option_map}
 use Rattle.std.specs.Str.{bytes_eq}
-use Rattle.jv_class_parts.specs.Flags.{has, acc_public, acc_private, acc_static, acc_abstract}
-use Rattle.jv_class.specs.Class.{Class, Field, field_named, method_named}
+use Rattle.jv_loader_files.specs.of_class_parts.Flags.{has, acc_public, acc_private, acc_static, acc_abstract}
+use Rattle.jv_loader_files.specs.of_class.Class.{Class, Field, field_named, method_named}
 use Rattle.jv_loader_world.specs.World.{Loaded, World, class_named}
 use Rattle.jv_loader_world.specs.Above.{superclass_names, superclasses, is_above}
 use Rattle.jv_loader_world.specs.Overriding.{Declared}

@@ -2,8 +2,8 @@
 use Rattle.std.specs.Prelude.{◌+◌, Bool, not, ◌&&◌, ◌||◌, List, [], ◌∷◌, ◌++◌, Option, Some, None, if◌then◌else◌}
 use Rattle.std.specs.List.{list_any}
 use Rattle.jv_text.specs.Name.{is_init}
-use Rattle.jv_class_parts.specs.Flags.{has, acc_public, acc_private, acc_protected, acc_static}
-use Rattle.jv_class.specs.Class.{Method, method_named}
+use Rattle.jv_loader_files.specs.of_class_parts.Flags.{has, acc_public, acc_private, acc_protected, acc_static}
+use Rattle.jv_loader_files.specs.of_class.Class.{Method, method_named}
 use Rattle.jv_loader_world.specs.World.{Loaded, same_package}
 
 -- an instance method that can override and be overridden; `<init>` does neither

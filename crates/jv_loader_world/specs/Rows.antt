@@ -1,7 +1,7 @@
 -- Worked rows: files of a guest, what is wrong with them, and what is found from their classes, computed. Beside the files
 -- there are two classes of the system in each world, java/lang/Object and host/Io, which is final.
 use Rattle.std.specs.Prelude.{◌≡◌, ℕ, List, [], ◌∷◌, Option, Some, None, codes}
-use Rattle.jv_class.specs.Class.{Class, Field, Method}
+use Rattle.jv_loader_files.specs.of_class.Class.{Class, Field, Method}
 use Rattle.jv_loader_files.specs.FileContent.{FileContent}
 use Rattle.jv_loader_files.specs.declared.content.Content.TheVariants.{OtherVersion, NoClassFile, MoreThanProfile, Holds}
 use Rattle.std.specs.Prelude.{map}

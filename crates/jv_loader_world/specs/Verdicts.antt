@@ -2,8 +2,8 @@
 use Rattle.std.specs.Prelude.{ℕ, zero, suc, Bool, true, false, not, ◌&&◌, ◌||◌, List, [], ◌∷◌, ◌++◌, length, take, Option, Some, None, slice_get, if◌then◌else◌}
 use Rattle.std.specs.List.{list_all, list_any}
 use Rattle.std.specs.Str.{bytes_eq}
-use Rattle.jv_class_parts.specs.Flags.{has, acc_final, acc_interface}
-use Rattle.jv_class.specs.Class.{Class, Method}
+use Rattle.jv_loader_files.specs.of_class_parts.Flags.{has, acc_final, acc_interface}
+use Rattle.jv_loader_files.specs.of_class.Class.{Class, Method}
 use Rattle.jv_loader_files.specs.FileContent.{FileContent}
 use Rattle.jv_loader_files.specs.declared.content.Content.TheVariants.{OtherVersion, NoClassFile, MoreThanProfile, Holds}
 use Rattle.jv_loader_world.specs.declared.verdict.LoadVerdict.{LoadVerdict}

@@ -2,8 +2,8 @@
 use Rattle.std.specs.Prelude.{ℕ, Bool, true, false, not, ◌&&◌, ◌||◌, ◌==◌, List, [], ◌∷◌, ◌++◌, map, reverse, Option, codes, if◌then◌else◌, nat_eq}
 use Rattle.std.specs.List.{find, list_any, starts_with}
 use Rattle.std.specs.Str.{bytes_eq}
-use Rattle.jv_class_parts.specs.Flags.{has, acc_public}
-use Rattle.jv_class.specs.Class.{Class}
+use Rattle.jv_loader_files.specs.of_class_parts.Flags.{has, acc_public}
+use Rattle.jv_loader_files.specs.of_class.Class.{Class}
 use Rattle.jv_loader_files.specs.FileContent.{FileContent}
 use Rattle.jv_loader_files.specs.declared.content.Content.TheVariants.{Holds}
 

@@ -5,7 +5,7 @@ use Rattle.std.specs.Option.{option_map}
 use Rattle.jv_text.specs.Descriptor.{field_text}
 use Rattle.jv_pool.specs.Constants.{MemberReference, member_of, name_and_descriptor}
 use Rattle.jv_class.specs.Class.{Class, Field, Method}
-use Rattle.jv_loader_files.specs.declared.content.Content.TheVariants.{Holds}
+use Rattle.jv_loader_world.specs.of_loader_files.declared.content.Content.TheVariants.{Holds}
 use Rattle.jv_loader_world.specs.World.{Loaded, World, world_of, loaded}
 use Rattle.jv_loader_world.specs.Rows.{object_name, method_m, class_with, public_class, package_class, interface_with}
 use Rattle.jv_meaning_linking.specs.Uses.{Use, Site}

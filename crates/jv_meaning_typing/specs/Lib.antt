@@ -17,3 +17,4 @@ pub mod Rows
 pub mod Laws
 pub mod JudgementRows
 pub mod VerdictRows
+pub use Rattle.jv_assign.specs as of_assign

@@ -5,6 +5,7 @@
 mod law;
 mod verdict;
 
+pub use jv_assign::of_loader_classes;
 pub use law::{
     instruction_at_is, one_falls, one_judgement, one_judgement_of_file, typing_grows,
     typing_is_local, typing_or_fault, verdict_rows, worked_rows,

@@ -21,8 +21,8 @@ use Rattle.jv_loader_world.specs.Verdicts.{declared_by}
 use Rattle.jv_meaning_typing.specs.declared.verdict.VerifyFault.{VerifyFault}
 use Rattle.jv_meaning_typing.specs.Judgement.{AreTyped, IsFirstFault, BreaksRule}
 use Rattle.jv_meaning_typing.specs.Typing.{HasTyping}
-use Rattle.jv_rules_class.specs.Current.{CurrentClass}
-use Rattle.jv_method_code.specs.declared.fault.CodeFault.{CodeFault}
+use Rattle.jv_method_check.specs.of_rules_class.Current.{CurrentClass}
+use Rattle.jv_method_check.specs.of_method_code.declared.fault.CodeFault.{CodeFault}
 use Rattle.jv_method_check.specs.Judged.{IsMethodOf, IsJudged}
 use Rattle.jv_method.specs.Inside.Shown.{method_in, AreMethodsOf, IsMethodJudged}
 

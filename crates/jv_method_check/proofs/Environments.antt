@@ -23,7 +23,7 @@ use Rattle.jv_rules_types.specs.Typed.{typed_all}
 use Rattle.jv_rules_frames.specs.Numbered.{Item}
 use Rattle.jv_rules_constants.specs.declared.texts.MethodTypes.{MethodTypes}
 use Rattle.jv_rules_constants.specs.PoolTypes.{CallTypes, call_types, call_types_at, typed_call}
-use Rattle.jv_rules_class.specs.Current.{CurrentClass, IsOfClass}
+use Rattle.jv_method_code.specs.of_rules_class.Current.{CurrentClass, IsOfClass}
 use Rattle.jv_method_check.specs.Judged.{IsMethodOf}
 use Rattle.jv_method_check.specs.Inside.Known.{IsEnvironmentOf, HasTypes}
 use Rattle.jv_method_check.specs.Inside.Read.{ReadMethod, IsOfRead}

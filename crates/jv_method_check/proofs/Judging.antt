@@ -10,7 +10,7 @@ use Rattle.jv_meaning_typing.specs.declared.verdict.VerifyRule.TheVariants as ru
 use Rattle.jv_meaning_typing.specs.Environment.{Environment}
 use Rattle.jv_meaning_typing.specs.Typing.{AreFrames, HandlersRight}
 use Rattle.jv_meaning_typing.specs.Judgement.{BreaksRule, IsCodeOf, WithFrames}
-use Rattle.jv_rules_class.specs.Current.{CurrentClass}
+use Rattle.jv_method_code.specs.of_rules_class.Current.{CurrentClass}
 use Rattle.jv_method_code.specs.declared.fault.CodeFault.{CodeFault}
 use Rattle.jv_method_code.specs.Found.{IsBroken, IsFound}
 use Rattle.jv_method_check.specs.Judged.{IsJudged, IsMethodOf}

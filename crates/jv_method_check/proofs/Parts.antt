@@ -5,11 +5,11 @@ use Rattle.jv_class_parts.specs.Parts.{CodeSeen}
 use Rattle.jv_frames.specs.Entries.{ReadFrame}
 use Rattle.jv_meaning_typing.specs.Environment.{Environment}
 use Rattle.jv_rules_constants.specs.PoolTypes.{PoolTypes, typed_result}
-use Rattle.jv_rules_class.specs.Current.{CurrentClass, IsOfClass}
-use Rattle.jv_rules_uses.specs.Method.{MethodContext, IsOfMethod}
-use Rattle.jv_method_frames.specs.Mapped.{EntryTypes, entry_words, initial_types}
-use Rattle.jv_method_tables.specs.Tables.{entry_types, HasHandlers, HasMap, MapsTo}
-use Rattle.jv_method_tables.proofs.SameTypes.{same_types}
+use Rattle.jv_method_code.specs.of_rules_class.Current.{CurrentClass, IsOfClass}
+use Rattle.jv_method_code.specs.of_rules_uses.Method.{MethodContext, IsOfMethod}
+use Rattle.jv_method_code.specs.of_method_frames.Mapped.{EntryTypes, entry_words, initial_types}
+use Rattle.jv_method_code.specs.of_method_tables.Tables.{entry_types, HasHandlers, HasMap, MapsTo}
+use Rattle.jv_method_code.proofs.laws_of_method_tables.SameTypes.{same_types}
 use Rattle.jv_method_code.specs.Pass.{Pass, HasRoom, IsOfPass}
 use Rattle.jv_method_check.specs.Inside.Read.{ReadMethod, IsOfRead, HasFrames, HaveRoom, constants_of, types_of}
 

@@ -6,7 +6,7 @@ use Rattle.jv_loader_world.specs.World.{World}
 use Rattle.jv_meaning_linking.specs.Uses.{Site}
 use Rattle.jv_meaning_typing.specs.Typing.{HasTyping}
 use Rattle.jv_meaning_typing.specs.Judgement.{BreaksRule}
-use Rattle.jv_rules_class.specs.Current.{CurrentClass}
+use Rattle.jv_method_code.specs.of_rules_class.Current.{CurrentClass}
 use Rattle.jv_method_code.specs.declared.fault.CodeFault.{CodeFault}
 
 -- The method of the class that was shown so, with this body: its name and its descriptor are the texts at its indices.

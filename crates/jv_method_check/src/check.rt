@@ -16,7 +16,7 @@ use jv_class_parts::{Method, MethodCode};
 use jv_code::Code;
 use jv_meaning_typing::VerifyRule;
 use jv_method_code::CodeFault;
-use jv_rules_class::CurrentClass;
+use jv_method_code::of_rules_class::CurrentClass;
 use jv_rules_constants::MethodTypes;
 use std::alloc::{AllocError, Global};
 

@@ -6,10 +6,10 @@ ghost use Rattle.jv_frames.specs.Types.{width, words};
 ghost use Rattle.jv_frames.specs.Initial.{receiver_type, receiver_entries};
 ghost use Rattle.jv_meaning_typing.specs.Environment.{Environment, current_class};
 ghost use Rattle.jv_rules_types.specs.Typed.{typed, typed_all};
-ghost use Rattle.jv_rules_class.specs.Current.{IsOfClass};
+ghost use Rattle.jv_method_code.specs.of_rules_class.Current.{IsOfClass};
 
 use jv_frames::VerificationTypeOf;
-use jv_rules_class::CurrentClass;
+use jv_method_code::of_rules_class::CurrentClass;
 use jv_rules_types::Item;
 use std::alloc::{AllocError, Global};
 

@@ -12,7 +12,7 @@ ghost use Rattle.jv_rules_constants.specs.PoolTypes.{call_types_at, typed_call};
 ghost use Rattle.jv_method_check.specs.Inside.Known.{IsEnvironmentOf};
 
 use jv_class_parts::{Method, MethodCode};
-use jv_rules_class::CurrentClass;
+use jv_method_code::of_rules_class::CurrentClass;
 use jv_rules_constants::MethodTypes;
 use jv_text::{is_init, types_agree};
 

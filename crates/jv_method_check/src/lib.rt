@@ -8,4 +8,4 @@ mod read;
 mod tables;
 
 pub use check::check_method;
-pub use jv_method_code::CodeFault;
+pub use jv_method_code::{CodeFault, of_rules_class as of_rules_class};

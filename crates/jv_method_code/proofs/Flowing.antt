@@ -17,11 +17,11 @@ use Rattle.jv_meaning_typing.specs.Typing.{flows_into, frame_at, handles, catch_
 use Rattle.jv_rules_types.specs.Typed.{TypeWorld, typed, typed_all}
 use Rattle.jv_rules_frames.specs.Numbered.{Item, NumberFrame, frame_of}
 use Rattle.jv_rules_values.specs.Outcomes.{IsFrame}
-use Rattle.jv_rules_class.specs.Current.{CurrentClass}
-use Rattle.jv_rules_uses.specs.Method.{MethodContext, IsOfMethod}
+use Rattle.jv_rules.specs.of_rules_class.Current.{CurrentClass}
+use Rattle.jv_rules.specs.of_rules_uses.Method.{MethodContext, IsOfMethod}
 use Rattle.jv_rules.specs.Laws.{KeepsLocalCount}
 use Rattle.std.proofs.lemmas.List.{length-map}
-use Rattle.jv_method_frames.specs.Mapped.{EntryTypes, names_of, world_of, map_frame, thrown_frame}
+use Rattle.jv_method_tables.specs.of_method_frames.Mapped.{EntryTypes, names_of, world_of, map_frame, thrown_frame}
 use Rattle.jv_method_code.specs.Pass.{Pass, IsOfPass, names_in, maps_of}
 use Rattle.jv_method_code.specs.Inside.Kept.{IsPass}
 use Rattle.jv_method_code.specs.Inside.Walk.{merged, when_falls}

@@ -5,8 +5,8 @@ use Rattle.jv_frames.specs.Entries.{ReadFrame, frames_placed}
 use Rattle.jv_frames.specs.Frames.{PlacedFrame}
 use Rattle.jv_meaning_typing.specs.Environment.{Environment, IsEnvironment}
 use Rattle.jv_meaning_typing.specs.Typing.{AreFrames, entries_before}
-use Rattle.jv_rules_uses.specs.Method.{MethodContext, IsOfMethod}
-use Rattle.jv_method_frames.specs.Mapped.{EntryTypes, initial_types, names_of, entry_words}
+use Rattle.jv_rules.specs.of_rules_uses.Method.{MethodContext, IsOfMethod}
+use Rattle.jv_method_tables.specs.of_method_frames.Mapped.{EntryTypes, initial_types, names_of, entry_words}
 
 -- what the rules ask of it, the types of the initial local entries among what the map's entries stand for, how many local
 -- variables it has, its handlers, and the frames of its stack map

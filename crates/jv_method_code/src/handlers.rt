@@ -12,7 +12,7 @@ ghost use Rattle.jv_method_code.specs.Pass.{IsOfPass, maps_of, names_in};
 
 use crate::pass::Pass;
 use jv_format::Handler;
-use jv_method_frames::thrown_flows;
+use jv_method_tables::of_method_frames::thrown_flows;
 use jv_rules_frames::TypeFrame;
 use jv_rules_types::Item;
 

@@ -10,5 +10,8 @@ mod targets;
 mod walk;
 
 pub use fault::CodeFault;
+pub use jv_method_tables as of_method_tables;
+pub use jv_method_tables::of_method_frames;
+pub use jv_rules::{of_rules_class as of_rules_class, of_rules_uses as of_rules_uses};
 pub use pass::Pass;
 pub use walk::check_code;

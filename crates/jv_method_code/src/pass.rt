@@ -8,13 +8,13 @@ ghost use Rattle.jv_frames.specs.Types.{words};
 ghost use Rattle.jv_meaning_typing.specs.Environment.{Environment};
 ghost use Rattle.jv_meaning_typing.specs.Typing.{catch_type, frame_at};
 ghost use Rattle.jv_rules_types.specs.Typed.{typed, typed_all};
-ghost use Rattle.jv_method_frames.specs.Mapped.{map_frame};
+ghost use Rattle.jv_method_tables.specs.of_method_frames.Mapped.{map_frame};
 ghost use Rattle.jv_method_code.specs.Pass.{IsOfPass, HasRoom, maps_of, names_in};
 
 use jv_format::ExceptionTable;
 use jv_frames::{MapFrame, MapFrames, offsets_rise};
-use jv_method_frames::EntryTypes;
 use jv_method_tables::catch_type;
+use jv_method_tables::of_method_frames::EntryTypes;
 use jv_rules::MethodContext;
 use jv_rules_types::Item;
 use std::marker::Model;

@@ -14,7 +14,7 @@ use crate::pass::Pass;
 use crate::targets::targets_hold;
 use jv_code::{Insn, stands_in_list, starts_apart};
 use jv_meaning_typing::VerifyRule;
-use jv_method_frames::{frame_flows, set_to_map};
+use jv_method_tables::of_method_frames::{frame_flows, set_to_map};
 use jv_rules::{apply, constructed_object, keeps_local_count};
 use jv_rules_frames::TypeFrame;
 use std::alloc::AllocError;

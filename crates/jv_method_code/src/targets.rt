@@ -13,7 +13,7 @@ ghost use Rattle.jv_method_code.specs.Inside.Walk.{distance_holds, pair_holds, t
 
 use crate::pass::Pass;
 use jv_code::{Insn, first_distance, first_pair, target_of};
-use jv_method_frames::frame_flows;
+use jv_method_tables::of_method_frames::frame_flows;
 use jv_rules_frames::TypeFrame;
 
 /// Whether a frame flows to that of the map at an offset; not where none is there.

@@ -12,7 +12,7 @@ use crate::pass::Pass;
 use crate::step::step;
 use jv_code::{falls_through, stands_in_list, starts_apart};
 use jv_meaning_typing::VerifyRule;
-use jv_method_frames::set_to_initial;
+use jv_method_tables::of_method_frames::set_to_initial;
 use jv_rules_frames::TypeFrame;
 use std::alloc::{AllocError, Global};
 

@@ -7,4 +7,5 @@ mod maps;
 mod standing;
 
 pub use catching::{catch_type, handlers_hold};
+pub use jv_method_frames as of_method_frames;
 pub use maps::read_map;

@@ -13,7 +13,7 @@ use Rattle.jv_rules_frames.specs.Numbered.{NumberFrame}
 use Rattle.jv_rules_values.specs.declared.outcome.Outcome.{Outcome}
 use Rattle.jv_rules_values.specs.Outcomes.{IsOutcome}
 use Rattle.jv_rules_constants.specs.PoolTypes.{PoolTypes, typed_result}
-use Rattle.jv_rules_class.specs.Current.{CurrentClass}
+use Rattle.jv_rules_uses.specs.of_rules_class.Current.{CurrentClass}
 use Rattle.jv_rules_uses.specs.Method.{MethodContext, IsOfMethod}
 use Rattle.jv_rules.specs.Inside.Over.{IsMethodOver}
 

@@ -19,7 +19,7 @@ use Rattle.jv_rules_values.specs.declared.outcome.Outcome.{Outcome}
 use Rattle.jv_rules_values.specs.Outcomes.{IsOutcome}
 use Rattle.jv_rules_values.specs.Inside.Objects.{new_object as object_at}
 use Rattle.jv_rules_constants.specs.PoolTypes.{PoolTypes, class_type_at}
-use Rattle.jv_rules_operands.specs.Operands.{HasPool, plain_class, class_named_at, array_of_at, array_at}
+use Rattle.jv_rules_uses.specs.of_rules_operands.Operands.{HasPool, plain_class, class_named_at, array_of_at, array_at}
 use Rattle.jv_rules.specs.Inside.Over.{IsOver}
 
 -- ---- what is exchanged for a type that is named

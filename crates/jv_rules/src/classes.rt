@@ -4,14 +4,14 @@ ghost use Rattle.jv_meaning_typing.specs.Environment.{Environment};
 ghost use Rattle.jv_meaning_typing.specs.ValueRules.{new_object, new_reference_array, new_multi_array, check_cast, instance_of};
 ghost use Rattle.jv_rules_frames.specs.Numbered.{frame_of};
 ghost use Rattle.jv_rules_values.specs.Outcomes.{IsOutcome};
-ghost use Rattle.jv_rules_operands.specs.Operands.{HasPool};
+ghost use Rattle.jv_rules_uses.specs.of_rules_operands.Operands.{HasPool};
 ghost use Rattle.jv_rules.specs.Inside.Over.{IsOver};
 
 use jv_pool::kinds_name;
 use jv_rules_constants::ConstantTypes;
 use jv_rules_frames::TypeFrame;
-use jv_rules_members::{cast, new_multi_array, new_reference_array, test_instance};
-use jv_rules_operands::{array_of, array_type, names_class};
+use jv_rules_uses::of_rules_members::{cast, new_multi_array, new_reference_array, test_instance};
+use jv_rules_uses::of_rules_operands::{array_of, array_type, names_class};
 use jv_rules_values::{Outcome, new_object};
 
 /// Makes an object of a class at an offset.

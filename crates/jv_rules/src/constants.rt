@@ -4,10 +4,10 @@ ghost use Rattle.jv_meaning_typing.specs.Environment.{Environment};
 ghost use Rattle.jv_meaning_typing.specs.ValueRules.{push_constant, push_long_constant};
 ghost use Rattle.jv_rules_frames.specs.Numbered.{NumberFrame, frame_of};
 ghost use Rattle.jv_rules_values.specs.Outcomes.{IsOutcome};
-ghost use Rattle.jv_rules_operands.specs.Operands.{HasPool};
+ghost use Rattle.jv_rules_uses.specs.of_rules_operands.Operands.{HasPool};
 
 use jv_rules_constants::ConstantTypes;
-use jv_rules_operands::{long_constant_type, one_word_constant_type};
+use jv_rules_uses::of_rules_operands::{long_constant_type, one_word_constant_type};
 use jv_rules_values::Outcome;
 
 /// Pushes a constant of one word.

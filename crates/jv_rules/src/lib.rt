@@ -11,6 +11,7 @@ mod returns;
 mod rule;
 mod words;
 
-pub use jv_rules_uses::{MethodContext, constructed_object};
+pub use jv_rules_uses as of_rules_uses;
+pub use jv_rules_uses::{MethodContext, constructed_object, of_rules_class as of_rules_class};
 pub use law::keeps_local_count;
 pub use rule::apply;

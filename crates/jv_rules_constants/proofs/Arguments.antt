@@ -7,7 +7,7 @@ use Rattle.std.specs.Borrow.{Bor}
 use Rattle.jv_text.specs.declared.descriptor.FieldTypeOf.{FieldTypeOf}
 use Rattle.jv_text.specs.Seen.{seen_field}
 use Rattle.jv_frames.specs.Types.{FrameType, value_type}
-use Rattle.jv_rules_types.specs.Typed.{GoesOn, typed, typed_all}
+use Rattle.jv_rules_values.specs.of_rules_types.Typed.{GoesOn, typed, typed_all}
 use Rattle.jv_rules_constants.specs.Inside.Lasting.{Lasts, IsFront}
 use Rattle.jv_rules_constants.specs.Inside.Kept.{Item, Joins, AreArguments}
 use Rattle.jv_rules_constants.proofs.Lasting.{lasts_on}

@@ -16,7 +16,7 @@ use Rattle.jv_pool.specs.Rules.{NamesClass}
 use Rattle.jv_pool.specs.Facts.{IsFieldKnown, IsMethodKnown, AreFacts}
 use Rattle.jv_frames.specs.declared.verification.VerificationTypeOf.TheVariants as types
 use Rattle.jv_frames.specs.Types.{array_of, reference_type, value_type}
-use Rattle.jv_meaning_typing.specs.Named.{named_type, class_components, when}
+use Rattle.jv_rules_values.specs.of_meaning_typing.Named.{named_type, class_components, when}
 
 -- ---- descriptors of fields
 

@@ -6,8 +6,8 @@ use Rattle.jv_text.specs.declared.descriptor.FieldTypeOf.{FieldTypeOf}
 use Rattle.jv_pool.specs.declared.constant.Constant.TheVariants.{Class}
 use Rattle.jv_pool.specs.Constants.{Entry, at_index, class_name_in, class_name_at}
 use Rattle.jv_frames.specs.Types.{reference_type, value_type}
-use Rattle.jv_meaning_typing.specs.Named.{named_type}
-use Rattle.jv_rules_types.specs.Typed.{typed_field}
+use Rattle.jv_rules_values.specs.of_meaning_typing.Named.{named_type}
+use Rattle.jv_rules_values.specs.of_rules_types.Typed.{typed_field}
 use Rattle.jv_rules_constants.specs.declared.texts.TextTypes.{TextTypes}
 use Rattle.jv_rules_constants.specs.PoolTypes.{typed_result, named_type_at, class_type_at, field_type_at}
 use Rattle.jv_rules_constants.specs.Inside.Kept.{Item, field_in, kept_at, AreKept}

@@ -11,7 +11,7 @@ use Rattle.jv_text.specs.Types.{method_type_of}
 use Rattle.jv_pool.specs.declared.constant.Constant.TheVariants.{Class}
 use Rattle.jv_pool.specs.Constants.{Entry, pool_count, at_index, utf8_in, utf8_at}
 use Rattle.jv_pool.proofs.Kept.{past_table}
-use Rattle.jv_rules_types.specs.Typed.{GoesOn}
+use Rattle.jv_rules_values.specs.of_rules_types.Typed.{GoesOn}
 use Rattle.jv_rules_constants.specs.declared.texts.MethodEntry.{MethodEntry}
 use Rattle.jv_rules_constants.specs.declared.texts.TextTypes.{TextTypes}
 use Rattle.jv_rules_constants.specs.declared.texts.Described.{Described}

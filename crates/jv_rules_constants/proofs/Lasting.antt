@@ -4,9 +4,9 @@ use Rattle.std.specs.Prelude.{slice_get}
 use Rattle.std.proofs.lemmas.Option.{get_or_from_slice_get}
 use Rattle.jv_text.specs.declared.descriptor.Element.TheVariants as elements
 use Rattle.jv_text.specs.declared.descriptor.FieldTypeOf.{FieldTypeOf}
-use Rattle.jv_meaning_typing.specs.Named.{class_components}
-use Rattle.jv_rules_types.specs.Typed.{GoesOn}
-use Rattle.jv_rules_types.proofs.Numbered.{stays}
+use Rattle.jv_rules_values.specs.of_meaning_typing.Named.{class_components}
+use Rattle.jv_rules_values.specs.of_rules_types.Typed.{GoesOn}
+use Rattle.jv_rules_values.proofs.laws_of_rules_types.Numbered.{stays}
 use Rattle.jv_rules_constants.specs.PoolTypes.{typed_result}
 use Rattle.jv_rules_constants.specs.Inside.Lasting.{Lasts}
 

@@ -6,8 +6,8 @@ use Rattle.jv_text.specs.Descriptor.{MethodDescriptor}
 use Rattle.jv_text.specs.Types.{field_type_of, method_type_of}
 use Rattle.jv_pool.specs.Constants.{Entry, utf8_at, class_name_at}
 use Rattle.jv_frames.specs.Types.{FrameType, reference_type, value_type}
-use Rattle.jv_meaning_typing.specs.Named.{named_type}
-use Rattle.jv_rules_types.specs.Typed.{TypeWorld, typed_field, typed_all}
+use Rattle.jv_rules_values.specs.of_meaning_typing.Named.{named_type}
+use Rattle.jv_rules_values.specs.of_rules_types.Typed.{TypeWorld, typed_field, typed_all}
 use Rattle.jv_rules_constants.specs.declared.texts.MethodTypes.{MethodTypes}
 
 -- the names whose numbers stand in the types, and the constants that say them

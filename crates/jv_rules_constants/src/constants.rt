@@ -2,15 +2,15 @@
 
 ghost use Rattle.std.specs.Prelude.{◌≡◌, IfOk};
 ghost use Rattle.std.specs.Option.{option_map};
-ghost use Rattle.jv_meaning_typing.specs.Named.{object_type, string_type, throwable_type};
-ghost use Rattle.jv_rules_types.specs.Typed.{typed, typed_field};
+ghost use Rattle.jv_rules_values.specs.of_meaning_typing.Named.{object_type, string_type, throwable_type};
+ghost use Rattle.jv_rules_values.specs.of_rules_types.Typed.{typed, typed_field};
 ghost use Rattle.jv_rules_constants.specs.PoolTypes.{typed_call, named_type_at, class_type_at, field_type_at, call_types_at};
 
 use crate::texts::{Described, MethodTypes, TypeTable, arguments_of, kept_at, type_table};
 use jv_frames::VerificationTypeOf;
-use jv_loader_classes::ClassTable;
 use jv_pool::{Constant, Pool};
-use jv_rules_types::{Item, TypeNames};
+use jv_rules_values::of_loader_classes::ClassTable;
+use jv_rules_values::of_rules_types::{Item, TypeNames};
 use jv_rules_values::value_type;
 use jv_text::FieldTypeOf;
 use std::alloc::{AllocError, Global};

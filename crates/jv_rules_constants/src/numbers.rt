@@ -3,12 +3,12 @@
 ghost use Rattle.std.specs.Prelude.{◌≡◌, [], ◌∷◌, map, IfOk, OnOk};
 ghost use Rattle.jv_text.specs.Seen.{seen_element, seen_field, seen_result};
 ghost use Rattle.jv_frames.specs.Types.{value_type};
-ghost use Rattle.jv_rules_types.specs.Typed.{typed_element, typed_field, GoesOn};
+ghost use Rattle.jv_rules_values.specs.of_rules_types.Typed.{typed_element, typed_field, GoesOn};
 ghost use Rattle.jv_rules_constants.specs.PoolTypes.{typed_result};
 ghost use Rattle.jv_rules_constants.specs.Inside.Lasting.{Lasts};
 ghost use Rattle.jv_rules_constants.specs.Inside.Kept.{Joins};
 
-use jv_rules_types::{Item, TypeNames};
+use jv_rules_values::of_rules_types::{Item, TypeNames};
 use jv_rules_values::value_type;
 use jv_text::{Element, FieldType, FieldTypeOf};
 use std::alloc::AllocError;

@@ -5,7 +5,7 @@ ghost use Rattle.jv_text.specs.Seen.{seen_method};
 ghost use Rattle.jv_text.specs.Types.{field_type_of};
 ghost use Rattle.jv_pool.specs.Constants.{utf8_at};
 ghost use Rattle.jv_pool.specs.Facts.{AreFacts};
-ghost use Rattle.jv_rules_types.specs.Typed.{GoesOn};
+ghost use Rattle.jv_rules_values.specs.of_rules_types.Typed.{GoesOn};
 ghost use Rattle.jv_rules_constants.specs.PoolTypes.{typed_result};
 ghost use Rattle.jv_rules_constants.specs.Inside.Lasting.{Lasts, IsFront};
 ghost use Rattle.jv_rules_constants.specs.Inside.Kept.{IsMethodEntry, field_in, IsDescribed, IsNamed, IsKept, kept_at, AreKept};
@@ -13,7 +13,7 @@ ghost use Rattle.jv_rules_constants.specs.Inside.Kept.{IsMethodEntry, field_in, 
 use crate::marks::named_by_classes;
 use crate::numbers::{field_by_number, push_arguments, result_by_number};
 use jv_pool::{Pool, TextFacts, Utf8Index};
-use jv_rules_types::{Item, TypeNames};
+use jv_rules_values::of_rules_types::{Item, TypeNames};
 use jv_text::{
     DescFault, Element, FieldTypeOf, MethodType, is_array_name, known_field_type, method_type,
     types_agree,

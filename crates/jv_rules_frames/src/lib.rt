@@ -5,4 +5,6 @@ mod locals;
 mod objects;
 mod type_frame;
 
+pub use jv_meaning_typing::of_loader_classes;
+pub use jv_rules_types as of_rules_types;
 pub use type_frame::TypeFrame;

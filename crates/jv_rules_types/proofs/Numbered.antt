@@ -7,7 +7,7 @@ use Rattle.std.proofs.lemmas.Bool.{eqb-true}
 use Rattle.std.proofs.lemmas.List.Quantifiers.{position-Some}
 use Rattle.std.proofs.lemmas.Slice.Eq.{bytes_eq-Decides}
 use Rattle.jv_loader_tables.specs.Names.{with_name}
-use Rattle.jv_loader_classes.proofs.Listing.{found_before, found_last, none_passes}
+use Rattle.jv_assign.proofs.laws_of_loader_classes.Listing.{found_before, found_last, none_passes}
 use Rattle.jv_rules_types.specs.Typed.{GoesOn}
 use Rattle.jv_rules_types.specs.Inside.Kept.{AreDistinct}
 

@@ -2,12 +2,12 @@
 
 ghost use Rattle.std.specs.Prelude.{◌≡◌, ◌<◌, ◌++◌, [], ◌∷◌, codes, length, get_or, IfOk, OnErr, ◌≤◌, IfSome, Some, None, slice_get, position};
 ghost use Rattle.std.specs.Str.{bytes_eq};
-ghost use Rattle.jv_loader_classes.specs.Numbers.{number_named};
+ghost use Rattle.jv_assign.specs.of_loader_classes.Numbers.{number_named};
 ghost use Rattle.jv_rules_types.specs.Typed.{name_at, GoesOn};
 ghost use Rattle.jv_rules_types.specs.Inside.Kept.{AreDistinct, AreNames};
 
+use jv_assign::of_loader_classes::ClassTable;
 use jv_frames::VerificationTypeOf;
-use jv_loader_classes::ClassTable;
 use jv_loader_tables::Names;
 use std::alloc::{AllocError, Global};
 use std::hash::RandomState;

@@ -15,3 +15,6 @@ pub use calls::{invoke, invoke_of_interface};
 pub use constructing::constructed_object;
 pub use context::MethodContext;
 pub use fields::use_field;
+pub use jv_rules_class as of_rules_class;
+pub use jv_rules_members as of_rules_members;
+pub use jv_rules_operands as of_rules_operands;

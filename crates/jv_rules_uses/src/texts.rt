@@ -3,7 +3,7 @@
 ghost use Rattle.std.specs.Prelude.{◌≡◌, ℕ, List, Some, None, IsSome, IfSome, IfNone};
 ghost use Rattle.jv_pool.specs.Constants.{class_name_at, utf8_at};
 ghost use Rattle.jv_meaning_linking.specs.Operands.{MethodReference};
-ghost use Rattle.jv_link_resolution.specs.Inside.References.{method_operand_in};
+ghost use Rattle.jv_rules_class.specs.of_link_resolution.Inside.References.{method_operand_in};
 ghost use Rattle.jv_meaning_typing.specs.MemberRules.{is_named};
 ghost use Rattle.jv_rules_uses.specs.Inside.Constructed.{class_by, IsFirst};
 

@@ -2,7 +2,7 @@
 use Rattle.std.specs.Prelude.{◌≡◌, ℕ, Bool, true, false, List, [], ◌∷◌, Option, Some, None}
 use Rattle.jv_frames.specs.Types.{FrameType}
 use Rattle.jv_frames.specs.Frames.{Frame}
-use Rattle.jv_rules_types.specs.Typed.{typed, typed_all}
+use Rattle.jv_rules_frames.specs.of_rules_types.Typed.{typed, typed_all}
 use Rattle.jv_rules_frames.specs.Numbered.{Item, NumberFrame, frame_of, topped, with_stack}
 use Rattle.jv_rules_values.specs.declared.outcome.Outcome.{Outcome}
 use Rattle.jv_rules_values.specs.declared.outcome.Outcome.TheVariants.{Fails, Leaves, Gives}

@@ -5,11 +5,11 @@ ghost use Rattle.std.specs.List.{list_any};
 ghost use Rattle.std.specs.Option.{option_map};
 ghost use Rattle.jv_frames.specs.Types.{value_type};
 ghost use Rattle.jv_frames.specs.declared.verification.VerificationTypeOf.TheVariants as variants;
-ghost use Rattle.jv_assign.specs.FrameFlow.{item_flows};
-ghost use Rattle.jv_meaning_typing.specs.FrameChanges.{taken_as_any, exchanged};
-ghost use Rattle.jv_meaning_typing.specs.NumberRules.{array_of_base, number_arrays, element_number, new_array_type};
-ghost use Rattle.jv_meaning_typing.specs.ValueRules.{array_load, array_store, reference_component, reference_array_load, is_array_or_null};
-ghost use Rattle.jv_rules_types.specs.Typed.{typed, typed_field, typed_all};
+ghost use Rattle.jv_rules_frames.specs.of_assign.FrameFlow.{item_flows};
+ghost use Rattle.jv_rules_frames.specs.of_meaning_typing.FrameChanges.{taken_as_any, exchanged};
+ghost use Rattle.jv_rules_frames.specs.of_meaning_typing.NumberRules.{array_of_base, number_arrays, element_number, new_array_type};
+ghost use Rattle.jv_rules_frames.specs.of_meaning_typing.ValueRules.{array_load, array_store, reference_component, reference_array_load, is_array_or_null};
+ghost use Rattle.jv_rules_frames.specs.of_rules_types.Typed.{typed, typed_field, typed_all};
 ghost use Rattle.jv_rules_frames.specs.Numbered.{frame_of};
 ghost use Rattle.jv_rules_values.specs.Outcomes.{IsOutcome, Takes};
 
@@ -18,7 +18,7 @@ use crate::stack::{exchange, take};
 use jv_code::{ElementType, NumberElement};
 use jv_frames::VerificationTypeOf;
 use jv_rules_frames::TypeFrame;
-use jv_rules_types::{Item, TypeNames};
+use jv_rules_frames::of_rules_types::{Item, TypeNames};
 use jv_text::{Base, Element, FieldTypeOf};
 
 /// The array of a primitive type.

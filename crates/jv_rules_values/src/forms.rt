@@ -1,10 +1,10 @@
 //! Forms of the stack (JVMS 4.10.1.9): pop to swap.
 
 ghost use Rattle.std.specs.Prelude.{◌≡◌, ◌++◌, ℕ, List, OnOk, IfOk};
-ghost use Rattle.jv_meaning_typing.specs.FrameChanges.{item_width};
-ghost use Rattle.jv_meaning_typing.specs.StackForms.{top_words, taken_words, passed_words};
-ghost use Rattle.jv_meaning_typing.specs.ValueRules.{move_words};
-ghost use Rattle.jv_rules_types.specs.Typed.{typed, typed_all};
+ghost use Rattle.jv_rules_frames.specs.of_meaning_typing.FrameChanges.{item_width};
+ghost use Rattle.jv_rules_frames.specs.of_meaning_typing.StackForms.{top_words, taken_words, passed_words};
+ghost use Rattle.jv_rules_frames.specs.of_meaning_typing.ValueRules.{move_words};
+ghost use Rattle.jv_rules_frames.specs.of_rules_types.Typed.{typed, typed_all};
 ghost use Rattle.jv_rules_frames.specs.Numbered.{frame_of, with_stack};
 ghost use Rattle.jv_rules_values.specs.Outcomes.{IsFrame};
 ghost use Rattle.jv_rules_values.specs.Inside.Words.{items_in, arranged_words, IsWord, IsBelow, AreTaken};
@@ -12,7 +12,7 @@ ghost use Rattle.jv_rules_values.specs.Inside.Words.{items_in, arranged_words, I
 use jv_code::StackForm;
 use jv_frames::{VerificationTypeOf, Width};
 use jv_rules_frames::TypeFrame;
-use jv_rules_types::Item;
+use jv_rules_frames::of_rules_types::Item;
 use std::alloc::AllocError;
 
 /// Items from the top of a stack: none, one, or two, of which the first was on top.

@@ -12,6 +12,9 @@ mod table;
 
 pub use arrays::{array_load, array_of_base, array_store, new_array};
 pub use forms::move_words;
+pub use jv_rules_frames::{
+    of_loader_classes as of_loader_classes, of_rules_types as of_rules_types,
+};
 pub use locals::{increment, is_of_kind, is_reference, load, pop_of_kind, store};
 pub use outcome::Outcome;
 pub use references::{

@@ -1,6 +1,6 @@
 //! What an instruction's rule comes to.
 
-use jv_rules_types::Item;
+use jv_rules_frames::of_rules_types::Item;
 
 /// What is left behind an instruction, when the frame before it has been changed in place.
 #[derive(Clone, Copy)]

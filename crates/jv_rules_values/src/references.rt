@@ -4,10 +4,10 @@ ghost use Rattle.std.specs.Prelude.{◌≡◌, ℕ, List, [], ◌∷◌, None, c
 ghost use Rattle.jv_frames.specs.declared.verification.VerificationTypeOf.TheVariants as variants;
 ghost use Rattle.std.specs.Option.{option_map};
 ghost use Rattle.jv_frames.specs.Types.{primitive_type, value_type, value_type_by};
-ghost use Rattle.jv_meaning_typing.specs.FrameChanges.{is_of_kind, exchanged, with_stack};
-ghost use Rattle.jv_meaning_typing.specs.ValueRules.{reference_component, with_component, reference_array_load, is_array_or_null, array_length, take_reference, return_nothing};
-ghost use Rattle.jv_meaning_typing.specs.Named.{array_with, class_components, object_type};
-ghost use Rattle.jv_rules_types.specs.Typed.{typed, typed_element, typed_field, typed_all};
+ghost use Rattle.jv_rules_frames.specs.of_meaning_typing.FrameChanges.{is_of_kind, exchanged, with_stack};
+ghost use Rattle.jv_rules_frames.specs.of_meaning_typing.ValueRules.{reference_component, with_component, reference_array_load, is_array_or_null, array_length, take_reference, return_nothing};
+ghost use Rattle.jv_rules_frames.specs.of_meaning_typing.Named.{array_with, class_components, object_type};
+ghost use Rattle.jv_rules_frames.specs.of_rules_types.Typed.{typed, typed_element, typed_field, typed_all};
 ghost use Rattle.jv_rules_frames.specs.Numbered.{frame_of};
 ghost use Rattle.jv_rules_values.specs.Outcomes.{IsOutcome, IsFrame, typed_option, outcome_of_component};
 ghost use Rattle.jv_rules_values.specs.Inside.Objects.{new_object, take_references};
@@ -18,7 +18,7 @@ use crate::stack::{exchange, take};
 use jv_code::ValueKind;
 use jv_frames::VerificationTypeOf;
 use jv_rules_frames::TypeFrame;
-use jv_rules_types::{Item, TypeNames};
+use jv_rules_frames::of_rules_types::{Item, TypeNames};
 use jv_text::{Base, Element, FieldTypeOf};
 
 /// The type of a number of a primitive type; top of a floating point type, which no supported class has.

@@ -1,14 +1,14 @@
 //! Items that are taken from the stack.
 
 ghost use Rattle.std.specs.Prelude.{◌≡◌, ◌∷◌, []};
-ghost use Rattle.jv_meaning_typing.specs.FrameChanges.{taken, taken_as_all, exchanged};
-ghost use Rattle.jv_rules_types.specs.Typed.{typed, typed_all};
+ghost use Rattle.jv_rules_frames.specs.of_meaning_typing.FrameChanges.{taken, taken_as_all, exchanged};
+ghost use Rattle.jv_rules_frames.specs.of_rules_types.Typed.{typed, typed_all};
 ghost use Rattle.jv_rules_frames.specs.Numbered.{frame_of};
 ghost use Rattle.jv_rules_values.specs.Outcomes.{IsOutcome, Takes, given, outcome_of};
 
 use crate::outcome::Outcome;
 use jv_rules_frames::TypeFrame;
-use jv_rules_types::{Item, TypeNames};
+use jv_rules_frames::of_rules_types::{Item, TypeNames};
 
 /// Takes an item that flows to a type.
 pub fn take_as(types: &TypeNames<'_, '_>, frame: &mut TypeFrame, expected: Item) -> bool

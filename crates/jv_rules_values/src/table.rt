@@ -2,9 +2,9 @@
 
 ghost use Rattle.std.specs.Prelude.{◌≡◌, ℕ, List, [], ◌∷◌};
 ghost use Rattle.jv_frames.specs.declared.verification.VerificationTypeOf.TheVariants as variants;
-ghost use Rattle.jv_meaning_typing.specs.FrameChanges.{exchanged};
-ghost use Rattle.jv_meaning_typing.specs.NumberRules.{number_type, conversion, computation};
-ghost use Rattle.jv_rules_types.specs.Typed.{typed};
+ghost use Rattle.jv_rules_frames.specs.of_meaning_typing.FrameChanges.{exchanged};
+ghost use Rattle.jv_rules_frames.specs.of_meaning_typing.NumberRules.{number_type, conversion, computation};
+ghost use Rattle.jv_rules_frames.specs.of_rules_types.Typed.{typed};
 ghost use Rattle.jv_rules_frames.specs.Numbered.{frame_of};
 ghost use Rattle.jv_rules_values.specs.Outcomes.{IsOutcome};
 
@@ -13,7 +13,7 @@ use crate::stack::exchange;
 use jv_code::{Computation, Conversion, NumberKind};
 use jv_frames::VerificationTypeOf;
 use jv_rules_frames::TypeFrame;
-use jv_rules_types::{Item, TypeNames};
+use jv_rules_frames::of_rules_types::{Item, TypeNames};
 
 /// The type of a number of a kind.
 pub fn number_type(kind: NumberKind) -> Item

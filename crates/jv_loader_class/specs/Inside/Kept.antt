@@ -2,8 +2,8 @@
 use Rattle.std.specs.Prelude.{◌≡◌, ℕ, Bool, true, List, map, Option, Some, None, unwrap_or}
 use Rattle.std.specs.Option.{option_copied}
 use Rattle.std.specs.Borrow.{Bor}
-use Rattle.jv_class_parts.specs.Structure.{ClassStructure}
-use Rattle.jv_class.specs.Class.{Class, class_of}
+use Rattle.jv_loader_world.specs.of_class_parts.Structure.{ClassStructure}
+use Rattle.jv_loader_world.specs.of_class.Class.{Class, class_of}
 use Rattle.jv_loader_system.specs.Io.{io}
 use Rattle.jv_loader_class.specs.declared.kept.Kept.{Kept}
 use Rattle.jv_loader_class.specs.Inside.Seen.{field_seen, method_seen}

@@ -2,7 +2,7 @@
 use Rattle.std.specs.Prelude.{ℕ, Bool, ◌&&◌, List}
 use Rattle.std.specs.Borrow.{Bor}
 use Rattle.std.specs.Str.{bytes_eq}
-use Rattle.jv_class.specs.Class.{Field, Method}
+use Rattle.jv_loader_world.specs.of_class.Class.{Field, Method}
 use Rattle.jv_loader_class.specs.declared.member.Member.{Member}
 
 -- a field or a method, as far as it is kept

@@ -2,8 +2,8 @@
 use Rattle.std.specs.Prelude.{◌≡◌, ◌↔◌, ℕ, Some, IsTrue, slice_get}
 use Rattle.std.specs.List.{Contains}
 use Rattle.jv_loader_tables.specs.Ways.{Rows, related}
-use Rattle.jv_loader_world.specs.World.{Loaded, World}
-use Rattle.jv_loader_world.specs.Above.{supers_in, superclass_in}
+use Rattle.jv_loader_class.specs.of_loader_world.World.{Loaded, World}
+use Rattle.jv_loader_class.specs.of_loader_world.Above.{supers_in, superclass_in}
 
 -- the second number is that of a direct super of the first
 pub record IsDirectSuper (world : World) (a b : ℕ) : Type 0 where

@@ -1,6 +1,6 @@
 -- The names of classes.
 use Rattle.std.specs.Prelude.{ℕ, List, map}
-use Rattle.jv_loader_world.specs.World.{Loaded}
+use Rattle.jv_loader_class.specs.of_loader_world.World.{Loaded}
 
 abbrev pub name_of : Loaded → List ℕ
 name_of l = l.class.name

@@ -3,7 +3,7 @@ use Rattle.std.specs.Prelude.{ℕ, List, map, Option}
 use Rattle.std.specs.Global.{Vec}
 use Rattle.std.specs.List.{All}
 use Rattle.jv_loader_tables.specs.Ways.{IsBelow}
-use Rattle.jv_loader_world.specs.World.{World}
+use Rattle.jv_loader_class.specs.of_loader_world.World.{World}
 use Rattle.jv_loader_classes.specs.Numbers.{super_numbers}
 
 abbrev pub row_of : Vec (Option ℕ) → List (Option ℕ)

@@ -2,8 +2,8 @@
 use Rattle.std.specs.Prelude.{ℕ, Bool, false, ◌&&◌, List, [], ◌∷◌, Option, Some, None, slice_get, get_or}
 use Rattle.std.specs.List.{list_all}
 use Rattle.jv_format.specs.Format.{◌>>=◌}
-use Rattle.jv_loader_world.specs.World.{Loaded, World}
-use Rattle.jv_loader_world.specs.Verdicts.{passes}
+use Rattle.jv_loader_class.specs.of_loader_world.World.{Loaded, World}
+use Rattle.jv_loader_class.specs.of_loader_world.Verdicts.{passes}
 
 abbrev pub passes_at : World → (Loaded → Bool) → Option ℕ → Bool
 passes_at world test number = passes test (number >>= slice_get world)

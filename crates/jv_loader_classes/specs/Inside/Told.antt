@@ -1,10 +1,10 @@
 -- What tables tell of the classes of a world.
 use Rattle.std.specs.Prelude.{◌≡◌, ℕ, Bool, false, List, Option, Some, IsTrue, length, map, slice_get, get_or}
 use Rattle.jv_loader_tables.specs.Ways.{Rows, related}
-use Rattle.jv_loader_world.specs.World.{Loaded, World}
-use Rattle.jv_loader_world.specs.Above.{is_above, superclasses}
-use Rattle.jv_loader_world.specs.LookUps.{is_among}
-use Rattle.jv_loader_world.specs.Verdicts.{is_loadable}
+use Rattle.jv_loader_class.specs.of_loader_world.World.{Loaded, World}
+use Rattle.jv_loader_class.specs.of_loader_world.Above.{is_above, superclasses}
+use Rattle.jv_loader_class.specs.of_loader_world.LookUps.{is_among}
+use Rattle.jv_loader_class.specs.of_loader_world.Verdicts.{is_loadable}
 use Rattle.jv_loader_classes.specs.Inside.Rows.{all_super_numbers}
 
 -- which class is above which

@@ -1,7 +1,7 @@
 -- What a file that was read stands for.
 use Rattle.std.specs.Prelude.{Option, Some}
 use Rattle.std.specs.Option.{option_map}
-use Rattle.jv_class_parts.specs.Structure.{ClassStructure}
+use Rattle.jv_class.specs.of_class_parts.Structure.{ClassStructure}
 use Rattle.jv_class.specs.Class.{class_of}
 use Rattle.jv_loader_files.specs.declared.content.Content.{Content}
 use Rattle.jv_loader_files.specs.declared.content.Content.TheVariants.{OtherVersion, NoClassFile, MoreThanProfile, Holds}

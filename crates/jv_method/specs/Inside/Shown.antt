@@ -10,7 +10,7 @@ use Rattle.jv_loader_world.specs.World.{Loaded, World}
 use Rattle.jv_loader_world.specs.Verdicts.{declared_by}
 use Rattle.jv_meaning_typing.specs.Judgement.{BreaksRule}
 use Rattle.jv_meaning_typing.specs.Typing.{HasTyping}
-use Rattle.jv_method_code.specs.declared.fault.CodeFault.{CodeFault}
+use Rattle.jv_method_check.specs.of_method_code.declared.fault.CodeFault.{CodeFault}
 
 -- the method that is shown so, by its names
 abbrev pub method_in : List Entry → MethodSeen → Option Method

@@ -3,7 +3,7 @@ use Rattle.std.specs.Prelude.{◌≡◌, ◌≤◌}
 use Rattle.jv_class_parts.specs.Parts.{CodeSeen, MethodSeen}
 use Rattle.jv_meaning_typing.specs.Environment.{Environment, IsEnvironment}
 use Rattle.jv_meaning_typing.specs.Typing.{argument_words}
-use Rattle.jv_rules_class.specs.Current.{CurrentClass}
+use Rattle.jv_method_code.specs.of_rules_class.Current.{CurrentClass}
 use Rattle.jv_rules_constants.specs.PoolTypes.{CallTypes, call_types}
 use Rattle.jv_method_check.specs.Judged.{IsMethodOf}
 

@@ -12,9 +12,9 @@ use Rattle.jv_meaning_typing.specs.Judgement.{IsCodeOf}
 use Rattle.jv_rules_types.specs.Typed.{typed_all}
 use Rattle.jv_rules_frames.specs.Numbered.{Item}
 use Rattle.jv_rules_constants.specs.PoolTypes.{PoolTypes, typed_result}
-use Rattle.jv_rules_class.specs.Current.{CurrentClass, IsOfClass}
-use Rattle.jv_method_frames.specs.Mapped.{EntryTypes}
-use Rattle.jv_method_tables.specs.Tables.{entry_types, MapsTo}
+use Rattle.jv_method_code.specs.of_rules_class.Current.{CurrentClass, IsOfClass}
+use Rattle.jv_method_code.specs.of_method_frames.Mapped.{EntryTypes}
+use Rattle.jv_method_code.specs.of_method_tables.Tables.{entry_types, MapsTo}
 use Rattle.jv_method_code.specs.Pass.{HasRoom}
 
 -- its class, its body, the types of its initial local entries, whether its name is `<init>`, and the type of its result, if it

@@ -5,7 +5,7 @@ use Rattle.jv_frames.specs.Frames.{Frame}
 use Rattle.jv_meaning_typing.specs.Environment.{Environment}
 use Rattle.jv_meaning_typing.specs.Rule.{within_stack}
 use Rattle.jv_rules_constants.specs.PoolTypes.{PoolTypes}
-use Rattle.jv_rules_operands.specs.Operands.{HasPool}
+use Rattle.jv_rules_uses.specs.of_rules_operands.Operands.{HasPool}
 use Rattle.jv_rules_uses.specs.Method.{MethodContext, IsOfMethod}
 
 -- an environment of a method of the class with these constants

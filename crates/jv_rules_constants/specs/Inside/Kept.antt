@@ -8,8 +8,8 @@ use Rattle.jv_pool.specs.declared.constant.Constant.TheVariants.{Class}
 use Rattle.jv_pool.specs.Constants.{Entry, at_index, utf8_at}
 use Rattle.jv_frames.specs.declared.verification.VerificationTypeOf.{VerificationTypeOf}
 use Rattle.jv_frames.specs.Types.{FrameType}
-use Rattle.jv_meaning_typing.specs.Named.{named_type}
-use Rattle.jv_rules_types.specs.Typed.{typed_all}
+use Rattle.jv_rules_values.specs.of_meaning_typing.Named.{named_type}
+use Rattle.jv_rules_values.specs.of_rules_types.Typed.{typed_all}
 use Rattle.jv_rules_constants.specs.declared.texts.Described.{Described}
 use Rattle.jv_rules_constants.specs.declared.texts.Described.TheVariants as forms
 use Rattle.jv_rules_constants.specs.declared.texts.MethodEntry.{MethodEntry}

@@ -1,6 +1,6 @@
 -- Types by number, also once more names have got numbers.
 use Rattle.std.specs.Prelude.{◌≡◌, ℕ, List, ◌++◌}
-use Rattle.jv_rules_types.specs.Typed.{GoesOn}
+use Rattle.jv_rules_values.specs.of_rules_types.Typed.{GoesOn}
 
 -- the number stands for the name, and for nothing else however the names go on
 pub record Lasts {A B : Type 0} (stands_for : List (List ℕ) → A → B) (names : List (List ℕ)) (number : A) (name : B) : Type 0 where

@@ -4,9 +4,9 @@ use Rattle.std.specs.List.{list_any}
 use Rattle.jv_format.specs.Format.{◌>>=◌}
 use Rattle.jv_frames.specs.declared.verification.VerificationTypeOf.TheVariants as types
 use Rattle.jv_frames.specs.Frames.{Frame}
-use Rattle.jv_meaning_typing.specs.FrameChanges.{with_locals, is_same_object, replaced}
-use Rattle.jv_meaning_typing.specs.Named.{when}
-use Rattle.jv_meaning_typing.specs.ValueRules.{pushed, take_reference}
+use Rattle.jv_rules_frames.specs.of_meaning_typing.FrameChanges.{with_locals, is_same_object, replaced}
+use Rattle.jv_rules_frames.specs.of_meaning_typing.Named.{when}
+use Rattle.jv_rules_frames.specs.of_meaning_typing.ValueRules.{pushed, take_reference}
 
 abbrev pub new_object : ℕ → Frame → Option Frame
 new_object pc frame =

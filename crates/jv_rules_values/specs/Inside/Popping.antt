@@ -1,7 +1,7 @@
 -- An item that was taken from the stack.
 use Rattle.std.specs.Prelude.{◌≡◌, ℕ, List, Option, Some, None}
 use Rattle.jv_frames.specs.Types.{FrameType}
-use Rattle.jv_rules_types.specs.Typed.{typed, typed_all}
+use Rattle.jv_rules_frames.specs.of_rules_types.Typed.{typed, typed_all}
 use Rattle.jv_rules_frames.specs.Numbered.{Item, NumberFrame, topped}
 
 -- it was the one on top, and else nothing has changed; or it could not be taken

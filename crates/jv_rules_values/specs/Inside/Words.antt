@@ -3,8 +3,8 @@ use Rattle.std.specs.Prelude.{◌≡◌, ℕ, List, [], ◌∷◌, Option, Some,
 use Rattle.std.specs.Option.{option_map}
 use Rattle.jv_frames.specs.Types.{FrameType}
 use Rattle.jv_code.specs.declared.kinds.StackForm.{StackForm}
-use Rattle.jv_meaning_typing.specs.StackForms.{arranged, item_before}
-use Rattle.jv_rules_types.specs.Typed.{typed, typed_all}
+use Rattle.jv_rules_frames.specs.of_meaning_typing.StackForms.{arranged, item_before}
+use Rattle.jv_rules_frames.specs.of_rules_types.Typed.{typed, typed_all}
 use Rattle.jv_rules_frames.specs.Numbered.{Item, NumberFrame, with_stack}
 use Rattle.jv_rules_values.specs.declared.forms.Words.{Words}
 use Rattle.jv_rules_values.specs.declared.forms.Words.TheVariants.{Nothing, One, Two}

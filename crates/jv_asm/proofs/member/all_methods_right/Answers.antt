@@ -1,5 +1,5 @@
 use Rattle.std.proofs.Common.{◌∙◌, ap, sym}
-use Rattle.jv_class_parts.specs.Structure.{method_fits}
+use Rattle.jv_class.specs.of_class_parts.Structure.{method_fits}
 use Rattle.jv_asm.proofs.Mapped.{one_fails}
 use Rattle.jv_asm.proofs.member.all_methods_right.Goals as goal
 

@@ -1,5 +1,5 @@
 use Rattle.std.proofs.Common.{subst}
-use Rattle.jv_pool.specs.Facts.{IsFieldKnown}
+use Rattle.jv_class_parts.specs.of_pool.Facts.{IsFieldKnown}
 use Rattle.jv_class_parts.specs.Seen.{seen_field}
 use Rattle.jv_class.proofs.Facts.{field_right}
 use Rattle.jv_class.proofs.field_rules.is_right_field.Goals as goal

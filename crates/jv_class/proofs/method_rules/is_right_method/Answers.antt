@@ -1,5 +1,5 @@
 use Rattle.std.proofs.Common.{subst}
-use Rattle.jv_pool.specs.Facts.{IsMethodKnown}
+use Rattle.jv_class_parts.specs.of_pool.Facts.{IsMethodKnown}
 use Rattle.jv_class_parts.specs.Seen.{seen_method}
 use Rattle.jv_class.proofs.Facts.{method_right}
 use Rattle.jv_class.proofs.method_rules.is_right_method.Goals as goal

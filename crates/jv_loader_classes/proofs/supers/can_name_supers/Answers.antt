@@ -1,5 +1,5 @@
 use Rattle.std.proofs.Common.{◌∙◌}
-use Rattle.jv_loader_world.specs.World.{can_name}
+use Rattle.jv_loader_class.specs.of_loader_world.World.{can_name}
 use Rattle.jv_loader_classes.proofs.Tests.{each_super_at}
 use Rattle.jv_loader_classes.proofs.supers.can_name_supers.Goals as goal
 

@@ -1,6 +1,6 @@
 use Rattle.std.proofs.Common.{◌∙◌, ap, sym, map, ◌++◌, ◌∷◌, [], take, append_assoc}
 use Rattle.std.proofs.lemmas.List.{map-append}
-use Rattle.jv_loader_world.specs.Above.{superclass_names}
+use Rattle.jv_loader_class.specs.of_loader_world.Above.{superclass_names}
 use Rattle.jv_loader_classes.specs.Numbers.{number_named}
 use Rattle.jv_loader_classes.proofs.Numbers.{take_more}
 use Rattle.jv_loader_classes.proofs.supers.supers_of.Goals as goal

@@ -1,5 +1,5 @@
 use Rattle.std.proofs.Common.{◌≡◌, ◌++◌, map, take}
-use Rattle.jv_loader_world.specs.Above.{superclass_names}
+use Rattle.jv_loader_class.specs.of_loader_world.Above.{superclass_names}
 use Rattle.jv_loader_classes.specs.Numbers.{number_named}
 use Rattle.jv_loader_classes.proofs.supers.supers_of.Given as goal
 

@@ -1,7 +1,7 @@
 use Rattle.std.proofs.Common.{◌≡◌, ◌∙◌, ◌++◌, ◌∷◌, [], Some, ap}
 use Rattle.std.specs.Prelude.{slice_get}
-use Rattle.jv_loader_world.specs.World.{Loaded}
-use Rattle.jv_loader_world.specs.Verdicts.{is_loadable}
+use Rattle.jv_loader_class.specs.of_loader_world.World.{Loaded}
+use Rattle.jv_loader_class.specs.of_loader_world.Verdicts.{is_loadable}
 use Rattle.jv_loader_classes.proofs.Numbers.{map_more}
 use Rattle.jv_loader_classes.proofs.Ways.{loadable_if, equal_tests}
 use Rattle.jv_loader_classes.proofs.table.all_loadable.Goals as goal

@@ -1,5 +1,5 @@
 use Rattle.std.proofs.Common.{◌≡◌, map, take}
-use Rattle.jv_loader_world.specs.Verdicts.{is_loadable}
+use Rattle.jv_loader_class.specs.of_loader_world.Verdicts.{is_loadable}
 use Rattle.jv_loader_classes.proofs.table.all_loadable.Given as goal
 
 abbrev pub invariant-loop-number : goal.invariant-loop-number

@@ -1,5 +1,5 @@
 use Rattle.std.proofs.Common.{◌≡◌, map, take}
-use Rattle.jv_loader_world.specs.Laws.{stands_itself}
+use Rattle.jv_loader_class.specs.of_loader_world.Laws.{stands_itself}
 use Rattle.jv_loader_classes.proofs.table.all_stand.Given as goal
 
 abbrev pub invariant-loop-from : goal.invariant-loop-from

@@ -1,6 +1,6 @@
 use Rattle.std.proofs.Common.{sym, subst}
 use Rattle.std.specs.List.{All}
-use Rattle.jv_class_parts.specs.Seen.{seen_method}
+use Rattle.jv_class.specs.of_class_parts.Seen.{seen_method}
 use Rattle.jv_loader_files.specs.FileContent.{HasNoUnsupportedCode}
 use Rattle.jv_loader_files.proofs.Contents.{all_mapped}
 use Rattle.jv_loader_files.proofs.reading.is_within_profile.Goals as goal

@@ -4,7 +4,7 @@ use Rattle.jv_class_parts.specs.Seen.{seen_code, seen_method}
 use Rattle.jv_frames.specs.Types.{words}
 use Rattle.jv_rules_types.specs.Typed.{typed_all}
 use Rattle.jv_rules_frames.specs.Numbered.{Item}
-use Rattle.jv_rules_class.specs.Current.{CurrentClass}
+use Rattle.jv_method_code.specs.of_rules_class.Current.{CurrentClass}
 use Rattle.jv_method_check.specs.Judged.{IsJudged}
 use Rattle.jv_method_check.proofs.Environments.{has_room, of_read, read_in}
 use Rattle.jv_method_check.proofs.check.check_typed.Goals as goal

@@ -1,6 +1,6 @@
 use Rattle.std.proofs.Common.{subst}
 use Rattle.jv_meaning_typing.specs.declared.verdict.VerifyRule.TheVariants as rules
-use Rattle.jv_method_tables.specs.Tables.{MapsTo}
+use Rattle.jv_method_code.specs.of_method_tables.Tables.{MapsTo}
 use Rattle.jv_method_check.specs.Inside.Read.{types_of}
 use Rattle.jv_method_check.proofs.Judging.{breaks_map, judged_at_start}
 use Rattle.jv_method_check.proofs.tables.check_frames.Goals as goal

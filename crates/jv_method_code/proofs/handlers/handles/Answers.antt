@@ -1,6 +1,6 @@
 use Rattle.std.proofs.Common.{sym, ap, subst, ◌∙◌}
 use Rattle.jv_meaning_typing.specs.Typing.{frame_at}
-use Rattle.jv_method_frames.specs.Mapped.{entry_words}
+use Rattle.jv_method_tables.specs.of_method_frames.Mapped.{entry_words}
 use Rattle.jv_method_code.specs.Pass.{Pass, maps_of}
 use Rattle.jv_method_code.specs.Inside.Kept.{IsPass}
 use Rattle.jv_method_code.proofs.Flowing.{handles_there}

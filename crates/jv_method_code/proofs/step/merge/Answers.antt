@@ -1,7 +1,7 @@
 use Rattle.std.proofs.Common.{Bool, true, false, sym, ap, subst, ◌∙◌}
 use Rattle.jv_meaning_typing.specs.Typing.{frame_at}
 use Rattle.jv_rules_frames.specs.Numbered.{frame_of}
-use Rattle.jv_method_frames.specs.Mapped.{entry_words}
+use Rattle.jv_method_tables.specs.of_method_frames.Mapped.{entry_words}
 use Rattle.jv_method_code.specs.Pass.{Pass, names_in, maps_of}
 use Rattle.jv_method_code.specs.Inside.Kept.{IsPass}
 use Rattle.jv_method_code.specs.Inside.Walk.{merged, when_falls}

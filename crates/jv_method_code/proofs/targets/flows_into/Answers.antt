@@ -1,5 +1,5 @@
 use Rattle.std.proofs.Common.{sym, ap, subst, ◌∙◌}
-use Rattle.jv_method_frames.specs.Mapped.{entry_words}
+use Rattle.jv_method_tables.specs.of_method_frames.Mapped.{entry_words}
 use Rattle.jv_method_code.specs.Pass.{Pass}
 use Rattle.jv_method_code.specs.Inside.Kept.{IsPass}
 use Rattle.jv_method_code.proofs.Flowing.{flows_there}

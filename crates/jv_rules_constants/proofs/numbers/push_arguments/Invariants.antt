@@ -1,7 +1,7 @@
 use Rattle.std.proofs.Common.{◌≡◌, map, take}
 use Rattle.jv_text.specs.Seen.{seen_field}
 use Rattle.jv_frames.specs.Types.{value_type}
-use Rattle.jv_rules_types.specs.Typed.{GoesOn}
+use Rattle.jv_rules_values.specs.of_rules_types.Typed.{GoesOn}
 use Rattle.jv_rules_constants.specs.Inside.Kept.{Joins}
 use Rattle.jv_rules_constants.proofs.numbers.push_arguments.Given as goal
 

@@ -1,5 +1,5 @@
 use Rattle.std.proofs.Common.{◌≡◌, length}
-use Rattle.jv_rules_types.specs.Typed.{GoesOn}
+use Rattle.jv_rules_values.specs.of_rules_types.Typed.{GoesOn}
 use Rattle.jv_rules_constants.specs.Inside.Kept.{AreKeptBelow}
 use Rattle.jv_rules_constants.proofs.texts.type_table.Given as goal
 

@@ -1,7 +1,7 @@
 use Rattle.std.proofs.Common.{◌∙◌, ap}
-use Rattle.jv_class_parts.specs.Flags.{has, acc_final}
-use Rattle.jv_loader_world.specs.World.{Loaded}
-use Rattle.jv_loader_world.specs.Verdicts.{passes}
+use Rattle.jv_loader_class.specs.of_class_parts.Flags.{has, acc_final}
+use Rattle.jv_loader_class.specs.of_loader_world.World.{Loaded}
+use Rattle.jv_loader_class.specs.of_loader_world.Verdicts.{passes}
 use Rattle.jv_loader_classes.specs.Inside.Tests.{passes_at}
 use Rattle.jv_loader_classes.proofs.Followed.{at_superclass}
 use Rattle.jv_loader_classes.proofs.class_table.ClassTable.has_final_super.Goals as goal

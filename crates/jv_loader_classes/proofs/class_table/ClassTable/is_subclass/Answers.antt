@@ -1,6 +1,6 @@
 use Rattle.std.proofs.Common.{◌∙◌, ◌||◌, sym, ap, subst}
-use Rattle.jv_loader_world.specs.Above.{superclasses}
-use Rattle.jv_loader_world.specs.LookUps.{is_among}
+use Rattle.jv_loader_class.specs.of_loader_world.Above.{superclasses}
+use Rattle.jv_loader_class.specs.of_loader_world.LookUps.{is_among}
 use Rattle.jv_loader_classes.specs.Inside.Told.{TellsSuperclasses}
 use Rattle.jv_loader_classes.proofs.Told.{other_name}
 use Rattle.jv_loader_classes.proofs.class_table.ClassTable.is_subclass.Goals as goal

@@ -1,6 +1,6 @@
 use Rattle.std.proofs.Common.{◌∙◌, ap, map}
 use Rattle.std.specs.List.{list_all}
-use Rattle.jv_loader_world.specs.Verdicts.{is_loadable}
+use Rattle.jv_loader_class.specs.of_loader_world.Verdicts.{is_loadable}
 use Rattle.jv_loader_classes.specs.Inside.Tests.{marked_at}
 use Rattle.jv_loader_classes.proofs.Followed.{marked}
 use Rattle.jv_loader_classes.proofs.Tests.{each_super_at}

@@ -1,5 +1,5 @@
 use Rattle.std.proofs.Common.{sym, ap, subst, ◌∙◌}
-use Rattle.jv_rules_uses.specs.Method.{MethodContext, IsOfMethod}
+use Rattle.jv_method_code.specs.of_rules_uses.Method.{MethodContext, IsOfMethod}
 use Rattle.jv_method_code.specs.Pass.{IsOfPass, maps_of}
 use Rattle.jv_method_check.specs.Inside.Read.{ReadMethod}
 use Rattle.jv_method_check.proofs.Parts.{of_pass, rooms_in}

@@ -2,7 +2,7 @@ use Rattle.std.proofs.Common.{sym, ap, subst, ◌∙◌}
 use Rattle.std.specs.Prelude.{IfOk, IfSome}
 use Rattle.jv_class_parts.specs.Seen.{seen_code}
 use Rattle.jv_meaning_typing.specs.Environment.{Environment}
-use Rattle.jv_method_tables.specs.Tables.{MapsTo}
+use Rattle.jv_method_code.specs.of_method_tables.Tables.{MapsTo}
 use Rattle.jv_method_check.specs.Inside.Read.{ReadMethod, IsOfRead, HaveRoom, types_of}
 use Rattle.jv_method_check.proofs.Parts.{same_constants, maps_told, rooms_told}
 use Rattle.jv_method_check.proofs.read.ReadMethod.map_frames.Goals as goal

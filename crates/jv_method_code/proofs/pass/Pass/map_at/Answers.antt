@@ -1,6 +1,6 @@
 use Rattle.std.proofs.Common.{sym, ap, subst, ◌∙◌}
 use Rattle.std.specs.Option.{option_map}
-use Rattle.jv_method_frames.specs.Mapped.{map_frame}
+use Rattle.jv_method_tables.specs.of_method_frames.Mapped.{map_frame}
 use Rattle.jv_method_code.specs.Pass.{Pass, HasRoom}
 use Rattle.jv_method_code.proofs.Maps.{all_at, found_at, none_at, within}
 use Rattle.jv_method_code.proofs.pass.Pass.map_at.Goals as goal

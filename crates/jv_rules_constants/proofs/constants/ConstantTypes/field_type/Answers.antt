@@ -1,6 +1,6 @@
 use Rattle.std.proofs.Common.{◌≡◌, ◌∙◌, ap, subst}
 use Rattle.std.specs.Option.{option_map}
-use Rattle.jv_rules_types.specs.Typed.{typed_field}
+use Rattle.jv_rules_values.specs.of_rules_types.Typed.{typed_field}
 use Rattle.jv_rules_constants.specs.PoolTypes.{PoolTypes, field_type_at}
 use Rattle.jv_rules_constants.specs.Inside.Kept.{field_in}
 use Rattle.jv_rules_constants.proofs.Finding.{field_found}

@@ -1,7 +1,7 @@
 use Rattle.std.proofs.Common.{◌≡◌, ◌∙◌, Some, sym, ap, subst}
 use Rattle.std.specs.Option.{option_map}
 use Rattle.jv_pool.specs.Seen.{seen}
-use Rattle.jv_rules_types.specs.Typed.{typed_field}
+use Rattle.jv_rules_values.specs.of_rules_types.Typed.{typed_field}
 use Rattle.jv_rules_constants.specs.declared.texts.TextTypes.{TextTypes}
 use Rattle.jv_rules_constants.specs.PoolTypes.{PoolTypes, named_type_at}
 use Rattle.jv_rules_constants.proofs.Finding.{name_found}

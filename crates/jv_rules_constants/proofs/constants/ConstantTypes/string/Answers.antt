@@ -1,8 +1,8 @@
 use Rattle.std.proofs.Common.{◌≡◌, codes, ap, subst}
 use Rattle.std.proofs.lemmas.Option.{get_or_from_slice_get}
 use Rattle.jv_frames.specs.declared.verification.VerificationTypeOf.TheVariants as types
-use Rattle.jv_meaning_typing.specs.Named.{string_type}
-use Rattle.jv_rules_types.specs.Typed.{typed}
+use Rattle.jv_rules_values.specs.of_meaning_typing.Named.{string_type}
+use Rattle.jv_rules_values.specs.of_rules_types.Typed.{typed}
 use Rattle.jv_rules_constants.specs.PoolTypes.{PoolTypes}
 use Rattle.jv_rules_constants.proofs.constants.ConstantTypes.string.Goals as goal
 
