@@ -1,0 +1,17 @@
+use Rattle.std.proofs.Common.{refl}
+use Rattle.jv_meaning_machine.proofs.law.fault_rows.Goals as goal
+
+pub returns : goal.returns
+returns c = record {
+  behind_code = refl;
+  constant_of_class = refl;
+  below_empty = refl;
+  above_max_stack = refl;
+  outside_locals = refl;
+  other_kind = refl;
+  cut_long = refl;
+  no_throwable = refl;
+  not_constructed = refl;
+  not_accepted = refl;
+  other_return = refl;
+}

@@ -1,0 +1,69 @@
+-- A guest alone: what its own files, main class name, input and budget give on the machine, after some number of steps.
+use Rattle.std.specs.Prelude.{◌≡◌, ◌↔◌, ℕ, zero, suc, List, [], ◌∷◌, ◌++◌, length, Option, Some, Ok, slice_get}
+use Rattle.jv_text.specs.Text.{Spells}
+use Rattle.jv_code.specs.Insns.{Instruction}
+use Rattle.jv_code.specs.Places.{IsCode}
+use Rattle.jv_loader_world.specs.of_loader_files.FileContent.{FileContent, AreContents}
+use Rattle.jv_loader_world.specs.of_loader_files.declared.content.Content.TheVariants.{Holds}
+use Rattle.jv_loader_world.specs.World.{world_of}
+use Rattle.jv_loader_system.specs.SystemClasses.{system_classes}
+use Rattle.jv_meaning_typing.specs.declared.verdict.Verdict.{Verdict}
+use Rattle.jv_meaning_typing.specs.declared.verdict.Verdict.TheVariants.{Accepted}
+use Rattle.jv_meaning_typing.specs.Judgement.{IsVerdictOfFile}
+use Rattle.jv_meaning_machine.specs.Faults.{OrFault, ◌>>=◌}
+use Rattle.jv_meaning_machine.specs.State.{Program, State}
+use Rattle.jv_meaning_machine.specs.Start.{Budget, start}
+use Rattle.jv_meaning_machine.specs.Step.{step}
+
+-- a guest's class files, the name of its main class and its input
+pub record Guest : Type 0 where
+  pub files : List (List ℕ)
+  pub main : List ℕ
+  pub input : List ℕ
+
+-- ---- what is found of the files before anything runs
+
+pub record Judged : Type 0 where
+  pub program : Program
+  pub verdicts : List Verdict
+
+-- the class of a file, where its verdict is that it is accepted
+abbrev pub accepted_in : FileContent → Verdict → List (List ℕ)
+accepted_in (Holds class) Accepted = class.name ∷ []
+accepted_in _ _ = []
+
+abbrev pub accepted_names : List FileContent → List Verdict → List (List ℕ)
+accepted_names (file ∷ files) (verdict ∷ verdicts) = accepted_in file verdict ++ accepted_names files verdicts
+accepted_names _ _ = []
+
+-- bytes have these instructions exactly where they are the code of them
+abbrev pub AreInstructions : (List ℕ → Option (List Instruction)) → Type 0
+AreInstructions instructions = (bytes : List ℕ) (all : List Instruction) → (instructions bytes ≡ Some all) ↔ IsCode bytes all
+
+-- and these units exactly where they spell them
+abbrev pub AreUnits : (List ℕ → Option (List ℕ)) → Type 0
+AreUnits units = (bytes all : List ℕ) → (units bytes ≡ Some all) ↔ Spells all bytes
+
+-- this is what is to be found of files: the classes that they hold beside the system's, and a verdict on each
+pub record IsJudged (files : List (List ℕ)) (judged : Judged) : Type 0 where
+  pub contents : List FileContent
+  pub held : AreContents files contents
+  pub world : judged.program.world ≡ world_of system_classes contents
+  pub count : length judged.verdicts ≡ length contents
+  pub verdict :
+      (place : ℕ) (verdict : Verdict) → slice_get judged.verdicts place ≡ Some verdict
+      → IsVerdictOfFile system_classes contents place verdict
+  pub accepted : judged.program.accepted ≡ accepted_names contents judged.verdicts
+  pub instructions : AreInstructions judged.program.instructions
+  pub units : AreUnits judged.program.units
+
+-- ---- the run
+
+-- so many steps from a state, the last one outermost
+abbrev pub after : Program → ℕ → State → OrFault State
+after program zero s = Ok s
+after program (suc n) s = after program n s >>= step program
+
+-- the state of a guest whose files were judged, after so many of its own steps
+abbrev pub alone : Judged → Guest → Budget → ℕ → OrFault State
+alone judged g b n = start judged.program g.main g.input b >>= after judged.program n

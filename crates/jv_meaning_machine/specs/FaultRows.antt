@@ -1,0 +1,39 @@
+-- Worked rows: for each fault the smallest programs that meet it, none of which can be verified.
+use Rattle.std.specs.Prelude.{◌≡◌, List, [], ◌∷◌, Err, codes}
+use Rattle.jv_code.specs.declared.insn.Insn.TheVariants as insns
+use Rattle.jv_code.specs.declared.kinds.Computation.TheVariants as compute
+use Rattle.jv_code.specs.declared.kinds.LongValue.TheVariants as longs
+use Rattle.jv_code.specs.declared.kinds.ValueKind.TheVariants as kinds
+use Rattle.jv_code.specs.Insns.{Instruction}
+use Rattle.jv_loader_world.specs.of_class.Class.{Method}
+use Rattle.jv_loader_system.specs.Mnemonics.{iconst, iload, aload, invokespecial, return}
+use Rattle.jv_meaning_machine.specs.Faults.Fault.{OffsetFault, StackFault, LocalFault, TagFault, ReferenceFault, ConstructionFault, UnverifiedFault, ReturnFault}
+use Rattle.jv_meaning_machine.specs.State.{Program}
+use Rattle.jv_meaning_machine.specs.Samples.{program_of, run_with, new, ldc, pop, code, method, main_name, only_main, run}
+use Rattle.jv_meaning_machine.specs.MachineRows.{I}
+
+-- a method of an interface that was not accepted is called on an array, which counts as one of an interface
+abbrev pub calls_default : List Instruction
+calls_default = aload 0 ∷ invokespecial 35 ∷ return ∷ []
+
+abbrev pub default_m : Method
+default_m = method 1 (codes "m") (codes "()V") (code 0 1 [] (return ∷ []))
+
+abbrev pub with_unaccepted : Program
+with_unaccepted =
+    record (program_of (only_main [] 1 [] calls_default ∷ I (default_m ∷ []) ∷ []) (calls_default ∷ (return ∷ []) ∷ [])) { accepted = main_name ∷ [] }
+
+pub record FaultRows : Type 0 where
+  pub behind_code : run 0 (insns.Nop ∷ []) 3 ≡ Err OffsetFault
+  pub constant_of_class : run 1 (ldc 12 ∷ return ∷ []) 2 ≡ Err OffsetFault
+  pub below_empty : run 0 (pop ∷ []) 2 ≡ Err StackFault
+  pub above_max_stack : run 0 (iconst 0 ∷ []) 2 ≡ Err StackFault
+  pub outside_locals : run 1 (iload 1 ∷ []) 2 ≡ Err LocalFault
+  pub other_kind : run 1 (iconst 0 ∷ insns.Throw ∷ []) 3 ≡ Err TagFault
+  -- pop of a long
+  pub cut_long : run 2 (insns.Compute (compute.LongConstant longs.Zero) ∷ pop ∷ []) 3 ≡ Err TagFault
+  -- the array of main's arguments is thrown
+  pub no_throwable : run 1 (aload 0 ∷ insns.Throw ∷ []) 3 ≡ Err ReferenceFault
+  pub not_constructed : run 1 (new 12 ∷ insns.Throw ∷ []) 3 ≡ Err ConstructionFault
+  pub not_accepted : run_with with_unaccepted main_name [] 64 3 ≡ Err UnverifiedFault
+  pub other_return : run 1 (iconst 0 ∷ insns.ReturnValue kinds.Int ∷ []) 3 ≡ Err ReturnFault

@@ -1,0 +1,40 @@
+-- What the machine refuses to do (own): no program that was verified meets one of these. And steps that can end so.
+use Rattle.std.specs.Prelude.{Bool, true, false, Option, Some, None, Result, Ok, Err}
+
+pub data Fault : Type 0 where
+  -- no instruction starts at the offset, or its constant is of another kind
+  OffsetFault : Fault
+  -- the stack is below empty, or above max_stack words
+  StackFault : Fault
+  -- a local variable is outside max_locals, holds nothing, or holds half of a long
+  LocalFault : Fault
+  -- a value is of another kind than the instruction takes, or a form of the stack cuts a long
+  TagFault : Fault
+  -- a reference to no object, or to one without that field or that kind of elements; a receiver that is no instance of the class
+  -- that declares the method, interfaces aside; or something thrown that is no Throwable
+  ReferenceFault : Fault
+  -- an object that is not constructed is used, or its constructors are entered out of order
+  ConstructionFault : Fault
+  -- a method of a class that was not accepted is entered
+  UnverifiedFault : Fault
+  -- a return of another kind than the method's result
+  ReturnFault : Fault
+
+abbrev pub OrFault : Type 0 → Type 0
+OrFault A = Result A Fault
+
+-- a step, and the next one with what it gave; the first fault ends them
+infixl 10 ◌>>=◌
+abbrev pub ◌>>=◌ : {A B : Type 0} → OrFault A → (A → OrFault B) → OrFault B
+(Ok a) >>= next = next a
+(Err fault) >>= next = Err fault
+
+-- what is there goes on, and else it is a fault
+abbrev pub found : {A : Type 0} → Fault → Option A → OrFault A
+found fault None = Err fault
+found fault (Some a) = Ok a
+
+-- what passes a test goes on
+abbrev pub tested : {A : Type 0} → Fault → Bool → A → OrFault A
+tested fault true a = Ok a
+tested fault false a = Err fault

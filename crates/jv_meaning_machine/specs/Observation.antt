@@ -1,0 +1,39 @@
+-- What a guest shows after some number of its own steps.
+use Rattle.std.specs.Prelude.{◌≡◌, ℕ, List, Option, Ok, IsErr}
+use Rattle.jv_meaning_typing.specs.declared.verdict.Verdict.{Verdict}
+use Rattle.jv_meaning_machine.specs.State.{State, End}
+use Rattle.jv_meaning_machine.specs.Start.{Budget}
+use Rattle.jv_meaning_machine.specs.Alone.{Guest, Judged, IsJudged, alone}
+
+-- the verdicts on its files, its steps, what it wrote, how many throws there were and the class of the last one, and how it ended
+pub record Observed : Type 0 where
+  pub verdicts : List Verdict
+  pub steps : ℕ
+  pub output : List ℕ
+  pub throws : ℕ
+  pub last : Option (List ℕ)
+  pub end : End
+
+abbrev pub observation : List Verdict → ℕ → State → Observed
+observation verdicts n s = record {
+  verdicts = verdicts;
+  steps = n;
+  output = s.memory.output;
+  throws = s.control.throws;
+  last = s.control.last;
+  end = s.control.end;
+}
+
+-- A guest shows this after n of its own steps, alone.
+pub record Shows (g : Guest) (b : Budget) (n : ℕ) (o : Observed) : Type 0 where
+  pub judged : Judged
+  pub right : IsJudged g.files judged
+  pub state : State
+  pub ran : alone judged g b n ≡ Ok state
+  pub shown : o ≡ observation judged.verdicts n state
+
+-- The machine meets a fault within n of the guest's own steps.
+pub record FaultsWithin (g : Guest) (b : Budget) (n : ℕ) : Type 0 where
+  pub judged : Judged
+  pub right : IsJudged g.files judged
+  pub fault : IsErr (alone judged g b n)
