@@ -5,10 +5,11 @@ ghost use Rattle.std.specs.Option.{option_map};
 ghost use Rattle.jv_code.specs.Insns.{Instruction};
 ghost use Rattle.jv_meaning_typing.specs.Environment.{Environment};
 ghost use Rattle.jv_meaning_typing.specs.Rule.{constructed_object, handler_frame};
-ghost use Rattle.jv_meaning_typing.specs.Typing.{covers, handles, handlers_hold};
+ghost use Rattle.jv_meaning_typing.specs.Typing.{covers, handles};
 ghost use Rattle.jv_rules_types.specs.Typed.{typed};
 ghost use Rattle.jv_rules_frames.specs.Numbered.{frame_of};
 ghost use Rattle.jv_method_code.specs.Pass.{IsOfPass, maps_of, names_in};
+ghost use Rattle.jv_method_code.specs.Inside.Settled.{is_settled, hold_where_unsettled};
 
 use crate::pass::Pass;
 use jv_format::Handler;
@@ -43,40 +44,54 @@ fn covers(handler: Handler, offset: u32) -> bool
     u32::from(handler.start_pc) <= offset && offset < u32::from(handler.end_pc)
 }
 
-/// Whether a handler covers no instruction at an offset, or what it begins with flows to the frame of the map there.
+/// Whether a handler covers the instruction at which those that cover it are known to hold.
+fn is_settled(settled: Option<u32>, handler: Handler) -> bool
+    ensures { result ≡ is_settled settled handler }
+{
+    match settled {
+        Some(before) => covers(handler, before),
+        None => false,
+    }
+}
+
+/// Whether a handler covers no instruction at an offset, is settled, or what it begins with flows to the frame of the map there.
 fn handler_holds(
     pass: &Pass<'_, '_, '_, '_, '_>,
     frame: &TypeFrame,
     object: Option<Item>,
+    settled: Option<u32>,
     offset: u32,
     handler: Handler,
 ) -> bool
     requires { length frame.now.locals ≡ pass.now.max_locals }
     ensures { (env : Environment) (insn : Instruction) → IsOfPass pass.now env
         → option_map (typed (names_in pass.now)) object ≡ constructed_object env insn (frame_of (names_in pass.now) frame.now)
-        → result ≡ (not (covers handler offset) || handles env (maps_of pass.now) (handler_frame env insn (frame_of (names_in pass.now) frame.now)) handler) }
+        → result ≡ (not (covers handler offset) || is_settled settled handler || handles env (maps_of pass.now) (handler_frame env insn (frame_of (names_in pass.now) frame.now)) handler) }
 {
-    !covers(handler, offset) || handles(pass, frame, object, handler)
+    !covers(handler, offset)
+        || is_settled(settled, handler)
+        || handles(pass, frame, object, handler)
 }
 
-/// Whether each handler that covers an instruction, which constructs this object or none, holds.
+/// Whether each handler that covers an instruction, which constructs this object or none, is settled or holds.
 pub(crate) fn handlers_hold(
     pass: &Pass<'_, '_, '_, '_, '_>,
     frame: &TypeFrame,
     object: Option<Item>,
+    settled: Option<u32>,
     offset: u32,
 ) -> bool
     requires { length frame.now.locals ≡ pass.now.max_locals }
     ensures { (env : Environment) (insn : Instruction) → IsOfPass pass.now env
         → option_map (typed (names_in pass.now)) object ≡ constructed_object env insn (frame_of (names_in pass.now) frame.now)
-        → result ≡ handlers_hold env (maps_of pass.now) offset insn (frame_of (names_in pass.now) frame.now) }
+        → result ≡ hold_where_unsettled settled env (maps_of pass.now) offset insn (frame_of (names_in pass.now) frame.now) }
 {
     let table = pass.handlers;
     for place in 0..table.len() {
         let Some(handler) = table.handler(place) else {
             unreachable!();
         };
-        if !handler_holds(pass, frame, object, offset, handler) {
+        if !handler_holds(pass, frame, object, settled, offset, handler) {
             return false;
         }
     }

@@ -1,7 +1,9 @@
 //! The pass over a method's code.
 
-ghost use Rattle.std.specs.Prelude.{◌≡◌, Some, IfOk, length};
+ghost use Rattle.std.specs.Prelude.{◌≡◌, ℕ, None, Some, IfOk, if◌then◌else◌, length};
+ghost use Rattle.jv_code.specs.Insns.{instruction_of};
 ghost use Rattle.jv_meaning_typing.specs.Environment.{Environment};
+ghost use Rattle.jv_rules.specs.Laws.{keeps_locals};
 ghost use Rattle.jv_rules_frames.specs.Numbered.{frame_of};
 ghost use Rattle.jv_method_code.specs.Pass.{IsOfPass, maps_of, names_in};
 ghost use Rattle.jv_method_code.specs.Found.{IsFound};
@@ -10,11 +12,23 @@ ghost use Rattle.jv_method_code.specs.Inside.Walk.{Reaches};
 use crate::fault::CodeFault;
 use crate::pass::Pass;
 use crate::step::step;
-use jv_code::{falls_through, stands_in_list, starts_apart};
+use jv_code::{Insn, falls_through, stands_in_list, starts_apart};
 use jv_meaning_typing::VerifyRule;
 use jv_method_tables::of_method_frames::set_to_initial;
+use jv_rules::keeps_locals;
 use jv_rules_frames::TypeFrame;
 use std::alloc::{AllocError, Global};
+
+/// The offset of an instruction that leaves handlers settled: it keeps what they ask of.
+fn settled_by(insn: &Insn<&[u8]>, offset: u32) -> Option<u32>
+    ensures { result ≡ (if keeps_locals (instruction_of insn.now) then Some offset else None) }
+{
+    if keeps_locals(insn) {
+        Some(offset)
+    } else {
+        None
+    }
+}
 
 /// Goes over all instructions from the first on, before which the frame stands.
 fn walk(
@@ -30,10 +44,11 @@ fn walk(
     let code = pass.context.code();
     let size = code.size();
     let mut falls = true;
+    let mut settled = None;
     let mut offset = 0;
     while offset < size {
         let (insn, next) = code.insn_at(offset);
-        if let Some(rule) = step(pass, frame, falls, offset, &insn)? {
+        if let Some(rule) = step(pass, frame, falls, settled, offset, &insn)? {
             return Ok(Some(CodeFault { offset, rule }));
         }
         falls = falls_through(&insn);
@@ -43,6 +58,7 @@ fn walk(
                 rule: VerifyRule::EndOfCode,
             }));
         }
+        settled = settled_by(&insn, offset);
         offset = next;
     }
     Ok(None)

@@ -1,4 +1,4 @@
 pub mod Arms
-pub mod Counts
+pub mod Unwritten
 pub mod Named
 pub mod OnStack

@@ -1,8 +1,13 @@
-//! The law of the rules.
+//! Laws of the rules.
 
-ghost use Rattle.jv_rules.specs.Laws.{KeepsLocalCount};
+ghost use Rattle.jv_rules.specs.Laws.{KeepsLocalCount, KeepsLocals};
 
 /// An instruction leaves as many local variables as there were. The call does nothing.
 pub fn keeps_local_count()
     ensures { KeepsLocalCount }
+{}
+
+/// An instruction of which `keeps_locals` is true leaves the local variables and the flag as they were. The call does nothing.
+pub fn leaves_locals()
+    ensures { KeepsLocals }
 {}

@@ -7,11 +7,13 @@ mod classes;
 mod constants;
 mod effect;
 mod law;
+mod locals;
 mod returns;
 mod rule;
 mod words;
 
 pub use jv_rules_uses as of_rules_uses;
 pub use jv_rules_uses::{MethodContext, constructed_object, of_rules_class as of_rules_class};
-pub use law::keeps_local_count;
+pub use law::{keeps_local_count, leaves_locals};
+pub use locals::keeps_locals;
 pub use rule::apply;

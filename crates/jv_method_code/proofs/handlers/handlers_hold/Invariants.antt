@@ -7,6 +7,7 @@ use Rattle.jv_meaning_typing.specs.Rule.{constructed_object, handler_frame}
 use Rattle.jv_meaning_typing.specs.Typing.{covers, handles}
 use Rattle.jv_rules_types.specs.Typed.{typed}
 use Rattle.jv_rules_frames.specs.Numbered.{frame_of}
+use Rattle.jv_method_code.specs.Inside.Settled.{is_settled}
 use Rattle.jv_method_code.specs.Pass.{IsOfPass, maps_of, names_in}
 use Rattle.jv_method_code.proofs.handlers.handlers_hold.Given as goal
 
@@ -14,4 +15,4 @@ abbrev pub invariant-loop-place : goal.invariant-loop-place
 invariant-loop-place l =
     (env : Environment) (insn : Instruction) → IsOfPass l.pass env
     → option_map (typed (names_in l.pass)) l.object ≡ constructed_object env insn (frame_of (names_in l.pass) l.frame)
-    → list_all (λ h. not (covers h l.offset) || handles env (maps_of l.pass) (handler_frame env insn (frame_of (names_in l.pass) l.frame)) h) (take l.place l.pass.handlers) ≡ true
+    → list_all (λ h. not (covers h l.offset) || is_settled l.settled h || handles env (maps_of l.pass) (handler_frame env insn (frame_of (names_in l.pass) l.frame)) h) (take l.place l.pass.handlers) ≡ true

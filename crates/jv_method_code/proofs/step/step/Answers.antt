@@ -6,6 +6,7 @@ use Rattle.jv_method_code.specs.Inside.Kept.{IsPass}
 use Rattle.jv_method_code.specs.Inside.Walk.{Stands}
 use Rattle.jv_method_code.proofs.Walking.{stand, merge_broken, handler_broken, instruction_broken, target_broken, goes_on}
 use Rattle.jv_method_code.proofs.Flowing.{applied, is_left, is_none_left, as_many}
+use Rattle.jv_method_code.proofs.Settling.{if_some, now_settled, still_settled}
 use Rattle.jv_method_code.proofs.step.step.Goals as goal
 
 pub returns-then-not-branch-clause-step : goal.returns-then-not-branch-clause-step
@@ -98,3 +99,23 @@ returns-clause-locals c = λ none.
     (applied pass entries count kept env is c.pass.inside.context.now insn c.merge.new.frame c.apply.new.frame _ c.args.offset _ (ap (λ (p : Pass). p.context) c.pass.view_is)
     refl c.in_ok-apply.ensures))
     ∙ c.merge.ensures.locals
+
+pub is_handled-requires-clause-settled : goal.is_handled-requires-clause-settled
+is_handled-requires-clause-settled c = λ env is.
+    let pass = c.args.pass.now in
+    still_settled env (maps_of pass) c.args.settled c.settled_at-settled.result c.args.falls (frame_of (names_in pass) c.args.frame.now) (frame_of (names_in pass) c.merge.new.frame) _
+    c.settled_at-settled.ensures.same (if_some c.settled_at-settled.result (λ before there. there env is) c.settled_at-settled.ensures.map)
+    (is_left (names_in pass) _ c.merge.new.frame _ c.if-not-branch.false (c.in_ok-merge.ensures.merged env is)) (c.requires.settled env is)
+
+pub returns-clause-settled : goal.returns-clause-settled
+returns-clause-settled c = λ env is keeps none.
+    let pass = c.args.pass.now in
+    let entries = c.pass.inside.initial.now in
+    let count = c.pass.inside.words in
+    let kept : IsPass pass entries count = subst (λ (p : Pass). IsPass p entries count) c.pass.view_is c.pass.invariant in
+    let insn = instruction_of c.args.insn.now in
+    let x = frame_of (names_in pass) c.merge.new.frame in
+    now_settled env (maps_of pass) c.leaves_locals.ensures c.args.offset insn x (frame_of (names_in pass) c.apply.new.frame) keeps (c.if-not-is_handled.ensures env is)
+    (is_left (names_in pass) _ c.apply.new.frame _ c.if-not-branch-2.false
+    (applied pass entries count kept env is c.pass.inside.context.now insn c.merge.new.frame c.apply.new.frame _ c.args.offset _ (ap (λ (p : Pass). p.context) c.pass.view_is)
+    refl c.in_ok-apply.ensures))

@@ -3,6 +3,8 @@ use Rattle.jv_code.specs.Places.{IsStartOrEnd}
 use Rattle.jv_code.specs.Insns.{instruction_of}
 use Rattle.jv_rules_frames.specs.Numbered.{frame_of}
 use Rattle.jv_method_code.specs.Pass.{Pass, maps_of, names_in}
+use Rattle.jv_rules.specs.Laws.{keeps_locals}
+use Rattle.jv_method_code.proofs.Settling.{settled_by}
 use Rattle.jv_method_code.proofs.Passing.{start_here, at_is, step_broken, at_end, goes_further, is_whole}
 use Rattle.jv_method_code.proofs.walk.walk.Goals.{else-falls-via-then-falls+else-next-size, else-falls-via-else-falls}
 use Rattle.jv_method_code.proofs.walk.walk.Goals as goal
@@ -50,6 +52,8 @@ loop-offset-preserved c =
           goes_further c.stands_in_list.ensures c.starts_apart.ensures env is.is maps c.args.pass.now.context.code c.code-code.result.now.bytes.now c.size-size.result c.loop-offset.offset
           c.insn_at-next.result.1 insn left c.in_ok-rule.field-0 c.falls_through-falls.result code is.context.code c.size-size.ensures.bytes c.insn_at-next.ensures.insn c.insn_at-next.ensures.next
           c.falls_through-falls.ensures not_last c.in_default.is (c.in_ok-rule.ensures.step env is at (c.loop-offset.invariant.2 env is r).reaches),
+      λ env is. settled_by env (maps_of c.args.pass.now) (keeps_locals (instruction_of c.insn_at-next.result.0)) c.settled_by-settled.result c.loop-offset.offset
+          (frame_of (names_in c.args.pass.now) c.step.new.frame) c.settled_by-settled.ensures (λ keeps. c.in_ok-rule.ensures.settled env is keeps c.in_default.is),
     )
   where
     clash : false ≡ true → ⊥

@@ -1,4 +1,4 @@
-use Rattle.jv_rules.proofs.Counts.{keeps_local_count}
+use Rattle.jv_rules.proofs.Unwritten.{keeps_local_count}
 use Rattle.jv_rules.proofs.law.keeps_local_count.Goals as goal
 
 pub returns : goal.returns
