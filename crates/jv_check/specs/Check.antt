@@ -1,10 +1,14 @@
 -- What the program says of the files of a guest (JVMS 4.10, 5.3.5).
-use Rattle.std.specs.Prelude.{◌≡◌, ℕ, List, None, string_bytes}
+use Rattle.std.specs.Prelude.{◌≡◌, ℕ, ⊤, false, List, None, Some, string_bytes}
 use Rattle.jv_loader_files.specs.FileContent.{FileContent, AreContents}
+use Rattle.jv_loader_system.specs.SystemClasses.{system_classes}
+use Rattle.jv_loader_world.specs.World.{world_of}
 use Rattle.jv_meaning_typing.specs.declared.verdict.Verdict.{Verdict}
-use Rattle.jv_method.specs.Files.{AreVerdicts}
+use Rattle.jv_method.specs.Files.{AreVerdicts, IsSystemTold}
+use Rattle.jv_run.specs.declared.failure.Failure.{Failure}
+use Rattle.jv_run.specs.declared.failure.Failure.TheVariants.{Unreadable, Refused, Stuck, HostMemory, SystemBroken, Memory}
 use Rattle.jv_run.specs.declared.outcome.Outcome.{Outcome}
-use Rattle.jv_check.specs.Limits.{first_refusal}
+use Rattle.jv_check.specs.Limits.{first_file_refusal}
 use Rattle.jv_check.specs.Text.{check_text, check_status}
 
 -- the verdicts on the files of one guest, in their order
@@ -15,8 +19,31 @@ pub record AreVerdictsOf (files : List (List ℕ)) (verdicts : List Verdict) : T
 
 -- The files are within the limits; the text has a line for each, and the status goes with the verdicts.
 pub record IsChecked (names files : List (List ℕ)) (outcome : Outcome) : Type 0 where
-  pub allowed : first_refusal files ≡ None
+  pub allowed : first_file_refusal files ≡ None
   pub verdicts : List Verdict
   pub right : AreVerdictsOf files verdicts
   pub report : string_bytes outcome.report ≡ check_text names verdicts
   pub status : outcome.status ≡ check_status verdicts
+
+-- ---- files that are not checked
+
+-- a class of the system is not accepted beside these files
+pub record IsSystemBroken (files : List (List ℕ)) : Type 0 where
+  pub contents : List FileContent
+  pub read : AreContents files contents
+  pub refused : IsSystemTold (world_of system_classes contents) false
+
+-- why files within the limits were not checked: the host's memory was refused, the system is broken, or the program's memory
+-- was refused
+abbrev pub IsHostFailure : List (List ℕ) → Failure → Type 0
+IsHostFailure files (Unreadable name) = ⊥
+IsHostFailure files (Refused fault) = ⊥
+IsHostFailure files Stuck = ⊥
+IsHostFailure files HostMemory = ⊤
+IsHostFailure files SystemBroken = IsSystemBroken files
+IsHostFailure files Memory = ⊤
+
+-- why files were not checked: they are refused, for the first reason that applies; or they are within the limits
+abbrev pub IsCheckFailure : List (List ℕ) → Failure → Type 0
+IsCheckFailure files (Refused fault) = first_file_refusal files ≡ Some fault
+IsCheckFailure files failure = (first_file_refusal files ≡ None) × IsHostFailure files failure

@@ -1,3 +1,4 @@
 pub mod Check
+pub mod Inside
 pub mod Limits
 pub mod Text

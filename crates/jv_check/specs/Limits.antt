@@ -1,25 +1,14 @@
 -- The limits on the files that are checked, and the order in which they are refused (own).
-use Rattle.std.specs.Prelude.{◌≡◌, ℕ, nat_lt, ◌==◌, if◌then◌else◌, List, length, Option, Some, None}
+use Rattle.std.specs.Prelude.{ℕ, nat_lt, ◌==◌, if◌then◌else◌, List, length, Option, Some, None}
 use Rattle.std.specs.List.{list_any}
 use Rattle.jv_host.specs.declared.fault.AdmitFault.{AdmitFault}
 use Rattle.jv_host.specs.declared.fault.AdmitFault.TheVariants.{NoFiles, TooManyFiles, FileTooLong}
 use Rattle.jv_host.specs.Limits.{is_long_file}
-use Rattle.jv_run.specs.declared.failure.Failure.{Failure}
-use Rattle.jv_run.specs.declared.failure.Failure.TheVariants.{Unreadable, Refused, Stuck, HostMemory, Memory}
 
 -- The first reason to refuse files: there are 1 to 1,024, none of them longer than a file may be.
-abbrev pub first_refusal : List (List ℕ) → Option AdmitFault
-first_refusal files =
+abbrev pub first_file_refusal : List (List ℕ) → Option AdmitFault
+first_file_refusal files =
     if length files == 0 then Some NoFiles
     else if nat_lt 1024 (length files) then Some TooManyFiles
     else if list_any is_long_file files then Some FileTooLong
     else None
-
--- Why files were not checked: they are refused, for the first reason that applies; or they are not, and the program's
--- memory was.
-abbrev pub IsCheckFailure : List (List ℕ) → Failure → Type 0
-IsCheckFailure files (Unreadable name) = ⊥
-IsCheckFailure files (Refused fault) = first_refusal files ≡ Some fault
-IsCheckFailure files Stuck = ⊥
-IsCheckFailure files HostMemory = ⊥
-IsCheckFailure files Memory = first_refusal files ≡ None

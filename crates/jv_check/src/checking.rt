@@ -1,14 +1,14 @@
 //! The verdicts on files, and what is said of them.
-ghost use Rattle.std.specs.Prelude.{◌≡◌, IfErr, IfOk, map, string_bytes};
+ghost use Rattle.std.specs.Prelude.{◌≡◌, IfErr, IfOk, length, map, string_bytes};
 ghost use Rattle.std.specs.List.{list_all};
 ghost use Rattle.jv_meaning.specs.Guest.{bytes_of};
-ghost use Rattle.jv_check.specs.Check.{AreVerdictsOf, IsChecked};
-ghost use Rattle.jv_check.specs.Limits.{IsCheckFailure};
+ghost use Rattle.jv_check.specs.Check.{AreVerdictsOf, IsChecked, IsCheckFailure, IsHostFailure};
+ghost use Rattle.jv_check.specs.Inside.Verified.{AreFilesOf};
 ghost use Rattle.jv_check.specs.Text.{check_status, check_text, is_accepted};
 
-use crate::limits::first_refusal;
+use crate::limits::first_file_refusal;
 use crate::report::Lines;
-use jv_loader::{Classes, Memory, system_files};
+use jv_loader::{Classes, Memory, SystemFiles, system_files};
 use jv_meaning_typing::Verdict;
 use jv_method::{Verified, verify};
 use jv_run::{Failure, Outcome};
@@ -47,13 +47,33 @@ fn listed(alloc: Global, verified: &Verified<'_>) -> Result<Vec<Verdict>, AllocE
     Ok(verdicts)
 }
 
-/// The verdicts on the files of one guest.
-fn verdicts_of(alloc: Global, state: RandomState, files: &[&[u8]]) -> Result<Vec<Verdict>, Memory>
-    ensures { IfOk result (λ verdicts. AreVerdictsOf (map bytes_of files.now) verdicts.items) }
+/// The classes of the files of one guest, with the verdicts on them.
+fn verified<'a>(
+    alloc: Global,
+    state: RandomState,
+    system: &'a SystemFiles,
+    files: &'a [&'a [u8]],
+) -> Result<Verified<'a>, Memory>
+    ensures { IfOk result (AreFilesOf (map bytes_of files.now)) }
 {
-    let system = system_files(alloc)?;
-    let classes = Classes::load(alloc, state, &system, files)?;
-    let verified = verify(alloc, state, classes)?;
+    let classes = Classes::load(alloc, state, system, files)?;
+    Ok(verify(alloc, state, classes)?)
+}
+
+/// The verdicts on the files of one guest.
+fn verdicts_of(alloc: Global, state: RandomState, files: &[&[u8]]) -> Result<Vec<Verdict>, Failure>
+    ensures ok { IfOk result (λ verdicts. AreVerdictsOf (map bytes_of files.now) verdicts.items) }
+    ensures err { IfErr result (IsHostFailure (map bytes_of files.now)) }
+{
+    let Ok(system) = system_files(alloc) else {
+        return Err(Failure::Memory);
+    };
+    let Ok(verified) = verified(alloc, state, &system, files) else {
+        return Err(Failure::HostMemory);
+    };
+    if !verified.system_accepted() {
+        return Err(Failure::SystemBroken);
+    }
     Ok(listed(alloc, &verified)?)
 }
 
@@ -68,23 +88,28 @@ fn outcome_of(alloc: Global, names: &[&[u8]], verdicts: &[Verdict]) -> Result<Ou
     Ok(Outcome { report, status })
 }
 
-/// Takes files of these names as those of one guest, runs nothing, and says of each what its verdict
-/// is.
+/// Takes files of these names, as many as there are files, as those of one guest, runs nothing, and says of each what its
+/// verdict is.
+///
+/// # Errors
+///
+/// `Refused` where there are no files, more than 1,024, or one of more than 4,194,304 bytes; else `HostMemory` where the
+/// host had no memory for the classes, `SystemBroken` where a class of the system is not accepted, and `Memory` where the
+/// program had none for the system's files, the verdicts or the text.
 pub fn check_files(
     alloc: Global,
     state: RandomState,
     names: &[&[u8]],
     files: &[&[u8]],
 ) -> Result<Outcome, Failure>
+    requires { length names.now ≡ length files.now }
     ensures ok { IfOk result (λ outcome.
         IsChecked (map bytes_of names.now) (map bytes_of files.now) outcome) }
     ensures err { IfErr result (λ failure. IsCheckFailure (map bytes_of files.now) failure) }
 {
-    if let Some(fault) = first_refusal(files) {
+    if let Some(fault) = first_file_refusal(files) {
         return Err(Failure::Refused(fault));
     }
-    let Ok(verdicts) = verdicts_of(alloc, state, files) else {
-        return Err(Failure::Memory);
-    };
+    let verdicts = verdicts_of(alloc, state, files)?;
     Ok(outcome_of(alloc, names, verdicts.as_slice())?)
 }

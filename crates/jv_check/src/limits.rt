@@ -3,7 +3,7 @@ ghost use Rattle.std.specs.Prelude.{◌≡◌, ◌==◌, length, map, nat_lt};
 ghost use Rattle.std.specs.List.{list_any};
 ghost use Rattle.jv_host.specs.Limits.{is_long_file};
 ghost use Rattle.jv_meaning.specs.Guest.{bytes_of};
-ghost use Rattle.jv_check.specs.Limits.{first_refusal};
+ghost use Rattle.jv_check.specs.Limits.{first_file_refusal};
 
 use jv_host::AdmitFault;
 
@@ -47,8 +47,8 @@ fn has_long_file(files: &[&[u8]]) -> bool
 }
 
 /// The first reason to refuse files.
-pub fn first_refusal(files: &[&[u8]]) -> Option<AdmitFault>
-    ensures { result ≡ first_refusal (map bytes_of files.now) }
+pub fn first_file_refusal(files: &[&[u8]]) -> Option<AdmitFault>
+    ensures { result ≡ first_file_refusal (map bytes_of files.now) }
 {
     if has_no_files(files) {
         Some(AdmitFault::NoFiles)

@@ -1,3 +1,4 @@
 pub mod Shown
 pub mod Numbered
 pub mod Placed
+pub mod InSystem

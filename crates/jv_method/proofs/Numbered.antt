@@ -99,6 +99,16 @@ number_of system earlier world (Holds class) =
     ap (λ (cs : List Class). length system + length cs) (class_joins system earlier world class)
     ∙ one_more (length system) (classes_in earlier) class (joins (verdict_behind system earlier world (Holds class)))
 
+-- what is wrong with a file whose class is one of the world's is wrong with the class
+pub joined_verdict : (system : List Class) (earlier : List FileContent) (world : World) (class : Class) → IsTrue (joins (verdict_behind system earlier world (Holds class)))
+    → verdict_behind system earlier world (Holds class) ≡ verdict_of_class world (loaded false class)
+joined_verdict system earlier world class on = by_tests (is_reserved class.name) (has_class (classes_in earlier) class.name) (verdict_of_class world (loaded false class)) on
+  where
+    by_tests : (r h : Bool) (v : Option LoadVerdict) → IsTrue (joins (cond r (Some Reserved) (cond h (Some Duplicate) v))) → cond r (Some Reserved) (cond h (Some Duplicate) v) ≡ v
+    by_tests true h v on = absurd cc
+    by_tests false true v on = absurd cc
+    by_tests false false v on = refl
+
 must_hold : (system : List Class) (earlier : List FileContent) (world : World) (f : FileContent) → IsTrue (joins (verdict_behind system earlier world f)) → (class : Class) × (f ≡ Holds class)
 must_hold system earlier world OtherVersion h = absurd cc
 must_hold system earlier world NoClassFile h = absurd cc

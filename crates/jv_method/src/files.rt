@@ -15,7 +15,7 @@ use std::alloc::{AllocError, Global};
 use std::hash::RandomState;
 
 // How many classes of the system there are, behind which those of the files are numbered.
-const SYSTEM_COUNT: usize = 33;
+pub(crate) const SYSTEM_COUNT: usize = 33;
 
 /// The verdict on a class whose methods decide.
 fn verdict_on(fault: Option<VerifyFault>) -> Verdict
@@ -28,7 +28,7 @@ fn verdict_on(fault: Option<VerifyFault>) -> Verdict
 }
 
 /// The verdict on a file whose class has a number, where its methods decide.
-fn verdict_of<'a>(
+pub(crate) fn verdict_of<'a>(
     alloc: Global,
     state: RandomState,
     classes: &Classes<'a>,
@@ -45,7 +45,7 @@ fn verdict_of<'a>(
 }
 
 /// Whether the class of a file is one of the world's.
-fn joins(why: Option<LoadVerdict>) -> bool
+pub(crate) fn joins(why: Option<LoadVerdict>) -> bool
     ensures { result ≡ joins why }
 {
     match why {
@@ -59,7 +59,7 @@ fn joins(why: Option<LoadVerdict>) -> bool
 }
 
 /// The number that the class of the next file has.
-fn next_number(classes: &Classes<'_>, number: usize, why: Option<LoadVerdict>) -> usize
+pub(crate) fn next_number(classes: &Classes<'_>, number: usize, why: Option<LoadVerdict>) -> usize
     requires { IsTrue (joins why) → number < length classes.now.world }
     ensures { result ≡ next_number number why }
 {

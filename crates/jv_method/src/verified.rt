@@ -3,9 +3,10 @@
 ghost use Rattle.std.specs.Prelude.{◌≡◌, ◌<◌, ℕ, List, Some, IfOk, length, slice_get};
 ghost use Rattle.jv_loader.specs.Loading.{AreLoaded};
 ghost use Rattle.jv_loader_files.specs.FileContent.{FileContent};
-ghost use Rattle.jv_method.specs.Files.{AreVerified, AcceptedAreTyped};
+ghost use Rattle.jv_method.specs.Files.{AreVerified, AcceptedAreTyped, IsOfFiles, SystemIsTyped};
 
 use crate::files::verdicts_of;
+use crate::system::is_system_accepted;
 use jv_loader::Classes;
 use jv_meaning_typing::Verdict;
 use std::alloc::{AllocError, Global};
@@ -16,6 +17,7 @@ use std::marker::Model;
 pub struct Verified<'a> {
     classes: Classes<'a>,
     verdicts: Vec<Verdict>,
+    is_system_accepted: bool,
 }
 
 impl<'a> Model for Verified<'a> {
@@ -23,9 +25,9 @@ impl<'a> Model for Verified<'a> {
 
     ghost Value = { Verified };
 
-    ghost view = { λ v. record { world = v.classes.world; verdicts = v.verdicts.items } };
+    ghost view = { λ v. record { world = v.classes.world; verdicts = v.verdicts.items; system_accepted = v.is_system_accepted } };
 
-    ghost invariant = { λ v. IsOfFiles (record { world = v.classes.world; verdicts = v.verdicts.items }) };
+    ghost invariant = { λ v. IsOfFiles (record { world = v.classes.world; verdicts = v.verdicts.items; system_accepted = v.is_system_accepted }) };
 }
 
 impl Drop for Verified<'_> {
@@ -33,6 +35,7 @@ impl Drop for Verified<'_> {
         let Verified {
             classes: _,
             verdicts: _,
+            is_system_accepted: _,
         } = self;
     }
 }
@@ -51,7 +54,12 @@ pub fn verify<'a>(
     ensures { IfOk result (λ v. (files : List (List ℕ)) (are : AreLoaded files classes.entry) → AreVerified are.contents v) }
 {
     let verdicts = verdicts_of(alloc, state, &classes)?;
-    Ok(Verified { classes, verdicts })
+    let is_system_accepted = is_system_accepted(alloc, state, &classes)?;
+    Ok(Verified {
+        classes,
+        verdicts,
+        is_system_accepted,
+    })
 }
 
 impl<'a> Verified<'a> {
@@ -77,9 +85,19 @@ impl<'a> Verified<'a> {
         self.verdicts[file]
     }
 
-    /// Each method with code of a class whose file is accepted has a typing (JVMS 4.10.1). The call does nothing.
+    /// Whether each class of the system is accepted (JVMS 4.10).
+    pub fn system_accepted(&self) -> bool
+        ensures { result ≡ self.now.system_accepted }
+    {
+        self.is_system_accepted
+    }
+
+    /// There are files that these are the verdicts on; each method with code of a class whose file is accepted has a typing
+    /// (JVMS 4.10.1), and so has each one of the system's classes, where these are accepted. The call does nothing.
     pub fn are_typed(&self)
-        ensures { (contents : List FileContent) × AreVerified contents self.now × AcceptedAreTyped contents self.now }
+        ensures files { IsOfFiles self.now }
+        ensures accepted { (contents : List FileContent) → AreVerified contents self.now → AcceptedAreTyped contents self.now }
+        ensures system { SystemIsTyped self.now }
     {
         let _verdicts = &self.verdicts;
     }

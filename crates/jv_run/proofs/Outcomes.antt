@@ -10,7 +10,7 @@ use Rattle.jv_host.specs.Host.{Admission, WasRunning, IsStuckAfter}
 use Rattle.jv_host.specs.Calls.{admission}
 use Rattle.jv_host.specs.Limits.{first_refusal}
 use Rattle.jv_run.specs.declared.failure.Failure.{Failure}
-use Rattle.jv_run.specs.declared.failure.Failure.TheVariants.{Unreadable, Refused, Stuck, HostMemory, Memory}
+use Rattle.jv_run.specs.declared.failure.Failure.TheVariants.{Unreadable, Refused, Stuck, HostMemory, SystemBroken, Memory}
 use Rattle.jv_run.specs.declared.outcome.Outcome.{Outcome}
 use Rattle.jv_run.specs.Failure.{failure_of}
 use Rattle.jv_run.specs.Outcome.{budget, IsReported, IsGuestFailure}
@@ -95,6 +95,7 @@ module _ (g : Guest) (before : List Admission) (none : before ≡ []) where
   stopped started id (Unreadable name) number start free h = h
   stopped started id (Refused fault) number start free h = absurd h
   stopped started id HostMemory number start free h = allowed free
+  stopped started id SystemBroken number start free h = absurd h
   stopped started id Memory number start free h = absurd h
   stopped started id Stuck number start free h =
       let guest : h.guest ≡ admission g budget = some_same h.guest (admission g budget) (sym h.found ∙ is_first g before started id none number start) in

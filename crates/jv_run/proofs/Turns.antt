@@ -10,7 +10,7 @@ use Rattle.jv_meaning.specs.Thin.Alone.{Shows, IsRunningAfter, IsOverAfter, Faul
 use Rattle.jv_host.specs.Host.{Admission, WasRunning, IsFullTurn, IsStuckAfter, after_steps}
 use Rattle.jv_host.specs.Calls.{IsTurn, IsCutTurn, IsShown}
 use Rattle.jv_run.specs.declared.failure.Failure.{Failure}
-use Rattle.jv_run.specs.declared.failure.Failure.TheVariants.{Unreadable, Refused, Stuck, HostMemory, Memory}
+use Rattle.jv_run.specs.declared.failure.Failure.TheVariants.{Unreadable, Refused, Stuck, HostMemory, SystemBroken, Memory}
 use Rattle.jv_run.specs.Inside.Play.{IsPlayed, IsPlayFailure, IsStuckWithin}
 
 -- a guest after so many further steps
@@ -157,6 +157,7 @@ pub failure_later : (old mid : List Admission) (id rounds : ℕ) (failure : Fail
 failure_later old mid id rounds (Unreadable name) few played h = h
 failure_later old mid id rounds (Refused fault) few played h = h
 failure_later old mid id rounds HostMemory few played h = h
+failure_later old mid id rounds SystemBroken few played h = h
 failure_later old mid id rounds Memory few played h = h
 failure_later old mid id rounds Stuck few (inl none) h =
     let x : IsStuckWithin old id 1000 = subst (λ (gs : List Admission). IsStuckWithin gs id 1000) none.1 h in

@@ -4,15 +4,16 @@ use Rattle.jv_host.specs.declared.fault.AdmitFault.{AdmitFault}
 use Rattle.jv_host.specs.declared.fault.AdmitFault.TheVariants as refusals
 use Rattle.jv_host.specs.Fault.{admit_fault_name}
 use Rattle.jv_run.specs.declared.failure.Failure.{Failure}
-use Rattle.jv_run.specs.declared.failure.Failure.TheVariants.{Unreadable, Refused, Stuck, HostMemory, Memory}
+use Rattle.jv_run.specs.declared.failure.Failure.TheVariants.{Unreadable, Refused, Stuck, HostMemory, SystemBroken, Memory}
 use Rattle.jv_run.specs.Escape.{escaped_text}
 
--- 4 where memory was refused or a step is stuck, and else 3
+-- 4 where memory was refused, a step is stuck or the system is broken, and else 3
 abbrev pub failure_status : Failure → ℕ
 failure_status (Unreadable name) = 3
 failure_status (Refused fault) = 3
 failure_status Stuck = 4
 failure_status HostMemory = 4
+failure_status SystemBroken = 4
 failure_status Memory = 4
 
 -- the reason, as it is printed
@@ -21,6 +22,7 @@ failure_reason (Unreadable name) = escaped_text name.items ++ codes ": cannot be
 failure_reason (Refused fault) = admit_fault_name fault
 failure_reason Stuck = codes "Stuck"
 failure_reason HostMemory = codes "HostMemory"
+failure_reason SystemBroken = codes "SystemBroken"
 failure_reason Memory = codes "Memory"
 
 -- the line on standard error

@@ -7,7 +7,7 @@ use Rattle.jv_meaning.specs.Guest.{Guest, bytes_of, observed_of}
 use Rattle.jv_meaning.specs.Thin.Alone.{Shows, IsRunningAfter, IsOverAfter, FaultsWithin}
 use Rattle.jv_host.specs.Limits.{first_refusal}
 use Rattle.jv_run.specs.declared.failure.Failure.{Failure}
-use Rattle.jv_run.specs.declared.failure.Failure.TheVariants.{Unreadable, Refused, Stuck, HostMemory, Memory}
+use Rattle.jv_run.specs.declared.failure.Failure.TheVariants.{Unreadable, Refused, Stuck, HostMemory, SystemBroken, Memory}
 use Rattle.jv_run.specs.declared.folder.Folder.{Folder}
 use Rattle.jv_run.specs.declared.outcome.Outcome.{Outcome}
 use Rattle.jv_run.specs.Folder.{file_name, guest_in}
@@ -43,6 +43,7 @@ IsGuestFailure g (Unreadable name) = ⊥
 IsGuestFailure g (Refused fault) = first_refusal g budget 0 ≡ Some fault
 IsGuestFailure g Stuck = (first_refusal g budget 0 ≡ None) × IsStuckAlone g
 IsGuestFailure g HostMemory = first_refusal g budget 0 ≡ None
+IsGuestFailure g SystemBroken = ⊥
 IsGuestFailure g Memory = ⊤
 
 -- ---- a folder's

@@ -19,6 +19,8 @@ pub enum Failure {
     Stuck,
     /// The host's memory was refused.
     HostMemory,
+    /// A class of the system is not accepted.
+    SystemBroken,
     /// The program's own memory was refused.
     Memory,
 }
@@ -29,7 +31,7 @@ pub fn status_of(failure: &Failure) -> u8
 {
     match failure {
         Failure::Unreadable(_) | Failure::Refused(_) => 3,
-        Failure::Stuck | Failure::HostMemory | Failure::Memory => 4,
+        Failure::Stuck | Failure::HostMemory | Failure::SystemBroken | Failure::Memory => 4,
     }
 }
 
@@ -45,6 +47,7 @@ impl fmt::Display for Failure {
             Failure::Refused(fault) => write!(f, "jvhost: {fault}\n"),
             Failure::Stuck => write!(f, "jvhost: Stuck\n"),
             Failure::HostMemory => write!(f, "jvhost: HostMemory\n"),
+            Failure::SystemBroken => write!(f, "jvhost: SystemBroken\n"),
             Failure::Memory => write!(f, "jvhost: Memory\n"),
         }
     }

@@ -1,9 +1,10 @@
 -- The status of the program where there is no report.
-use Rattle.std.specs.Prelude.{◌≡◌, ◌≢◌, ◌⊎◌, ℕ}
+use Rattle.std.specs.Prelude.{◌≡◌, ◌≢◌, ◌⊎◌, ℕ, Result, Ok, Err}
 use Rattle.clap.specs.Values.{kind_of}
 use Rattle.clap.specs.declared.error.kind.ErrorKind.{ErrorKind}
 use Rattle.clap.specs.declared.error.kind.ErrorKind.TheVariants as kinds
 use Rattle.jv_run.specs.Failure.{failure_status}
+use Rattle.jv_run.specs.declared.outcome.Outcome.{Outcome}
 use Rattle.jvhost.specs.declared.stop.Stop.{Stop}
 use Rattle.jvhost.specs.declared.stop.Stop.TheVariants.{CommandLine, Run}
 
@@ -15,3 +16,8 @@ pub record HasWordStatus (kind : ErrorKind) (status : ℕ) : Type 0 where
 abbrev pub HasStatus : Stop → ℕ → Type 0
 HasStatus (CommandLine error) status = HasWordStatus (kind_of error) status
 HasStatus (Run failure) status = status ≡ failure_status failure
+
+-- the status of the program: that of its report, where there is one
+abbrev pub IsStatusOf : Result Outcome Stop → ℕ → Type 0
+IsStatusOf (Ok outcome) status = status ≡ outcome.status
+IsStatusOf (Err stop) status = HasStatus stop status

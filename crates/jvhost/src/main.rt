@@ -1,6 +1,8 @@
 //! Checks class files, or runs those of a folder as one guest, and reports what was found.
 #![tactic(auto)]
 
+ghost use Rattle.jvhost.specs.Stop.{IsStatusOf};
+
 mod check;
 mod command_line;
 mod stop;
@@ -37,21 +39,28 @@ fn print_stop<R: Print + Eprint>(rt: &R, stop: &Stop) {
     };
 }
 
-/// Does what the words of the command line say, and gives the status to end with. A write that
-/// fails changes no status.
-fn status_of_command<R: Files + Env + RandomSource + Print + Eprint + AllocGlobal>(rt: &R) -> u8 {
-    match carry_out(rt) {
+/// Prints the report on standard output, or why there is none. A write that fails changes nothing.
+fn print_end<R: Print + Eprint>(rt: &R, end: &Result<Outcome, Stop>) {
+    match end {
         Ok(outcome) => {
             let _ = rt.print(outcome.report.as_str());
-            outcome.status
         }
-        Err(stop) => {
-            print_stop(rt, &stop);
-            stop.status()
-        }
+        Err(stop) => print_stop(rt, stop),
+    }
+}
+
+/// The status to end with.
+fn status_of(end: &Result<Outcome, Stop>) -> u8
+    ensures { IsStatusOf end.now result }
+{
+    match end {
+        Ok(outcome) => outcome.status,
+        Err(stop) => stop.status(),
     }
 }
 
 fn main(rt: HostRuntime) -> ExitCode {
-    ExitCode::from(status_of_command(&rt))
+    let end = carry_out(&rt);
+    print_end(&rt, &end);
+    ExitCode::from(status_of(&end))
 }

@@ -1,15 +1,15 @@
 -- The numbers of the classes of a guest's files (JVMS 5.3), and the verdicts on the files one by one.
-use Rattle.std.specs.Prelude.{◌≡◌, ℕ, ◌+◌, Bool, true, false, List, length, take, Option, Some, None, slice_get, if◌then◌else◌}
+use Rattle.std.specs.Prelude.{◌≡◌, ◌<◌, ◌≤◌, ◌⊎◌, ℕ, ◌+◌, Bool, true, false, List, length, take, Option, Some, None, slice_get, if◌then◌else◌}
 use Rattle.jv_class.specs.Class.{Class}
 use Rattle.jv_loader_files.specs.FileContent.{FileContent}
 use Rattle.jv_loader_system.specs.SystemClasses.{system_classes}
 use Rattle.jv_loader_world.specs.declared.verdict.LoadVerdict.{LoadVerdict}
 use Rattle.jv_loader_world.specs.declared.verdict.LoadVerdict.TheVariants.{Version, Format, Unsupported, Reserved, Duplicate}
-use Rattle.jv_loader_world.specs.World.{World, classes_in}
+use Rattle.jv_loader_world.specs.World.{Loaded, World, classes_in}
 use Rattle.jv_loader_classes.specs.Inside.Told.{IsAt}
 use Rattle.jv_meaning_typing.specs.declared.verdict.Verdict.{Verdict}
 use Rattle.jv_meaning_typing.specs.declared.verdict.Verdict.TheVariants as verdicts
-use Rattle.jv_meaning_typing.specs.Judgement.{IsVerdictOfMethods, IsVerdictOfFile}
+use Rattle.jv_meaning_typing.specs.Judgement.{AreTyped, IsVerdictOfMethods, IsVerdictOfFile}
 
 -- the class of a file is one of the world's, where this is wrong with the file before its methods are looked at
 abbrev pub joins : Option LoadVerdict → Bool
@@ -38,3 +38,12 @@ pub record AreVerdictsBelow (contents : List FileContent) (below next : ℕ) (ve
   pub number : next ≡ number_behind system_classes (take below contents)
   pub count : length verdicts ≡ below
   pub verdict : (place : ℕ) (v : Verdict) → slice_get verdicts place ≡ Some v → IsVerdictOfFile system_classes contents place v
+
+-- the files before one are passed, in search of the class with a number: it is the system's, or none of their classes
+pub record IsPassed (contents : List FileContent) (file number class : ℕ) : Type 0 where
+  pub number_is : number ≡ number_behind system_classes (take file contents)
+  pub before : class < length system_classes ⊎ number ≤ class
+
+-- each method with code of the first classes has a typing
+abbrev pub AreTypedBelow : World → ℕ → Type 0
+AreTypedBelow world below = (place : ℕ) (l : Loaded) → place < below → slice_get world place ≡ Some l → AreTyped world l l.class.methods

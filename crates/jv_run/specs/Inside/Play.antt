@@ -7,7 +7,7 @@ use Rattle.jv_meaning.specs.Thin.Alone.{IsRunningAfter, IsOverAfter}
 use Rattle.jv_host.specs.Calls.{IsTurn, IsShown}
 use Rattle.jv_host.specs.Host.{Admission, WasRunning, IsStuckAfter}
 use Rattle.jv_run.specs.declared.failure.Failure.{Failure}
-use Rattle.jv_run.specs.declared.failure.Failure.TheVariants.{Unreadable, Refused, Stuck, HostMemory, Memory}
+use Rattle.jv_run.specs.declared.failure.Failure.TheVariants.{Unreadable, Refused, Stuck, HostMemory, SystemBroken, Memory}
 use Rattle.jv_run.specs.declared.outcome.Outcome.{Outcome}
 use Rattle.jv_run.specs.Outcome.{budget}
 use Rattle.jv_run.specs.Report.{report_text, end_status}
@@ -31,6 +31,7 @@ IsPlayFailure guests id n (Unreadable name) = ⊥
 IsPlayFailure guests id n (Refused fault) = ⊥
 IsPlayFailure guests id n Stuck = IsStuckWithin guests id n
 IsPlayFailure guests id n HostMemory = ⊤
+IsPlayFailure guests id n SystemBroken = ⊥
 IsPlayFailure guests id n Memory = ⊥
 
 -- ---- a guest with the program's budget

@@ -9,3 +9,6 @@ returns-in-Stuck-2 c = search rules
 
 pub returns-in-Stuck-3 : goal.returns-in-Stuck-3
 returns-in-Stuck-3 c = search rules
+
+pub returns-in-Stuck-4 : goal.returns-in-Stuck-4
+returns-in-Stuck-4 c = search rules
