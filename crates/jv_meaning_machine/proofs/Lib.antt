@@ -1,3 +1,15 @@
 mod Ended
 mod Contents
 mod Mains
+mod Leading
+mod KeptMemory
+mod KeptDone
+mod KeptArrays
+mod KeptCalls
+mod KeptInstructions
+mod KeptControl
+mod KeptSteps
+mod KeptAlone
+mod Stores
+mod StoreInstructions
+mod Shown

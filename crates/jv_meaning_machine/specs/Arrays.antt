@@ -179,7 +179,8 @@ arrays_made components (count ∷ more) number =
 abbrev pub push_arrays : Moment → FieldTypeOf (List ℕ) → List ℕ → List Value → Option Memory → Done
 push_arrays m components counts below None = lacks_memory m
 push_arrays m components counts below (Some memory) =
-    goes_on_with m (with_objects (arrays_made components counts (next_object memory)) memory) (Reference (next_object memory) ∷ below)
+    goes_on_with m (with_objects (arrays_made components counts (next_object memory)) memory)
+    (Reference (next_object memory) ∷ below)
 
 abbrev pub make_array : Moment → FieldTypeOf (List ℕ) → ℤ → List Value → Done
 make_array m components (negsuc n) below = raises m negative_size

@@ -13,8 +13,9 @@ use Rattle.jv_loader_world.specs.World.{Loaded, World, class_named}
 use Rattle.jv_loader_world.specs.Overriding.{Declared}
 use Rattle.jv_loader_world.specs.Verdicts.{is_interface}
 use Rattle.jv_meaning_linking.specs.Uses.{Use}
-use Rattle.jv_meaning_linking.specs.Uses.Use.{Invokestatic, Invokevirtual, Invokespecial}
-use Rattle.jv_meaning_linking.specs.Operands.{method_operand}
+use Rattle.jv_meaning_linking.specs.Uses.Use.{Invokestatic, Invokevirtual, Invokespecial, Invokeinterface}
+use Rattle.jv_meaning_linking.specs.Operands.{MethodConstant, method_operand}
+use Rattle.jv_meaning_linking.specs.Operands.MethodConstant.{Methodref, InterfaceMethodref}
 use Rattle.jv_meaning_linking.specs.MethodResolution.{MethodTarget, resolve_method}
 use Rattle.jv_meaning_linking.specs.Selection.{select}
 use Rattle.jv_meaning_typing.specs.Environment.{current_class}
@@ -118,7 +119,10 @@ construct m t arguments _ below = Err TagFault
 -- what entering an `<init>` makes of its object: java/lang/Object's makes it constructed
 abbrev pub entered_on : Declared → Instance → Object
 entered_on d instance =
-    InstanceOf (record instance { entered = Some d.by.class.name; constructed = bytes_eq d.by.class.name (codes "java/lang/Object") })
+    InstanceOf (record instance {
+      entered = Some d.by.class.name;
+      constructed = bytes_eq d.by.class.name (codes "java/lang/Object");
+    })
 
 -- ---- all of them
 
@@ -136,9 +140,18 @@ abbrev pub call_target : Moment → Use → MethodDescriptor → MethodTarget �
 call_target m Invokestatic descriptor t = once_initialized m t.declared.by (call_static m descriptor t)
 call_target m how descriptor t = call_instance m how descriptor t
 
+-- invokevirtual takes a Methodref and invokeinterface an InterfaceMethodref; the others take either
+abbrev pub is_constant_for : Use → MethodConstant → Bool
+is_constant_for Invokevirtual Methodref = true
+is_constant_for Invokevirtual InterfaceMethodref = false
+is_constant_for Invokeinterface Methodref = false
+is_constant_for Invokeinterface InterfaceMethodref = true
+is_constant_for how constant = true
+
 abbrev pub call : Moment → Use → ℕ → Done
 call m how index =
     found OffsetFault (method_operand (current_class (method_at m)) index) >>= λ reference.
+    tested OffsetFault (is_constant_for how reference.constant) reference >>= λ reference.
     found OffsetFault (method_type_of reference.member.descriptor) >>= λ descriptor.
     unless_error m (resolve_method (world_at m) (site_at m) how reference) (call_target m how descriptor)
 

@@ -7,10 +7,12 @@ use Rattle.jv_code.specs.declared.kinds.ValueKind.TheVariants as kinds
 use Rattle.jv_code.specs.Insns.{Instruction}
 use Rattle.jv_loader_world.specs.of_class.Class.{Method}
 use Rattle.jv_loader_system.specs.Mnemonics.{iconst, iload, aload, invokespecial, return}
+use Rattle.jv_meaning_machine.specs.Faults.{OrFault}
 use Rattle.jv_meaning_machine.specs.Faults.Fault.{OffsetFault, StackFault, LocalFault, TagFault, ReferenceFault, ConstructionFault, UnverifiedFault, ReturnFault}
 use Rattle.jv_meaning_machine.specs.State.{Program}
-use Rattle.jv_meaning_machine.specs.Samples.{program_of, run_with, new, ldc, pop, code, method, main_name, only_main, run}
-use Rattle.jv_meaning_machine.specs.MachineRows.{I}
+use Rattle.jv_meaning_machine.specs.Samples.{program_of, run_with, invokevirtual, new, ldc, pop, code, method, main_name, only_main, run}
+use Rattle.jv_meaning_machine.specs.Observation.{Observed}
+use Rattle.jv_meaning_machine.specs.MachineRows.{I, abstract_m}
 
 -- a method of an interface that was not accepted is called on an array, which counts as one of an interface
 abbrev pub calls_default : List Instruction
@@ -21,11 +23,25 @@ default_m = method 1 (codes "m") (codes "()V") (code 0 1 [] (return ∷ []))
 
 abbrev pub with_unaccepted : Program
 with_unaccepted =
-    record (program_of (only_main [] 1 [] calls_default ∷ I (default_m ∷ []) ∷ []) (calls_default ∷ (return ∷ []) ∷ [])) { accepted = main_name ∷ [] }
+    record (program_of (only_main [] 1 [] calls_default ∷ I (default_m ∷ []) ∷ []) (calls_default ∷ (return ∷ []) ∷ [])) {
+      accepted = main_name ∷ [];
+    }
+
+-- a call on null, where the interface I is there
+abbrev pub calls_null : Instruction → List Instruction
+calls_null insn = insns.NullConstant ∷ insn ∷ return ∷ []
+
+abbrev pub run_interface : Instruction → OrFault Observed
+run_interface insn =
+    run_with (program_of (only_main [] 1 [] (calls_null insn) ∷ I (abstract_m ∷ []) ∷ []) (calls_null insn ∷ []))
+    main_name [] 64 3
 
 pub record FaultRows : Type 0 where
   pub behind_code : run 0 (insns.Nop ∷ []) 3 ≡ Err OffsetFault
   pub constant_of_class : run 1 (ldc 12 ∷ return ∷ []) 2 ≡ Err OffsetFault
+  -- invokevirtual of a method of an interface, and invokeinterface of one of a class
+  pub virtual_of_interface : run_interface (invokevirtual 35) ≡ Err OffsetFault
+  pub interface_of_class : run_interface (insns.InvokeInterface 27 1) ≡ Err OffsetFault
   pub below_empty : run 0 (pop ∷ []) 2 ≡ Err StackFault
   pub above_max_stack : run 0 (iconst 0 ∷ []) 2 ≡ Err StackFault
   pub outside_locals : run 1 (iload 1 ∷ []) 2 ≡ Err LocalFault

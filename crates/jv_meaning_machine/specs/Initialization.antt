@@ -47,19 +47,24 @@ tasks_of world l = filter_map (setting l) l.class.fields ++ (map InitializesFirs
 abbrev pub is_verified : Program → Loaded → Bool
 is_verified program l = is_accepted program l && list_all (is_accepted program) (above program.world l.class)
 
+abbrev pub first_tasks : Program → Loaded → Frame
+first_tasks program l = Initializes (record { class = l; tasks = tasks_of program.world l })
+
 abbrev pub begin_within : Program → Memory → Control → Loaded → Option Control → OrFault State
 begin_within program memory control l None = raise program.world memory control stack_overflow
 begin_within program memory control l (Some given) =
-    Ok (state_of memory (with_frames (with_state Begun l given) (Initializes (record { class = l; tasks = tasks_of program.world l }) ∷ control.frames)))
+    Ok (state_of memory (with_frames (with_state Begun l given) (first_tasks program l ∷ control.frames)))
 
 abbrev pub begin_if : Program → Memory → Control → Loaded → Bool → OrFault State
 begin_if program memory control l true = begin_within program memory control l (given_words initialization_words control)
 begin_if program memory control l false = raise program.world memory control (codes "java/lang/VerifyError")
 
--- of a class that is not being initialized and was not initialized yet
+-- nothing is done for a class that is being initialized or was initialized
 abbrev pub begin_in : Program → Memory → Control → Loaded → ClassState → OrFault State
+begin_in program memory control l Untouched = begin_if program memory control l (is_verified program l)
+begin_in program memory control l Begun = Ok (state_of memory control)
+begin_in program memory control l Initialized = Ok (state_of memory control)
 begin_in program memory control l Erroneous = raise program.world memory control (codes "java/lang/NoClassDefFoundError")
-begin_in program memory control l _ = begin_if program memory control l (is_verified program l)
 
 abbrev pub begin : Program → Memory → Control → Loaded → OrFault State
 begin program memory control l = begin_in program memory control l (class_state control.states l)
@@ -122,7 +127,8 @@ set_field world control d type memory (Some made) =
 -- the first of the tasks that are left is done, where the control has the frame with the others
 abbrev pub do_task : Program → Memory → Control → Task → OrFault State
 do_task program memory control (SetsField d constant) =
-    described d.field.descriptor >>= λ type. constant_value program constant memory >>= set_field program.world control d type memory
+    described d.field.descriptor >>= λ type.
+    constant_value program constant memory >>= set_field program.world control d type memory
 do_task program memory control (InitializesFirst l) = begin program memory control l
 do_task program memory control (RunsInitializer d) = enter program memory memory control d None []
 

@@ -1,15 +1,20 @@
 -- Worked rows: initialization of classes, and string literals, computed.
 use Rattle.std.specs.Prelude.{◌≡◌, ℕ, List, [], ◌∷◌, replicate, Some, None, pos, codes}
 use Rattle.jv_code.specs.Insns.{Instruction}
-use Rattle.jv_loader_world.specs.of_class.Class.{Class}
+use Rattle.jv_loader_world.specs.of_class.Class.{Class, Method}
 use Rattle.jv_loader_world.specs.of_class.Class.InitialValue.{IntValue}
 use Rattle.jv_loader_world.specs.Rows.{object_name}
 use Rattle.jv_loader_system.specs.Mnemonics.{iconst, bipush, iadd, aload, invokespecial, return}
 use Rattle.jv_loader_system.specs.String.{length_body}
-use Rattle.jv_meaning_machine.specs.Faults.{OrFault}
+use Rattle.jv_loader_world.specs.World.{class_named}
+use Rattle.jv_meaning_machine.specs.Faults.{OrFault, found, ◌>>=◌}
+use Rattle.jv_meaning_machine.specs.Faults.Fault.{ReferenceFault}
+use Rattle.jv_meaning_machine.specs.State.{Program, State}
+use Rattle.jv_meaning_machine.specs.Start.{start}
+use Rattle.jv_meaning_machine.specs.Initialization.{begin}
 use Rattle.jv_meaning_machine.specs.State.End.{Threw}
 use Rattle.jv_meaning_machine.specs.Observation.{Observed}
-use Rattle.jv_meaning_machine.specs.Samples.{program_of, run_with, shown, invokestatic, invokevirtual, getstatic, putstatic, new, ldc, dup, pop, idiv, code, method, class_with, static_int, handler, main_name, main, only_main}
+use Rattle.jv_meaning_machine.specs.Samples.{program_of, budget, run_with, shown, invokestatic, invokevirtual, getstatic, putstatic, new, ldc, dup, pop, idiv, code, method, class_with, static_int, handler, main_name, main, only_main}
 use Rattle.jv_meaning_machine.specs.MachineRows.{returned, threw}
 
 -- ---- a constant of the main class
@@ -18,7 +23,15 @@ abbrev pub write_static : ℕ → List Instruction
 write_static field = getstatic field ∷ bipush 48 ∷ iadd ∷ invokestatic 6 ∷ return ∷ []
 
 abbrev pub with_constant : Class
-with_constant = class_with main_name object_name [] (static_int (codes "K") (Some (IntValue (pos 7))) ∷ []) (main 2 [] (write_static 45) ∷ [])
+with_constant =
+    class_with main_name object_name [] (static_int (codes "K") (Some (IntValue (pos 7))) ∷ [])
+    (main 2 [] (write_static 45) ∷ [])
+
+abbrev pub clinit : ℕ → List Instruction → Method
+clinit max_stack instructions = method 8 (codes "<clinit>") (codes "()V") (code max_stack 0 [] instructions)
+
+abbrev pub constructor : ℕ → List Instruction → Method
+constructor max_stack instructions = method 1 (codes "<init>") (codes "()V") (code max_stack 1 [] instructions)
 
 -- ---- a class whose initialization ends in a throw
 
@@ -26,7 +39,7 @@ abbrev pub divides_by_zero : List Instruction
 divides_by_zero = iconst 1 ∷ iconst 0 ∷ idiv ∷ pop ∷ return ∷ []
 
 abbrev pub E : Class
-E = class_with (codes "E") object_name [] (static_int (codes "x") None ∷ []) (method 8 (codes "<clinit>") (codes "()V") (code 2 0 [] divides_by_zero) ∷ [])
+E = class_with (codes "E") object_name [] (static_int (codes "x") None ∷ []) (clinit 2 divides_by_zero ∷ [])
 
 abbrev pub uses_twice : List Instruction
 uses_twice =
@@ -43,9 +56,7 @@ abbrev pub construct_P : List Instruction
 construct_P = aload 0 ∷ invokespecial 16 ∷ return ∷ []
 
 abbrev pub P : Class
-P =
-    class_with (codes "P") object_name [] []
-    (method 8 (codes "<clinit>") (codes "()V") (code 2 0 [] make_S) ∷ method 1 (codes "<init>") (codes "()V") (code 1 1 [] construct_P) ∷ [])
+P = class_with (codes "P") object_name [] [] (clinit 2 make_S ∷ constructor 1 construct_P ∷ [])
 
 abbrev pub construct_S : List Instruction
 construct_S = aload 0 ∷ invokespecial 55 ∷ getstatic 59 ∷ bipush 48 ∷ iadd ∷ invokestatic 6 ∷ return ∷ []
@@ -56,7 +67,7 @@ set_x = iconst 5 ∷ putstatic 59 ∷ return ∷ []
 abbrev pub S : Class
 S =
     class_with (codes "S") (codes "P") [] (static_int (codes "x") None ∷ [])
-    (method 1 (codes "<init>") (codes "()V") (code 2 1 [] construct_S) ∷ method 8 (codes "<clinit>") (codes "()V") (code 1 0 [] set_x) ∷ [])
+    (constructor 2 construct_S ∷ clinit 1 set_x ∷ [])
 
 -- ---- string literals
 
@@ -68,14 +79,31 @@ twice = ldc 22 ∷ pop ∷ ldc 22 ∷ pop ∷ return ∷ []
 
 abbrev pub run_literal : List ℕ → ℕ → List Instruction → ℕ → OrFault Observed
 run_literal text max_stack instructions n =
-    run_with (program_of (only_main text max_stack [] instructions ∷ []) (instructions ∷ length_body.code ∷ [])) main_name [] 64 n
+    run_with (program_of (only_main text max_stack [] instructions ∷ []) (instructions ∷ length_body.code ∷ []))
+    main_name [] 64 n
+
+-- the main class's initialization is begun at the start, and here a second time
+abbrev pub with_main_constant : Program
+with_main_constant = program_of (with_constant ∷ []) (write_static 45 ∷ [])
+
+abbrev pub begun : OrFault State
+begun = start with_main_constant main_name [] (budget 64)
+
+abbrev pub begun_again : OrFault State
+begun_again =
+    begun >>= λ s. found ReferenceFault (class_named with_main_constant.world main_name) >>=
+    begin with_main_constant s.memory s.control
 
 pub record InitializationRows : Type 0 where
+  -- nothing is done for a class that is being initialized
+  pub again : begun_again ≡ begun
   pub constant :
-      run_with (program_of (with_constant ∷ []) (write_static 45 ∷ [])) main_name [] 64 7 ≡ returned 7 (codes "7")
+      run_with with_main_constant main_name [] 64 7 ≡ returned 7 (codes "7")
   -- the division's, its replacement, and that of an erroneous class
   pub erroneous :
-      run_with (program_of (only_main [] 1 (handler 0 3 5 52 ∷ []) uses_twice ∷ E ∷ []) (uses_twice ∷ divides_by_zero ∷ [])) main_name [] 64 8
+      run_with
+      (program_of (only_main [] 1 (handler 0 3 5 52 ∷ []) uses_twice ∷ E ∷ []) (uses_twice ∷ divides_by_zero ∷ []))
+      main_name [] 64 8
       ≡ shown 8 [] 3 (Some (codes "java/lang/NoClassDefFoundError")) (Threw (codes "java/lang/NoClassDefFoundError"))
   pub circle :
       run_with (program_of (only_main [] 2 [] (write_static 59) ∷ P ∷ S ∷ [])

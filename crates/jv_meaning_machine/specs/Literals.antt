@@ -41,7 +41,9 @@ chars_of units = ArrayWith (base_components bases.Char) (map char_of units)
 -- a String, whose chars are an object with a number
 abbrev pub string_with : Program → Loaded → ℕ → Object
 string_with program l chars =
-    InstanceOf (record (new_instance program.world true l) { fields = with_value string_value (Reference chars) (new_instance program.world true l).fields })
+    InstanceOf (record (new_instance program.world true l) {
+      fields = with_value string_value (Reference chars) (new_instance program.world true l).fields;
+    })
 
 abbrev pub literal_in : List ℕ → List (List ℕ × ℕ) → Option ℕ
 literal_in text [] = None
@@ -54,7 +56,10 @@ with_literal text memory = record memory { literals = (text, next_object memory)
 abbrev pub literal_made : Program → Loaded → List ℕ → List ℕ → Option Memory → Option (Memory × ℕ)
 literal_made program l text units None = None
 literal_made program l text units (Some memory) =
-    Some (with_objects (string_with program l (next_object memory + 1) ∷ chars_of units ∷ []) (with_literal text memory), next_object memory)
+    Some (
+      with_objects (string_with program l (next_object memory + 1) ∷ chars_of units ∷ []) (with_literal text memory),
+      next_object memory,
+    )
 
 abbrev pub literal_cells : Program → Loaded → List ℕ → ℕ
 literal_cells program l units = object_cells program.world l + array_cells (base_components bases.Char) (length units)

@@ -97,7 +97,9 @@ pub record ObjectRows : Type 0 where
       run_with (program_of (recursive ∷ []) (calls_f ∷ recursion ∷ [])) main_name [] 64 20
       ≡ shown 20 (codes "S") 1 (Some (codes "java/lang/StackOverflowError")) Returned
   pub interface :
-      run_with (program_of (only_main [] 2 [] calls_interface ∷ I (abstract_m ∷ []) ∷ []) (calls_interface ∷ (return ∷ []) ∷ [])) main_name [] 64 6
+      run_with
+      (program_of (only_main [] 2 [] calls_interface ∷ I (abstract_m ∷ []) ∷ []) (calls_interface ∷ (return ∷ []) ∷ []))
+      main_name [] 64 6
       ≡ threw 6 (codes "IncompatibleClassChangeError")
 
 -- ---- arrays

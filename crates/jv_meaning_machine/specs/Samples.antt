@@ -1,4 +1,4 @@
--- Classes, programs and runs for worked rows. The system's classes are those of the system that the rows need.
+-- Classes, programs and runs for worked rows, beside the system's classes.
 use Rattle.std.specs.Prelude.{ℕ, negsuc, true, false, ◌++◌, List, [], ◌∷◌, map, Option, Some, None, codes}
 use Rattle.std.specs.List.{find, flat_map}
 use Rattle.std.specs.Str.{bytes_eq}
@@ -21,13 +21,8 @@ use Rattle.jv_loader_world.specs.of_class_parts.Parts.{CodeSeen}
 use Rattle.jv_loader_world.specs.of_class.Class.{Class, Field, InitialValue, Method}
 use Rattle.jv_loader_world.specs.World.{World, loaded}
 use Rattle.jv_loader_world.specs.Rows.{object_name}
-use Rattle.jv_loader_system.specs.Interfaces.{serializable}
-use Rattle.jv_loader_system.specs.Io.{io}
 use Rattle.jv_loader_system.specs.Mnemonics.{return}
-use Rattle.jv_loader_system.specs.Object.{object}
-use Rattle.jv_loader_system.specs.String.{string}
-use Rattle.jv_loader_system.specs.Throwable.{throwable}
-use Rattle.jv_loader_system.specs.Throwables.{below, throwable_class}
+use Rattle.jv_loader_system.specs.SystemClasses.{system_classes}
 use Rattle.jv_meaning_machine.specs.Faults.{OrFault, ◌>>=◌}
 use Rattle.std.specs.Prelude.{Ok}
 use Rattle.jv_meaning_machine.specs.State.{Program, End}
@@ -40,28 +35,8 @@ use Rattle.jv_meaning_machine.specs.Observation.{Observed, observation}
 abbrev pub java_lang : List ℕ → List ℕ
 java_lang name = codes "java/lang/" ++ name
 
-abbrev pub throwable_below : List ℕ → List ℕ → Class
-throwable_below above_name name = throwable_class (below (java_lang above_name) (java_lang name))
-
-abbrev pub system : List Class
-system =
-    object ∷ io ∷ string ∷ throwable
-    ∷ throwable_below (codes "Throwable") (codes "Exception")
-    ∷ throwable_below (codes "Exception") (codes "RuntimeException")
-    ∷ throwable_below (codes "RuntimeException") (codes "ArithmeticException")
-    ∷ throwable_below (codes "RuntimeException") (codes "ArrayStoreException")
-    ∷ throwable_below (codes "RuntimeException") (codes "NegativeArraySizeException")
-    ∷ throwable_below (codes "Throwable") (codes "Error")
-    ∷ throwable_below (codes "Error") (codes "OutOfMemoryError")
-    ∷ throwable_below (codes "Error") (codes "StackOverflowError")
-    ∷ throwable_below (codes "Error") (codes "IncompatibleClassChangeError")
-    ∷ throwable_below (codes "Error") (codes "NoClassDefFoundError")
-    ∷ throwable_below (codes "Error") (codes "ExceptionInInitializerError")
-    ∷ throwable_below (codes "Error") (codes "VerifyError")
-    ∷ serializable ∷ []
-
 abbrev pub world_with : List Class → World
-world_with classes = map (loaded true) system ++ map (loaded false) classes
+world_with classes = map (loaded true) system_classes ++ map (loaded false) classes
 
 -- ---- programs: code is known by the instructions that it has, and texts are of one byte a unit
 
@@ -163,6 +138,18 @@ third_constants =
     constants.Utf8 (codes "P") ∷ constants.Class 53 ∷ constants.Methodref 54 15 ∷ constants.Utf8 (codes "S") ∷ constants.Class 56
     ∷ constants.Methodref 57 15 ∷ constants.Fieldref 57 49 ∷ []
 
+-- 61 java/lang/RuntimeException, 63 java/lang/Error, 64 its constructor, 67 D.x, 70 Main.K as a byte, 71 a constructor that
+-- java/lang/String does not have, 74 Main.f of a long and a byte
+abbrev pub fourth_constants : List Entry
+fourth_constants =
+    constants.Utf8 (codes "java/lang/RuntimeException") ∷ constants.Class 60 ∷ constants.Utf8 (codes "java/lang/Error")
+    ∷ constants.Class 62 ∷ constants.Methodref 63 15 ∷ constants.Utf8 (codes "D") ∷ constants.Class 65
+    ∷ constants.Fieldref 66 49 ∷ constants.Utf8 (codes "B") ∷ constants.NameAndType 43 68 ∷ constants.Fieldref 37 69
+    ∷ constants.Methodref 26 15 ∷ constants.Utf8 (codes "(JB)B") ∷ constants.NameAndType 38 72 ∷ constants.Methodref 37 73 ∷ []
+
+abbrev pub all_constants : List ℕ → List Entry
+all_constants text = first_constants text ++ (second_constants ++ (third_constants ++ fourth_constants))
+
 -- ---- classes and members
 
 abbrev pub code : ℕ → ℕ → List Handler → List Instruction → CodeSeen
@@ -185,7 +172,7 @@ class_with name super_name text fields methods = record {
   interfaces = [];
   fields = fields;
   methods = methods;
-  constant_pool = first_constants text ++ (second_constants ++ third_constants);
+  constant_pool = all_constants text;
 }
 
 abbrev pub static_int : List ℕ → Option InitialValue → Field
@@ -200,17 +187,20 @@ main_name = codes "Main"
 
 -- main takes an array of Strings
 abbrev pub main : ℕ → List Handler → List Instruction → Method
-main max_stack handlers instructions = method 9 (codes "main") (codes "([Ljava/lang/String;)V") (code max_stack 1 handlers instructions)
+main max_stack handlers instructions =
+    method 9 (codes "main") (codes "([Ljava/lang/String;)V") (code max_stack 1 handlers instructions)
 
 -- a class Main with this alone
 abbrev pub only_main : List ℕ → ℕ → List Handler → List Instruction → Class
-only_main text max_stack handlers instructions = class_with main_name object_name text [] (main max_stack handlers instructions ∷ [])
+only_main text max_stack handlers instructions =
+    class_with main_name object_name text [] (main max_stack handlers instructions ∷ [])
 
 -- ---- runs of one class with one method
 
 abbrev pub run_text : List ℕ → ℕ → List Handler → List Instruction → ℕ → OrFault Observed
 run_text text max_stack handlers instructions n =
-    run_with (program_of (only_main text max_stack handlers instructions ∷ []) (instructions ∷ (return ∷ []) ∷ [])) main_name [] 64 n
+    run_with (program_of (only_main text max_stack handlers instructions ∷ []) (instructions ∷ (return ∷ []) ∷ []))
+    main_name [] 64 n
 
 abbrev pub run : ℕ → List Instruction → ℕ → OrFault Observed
 run max_stack instructions n = run_text (codes "ab") max_stack [] instructions n

@@ -30,7 +30,8 @@ act program control frame below (memory, Enters d receiver arguments stack) =
     enter program memory memory (waiting control frame stack below) d receiver arguments
 act program control frame below (memory, Constructs d object arguments stack) =
     object_at memory.objects object >>= instance_in >>= λ instance.
-    enter program memory (with_object object (entered_on d instance) memory) (waiting control frame stack below) d (Some object) arguments
+    enter program memory (with_object object (entered_on d instance) memory) (waiting control frame stack below) d
+    (Some object) arguments
 act program control frame below (memory, Leaves result) = leave memory control frame result below
 act program control frame below (memory, Throws object) = throw program.world memory control object
 act program control frame below (memory, Raises class) = raise program.world memory control class

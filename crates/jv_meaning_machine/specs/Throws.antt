@@ -71,10 +71,13 @@ handler_for world class frame =
     frame.method.code.exception_table
 
 -- the handler begins with what was thrown alone on its stack
+abbrev pub at_handler : MethodFrame → ℕ → ℕ → Frame
+at_handler frame offset object = Runs (record frame { offset = offset; stack = Reference object ∷ [] })
+
 abbrev pub caught : Thrown → MethodFrame → List Frame → Handler → OrFault State
 caught t frame below handler =
     tested StackFault (nat_le 1 frame.method.code.max_stack) frame >>= λ frame.
-    Ok (state_of t.memory (with_frames t.control (Runs (record frame { offset = handler.handler_pc; stack = Reference t.object ∷ [] }) ∷ below)))
+    Ok (state_of t.memory (with_frames t.control (at_handler frame handler.handler_pc t.object ∷ below)))
 
 -- ---- initializations that a throw passes: an ExceptionInInitializerError is thrown in place of what is no java/lang/Error
 

@@ -5,6 +5,8 @@ pub returns : goal.returns
 returns c = record {
   behind_code = refl;
   constant_of_class = refl;
+  virtual_of_interface = refl;
+  interface_of_class = refl;
   below_empty = refl;
   above_max_stack = refl;
   outside_locals = refl;

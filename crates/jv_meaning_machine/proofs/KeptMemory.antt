@@ -1,0 +1,194 @@
+-- What stays in memory over the changes that instructions make to it.
+use Rattle.std.proofs.Common.{◌≡◌, ℕ, ℤ, ◌%◌, ◌==◌, zero, suc, ◌+◌, ◌-◌, ◌≤◌, nat_le, Bool, true, false, List, [], ◌∷◌, ◌++◌, map, Option, Some, None, refl, sym, ap, ◌∙◌, arith, append_assoc, append-nil, slice_get, slice_set, sum_by, length-append, true≢false, if◌then◌else◌, bytes_eq}
+use Rattle.std.specs.Int.{w32, cast_unsigned}
+use Rattle.std.proofs.lemmas.Bool.{leb-true}
+use Rattle.std.proofs.lemmas.List.{map-append}
+use Rattle.std.proofs.lemmas.List.Sums.{sum_by-append}
+use Rattle.std.proofs.lemmas.Slice.Eq.{bytes_eq-Decides}
+use Rattle.std.proofs.lemmas.Option.{get_or_from_slice_get}
+use Rattle.std.proofs.Math.Seq.{map-set_same}
+use Rattle.jv_meaning_machine.specs.Values.{Value}
+use Rattle.jv_meaning_machine.specs.Objects.{FieldKey, Content, Object, same_key, with_value}
+use Rattle.jv_meaning_machine.specs.State.{Memory}
+use Rattle.jv_meaning_machine.specs.Costs.{paid, with_objects}
+use Rattle.jv_meaning_machine.specs.Literals.{literal_in}
+use Rattle.jv_meaning_machine.specs.Fields.{with_static, with_object}
+use Rattle.jv_meaning_machine.specs.Calls.{written}
+use Rattle.jv_meaning_machine.specs.Shapes.{Shape, shape_of, shapes, shape_cells, keys_in}
+use Rattle.jv_meaning_machine.specs.Kept.{BeginsWith, EndsWith, Keeps}
+
+-- ---- lists
+
+pub begins_same : {A : Type 0} (all : List A) → BeginsWith all all
+begins_same all = ([], sym (append-nil all))
+
+pub begins_over : {A : Type 0} (a b c : List A) → BeginsWith b a → BeginsWith c b → BeginsWith c a
+begins_over a b c h k = (h.0 ++ k.0, k.1 ∙ ap (λ l. l ++ k.0) h.1 ∙ append_assoc a h.0 k.0)
+
+pub ends_same : {A : Type 0} (all : List A) → EndsWith all all
+ends_same all = ([], refl)
+
+pub ends_over : {A : Type 0} (a b c : List A) → EndsWith a b → EndsWith b c → EndsWith a c
+ends_over a b c h k = (h.0 ++ k.0, h.1 ∙ ap (λ l. h.0 ++ l) k.1 ∙ sym (append_assoc h.0 k.0 c))
+
+-- ---- nothing, and one change after the other
+
+pub keeps_same : (memory : Memory) → Keeps memory memory
+keeps_same memory = record {
+  output = begins_same memory.output;
+  output_budget = refl;
+  objects = begins_same (shapes memory);
+  cells_budget = refl;
+  statics = refl;
+  literals = λ text object e. e;
+  input = ends_same memory.input;
+}
+
+pub keeps_over : (a b c : Memory) → Keeps a b → Keeps b c → Keeps a c
+keeps_over a b c h k = record {
+  output = begins_over a.output b.output c.output h.output k.output;
+  output_budget = k.output_budget ∙ h.output_budget;
+  objects = begins_over (shapes a) (shapes b) (shapes c) h.objects k.objects;
+  cells_budget = k.cells_budget ∙ h.cells_budget;
+  statics = k.statics ∙ h.statics;
+  literals = λ text object e. k.literals text object (h.literals text object e);
+  input = ends_over a.input b.input c.input h.input k.input;
+}
+
+-- ---- fields
+
+-- a store to a field changes none but its value
+pub same_keys : (key : FieldKey) (value : Value) (content : Content) → keys_in (with_value key value content) ≡ keys_in content
+same_keys key value [] = refl
+same_keys key value (entry ∷ more) = by_test (same_key key entry.0) (same_keys key value more)
+  where
+    by_test :
+        (test : Bool) → keys_in (with_value key value more) ≡ keys_in more
+        → keys_in (if test then (entry.0, value) ∷ more else entry ∷ with_value key value more) ≡ entry.0 ∷ keys_in more
+    by_test true e = refl
+    by_test false e = ap (λ (keys : List FieldKey). entry.0 ∷ keys) e
+
+pub keeps_static : (key : FieldKey) (value : Value) (memory : Memory) → Keeps memory (with_static key value memory)
+keeps_static key value memory = record {
+  output = begins_same memory.output;
+  output_budget = refl;
+  objects = begins_same (shapes memory);
+  cells_budget = refl;
+  statics = same_keys key value memory.statics;
+  literals = λ text object e. e;
+  input = ends_same memory.input;
+}
+
+-- ---- objects
+
+-- what is the same of an object and of the one that takes its place is the same of all
+pub same_of_all :
+    {B : Type 0} (f : Object → B) (id : ℕ) (old object : Object) (objects : List Object) → slice_get objects id ≡ Some old → f object ≡ f old
+    → map f (slice_set objects id object) ≡ map f objects
+same_of_all f id old object objects e same =
+    map-set_same f objects id object old (same ∙ ap f (sym (get_or_from_slice_get objects id old old e)))
+
+pub keeps_object :
+    (id : ℕ) (old object : Object) (memory : Memory) → slice_get memory.objects id ≡ Some old → shape_of object ≡ shape_of old
+    → Keeps memory (with_object id object memory)
+keeps_object id old object memory e same =
+    let shapes_same : map shape_of (slice_set memory.objects id object) ≡ shapes memory = same_of_all shape_of id old object memory.objects e same in
+    record {
+      output = begins_same memory.output;
+      output_budget = refl;
+      objects = ([], shapes_same ∙ sym (append-nil (shapes memory)));
+      cells_budget = ap (λ (l : List Shape). sum_by shape_cells l + memory.cells) shapes_same;
+      statics = refl;
+      literals = λ text object e. e;
+      input = ends_same memory.input;
+    }
+
+-- the memory behind a payment
+abbrev pub less : ℕ → Memory → Memory
+less cells memory = record memory { cells = memory.cells - cells }
+
+-- objects join whose cells were paid
+pub keeps_joined :
+    (cells : ℕ) (objects : List Object) (memory : Memory) → cells ≤ memory.cells → sum_by shape_cells (map shape_of objects) ≡ cells
+    → Keeps memory (with_objects objects (less cells memory))
+keeps_joined cells objects memory within cost =
+    let joined : map shape_of (memory.objects ++ objects) ≡ shapes memory ++ map shape_of objects = map-append shape_of memory.objects objects in
+    let sum : sum_by shape_cells (map shape_of (memory.objects ++ objects)) ≡ sum_by shape_cells (shapes memory) + sum_by shape_cells (map shape_of objects) =
+    ap (λ (l : List Shape). sum_by shape_cells l) joined ∙ sum_by-append shape_cells (shapes memory) (map shape_of objects) in
+    record {
+      output = begins_same memory.output;
+      output_budget = refl;
+      objects = (map shape_of objects, joined);
+      cells_budget = omega arith;
+      statics = refl;
+      literals = λ text object e. e;
+      input = ends_same memory.input;
+    }
+
+-- what holds where the cells are not left and where they were paid holds of a payment
+pub by_payment :
+    (P : Option Memory → Type 0) (cells : ℕ) (memory : Memory) → P None → (cells ≤ memory.cells → P (Some (less cells memory)))
+    → P (paid cells memory)
+by_payment P cells memory none some = by_test (nat_le cells memory.cells) refl
+  where
+    by_test : (test : Bool) → nat_le cells memory.cells ≡ test → P (if test then Some (less cells memory) else None)
+    by_test true e = some (leb-true cells memory.cells e)
+    by_test false e = none
+
+-- ---- literals
+
+abbrev pub with_literal_at : List ℕ → ℕ → Memory → Memory
+with_literal_at text object memory = record memory { literals = (text, object) ∷ memory.literals }
+
+-- a text that had no object gets one
+pub keeps_literal :
+    (text : List ℕ) (object : ℕ) (memory : Memory) → literal_in text memory.literals ≡ None → Keeps memory (with_literal_at text object memory)
+keeps_literal text object memory none = record {
+  output = begins_same memory.output;
+  output_budget = refl;
+  objects = begins_same (shapes memory);
+  cells_budget = refl;
+  statics = refl;
+  literals = λ other old e. by_test other old e (bytes_eq other text) refl;
+  input = ends_same memory.input;
+}
+  where
+    by_test :
+        (other : List ℕ) (old : ℕ) → literal_in other memory.literals ≡ Some old → (test : Bool) → bytes_eq other text ≡ test
+        → (if test then Some object else literal_in other memory.literals) ≡ Some old
+    by_test other old e true is =
+        let same : other ≡ text = (bytes_eq-Decides other text).0 is in
+        let known : literal_in text memory.literals ≡ Some old = ap (λ (t : List ℕ). literal_in t memory.literals) (sym same) ∙ e in
+        absurd cc
+    by_test other old e false is = e
+
+-- ---- output and input
+
+not_none : (n : ℕ) → (n == 0) ≡ false → 1 ≤ n
+not_none zero e = absurd (true≢false e)
+not_none (suc n) e = omega arith
+
+pub keeps_written : (number : ℤ) (memory : Memory) → (memory.output_left == 0) ≡ false → Keeps memory (written number memory)
+keeps_written number memory e = record {
+  output = ((cast_unsigned w32 number % 256) ∷ [], refl);
+  output_budget = omega (arith, length-append memory.output ((cast_unsigned w32 number % 256) ∷ []), not_none memory.output_left e);
+  objects = begins_same (shapes memory);
+  cells_budget = refl;
+  statics = refl;
+  literals = λ text object e. e;
+  input = ends_same memory.input;
+}
+
+abbrev pub with_input : List ℕ → Memory → Memory
+with_input input memory = record memory { input = input }
+
+pub keeps_read : (byte : ℕ) (more : List ℕ) (memory : Memory) → memory.input ≡ byte ∷ more → Keeps memory (with_input more memory)
+keeps_read byte more memory e = record {
+  output = begins_same memory.output;
+  output_budget = refl;
+  objects = begins_same (shapes memory);
+  cells_budget = refl;
+  statics = refl;
+  literals = λ text object e. e;
+  input = (byte ∷ [], e);
+}

@@ -1,0 +1,106 @@
+-- What is found of files is one thing, and so is what a guest shows.
+use Rattle.std.proofs.Common.{◌≡◌, ℕ, zero, suc, List, [], ◌∷◌, length, Option, Some, None, Ok, refl, sym, ap, subst, ◌∙◌, arith}
+use Rattle.std.specs.Prelude.{◌↔◌, Result, Err, IsErr, slice_get}
+use mathlib.Core.Path.{fun_ext}
+use Rattle.jv_code.specs.Insns.{Instruction}
+use Rattle.jv_loader_system.specs.SystemClasses.{system_classes}
+use Rattle.jv_loader_world.specs.World.{World, world_of}
+use Rattle.jv_loader_world.specs.of_loader_files.FileContent.{FileContent, AreContents, OneContent}
+use Rattle.jv_meaning_typing.specs.declared.verdict.Verdict.{Verdict}
+use Rattle.jv_meaning_typing.specs.Judgement.{IsVerdictOfFile}
+use Rattle.jv_meaning_typing.specs.Laws.{OneJudgementOfFile}
+use Rattle.jv_meaning_machine.specs.Faults.{OrFault, Fault}
+use Rattle.jv_meaning_machine.specs.State.{State}
+use Rattle.jv_meaning_machine.specs.Alone.{Judged, IsJudged, accepted_names, alone}
+use Rattle.jv_meaning_machine.specs.Observation.{Observed, observation}
+use Rattle.jv_meaning_machine.specs.ShowLaws.{OneJudged, ShowsOneThing, ShowsOrFaults}
+
+-- ---- what files hold, and the verdicts on them
+
+module _ (one_content : OneContent) (one_verdict : OneJudgementOfFile) where
+  one_list : (files : List (List ℕ)) (a b : List FileContent) → AreContents files a → AreContents files b → a ≡ b
+  one_list [] [] [] h k = refl
+  one_list [] [] (y ∷ b) h k = absurd k
+  one_list [] (x ∷ a) b h k = absurd h
+  one_list (bytes ∷ files) [] b h k = absurd h
+  one_list (bytes ∷ files) (x ∷ a) [] h k = absurd k
+  one_list (bytes ∷ files) (x ∷ a) (y ∷ b) h k =
+      ap (λ (f : FileContent). f ∷ a) (one_content bytes x y h.0 k.0) ∙ ap (λ (fs : List FileContent). y ∷ fs) (one_list files a b h.1 k.1)
+
+  same_items : (v w : List Verdict) → length v ≡ length w → ((k : ℕ) (a b : Verdict) → slice_get v k ≡ Some a → slice_get w k ≡ Some b → a ≡ b) → v ≡ w
+  same_items [] [] e h = refl
+  same_items [] (y ∷ w) e h = absurd (omega (arith, e))
+  same_items (x ∷ v) [] e h = absurd (omega (arith, e))
+  same_items (x ∷ v) (y ∷ w) e h =
+      let rest : length v ≡ length w = omega (arith, e) in
+      ap (λ (z : Verdict). z ∷ v) (h zero x y refl refl) ∙ ap (λ (zs : List Verdict). y ∷ zs) (same_items v w rest (λ k. h (suc k)))
+
+  -- ---- functions that answer exactly where a relation holds
+
+  same_option : {A : Type 0} (o p : Option A) → ((a : A) → o ≡ Some a → p ≡ Some a) → ((a : A) → p ≡ Some a → o ≡ Some a) → o ≡ p
+  same_option None None h k = refl
+  same_option None (Some b) h k = k b refl
+  same_option (Some a) p h k = sym (h a refl)
+
+  same_function : {A : Type 0} (R : List ℕ → A → Type 0) (f g : List ℕ → Option A) → ((bytes : List ℕ) (a : A) → (f bytes ≡ Some a) ↔ R bytes a)
+      → ((bytes : List ℕ) (a : A) → (g bytes ≡ Some a) ↔ R bytes a) → f ≡ g
+  same_function R f g h k =
+      fun_ext (λ bytes. same_option (f bytes) (g bytes) (λ a e. (k bytes a).1 ((h bytes a).0 e)) (λ a e. (h bytes a).1 ((k bytes a).0 e)))
+
+  -- ---- all that is found
+
+  abbrev made : World → List (List ℕ) → (List ℕ → Option (List Instruction)) → (List ℕ → Option (List ℕ)) → List Verdict → Judged
+  made world accepted instructions units verdicts =
+      record { program = record { world = world; accepted = accepted; instructions = instructions; units = units }; verdicts = verdicts }
+
+  pub one_judged : OneJudged
+  one_judged files one other h k =
+      ap (λ (w : World). made w one.program.accepted one.program.instructions one.program.units one.verdicts) world
+      ∙ (ap (λ (n : List (List ℕ)). made other.program.world n one.program.instructions one.program.units one.verdicts) accepted
+      ∙ (ap (λ (f : List ℕ → Option (List Instruction)). made other.program.world other.program.accepted f one.program.units one.verdicts) instructions
+      ∙ (ap (λ (f : List ℕ → Option (List ℕ)). made other.program.world other.program.accepted other.program.instructions f one.verdicts) units
+      ∙ ap (λ (v : List Verdict). made other.program.world other.program.accepted other.program.instructions other.program.units v) verdicts)))
+    where
+      contents : h.contents ≡ k.contents
+      contents = one_list files h.contents k.contents h.held k.held
+
+      world : one.program.world ≡ other.program.world
+      world = h.world ∙ (ap (world_of system_classes) contents ∙ sym k.world)
+
+      verdicts : one.verdicts ≡ other.verdicts
+      verdicts = same_items one.verdicts other.verdicts (h.count ∙ (ap length contents ∙ sym k.count)) (λ place a b at there.
+          one_verdict system_classes h.contents place a b (h.verdict place a at)
+          (subst (λ (c : List FileContent). IsVerdictOfFile system_classes c place b) (sym contents) (k.verdict place b there)))
+
+      accepted : one.program.accepted ≡ other.program.accepted
+      accepted = h.accepted ∙ (ap (λ (c : List FileContent). accepted_names c one.verdicts) contents ∙ (ap (accepted_names k.contents) verdicts ∙ sym k.accepted))
+
+      instructions : one.program.instructions ≡ other.program.instructions
+      instructions = same_function _ one.program.instructions other.program.instructions h.instructions k.instructions
+
+      units : one.program.units ≡ other.program.units
+      units = same_function _ one.program.units other.program.units h.units k.units
+
+-- ---- what a guest shows
+
+same_state : (r : OrFault State) (s t : State) → r ≡ Ok s → r ≡ Ok t → s ≡ t
+same_state r s t h k =
+    let both : Ok s ≡ Ok t = sym h ∙ k in
+    cc
+
+pub shows_one_thing : OneJudged → ShowsOneThing
+shows_one_thing law g b n one other h k =
+    h.shown
+    ∙ (ap (λ (j : Judged). observation j.verdicts n h.state) same
+    ∙ (ap (observation k.judged.verdicts n) (same_state (alone k.judged g b n) h.state k.state (subst (λ (j : Judged). alone j g b n ≡ Ok h.state) same h.ran) k.ran) ∙ sym k.shown))
+  where
+    same : h.judged ≡ k.judged
+    same = law g.files h.judged k.judged h.right k.right
+
+no_fault : (r : OrFault State) (s : State) → r ≡ Ok s → IsErr r → ⊥
+no_fault (Ok t) s e f = absurd cc
+no_fault (Err fault) s e f = absurd cc
+
+pub shows_or_faults : OneJudged → ShowsOrFaults
+shows_or_faults law g b n o h f =
+    no_fault (alone f.judged g b n) h.state (subst (λ (j : Judged). alone j g b n ≡ Ok h.state) (law g.files h.judged f.judged h.right f.right) h.ran) f.fault

@@ -1,0 +1,22 @@
+use Rattle.std.proofs.Common.{refl}
+use Rattle.jv_meaning_machine.proofs.law.handler_rows.Goals as goal
+
+pub returns : goal.returns
+returns c = record {
+  any = refl;
+  first_in_table = refl;
+  first_that_catches = refl;
+  from_start = refl;
+  before_end = refl;
+  behind = refl;
+  by_caller = refl;
+  by_callee = refl;
+  again = refl;
+  again_out = refl;
+  again_and_again = refl;
+  null = refl;
+  last_cells = refl;
+  no_cells = refl;
+  last_words = refl;
+  no_words = refl;
+}

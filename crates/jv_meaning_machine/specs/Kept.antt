@@ -1,0 +1,36 @@
+-- What stays while a guest runs: what was written, the objects and their shapes, and what the budget comes to.
+use Rattle.std.specs.Prelude.{◌≡◌, ℕ, ◌+◌, List, ◌++◌, length, Some}
+use Rattle.jv_meaning_machine.specs.State.{Memory, State}
+use Rattle.jv_meaning_machine.specs.Literals.{literal_in}
+use Rattle.jv_meaning_machine.specs.Shapes.{keys_in, shapes, used_cells, used_words}
+
+-- a list begins with another one
+abbrev pub BeginsWith : {A : Type 0} → List A → List A → Type 0
+BeginsWith {A = A} all front = (more : List A) × (all ≡ front ++ more)
+
+-- or ends with it
+abbrev pub EndsWith : {A : Type 0} → List A → List A → Type 0
+EndsWith {A = A} all end = (front : List A) × (all ≡ front ++ end)
+
+-- What an earlier memory has stays in a later one.
+pub record Keeps (before after : Memory) : Type 0 where
+  -- what was written is added to at its end alone
+  pub output : BeginsWith after.output before.output
+  -- what was written and what can still be written are the same together
+  pub output_budget : length after.output + after.output_left ≡ length before.output + before.output_left
+  -- no object goes, none changes its shape, and new ones stand behind the others
+  pub objects : BeginsWith (shapes after) (shapes before)
+  -- the cells of the objects and those that are left are the same together
+  pub cells_budget : used_cells after + after.cells ≡ used_cells before + before.cells
+  -- no static field comes or goes
+  pub statics : keys_in after.statics ≡ keys_in before.statics
+  -- the object of a string literal stays its object
+  pub literals : (text : List ℕ) (object : ℕ) → literal_in text before.literals ≡ Some object → literal_in text after.literals ≡ Some object
+  -- the input is read from its front
+  pub input : EndsWith before.input after.input
+
+-- So does what an earlier state has in a later one; and the words of the frames and those that are left are the same together.
+pub record KeepsState (before after : State) : Type 0 where
+  pub memory : Keeps before.memory after.memory
+  pub words_budget : used_words after.control + after.control.words ≡ used_words before.control + before.control.words
+  pub main : after.control.main ≡ before.control.main

@@ -1,0 +1,73 @@
+-- Laws of runs: what stays from a state to each later one, and what a guest alone keeps of its budget.
+use Rattle.std.specs.Prelude.{◌≡◌, ℕ, ◌+◌, ◌≤◌, List, length, Some, Ok, slice_get, codes}
+use Rattle.jv_loader_system.specs.SystemClasses.{system_classes}
+use Rattle.jv_loader_world.specs.of_loader_files.FileContent.{FileContent}
+use Rattle.jv_loader_world.specs.World.{Loaded, class_named, world_of}
+use Rattle.jv_meaning_machine.specs.Objects.{Object}
+use Rattle.jv_meaning_machine.specs.State.{Program, State}
+use Rattle.jv_meaning_machine.specs.Start.{Budget, start_cells}
+use Rattle.jv_meaning_machine.specs.Step.{step}
+use Rattle.jv_meaning_machine.specs.Alone.{Guest, Judged, IsJudged, after, alone}
+use Rattle.jv_meaning_machine.specs.Shapes.{shape_of, used_cells, used_words, first_cells}
+use Rattle.jv_meaning_machine.specs.Kept.{BeginsWith, KeepsState}
+
+-- ---- from a state to a later one
+
+-- What a state has stays over a step.
+abbrev pub StepKeeps : Type 0
+StepKeeps = (program : Program) (before later : State) → step program before ≡ Ok later → KeepsState before later
+
+-- And over any number of steps.
+abbrev pub RunKeeps : Type 0
+RunKeeps = (program : Program) (n : ℕ) (before later : State) → after program n before ≡ Ok later → KeepsState before later
+
+-- What was written stands at the front of all that is written later.
+abbrev pub OutputGrows : Type 0
+OutputGrows =
+    (program : Program) (n : ℕ) (before later : State) → after program n before ≡ Ok later → BeginsWith later.memory.output before.memory.output
+
+-- An object keeps its number, its class and its fields, an array the type of its components and their count.
+abbrev pub ObjectsStay : Type 0
+ObjectsStay =
+    (program : Program) (n : ℕ) (before later : State) → after program n before ≡ Ok later → (number : ℕ) (object : Object)
+    → slice_get before.memory.objects number ≡ Some object
+    → (same : Object) × (slice_get later.memory.objects number ≡ Some same) × (shape_of same ≡ shape_of object)
+
+-- Objects are never fewer. A new one gets their count as its number, so no number is given twice.
+abbrev pub ObjectsAreNeverFewer : Type 0
+ObjectsAreNeverFewer =
+    (program : Program) (n : ℕ) (before later : State) → after program n before ≡ Ok later
+    → length before.memory.objects ≤ length later.memory.objects
+
+-- ---- a guest alone
+
+-- What a guest does alone goes on from each state that it was in.
+abbrev pub AloneGoesOn : Type 0
+AloneGoesOn =
+    (judged : Judged) (g : Guest) (b : Budget) (n more : ℕ) (s : State) → alone judged g b n ≡ Ok s
+    → alone judged g b (n + more) ≡ after judged.program more s
+
+-- What it wrote and what it may still write are its budget's bytes of output together, always.
+abbrev pub OutputIsBudgeted : Type 0
+OutputIsBudgeted =
+    (judged : Judged) (g : Guest) (b : Budget) (n : ℕ) (s : State) → alone judged g b n ≡ Ok s
+    → length s.memory.output + s.memory.output_left ≡ b.output
+
+-- So are the words that its frames have and those that are left.
+abbrev pub WordsAreBudgeted : Type 0
+WordsAreBudgeted =
+    (judged : Judged) (g : Guest) (b : Budget) (n : ℕ) (s : State) → alone judged g b n ≡ Ok s
+    → used_words s.control + s.control.words ≡ b.words
+
+-- So are the cells that its objects have and those that are left, where there were enough for the objects of the start.
+abbrev pub CellsAreBudgeted : Type 0
+CellsAreBudgeted =
+    (judged : Judged) (g : Guest) (b : Budget) (n : ℕ) (s : State) → IsJudged g.files judged → first_cells ≤ b.cells
+    → alone judged g b n ≡ Ok s → used_cells s.memory + s.memory.cells ≡ b.cells
+
+-- The objects of the start cost the same whatever a guest's files are.
+abbrev pub FirstObjectsCost : Type 0
+FirstObjectsCost =
+    (contents : List FileContent) (error : Loaded)
+    → class_named (world_of system_classes contents) (codes "java/lang/OutOfMemoryError") ≡ Some error
+    → start_cells (world_of system_classes contents) error ≡ first_cells
