@@ -1,4 +1,5 @@
 """Writes class files in shapes that checking costs most for, into a folder."""
+import os
 import struct
 import sys
 
@@ -18,8 +19,9 @@ def u4(value):
 class ClassFile:
     """A class whose constants are added as they are named."""
 
-    def __init__(self, name):
+    def __init__(self, name, above="java/lang/Object"):
         self.name = name
+        self.above = above
         self.constants = []
         self.numbers = {}
 
@@ -37,6 +39,12 @@ class ClassFile:
         index = self.text(name)
         return self.constant(("class", name), u1(7) + u2(index))
 
+    def called(self, owner, name, descriptor):
+        both = u2(self.text(name)) + u2(self.text(descriptor))
+        member = self.constant(("member", name, descriptor), u1(12) + both)
+        index = self.named(owner)
+        return self.constant(("method", owner, name, descriptor), u1(10) + u2(index) + u2(member))
+
     def method(self, name, descriptor, max_locals, code, handlers=b"", frames=None):
         attributes = b""
         if frames is not None:
@@ -49,7 +57,7 @@ class ClassFile:
         return head + u2(self.text("Code")) + u4(len(body)) + body
 
     def write(self, folder, methods):
-        this, above = self.named(self.name), self.named("java/lang/Object")
+        this, above = self.named(self.name), self.named(self.above)
         spelled = u4(0xCAFEBABE) + u2(0) + u2(52) + u2(len(self.constants) + 1)
         spelled += b"".join(self.constants) + u2(0x21) + u2(this) + u2(above) + u2(0) + u2(0)
         spelled += u2(len(methods)) + b"".join(methods) + u2(0)
@@ -96,10 +104,36 @@ def switches(folder, name, targets, count):
     made.write(folder, [made.method(f"m{n}", MAIN, 1, code, b"", spelled) for n in range(count)])
 
 
-def methods(folder, name, count):
-    """So many methods that return at once."""
+def methods(folder, name):
+    """65,535 methods that return at once, of 256 names and 256 descriptors."""
     made = ClassFile(name)
-    made.write(folder, [made.method(f"m{n}", "()V", 0, bytes([177])) for n in range(count)])
+    descriptors = ["(" + "".join("IS"[k >> bit & 1] for bit in range(8)) + ")V" for k in range(256)]
+    names = [f"m{n}" for n in range(256)]
+    written = [made.method(n, d, 8, bytes([177])) for n in names for d in descriptors]
+    made.write(folder, written[:65534] + [made.method("main", MAIN, 1, bytes([177]))])
+
+
+def dimensions(folder, name):
+    """Arrays of 255 dimensions that are cast, stored, loaded and handed on in 65,000 bytes of code."""
+    made = ClassFile(name)
+    array = "[" * 255 + "I"
+    code = bytes([192]) + u2(made.named(array)) + bytes([76, 43, 43, 184]) + u2(made.called(name, "take", f"({array})V"))
+    code = bytes([1]) + code * 6500 + bytes([87, 177])
+    take = made.method("take", f"({array})V", 1, bytes([177]))
+    made.write(folder, [made.method("main", MAIN, 2, code), take])
+
+
+def chain(folder, name, count):
+    """So many classes, each below the one before, and 16,000 calls that hand the last one to a method that takes the first."""
+    folder = f"{folder}/{name}"
+    os.mkdir(folder)
+    for n in range(count):
+        ClassFile(f"C{n}", f"C{n - 1}" if n else "java/lang/Object").write(folder, [])
+    made = ClassFile(name)
+    code = (bytes([42, 184]) + u2(made.called(name, "take", "(LC0;)V"))) * 16000 + bytes([177])
+    take = made.method("take", "(LC0;)V", 1, bytes([177]))
+    hand = made.method("hand", f"(LC{count - 1};)V", 1, code)
+    made.write(folder, [made.method("main", MAIN, 1, bytes([177])), hand, take])
 
 
 def write(folder):
@@ -107,7 +141,9 @@ def write(folder):
     handlers(folder, "FewStores", 656, True)
     frames(folder, "Frames", 21000)
     switches(folder, "Switches", 16000, 10)
-    methods(folder, "Methods", 32000)
+    methods(folder, "Methods")
+    dimensions(folder, "Dimensions")
+    chain(folder, "Chain", 1000)
 
 
 write(sys.argv[1])
