@@ -1,14 +1,16 @@
 -- The order of types with interfaces erased (JVMS 4.10.1.2).
-use Rattle.std.proofs.Common.{◌≡◌, ℕ, zero, suc, Bool, true, false, List, refl, sym, ap, ◌∙◌, subst, nat_eq}
+use Rattle.std.proofs.Common.{◌≡◌, ℕ, zero, suc, true, false, List, refl, sym, ◌∙◌, subst}
 use Rattle.std.specs.Prelude.{IsTrue}
 use Rattle.std.proofs.lemmas.Bool.{eqb-true, eq-eqb}
 use Rattle.jv_text.specs.declared.descriptor.Base.{Base}
+use Rattle.jv_text.specs.declared.descriptor.Base.TheVariants as bases
 use Rattle.jv_text.specs.declared.descriptor.Element.{Element}
 use Rattle.jv_text.specs.declared.descriptor.Element.TheVariants as elements
+use Rattle.jv_text.specs.declared.descriptor.FieldTypeOf.{FieldTypeOf}
 use Rattle.jv_text.specs.Descriptor.{base_letter}
 use Rattle.jv_frames.specs.declared.verification.VerificationTypeOf.TheVariants as types
-use Rattle.jv_frames.specs.Types.{FrameType}
-use Rattle.jv_loader_classes.specs.of_loader_world.World.{Loaded, World, class_named}
+use Rattle.jv_frames.specs.Types.{FrameType, primitive_type, value_type_by, value_type}
+use Rattle.jv_loader_classes.specs.of_loader_world.World.{World}
 use Rattle.jv_assign.specs.Flow.{same_base, component_flows, flows}
 use Rattle.jv_assign.specs.Order.{object_name, erased_element, erased, IsBelow, is_reference, has_loadable_element, is_loadable_type, IsRooted}
 use Rattle.jv_assign.proofs.OrderNames.{flows_to_itself, loadable_to_object, erased_flows_on, erased_kept, arrays_erased, erased_arrays_on, arrays_kept}
@@ -41,13 +43,40 @@ flows_is_reflexive world (types.Uninitialized o) = eq-eqb o o refl
 pub below_is_reflexive : (world : World) (t : FrameType) → IsBelow world t t
 below_is_reflexive world t = flows_is_reflexive world (erased world t)
 
+-- ---- components of arrays, in every world
+
+same_primitive : (world : World) (a b : Base) → IsTrue (same_base a b) → IsTrue (flows world (erased world (primitive_type a)) (erased world (primitive_type b)))
+same_primitive world bases.Byte bases.Byte h = refl
+same_primitive world bases.Char bases.Char h = refl
+same_primitive world bases.Double bases.Double h = refl
+same_primitive world bases.Float bases.Float h = refl
+same_primitive world bases.Int bases.Int h = refl
+same_primitive world bases.Long bases.Long h = refl
+same_primitive world bases.Short bases.Short h = refl
+same_primitive world bases.Boolean bases.Boolean h = refl
+same_primitive world _ _ h = cc
+
+values_by : (world : World) (m n : ℕ) (e f : Element (List ℕ)) → IsTrue (component_flows world m (erased_element world e) n (erased_element world f)) → IsBelow world (value_type_by m e) (value_type_by n f)
+values_by world zero zero (elements.Base a) (elements.Base b) h = same_primitive world a b h
+values_by world zero zero (elements.Class x) (elements.Class y) h = h
+values_by world zero zero (elements.Base a) (elements.Class y) h = absurd (clash h)
+values_by world zero zero (elements.Class x) (elements.Base b) h = absurd (clash h)
+values_by world zero (suc n) e f h = absurd (clash h)
+values_by world (suc m) zero e (elements.Base b) h = absurd (clash h)
+values_by world (suc m) zero e (elements.Class y) h = h
+values_by world (suc m) (suc n) e f h = h
+
+-- where an array is below another, so is what it contains
+pub components_are_below : (world : World) (a b : FieldTypeOf (List ℕ)) → IsBelow world (types.Array a) (types.Array b) → IsBelow world (value_type a) (value_type b)
+components_are_below world a b h = values_by world a.dimensions b.dimensions a.element b.element h
+
 module _ (world : World) (rooted : IsRooted world) where
   -- ---- the order is transitive
 
-  abbrev Er : Element (List ℕ) → Element (List ℕ)
-  Er e = erased_element world e
+  abbrev bare : Element (List ℕ) → Element (List ℕ)
+  bare e = erased_element world e
 
-  elements_on : (g e f : Element (List ℕ)) → IsTrue (component_flows world zero (Er g) zero (Er e)) → IsTrue (component_flows world zero (Er e) zero (Er f)) → IsTrue (component_flows world zero (Er g) zero (Er f))
+  elements_on : (g e f : Element (List ℕ)) → IsTrue (component_flows world zero (bare g) zero (bare e)) → IsTrue (component_flows world zero (bare e) zero (bare f)) → IsTrue (component_flows world zero (bare g) zero (bare f))
   elements_on (elements.Base a) (elements.Base b) (elements.Base c) h k = same_base_on a b c h k
   elements_on (elements.Class x) (elements.Class y) (elements.Class z) h k = erased_flows_on world rooted x y z h k
   elements_on (elements.Base a) (elements.Class y) f h k = absurd (clash h)
@@ -55,7 +84,7 @@ module _ (world : World) (rooted : IsRooted world) where
   elements_on (elements.Base a) (elements.Base b) (elements.Class z) h k = absurd (clash k)
   elements_on (elements.Class x) (elements.Class y) (elements.Base c) h k = absurd (clash k)
 
-  array_on : (m : ℕ) (g e f : Element (List ℕ)) → IsTrue (component_flows world (suc m) (Er g) zero (Er e)) → IsTrue (component_flows world zero (Er e) zero (Er f)) → IsTrue (component_flows world (suc m) (Er g) zero (Er f))
+  array_on : (m : ℕ) (g e f : Element (List ℕ)) → IsTrue (component_flows world (suc m) (bare g) zero (bare e)) → IsTrue (component_flows world zero (bare e) zero (bare f)) → IsTrue (component_flows world (suc m) (bare g) zero (bare f))
   array_on m g (elements.Class y) (elements.Class z) h k = erased_arrays_on world rooted y z h k
   array_on m g (elements.Base b) f h k = absurd (clash h)
   array_on m g (elements.Class y) (elements.Base c) h k = absurd (clash k)
@@ -64,13 +93,13 @@ module _ (world : World) (rooted : IsRooted world) where
   to_element k m g e (elements.Class z) h = h
   to_element k m g e (elements.Base c) h = absurd (clash h)
 
-  components_on : (k m n : ℕ) (g e f : Element (List ℕ)) → IsTrue (component_flows world k (Er g) m (Er e)) → IsTrue (component_flows world m (Er e) n (Er f)) → IsTrue (component_flows world k (Er g) n (Er f))
+  components_on : (k m n : ℕ) (g e f : Element (List ℕ)) → IsTrue (component_flows world k (bare g) m (bare e)) → IsTrue (component_flows world m (bare e) n (bare f)) → IsTrue (component_flows world k (bare g) n (bare f))
   components_on zero zero zero g e f h i = elements_on g e f h i
   components_on zero zero (suc n) g e f h i = absurd (clash i)
   components_on zero (suc m) n g e f h i = absurd (clash h)
   components_on (suc k) zero zero g e f h i = array_on k g e f h i
   components_on (suc k) zero (suc n) g e f h i = absurd (clash i)
-  components_on (suc k) (suc m) zero g e f h i = to_element k m (Er g) (Er e) (Er f) i
+  components_on (suc k) (suc m) zero g e f h i = to_element k m (bare g) (bare e) (bare f) i
   components_on (suc k) (suc m) (suc n) g e f h i = components_on k m n g e f h i
 
   above_top : (t v : FrameType) → IsTrue (flows world types.Top v) → IsTrue (flows world t v)
@@ -107,7 +136,7 @@ module _ (world : World) (rooted : IsRooted world) where
 
   -- ---- what flows is kept
 
-  elements_kept : (g e f : Element (List ℕ)) → IsTrue (has_loadable_element world g) → IsTrue (component_flows world zero (Er g) zero (Er e)) → IsTrue (component_flows world zero e zero f) → IsTrue (component_flows world zero (Er g) zero (Er f))
+  elements_kept : (g e f : Element (List ℕ)) → IsTrue (has_loadable_element world g) → IsTrue (component_flows world zero (bare g) zero (bare e)) → IsTrue (component_flows world zero e zero f) → IsTrue (component_flows world zero (bare g) zero (bare f))
   elements_kept (elements.Base a) (elements.Base b) (elements.Base c) there h k = same_base_on a b c h k
   elements_kept (elements.Class x) (elements.Class y) (elements.Class z) there h k = erased_kept world rooted x y z there h k
   elements_kept (elements.Base a) (elements.Class y) f there h k = absurd (clash h)
@@ -115,22 +144,22 @@ module _ (world : World) (rooted : IsRooted world) where
   elements_kept (elements.Base a) (elements.Base b) (elements.Class z) there h k = absurd (clash k)
   elements_kept (elements.Class x) (elements.Class y) (elements.Base c) there h k = absurd (clash k)
 
-  array_kept : (m : ℕ) (g e f : Element (List ℕ)) → IsTrue (component_flows world (suc m) (Er g) zero (Er e)) → IsTrue (component_flows world zero e zero f) → IsTrue (component_flows world (suc m) (Er g) zero (Er f))
+  array_kept : (m : ℕ) (g e f : Element (List ℕ)) → IsTrue (component_flows world (suc m) (bare g) zero (bare e)) → IsTrue (component_flows world zero e zero f) → IsTrue (component_flows world (suc m) (bare g) zero (bare f))
   array_kept m g (elements.Class y) (elements.Class z) h k = arrays_kept world rooted y z h k
   array_kept m g (elements.Base b) f h k = absurd (clash h)
   array_kept m g (elements.Class y) (elements.Base c) h k = absurd (clash k)
 
-  to_element_kept : (k m : ℕ) (g e f : Element (List ℕ)) → IsTrue (component_flows world (suc m) e zero f) → IsTrue (component_flows world (suc k) g zero (Er f))
+  to_element_kept : (k m : ℕ) (g e f : Element (List ℕ)) → IsTrue (component_flows world (suc m) e zero f) → IsTrue (component_flows world (suc k) g zero (bare f))
   to_element_kept k m g e (elements.Class z) h = arrays_erased world rooted z h
   to_element_kept k m g e (elements.Base c) h = absurd (clash h)
 
-  components_kept : (k m n : ℕ) (g e f : Element (List ℕ)) → IsTrue (has_loadable_element world g) → IsTrue (component_flows world k (Er g) m (Er e)) → IsTrue (component_flows world m e n f) → IsTrue (component_flows world k (Er g) n (Er f))
+  components_kept : (k m n : ℕ) (g e f : Element (List ℕ)) → IsTrue (has_loadable_element world g) → IsTrue (component_flows world k (bare g) m (bare e)) → IsTrue (component_flows world m e n f) → IsTrue (component_flows world k (bare g) n (bare f))
   components_kept zero zero zero g e f there h i = elements_kept g e f there h i
   components_kept zero zero (suc n) g e f there h i = absurd (clash i)
   components_kept zero (suc m) n g e f there h i = absurd (clash h)
   components_kept (suc k) zero zero g e f there h i = array_kept k g e f h i
   components_kept (suc k) zero (suc n) g e f there h i = absurd (clash i)
-  components_kept (suc k) (suc m) zero g e f there h i = to_element_kept k m (Er g) e f i
+  components_kept (suc k) (suc m) zero g e f there h i = to_element_kept k m (bare g) e f i
   components_kept (suc k) (suc m) (suc n) g e f there h i = components_kept k m n g e f there h i
 
   above_top_kept : (t v : FrameType) → IsTrue (flows world types.Top v) → IsTrue (flows world t (erased world v))
@@ -174,13 +203,14 @@ module _ (world : World) (rooted : IsRooted world) where
   below_is_kept _ _ _ there h k = cc
 
   -- What flows is below. The class, or that of the elements, is to be loadable: one that is not there flows to each loadable
-  -- interface, and not to java/lang/Object (row `missing_below_interface`).
+  -- interface, and is not below it (row `missing_below_interface`).
   pub flows_is_below : (t u : FrameType) → IsTrue (is_loadable_type world t) → IsTrue (flows world t u) → IsBelow world t u
   flows_is_below t u there k = below_is_kept t t u there (below_is_reflexive world t) k
 
   -- ---- java/lang/Object at the top
 
-  -- Each class, array and null flows to java/lang/Object; a class does where it is loadable, and an array whatever its elements.
+  -- Each class, array and null flows to java/lang/Object, interfaces included. A class is to be loadable: one that is not
+  -- there does not (row `missing_to_object`).
   pub flows_to_object : (t : FrameType) → IsTrue (is_reference t) → IsTrue (is_loadable_type world t) → IsTrue (flows world t (types.Class object_name))
   flows_to_object types.Null r there = refl
   flows_to_object (types.Class x) r there = loadable_to_object world rooted x there

@@ -1,11 +1,11 @@
 -- The superclasses of a superclass are superclasses, in a world with circles too.
-use Rattle.std.proofs.Common.{◌≡◌, ℕ, zero, suc, ◌<◌, Bool, true, false, ◌||◌, List, [], ◌∷◌, ◌++◌, length, map, Option, Some, None, refl, sym, ap, ◌∙◌, subst, inl, inr, arith}
-use Rattle.std.specs.Prelude.{◌⊎◌, ⊤, IsTrue}
-use Rattle.std.specs.List.{Contains, list_any}
+use Rattle.std.proofs.Common.{◌≡◌, ℕ, zero, suc, ◌<◌, Bool, true, false, ◌||◌, List, [], ◌∷◌, ◌++◌, length, Option, Some, None, refl, sym, ap, ◌∙◌, subst, inl, inr, arith}
+use Rattle.std.specs.Prelude.{◌⊎◌, IsTrue}
+use Rattle.std.specs.List.{Contains, list_all, list_any}
 use Rattle.std.specs.Set.{is_member}
 use Rattle.std.specs.Str.{bytes_eq}
 use Rattle.std.specs.Cmp.Lexicographic.{nat_list_eq_equiv}
-use Rattle.std.proofs.lemmas.Bool.{or_cases, or_left, or_right}
+use Rattle.std.proofs.lemmas.Bool.{and_parts, or_cases, or_left, or_right}
 use Rattle.std.proofs.lemmas.List.{length-map}
 use Rattle.std.proofs.lemmas.List.Elements.{Contains-append_cases}
 use Rattle.std.proofs.lemmas.Map.Made.{length-le_from_is_member}
@@ -32,6 +32,16 @@ any_found {X = X} test (y ∷ xs) h = by_part (λ k. any_found test xs k) (or_ca
     by_part : (IsTrue (list_any test xs) → (x : X) × Contains xs x × IsTrue (test x)) → (test y ≡ true) ⊎ (list_any test xs ≡ true) → (x : X) × Contains (y ∷ xs) x × IsTrue (test x)
     by_part again (inl k) = (y, first y xs, k)
     by_part again (inr k) = let found = again k in (found.0, later y xs found.0 found.1, found.2)
+
+pub all_at : {X : Type 0} (test : X → Bool) (xs : List X) (x : X) → IsTrue (list_all test xs) → Contains xs x → IsTrue (test x)
+all_at test [] x all h = absurd (none x h)
+all_at test (y ∷ xs) x all h =
+    let parts = and_parts (test y) (list_all test xs) all in
+    by_part parts.0 (λ k. all_at test xs x parts.1 k) (Contains-append_cases (y ∷ []) xs x h)
+  where
+    by_part : IsTrue (test y) → (Contains xs x → IsTrue (test x)) → Contains (y ∷ []) x ⊎ Contains xs x → IsTrue (test x)
+    by_part here again (inl k) = subst (λ z. IsTrue (test z)) (single y x k) here
+    by_part here again (inr k) = again k
 
 -- ---- ways up by superclasses alone
 

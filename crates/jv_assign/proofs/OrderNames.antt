@@ -5,7 +5,6 @@ use Rattle.std.specs.List.{Contains, list_all, list_any}
 use Rattle.std.specs.Str.{bytes_eq}
 use Rattle.std.specs.Cmp.Lexicographic.{nat_list_eq_equiv}
 use Rattle.std.proofs.lemmas.Bool.{and_parts, and_from, or_cases, or_left, or_right}
-use Rattle.jv_loader_classes.specs.of_loader_world.of_class.Class.{Class}
 use Rattle.jv_loader_classes.specs.of_loader_world.of_class.Rules.{is_object}
 use Rattle.jv_loader_classes.specs.of_loader_world.of_class_parts.Attributes.{some_and}
 use Rattle.jv_loader_classes.specs.of_loader_world.World.{Loaded, World, class_named}
@@ -13,11 +12,11 @@ use Rattle.jv_loader_classes.specs.of_loader_world.Above.{class_if_named, superc
 use Rattle.jv_loader_classes.specs.of_loader_world.Verdicts.{passes, each_super, is_interface, have_right_kind, can_name_supers, is_loadable_within, is_loadable}
 use Rattle.jv_loader_classes.proofs.laws_of_loader_world.Up.{named_stands, same_name}
 use Rattle.jv_assign.specs.Flow.{is_loadable_interface, is_loadable_below, class_flows, is_above_arrays}
-use Rattle.jv_assign.specs.Order.{object_name, is_interface_named, erased_name, is_root, has_right_superclass, leads_to, IsRooted}
+use Rattle.jv_assign.specs.Order.{object_name, is_interface_named, erased_name, leads_to, has_right_supers, IsRooted}
 use Rattle.jv_assign.proofs.Names.{has_name}
-use Rattle.jv_assign.proofs.OrderChains.{any_made, any_found, IsUp, up_is_named, superclass_by_way, way_to_superclass, superclasses_are_transitive, superclasses_are_named}
+use Rattle.jv_assign.proofs.OrderChains.{any_made, any_found, IsUp, superclass_by_way, way_to_superclass, superclasses_are_transitive, superclasses_are_named}
 
-same_some : {X : Type 0} (a b : X) → Some a ≡ Some b → a ≡ b
+pub same_some : {X : Type 0} (a b : X) → Some a ≡ Some b → a ≡ b
 same_some a b e = cc
 
 unlike : true ≡ false → ⊥
@@ -105,6 +104,14 @@ class_flows_on world x y z plain h k = by_first (flow_cases world x y h)
 
 -- ---- java/lang/Object
 
+-- the class is java/lang/Object, or its superclasses lead up to it
+abbrev pub Climbs : World → Loaded → Type 0
+Climbs world l = (l.class.name ≡ object_name) ⊎ ((between : List Loaded) × (to : Loaded) × IsUp world l.class between to × (to.class.name ≡ object_name))
+
+-- the class, erased, flows to the other
+abbrev pub IsUnder : World → List ℕ → List ℕ → Type 0
+IsUnder world w n = IsTrue (class_flows world (erased_name world w) n)
+
 module _ (world : World) (rooted : IsRooted world) where
   -- it is no interface, and has no superclass
   object_parts : (l : Loaded) → class_named world object_name ≡ Some l → (is_interface l ≡ false) × (l.class.super_class ≡ None)
@@ -120,7 +127,7 @@ module _ (world : World) (rooted : IsRooted world) where
       none_there None h = refl
       none_there (Some name) h = absurd cc
 
-  interface_found : (name : List ℕ) → IsTrue (is_interface_named world name) → (l : Loaded) × (class_named world name ≡ Some l) × IsTrue (is_loadable world l) × IsTrue (is_interface l)
+  pub interface_found : (name : List ℕ) → IsTrue (is_interface_named world name) → (l : Loaded) × (class_named world name ≡ Some l) × IsTrue (is_loadable world l) × IsTrue (is_interface l)
   interface_found name h = by_class (class_named world name) refl h
     where
       by_class : (o : Option Loaded) → class_named world name ≡ o → IsTrue (is_loadable_interface world o) → (l : Loaded) × (class_named world name ≡ Some l) × IsTrue (is_loadable world l) × IsTrue (is_interface l)
@@ -130,7 +137,7 @@ module _ (world : World) (rooted : IsRooted world) where
   pub object_is_plain : IsTrue (is_interface_named world object_name) → ⊥
   object_is_plain h = let found = interface_found object_name h in unlike (sym found.3 ∙ (object_parts found.0 found.1).0)
 
-  nothing_above_object : (z : List ℕ) → IsSuperclassOf world object_name z → ⊥
+  pub nothing_above_object : (z : List ℕ) → IsSuperclassOf world object_name z → ⊥
   nothing_above_object z h =
       let way = superclass_by_way world h.from.class h.to h.on_chain in
       no_way h.from way.0 h.to (object_parts h.from h.found).1 way.1
@@ -147,13 +154,10 @@ module _ (world : World) (rooted : IsRooted world) where
 
   -- ---- what a loadable class has above it
 
-  abbrev Climbs : Loaded → Type 0
-  Climbs l = (l.class.name ≡ object_name) ⊎ ((between : List Loaded) × (to : Loaded) × IsUp world l.class between to × (to.class.name ≡ object_name))
-
-  system_climbs : (l : Loaded) → Contains world l → IsTrue l.by_system → Climbs l
-  system_climbs l there h = by_part (or_cases (bytes_eq l.class.name object_name) (list_any (λ s. bytes_eq s.class.name object_name) (superclasses world l.class)) (rooted.system l there h))
+  system_climbs : (l : Loaded) → Contains world l → IsTrue l.by_system → Climbs world l
+  system_climbs l there h = by_part (or_cases (bytes_eq l.class.name object_name) (list_any (λ s. bytes_eq s.class.name object_name) (superclasses world l.class)) (and_parts (leads_to world object_name l) (has_right_supers world l.class) (rooted.system l there h)).0)
     where
-      by_part : (bytes_eq l.class.name object_name ≡ true) ⊎ (list_any (λ (s : Loaded). bytes_eq s.class.name object_name) (superclasses world l.class) ≡ true) → Climbs l
+      by_part : (bytes_eq l.class.name object_name ≡ true) ⊎ (list_any (λ (s : Loaded). bytes_eq s.class.name object_name) (superclasses world l.class) ≡ true) → Climbs world l
       by_part (inl e) = inl (same_name l.class.name object_name e)
       by_part (inr e) =
           let one = any_found (λ (s : Loaded). bytes_eq s.class.name object_name) (superclasses world l.class) e in
@@ -192,27 +196,27 @@ module _ (world : World) (rooted : IsRooted world) where
           let b = and_parts A B c.0 in
           inr b.1
 
-  one_step : (l s : Loaded) → superclass_in world l.class ≡ Some s → Climbs s → Climbs l
+  one_step : (l s : Loaded) → superclass_in world l.class ≡ Some s → Climbs world s → Climbs world l
   one_step l s e (inl named) = inr ([], s, e, named)
   one_step l s e (inr found) = inr (s ∷ found.0, found.1, (e, found.2), found.3)
 
-  climbs : (k : ℕ) (l : Loaded) → Contains world l → IsTrue (is_loadable_within world k l) → Climbs l
+  pub climbs : (k : ℕ) (l : Loaded) → Contains world l → IsTrue (is_loadable_within world k l) → Climbs world l
   climbs zero l there h = system_climbs l there h
   climbs (suc k) l there h = by_part (own_supers k l h) (λ s at loadable. climbs k s at loadable)
     where
       by_class : (name : List ℕ) (o : Option Loaded) → class_named world name ≡ o → l.class.super_class ≡ Some name → IsTrue (passes (is_loadable_within world k) o)
-          → ((s : Loaded) → Contains world s → IsTrue (is_loadable_within world k s) → Climbs s) → Climbs l
+          → ((s : Loaded) → Contains world s → IsTrue (is_loadable_within world k s) → Climbs world s) → Climbs world l
       by_class name None at e t again = absurd cc
       by_class name (Some s) at e t again = one_step l s (ap (class_if_named world) e ∙ at) (again s (named_stands world name s at) t)
 
       by_super : (o : Option (List ℕ)) → l.class.super_class ≡ o → IsTrue (list_all (λ name. passes (is_loadable_within world k) (class_named world name)) (superclass_names o ++ l.class.interfaces))
-          → ((s : Loaded) → Contains world s → IsTrue (is_loadable_within world k s) → Climbs s) → Climbs l
+          → ((s : Loaded) → Contains world s → IsTrue (is_loadable_within world k s) → Climbs world s) → Climbs world l
       by_super None e all again = inl (without_superclass l there e)
       by_super (Some name) e all again =
           by_class name (class_named world name) refl e
           (and_parts (passes (is_loadable_within world k) (class_named world name)) (list_all (λ n. passes (is_loadable_within world k) (class_named world n)) l.class.interfaces) all).0 again
 
-      by_part : IsTrue l.by_system ⊎ IsTrue (each_super world (is_loadable_within world k) l.class) → ((s : Loaded) → Contains world s → IsTrue (is_loadable_within world k s) → Climbs s) → Climbs l
+      by_part : IsTrue l.by_system ⊎ IsTrue (each_super world (is_loadable_within world k) l.class) → ((s : Loaded) → Contains world s → IsTrue (is_loadable_within world k s) → Climbs world s) → Climbs world l
       by_part (inl t) again = system_climbs l there t
       by_part (inr all) again = by_super l.class.super_class refl all again
 
@@ -220,7 +224,7 @@ module _ (world : World) (rooted : IsRooted world) where
   pub loadable_to_object : (x : List ℕ) → IsTrue (passes (is_loadable world) (class_named world x)) → IsTrue (class_flows world x object_name)
   loadable_to_object x h = by_class (class_named world x) refl h
     where
-      by_climb : (l : Loaded) → class_named world x ≡ Some l → IsTrue (is_loadable world l) → Climbs l → IsTrue (class_flows world x object_name)
+      by_climb : (l : Loaded) → class_named world x ≡ Some l → IsTrue (is_loadable world l) → Climbs world l → IsTrue (class_flows world x object_name)
       by_climb l e t (inl named) = subst (λ n. IsTrue (class_flows world x n)) (sym (has_name world x l e) ∙ named) (flows_to_itself world x)
       by_climb l e t (inr found) =
           flows_to_superclass world x object_name (record {
@@ -287,7 +291,7 @@ module _ (world : World) (rooted : IsRooted world) where
   erased_object : erased_name world object_name ≡ object_name
   erased_object = by_erased (λ n. n ≡ object_name) object_name (λ i. refl) (λ plain. refl)
 
-  erased_to_object : (x : List ℕ) → IsTrue (passes (is_loadable world) (class_named world x)) → IsTrue (class_flows world (erased_name world x) object_name)
+  pub erased_to_object : (x : List ℕ) → IsTrue (passes (is_loadable world) (class_named world x)) → IsTrue (class_flows world (erased_name world x) object_name)
   erased_to_object x h = by_erased (λ n. IsTrue (class_flows world n object_name)) x (λ i. flows_to_itself world object_name) (λ plain. loadable_to_object x h)
 
   -- the order of erased names goes on
@@ -295,26 +299,23 @@ module _ (world : World) (rooted : IsRooted world) where
       → IsTrue (class_flows world (erased_name world x) (erased_name world z))
   erased_flows_on x y z h k = class_flows_on world (erased_name world x) (erased_name world y) (erased_name world z) (erased_is_plain y) h k
 
-  abbrev IsOver : List ℕ → List ℕ → Type 0
-  IsOver w n = IsTrue (class_flows world (erased_name world w) n)
-
   -- a loadable class that is below another is below each that the other flows to
   pub erased_kept : (w x y : List ℕ) → IsTrue (passes (is_loadable world) (class_named world w)) → IsTrue (class_flows world (erased_name world w) (erased_name world x)) → IsTrue (class_flows world x y)
       → IsTrue (class_flows world (erased_name world w) (erased_name world y))
   erased_kept w x y loadable h k = by_case (flow_cases world x y k)
     where
-      top : IsOver w object_name
+      top : IsUnder world w object_name
       top = erased_to_object w loadable
 
-      above_plain : (IsTrue (is_interface_named world x) → ⊥) → IsOver w x → IsOver w y
+      above_plain : (IsTrue (is_interface_named world x) → ⊥) → IsUnder world w x → IsUnder world w y
       above_plain plain g = class_flows_on world (erased_name world w) x y plain g k
 
-      by_case : (x ≡ y) ⊎ (IsTrue (is_interface_named world y) ⊎ IsSuperclassOf world x y) → IsOver w (erased_name world y)
-      by_case (inl e) = subst (λ n. IsOver w (erased_name world n)) e h
-      by_case (inr (inl i)) = by_erased (IsOver w) y (λ j. top) (λ plain. absurd (plain i))
+      by_case : (x ≡ y) ⊎ (IsTrue (is_interface_named world y) ⊎ IsSuperclassOf world x y) → IsUnder world w (erased_name world y)
+      by_case (inl e) = subst (λ n. IsUnder world w (erased_name world n)) e h
+      by_case (inr (inl i)) = by_erased (IsUnder world w) y (λ j. top) (λ plain. absurd (plain i))
       by_case (inr (inr f)) =
-          by_erased (IsOver w) y (λ j. top) (λ other.
-          by_erased (λ n. IsOver w n → IsOver w y) x (λ i g. subst (IsOver w) (sym (above_interface x y i f)) top) (λ plain g. above_plain plain g) h)
+          by_erased (IsUnder world w) y (λ j. top) (λ other.
+          by_erased (λ n. IsUnder world w n → IsUnder world w y) x (λ i g. subst (IsUnder world w) (sym (above_interface x y i f)) top) (λ plain g. above_plain plain g) h)
 
   -- ---- the classes above arrays
 

@@ -27,6 +27,7 @@ worked_order_rows = record {
   missing_below_interface = refl;
   interface_to_superclass = refl;
   interface_below_superclass = refl;
+  rootless_to_object = refl;
   rootless_to_interface = refl;
   rootless_below_interface = refl;
   ints_below_cloneable = refl;

@@ -1,5 +1,5 @@
 -- The worlds of guests' files are rooted.
-use Rattle.std.proofs.Common.{◌≡◌, ℕ, Bool, true, false, ◌&&◌, ◌||◌, ◌==◌, List, [], ◌∷◌, ◌++◌, map, Option, Some, None, codes, refl, sym, ap, ◌∙◌, subst, inl, inr, if◌then◌else◌}
+use Rattle.std.proofs.Common.{◌≡◌, ℕ, Bool, true, false, ◌&&◌, ◌||◌, ◌==◌, List, [], ◌∷◌, ◌++◌, map, Option, Some, None, codes, refl, ap, ◌∙◌, subst, inl, inr, if◌then◌else◌}
 use Rattle.std.specs.Prelude.{◌⊎◌, IsTrue, is_some}
 use Rattle.std.specs.List.{Contains, list_all}
 use Rattle.std.specs.Option.{IsSomeAnd, option_map}
@@ -18,7 +18,8 @@ use Rattle.jv_loader_classes.specs.of_loader_files.declared.content.Content.TheV
 use Rattle.jv_loader_classes.specs.of_loader_world.World.{Loaded, World, loaded, class_named, is_reserved, has_class, joined, joined_all, classes_in, world_of}
 use Rattle.jv_loader_classes.specs.of_loader_world.Verdicts.{passes}
 use Rattle.jv_loader_classes.proofs.laws_of_loader_world.Up.{none, single, first, later}
-use Rattle.jv_assign.specs.Order.{object_name, is_interface_named, is_root, has_right_superclass, leads_to, IsRooted, is_rooted_by}
+use Rattle.jv_assign.proofs.OrderChains.{all_at}
+use Rattle.jv_assign.specs.Order.{object_name, is_interface_named, is_root, has_right_superclass, leads_to, has_right_supers, IsRooted, is_rooted_by}
 
 -- ---- the superclass of a class that a file holds
 
@@ -124,24 +125,17 @@ in_mapped by_system (c ∷ classes) l h = by_part (λ k. in_mapped by_system cla
     by_part again (inl k) = (c, first c classes, single (loaded by_system c) l k)
     by_part again (inr k) = let found = again k in (found.0, later c classes found.0 found.1, found.2)
 
-each_passes : (test : Class → Bool) (classes : List Class) (c : Class) → IsTrue (list_all test classes) → Contains classes c → IsTrue (test c)
-each_passes test [] c all h = absurd (none c h)
-each_passes test (x ∷ classes) c all h =
-    let parts = and_parts (test x) (list_all test classes) all in
-    by_part parts.0 (λ k. each_passes test classes c parts.1 k) (Contains-append_cases (x ∷ []) classes c h)
-  where
-    by_part : IsTrue (test x) → (Contains classes c → IsTrue (test c)) → Contains (x ∷ []) c ⊎ Contains classes c → IsTrue (test c)
-    by_part here again (inl k) = subst (λ y. IsTrue (test y)) (single x c k) here
-    by_part here again (inr k) = again k
-
 module _ (system : List Class) (contents : List FileContent) where
   abbrev whole : World
   whole = world_of system contents
 
-  abbrev HasRoot : Loaded → Type 0
-  HasRoot l = IsTrue (has_right_superclass l.class) × (IsTrue l.by_system → IsTrue (leads_to whole object_name l))
+  abbrev is_right : Loaded → Bool
+  is_right l = leads_to whole object_name l && has_right_supers whole l.class
 
-  each_has_root : IsTrue (list_all (λ c. has_right_superclass c && leads_to whole object_name (loaded true c)) system) → ((class : Class) → Contains (classes_in contents) class → IsTrue (has_right_superclass class)) → (l : Loaded) → Contains whole l → HasRoot l
+  abbrev HasRoot : Loaded → Type 0
+  HasRoot l = IsTrue (has_right_superclass l.class) × (IsTrue l.by_system → IsTrue (is_right l))
+
+  each_has_root : IsTrue (list_all (λ c. has_right_superclass c && is_right (loaded true c)) system) → ((class : Class) → Contains (classes_in contents) class → IsTrue (has_right_superclass class)) → (l : Loaded) → Contains whole l → HasRoot l
   each_has_root all guests l there = by_loader (Contains-append_cases (map (loaded true) system) (map (loaded false) (classes_in contents)) l there)
     where
       not_so : IsTrue false → ⊥
@@ -150,7 +144,7 @@ module _ (system : List Class) (contents : List FileContent) where
       by_loader : Contains (map (loaded true) system) l ⊎ Contains (map (loaded false) (classes_in contents)) l → HasRoot l
       by_loader (inl k) =
           let known = in_mapped true system l k in
-          let both = and_parts (has_right_superclass known.0) (leads_to whole object_name (loaded true known.0)) (each_passes (λ c. has_right_superclass c && leads_to whole object_name (loaded true c)) system known.0 all known.1) in
+          let both = and_parts (has_right_superclass known.0) (is_right (loaded true known.0)) (all_at (λ c. has_right_superclass c && is_right (loaded true c)) system known.0 all known.1) in
           subst HasRoot known.2 (both.0, λ t. both.1)
       by_loader (inr k) =
           let known = in_mapped false (classes_in contents) l k in

@@ -1,6 +1,6 @@
 -- The order of verification types with interfaces erased (JVMS 4.10.1.2). To flow is none: an array flows to
 -- java/lang/Object, which flows to each loadable interface, and the array does not.
-use Rattle.std.specs.Prelude.{◌≡◌, ℕ, Bool, true, false, not, ◌&&◌, ◌||◌, List, ◌∷◌, Option, Some, None, codes, is_none, is_some, IsTrue, if◌then◌else◌}
+use Rattle.std.specs.Prelude.{◌≡◌, ℕ, Bool, true, false, not, ◌&&◌, ◌||◌, List, ◌∷◌, Some, codes, is_none, is_some, IsTrue, if◌then◌else◌}
 use Rattle.std.specs.List.{Contains, list_all, list_any}
 use Rattle.std.specs.Str.{bytes_eq}
 use Rattle.jv_text.specs.declared.descriptor.Element.{Element}
@@ -14,7 +14,7 @@ use Rattle.jv_loader_classes.specs.of_loader_world.of_class_parts.Attributes.{so
 use Rattle.jv_loader_classes.specs.of_loader_world.of_class_parts.Flags.{has, acc_interface}
 use Rattle.jv_loader_classes.specs.of_loader_world.World.{Loaded, World, class_named, loaded}
 use Rattle.jv_loader_classes.specs.of_loader_world.Above.{superclasses}
-use Rattle.jv_loader_classes.specs.of_loader_world.Verdicts.{passes, is_interface, is_loadable}
+use Rattle.jv_loader_classes.specs.of_loader_world.Verdicts.{passes, each_super, is_interface, have_right_kind, is_loadable}
 use Rattle.jv_assign.specs.Flow.{is_loadable_interface, flows}
 
 -- ---- interfaces erased
@@ -83,6 +83,10 @@ has_right_superclass class =
 abbrev pub leads_to : World → List ℕ → Loaded → Bool
 leads_to world name l = list_any (λ s. bytes_eq s.class.name name) (l ∷ superclasses world l.class)
 
+-- the supers of a class of the system are the system's, and of the right kind (5.3.5)
+abbrev pub has_right_supers : World → Class → Bool
+has_right_supers world class = each_super world (λ s. s.by_system) class && have_right_kind world class
+
 -- A world with java/lang/Object at the top, as class files and the system's classes make it.
 pub record IsRooted (world : World) : Type 0 where
   -- the class java/lang/Object has nothing above it
@@ -91,8 +95,8 @@ pub record IsRooted (world : World) : Type 0 where
   pub cloneable : IsTrue (is_interface_named world (codes "java/lang/Cloneable"))
   pub serializable : IsTrue (is_interface_named world (codes "java/io/Serializable"))
   pub superclass : (l : Loaded) → Contains world l → IsTrue (has_right_superclass l.class)
-  -- a class of the system leads up to it; a class of a guest does where it is loadable
-  pub system : (l : Loaded) → Contains world l → IsTrue l.by_system → IsTrue (leads_to world object_name l)
+  -- a class of the system leads up to it, and its supers are right; so it is with a class of a guest that is loadable
+  pub system : (l : Loaded) → Contains world l → IsTrue l.by_system → IsTrue (leads_to world object_name l && has_right_supers world l.class)
 
 -- the same of the system's classes alone, as a test, in a world that begins with them
 abbrev pub is_rooted_by : List Class → World → Bool
@@ -100,4 +104,4 @@ is_rooted_by system world =
     passes is_root (class_named world object_name)
     && (is_interface_named world (codes "java/lang/Cloneable")
     && (is_interface_named world (codes "java/io/Serializable")
-    && list_all (λ c. has_right_superclass c && leads_to world object_name (loaded true c)) system))
+    && list_all (λ c. has_right_superclass c && (leads_to world object_name (loaded true c) && has_right_supers world c)) system))

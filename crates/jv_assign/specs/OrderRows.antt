@@ -1,6 +1,5 @@
 -- Worked rows: interfaces erased, and the order that is left, computed; and what breaks the order in worlds that are no rooted ones.
-use Rattle.std.specs.Prelude.{◌≡◌, ℕ, Bool, true, false, List, [], ◌∷◌, ◌++◌, map, Some, None, codes}
-use Rattle.jv_text.specs.declared.descriptor.Element.TheVariants as elements
+use Rattle.std.specs.Prelude.{◌≡◌, Bool, true, false, List, [], ◌∷◌, ◌++◌, map, Some, None, codes}
 use Rattle.jv_frames.specs.declared.verification.VerificationTypeOf.TheVariants as types
 use Rattle.jv_frames.specs.Types.{FrameType}
 use Rattle.jv_loader_classes.specs.of_loader_world.of_class.Class.{Class}
@@ -9,7 +8,7 @@ use Rattle.jv_loader_classes.specs.of_loader_files.declared.content.Content.TheV
 use Rattle.jv_loader_classes.specs.of_loader_world.Rows.{object, interface, public_class, class_with}
 use Rattle.jv_assign.specs.Flow.{flows}
 use Rattle.jv_assign.specs.Order.{object_name, erased, is_rooted_by}
-use Rattle.jv_assign.specs.Rows.{world, class, array, ints, arrays_of_ints, objects, arrays_of}
+use Rattle.jv_assign.specs.Rows.{world, class, ints, arrays_of_ints, objects, arrays_of}
 
 -- whether one type is below another
 abbrev pub is_below : World → FrameType → FrameType → Bool
@@ -61,7 +60,8 @@ pub record WorkedOrderRows : Type 0 where
   -- an interface flows to its superclass, which java/lang/Object is not below
   pub interface_to_superclass : flows crooked (class (codes "J")) (class (codes "P")) ≡ true
   pub interface_below_superclass : is_below crooked (class (codes "J")) (class (codes "P")) ≡ false
-  -- a loadable class without a superclass flows to an interface that it is not below
+  -- a loadable class without a superclass flows to an interface that it is not below, and not to java/lang/Object
+  pub rootless_to_object : flows crooked (class (codes "R")) (class object_name) ≡ false
   pub rootless_to_interface : flows crooked (class (codes "R")) (class (codes "J")) ≡ true
   pub rootless_below_interface : is_below crooked (class (codes "R")) (class (codes "J")) ≡ false
   -- an array is below a class java/lang/Cloneable, and not below the class above that
