@@ -6,6 +6,7 @@ use Rattle.std.specs.Str.{bytes_eq}
 use Rattle.std.specs.Cmp.Lexicographic.{nat_list_eq_equiv}
 use Rattle.std.proofs.lemmas.Bool.{and_parts, and_from, or_cases, or_left, or_right}
 use Rattle.std.proofs.lemmas.List.Elements.{Contains-append_cases}
+use Rattle.jv_text.specs.declared.descriptor.FieldTypeOf.{FieldTypeOf}
 use Rattle.jv_frames.specs.declared.verification.VerificationTypeOf.TheVariants as types
 use Rattle.jv_loader_classes.specs.of_loader_world.of_class.Class.{Class}
 use Rattle.jv_loader_classes.specs.of_loader_world.World.{Loaded, World, class_named}
@@ -14,11 +15,11 @@ use Rattle.jv_loader_classes.specs.of_loader_world.Verdicts.{passes, superclass_
 use Rattle.jv_loader_classes.specs.of_loader_world.Laws.{IsWayUp, SystemStandsAlone}
 use Rattle.jv_loader_classes.proofs.laws_of_loader_world.Up.{none, single, first, found_super, named_stands, super_is_named, same_name, above_by_ways, above_is_transitive}
 use Rattle.jv_loader_classes.proofs.laws_of_loader_world.Standing.{named_super, loadable_by_all}
-use Rattle.jv_assign.specs.Flow.{is_loadable_interface, class_flows}
+use Rattle.jv_assign.specs.Flow.{is_loadable_interface, class_flows, is_above_arrays}
 use Rattle.jv_assign.specs.Order.{object_name, is_interface_named, erased_name, IsBelow, leads_to, has_right_supers, IsRooted}
 use Rattle.jv_assign.proofs.Names.{has_name}
 use Rattle.jv_assign.proofs.OrderChains.{any_made, any_found, all_at, IsUp, superclass_by_way, way_to_superclass, superclasses_are_transitive}
-use Rattle.jv_assign.proofs.OrderNames.{same_some, IsSuperclassOf, flow_cases, flows_to_itself, flows_to_superclass, Climbs, climbs, interface_found, nothing_above_object, above_interface, by_erased, erased_to_object, IsUnder, erased_kept}
+use Rattle.jv_assign.proofs.OrderNames.{same_some, IsSuperclassOf, flow_cases, flows_to_itself, flows_to_superclass, Climbs, climbs, interface_found, nothing_above_object, above_interface, by_erased, erased_to_object, plain_arrays, IsUnder, erased_kept}
 
 -- ---- superclasses are above
 
@@ -192,3 +193,21 @@ module _ (world : World) (rooted : IsRooted world) where
               let way = superclass_by_way world f.from.class f.to f.on_chain in
               let same : f.from ≡ l = same_some f.from l (sym f.found ∙ at) in
               is_up way.0 f.to (subst (λ (m : Loaded). IsUp world m.class way.0 f.to) same way.1) f.named
+
+  -- where neither is an interface, the one is the other, or a superclass of it is
+  pub below_is_superclass : (x y : List ℕ) → (IsTrue (is_interface_named world x) → ⊥) → (IsTrue (is_interface_named world y) → ⊥) → IsBelow world (types.Class x) (types.Class y) → (x ≡ y) ⊎ IsSuperclassOf world x y
+  below_is_superclass x y plain other h =
+      by_case
+      (flow_cases world x y
+      (by_erased world rooted (λ n. IsTrue (class_flows world n y) → IsTrue (class_flows world x y)) x (λ i k. absurd (plain i)) (λ own k. k)
+      (by_erased world rooted (λ n. IsUnder world x n → IsUnder world x y) y (λ i k. absurd (other i)) (λ own k. k) h)))
+    where
+      by_case : (x ≡ y) ⊎ (IsTrue (is_interface_named world y) ⊎ IsSuperclassOf world x y) → (x ≡ y) ⊎ IsSuperclassOf world x y
+      by_case (inl e) = inl e
+      by_case (inr (inl i)) = absurd (other i)
+      by_case (inr (inr f)) = inr f
+
+  -- an array is below no class but java/lang/Object
+  pub array_below_class : (components : FieldTypeOf (List ℕ)) (y : List ℕ) → (IsTrue (is_interface_named world y) → ⊥) → IsBelow world (types.Array components) (types.Class y) → y ≡ object_name
+  array_below_class components y plain h =
+      plain_arrays world rooted y plain (by_erased world rooted (λ n. IsTrue (is_above_arrays n) → IsTrue (is_above_arrays y)) y (λ i k. absurd (plain i)) (λ own k. k) h)

@@ -337,7 +337,7 @@ module _ (world : World) (rooted : IsRooted world) where
   arrays_erased y h = by_erased (λ n. IsTrue (is_above_arrays n)) y (λ i. object_above_arrays) (λ plain. h)
 
   -- of those that are no interface it is java/lang/Object alone
-  plain_arrays : (y : List ℕ) → (IsTrue (is_interface_named world y) → ⊥) → IsTrue (is_above_arrays y) → y ≡ object_name
+  pub plain_arrays : (y : List ℕ) → (IsTrue (is_interface_named world y) → ⊥) → IsTrue (is_above_arrays y) → y ≡ object_name
   plain_arrays y plain h = by_case (arrays_cases y h)
     where
       by_case : (y ≡ object_name) ⊎ IsTrue (is_interface_named world y) → y ≡ object_name
