@@ -1,6 +1,7 @@
 pub mod Flow
 pub mod FrameFlow
 pub mod Order
+pub mod OrderLaws
 pub mod OrderRows
 pub mod Rows
 pub mod Seen
