@@ -13,3 +13,4 @@ mod KeptAlone
 mod Stores
 mod StoreInstructions
 mod Shown
+mod Rooting

@@ -6,6 +6,7 @@ mod law;
 mod run_law;
 mod show_law;
 mod store_law;
+mod world_law;
 
 pub use law::{
     array_load_rows, array_rows, array_store_rows, branch_rows, call_rows, cast_rows,
@@ -23,3 +24,4 @@ pub use store_law::{
     array_store_stores, other_fields_stay, putfield_stores, putstatic_stores,
     reference_array_store_stores,
 };
+pub use world_law::judged_is_rooted;
