@@ -1,6 +1,6 @@
 -- What is found of files is one thing, and so is what a guest shows.
 use Rattle.std.proofs.Common.{◌≡◌, ℕ, zero, suc, List, [], ◌∷◌, length, Option, Some, None, Ok, refl, sym, ap, subst, ◌∙◌, arith}
-use Rattle.std.specs.Prelude.{◌↔◌, Result, Err, IsErr, slice_get}
+use Rattle.std.specs.Prelude.{◌↔◌, Err, IsErr, slice_get}
 use mathlib.Core.Path.{fun_ext}
 use Rattle.jv_code.specs.Insns.{Instruction}
 use Rattle.jv_loader_system.specs.SystemClasses.{system_classes}
@@ -9,10 +9,10 @@ use Rattle.jv_loader_world.specs.of_loader_files.FileContent.{FileContent, AreCo
 use Rattle.jv_meaning_typing.specs.declared.verdict.Verdict.{Verdict}
 use Rattle.jv_meaning_typing.specs.Judgement.{IsVerdictOfFile}
 use Rattle.jv_meaning_typing.specs.Laws.{OneJudgementOfFile}
-use Rattle.jv_meaning_machine.specs.Faults.{OrFault, Fault}
+use Rattle.jv_meaning_machine.specs.Faults.{OrFault}
 use Rattle.jv_meaning_machine.specs.State.{State}
-use Rattle.jv_meaning_machine.specs.Alone.{Judged, IsJudged, accepted_names, alone}
-use Rattle.jv_meaning_machine.specs.Observation.{Observed, observation}
+use Rattle.jv_meaning_machine.specs.Alone.{Judged, accepted_names, alone}
+use Rattle.jv_meaning_machine.specs.Observation.{observation}
 use Rattle.jv_meaning_machine.specs.ShowLaws.{OneJudged, ShowsOneThing, ShowsOrFaults}
 
 -- ---- what files hold, and the verdicts on them
