@@ -10,6 +10,8 @@ mod KeptInstructions
 mod KeptControl
 mod KeptSteps
 mod KeptAlone
+mod Going
+mod Ends
 mod Stores
 mod StoreInstructions
 mod Shown

@@ -1,5 +1,5 @@
 -- What is found of files is one thing, and so is what a guest shows.
-use Rattle.std.proofs.Common.{◌≡◌, ℕ, zero, suc, List, [], ◌∷◌, length, Option, Some, None, Ok, refl, sym, ap, subst, ◌∙◌, arith}
+use Rattle.std.proofs.Common.{◌≡◌, ℕ, zero, suc, ◌+◌, List, [], ◌∷◌, length, Option, Some, None, Ok, refl, sym, ap, subst, ◌∙◌, arith}
 use Rattle.std.specs.Prelude.{◌↔◌, Err, IsErr, slice_get}
 use mathlib.Core.Path.{fun_ext}
 use Rattle.jv_code.specs.Insns.{Instruction}
@@ -12,8 +12,9 @@ use Rattle.jv_meaning_typing.specs.Laws.{OneJudgementOfFile}
 use Rattle.jv_meaning_machine.specs.Faults.{OrFault}
 use Rattle.jv_meaning_machine.specs.State.{State}
 use Rattle.jv_meaning_machine.specs.Alone.{Judged, accepted_names, alone}
-use Rattle.jv_meaning_machine.specs.Observation.{observation}
-use Rattle.jv_meaning_machine.specs.ShowLaws.{OneJudged, ShowsOneThing, ShowsOrFaults}
+use Rattle.jv_meaning_machine.specs.Observation.{Observed, observation}
+use Rattle.jv_meaning_machine.specs.ShowLaws.{OneJudged, ShowsOneThing, FaultsShowNothing, EndedShowsTheSame}
+use Rattle.jv_meaning_machine.proofs.Ends.{ended_guest_stays}
 
 -- ---- what files hold, and the verdicts on them
 
@@ -101,6 +102,16 @@ no_fault : (r : OrFault State) (s : State) → r ≡ Ok s → IsErr r → ⊥
 no_fault (Ok t) s e f = absurd cc
 no_fault (Err fault) s e f = absurd cc
 
-pub shows_or_faults : OneJudged → ShowsOrFaults
-shows_or_faults law g b n o h f =
+pub faults_show_nothing : OneJudged → FaultsShowNothing
+faults_show_nothing law g b n o f h =
     no_fault (alone f.judged g b n) h.state (subst (λ (j : Judged). alone j g b n ≡ Ok h.state) (law g.files h.judged f.judged h.right f.right) h.ran) f.fault
+
+pub ended_shows_the_same : EndedShowsTheSame
+ended_shows_the_same g b n more o h ended = record {
+  judged = h.judged;
+  right = h.right;
+  state = h.state;
+  ran =
+      ended_guest_stays h.judged g b n more h.state h.right h.ran (λ running. ended (ap (λ (x : Observed). x.end) h.shown ∙ running));
+  shown = ap (λ (x : Observed). record x { steps = n + more }) h.shown;
+}

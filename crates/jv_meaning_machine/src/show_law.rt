@@ -1,6 +1,6 @@
 //! Laws of what a guest shows.
 
-ghost use Rattle.jv_meaning_machine.specs.ShowLaws.{OneJudged, ShowsOneThing, ShowsOrFaults};
+ghost use Rattle.jv_meaning_machine.specs.ShowLaws.{EndedShowsTheSame, FaultsShowNothing, OneJudged, ShowsOneThing};
 
 use jv_loader_files::one_content;
 use jv_meaning_typing::one_judgement_of_file;
@@ -20,9 +20,14 @@ pub fn shows_one_thing()
     one_judged();
 }
 
-/// A guest shows nothing where its machine meets a fault.
-pub fn shows_or_faults()
-    ensures { ShowsOrFaults }
+/// Where its machine meets a fault, a guest shows nothing.
+pub fn faults_show_nothing()
+    ensures { FaultsShowNothing }
 {
     one_judged();
 }
+
+/// Once a guest shows an end, it shows the same after any more steps, but for their number.
+pub fn ended_shows_the_same()
+    ensures { EndedShowsTheSame }
+{}
