@@ -13,5 +13,7 @@ mod KeptAlone
 mod Going
 mod Ends
 mod Stores
+mod TakenItems
 mod StoreInstructions
+mod NewObjects
 mod Shown

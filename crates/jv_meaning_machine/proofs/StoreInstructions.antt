@@ -17,15 +17,15 @@ use Rattle.jv_meaning_linking.specs.FieldResolution.{resolve_field}
 use Rattle.jv_meaning_typing.specs.Environment.{current_class}
 use Rattle.jv_meaning_typing.specs.Named.{object_type, array_with, class_components}
 use Rattle.jv_meaning_typing.specs.NumberRules.{element_number}
-use Rattle.jv_meaning_machine.specs.Faults.{OrFault, found, tested, ◌>>=◌}
-use Rattle.jv_meaning_machine.specs.Faults.Fault.{OffsetFault, TagFault, ConstructionFault}
-use Rattle.jv_meaning_machine.specs.Values.{Value, has_type, narrowed}
+use Rattle.jv_meaning_machine.specs.Faults.{found, ◌>>=◌}
+use Rattle.jv_meaning_machine.specs.Faults.Fault.{OffsetFault, TagFault}
+use Rattle.jv_meaning_machine.specs.Values.{Value, narrowed}
 use Rattle.jv_meaning_machine.specs.Values.Value.{Int, Long, Null, Reference, Half, Unset}
-use Rattle.jv_meaning_machine.specs.Objects.{Object, Instance, is_constructed, key_of, value_at}
+use Rattle.jv_meaning_machine.specs.Objects.{Object, Instance, key_of, value_at}
 use Rattle.jv_meaning_machine.specs.Objects.Object.{InstanceOf, ArrayWith}
 use Rattle.jv_meaning_machine.specs.State.{Memory, ClassState, class_state}
 use Rattle.jv_meaning_machine.specs.State.ClassState.{Untouched, Begun, Initialized, Erroneous}
-use Rattle.jv_meaning_machine.specs.Operands.{object_at, usable, popped, popped_as, popped_reference, taken_as, taken_reference, taken}
+use Rattle.jv_meaning_machine.specs.Operands.{object_at, popped_reference, taken_as, taken_reference, taken}
 use Rattle.jv_meaning_machine.specs.Effects.{Effect, Moment, Done, world_at, method_at, site_at, goes_on_with, in_state, once_initialized, unless_error, null_pointer, array_index, array_store}
 use Rattle.jv_meaning_machine.specs.Effects.Effect.{Goes, Raises, Begins}
 use Rattle.jv_meaning_machine.specs.Arithmetic.{int_in}
@@ -35,55 +35,11 @@ use Rattle.jv_meaning_machine.specs.Arrays.{Components, array_in, at_place, plac
 use Rattle.jv_meaning_machine.specs.Initialization.{is_under_way}
 use Rattle.jv_meaning_machine.specs.Locations.{field_in, component_in}
 use Rattle.jv_meaning_machine.specs.StoreLaws.{NamesField, ThrowsLinkError, BeginsFirst, PutsToNull, StoresToNull, StoresOutside, StoresStranger, PutsStatic, PutsField, PutsComponent, PutstaticStores, PutfieldStores, ArrayStoreStores, ReferenceArrayStoreStores}
-use Rattle.jv_meaning_machine.proofs.Leading.{Leads, leaf, failing, bound, bound_tested, chained, bound_gave, found_gave, tested_gave}
+use Rattle.jv_meaning_machine.proofs.Leading.{Leads, leaf, failing, bound, bound_tested, chained, found_gave}
 use Rattle.jv_meaning_machine.proofs.KeptDone.{instance_stands}
 use Rattle.jv_meaning_machine.proofs.KeptArrays.{array_stands}
+use Rattle.jv_meaning_machine.proofs.TakenItems.{popped_as_gave, taken_gave, int_gave}
 use Rattle.jv_meaning_machine.proofs.Stores.{static_stores, field_stores, component_stores}
-
--- ---- what was taken from the stack
-
-same_items : (a b : Value × List Value) (o : OrFault (Value × List Value)) → o ≡ Ok a → o ≡ Ok b → a.0 ∷ a.1 ≡ b.0 ∷ b.1
-same_items a b o e f =
-    let known : a ≡ b = cc in
-    ap (λ (p : Value × List Value). p.0 ∷ p.1) known
-
-popped_gave : (stack : List Value) (top : Value × List Value) → popped stack ≡ Ok top → stack ≡ top.0 ∷ top.1
-popped_gave [] top e = absurd cc
-popped_gave (value ∷ below) top e = same_items (value, below) top (Ok (value, below)) refl e
-
-popped_as_gave : (type : FrameType) (stack : List Value) (top : Value × List Value) → popped_as type stack ≡ Ok top → stack ≡ top.0 ∷ top.1
-popped_as_gave type stack top e =
-    let parts = bound_gave (popped stack) (λ (p : Value × List Value). tested TagFault (has_type type p.0) p) top e in
-    popped_gave stack parts.0 parts.1 ∙ ap (λ (p : Value × List Value). p.0 ∷ p.1) (tested_gave TagFault (has_type type parts.0.0) parts.0 top parts.2).1
-
-usable_gave : (objects : List Object) (value same : Value) → usable objects value ≡ Ok same → value ≡ same
-usable_gave objects (Int number) same e = cc
-usable_gave objects (Long number) same e = cc
-usable_gave objects Null same e = cc
-usable_gave objects (Reference id) same e =
-    let parts = bound_gave (object_at objects id) (λ (object : Object). tested ConstructionFault (is_constructed object) (Reference id)) same e in
-    (tested_gave ConstructionFault (is_constructed parts.0) (Reference id) same parts.2).1
-usable_gave objects Half same e = cc
-usable_gave objects Unset same e = cc
-
-taken_gave :
-    (objects : List Object) (type : FrameType) (stack : List Value) (top : Value × List Value) → taken_as objects type stack ≡ Ok top
-    → stack ≡ top.0 ∷ top.1
-taken_gave objects type stack top e =
-    let parts =
-    bound_gave (popped_as type stack) (λ (p : Value × List Value). usable objects p.0 >>= λ value. Ok (value, p.1)) top e in
-    let inner = bound_gave (usable objects parts.0.0) (λ (value : Value). Ok (value, parts.0.1)) top parts.2 in
-    popped_as_gave type stack parts.0 parts.1
-    ∙ ap (λ (v : Value). v ∷ parts.0.1) (usable_gave objects parts.0.0 inner.0 inner.1)
-    ∙ same_items (inner.0, parts.0.1) top (Ok (inner.0, parts.0.1)) refl inner.2
-
-int_gave : (value : Value) (number : ℤ) → int_in value ≡ Ok number → value ≡ Int number
-int_gave (Int known) number e = cc
-int_gave (Long known) number e = absurd cc
-int_gave Null number e = absurd cc
-int_gave (Reference id) number e = absurd cc
-int_gave Half number e = absurd cc
-int_gave Unset number e = absurd cc
 
 -- ---- the ways to an instruction on a field
 

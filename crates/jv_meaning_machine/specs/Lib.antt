@@ -38,3 +38,4 @@ pub mod Laws
 pub mod RunLaws
 pub mod ShowLaws
 pub mod StoreLaws
+pub mod NewLaws

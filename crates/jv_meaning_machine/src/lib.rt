@@ -3,6 +3,7 @@
 #![tactic(auto)]
 
 mod law;
+mod new_law;
 mod run_law;
 mod show_law;
 mod store_law;
@@ -14,6 +15,9 @@ pub use law::{
     handler_rows, initialization_rows, instance_of_rows, int_rows, link_error_rows,
     link_order_rows, local_rows, long_rows, main_is_its_own, new_array_rows, no_main_without_files,
     object_rows, output_rows, passed_rows, shift_rows, stored_is_there, switch_rows,
+};
+pub use new_law::{
+    constant_pushes, new_array_makes, new_makes, new_multi_array_makes, new_reference_array_makes,
 };
 pub use run_law::{
     alone_goes_on, cells_are_budgeted, first_objects_cost, objects_are_never_fewer, objects_stay,
