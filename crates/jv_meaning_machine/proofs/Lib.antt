@@ -16,4 +16,5 @@ mod Stores
 mod TakenItems
 mod StoreInstructions
 mod NewObjects
+mod Decoding
 mod Shown

@@ -1,20 +1,28 @@
 -- What is found of files is one thing, and so is what a guest shows.
-use Rattle.std.proofs.Common.{◌≡◌, ℕ, zero, suc, ◌+◌, List, [], ◌∷◌, length, Option, Some, None, Ok, refl, sym, ap, subst, ◌∙◌, arith}
+use Rattle.std.proofs.Common.{◌≡◌, ℕ, zero, suc, ◌+◌, true≢false, is_some, codes, List, [], ◌∷◌, length, Option, Some, None, Ok, refl, sym, ap, subst, ◌∙◌, arith}
 use Rattle.std.specs.Prelude.{◌↔◌, Err, IsErr, slice_get}
 use mathlib.Core.Path.{fun_ext}
 use Rattle.jv_code.specs.Insns.{Instruction}
 use Rattle.jv_loader_system.specs.SystemClasses.{system_classes}
-use Rattle.jv_loader_world.specs.World.{World, world_of}
+use Rattle.jv_loader_world.specs.World.{Loaded, World, class_named, world_of}
+use Rattle.jv_loader_world.specs.Overriding.{Declared}
 use Rattle.jv_loader_world.specs.of_loader_files.FileContent.{FileContent, AreContents, OneContent}
 use Rattle.jv_meaning_typing.specs.declared.verdict.Verdict.{Verdict}
 use Rattle.jv_meaning_typing.specs.Judgement.{IsVerdictOfFile}
 use Rattle.jv_meaning_typing.specs.Laws.{OneJudgementOfFile}
-use Rattle.jv_meaning_machine.specs.Faults.{OrFault}
-use Rattle.jv_meaning_machine.specs.State.{State}
-use Rattle.jv_meaning_machine.specs.Alone.{Judged, accepted_names, alone}
-use Rattle.jv_meaning_machine.specs.Observation.{Observed, observation}
-use Rattle.jv_meaning_machine.specs.ShowLaws.{OneJudged, ShowsOneThing, FaultsShowNothing, EndedShowsTheSame}
+use Rattle.jv_meaning_machine.specs.Faults.{OrFault, found, ◌>>=◌}
+use Rattle.jv_meaning_machine.specs.Faults.Fault.{ReferenceFault}
+use Rattle.jv_meaning_machine.specs.State.{State, state_of}
+use Rattle.jv_meaning_machine.specs.State.End.{NoMain}
+use Rattle.jv_meaning_machine.specs.Initialization.{main_method}
+use Rattle.jv_meaning_machine.specs.Start.{start_memory, start_control, start_with}
+use Rattle.jv_meaning_machine.specs.Alone.{Judged, IsJudged, accepted_names, after, alone}
+use Rattle.jv_meaning_machine.specs.Observation.{Observed, Shows, observation}
+use Rattle.jv_meaning_machine.specs.ShowLaws.{OneJudged, JudgedByVerdicts, ShowsNoMain, ShowsOneThing, FaultsShowNothing, EndedShowsTheSame}
 use Rattle.jv_meaning_machine.proofs.Ends.{ended_guest_stays}
+use Rattle.jv_meaning_machine.proofs.Decoding.{instructions_in, are_instructions, units_in, are_units}
+use Rattle.jv_meaning_machine.proofs.Ended.{ended_stays_over}
+use Rattle.jv_meaning_machine.proofs.Mains.{no_main_without_files}
 
 -- ---- what files hold, and the verdicts on them
 
@@ -115,3 +123,63 @@ ended_shows_the_same g b n more o h ended = record {
       ended_guest_stays h.judged g b n more h.state h.right h.ran (λ running. ended (ap (λ (x : Observed). x.end) h.shown ∙ running));
   shown = ap (λ (x : Observed). record x { steps = n + more }) h.shown;
 }
+
+-- ---- what there is to be found
+
+abbrev pub judged_by_verdicts : JudgedByVerdicts
+judged_by_verdicts files contents verdicts held count right = (
+  record {
+    program = record {
+      world = world_of system_classes contents;
+      accepted = accepted_names contents verdicts;
+      instructions = instructions_in;
+      units = units_in;
+    };
+    verdicts = verdicts;
+  },
+  record {
+    contents = contents;
+    held = held;
+    world = refl;
+    count = count;
+    verdict = right;
+    accepted = refl;
+    instructions = are_instructions;
+    units = are_units;
+  },
+  refl,
+)
+
+no_verdict : (place : ℕ) (verdict : Verdict) → slice_get [] place ≡ Some verdict → IsVerdictOfFile system_classes [] place verdict
+no_verdict zero verdict e = absurd cc
+no_verdict (suc place) verdict e = absurd cc
+
+abbrev found_none : (judged : Judged) × IsJudged [] judged × (judged.verdicts ≡ [])
+found_none = judged_by_verdicts [] [] [] tt refl no_verdict
+
+pub shows_no_main : ShowsNoMain
+shows_no_main main input b n = by_class (class_named (world_of system_classes []) (codes "java/lang/OutOfMemoryError")) refl
+  where
+    by_class :
+        (o : Option Loaded) → class_named (world_of system_classes []) (codes "java/lang/OutOfMemoryError") ≡ o
+        → Shows (record { files = []; main = main; input = input }) b n
+        (record { verdicts = []; steps = n; output = []; throws = 0; last = None; end = NoMain })
+    by_class None e = absurd (true≢false (ap (λ (o : Option Loaded). is_some o) e))
+    by_class (Some error) e = record {
+      judged = found_none.0;
+      right = found_none.1;
+      state = state_of (start_memory (world_of system_classes []) input b error) (start_control main b NoMain);
+      ran =
+          ap (λ (o : OrFault State). o >>= after found_none.0.program n)
+          (ap
+          (λ (o : Option Loaded).
+          found ReferenceFault o >>= λ l.
+          start_with found_none.0.program main b (start_memory (world_of system_classes []) input b l)
+          (main_method (world_of system_classes []) main))
+          e
+          ∙ ap (λ (d : Option Declared). start_with found_none.0.program main b (start_memory (world_of system_classes []) input b error) d)
+          (no_main_without_files main))
+          ∙ ended_stays_over found_none.0.program n
+          (state_of (start_memory (world_of system_classes []) input b error) (start_control main b NoMain)) refl;
+      shown = refl;
+    }

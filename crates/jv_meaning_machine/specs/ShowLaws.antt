@@ -1,6 +1,10 @@
 -- Laws of what a guest shows: it is one thing.
-use Rattle.std.specs.Prelude.{◌≡◌, ℕ, ◌+◌, List}
-use Rattle.jv_meaning_machine.specs.State.End.{Running}
+use Rattle.std.specs.Prelude.{◌≡◌, ℕ, ◌+◌, List, [], length, Some, None, slice_get}
+use Rattle.jv_loader_system.specs.SystemClasses.{system_classes}
+use Rattle.jv_loader_world.specs.of_loader_files.FileContent.{FileContent, AreContents}
+use Rattle.jv_meaning_typing.specs.declared.verdict.Verdict.{Verdict}
+use Rattle.jv_meaning_typing.specs.Judgement.{IsVerdictOfFile}
+use Rattle.jv_meaning_machine.specs.State.End.{Running, NoMain}
 use Rattle.jv_meaning_machine.specs.Start.{Budget}
 use Rattle.jv_meaning_machine.specs.Alone.{Guest, Judged, IsJudged}
 use Rattle.jv_meaning_machine.specs.Observation.{Observed, Shows, FaultsWithin}
@@ -8,6 +12,21 @@ use Rattle.jv_meaning_machine.specs.Observation.{Observed, Shows, FaultsWithin}
 -- What is to be found of files is one thing: their classes, the verdict on each, the instructions of code and the units of texts.
 abbrev pub OneJudged : Type 0
 OneJudged = (files : List (List ℕ)) (one other : Judged) → IsJudged files one → IsJudged files other → one ≡ other
+
+-- Where files have contents, and each content a verdict, there is something to be found of them.
+abbrev pub JudgedByVerdicts : Type 0
+JudgedByVerdicts =
+    (files : List (List ℕ)) (contents : List FileContent) (verdicts : List Verdict) → AreContents files contents
+    → length verdicts ≡ length contents
+    → ((place : ℕ) (verdict : Verdict) → slice_get verdicts place ≡ Some verdict → IsVerdictOfFile system_classes contents place verdict)
+    → (judged : Judged) × IsJudged files judged × (judged.verdicts ≡ verdicts)
+
+-- What a guest without files shows: there is no main method.
+abbrev pub ShowsNoMain : Type 0
+ShowsNoMain =
+    (main input : List ℕ) (b : Budget) (n : ℕ)
+    → Shows (record { files = []; main = main; input = input }) b n
+    (record { verdicts = []; steps = n; output = []; throws = 0; last = None; end = NoMain })
 
 -- What a guest shows alone after so many of its own steps is one thing.
 abbrev pub ShowsOneThing : Type 0

@@ -23,7 +23,10 @@ pub use run_law::{
     alone_goes_on, cells_are_budgeted, first_objects_cost, objects_are_never_fewer, objects_stay,
     output_grows, output_is_budgeted, run_keeps, step_keeps, words_are_budgeted,
 };
-pub use show_law::{ended_shows_the_same, faults_show_nothing, one_judged, shows_one_thing};
+pub use show_law::{
+    ended_shows_the_same, faults_show_nothing, judged_by_verdicts, one_judged, shows_no_main,
+    shows_one_thing,
+};
 pub use store_law::{
     array_store_stores, other_fields_stay, putfield_stores, putstatic_stores,
     reference_array_store_stores,

@@ -1,6 +1,6 @@
 //! Laws of what a guest shows.
 
-ghost use Rattle.jv_meaning_machine.specs.ShowLaws.{EndedShowsTheSame, FaultsShowNothing, OneJudged, ShowsOneThing};
+ghost use Rattle.jv_meaning_machine.specs.ShowLaws.{EndedShowsTheSame, FaultsShowNothing, JudgedByVerdicts, OneJudged, ShowsNoMain, ShowsOneThing};
 
 use jv_loader_files::one_content;
 use jv_meaning_typing::one_judgement_of_file;
@@ -12,6 +12,16 @@ pub fn one_judged()
     one_content();
     one_judgement_of_file();
 }
+
+/// Where files have contents, and each content a verdict, there is something to be found of them.
+pub fn judged_by_verdicts()
+    ensures { JudgedByVerdicts }
+{}
+
+/// A guest without files shows that it has no main method, whatever its main class is called.
+pub fn shows_no_main()
+    ensures { ShowsNoMain }
+{}
 
 /// What a guest shows alone after so many of its own steps is one thing.
 pub fn shows_one_thing()
