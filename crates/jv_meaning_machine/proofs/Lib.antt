@@ -12,6 +12,7 @@ mod KeptSteps
 mod KeptAlone
 mod Going
 mod Ends
+mod Forward
 mod Stores
 mod TakenItems
 mod StoreInstructions

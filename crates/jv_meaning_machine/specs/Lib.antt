@@ -39,3 +39,4 @@ pub mod RunLaws
 pub mod ShowLaws
 pub mod StoreLaws
 pub mod NewLaws
+pub mod ForwardLaws

@@ -2,12 +2,14 @@
 //! that was not verified could go wrong. A private part of `jv_meaning`.
 #![tactic(auto)]
 
+mod forward_law;
 mod law;
 mod new_law;
 mod run_law;
 mod show_law;
 mod store_law;
 
+pub use forward_law::{erroneous_stays, initialized_stays, throws_never_fall};
 pub use law::{
     array_load_rows, array_rows, array_store_rows, branch_rows, call_rows, cast_rows,
     constant_rows, construction_rows, conversion_rows, end_fits_alone, end_fits_behind,

@@ -1,0 +1,18 @@
+//! Laws of a guest alone that goes forward: what can't be taken back.
+
+ghost use Rattle.jv_meaning_machine.specs.ForwardLaws.{ErroneousStays, InitializedStays, ThrowsNeverFall};
+
+/// A class that is initialized stays so.
+pub fn initialized_stays()
+    ensures { InitializedStays }
+{}
+
+/// A class that is erroneous stays so.
+pub fn erroneous_stays()
+    ensures { ErroneousStays }
+{}
+
+/// Throws are never fewer, and their count stays within 64 bits.
+pub fn throws_never_fall()
+    ensures { ThrowsNeverFall }
+{}
