@@ -8,7 +8,8 @@ use Rattle.jv_meaning_machine.specs.State.{State, ClassState, ClassStates, state
 use Rattle.jv_meaning_machine.specs.State.ClassState.{Untouched, Begun, Initialized, Erroneous}
 use Rattle.jv_meaning_machine.specs.Start.{Budget}
 use Rattle.jv_meaning_machine.specs.Alone.{Guest, Judged}
-use Rattle.jv_meaning_machine.specs.ForwardLaws.{IsLater, InitializedStays, ErroneousStays, ThrowsNeverFall}
+use Rattle.jv_meaning_machine.specs.ForwardLaws.{IsLater, InitializedStays, ErroneousStays, ThrowsNeverFall, ConstructedStays}
+use Rattle.jv_meaning_machine.proofs.KeptSteps.{after_kept}
 use Rattle.jv_meaning_machine.proofs.KeptAlone.{alone_goes_on}
 use Rattle.jv_meaning_machine.proofs.Going.{IsKept, Went, after_goes}
 use Rattle.jv_meaning_machine.proofs.Ends.{alone_goes}
@@ -172,3 +173,8 @@ erroneous_stays judged g b before later l h e = stays_done judged g b before lat
 pub throws_never_fall : ThrowsNeverFall
 throws_never_fall judged g b before later h =
     ((later_forward judged g b before later h).more, (later_forward judged g b before later h).few)
+
+-- ---- objects
+
+pub constructed_stays : ConstructedStays
+constructed_stays program n before later e = (after_kept program n before later e).memory.constructed

@@ -18,7 +18,7 @@ use Rattle.jv_meaning_linking.specs.ClassResolution.{ResolvedClass, resolve_clas
 use Rattle.jv_meaning_linking.specs.ClassResolution.ResolvedClass.{ClassOf, ArrayOf}
 use Rattle.jv_meaning_linking.specs.Layout.{object_cells}
 use Rattle.jv_meaning_typing.specs.Environment.{current_class}
-use Rattle.jv_meaning_machine.specs.Faults.{OrFault, found, ◌>>=◌}
+use Rattle.jv_meaning_machine.specs.Faults.{found, ◌>>=◌}
 use Rattle.jv_meaning_machine.specs.Faults.Fault.{OffsetFault, ReferenceFault}
 use Rattle.jv_meaning_machine.specs.Values.{Value}
 use Rattle.jv_meaning_machine.specs.Values.Value.{Int, Long}
@@ -35,13 +35,9 @@ use Rattle.jv_meaning_machine.specs.Arrays.{arrays_made, push_arrays, make_array
 use Rattle.jv_meaning_machine.specs.Initialization.{is_under_way}
 use Rattle.jv_meaning_machine.specs.Instructions.{push_object, create}
 use Rattle.jv_meaning_machine.specs.NewLaws.{LacksCells, MakesIf, NamesClass, ThrowsClassError, BeginsClass, MakesObject, NewMakes, CountsBelowZero, MakesArray, NewArrayMakes, NewReferenceArrayMakes, CountsOneBelowZero, MakesArrays, TakesCounts, NewMultiArrayMakes, PushesLiteral, MakesLiteral, LacksLiteral, PushesNumber, ConstantPushes}
-use Rattle.jv_meaning_machine.proofs.Leading.{Leads, leaf, failing, bound, bound_tested, chained}
+use Rattle.jv_meaning_machine.proofs.Leading.{also, Leads, leaf, failing, bound, bound_tested, chained}
 use Rattle.jv_meaning_machine.proofs.KeptMemory.{less}
 use Rattle.jv_meaning_machine.proofs.TakenItems.{taken_gave, int_gave, IsOne, one_taken, taken_count}
-
--- what leads to something leads to whatever follows from that
-also : {A : Type 0} {P : A → Type 0} (Q : A → Type 0) (o : OrFault A) → ((a : A) → P a → Q a) → Leads A P o → Leads A Q o
-also Q o f h = record { at = λ a e. f a (h.at a e) }
 
 -- ---- payments
 

@@ -1,10 +1,11 @@
 -- Laws of a guest alone that goes forward: what can't be taken back.
 use Rattle.std.specs.Prelude.{◌≡◌, ℕ, ◌+◌, ◌-◌, ◌^◌, ◌≤◌, Ok}
 use Rattle.jv_loader_world.specs.World.{Loaded}
-use Rattle.jv_meaning_machine.specs.State.{State, class_state}
+use Rattle.jv_meaning_machine.specs.State.{Program, State, class_state}
 use Rattle.jv_meaning_machine.specs.State.ClassState.{Initialized, Erroneous}
 use Rattle.jv_meaning_machine.specs.Start.{Budget}
-use Rattle.jv_meaning_machine.specs.Alone.{Guest, Judged, IsJudged, alone}
+use Rattle.jv_meaning_machine.specs.Alone.{Guest, Judged, IsJudged, after, alone}
+use Rattle.jv_meaning_machine.specs.Kept.{StayConstructed}
 
 -- a state of a guest alone, and a later one
 pub record IsLater (judged : Judged) (g : Guest) (b : Budget) (before later : State) : Type 0 where
@@ -31,3 +32,9 @@ abbrev pub ThrowsNeverFall : Type 0
 ThrowsNeverFall =
     (judged : Judged) (g : Guest) (b : Budget) (before later : State) → IsLater judged g b before later
     → (before.control.throws ≤ later.control.throws) × (later.control.throws ≤ 2 ^ 64 - 1)
+
+-- An object that is constructed stays so, over any number of steps of any program (JVMS 2.9).
+abbrev pub ConstructedStays : Type 0
+ConstructedStays =
+    (program : Program) (n : ℕ) (before later : State) → after program n before ≡ Ok later
+    → StayConstructed before.memory.objects later.memory.objects

@@ -3,6 +3,7 @@
 use Rattle.std.specs.Prelude.{◌≡◌, ℕ, ℤ, pos, Bool, true, false, List, ◌∷◌, ◌⊎◌, Some, None, Ok, Err, IsSome, slice_get}
 use Rattle.jv_text.specs.declared.descriptor.FieldTypeOf.{FieldTypeOf}
 use Rattle.jv_text.specs.Types.{field_type_of}
+use Rattle.jv_code.specs.Insns.{Instruction}
 use Rattle.jv_code.specs.declared.insn.Insn.TheVariants as insns
 use Rattle.jv_code.specs.declared.kinds.FieldAccess.{FieldAccess}
 use Rattle.jv_code.specs.declared.kinds.FieldAccess.TheVariants as access
@@ -24,7 +25,8 @@ use Rattle.jv_meaning_machine.specs.Fields.{use_for, can_be_set}
 use Rattle.jv_meaning_machine.specs.Arrays.{at_place, holds_numbers, holds_references, can_stand}
 use Rattle.jv_meaning_machine.specs.Initialization.{is_under_way}
 use Rattle.jv_meaning_machine.specs.Instructions.{execute}
-use Rattle.jv_meaning_machine.specs.Locations.{held_at, StoresAt}
+use Rattle.jv_meaning_machine.specs.Kept.{LeavesAll}
+use Rattle.jv_meaning_machine.specs.Locations.{Location, held_at, StoresAt}
 use Rattle.jv_meaning_machine.specs.Locations.Location.{FieldOf, ComponentOf, StaticField}
 
 -- ---- one field among others
@@ -176,3 +178,30 @@ ReferenceArrayStoreStores =
     (m : Moment) (after : Memory) (effect : Effect) → execute m insns.ReferenceArrayStore ≡ Ok (after, effect)
     → ((after ≡ m.memory) × (StoresToNull m effect ⊎ StoresOutside m effect ⊎ StoresStranger m effect))
     ⊎ (put : PutsComponent m holds_references after effect) × (can_stand m put.components put.value ≡ Ok true)
+
+-- ---- all others
+
+abbrev pub stores_field : FieldAccess → Bool
+stores_field access.GetStatic = false
+stores_field access.PutStatic = true
+stores_field access.GetField = false
+stores_field access.PutField = true
+
+-- the instructions that store, of which those above are all
+abbrev pub is_store : Instruction → Bool
+is_store (insns.Field how index) = stores_field how
+is_store (insns.ArrayStore kind) = true
+is_store insns.ReferenceArrayStore = true
+is_store _ = false
+
+-- Any other instruction leaves each object and each static field as it is; new objects stand behind the others.
+abbrev pub OthersLeaveAll : Type 0
+OthersLeaveAll =
+    (m : Moment) (insn : Instruction) (after : Memory) (effect : Effect) → is_store insn ≡ false → execute m insn ≡ Ok (after, effect)
+    → LeavesAll m.memory after
+
+-- So it changes no location that there is.
+abbrev pub OthersStoreNothing : Type 0
+OthersStoreNothing =
+    (m : Moment) (insn : Instruction) (after : Memory) (effect : Effect) → is_store insn ≡ false → execute m insn ≡ Ok (after, effect)
+    → (location : Location) → IsSome (held_at m.memory location) → held_at after location ≡ held_at m.memory location

@@ -1,6 +1,6 @@
 //! Laws of a guest alone that goes forward: what can't be taken back.
 
-ghost use Rattle.jv_meaning_machine.specs.ForwardLaws.{ErroneousStays, InitializedStays, ThrowsNeverFall};
+ghost use Rattle.jv_meaning_machine.specs.ForwardLaws.{ConstructedStays, ErroneousStays, InitializedStays, ThrowsNeverFall};
 
 /// A class that is initialized stays so.
 pub fn initialized_stays()
@@ -15,4 +15,9 @@ pub fn erroneous_stays()
 /// Throws are never fewer, and their count stays within 64 bits.
 pub fn throws_never_fall()
     ensures { ThrowsNeverFall }
+{}
+
+/// An object that is constructed stays so, over any number of steps.
+pub fn constructed_stays()
+    ensures { ConstructedStays }
 {}

@@ -9,7 +9,7 @@ mod run_law;
 mod show_law;
 mod store_law;
 
-pub use forward_law::{erroneous_stays, initialized_stays, throws_never_fall};
+pub use forward_law::{constructed_stays, erroneous_stays, initialized_stays, throws_never_fall};
 pub use law::{
     array_load_rows, array_rows, array_store_rows, branch_rows, call_rows, cast_rows,
     constant_rows, construction_rows, conversion_rows, end_fits_alone, end_fits_behind,
@@ -30,6 +30,6 @@ pub use show_law::{
     shows_one_thing,
 };
 pub use store_law::{
-    array_store_stores, other_fields_stay, putfield_stores, putstatic_stores,
-    reference_array_store_stores,
+    array_store_stores, other_fields_stay, others_leave_all, others_store_nothing, putfield_stores,
+    putstatic_stores, reference_array_store_stores,
 };

@@ -1,6 +1,6 @@
 //! Laws of the machine's stores: what an instruction that stores doesn't name stays as it is.
 
-ghost use Rattle.jv_meaning_machine.specs.StoreLaws.{ArrayStoreStores, OtherFieldsStay, PutfieldStores, PutstaticStores, ReferenceArrayStoreStores};
+ghost use Rattle.jv_meaning_machine.specs.StoreLaws.{ArrayStoreStores, OtherFieldsStay, OthersLeaveAll, OthersStoreNothing, PutfieldStores, PutstaticStores, ReferenceArrayStoreStores};
 
 /// Where one field gets another value, the others hold what they held.
 pub fn other_fields_stay()
@@ -28,4 +28,15 @@ pub fn array_store_stores()
 /// So does `aastore`, which also throws where the reference can't stand in the array.
 pub fn reference_array_store_stores()
     ensures { ReferenceArrayStoreStores }
+{}
+
+/// An instruction that is none of those that store leaves each object and each static field as it is; new
+/// objects stand behind the others.
+pub fn others_leave_all()
+    ensures { OthersLeaveAll }
+{}
+
+/// So it changes no location that there is.
+pub fn others_store_nothing()
+    ensures { OthersStoreNothing }
 {}
