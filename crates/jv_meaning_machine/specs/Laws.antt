@@ -15,7 +15,7 @@ use Rattle.jv_meaning_machine.specs.Alone.{Guest, Judged, IsJudged, after, alone
 
 -- ---- states
 
--- A state that has ended stays.
+-- A state without frames, in which a guest has ended, stays.
 abbrev pub EndedStays : Type 0
 EndedStays = (program : Program) (s : State) → s.control.frames ≡ [] → step program s ≡ Ok s
 

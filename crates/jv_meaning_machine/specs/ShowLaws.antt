@@ -1,5 +1,5 @@
 -- Laws of what a guest shows: it is one thing.
-use Rattle.std.specs.Prelude.{◌≡◌, ℕ, ◌+◌, List, [], length, Some, None, slice_get}
+use Rattle.std.specs.Prelude.{◌≡◌, ℕ, ◌+◌, ◌≤◌, List, [], length, Some, None, slice_get}
 use Rattle.jv_loader_system.specs.SystemClasses.{system_classes}
 use Rattle.jv_loader_world.specs.of_loader_files.FileContent.{FileContent, AreContents}
 use Rattle.jv_meaning_typing.specs.declared.verdict.Verdict.{Verdict}
@@ -8,6 +8,7 @@ use Rattle.jv_meaning_machine.specs.State.End.{Running, NoMain}
 use Rattle.jv_meaning_machine.specs.Start.{Budget}
 use Rattle.jv_meaning_machine.specs.Alone.{Guest, Judged, IsJudged}
 use Rattle.jv_meaning_machine.specs.Observation.{Observed, Shows, FaultsWithin}
+use Rattle.jv_meaning_machine.specs.Kept.{BeginsWith}
 
 -- What is to be found of files is one thing: their classes, the verdict on each, the instructions of code and the units of texts.
 abbrev pub OneJudged : Type 0
@@ -40,3 +41,19 @@ FaultsShowNothing = (g : Guest) (b : Budget) (n : ℕ) (o : Observed) → Faults
 abbrev pub EndedShowsTheSame : Type 0
 EndedShowsTheSame =
     (g : Guest) (b : Budget) (n more : ℕ) (o : Observed) → Shows g b n o → (o.end ≡ Running → ⊥) → Shows g b (n + more) (record o { steps = n + more })
+
+-- A fault within some number of steps is one within any greater number.
+abbrev pub FaultsStay : Type 0
+FaultsStay = (g : Guest) (b : Budget) (n more : ℕ) → FaultsWithin g b n → FaultsWithin g b (n + more)
+
+-- What it shows later it has shown the front of: it showed something after fewer steps, what it wrote stands at the front of
+-- what it wrote later, and it threw no more.
+pub record ShowedBefore (g : Guest) (b : Budget) (n : ℕ) (later : Observed) : Type 0 where
+  pub earlier : Observed
+  pub shows : Shows g b n earlier
+  pub verdicts : later.verdicts ≡ earlier.verdicts
+  pub output : BeginsWith later.output earlier.output
+  pub throws : earlier.throws ≤ later.throws
+
+abbrev pub ShowsMore : Type 0
+ShowsMore = (g : Guest) (b : Budget) (n more : ℕ) (o : Observed) → Shows g b (n + more) o → ShowedBefore g b n o

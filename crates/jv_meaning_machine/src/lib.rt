@@ -26,8 +26,8 @@ pub use run_law::{
     output_grows, output_is_budgeted, run_keeps, step_keeps, words_are_budgeted,
 };
 pub use show_law::{
-    ended_shows_the_same, faults_show_nothing, judged_by_verdicts, one_judged, shows_no_main,
-    shows_one_thing,
+    ended_shows_the_same, faults_show_nothing, faults_stay, judged_by_verdicts, one_judged,
+    shows_more, shows_no_main, shows_one_thing,
 };
 pub use store_law::{
     array_store_stores, other_fields_stay, others_leave_all, others_store_nothing, putfield_stores,

@@ -1,6 +1,6 @@
 //! Laws of what a guest shows.
 
-ghost use Rattle.jv_meaning_machine.specs.ShowLaws.{EndedShowsTheSame, FaultsShowNothing, JudgedByVerdicts, OneJudged, ShowsNoMain, ShowsOneThing};
+ghost use Rattle.jv_meaning_machine.specs.ShowLaws.{EndedShowsTheSame, FaultsShowNothing, FaultsStay, JudgedByVerdicts, OneJudged, ShowsMore, ShowsNoMain, ShowsOneThing};
 
 use jv_loader_files::one_content;
 use jv_meaning_typing::one_judgement_of_file;
@@ -40,4 +40,14 @@ pub fn faults_show_nothing()
 /// Once a guest shows an end, it shows the same after any more steps, but for their number.
 pub fn ended_shows_the_same()
     ensures { EndedShowsTheSame }
+{}
+
+/// A fault within some number of steps is one within any greater number.
+pub fn faults_stay()
+    ensures { FaultsStay }
+{}
+
+/// What a guest shows it has shown the front of after fewer steps.
+pub fn shows_more()
+    ensures { ShowsMore }
 {}
