@@ -1,5 +1,5 @@
 -- What a guest alone keeps of its budget.
-use Rattle.std.proofs.Common.{◌≡◌, ℕ, zero, suc, ◌+◌, ◌-◌, true, List, [], ◌∷◌, ◌++◌, length, Option, Some, None, Ok, Err, refl, sym, ap, ◌∙◌, arith, slice_get, length-append, add-zero, add-suc, codes}
+use Rattle.std.proofs.Common.{◌≡◌, ℕ, zero, suc, ◌+◌, ◌-◌, true, List, [], ◌∷◌, length, Option, Some, None, Ok, Err, refl, sym, ap, ◌∙◌, arith, slice_get, length-append, add-zero, add-suc, codes}
 use Rattle.std.specs.Option.{option_map}
 use Rattle.std.proofs.lemmas.List.{length-map}
 use Rattle.std.proofs.lemmas.Option.{slice_get-map}
@@ -22,7 +22,7 @@ use Rattle.jv_meaning_machine.specs.Shapes.{Shape, shape_of, shapes, shape_cells
 use Rattle.jv_meaning_machine.specs.Kept.{BeginsWith, Keeps, KeepsState}
 use Rattle.jv_meaning_machine.specs.RunLaws.{OutputGrows, ObjectsStay, ObjectsAreNeverFewer, AloneGoesOn, OutputIsBudgeted, WordsAreBudgeted, CellsAreBudgeted, FirstObjectsCost}
 use Rattle.jv_meaning_machine.proofs.Leading.{Leads, leaf, bound, chained, found_gave}
-use Rattle.jv_meaning_machine.proofs.KeptMemory.{keeps_same, keeps_over}
+use Rattle.jv_meaning_machine.proofs.KeptMemory.{keeps_same, keeps_over, in_longer}
 use Rattle.jv_meaning_machine.proofs.KeptDone.{cost_of_object, cost_of_one}
 use Rattle.jv_meaning_machine.proofs.KeptControl.{Stays, begin_stays}
 use Rattle.jv_meaning_machine.proofs.KeptSteps.{after_kept}
@@ -38,12 +38,6 @@ never_fewer program n before later e =
     let count : length (shapes later.memory) ≡ length (shapes before.memory) + length more.0 =
     ap (λ (l : List Shape). length l) more.1 ∙ length-append (shapes before.memory) more.0 in
     omega (arith, count, length-map later.memory.objects shape_of, length-map before.memory.objects shape_of)
-
--- what stands in a list stands in one that begins with it
-in_longer : {A : Type 0} (front more : List A) (n : ℕ) (a : A) → slice_get front n ≡ Some a → slice_get (front ++ more) n ≡ Some a
-in_longer [] more n a e = absurd cc
-in_longer (b ∷ front) more zero a e = e
-in_longer (b ∷ front) more (suc n) a e = in_longer front more n a e
 
 mapped_gave : {A B : Type 0} (f : A → B) (o : Option A) (b : B) → option_map f o ≡ Some b → (a : A) × (o ≡ Some a) × (f a ≡ b)
 mapped_gave f None b e = absurd cc

@@ -24,7 +24,7 @@ use Rattle.jv_meaning_machine.specs.Shapes.Shape.{ArrayShape}
 use Rattle.jv_meaning_machine.specs.Kept.{Keeps}
 use Rattle.jv_meaning_machine.proofs.Leading.{failing, bound, bound_tested, bound_gave}
 use Rattle.jv_meaning_machine.proofs.KeptMemory.{keeps_object, keeps_joined, by_payment}
-use Rattle.jv_meaning_machine.proofs.KeptDone.{Kept, made_kept, same_kept, unless_kept, object_stands, cost_of_one}
+use Rattle.jv_meaning_machine.proofs.KeptDone.{Stored, made_stored, same_stored, Kept, made_kept, same_kept, unless_kept, object_stands, cost_of_one}
 
 -- ---- what is known of an array
 
@@ -45,14 +45,14 @@ array_stands objects id array e =
 -- ---- loads
 
 load_at_kept : (m : Moment) (below : List Value) (o : Option Value) → Kept m (load_at m below o)
-load_at_kept m below None = same_kept m _
-load_at_kept m below (Some value) = same_kept m _
+load_at_kept m below None = same_kept m _ refl
+load_at_kept m below (Some value) = same_kept m _ refl
 
 load_from_kept :
     (m : Moment) (test : FieldTypeOf (List ℕ) → Bool) (index : ℤ) (value : Value) (below : List Value) → Kept m (load_from m test index value below)
 load_from_kept m test index (Int number) below = failing TagFault
 load_from_kept m test index (Long number) below = failing TagFault
-load_from_kept m test index Null below = same_kept m _
+load_from_kept m test index Null below = same_kept m _ refl
 load_from_kept m test index (Reference id) below = search (bound, bound_tested, load_at_kept)
 load_from_kept m test index Half below = failing TagFault
 load_from_kept m test index Unset below = failing TagFault
@@ -67,75 +67,75 @@ keeps_component :
     → Keeps memory (with_component id array place value memory)
 keeps_component memory id array place value e =
     keeps_object id (ArrayWith array.0 array.1) (ArrayWith array.0 (slice_set array.1 place (narrowed array.0 value))) memory e
-    (ap (λ (n : ℕ). ArrayShape array.0 n) (length-set array.1 place (narrowed array.0 value)))
+    (ap (λ (n : ℕ). ArrayShape array.0 n) (length-set array.1 place (narrowed array.0 value))) (λ constructed. refl)
 
 abbrev Stands : Moment → ℕ → Components → Type 0
 Stands m id array = slice_get m.memory.objects id ≡ Some (ArrayWith array.0 array.1)
 
-store_at_kept :
+store_at_stored :
     (m : Moment) (id : ℕ) (array : Components) (index : ℤ) (value : Value) (below : List Value) (o : Option Value) → Stands m id array
-    → Kept m (store_at m id array index value below o)
-store_at_kept m id array index value below None e = same_kept m _
-store_at_kept m id array index value below (Some old) e = made_kept m _ _ (keeps_component m.memory id array (place_of index) value e)
+    → Stored m (store_at m id array index value below o)
+store_at_stored m id array index value below None e = same_stored m _ refl
+store_at_stored m id array index value below (Some old) e = made_stored m _ _ refl (keeps_component m.memory id array (place_of index) value e)
 
-store_number_kept :
-    (m : Moment) (kind : NumberElement) (index : ℤ) (value under : Value) (below : List Value) → Kept m (store_number m kind index value under below)
-store_number_kept m kind index value (Int number) below = failing TagFault
-store_number_kept m kind index value (Long number) below = failing TagFault
-store_number_kept m kind index value Null below = same_kept m _
-store_number_kept m kind index value (Reference id) below =
+store_number_stored :
+    (m : Moment) (kind : NumberElement) (index : ℤ) (value under : Value) (below : List Value) → Stored m (store_number m kind index value under below)
+store_number_stored m kind index value (Int number) below = failing TagFault
+store_number_stored m kind index value (Long number) below = failing TagFault
+store_number_stored m kind index value Null below = same_stored m _ refl
+store_number_stored m kind index value (Reference id) below =
     bound (object_at m.memory.objects id >>= array_in) _ (λ array e. at_array array (array_stands m.memory.objects id array e))
   where
     at_array :
         (array : Components) → Stands m id array
-        → Kept m
+        → Stored m
         (tested ReferenceFault (holds_numbers kind array.0) array >>= λ array. store_at m id array index value below (at_place index array.1))
     at_array array e =
-        let h : Kept m (store_at m id array index value below (at_place index array.1)) = store_at_kept m id array index value below (at_place index array.1) e in
+        let h : Stored m (store_at m id array index value below (at_place index array.1)) = store_at_stored m id array index value below (at_place index array.1) e in
         search (bound_tested, h)
-store_number_kept m kind index value Half below = failing TagFault
-store_number_kept m kind index value Unset below = failing TagFault
+store_number_stored m kind index value Half below = failing TagFault
+store_number_stored m kind index value Unset below = failing TagFault
 
-pub store_component_kept : (m : Moment) (kind : NumberElement) → Kept m (store_component m kind)
-store_component_kept m kind = search (bound, store_number_kept)
+pub store_component_stored : (m : Moment) (kind : NumberElement) → Stored m (store_component m kind)
+store_component_stored m kind = search (bound, store_number_stored)
 
-store_if_kept :
+store_if_stored :
     (m : Moment) (id : ℕ) (array : Components) (index : ℤ) (value : Value) (below : List Value) (test : Bool) → Stands m id array
-    → Kept m (store_reference_if m id array index value below test)
-store_if_kept m id array index value below true e = made_kept m _ _ (keeps_component m.memory id array (place_of index) value e)
-store_if_kept m id array index value below false e = same_kept m _
+    → Stored m (store_reference_if m id array index value below test)
+store_if_stored m id array index value below true e = made_stored m _ _ refl (keeps_component m.memory id array (place_of index) value e)
+store_if_stored m id array index value below false e = same_stored m _ refl
 
-store_reference_at_kept :
+store_reference_at_stored :
     (m : Moment) (id : ℕ) (array : Components) (index : ℤ) (value : Value) (below : List Value) (o : Option Value) → Stands m id array
-    → Kept m (store_reference_at m id array index value below o)
-store_reference_at_kept m id array index value below None e = same_kept m _
-store_reference_at_kept m id array index value below (Some old) e =
-    bound (can_stand m array.0 value) (store_reference_if m id array index value below) (λ test f. store_if_kept m id array index value below test e)
+    → Stored m (store_reference_at m id array index value below o)
+store_reference_at_stored m id array index value below None e = same_stored m _ refl
+store_reference_at_stored m id array index value below (Some old) e =
+    bound (can_stand m array.0 value) (store_reference_if m id array index value below) (λ test f. store_if_stored m id array index value below test e)
 
-pub store_reference_kept : (m : Moment) (under : Value) (index : ℤ) (value : Value) (below : List Value) → Kept m (store_reference m under index value below)
-store_reference_kept m (Int number) index value below = failing TagFault
-store_reference_kept m (Long number) index value below = failing TagFault
-store_reference_kept m Null index value below = same_kept m _
-store_reference_kept m (Reference id) index value below =
+pub store_reference_stored : (m : Moment) (under : Value) (index : ℤ) (value : Value) (below : List Value) → Stored m (store_reference m under index value below)
+store_reference_stored m (Int number) index value below = failing TagFault
+store_reference_stored m (Long number) index value below = failing TagFault
+store_reference_stored m Null index value below = same_stored m _ refl
+store_reference_stored m (Reference id) index value below =
     bound (object_at m.memory.objects id >>= array_in) _ (λ array e. at_array array (array_stands m.memory.objects id array e))
   where
     at_array :
         (array : Components) → Stands m id array
-        → Kept m
+        → Stored m
         (tested ReferenceFault (holds_references array.0) array >>= λ array. store_reference_at m id array index value below (at_place index array.1))
     at_array array e =
-        let h : Kept m (store_reference_at m id array index value below (at_place index array.1)) =
-        store_reference_at_kept m id array index value below (at_place index array.1) e in
+        let h : Stored m (store_reference_at m id array index value below (at_place index array.1)) =
+        store_reference_at_stored m id array index value below (at_place index array.1) e in
         search (bound_tested, h)
-store_reference_kept m Half index value below = failing TagFault
-store_reference_kept m Unset index value below = failing TagFault
+store_reference_stored m Half index value below = failing TagFault
+store_reference_stored m Unset index value below = failing TagFault
 
 -- ---- lengths
 
 length_of_kept : (m : Moment) (value : Value) (below : List Value) → Kept m (length_of m value below)
 length_of_kept m (Int number) below = failing TagFault
 length_of_kept m (Long number) below = failing TagFault
-length_of_kept m Null below = same_kept m _
+length_of_kept m Null below = same_kept m _ refl
 length_of_kept m (Reference id) below = search (bound, same_kept)
 length_of_kept m Half below = failing TagFault
 length_of_kept m Unset below = failing TagFault
@@ -193,15 +193,16 @@ push_arrays_kept :
     (m : Moment) (components : FieldTypeOf (List ℕ)) (counts : List ℕ) (below : List Value)
     → Kept m (push_arrays m components counts below (paid (arrays_cells components counts) m.memory))
 push_arrays_kept m components counts below =
-    by_payment (λ (o : Option Memory). Kept m (push_arrays m components counts below o)) (arrays_cells components counts) m.memory (same_kept m _)
+    by_payment (λ (o : Option Memory). Kept m (push_arrays m components counts below o)) (arrays_cells components counts) m.memory (same_kept m _ refl)
     (λ within.
-    made_kept m _ _
+    made_kept m _ _ refl
     (keeps_joined (arrays_cells components counts) (arrays_made components counts (next_object m.memory)) m.memory within
-    (cost_of_arrays components counts (next_object m.memory))))
+    (cost_of_arrays components counts (next_object m.memory)))
+    (record { statics = refl; objects = (arrays_made components counts (next_object m.memory), refl) }))
 
 pub make_array_kept : (m : Moment) (components : FieldTypeOf (List ℕ)) (count : ℤ) (below : List Value) → Kept m (make_array m components count below)
 make_array_kept m components (pos count) below = push_arrays_kept m components (count ∷ []) below
-make_array_kept m components (negsuc n) below = same_kept m _
+make_array_kept m components (negsuc n) below = same_kept m _ refl
 
 pub new_reference_array_kept : (m : Moment) (index : ℕ) → Kept m (new_reference_array m index)
 new_reference_array_kept m index = search (bound, unless_kept, make_array_kept)
@@ -209,7 +210,7 @@ new_reference_array_kept m index = search (bound, unless_kept, make_array_kept)
 make_arrays_if_kept :
     (m : Moment) (components : FieldTypeOf (List ℕ)) (counts below : List Value) (negative : Bool)
     → Kept m (make_arrays_if m components counts below negative)
-make_arrays_if_kept m components counts below true = same_kept m _
+make_arrays_if_kept m components counts below true = same_kept m _ refl
 make_arrays_if_kept m components counts below false = push_arrays_kept m components (map count_of counts) below
 
 make_arrays_kept : (m : Moment) (components : FieldTypeOf (List ℕ)) (counts below : List Value) → Kept m (make_arrays m components counts below)

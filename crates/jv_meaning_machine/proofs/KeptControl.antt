@@ -262,7 +262,7 @@ module _ (from : Memory) (all_words : ℕ) (main : List ℕ) where
       → Leads State Stays (set_field world control d type memory made)
   set_field_stays world control d type memory None h k w = throw_stays world memory control out_of_memory h w
   set_field_stays world control d type memory (Some made) h k w =
-      leaf Stays _ (keeps_over from made.0 _ (keeps_over from memory made.0 h k) (keeps_static _ _ made.0), record { sum = w.sum; same_main = w.same_main })
+      leaf Stays _ (keeps_over from made.0 _ (keeps_over from memory made.0 h k.0) (keeps_static _ _ made.0), record { sum = w.sum; same_main = w.same_main })
 
   do_task_stays :
       (program : Program) (memory : Memory) (control : Control) (task : Task) → Keeps from memory → HasWords control control.frames

@@ -1,5 +1,5 @@
 -- Memory stays over an instruction: the ways on, and instructions on fields and constants.
-use Rattle.std.proofs.Common.{◌≡◌, ℕ, ◌+◌, Bool, true, List, [], ◌∷◌, map, length, Option, Some, None, Ok, Err, refl, ap, ◌∙◌, arith, slice_get, sum_by, is_some}
+use Rattle.std.proofs.Common.{◌≡◌, ℕ, ◌+◌, Bool, true, false, true≢false, sym, List, [], ◌∷◌, map, length, Option, Some, None, Ok, Err, refl, ap, ◌∙◌, arith, slice_get, sum_by, is_some}
 use Rattle.std.proofs.lemmas.List.{length-map}
 use Rattle.std.proofs.lemmas.List.Sums.{sum_by-cons}
 use Rattle.jv_text.specs.declared.descriptor.Base.TheVariants as bases
@@ -10,10 +10,13 @@ use Rattle.jv_loader_world.specs.of_class.Class.{InitialValue}
 use Rattle.jv_loader_world.specs.of_class.Class.InitialValue.{IntValue, LongValue, StringValue}
 use Rattle.jv_loader_world.specs.World.{Loaded, World}
 use Rattle.jv_loader_world.specs.LookUps.{DeclaredField}
-use Rattle.jv_meaning_linking.specs.LinkErrors.{OrError}
+use Rattle.jv_meaning_linking.specs.LinkErrors.{OrError, error_class}
+use Rattle.jv_meaning_linking.specs.Operands.{field_operand}
+use Rattle.jv_meaning_linking.specs.FieldResolution.{resolve_field}
+use Rattle.jv_meaning_typing.specs.Environment.{current_class}
 use Rattle.jv_meaning_linking.specs.Layout.{instance_fields, width, object_cells}
-use Rattle.jv_meaning_machine.specs.Faults.{tested, ◌>>=◌}
-use Rattle.jv_meaning_machine.specs.Faults.Fault.{ReferenceFault, TagFault, ConstructionFault}
+use Rattle.jv_meaning_machine.specs.Faults.{found, tested, ◌>>=◌}
+use Rattle.jv_meaning_machine.specs.Faults.Fault.{OffsetFault, ReferenceFault, TagFault, ConstructionFault}
 use Rattle.jv_meaning_machine.specs.Values.{Value}
 use Rattle.jv_meaning_machine.specs.Values.Value.{Int, Long, Null, Reference, Half, Unset}
 use Rattle.jv_meaning_machine.specs.Objects.{FieldKey, Object, Instance, key_of, first_entry, new_instance, value_at, with_value}
@@ -22,42 +25,103 @@ use Rattle.jv_meaning_machine.specs.State.{Program, Memory, ClassState, class_st
 use Rattle.jv_meaning_machine.specs.State.ClassState.{Untouched, Begun, Initialized, Erroneous}
 use Rattle.jv_meaning_machine.specs.Costs.{array_cells, paid, next_object}
 use Rattle.jv_meaning_machine.specs.Operands.{object_at}
-use Rattle.jv_meaning_machine.specs.Effects.{Effect, Moment, Done, goes_on_with, in_state, once_initialized, unless_error}
+use Rattle.jv_meaning_machine.specs.Effects.{Effect, Moment, Done, world_at, method_at, site_at, goes_on_with, in_state, once_initialized, unless_error}
+use Rattle.jv_meaning_machine.specs.Effects.Effect.{Goes, Enters, Constructs, Leaves, Throws, Raises, Begins}
 use Rattle.jv_meaning_machine.specs.Arrays.{base_components}
 use Rattle.jv_meaning_machine.specs.Literals.{string_value, chars_of, char_of, string_with, literal_in, literal_made, literal_cells, literal_or_new, literal, string_loaded, constant_value, push_value, push_constant, push_long_constant}
-use Rattle.jv_meaning_machine.specs.Fields.{get_static, put_static, instance_in, get_field_of, get_field, can_be_set, with_field, with_object, put_field_of, put_field, access_field, use_field}
+use Rattle.jv_meaning_machine.specs.Fields.{use_for, get_static, put_static, instance_in, get_field_of, get_field, can_be_set, with_field, with_object, put_field_of, put_field, access_field, use_field}
 use Rattle.jv_meaning_machine.specs.Shapes.{shape_of, shape_cells, field_cells, keys_in}
 use Rattle.jv_meaning_machine.specs.Shapes.Shape.{ObjectShape}
-use Rattle.jv_meaning_machine.specs.Kept.{Keeps}
+use Rattle.jv_meaning_machine.specs.Kept.{Keeps, LeavesAll}
+use Rattle.jv_meaning_machine.specs.StoreLaws.{stores_field}
 use Rattle.jv_meaning_machine.proofs.Leading.{Leads, leaf, failing, bound, bound_tested, chained, bound_gave, found_gave}
-use Rattle.jv_meaning_machine.proofs.KeptMemory.{keeps_same, keeps_over, same_keys, keeps_static, keeps_object, keeps_joined, by_payment, with_literal_at, keeps_literal}
+use Rattle.jv_meaning_machine.proofs.KeptMemory.{begins_same, keeps_same, keeps_over, same_keys, keeps_static, keeps_object, keeps_joined, by_payment, with_literal_at, keeps_literal}
 
 -- ---- the ways on
 
-abbrev pub IsKept : Moment → Memory × Effect → Type 0
-IsKept m made = Keeps m.memory made.0
+-- an `<init>` is entered on an object that is not constructed
+abbrev pub MayConstruct : List Object → Effect → Type 0
+MayConstruct objects (Constructs d object arguments stack) =
+    (instance : Instance) → slice_get objects object ≡ Some (InstanceOf instance) → instance.constructed ≡ false
+MayConstruct objects _ = Unit {0}
+
+abbrev pub is_plain : Effect → Bool
+is_plain (Constructs d object arguments stack) = false
+is_plain _ = true
+
+plain_may : (objects : List Object) (effect : Effect) → is_plain effect ≡ true → MayConstruct objects effect
+plain_may objects (Goes offset locals stack) e = tt
+plain_may objects (Enters d receiver arguments stack) e = tt
+plain_may objects (Constructs d object arguments stack) e = absurd (true≢false (sym e))
+plain_may objects (Leaves result) e = tt
+plain_may objects (Throws object) e = tt
+plain_may objects (Raises class) e = tt
+plain_may objects (Begins l) e = tt
+
+-- over an instruction that stores
+pub record IsStored (m : Moment) (made : Memory × Effect) : Type 0 where
+  pub keeps : Keeps m.memory made.0
+  pub may : MayConstruct made.0.objects made.1
+
+-- and over another one
+pub record IsKept (m : Moment) (made : Memory × Effect) : Type 0 where
+  pub keeps : Keeps m.memory made.0
+  pub may : MayConstruct made.0.objects made.1
+  pub leaves : LeavesAll m.memory made.0
+
+abbrev pub Stored : Moment → Done → Type 0
+Stored m done = Leads (Memory × Effect) (IsStored m) done
 
 abbrev pub Kept : Moment → Done → Type 0
 Kept m done = Leads (Memory × Effect) (IsKept m) done
 
-pub made_kept : (m : Moment) (memory : Memory) (effect : Effect) → Keeps m.memory memory → Kept m (Ok (memory, effect))
-made_kept m memory effect h = leaf (IsKept m) (memory, effect) h
+-- over one or the other
+abbrev pub IsDone : Bool → Moment → Memory × Effect → Type 0
+IsDone true = IsStored
+IsDone false = IsKept
 
-pub same_kept : (m : Moment) (effect : Effect) → Kept m (Ok (m.memory, effect))
-same_kept m effect = made_kept m m.memory effect (keeps_same m.memory)
+abbrev pub Does : Bool → Moment → Done → Type 0
+Does stores m done = Leads (Memory × Effect) (IsDone stores m) done
+
+pub made_stored : (m : Moment) (memory : Memory) (effect : Effect) → is_plain effect ≡ true → Keeps m.memory memory → Stored m (Ok (memory, effect))
+made_stored m memory effect plain h = leaf (IsStored m) (memory, effect) (record { keeps = h; may = plain_may memory.objects effect plain })
+
+pub same_stored : (m : Moment) (effect : Effect) → is_plain effect ≡ true → Stored m (Ok (m.memory, effect))
+same_stored m effect plain = made_stored m m.memory effect plain (keeps_same m.memory)
+
+pub made_kept :
+    (m : Moment) (memory : Memory) (effect : Effect) → is_plain effect ≡ true → Keeps m.memory memory → LeavesAll m.memory memory
+    → Kept m (Ok (memory, effect))
+made_kept m memory effect plain h leaves =
+    leaf (IsKept m) (memory, effect) (record { keeps = h; may = plain_may memory.objects effect plain; leaves = leaves })
+
+pub leaves_same : (memory : Memory) → LeavesAll memory memory
+leaves_same memory = record { statics = refl; objects = begins_same memory.objects }
+
+pub same_kept : (m : Moment) (effect : Effect) → is_plain effect ≡ true → Kept m (Ok (m.memory, effect))
+same_kept m effect plain = made_kept m m.memory effect plain (keeps_same m.memory) (leaves_same m.memory)
 
 pub unless_kept : {A : Type 0} (m : Moment) (o : OrError A) (next : A → Done) → ((a : A) → Kept m (next a)) → Kept m (unless_error m o next)
 unless_kept m (Ok a) next h = h a
-unless_kept m (Err error) next h = same_kept m _
+unless_kept m (Err error) next h = same_kept m _ refl
 
 in_state_kept : (m : Moment) (l : Loaded) (state : ClassState) (done : Done) → Kept m done → Kept m (in_state m l state done)
-in_state_kept m l Untouched done h = same_kept m _
+in_state_kept m l Untouched done h = same_kept m _ refl
 in_state_kept m l Begun done h = h
 in_state_kept m l Initialized done h = h
-in_state_kept m l Erroneous done h = same_kept m _
+in_state_kept m l Erroneous done h = same_kept m _ refl
 
 pub once_kept : (m : Moment) (l : Loaded) (done : Done) → Kept m done → Kept m (once_initialized m l done)
 once_kept m l done h = in_state_kept m l (class_state m.states l) done h
+
+in_state_stored : (m : Moment) (l : Loaded) (state : ClassState) (done : Done) → Stored m done → Stored m (in_state m l state done)
+in_state_stored m l Untouched done h = same_stored m _ refl
+in_state_stored m l Begun done h = h
+in_state_stored m l Initialized done h = h
+in_state_stored m l Erroneous done h = same_stored m _ refl
+
+once_stored : (m : Moment) (l : Loaded) (done : Done) → Stored m done → Stored m (once_initialized m l done)
+once_stored m l done h = in_state_stored m l (class_state m.states l) done h
 
 -- ---- what is known of an object
 
@@ -80,15 +144,15 @@ instance_stands objects id instance e =
 get_static_kept : (m : Moment) (d : DeclaredField) → Kept m (get_static m d)
 get_static_kept m d = search (bound, same_kept)
 
-put_static_kept : (m : Moment) (d : DeclaredField) → Kept m (put_static m d)
-put_static_kept m d = search (bound, made_kept, keeps_static)
+put_static_stored : (m : Moment) (d : DeclaredField) → Stored m (put_static m d)
+put_static_stored m d = search (bound, made_stored, keeps_static)
 
 -- ---- fields of objects
 
 get_field_of_kept : (m : Moment) (d : DeclaredField) (value : Value) (below : List Value) → Kept m (get_field_of m d value below)
 get_field_of_kept m d (Int number) below = failing TagFault
 get_field_of_kept m d (Long number) below = failing TagFault
-get_field_of_kept m d Null below = same_kept m _
+get_field_of_kept m d Null below = same_kept m _ refl
 get_field_of_kept m d (Reference id) below = search (bound, same_kept)
 get_field_of_kept m d Half below = failing TagFault
 get_field_of_kept m d Unset below = failing TagFault
@@ -101,40 +165,56 @@ keeps_field :
     → Keeps memory (with_object id (with_field key value instance) memory)
 keeps_field memory id instance key value e =
     keeps_object id (InstanceOf instance) (with_field key value instance) memory e
-    (ap (λ (keys : List FieldKey). ObjectShape instance.class keys) (same_keys key value instance.fields))
+    (ap (λ (keys : List FieldKey). ObjectShape instance.class keys) (same_keys key value instance.fields)) (λ constructed. constructed)
 
-put_field_of_kept :
+put_field_of_stored :
     (m : Moment) (reference : MemberReference) (d : DeclaredField) (under value : Value) (below : List Value)
-    → Kept m (put_field_of m reference d under value below)
-put_field_of_kept m reference d (Int number) value below = failing TagFault
-put_field_of_kept m reference d (Long number) value below = failing TagFault
-put_field_of_kept m reference d Null value below = same_kept m _
-put_field_of_kept m reference d (Reference id) value below =
+    → Stored m (put_field_of m reference d under value below)
+put_field_of_stored m reference d (Int number) value below = failing TagFault
+put_field_of_stored m reference d (Long number) value below = failing TagFault
+put_field_of_stored m reference d Null value below = same_stored m _ refl
+put_field_of_stored m reference d (Reference id) value below =
     bound (object_at m.memory.objects id >>= instance_in) _ (λ instance e. at_instance instance (instance_stands m.memory.objects id instance e))
   where
     at_instance :
         (instance : Instance) → slice_get m.memory.objects id ≡ Some (InstanceOf instance)
-        → Kept m
+        → Stored m
         (tested ConstructionFault (can_be_set m reference id instance) instance >>= λ instance.
         tested ReferenceFault (is_some (value_at (key_of d) instance.fields)) instance >>= λ instance.
         goes_on_with m (with_object id (with_field (key_of d) value instance) m.memory) below)
     at_instance instance e =
         let h : Keeps m.memory (with_object id (with_field (key_of d) value instance) m.memory) = keeps_field m.memory id instance (key_of d) value e in
-        search (bound_tested, made_kept, h)
-put_field_of_kept m reference d Half value below = failing TagFault
-put_field_of_kept m reference d Unset value below = failing TagFault
+        search (bound_tested, made_stored, h)
+put_field_of_stored m reference d Half value below = failing TagFault
+put_field_of_stored m reference d Unset value below = failing TagFault
 
-put_field_kept : (m : Moment) (reference : MemberReference) (d : DeclaredField) → Kept m (put_field m reference d)
-put_field_kept m reference d = search (bound, put_field_of_kept)
+put_field_stored : (m : Moment) (reference : MemberReference) (d : DeclaredField) → Stored m (put_field m reference d)
+put_field_stored m reference d = search (bound, put_field_of_stored)
 
-access_kept : (m : Moment) (how : FieldAccess) (reference : MemberReference) (d : DeclaredField) → Kept m (access_field m how reference d)
-access_kept m accesses.GetStatic reference d = once_kept m d.by _ (get_static_kept m d)
-access_kept m accesses.PutStatic reference d = once_kept m d.by _ (put_static_kept m d)
-access_kept m accesses.GetField reference d = get_field_kept m d
-access_kept m accesses.PutField reference d = put_field_kept m reference d
+access_does :
+    (m : Moment) (how : FieldAccess) (reference : MemberReference) (d : DeclaredField) → Does (stores_field how) m (access_field m how reference d)
+access_does m accesses.GetStatic reference d = once_kept m d.by _ (get_static_kept m d)
+access_does m accesses.PutStatic reference d = once_stored m d.by _ (put_static_stored m d)
+access_does m accesses.GetField reference d = get_field_kept m d
+access_does m accesses.PutField reference d = put_field_stored m reference d
 
-pub use_field_kept : (m : Moment) (how : FieldAccess) (index : ℕ) → Kept m (use_field m how index)
-use_field_kept m how index = search (bound, unless_kept, access_kept)
+same_done : (stores : Bool) (m : Moment) (class : List ℕ) → IsDone stores m (m.memory, Raises class)
+same_done true m class = record { keeps = keeps_same m.memory; may = tt }
+same_done false m class = record { keeps = keeps_same m.memory; may = tt; leaves = leaves_same m.memory }
+
+unless_does :
+    (stores : Bool) (m : Moment) (o : OrError DeclaredField) (next : DeclaredField → Done) → ((d : DeclaredField) → Does stores m (next d))
+    → Does stores m (unless_error m o next)
+unless_does stores m (Ok d) next h = h d
+unless_does stores m (Err error) next h = leaf (IsDone stores m) (m.memory, Raises (error_class error)) (same_done stores m (error_class error))
+
+pub use_field_does : (m : Moment) (how : FieldAccess) (index : ℕ) → Does (stores_field how) m (use_field m how index)
+use_field_does m how index =
+    bound (found OffsetFault (field_operand (current_class (method_at m)) index))
+    (λ reference. unless_error m (resolve_field (world_at m) (site_at m) (use_for how) reference) (access_field m how reference))
+    (λ reference e.
+    unless_does (stores_field how) m (resolve_field (world_at m) (site_at m) (use_for how) reference) (access_field m how reference)
+    (access_does m how reference))
 
 -- ---- what objects cost
 
@@ -170,22 +250,24 @@ cost_of_literal program l units chars =
 -- a literal that is made or found, if its cells are left
 abbrev pub IsKeptIf : {A : Type 0} → Memory → Option (Memory × A) → Type 0
 IsKeptIf before None = Unit {0}
-IsKeptIf before (Some made) = Keeps before made.0
+IsKeptIf before (Some made) = Keeps before made.0 × LeavesAll before made.0
 
 literal_made_kept :
     (program : Program) (l : Loaded) (text units : List ℕ) (memory : Memory) → literal_in text memory.literals ≡ None
     → IsKeptIf memory (literal_made program l text units (paid (literal_cells program l units) memory))
 literal_made_kept program l text units memory none =
     by_payment (λ (o : Option Memory). IsKeptIf memory (literal_made program l text units o)) (literal_cells program l units) memory tt
-    (λ within.
-    keeps_over memory (with_literal_at text (next_object memory) memory) _ (keeps_literal text (next_object memory) memory none)
-    (keeps_joined (literal_cells program l units) (string_with program l (next_object memory + 1) ∷ chars_of units ∷ [])
-    (with_literal_at text (next_object memory) memory) within (cost_of_literal program l units (next_object memory + 1))))
+    (λ within. (
+      keeps_over memory (with_literal_at text (next_object memory) memory) _ (keeps_literal text (next_object memory) memory none)
+          (keeps_joined (literal_cells program l units) (string_with program l (next_object memory + 1) ∷ chars_of units ∷ [])
+          (with_literal_at text (next_object memory) memory) within (cost_of_literal program l units (next_object memory + 1))),
+      record { statics = refl; objects = (string_with program l (next_object memory + 1) ∷ chars_of units ∷ [], refl) },
+    ))
 
 literal_or_new_kept :
     (program : Program) (text : List ℕ) (memory : Memory) (known : Option ℕ) → literal_in text memory.literals ≡ known
     → Leads (Option (Memory × ℕ)) (IsKeptIf memory) (literal_or_new program text memory known)
-literal_or_new_kept program text memory (Some object) e = leaf (IsKeptIf {A = ℕ} memory) (Some (memory, object)) (keeps_same memory)
+literal_or_new_kept program text memory (Some object) e = leaf (IsKeptIf {A = ℕ} memory) (Some (memory, object)) (keeps_same memory, leaves_same memory)
 literal_or_new_kept program text memory None e =
     let h : (l : Loaded) (units : List ℕ) → IsKeptIf memory (literal_made program l text units (paid (literal_cells program l units) memory)) =
     λ l units. literal_made_kept program l text units memory e in
@@ -200,15 +282,15 @@ loaded_kept memory (Some made) h = h
 
 pub constant_value_kept :
     (program : Program) (value : InitialValue) (memory : Memory) → Leads (Option (Memory × Value)) (IsKeptIf memory) (constant_value program value memory)
-constant_value_kept program (IntValue number) memory = leaf (IsKeptIf {A = Value} memory) (Some (memory, Int number)) (keeps_same memory)
-constant_value_kept program (LongValue number) memory = leaf (IsKeptIf {A = Value} memory) (Some (memory, Long number)) (keeps_same memory)
+constant_value_kept program (IntValue number) memory = leaf (IsKeptIf {A = Value} memory) (Some (memory, Int number)) (keeps_same memory, leaves_same memory)
+constant_value_kept program (LongValue number) memory = leaf (IsKeptIf {A = Value} memory) (Some (memory, Long number)) (keeps_same memory, leaves_same memory)
 constant_value_kept program (StringValue text) memory =
     chained (IsKeptIf {A = ℕ} memory) (IsKeptIf {A = Value} memory) (literal program text memory) (λ made. Ok (string_loaded made)) (literal_kept program text memory)
     (λ made h. leaf (IsKeptIf {A = Value} memory) (string_loaded made) (loaded_kept memory made h))
 
 push_value_kept : (m : Moment) (made : Option (Memory × Value)) → IsKeptIf m.memory made → Kept m (push_value m made)
-push_value_kept m None h = same_kept m _
-push_value_kept m (Some made) h = made_kept m made.0 _ h
+push_value_kept m None h = same_kept m _ refl
+push_value_kept m (Some made) h = made_kept m made.0 _ refl h.0 h.1
 
 push_known_kept : (m : Moment) (value : InitialValue) → Kept m (constant_value m.program value m.memory >>= push_value m)
 push_known_kept m value =

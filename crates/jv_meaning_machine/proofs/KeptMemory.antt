@@ -1,14 +1,14 @@
 -- What stays in memory over the changes that instructions make to it.
-use Rattle.std.proofs.Common.{◌≡◌, ℕ, ℤ, ◌%◌, ◌==◌, zero, suc, ◌+◌, ◌-◌, ◌≤◌, nat_le, Bool, true, false, List, [], ◌∷◌, ◌++◌, map, Option, Some, None, refl, sym, ap, ◌∙◌, arith, append_assoc, append-nil, slice_get, slice_set, sum_by, length-append, true≢false, if◌then◌else◌, bytes_eq}
+use Rattle.std.proofs.Common.{◌≡◌, ℕ, ℤ, ◌%◌, ◌==◌, zero, suc, ◌+◌, ◌-◌, ◌≤◌, nat_le, Bool, true, false, List, [], ◌∷◌, ◌++◌, map, Option, Some, None, refl, sym, ap, ◌∙◌, ◌⊎◌, inl, inr, arith, append_assoc, append-nil, slice_get, slice_set, sum_by, length-append, true≢false, if◌then◌else◌, bytes_eq}
 use Rattle.std.specs.Int.{w32, cast_unsigned}
-use Rattle.std.proofs.lemmas.Bool.{leb-true}
+use Rattle.std.proofs.lemmas.Bool.{leb-true, cases_eq}
 use Rattle.std.proofs.lemmas.List.{map-append}
 use Rattle.std.proofs.lemmas.List.Sums.{sum_by-append}
 use Rattle.std.proofs.lemmas.Slice.Eq.{bytes_eq-Decides}
 use Rattle.std.proofs.lemmas.Option.{get_or_from_slice_get}
 use Rattle.std.proofs.Math.Seq.{map-set_same}
 use Rattle.jv_meaning_machine.specs.Values.{Value}
-use Rattle.jv_meaning_machine.specs.Objects.{FieldKey, Content, Object, same_key, with_value}
+use Rattle.jv_meaning_machine.specs.Objects.{FieldKey, Content, Object, is_constructed, same_key, with_value}
 use Rattle.jv_meaning_machine.specs.State.{Memory}
 use Rattle.jv_meaning_machine.specs.Costs.{paid, with_objects}
 use Rattle.jv_meaning_machine.specs.Literals.{literal_in}
@@ -31,6 +31,24 @@ ends_same all = ([], refl)
 pub ends_over : {A : Type 0} (a b c : List A) → EndsWith a b → EndsWith b c → EndsWith a c
 ends_over a b c h k = (h.0 ++ k.0, h.1 ∙ ap (λ l. h.0 ++ l) k.1 ∙ sym (append_assoc h.0 k.0 c))
 
+-- what stands in a list stands in one that begins with it
+pub in_longer : {A : Type 0} (front more : List A) (n : ℕ) (a : A) → slice_get front n ≡ Some a → slice_get (front ++ more) n ≡ Some a
+in_longer [] more n a e = absurd cc
+in_longer (b ∷ front) more zero a e = e
+in_longer (b ∷ front) more (suc n) a e = in_longer front more n a e
+
+pub set_there : {A : Type 0} (all : List A) (n : ℕ) (a old : A) → slice_get all n ≡ Some old → slice_get (slice_set all n a) n ≡ Some a
+set_there [] n a old e = absurd cc
+set_there (b ∷ all) zero a old e = refl
+set_there (b ∷ all) (suc n) a old e = set_there all n a old e
+
+pub set_elsewhere : {A : Type 0} (all : List A) (n k : ℕ) (a : A) → (k ≡ n → ⊥) → slice_get (slice_set all n a) k ≡ slice_get all k
+set_elsewhere [] n k a other = refl
+set_elsewhere (b ∷ all) zero zero a other = absurd (other refl)
+set_elsewhere (b ∷ all) zero (suc k) a other = refl
+set_elsewhere (b ∷ all) (suc n) zero a other = refl
+set_elsewhere (b ∷ all) (suc n) (suc k) a other = set_elsewhere all n k a (λ e. other (ap suc e))
+
 -- ---- nothing, and one change after the other
 
 pub keeps_same : (memory : Memory) → Keeps memory memory
@@ -38,6 +56,7 @@ keeps_same memory = record {
   output = begins_same memory.output;
   output_budget = refl;
   objects = begins_same (shapes memory);
+  constructed = λ number object e constructed. (object, e, constructed);
   cells_budget = refl;
   statics = refl;
   literals = λ text object e. e;
@@ -49,6 +68,9 @@ keeps_over a b c h k = record {
   output = begins_over a.output b.output c.output h.output k.output;
   output_budget = k.output_budget ∙ h.output_budget;
   objects = begins_over (shapes a) (shapes b) (shapes c) h.objects k.objects;
+  constructed = λ number object e constructed.
+      let between = h.constructed number object e constructed in
+      k.constructed number between.0 between.1 between.2;
   cells_budget = k.cells_budget ∙ h.cells_budget;
   statics = k.statics ∙ h.statics;
   literals = λ text object e. k.literals text object (h.literals text object e);
@@ -73,6 +95,7 @@ keeps_static key value memory = record {
   output = begins_same memory.output;
   output_budget = refl;
   objects = begins_same (shapes memory);
+  constructed = λ number object e constructed. (object, e, constructed);
   cells_budget = refl;
   statics = same_keys key value memory.statics;
   literals = λ text object e. e;
@@ -90,18 +113,33 @@ same_of_all f id old object objects e same =
 
 pub keeps_object :
     (id : ℕ) (old object : Object) (memory : Memory) → slice_get memory.objects id ≡ Some old → shape_of object ≡ shape_of old
-    → Keeps memory (with_object id object memory)
-keeps_object id old object memory e same =
+    → (is_constructed old ≡ true → is_constructed object ≡ true) → Keeps memory (with_object id object memory)
+keeps_object id old object memory e same stays =
     let shapes_same : map shape_of (slice_set memory.objects id object) ≡ shapes memory = same_of_all shape_of id old object memory.objects e same in
     record {
       output = begins_same memory.output;
       output_budget = refl;
       objects = ([], shapes_same ∙ sym (append-nil (shapes memory)));
+      constructed = λ number other f constructed. by_number number other f constructed (cases_eq number id);
       cells_budget = ap (λ (l : List Shape). sum_by shape_cells l + memory.cells) shapes_same;
       statics = refl;
       literals = λ text object e. e;
       input = ends_same memory.input;
     }
+  where
+    by_number :
+        (number : ℕ) (other : Object) → slice_get memory.objects number ≡ Some other → is_constructed other ≡ true
+        → (number ≡ id) ⊎ (number ≡ id → ⊥)
+        → (same : Object) × (slice_get (slice_set memory.objects id object) number ≡ Some same) × (is_constructed same ≡ true)
+    by_number number other f constructed (inl is) =
+        let there : slice_get memory.objects id ≡ Some other = ap (λ (n : ℕ). slice_get memory.objects n) (sym is) ∙ f in
+        let known : other ≡ old = cc in
+        let before : is_constructed old ≡ true = ap is_constructed (sym known) ∙ constructed in (
+          object,
+          ap (λ (n : ℕ). slice_get (slice_set memory.objects id object) n) is ∙ set_there memory.objects id object old e,
+          stays before,
+        )
+    by_number number other f constructed (inr apart) = (other, set_elsewhere memory.objects id number object apart ∙ f, constructed)
 
 -- the memory behind a payment
 abbrev pub less : ℕ → Memory → Memory
@@ -119,6 +157,7 @@ keeps_joined cells objects memory within cost =
       output = begins_same memory.output;
       output_budget = refl;
       objects = (map shape_of objects, joined);
+      constructed = λ number object e constructed. (object, in_longer memory.objects objects number object e, constructed);
       cells_budget = omega arith;
       statics = refl;
       literals = λ text object e. e;
@@ -147,6 +186,7 @@ keeps_literal text object memory none = record {
   output = begins_same memory.output;
   output_budget = refl;
   objects = begins_same (shapes memory);
+  constructed = λ number object e constructed. (object, e, constructed);
   cells_budget = refl;
   statics = refl;
   literals = λ other old e. by_test other old e (bytes_eq other text) refl;
@@ -173,6 +213,7 @@ keeps_written number memory e = record {
   output = ((cast_unsigned w32 number % 256) ∷ [], refl);
   output_budget = omega (arith, length-append memory.output ((cast_unsigned w32 number % 256) ∷ []), not_none memory.output_left e);
   objects = begins_same (shapes memory);
+  constructed = λ number object e constructed. (object, e, constructed);
   cells_budget = refl;
   statics = refl;
   literals = λ text object e. e;
@@ -187,6 +228,7 @@ keeps_read byte more memory e = record {
   output = begins_same memory.output;
   output_budget = refl;
   objects = begins_same (shapes memory);
+  constructed = λ number object e constructed. (object, e, constructed);
   cells_budget = refl;
   statics = refl;
   literals = λ text object e. e;

@@ -1,5 +1,5 @@
 -- What stays over a step, over any number of steps, and of a guest alone.
-use Rattle.std.proofs.Common.{◌≡◌, ℕ, zero, suc, ◌+◌, List, [], ◌∷◌, Some, Ok, refl, subst, ◌∙◌, slice_get}
+use Rattle.std.proofs.Common.{◌≡◌, ℕ, zero, suc, ◌+◌, List, [], ◌∷◌, Some, Ok, refl, sym, subst, ◌∙◌, false, true≢false, slice_get}
 use Rattle.jv_code.specs.Insns.{Instruction}
 use Rattle.jv_loader_world.specs.Overriding.{Declared}
 use Rattle.jv_meaning_machine.specs.Faults.{◌>>=◌}
@@ -22,8 +22,8 @@ use Rattle.jv_meaning_machine.specs.Shapes.{used_words}
 use Rattle.jv_meaning_machine.specs.Kept.{Keeps, KeepsState}
 use Rattle.jv_meaning_machine.proofs.Leading.{Leads, leaf, bound, chained}
 use Rattle.jv_meaning_machine.proofs.KeptMemory.{keeps_same, keeps_over, keeps_object}
-use Rattle.jv_meaning_machine.proofs.KeptDone.{IsKept, instance_stands}
-use Rattle.jv_meaning_machine.proofs.KeptInstructions.{execute_kept}
+use Rattle.jv_meaning_machine.proofs.KeptDone.{IsStored, MayConstruct, instance_stands}
+use Rattle.jv_meaning_machine.proofs.KeptInstructions.{execute_stored}
 use Rattle.jv_meaning_machine.proofs.KeptControl.{HasWords, Stays, throw_stays, raise_stays, enter_stays, at_offset_is_of, goes_on_stays, leave_stays, begin_stays, initialization_step_stays}
 
 -- ---- what an instruction's effect makes of the frames
@@ -32,8 +32,9 @@ module _ (from : Memory) (all_words : ℕ) (main : List ℕ) where
   -- entering an `<init>` changes no shape
   entered_keeps :
       (d : Declared) (object : ℕ) (instance : Instance) (memory : Memory) → slice_get memory.objects object ≡ Some (InstanceOf instance)
-      → Keeps memory (with_object object (entered_on d instance) memory)
-  entered_keeps d object instance memory e = keeps_object object (InstanceOf instance) (entered_on d instance) memory e refl
+      → instance.constructed ≡ false → Keeps memory (with_object object (entered_on d instance) memory)
+  entered_keeps d object instance memory e raw =
+      keeps_object object (InstanceOf instance) (entered_on d instance) memory e refl (λ constructed. absurd (true≢false (sym constructed ∙ raw)))
 
   -- the current frame's words are among those of the control
   in_front :
@@ -49,29 +50,30 @@ module _ (from : Memory) (all_words : ℕ) (main : List ℕ) where
 
   act_stays :
       (program : Program) (control : Control) (frame : MethodFrame) (below : List Frame) (memory : Memory) (effect : Effect) → Keeps from memory
-      → HasWords from all_words main control control.frames → control.frames ≡ Runs frame ∷ below
+      → MayConstruct memory.objects effect → HasWords from all_words main control control.frames → control.frames ≡ Runs frame ∷ below
       → Leads State (Stays from all_words main) (act program control frame below (memory, effect))
-  act_stays program control frame below memory (Goes offset locals stack) h w e =
+  act_stays program control frame below memory (Goes offset locals stack) h may w e =
       chained _ (Stays from all_words main) (at_offset frame offset locals stack)
       (λ next. Ok (state_of memory (with_frames control (Runs next ∷ below)))) (at_offset_is_of from all_words main frame offset locals stack)
       (λ next same. leaf (Stays from all_words main) _ (goes_on_stays from all_words main memory control frame next below h (in_front control frame below w e) same))
-  act_stays program control frame below memory (Enters d receiver arguments stack) h w e =
+  act_stays program control frame below memory (Enters d receiver arguments stack) h may w e =
       enter_stays from all_words main program memory memory (waiting control frame stack below) d receiver arguments h h
       (waits control frame stack below (in_front control frame below w e))
-  act_stays program control frame below memory (Constructs d object arguments stack) h w e =
+  act_stays program control frame below memory (Constructs d object arguments stack) h may w e =
       bound (object_at memory.objects object >>= instance_in)
       (λ instance.
       enter program memory (with_object object (entered_on d instance) memory) (waiting control frame stack below) d (Some object) arguments)
       (λ instance f.
       enter_stays from all_words main program memory (with_object object (entered_on d instance) memory) (waiting control frame stack below) d
       (Some object) arguments h
-      (keeps_over from memory _ h (entered_keeps d object instance memory (instance_stands memory.objects object instance f)))
+      (keeps_over from memory _ h (entered_keeps d object instance memory (instance_stands memory.objects object instance f)
+      (may instance (instance_stands memory.objects object instance f))))
       (waits control frame stack below (in_front control frame below w e)))
-  act_stays program control frame below memory (Leaves result) h w e =
+  act_stays program control frame below memory (Leaves result) h may w e =
       leave_stays from all_words main memory control frame result below h (in_front control frame below w e)
-  act_stays program control frame below memory (Throws object) h w e = throw_stays from all_words main program.world memory control object h w
-  act_stays program control frame below memory (Raises class) h w e = raise_stays from all_words main program.world memory control class h w
-  act_stays program control frame below memory (Begins l) h w e = begin_stays from all_words main program memory control l h w
+  act_stays program control frame below memory (Throws object) h may w e = throw_stays from all_words main program.world memory control object h w
+  act_stays program control frame below memory (Raises class) h may w e = raise_stays from all_words main program.world memory control class h w
+  act_stays program control frame below memory (Begins l) h may w e = begin_stays from all_words main program memory control l h w
 
 -- ---- a step
 
@@ -85,10 +87,10 @@ acted :
     (program : Program) (s : State) (frame : MethodFrame) (below : List Frame) (insn : Instruction) → s.control.frames ≡ Runs frame ∷ below
     → Leads State (StaysAs s) (execute (moment program s frame insn) insn >>= act program s.control frame below)
 acted program s frame below insn e =
-    chained (IsKept (moment program s frame insn)) (StaysAs s) (execute (moment program s frame insn) insn) (act program s.control frame below)
-    (execute_kept (moment program s frame insn) insn)
+    chained (IsStored (moment program s frame insn)) (StaysAs s) (execute (moment program s frame insn) insn) (act program s.control frame below)
+    (execute_stored (moment program s frame insn) insn)
     (λ made h.
-    act_stays s.memory (used_words s.control + s.control.words) s.control.main program s.control frame below made.0 made.1 h (its_words s) e)
+    act_stays s.memory (used_words s.control + s.control.words) s.control.main program s.control frame below made.0 made.1 h.keeps h.may (its_words s) e)
 
 step_in_stays : (program : Program) (s : State) (frames : List Frame) → s.control.frames ≡ frames → Leads State (StaysAs s) (step_in program s frames)
 step_in_stays program s [] e = leaf (StaysAs s) s (keeps_same s.memory, its_words s)

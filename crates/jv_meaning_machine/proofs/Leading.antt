@@ -12,6 +12,10 @@ same_given a b o e f = cc
 pub leaf : {A : Type 0} (P : A → Type 0) (a : A) → P a → Leads A P (Ok a)
 leaf P a h = record { at = λ b e. subst P (same_given a b (Ok a) refl e) h }
 
+-- and what follows from it
+pub also : {A : Type 0} {P : A → Type 0} (Q : A → Type 0) (o : OrFault A) → ((a : A) → P a → Q a) → Leads A P o → Leads A Q o
+also Q o f h = record { at = λ a e. f a (h.at a e) }
+
 pub failing : {A : Type 0} {P : A → Type 0} (fault : Fault) → Leads A P (Err fault)
 failing fault = record { at = λ b e. absurd cc }
 

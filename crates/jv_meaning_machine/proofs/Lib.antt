@@ -10,7 +10,13 @@ mod KeptInstructions
 mod KeptControl
 mod KeptSteps
 mod KeptAlone
+mod Going
+mod Ends
+mod Forward
 mod Stores
+mod TakenItems
 mod StoreInstructions
+mod NewObjects
+mod Decoding
 mod Shown
 mod Rooting

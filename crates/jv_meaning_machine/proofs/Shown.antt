@@ -1,19 +1,33 @@
 -- What is found of files is one thing, and so is what a guest shows.
-use Rattle.std.proofs.Common.{◌≡◌, ℕ, zero, suc, List, [], ◌∷◌, length, Option, Some, None, Ok, refl, sym, ap, subst, ◌∙◌, arith}
-use Rattle.std.specs.Prelude.{◌↔◌, Result, Err, IsErr, slice_get}
+use Rattle.std.proofs.Common.{◌≡◌, ℕ, zero, suc, ◌+◌, ◌≤◌, add-zero, add-suc, true≢false, is_some, codes, List, [], ◌∷◌, length, Option, Some, None, Ok, refl, sym, ap, subst, ◌∙◌, arith}
+use Rattle.std.specs.Prelude.{◌↔◌, Err, IsErr, slice_get}
 use mathlib.Core.Path.{fun_ext}
 use Rattle.jv_code.specs.Insns.{Instruction}
 use Rattle.jv_loader_system.specs.SystemClasses.{system_classes}
-use Rattle.jv_loader_world.specs.World.{World, world_of}
+use Rattle.jv_loader_world.specs.World.{Loaded, World, class_named, world_of}
+use Rattle.jv_loader_world.specs.Overriding.{Declared}
 use Rattle.jv_loader_world.specs.of_loader_files.FileContent.{FileContent, AreContents, OneContent}
 use Rattle.jv_meaning_typing.specs.declared.verdict.Verdict.{Verdict}
 use Rattle.jv_meaning_typing.specs.Judgement.{IsVerdictOfFile}
 use Rattle.jv_meaning_typing.specs.Laws.{OneJudgementOfFile}
-use Rattle.jv_meaning_machine.specs.Faults.{OrFault, Fault}
-use Rattle.jv_meaning_machine.specs.State.{State}
-use Rattle.jv_meaning_machine.specs.Alone.{Judged, IsJudged, accepted_names, alone}
-use Rattle.jv_meaning_machine.specs.Observation.{Observed, observation}
-use Rattle.jv_meaning_machine.specs.ShowLaws.{OneJudged, ShowsOneThing, ShowsOrFaults}
+use Rattle.jv_meaning_machine.specs.Faults.{Fault, OrFault, found, ◌>>=◌}
+use Rattle.jv_meaning_machine.specs.Faults.Fault.{ReferenceFault}
+use Rattle.jv_meaning_machine.specs.State.{Program, State, state_of}
+use Rattle.jv_meaning_machine.specs.State.End.{NoMain}
+use Rattle.jv_meaning_machine.specs.Initialization.{main_method}
+use Rattle.jv_meaning_machine.specs.Start.{Budget, start_memory, start_control, start_with, start}
+use Rattle.jv_meaning_machine.specs.Step.{step}
+use Rattle.jv_meaning_machine.specs.Alone.{Guest, Judged, IsJudged, accepted_names, after, alone}
+use Rattle.jv_meaning_machine.specs.Observation.{Observed, Shows, FaultsWithin, observation}
+use Rattle.jv_meaning_machine.specs.Kept.{BeginsWith}
+use Rattle.jv_meaning_machine.specs.ForwardLaws.{IsLater}
+use Rattle.jv_meaning_machine.specs.ShowLaws.{OneJudged, JudgedByVerdicts, ShowsNoMain, ShowsOneThing, FaultsShowNothing, EndedShowsTheSame, FaultsStay, ShowedBefore, ShowsMore}
+use Rattle.jv_meaning_machine.proofs.Ends.{ended_guest_stays}
+use Rattle.jv_meaning_machine.proofs.KeptAlone.{output_grows, alone_goes_on}
+use Rattle.jv_meaning_machine.proofs.Forward.{throws_never_fall}
+use Rattle.jv_meaning_machine.proofs.Decoding.{instructions_in, are_instructions, units_in, are_units}
+use Rattle.jv_meaning_machine.proofs.Ended.{ended_stays_over}
+use Rattle.jv_meaning_machine.proofs.Mains.{no_main_without_files}
 
 -- ---- what files hold, and the verdicts on them
 
@@ -101,6 +115,123 @@ no_fault : (r : OrFault State) (s : State) → r ≡ Ok s → IsErr r → ⊥
 no_fault (Ok t) s e f = absurd cc
 no_fault (Err fault) s e f = absurd cc
 
-pub shows_or_faults : OneJudged → ShowsOrFaults
-shows_or_faults law g b n o h f =
+pub faults_show_nothing : OneJudged → FaultsShowNothing
+faults_show_nothing law g b n o f h =
     no_fault (alone f.judged g b n) h.state (subst (λ (j : Judged). alone j g b n ≡ Ok h.state) (law g.files h.judged f.judged h.right f.right) h.ran) f.fault
+
+pub ended_shows_the_same : EndedShowsTheSame
+ended_shows_the_same g b n more o h ended = record {
+  judged = h.judged;
+  right = h.right;
+  state = h.state;
+  ran =
+      ended_guest_stays h.judged g b n more h.state h.right h.ran (λ running. ended (ap (λ (x : Observed). x.end) h.shown ∙ running));
+  shown = ap (λ (x : Observed). record x { steps = n + more }) h.shown;
+}
+
+-- ---- what there is to be found
+
+abbrev pub judged_by_verdicts : JudgedByVerdicts
+judged_by_verdicts files contents verdicts held count right = (
+  record {
+    program = record {
+      world = world_of system_classes contents;
+      accepted = accepted_names contents verdicts;
+      instructions = instructions_in;
+      units = units_in;
+    };
+    verdicts = verdicts;
+  },
+  record {
+    contents = contents;
+    held = held;
+    world = refl;
+    count = count;
+    verdict = right;
+    accepted = refl;
+    instructions = are_instructions;
+    units = are_units;
+  },
+  refl,
+)
+
+no_verdict : (place : ℕ) (verdict : Verdict) → slice_get [] place ≡ Some verdict → IsVerdictOfFile system_classes [] place verdict
+no_verdict zero verdict e = absurd cc
+no_verdict (suc place) verdict e = absurd cc
+
+abbrev found_none : (judged : Judged) × IsJudged [] judged × (judged.verdicts ≡ [])
+found_none = judged_by_verdicts [] [] [] tt refl no_verdict
+
+pub shows_no_main : ShowsNoMain
+shows_no_main main input b n = by_class (class_named (world_of system_classes []) (codes "java/lang/OutOfMemoryError")) refl
+  where
+    by_class :
+        (o : Option Loaded) → class_named (world_of system_classes []) (codes "java/lang/OutOfMemoryError") ≡ o
+        → Shows (record { files = []; main = main; input = input }) b n
+        (record { verdicts = []; steps = n; output = []; throws = 0; last = None; end = NoMain })
+    by_class None e = absurd (true≢false (ap (λ (o : Option Loaded). is_some o) e))
+    by_class (Some error) e = record {
+      judged = found_none.0;
+      right = found_none.1;
+      state = state_of (start_memory (world_of system_classes []) input b error) (start_control main b NoMain);
+      ran =
+          ap (λ (o : OrFault State). o >>= after found_none.0.program n)
+          (ap
+          (λ (o : Option Loaded).
+          found ReferenceFault o >>= λ l.
+          start_with found_none.0.program main b (start_memory (world_of system_classes []) input b l)
+          (main_method (world_of system_classes []) main))
+          e
+          ∙ ap (λ (d : Option Declared). start_with found_none.0.program main b (start_memory (world_of system_classes []) input b error) d)
+          (no_main_without_files main))
+          ∙ ended_stays_over found_none.0.program n
+          (state_of (start_memory (world_of system_classes []) input b error) (start_control main b NoMain)) refl;
+      shown = refl;
+    }
+
+-- ---- faults stay, and what is shown grows
+
+fault_over : (program : Program) (n more : ℕ) (s : State) (fault : Fault) → after program n s ≡ Err fault → after program (n + more) s ≡ Err fault
+fault_over program n zero s fault e = ap (λ (k : ℕ). after program k s) (add-zero n) ∙ e
+fault_over program n (suc more) s fault e =
+    ap (λ (k : ℕ). after program k s) (add-suc n more) ∙ ap (λ (o : OrFault State). o >>= step program) (fault_over program n more s fault e)
+
+alone_fault_over :
+    (judged : Judged) (g : Guest) (b : Budget) (n more : ℕ) (fault : Fault) → alone judged g b n ≡ Err fault → alone judged g b (n + more) ≡ Err fault
+alone_fault_over judged g b n more fault e = by_start (start judged.program g.main g.input b) e
+  where
+    by_start : (o : OrFault State) → (o >>= after judged.program n) ≡ Err fault → (o >>= after judged.program (n + more)) ≡ Err fault
+    by_start (Ok first) f = fault_over judged.program n more first fault f
+    by_start (Err other) f = f
+
+pub faults_stay : FaultsStay
+faults_stay g b n more h = by_result (alone h.judged g b n) refl h.fault
+  where
+    by_result : (r : OrFault State) → alone h.judged g b n ≡ r → IsErr r → FaultsWithin g b (n + more)
+    by_result (Ok s) e fails = absurd (no_fault (Ok s) s refl fails)
+    by_result (Err fault) e fails = record {
+      judged = h.judged;
+      right = h.right;
+      fault = subst (λ (r : OrFault State). IsErr r) (sym (alone_fault_over h.judged g b n more fault e)) fails;
+    }
+
+pub shows_more : ShowsMore
+shows_more g b n more o h = by_result (alone h.judged g b n) refl
+  where
+    by_result : (r : OrFault State) → alone h.judged g b n ≡ r → ShowedBefore g b n o
+    by_result (Err fault) e =
+        let fails : alone h.judged g b (n + more) ≡ Err fault = alone_fault_over h.judged g b n more fault e in
+        absurd cc
+    by_result (Ok s) e =
+        let later : IsLater h.judged g b s h.state =
+        record { right = h.right; n = n; more = more; ran = e; ran_on = h.ran } in
+        record {
+          earlier = observation h.judged.verdicts n s;
+          shows = record { judged = h.judged; right = h.right; state = s; ran = e; shown = refl };
+          verdicts = ap (λ (x : Observed). x.verdicts) h.shown;
+          output =
+              subst (λ (x : Observed). BeginsWith x.output s.memory.output) (sym h.shown)
+              (output_grows h.judged.program more s h.state (sym (alone_goes_on h.judged g b n more s e) ∙ h.ran));
+          throws =
+              subst (λ (x : Observed). s.control.throws ≤ x.throws) (sym h.shown) (throws_never_fall h.judged g b s h.state later).0;
+        }

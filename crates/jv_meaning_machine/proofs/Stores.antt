@@ -1,5 +1,5 @@
 -- What a store to a field, to a component of an array or to a static field changes.
-use Rattle.std.proofs.Common.{◌≡◌, ℕ, zero, suc, Bool, true, false, ◌&&◌, List, [], ◌∷◌, Option, Some, refl, sym, ap, subst, ◌∙◌, ◌⊎◌, inl, inr, slice_get, slice_set, length-set, true≢false, IsSome, bytes_eq, if◌then◌else◌}
+use Rattle.std.proofs.Common.{◌≡◌, ℕ, Bool, true, false, ◌&&◌, List, [], ◌∷◌, Option, Some, refl, sym, ap, subst, ◌∙◌, ◌⊎◌, inl, inr, slice_get, slice_set, length-set, true≢false, IsSome, bytes_eq, if◌then◌else◌}
 use Rattle.std.proofs.lemmas.Bool.{cases_eq}
 use Rattle.std.proofs.lemmas.Slice.Eq.{bytes_eq-Decides}
 use Rattle.jv_meaning_machine.specs.Values.{Value, narrowed}
@@ -14,21 +14,7 @@ use Rattle.jv_meaning_machine.specs.Locations.{Location, field_in, component_in,
 use Rattle.jv_meaning_machine.specs.Locations.Location.{FieldOf, ComponentOf, StaticField}
 use Rattle.jv_meaning_machine.specs.StoreLaws.{OtherFieldsStay}
 use Rattle.jv_meaning_machine.proofs.Contents.{stored_is_there}
-use Rattle.jv_meaning_machine.proofs.KeptMemory.{same_keys, same_of_all}
-
--- ---- lists
-
-set_there : {A : Type 0} (all : List A) (n : ℕ) (a old : A) → slice_get all n ≡ Some old → slice_get (slice_set all n a) n ≡ Some a
-set_there [] n a old e = absurd cc
-set_there (b ∷ all) zero a old e = refl
-set_there (b ∷ all) (suc n) a old e = set_there all n a old e
-
-set_elsewhere : {A : Type 0} (all : List A) (n k : ℕ) (a : A) → (k ≡ n → ⊥) → slice_get (slice_set all n a) k ≡ slice_get all k
-set_elsewhere [] n k a other = refl
-set_elsewhere (b ∷ all) zero zero a other = absurd (other refl)
-set_elsewhere (b ∷ all) zero (suc k) a other = refl
-set_elsewhere (b ∷ all) (suc n) zero a other = refl
-set_elsewhere (b ∷ all) (suc n) (suc k) a other = set_elsewhere all n k a (λ e. other (ap suc e))
+use Rattle.jv_meaning_machine.proofs.KeptMemory.{same_keys, same_of_all, set_there, set_elsewhere}
 
 -- ---- fields
 

@@ -1,5 +1,6 @@
 -- What stays while a guest runs: what was written, the objects and their shapes, and what the budget comes to.
-use Rattle.std.specs.Prelude.{◌≡◌, ℕ, ◌+◌, List, ◌++◌, length, Some}
+use Rattle.std.specs.Prelude.{◌≡◌, ℕ, ◌+◌, true, List, ◌++◌, length, Some, slice_get}
+use Rattle.jv_meaning_machine.specs.Objects.{Object, is_constructed}
 use Rattle.jv_meaning_machine.specs.State.{Memory, State}
 use Rattle.jv_meaning_machine.specs.Literals.{literal_in}
 use Rattle.jv_meaning_machine.specs.Shapes.{keys_in, shapes, used_cells, used_words}
@@ -12,6 +13,12 @@ BeginsWith {A = A} all front = (more : List A) × (all ≡ front ++ more)
 abbrev pub EndsWith : {A : Type 0} → List A → List A → Type 0
 EndsWith {A = A} all end = (front : List A) × (all ≡ front ++ end)
 
+-- an object that is constructed stays so (JVMS 2.9), with its number
+abbrev pub StayConstructed : List Object → List Object → Type 0
+StayConstructed before after =
+    (number : ℕ) (object : Object) → slice_get before number ≡ Some object → is_constructed object ≡ true
+    → (same : Object) × (slice_get after number ≡ Some same) × (is_constructed same ≡ true)
+
 -- What an earlier memory has stays in a later one.
 pub record Keeps (before after : Memory) : Type 0 where
   -- what was written is added to at its end alone
@@ -20,6 +27,8 @@ pub record Keeps (before after : Memory) : Type 0 where
   pub output_budget : length after.output + after.output_left ≡ length before.output + before.output_left
   -- no object goes, none changes its shape, and new ones stand behind the others
   pub objects : BeginsWith (shapes after) (shapes before)
+  -- none that is constructed is not any more
+  pub constructed : StayConstructed before.objects after.objects
   -- the cells of the objects and those that are left are the same together
   pub cells_budget : used_cells after + after.cells ≡ used_cells before + before.cells
   -- no static field comes or goes
@@ -34,3 +43,8 @@ pub record KeepsState (before after : State) : Type 0 where
   pub memory : Keeps before.memory after.memory
   pub words_budget : used_words after.control + after.control.words ≡ used_words before.control + before.control.words
   pub main : after.control.main ≡ before.control.main
+
+-- Each object and each static field is as it was, and new objects stand behind the others.
+pub record LeavesAll (before after : Memory) : Type 0 where
+  pub statics : after.statics ≡ before.statics
+  pub objects : BeginsWith after.objects before.objects

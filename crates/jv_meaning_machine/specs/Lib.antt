@@ -38,4 +38,6 @@ pub mod Laws
 pub mod RunLaws
 pub mod ShowLaws
 pub mod StoreLaws
+pub mod NewLaws
+pub mod ForwardLaws
 pub mod WorldLaws

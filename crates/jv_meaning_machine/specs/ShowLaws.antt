@@ -1,17 +1,59 @@
 -- Laws of what a guest shows: it is one thing.
-use Rattle.std.specs.Prelude.{◌≡◌, ℕ, List}
+use Rattle.std.specs.Prelude.{◌≡◌, ℕ, ◌+◌, ◌≤◌, List, [], length, Some, None, slice_get}
+use Rattle.jv_loader_system.specs.SystemClasses.{system_classes}
+use Rattle.jv_loader_world.specs.of_loader_files.FileContent.{FileContent, AreContents}
+use Rattle.jv_meaning_typing.specs.declared.verdict.Verdict.{Verdict}
+use Rattle.jv_meaning_typing.specs.Judgement.{IsVerdictOfFile}
+use Rattle.jv_meaning_machine.specs.State.End.{Running, NoMain}
 use Rattle.jv_meaning_machine.specs.Start.{Budget}
 use Rattle.jv_meaning_machine.specs.Alone.{Guest, Judged, IsJudged}
 use Rattle.jv_meaning_machine.specs.Observation.{Observed, Shows, FaultsWithin}
+use Rattle.jv_meaning_machine.specs.Kept.{BeginsWith}
 
 -- What is to be found of files is one thing: their classes, the verdict on each, the instructions of code and the units of texts.
 abbrev pub OneJudged : Type 0
 OneJudged = (files : List (List ℕ)) (one other : Judged) → IsJudged files one → IsJudged files other → one ≡ other
 
+-- Where files have contents, and each content a verdict, there is something to be found of them.
+abbrev pub JudgedByVerdicts : Type 0
+JudgedByVerdicts =
+    (files : List (List ℕ)) (contents : List FileContent) (verdicts : List Verdict) → AreContents files contents
+    → length verdicts ≡ length contents
+    → ((place : ℕ) (verdict : Verdict) → slice_get verdicts place ≡ Some verdict → IsVerdictOfFile system_classes contents place verdict)
+    → (judged : Judged) × IsJudged files judged × (judged.verdicts ≡ verdicts)
+
+-- What a guest without files shows: there is no main method.
+abbrev pub ShowsNoMain : Type 0
+ShowsNoMain =
+    (main input : List ℕ) (b : Budget) (n : ℕ)
+    → Shows (record { files = []; main = main; input = input }) b n
+    (record { verdicts = []; steps = n; output = []; throws = 0; last = None; end = NoMain })
+
 -- What a guest shows alone after so many of its own steps is one thing.
 abbrev pub ShowsOneThing : Type 0
 ShowsOneThing = (g : Guest) (b : Budget) (n : ℕ) (one other : Observed) → Shows g b n one → Shows g b n other → one ≡ other
 
--- It shows nothing where its machine meets a fault within these steps.
-abbrev pub ShowsOrFaults : Type 0
-ShowsOrFaults = (g : Guest) (b : Budget) (n : ℕ) (o : Observed) → Shows g b n o → FaultsWithin g b n → ⊥
+-- Where its machine meets a fault within these steps, it shows nothing.
+abbrev pub FaultsShowNothing : Type 0
+FaultsShowNothing = (g : Guest) (b : Budget) (n : ℕ) (o : Observed) → FaultsWithin g b n → Shows g b n o → ⊥
+
+-- Once it shows an end, it shows the same after any more steps, but for their number.
+abbrev pub EndedShowsTheSame : Type 0
+EndedShowsTheSame =
+    (g : Guest) (b : Budget) (n more : ℕ) (o : Observed) → Shows g b n o → (o.end ≡ Running → ⊥) → Shows g b (n + more) (record o { steps = n + more })
+
+-- A fault within some number of steps is one within any greater number.
+abbrev pub FaultsStay : Type 0
+FaultsStay = (g : Guest) (b : Budget) (n more : ℕ) → FaultsWithin g b n → FaultsWithin g b (n + more)
+
+-- What it shows later it has shown the front of: it showed something after fewer steps, what it wrote stands at the front of
+-- what it wrote later, and it threw no more.
+pub record ShowedBefore (g : Guest) (b : Budget) (n : ℕ) (later : Observed) : Type 0 where
+  pub earlier : Observed
+  pub shows : Shows g b n earlier
+  pub verdicts : later.verdicts ≡ earlier.verdicts
+  pub output : BeginsWith later.output earlier.output
+  pub throws : earlier.throws ≤ later.throws
+
+abbrev pub ShowsMore : Type 0
+ShowsMore = (g : Guest) (b : Budget) (n more : ℕ) (o : Observed) → Shows g b (n + more) o → ShowedBefore g b n o

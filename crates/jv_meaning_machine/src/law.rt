@@ -10,7 +10,7 @@ ghost use Rattle.jv_meaning_machine.specs.ThrowRows.{HandlerRows, PassedRows, Co
 ghost use Rattle.jv_meaning_machine.specs.MemberRows.{ConstantRows, FieldRows, CallRows};
 ghost use Rattle.jv_meaning_machine.specs.StackRows.{FormRows, LocalRows, BranchRows, SwitchRows};
 ghost use Rattle.jv_meaning_machine.specs.FaultRows.{FaultRows};
-ghost use Rattle.jv_meaning_machine.specs.Laws.{EndedStays, EndedStaysOver, StoredIsThere, NoMainWithoutFiles};
+ghost use Rattle.jv_meaning_machine.specs.Laws.{EndedGuestStays, EndedStays, EndedStaysOver, EndFitsAlone, EndFitsBehind, MainIsItsOwn, NoMainWithoutFiles, StoredIsThere};
 
 /// Worked rows: output, input and the ends, computed.
 pub fn output_rows()
@@ -152,6 +152,21 @@ pub fn ended_stays_over()
     ensures { EndedStaysOver }
 {}
 
+/// A step leads from a state that has no frame exactly where the guest has ended to another such state.
+pub fn end_fits_behind()
+    ensures { EndFitsBehind }
+{}
+
+/// A guest alone has no frame exactly where it has ended.
+pub fn end_fits_alone()
+    ensures { EndFitsAlone }
+{}
+
+/// A guest that has ended stays as it is, over any number of its own steps.
+pub fn ended_guest_stays()
+    ensures { EndedGuestStays }
+{}
+
 /// What was stored in a field is there.
 pub fn stored_is_there()
     ensures { StoredIsThere }
@@ -160,4 +175,9 @@ pub fn stored_is_there()
 /// A guest without files has no main method, whatever its main class is called.
 pub fn no_main_without_files()
     ensures { NoMainWithoutFiles }
+{}
+
+/// A main method is one of the guest's own classes, whatever its files are.
+pub fn main_is_its_own()
+    ensures { MainIsItsOwn }
 {}

@@ -23,7 +23,7 @@ pub fn objects_stay()
     ensures { ObjectsStay }
 {}
 
-/// Objects are never fewer, so no number is given twice.
+/// Objects are never fewer.
 pub fn objects_are_never_fewer()
     ensures { ObjectsAreNeverFewer }
 {}

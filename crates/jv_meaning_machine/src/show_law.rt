@@ -1,6 +1,6 @@
 //! Laws of what a guest shows.
 
-ghost use Rattle.jv_meaning_machine.specs.ShowLaws.{OneJudged, ShowsOneThing, ShowsOrFaults};
+ghost use Rattle.jv_meaning_machine.specs.ShowLaws.{EndedShowsTheSame, FaultsShowNothing, FaultsStay, JudgedByVerdicts, OneJudged, ShowsMore, ShowsNoMain, ShowsOneThing};
 
 use jv_loader_files::one_content;
 use jv_meaning_typing::one_judgement_of_file;
@@ -13,6 +13,16 @@ pub fn one_judged()
     one_judgement_of_file();
 }
 
+/// Where files have contents, and each content a verdict, there is something to be found of them.
+pub fn judged_by_verdicts()
+    ensures { JudgedByVerdicts }
+{}
+
+/// A guest without files shows that it has no main method, whatever its main class is called.
+pub fn shows_no_main()
+    ensures { ShowsNoMain }
+{}
+
 /// What a guest shows alone after so many of its own steps is one thing.
 pub fn shows_one_thing()
     ensures { ShowsOneThing }
@@ -20,9 +30,24 @@ pub fn shows_one_thing()
     one_judged();
 }
 
-/// A guest shows nothing where its machine meets a fault.
-pub fn shows_or_faults()
-    ensures { ShowsOrFaults }
+/// Where its machine meets a fault, a guest shows nothing.
+pub fn faults_show_nothing()
+    ensures { FaultsShowNothing }
 {
     one_judged();
 }
+
+/// Once a guest shows an end, it shows the same after any more steps, but for their number.
+pub fn ended_shows_the_same()
+    ensures { EndedShowsTheSame }
+{}
+
+/// A fault within some number of steps is one within any greater number.
+pub fn faults_stay()
+    ensures { FaultsStay }
+{}
+
+/// What a guest shows it has shown the front of after fewer steps.
+pub fn shows_more()
+    ensures { ShowsMore }
+{}

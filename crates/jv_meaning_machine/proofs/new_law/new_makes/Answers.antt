@@ -1,0 +1,5 @@
+use Rattle.jv_meaning_machine.proofs.NewObjects.{new_makes}
+use Rattle.jv_meaning_machine.proofs.new_law.new_makes.Goals as goal
+
+pub returns : goal.returns
+returns c = new_makes
