@@ -1,3 +1,4 @@
 pub mod Files
 pub mod InLines
 pub mod Taken
+pub mod Told

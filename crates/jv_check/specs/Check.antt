@@ -1,5 +1,5 @@
 -- What the program says of the files of a guest (JVMS 4.10, 5.3.5).
-use Rattle.std.specs.Prelude.{◌≡◌, ℕ, ⊤, false, List, None, Some, string_bytes}
+use Rattle.std.specs.Prelude.{◌≡◌, ℕ, ⊤, true, false, List, None, Some, string_bytes}
 use Rattle.jv_loader_files.specs.FileContent.{FileContent, AreContents}
 use Rattle.jv_loader_system.specs.SystemClasses.{system_classes}
 use Rattle.jv_loader_world.specs.World.{world_of}
@@ -11,13 +11,15 @@ use Rattle.jv_run.specs.declared.outcome.Outcome.{Outcome}
 use Rattle.jv_check.specs.Limits.{first_file_refusal}
 use Rattle.jv_check.specs.Text.{check_text, check_status}
 
--- the verdicts on the files of one guest, in their order
+-- the verdicts on the files of one guest, in their order; each class of the system is accepted beside these files
 pub record AreVerdictsOf (files : List (List ℕ)) (verdicts : List Verdict) : Type 0 where
   pub contents : List FileContent
   pub read : AreContents files contents
   pub found : AreVerdicts contents verdicts
+  pub system : IsSystemTold (world_of system_classes contents) true
 
--- The files are within the limits; the text has a line for each, and the status goes with the verdicts.
+-- The files are within the limits, and each class of the system is accepted beside them; the text has a line for each file, and the
+-- status goes with the verdicts.
 pub record IsChecked (names files : List (List ℕ)) (outcome : Outcome) : Type 0 where
   pub allowed : first_file_refusal files ≡ None
   pub verdicts : List Verdict

@@ -60,7 +60,8 @@ fn verified<'a>(
     Ok(verify(alloc, state, classes)?)
 }
 
-/// The verdicts on the files of one guest.
+/// The verdicts on the files of one guest, where each class of the system is accepted beside them.
+#[tactic(auto, using(crate::proofs::Told::broken))]
 fn verdicts_of(alloc: Global, state: RandomState, files: &[&[u8]]) -> Result<Vec<Verdict>, Failure>
     ensures ok { IfOk result (λ verdicts. AreVerdictsOf (map bytes_of files.now) verdicts.items) }
     ensures err { IfErr result (IsHostFailure (map bytes_of files.now)) }

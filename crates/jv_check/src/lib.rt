@@ -6,3 +6,4 @@ mod limits;
 mod report;
 
 pub use checking::check_files;
+pub use limits::first_file_refusal;

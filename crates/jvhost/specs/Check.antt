@@ -1,8 +1,9 @@
 -- What the program says of the files that the words name.
-use Rattle.std.specs.Prelude.{◌≡◌, ◌⊎◌, ℕ, List, length}
+use Rattle.std.specs.Prelude.{◌≡◌, ◌⊎◌, ℕ, ⊤, List, length}
+use Rattle.std.specs.List.{Contains}
 use Rattle.jv_check.specs.Check.{IsChecked, IsCheckFailure}
 use Rattle.jv_run.specs.declared.failure.Failure.{Failure}
-use Rattle.jv_run.specs.declared.failure.Failure.TheVariants.{Memory}
+use Rattle.jv_run.specs.declared.failure.Failure.TheVariants.{Unreadable, Memory}
 use Rattle.jv_run.specs.declared.outcome.Outcome.{Outcome}
 
 -- there are bytes for each name, and they are checked as the files of one guest
@@ -11,6 +12,25 @@ pub record IsCheckedAs (names : List (List ℕ)) (outcome : Outcome) : Type 0 wh
   pub count : length files ≡ length names
   pub checked : IsChecked names files outcome
 
+-- ---- files that are not checked
+
+-- why the files of these names were not read: one of them can't be, or the program's memory was refused
+abbrev pub IsOneUnread : List (List ℕ) → Failure → Type 0
+IsOneUnread names (Unreadable unread) = Contains names unread.items
+IsOneUnread names Memory = ⊤
+IsOneUnread names failure = ⊥
+
 -- why files that have been read were not checked: the program's memory was refused, or what `check_files` says
 abbrev pub IsReadFailure : List (List ℕ) → Failure → Type 0
 IsReadFailure files failure = (failure ≡ Memory) ⊎ IsCheckFailure files failure
+
+-- there are bytes for each name, and this is why they were not checked as the files of one guest
+pub record IsCheckFailureOf (names : List (List ℕ)) (failure : Failure) : Type 0 where
+  pub files : List (List ℕ)
+  pub count : length files ≡ length names
+  pub failed : IsReadFailure files failure
+
+-- Why the files of these names were not checked: they were not all read, or it lies with the bytes for the names. So a refusal is
+-- the first that applies to as many files as there are names, and the host's memory is refused only for files within the limits.
+abbrev pub IsNamedFailure : List (List ℕ) → Failure → Type 0
+IsNamedFailure names failure = IsOneUnread names failure ⊎ IsCheckFailureOf names failure

@@ -1,23 +1,40 @@
 //! Files that are checked, and not run.
 ghost use Rattle.std.specs.Prelude.{◌≡◌, IfErr, IfOk, length, map};
 ghost use Rattle.jv_meaning.specs.Guest.{bytes_of};
-ghost use Rattle.jv_check.specs.Check.{IsChecked};
-ghost use Rattle.jvhost.specs.Check.{IsCheckedAs, IsReadFailure};
+ghost use Rattle.jv_check.specs.Check.{IsChecked, IsCheckFailure};
+ghost use Rattle.jv_run.specs.declared.failure.Failure.TheVariants.{HostMemory};
+ghost use Rattle.jvhost.specs.Check.{IsCheckedAs, IsNamedFailure, IsOneUnread, IsReadFailure};
+ghost use Rattle.jvhost.specs.Inside.Unread.{IsUnread};
 
-use jv_check::check_files;
+use jv_check::{check_files, first_file_refusal};
 use jv_run::{Failure, Outcome, read_class};
 use std::alloc::{AllocError, Global};
 use std::hash::RandomState;
 use std::random::RandomSource;
 use std::rt::Files;
 
+/// The bytes of the file of this name, or the failure that has this name: `read_class` promises nothing of its failures.
+fn read_named<R: Files + AllocGlobal>(rt: &R, name: &str) -> Result<Vec<u8>, Failure>
+    ensures { IfErr result (IsUnread name.now) }
+{
+    match read_class(rt, name) {
+        Ok(bytes) => Ok(bytes),
+        Err(Failure::Unreadable(_)) => {
+            let name = Vec::from_slice(rt.alloc(), name.as_bytes())?;
+            Err(Failure::Unreadable(name))
+        }
+        Err(_) => Err(Failure::Memory),
+    }
+}
+
 /// The bytes of the files of these names.
 fn read_classes<R: Files + AllocGlobal>(rt: &R, names: &[&str]) -> Result<Vec<Vec<u8>>, Failure>
-    ensures { IfOk result (λ files. length files.items ≡ length names.now) }
+    ensures ok { IfOk result (λ files. length files.items ≡ length names.now) }
+    ensures err { IfErr result (IsOneUnread (map bytes_of names.now)) }
 {
     let mut files = Vec::new(rt.alloc());
     for name in names {
-        let bytes = read_class(rt, name)?;
+        let bytes = read_named(rt, name)?;
         files.push(bytes).map_err(AllocError::from)?;
     }
     Ok(files)
@@ -45,10 +62,38 @@ fn bytes_of_files<'a>(alloc: Global, files: &'a [Vec<u8>]) -> Result<Vec<&'a [u8
     Ok(found)
 }
 
+/// The state with which names are hashed; a system that gives none is short of memory.
+fn hashing_state<R: RandomSource>(rt: &R) -> Result<RandomState, Failure>
+    ensures { IfErr result (λ failure. failure ≡ HostMemory) }
+{
+    match RandomState::new(rt) {
+        Ok(state) => Ok(state),
+        Err(_) => Err(Failure::HostMemory),
+    }
+}
+
+/// Checks files of these names, as many as there are names, as those of one guest. Those that are refused are so before the
+/// system is asked for a state.
+fn check_slices<R: RandomSource + AllocGlobal>(
+    rt: &R,
+    names: &[&[u8]],
+    files: &[&[u8]],
+) -> Result<Outcome, Failure>
+    requires { length names.now ≡ length files.now }
+    ensures ok { IfOk result (λ outcome.
+        IsChecked (map bytes_of names.now) (map bytes_of files.now) outcome) }
+    ensures err { IfErr result (λ failure. IsCheckFailure (map bytes_of files.now) failure) }
+{
+    if let Some(fault) = first_file_refusal(files) {
+        return Err(Failure::Refused(fault));
+    }
+    let state = hashing_state(rt)?;
+    check_files(rt.alloc(), state, names, files)
+}
+
 /// Checks files of these names, which have been read and are as many, as those of one guest.
-fn check_read(
-    alloc: Global,
-    state: RandomState,
+fn check_read<R: RandomSource + AllocGlobal>(
+    rt: &R,
     names: &[&str],
     files: &[Vec<u8>],
 ) -> Result<Outcome, Failure>
@@ -57,27 +102,24 @@ fn check_read(
         IsChecked (map bytes_of names.now) (map (λ file. file.items) files.now) outcome) }
     ensures err { IfErr result (IsReadFailure (map (λ file. file.items) files.now)) }
 {
-    let names = bytes_of_texts(alloc, names)?;
-    let files = bytes_of_files(alloc, files)?;
-    check_files(alloc, state, names.as_slice(), files.as_slice())
-}
-
-/// The state with which names are hashed; a system that gives none is short of memory.
-fn hashing_state<R: RandomSource>(rt: &R) -> Result<RandomState, Failure> {
-    match RandomState::new(rt) {
-        Ok(state) => Ok(state),
-        Err(_) => Err(Failure::HostMemory),
-    }
+    let names = bytes_of_texts(rt.alloc(), names)?;
+    let files = bytes_of_files(rt.alloc(), files)?;
+    check_slices(rt, names.as_slice(), files.as_slice())
 }
 
 /// Reads the files of these names, one for each name, and checks them as those of one guest.
+///
+/// # Errors
+///
+/// `Unreadable` with the name of a file that can't be read, `Memory` where the program had no memory to read them, and
+/// else what `check_files` says of the files; `HostMemory` also where the system gives no state to hash with.
 pub fn check_named<R: Files + RandomSource + AllocGlobal>(
     rt: &R,
     names: &[&str],
 ) -> Result<Outcome, Failure>
-    ensures { IfOk result (IsCheckedAs (map bytes_of names.now)) }
+    ensures ok { IfOk result (IsCheckedAs (map bytes_of names.now)) }
+    ensures err { IfErr result (IsNamedFailure (map bytes_of names.now)) }
 {
     let files = read_classes(rt, names)?;
-    let state = hashing_state(rt)?;
-    check_read(rt.alloc(), state, names, files.as_slice())
+    check_read(rt, names, files.as_slice())
 }
