@@ -17,5 +17,6 @@ mod Stores
 mod TakenItems
 mod StoreInstructions
 mod NewObjects
+mod StepDoes
 mod Decoding
 mod Shown

@@ -39,4 +39,5 @@ pub mod RunLaws
 pub mod ShowLaws
 pub mod StoreLaws
 pub mod NewLaws
+pub mod StepLaws
 pub mod ForwardLaws

@@ -33,7 +33,7 @@ ObjectsStay =
     → slice_get before.memory.objects number ≡ Some object
     → (same : Object) × (slice_get later.memory.objects number ≡ Some same) × (shape_of same ≡ shape_of object)
 
--- Objects are never fewer. (Which number a new one gets is said in NewLaws.)
+-- Objects are never fewer. (Which number a new one gets is said in NewLaws, and that none is given twice in StepLaws.)
 abbrev pub ObjectsAreNeverFewer : Type 0
 ObjectsAreNeverFewer =
     (program : Program) (n : ℕ) (before later : State) → after program n before ≡ Ok later
