@@ -10,6 +10,7 @@ mod KeptInstructions
 mod KeptControl
 mod KeptSteps
 mod KeptAlone
+mod Statics
 mod Going
 mod Ends
 mod Forward

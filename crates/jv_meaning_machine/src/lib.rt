@@ -24,7 +24,7 @@ pub use new_law::{
 };
 pub use run_law::{
     alone_goes_on, cells_are_budgeted, first_objects_cost, objects_are_never_fewer, objects_stay,
-    output_grows, output_is_budgeted, run_keeps, step_keeps, words_are_budgeted,
+    output_grows, output_is_budgeted, run_keeps, statics_are_there, step_keeps, words_are_budgeted,
 };
 pub use show_law::{
     ended_shows_the_same, faults_show_nothing, faults_stay, judged_by_verdicts, one_judged,
