@@ -1,11 +1,10 @@
 -- What an instruction did to the memory is what the next state has.
-use Rattle.std.proofs.Common.{◌≡◌, suc, ◌+◌, ◌≤◌, nat_le, Bool, true, false, List, ◌∷◌, length, Option, Ok, refl, sym, ap, ◌∙◌, arith, length-append}
+use Rattle.std.proofs.Common.{◌≡◌, ◌+◌, ◌≤◌, nat_le, Bool, true, false, List, ◌∷◌, length, Option, Ok, refl, sym, ap, ◌∙◌, arith, length-append}
 use Rattle.std.proofs.lemmas.List.{length-map}
 use Rattle.jv_code.specs.Insns.{Instruction}
 use Rattle.jv_meaning_machine.specs.Faults.{OrFault, found, tested, ◌>>=◌}
 use Rattle.jv_meaning_machine.specs.Faults.Fault.{OffsetFault, StackFault}
 use Rattle.jv_meaning_machine.specs.Values.{words}
-use Rattle.jv_meaning_machine.specs.Objects.{Object}
 use Rattle.jv_meaning_machine.specs.Frames.{Frame}
 use Rattle.jv_meaning_machine.specs.Frames.Frame.{Runs}
 use Rattle.jv_meaning_machine.specs.State.{Program, Memory, State, state_of, with_frames}
@@ -54,12 +53,9 @@ done_stays program s next memory effect h e =
     next (sym (step_acts program s memory effect h) ∙ e)).0
 
 pub given_once : GivenOnce
-given_once program n s next later memory effect h cells objects below makes e f =
+given_once program n s next later memory effect h made e f =
     let more : BeginsWith (shapes next.memory) (shapes memory) = (done_stays program s next memory effect h e).objects in
     let count : length (shapes next.memory) ≡ length (shapes memory) + length more.0 =
     ap (λ (l : List Shape). length l) more.1 ∙ length-append (shapes memory) more.0 in
-    let made : length memory.objects ≡ length s.memory.objects + length objects =
-    ap (λ (m : Memory). length m.objects) makes.joins ∙ length-append s.memory.objects objects in
-    let some : length objects ≡ suc (length makes.others) = ap (λ (l : List Object). length l) makes.are in
     let rest : length next.memory.objects ≤ length later.memory.objects = never_fewer program n next later f in
-    omega (arith, count, made, some, rest, length-map next.memory.objects shape_of, length-map memory.objects shape_of)
+    omega (arith, count, made, rest, length-map next.memory.objects shape_of, length-map memory.objects shape_of)

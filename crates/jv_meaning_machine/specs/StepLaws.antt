@@ -3,7 +3,6 @@ use Rattle.std.specs.Prelude.{◌≡◌, ℕ, ◌<◌, true, List, ◌∷◌, So
 use Rattle.jv_code.specs.Insns.{Instruction}
 use Rattle.jv_meaning_typing.specs.Environment.{instruction_at}
 use Rattle.jv_meaning_machine.specs.Values.{Value, words}
-use Rattle.jv_meaning_machine.specs.Objects.{Object}
 use Rattle.jv_meaning_machine.specs.Frames.{MethodFrame, Frame}
 use Rattle.jv_meaning_machine.specs.Frames.Frame.{Runs}
 use Rattle.jv_meaning_machine.specs.State.{Program, Memory, State, state_of, with_frames}
@@ -13,7 +12,6 @@ use Rattle.jv_meaning_machine.specs.Instructions.{execute}
 use Rattle.jv_meaning_machine.specs.Step.{moment, step}
 use Rattle.jv_meaning_machine.specs.Alone.{after}
 use Rattle.jv_meaning_machine.specs.Kept.{Keeps}
-use Rattle.jv_meaning_machine.specs.NewLaws.{Makes}
 
 -- In a state an instruction of the current method is next, and executed it does this to the memory, with an effect.
 pub record Executes (program : Program) (s : State) (memory : Memory) (effect : Effect) : Type 0 where
@@ -39,9 +37,10 @@ DoneStays =
     (program : Program) (s next : State) (memory : Memory) (effect : Effect) → Executes program s memory effect → step program s ≡ Ok next
     → Keeps memory next.memory
 
--- The number that a new object got, the count of objects before, is below the count in each later state; so it is not given again.
+-- Where it made an object, the number of which is the count of objects before (NewLaws), that number is below the count in each
+-- later state; so it is not given again.
 abbrev pub GivenOnce : Type 0
 GivenOnce =
-    (program : Program) (n : ℕ) (s next later : State) (memory : Memory) (effect : Effect) (h : Executes program s memory effect) (cells : ℕ)
-    (objects : List Object) (below : List Value) → Makes (moment program s h.frame h.insn) cells objects below memory effect
-    → step program s ≡ Ok next → after program n next ≡ Ok later → length s.memory.objects < length later.memory.objects
+    (program : Program) (n : ℕ) (s next later : State) (memory : Memory) (effect : Effect) → Executes program s memory effect
+    → length s.memory.objects < length memory.objects → step program s ≡ Ok next → after program n next ≡ Ok later
+    → length s.memory.objects < length later.memory.objects
