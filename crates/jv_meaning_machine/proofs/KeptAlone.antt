@@ -93,7 +93,7 @@ from_over : (b : Budget) (memory : Memory) (s t : State) → IsFrom b memory s �
 from_over b memory s t h k =
     record { memory_kept = keeps_over memory s.memory t.memory h.memory_kept k.memory; words = k.words_budget ∙ h.words }
 
-alone_leads : (judged : Judged) (g : Guest) (b : Budget) (n : ℕ) → Leads State (IsFromStart judged.program g.input b) (alone judged g b n)
+pub alone_leads : (judged : Judged) (g : Guest) (b : Budget) (n : ℕ) → Leads State (IsFromStart judged.program g.input b) (alone judged g b n)
 alone_leads judged g b n =
     chained (IsFromStart judged.program g.input b) (IsFromStart judged.program g.input b) (start judged.program g.main g.input b)
     (after judged.program n) (start_leads judged.program g.main g.input b)

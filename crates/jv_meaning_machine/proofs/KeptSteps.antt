@@ -48,7 +48,7 @@ module _ (from : Memory) (all_words : ℕ) (main : List ℕ) where
       → HasWords from all_words main (waiting control frame stack below) (Runs (record frame { stack = stack }) ∷ below)
   waits control frame stack below w = record { sum = w.sum; same_main = w.same_main }
 
-  act_stays :
+  pub act_stays :
       (program : Program) (control : Control) (frame : MethodFrame) (below : List Frame) (memory : Memory) (effect : Effect) → Keeps from memory
       → MayConstruct memory.objects effect → HasWords from all_words main control control.frames → control.frames ≡ Runs frame ∷ below
       → Leads State (Stays from all_words main) (act program control frame below (memory, effect))

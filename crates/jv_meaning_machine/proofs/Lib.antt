@@ -10,6 +10,7 @@ mod KeptInstructions
 mod KeptControl
 mod KeptSteps
 mod KeptAlone
+mod Statics
 mod Going
 mod Ends
 mod Forward
@@ -17,6 +18,7 @@ mod Stores
 mod TakenItems
 mod StoreInstructions
 mod NewObjects
+mod StepDoes
 mod Decoding
 mod Shown
 mod Rooting

@@ -269,17 +269,17 @@ literal_leads :
     → Leads (Memory × Effect) (TextOf m text)
     (literal_or_new m.program text m.memory known >>= (λ made. Ok (string_loaded made)) >>= push_value m)
 literal_leads m text (Some object) e = leaf (TextOf m text) _ (inl (record { object = object; known = e; same = refl; goes = refl }))
-literal_leads m text None e = by_class (class_named m.program.world string_name)
+literal_leads m text None e = by_class (class_named m.program.world string_name) refl
   where
     by_units :
-        (l : Loaded) (units : Option (List ℕ)) → m.program.units text ≡ units
+        (l : Loaded) → class_named m.program.world string_name ≡ Some l → (units : Option (List ℕ)) → m.program.units text ≡ units
         → Leads (Memory × Effect) (TextOf m text)
         ((found OffsetFault units >>= λ units.
         Ok (literal_made m.program l text units (paid (literal_cells m.program l units) m.memory)))
         >>= (λ made. Ok (string_loaded made))
         >>= push_value m)
-    by_units l None f = failing OffsetFault
-    by_units l (Some units) f =
+    by_units l g None f = failing OffsetFault
+    by_units l g (Some units) f =
         by_cells
         (λ (o : Option Memory).
         Leads (Memory × Effect) (TextOf m text) (push_value m (string_loaded (literal_made m.program l text units o))))
@@ -287,18 +287,18 @@ literal_leads m text None e = by_class (class_named m.program.world string_name)
         (λ h.
         leaf (TextOf m text) _
         (inr
-        (inl (record { unknown = e; l = l; units = units; spelled = f; lacks = lacking m (literal_cells m.program l units) h }))))
-        (λ h. leaf (TextOf m text) _ (inr (inr (record { unknown = e; l = l; units = units; spelled = f; left = h; joins = refl; goes = refl }))))
+        (inl (record { unknown = e; l = l; string = g; units = units; spelled = f; lacks = lacking m (literal_cells m.program l units) h }))))
+        (λ h. leaf (TextOf m text) _ (inr (inr (record { unknown = e; l = l; string = g; units = units; spelled = f; left = h; joins = refl; goes = refl }))))
 
     by_class :
-        (class : Option Loaded)
+        (class : Option Loaded) → class_named m.program.world string_name ≡ class
         → Leads (Memory × Effect) (TextOf m text)
         ((found ReferenceFault class >>= λ l. found OffsetFault (m.program.units text) >>= λ units.
         Ok (literal_made m.program l text units (paid (literal_cells m.program l units) m.memory)))
         >>= (λ made. Ok (string_loaded made))
         >>= push_value m)
-    by_class None = failing ReferenceFault
-    by_class (Some l) = by_units l (m.program.units text) refl
+    by_class None g = failing ReferenceFault
+    by_class (Some l) g = by_units l g (m.program.units text) refl
 
 abbrev ConstantOf : Moment → ℕ → Memory × Effect → Type 0
 ConstantOf m index made =

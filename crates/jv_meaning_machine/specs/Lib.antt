@@ -39,5 +39,6 @@ pub mod RunLaws
 pub mod ShowLaws
 pub mod StoreLaws
 pub mod NewLaws
+pub mod StepLaws
 pub mod ForwardLaws
 pub mod WorldLaws

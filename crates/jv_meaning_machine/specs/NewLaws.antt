@@ -11,7 +11,7 @@ use Rattle.jv_code.specs.declared.kinds.IndexForm.{IndexForm}
 use Rattle.jv_loader_world.specs.of_pool.Constants.{at_index}
 use Rattle.jv_loader_world.specs.of_class.Class.{InitialValue}
 use Rattle.jv_loader_world.specs.of_class.Class.InitialValue.{StringValue}
-use Rattle.jv_loader_world.specs.World.{Loaded}
+use Rattle.jv_loader_world.specs.World.{Loaded, class_named}
 use Rattle.jv_meaning_linking.specs.Uses.{Use}
 use Rattle.jv_meaning_linking.specs.Uses.Use.{New}
 use Rattle.jv_meaning_linking.specs.LinkErrors.{LinkError, error_class}
@@ -28,7 +28,7 @@ use Rattle.jv_meaning_machine.specs.Costs.{array_cells, arrays_cells}
 use Rattle.jv_meaning_machine.specs.Operands.{taken}
 use Rattle.jv_meaning_machine.specs.Effects.{Effect, Moment, world_at, method_at, site_at, out_of_memory, negative_size}
 use Rattle.jv_meaning_machine.specs.Effects.Effect.{Goes, Throws, Raises, Begins}
-use Rattle.jv_meaning_machine.specs.Literals.{literal_in, literal_cells, string_with, chars_of, constant_value, pushed_constant, pool_at}
+use Rattle.jv_meaning_machine.specs.Literals.{string_name, literal_in, literal_cells, string_with, chars_of, constant_value, pushed_constant, pool_at}
 use Rattle.jv_meaning_machine.specs.Arrays.{arrays_made, base_of, base_components, components_of, is_negative_count, count_of}
 use Rattle.jv_meaning_machine.specs.Initialization.{is_under_way}
 use Rattle.jv_meaning_machine.specs.Instructions.{execute}
@@ -153,6 +153,7 @@ pub record PushesLiteral (m : Moment) (text : List ℕ) (after : Memory) (effect
 pub record MakesLiteral (m : Moment) (text : List ℕ) (after : Memory) (effect : Effect) : Type 0 where
   pub unknown : literal_in text m.memory.literals ≡ None
   pub l : Loaded
+  pub string : class_named m.program.world string_name ≡ Some l
   pub units : List ℕ
   pub spelled : m.program.units text ≡ Some units
   pub left : literal_cells m.program l units ≤ m.memory.cells
@@ -169,6 +170,7 @@ pub record MakesLiteral (m : Moment) (text : List ℕ) (after : Memory) (effect 
 pub record LacksLiteral (m : Moment) (text : List ℕ) (after : Memory) (effect : Effect) : Type 0 where
   pub unknown : literal_in text m.memory.literals ≡ None
   pub l : Loaded
+  pub string : class_named m.program.world string_name ≡ Some l
   pub units : List ℕ
   pub spelled : m.program.units text ≡ Some units
   pub lacks : LacksCells m (literal_cells m.program l units) after effect

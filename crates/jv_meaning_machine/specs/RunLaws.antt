@@ -1,9 +1,14 @@
 -- Laws of runs: what stays from a state to each later one, and what a guest alone keeps of its budget.
-use Rattle.std.specs.Prelude.{◌≡◌, ℕ, ◌+◌, ◌≤◌, List, length, Some, Ok, slice_get, codes}
+use Rattle.std.specs.Prelude.{◌≡◌, ℕ, ◌+◌, ◌≤◌, true, List, length, Some, Ok, IsSome, slice_get, codes}
 use Rattle.jv_loader_system.specs.SystemClasses.{system_classes}
 use Rattle.jv_loader_world.specs.of_loader_files.FileContent.{FileContent}
 use Rattle.jv_loader_world.specs.World.{Loaded, class_named, world_of}
-use Rattle.jv_meaning_machine.specs.Objects.{Object}
+use Rattle.jv_loader_world.specs.of_class.Class.{Field}
+use Rattle.jv_loader_world.specs.LookUps.{field_by}
+use Rattle.jv_meaning_linking.specs.Kind.{is_static_field}
+use Rattle.jv_meaning_machine.specs.Objects.{Object, key_of}
+use Rattle.jv_meaning_machine.specs.Locations.{held_at}
+use Rattle.jv_meaning_machine.specs.Locations.Location.{StaticField}
 use Rattle.jv_meaning_machine.specs.State.{Program, State}
 use Rattle.jv_meaning_machine.specs.Start.{Budget, start_cells}
 use Rattle.jv_meaning_machine.specs.Step.{step}
@@ -33,7 +38,7 @@ ObjectsStay =
     → slice_get before.memory.objects number ≡ Some object
     → (same : Object) × (slice_get later.memory.objects number ≡ Some same) × (shape_of same ≡ shape_of object)
 
--- Objects are never fewer. (Which number a new one gets is said in NewLaws.)
+-- Objects are never fewer. (Which number a new one gets is said in NewLaws, and that none is given twice in StepLaws.)
 abbrev pub ObjectsAreNeverFewer : Type 0
 ObjectsAreNeverFewer =
     (program : Program) (n : ℕ) (before later : State) → after program n before ≡ Ok later
@@ -64,6 +69,13 @@ abbrev pub CellsAreBudgeted : Type 0
 CellsAreBudgeted =
     (judged : Judged) (g : Guest) (b : Budget) (n : ℕ) (s : State) → IsJudged g.files judged → first_cells ≤ b.cells
     → alone judged g b n ≡ Ok s → used_cells s.memory + s.memory.cells ≡ b.cells
+
+-- Each static field of each class of its world is there, always.
+abbrev pub StaticsAreThere : Type 0
+StaticsAreThere =
+    (judged : Judged) (g : Guest) (b : Budget) (n : ℕ) (s : State) → alone judged g b n ≡ Ok s → (place : ℕ) (l : Loaded)
+    → slice_get judged.program.world place ≡ Some l → (field : ℕ) (f : Field) → slice_get l.class.fields field ≡ Some f
+    → is_static_field f ≡ true → IsSome (held_at s.memory (StaticField (key_of (field_by l f))))
 
 -- The objects of the start cost the same whatever a guest's files are.
 abbrev pub FirstObjectsCost : Type 0

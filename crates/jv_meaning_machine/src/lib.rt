@@ -7,6 +7,7 @@ mod law;
 mod new_law;
 mod run_law;
 mod show_law;
+mod step_law;
 mod store_law;
 mod world_law;
 
@@ -24,12 +25,13 @@ pub use new_law::{
 };
 pub use run_law::{
     alone_goes_on, cells_are_budgeted, first_objects_cost, objects_are_never_fewer, objects_stay,
-    output_grows, output_is_budgeted, run_keeps, step_keeps, words_are_budgeted,
+    output_grows, output_is_budgeted, run_keeps, statics_are_there, step_keeps, words_are_budgeted,
 };
 pub use show_law::{
     ended_shows_the_same, faults_show_nothing, faults_stay, judged_by_verdicts, one_judged,
     shows_more, shows_no_main, shows_one_thing,
 };
+pub use step_law::{done_stays, given_once, step_goes_on};
 pub use store_law::{
     array_store_stores, other_fields_stay, others_leave_all, others_store_nothing, putfield_stores,
     putstatic_stores, reference_array_store_stores,

@@ -1,6 +1,6 @@
 //! Laws of the machine's runs: what stays, and what a guest keeps of its budget.
 
-ghost use Rattle.jv_meaning_machine.specs.RunLaws.{AloneGoesOn, CellsAreBudgeted, FirstObjectsCost, ObjectsAreNeverFewer, ObjectsStay, OutputGrows, OutputIsBudgeted, RunKeeps, StepKeeps, WordsAreBudgeted};
+ghost use Rattle.jv_meaning_machine.specs.RunLaws.{AloneGoesOn, CellsAreBudgeted, FirstObjectsCost, ObjectsAreNeverFewer, ObjectsStay, OutputGrows, OutputIsBudgeted, RunKeeps, StaticsAreThere, StepKeeps, WordsAreBudgeted};
 
 /// What a state has stays over a step: what was written, the objects and their shapes, the objects of
 /// literals, and the sums of what is used and what is left.
@@ -52,4 +52,9 @@ pub fn cells_are_budgeted()
 /// The objects of the start cost the same whatever a guest's files are.
 pub fn first_objects_cost()
     ensures { FirstObjectsCost }
+{}
+
+/// Each static field of each class of a guest's world is there, always.
+pub fn statics_are_there()
+    ensures { StaticsAreThere }
 {}
