@@ -25,7 +25,7 @@ use Rattle.jv_meaning_machine.specs.Fields.{described, with_static, with_object,
 use Rattle.jv_meaning_machine.specs.Calls.{entered_on}
 use Rattle.jv_meaning_machine.specs.Instructions.{execute}
 use Rattle.jv_meaning_machine.specs.Literals.{constant_value}
-use Rattle.jv_meaning_machine.specs.Throws.{exception, Thrown, counted, thrown, handler_for, at_handler, caught, replaced_if, replaced, passed_initialization, passed_method, unwound, throw, raise}
+use Rattle.jv_meaning_machine.specs.Throws.{exception, Thrown, counted, thrown, handler_for, at_handler, caught, replacement_if, replacement, passed_initialization, passed_method, unwound, throw, raise}
 use Rattle.jv_meaning_machine.specs.Entering.{frame_of, enter_within, enter, at_offset, resumed, leave_to}
 use Rattle.jv_meaning_machine.specs.Initialization.{begin_within, begin_if, begin_in, begin, is_verified, first_tasks, tasks_of, main_arguments, tasks_left, finish, finished, set_field, do_task, with_tasks, do_first}
 use Rattle.jv_meaning_machine.specs.Step.{waiting, act, moment, step_in, step}
@@ -107,12 +107,12 @@ module _ (G : ClassStates → ℕ → List Frame → Type 0) (kept : IsKept G) w
       (in_place t.control frame (record frame { offset = handler.handler_pc; stack = Reference t.object ∷ [] }) below h) in
       search (bound_tested, leaf, caught)
 
-  replaced_if_goes : (world : World) (t : Thrown) (frames : List Frame) (error : Bool) → Passing frames t → Leads Thrown (Passing frames) (replaced_if world t error)
+  replaced_if_goes : (world : World) (t : Thrown) (frames : List Frame) (error : Bool) → Passing frames t → Leads Thrown (Passing frames) (replacement_if world t error)
   replaced_if_goes world t frames true h = leaf (Passing frames) t h
   replaced_if_goes world t frames false h =
       bound (exception world (codes "java/lang/ExceptionInInitializerError") t.memory) (thrown t.control) (λ made e. thrown_goes t.control frames made h)
 
-  replaced_goes : (world : World) (t : Thrown) (frames : List Frame) → Passing frames t → Leads Thrown (Passing frames) (replaced world t)
+  replaced_goes : (world : World) (t : Thrown) (frames : List Frame) → Passing frames t → Leads Thrown (Passing frames) (replacement world t)
   replaced_goes world t frames h = replaced_if_goes world t frames (is_class_of world t.class (codes "java/lang/Error")) h
 
   passed : (t : Thrown) (frame : InitializationFrame) (below : List Frame) → Passing (Initializes frame ∷ below) t → Passing below (passed_initialization frame.class t)
@@ -136,7 +136,7 @@ module _ (G : ClassStates → ℕ → List Frame → Type 0) (kept : IsKept G) w
       by_handler None up = up
       by_handler (Some handler) up = caught_goes t frame below handler h
   unwound_goes world (Initializes frame ∷ below) t h =
-      chained (Passing below) Went (replaced world (passed_initialization frame.class t)) (λ t. unwound world t below)
+      chained (Passing below) Went (replacement world (passed_initialization frame.class t)) (λ t. unwound world t below)
       (replaced_goes world (passed_initialization frame.class t) below (passed t frame below h))
       (λ t k. unwound_goes world below t k)
 

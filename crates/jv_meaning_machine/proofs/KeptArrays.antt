@@ -18,7 +18,7 @@ use Rattle.jv_meaning_machine.specs.State.{Memory}
 use Rattle.jv_meaning_machine.specs.Costs.{array_cells, arrays_cells, paid, next_object}
 use Rattle.jv_meaning_machine.specs.Operands.{object_at}
 use Rattle.jv_meaning_machine.specs.Effects.{Moment}
-use Rattle.jv_meaning_machine.specs.Arrays.{Components, array_in, at_place, place_of, holds_numbers, holds_references, load_at, load_from, load_component, with_component, store_at, store_number, store_component, can_stand, store_reference_if, store_reference_at, store_reference, length_of, array_length, arrays_in, inner_numbers, reference_to, arrays_made, push_arrays, make_array, new_reference_array, make_arrays_if, make_arrays, new_multi_array, is_negative_count, count_of}
+use Rattle.jv_meaning_machine.specs.Arrays.{Components, array_in, at_place, place_for, holds_numbers, holds_references, load_at, load_from, load_component, with_component_stored, store_at, store_number, store_component, can_stand, store_reference_if, store_reference_at, store_reference, length_of, array_length, arrays_in, inner_numbers, reference_to, arrays_made, push_arrays, make_array, new_reference_array, make_arrays_if, make_arrays, new_multi_array, is_negative_count, count_of}
 use Rattle.jv_meaning_machine.specs.Shapes.{Shape, shape_of, shape_cells}
 use Rattle.jv_meaning_machine.specs.Shapes.Shape.{ArrayShape}
 use Rattle.jv_meaning_machine.specs.Kept.{Keeps}
@@ -64,7 +64,7 @@ load_component_kept m test = search (bound, load_from_kept)
 
 keeps_component :
     (memory : Memory) (id : ℕ) (array : Components) (place : ℕ) (value : Value) → slice_get memory.objects id ≡ Some (ArrayWith array.0 array.1)
-    → Keeps memory (with_component id array place value memory)
+    → Keeps memory (with_component_stored id array place value memory)
 keeps_component memory id array place value e =
     keeps_object id (ArrayWith array.0 array.1) (ArrayWith array.0 (slice_set array.1 place (narrowed array.0 value))) memory e
     (ap (λ (n : ℕ). ArrayShape array.0 n) (length-set array.1 place (narrowed array.0 value))) (λ constructed. refl)
@@ -76,7 +76,7 @@ store_at_stored :
     (m : Moment) (id : ℕ) (array : Components) (index : ℤ) (value : Value) (below : List Value) (o : Option Value) → Stands m id array
     → Stored m (store_at m id array index value below o)
 store_at_stored m id array index value below None e = same_stored m _ refl
-store_at_stored m id array index value below (Some old) e = made_stored m _ _ refl (keeps_component m.memory id array (place_of index) value e)
+store_at_stored m id array index value below (Some old) e = made_stored m _ _ refl (keeps_component m.memory id array (place_for index) value e)
 
 store_number_stored :
     (m : Moment) (kind : NumberElement) (index : ℤ) (value under : Value) (below : List Value) → Stored m (store_number m kind index value under below)
@@ -102,7 +102,7 @@ store_component_stored m kind = search (bound, store_number_stored)
 store_if_stored :
     (m : Moment) (id : ℕ) (array : Components) (index : ℤ) (value : Value) (below : List Value) (test : Bool) → Stands m id array
     → Stored m (store_reference_if m id array index value below test)
-store_if_stored m id array index value below true e = made_stored m _ _ refl (keeps_component m.memory id array (place_of index) value e)
+store_if_stored m id array index value below true e = made_stored m _ _ refl (keeps_component m.memory id array (place_for index) value e)
 store_if_stored m id array index value below false e = same_stored m _ refl
 
 store_reference_at_stored :

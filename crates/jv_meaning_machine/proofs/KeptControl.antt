@@ -22,7 +22,7 @@ use Rattle.jv_meaning_machine.specs.Costs.{paid, method_words, initialization_wo
 use Rattle.jv_meaning_machine.specs.Effects.{out_of_memory}
 use Rattle.jv_meaning_machine.specs.Fields.{described}
 use Rattle.jv_meaning_machine.specs.Literals.{constant_value}
-use Rattle.jv_meaning_machine.specs.Throws.{exception_made, exception, Thrown, counted, thrown, handler_for, caught, replaced_if, replaced, passed_initialization, passed_method, unwound, throw, raise}
+use Rattle.jv_meaning_machine.specs.Throws.{exception_made, exception, Thrown, counted, thrown, handler_for, caught, replacement_if, replacement, passed_initialization, passed_method, unwound, throw, raise}
 use Rattle.jv_meaning_machine.specs.Entering.{frame_of, enter_within, enter, at_offset, resumed, leave_to, leave}
 use Rattle.jv_meaning_machine.specs.Initialization.{begin_within, begin_if, begin_in, begin, is_verified, tasks_of, main_arguments, tasks_left, finish, finished, set_field, do_task, with_tasks, do_first, initialization_step}
 use Rattle.jv_meaning_machine.specs.Shapes.{frame_words}
@@ -101,14 +101,14 @@ module _ (from : Memory) (all_words : ℕ) (main : List ℕ) where
 
   replaced_if_stays :
       (world : World) (t : Thrown) (frames : List Frame) (error : Bool) → ThrownFrom frames t
-      → Leads Thrown (ThrownFrom frames) (replaced_if world t error)
+      → Leads Thrown (ThrownFrom frames) (replacement_if world t error)
   replaced_if_stays world t frames true h = leaf (ThrownFrom frames) t h
   replaced_if_stays world t frames false h =
       chained HasMemory (ThrownFrom frames) (exception world (codes "java/lang/ExceptionInInitializerError") t.memory) (thrown t.control)
       (exception_stays world (codes "java/lang/ExceptionInInitializerError") t.memory h.memory) (λ made k. thrown_stays t.control frames made k h.words)
 
   replaced_stays :
-      (world : World) (t : Thrown) (frames : List Frame) → ThrownFrom frames t → Leads Thrown (ThrownFrom frames) (replaced world t)
+      (world : World) (t : Thrown) (frames : List Frame) → ThrownFrom frames t → Leads Thrown (ThrownFrom frames) (replacement world t)
   replaced_stays world t frames h = replaced_if_stays world t frames (is_class_of world t.class (codes "java/lang/Error")) h
 
   pub unwound_stays : (world : World) (frames : List Frame) (t : Thrown) → ThrownFrom frames t → Leads State Stays (unwound world t frames)
@@ -127,7 +127,7 @@ module _ (from : Memory) (all_words : ℕ) (main : List ℕ) where
       by_handler None up = up
       by_handler (Some handler) up = caught_stays t frame below handler h
   unwound_stays world (Initializes frame ∷ below) t h =
-      chained (ThrownFrom below) Stays (replaced world (passed_initialization frame.class t)) (λ t. unwound world t below)
+      chained (ThrownFrom below) Stays (replacement world (passed_initialization frame.class t)) (λ t. unwound world t below)
       (replaced_stays world (passed_initialization frame.class t) below (initialization_passed t frame below h))
       (λ t k. unwound_stays world below t k)
 

@@ -29,7 +29,7 @@ use Rattle.jv_meaning_machine.specs.Costs.{array_cells, arrays_cells, paid, next
 use Rattle.jv_meaning_machine.specs.Operands.{taken, taken_as}
 use Rattle.jv_meaning_machine.specs.Effects.{Effect, Moment, Done, world_at, method_at, site_at, in_state, unless_error, out_of_memory}
 use Rattle.jv_meaning_machine.specs.Effects.Effect.{Throws, Raises}
-use Rattle.jv_meaning_machine.specs.Arithmetic.{one, int_in}
+use Rattle.jv_meaning_machine.specs.Arithmetic.{one, as_int}
 use Rattle.jv_meaning_machine.specs.Literals.{string_name, literal_in, literal_made, literal_cells, literal_or_new, string_loaded, constant_value, pushed_constant, push_value, pool_at}
 use Rattle.jv_meaning_machine.specs.Arrays.{arrays_made, push_arrays, make_array, base_of, base_components, components_of, is_negative_count, count_of, make_arrays_if, make_arrays, array_resolved}
 use Rattle.jv_meaning_machine.specs.Initialization.{is_under_way}
@@ -151,13 +151,13 @@ make_array_makes m components (pos count) below s =
 
 new_array_leads :
     (m : Moment) (components : FieldTypeOf (List ℕ)) (operands : List Value × List Value) → IsOne m.frame.stack operands
-    → Leads (Memory × Effect) (ArrayMade m components) (one operands.0 >>= int_in >>= λ count. make_array m components count operands.1)
+    → Leads (Memory × Effect) (ArrayMade m components) (one operands.0 >>= as_int >>= λ count. make_array m components count operands.1)
 new_array_leads m components operands known =
     subst
     (λ (values : List Value).
-    Leads (Memory × Effect) (ArrayMade m components) (one values >>= int_in >>= λ count. make_array m components count operands.1))
+    Leads (Memory × Effect) (ArrayMade m components) (one values >>= as_int >>= λ count. make_array m components count operands.1))
     (sym known.is)
-    (bound (int_in known.first) (λ count. make_array m components count operands.1)
+    (bound (as_int known.first) (λ count. make_array m components count operands.1)
     (λ count e.
     make_array_makes m components count operands.1
     (known.stood ∙ ap (λ (v : Value). v ∷ operands.1) (int_gave known.first count e))))
@@ -165,7 +165,7 @@ new_array_leads m components operands known =
 pub new_array_makes : NewArrayMakes
 new_array_makes m element after effect e =
     (chained (IsOne m.frame.stack) (ArrayMade m (base_components (base_of element))) (taken m.memory.objects (types.Int ∷ []) m.frame.stack)
-    (λ operands. one operands.0 >>= int_in >>= λ count. make_array m (base_components (base_of element)) count operands.1)
+    (λ operands. one operands.0 >>= as_int >>= λ count. make_array m (base_components (base_of element)) count operands.1)
     (one_taken m.memory.objects types.Int m.frame.stack) (new_array_leads m (base_components (base_of element)))).at
     (after, effect) e
 
@@ -178,14 +178,14 @@ pub new_reference_array_makes : NewReferenceArrayMakes
 new_reference_array_makes m index after effect e =
     (class_leads m (ReferencesOf m index) None index
     (λ resolved.
-    taken_as m.memory.objects types.Int m.frame.stack >>= λ top. int_in top.0 >>= λ count.
+    taken_as m.memory.objects types.Int m.frame.stack >>= λ top. as_int top.0 >>= λ count.
     make_array m (components_of resolved) count top.1)
     (λ effect fails. inl fails)
     (λ resolved names.
     bound (taken_as m.memory.objects types.Int m.frame.stack)
-    (λ top. int_in top.0 >>= λ count. make_array m (components_of resolved) count top.1)
+    (λ top. as_int top.0 >>= λ count. make_array m (components_of resolved) count top.1)
     (λ top f.
-    bound (int_in top.0) (λ count. make_array m (components_of resolved) count top.1)
+    bound (as_int top.0) (λ count. make_array m (components_of resolved) count top.1)
     (λ count g.
     also (ReferencesOf m index) (make_array m (components_of resolved) count top.1) (λ made h. inr (resolved, names, h))
     (make_array_makes m (components_of resolved) count top.1

@@ -28,10 +28,10 @@ use Rattle.jv_meaning_machine.specs.State.ClassState.{Untouched, Begun, Initiali
 use Rattle.jv_meaning_machine.specs.Operands.{object_at, popped_reference, taken_as, taken_reference, taken}
 use Rattle.jv_meaning_machine.specs.Effects.{Effect, Moment, Done, world_at, method_at, site_at, goes_on_with, in_state, once_initialized, unless_error, null_pointer, array_index, array_store}
 use Rattle.jv_meaning_machine.specs.Effects.Effect.{Goes, Raises, Begins}
-use Rattle.jv_meaning_machine.specs.Arithmetic.{int_in}
+use Rattle.jv_meaning_machine.specs.Arithmetic.{as_int}
 use Rattle.jv_meaning_machine.specs.Fields.{use_for, described, with_static, put_static, instance_in, can_be_set, with_object, with_field, put_field_of, put_field, access_field, use_field}
 use Rattle.jv_meaning_machine.specs.Instructions.{store_in_array}
-use Rattle.jv_meaning_machine.specs.Arrays.{Components, array_in, at_place, place_of, holds_numbers, holds_references, with_component, store_at, store_number, store_component, can_stand, store_reference_if, store_reference_at, store_reference}
+use Rattle.jv_meaning_machine.specs.Arrays.{Components, array_in, at_place, place_for, holds_numbers, holds_references, with_component_stored, store_at, store_number, store_component, can_stand, store_reference_if, store_reference_at, store_reference}
 use Rattle.jv_meaning_machine.specs.Initialization.{is_under_way}
 use Rattle.jv_meaning_machine.specs.Locations.{field_in, component_in}
 use Rattle.jv_meaning_machine.specs.StoreLaws.{NamesField, ThrowsLinkError, BeginsFirst, PutsToNull, StoresToNull, StoresOutside, StoresStranger, PutsStatic, PutsField, PutsComponent, PutstaticStores, PutfieldStores, ArrayStoreStores, ReferenceArrayStoreStores}
@@ -222,7 +222,7 @@ outside m value index id below array h e = record {
 put_at :
     (m : Moment) (test : FieldTypeOf (List ℕ) → Bool) (value old : Value) (index : ℤ) (id : ℕ) (below : List Value) (array : Components)
     → ArrayTaken m value index id below array → test array.0 ≡ true → at_place index array.1 ≡ Some old
-    → (put : PutsComponent m test (with_component id array (place_of index) value m.memory) (Goes m.next m.frame.locals below))
+    → (put : PutsComponent m test (with_component_stored id array (place_for index) value m.memory) (Goes m.next m.frame.locals below))
     × (put.components ≡ array.0) × (put.value ≡ value)
 put_at m test value old (pos place) id below array h passes f = (
   record {
@@ -279,7 +279,7 @@ store_component_leads : (m : Moment) (kind : NumberElement) → Leads (Memory ×
 store_component_leads m kind =
     let stored :
     (top second under : Value × List Value) (index : ℤ) → taken_as m.memory.objects (element_number kind) m.frame.stack ≡ Ok top
-    → taken_as m.memory.objects types.Int top.1 ≡ Ok second → int_in second.0 ≡ Ok index
+    → taken_as m.memory.objects types.Int top.1 ≡ Ok second → as_int second.0 ≡ Ok index
     → taken_reference m.memory.objects second.1 ≡ Ok under
     → Leads (Memory × Effect) (NumberPut m kind) (store_number m kind index top.0 under.0 under.1) =
     λ top second under index e f g h.
@@ -393,7 +393,7 @@ store_in_array_leads :
     → Leads (Memory × Effect) (ReferencePut m) (store_in_array m operands.0 operands.1)
 store_in_array_leads m operands known =
     subst (λ (values : List Value). Leads (Memory × Effect) (ReferencePut m) (store_in_array m values operands.1)) (sym known.are)
-    (bound (int_in known.second) (λ index. store_reference m known.first index known.third operands.1)
+    (bound (as_int known.second) (λ index. store_reference m known.first index known.third operands.1)
     (λ index e.
     store_reference_leads m known.first index known.third operands.1
     (known.stood ∙ ap (λ (v : Value). known.third ∷ v ∷ known.first ∷ operands.1) (int_gave known.second index e))))

@@ -7,7 +7,7 @@ use Rattle.jv_meaning_machine.specs.Objects.{FieldKey, Object, Instance, same_ke
 use Rattle.jv_meaning_machine.specs.Objects.Object.{InstanceOf, ArrayWith}
 use Rattle.jv_meaning_machine.specs.State.{Memory}
 use Rattle.jv_meaning_machine.specs.Fields.{with_static, with_object, with_field}
-use Rattle.jv_meaning_machine.specs.Arrays.{Components, with_component}
+use Rattle.jv_meaning_machine.specs.Arrays.{Components, with_component_stored}
 use Rattle.jv_meaning_machine.specs.Shapes.{shape_of}
 use Rattle.jv_meaning_machine.specs.Shapes.Shape.{ObjectShape, ArrayShape}
 use Rattle.jv_meaning_machine.specs.Locations.{Location, field_in, component_in, held_at, bare, StoresAt}
@@ -116,7 +116,7 @@ array_with array place value = ArrayWith array.0 (slice_set array.1 place (narro
 pub component_stores :
     (memory : Memory) (id : ℕ) (array : Components) (place : ℕ) (value old : Value) → slice_get memory.objects id ≡ Some (ArrayWith array.0 array.1)
     → slice_get array.1 place ≡ Some old
-    → StoresAt memory (with_component id array place value memory) (ComponentOf id place) (narrowed array.0 value)
+    → StoresAt memory (with_component_stored id array place value memory) (ComponentOf id place) (narrowed array.0 value)
 component_stores memory id array place value old e here = record {
   there = λ h.
       ap (component_in place) (set_there memory.objects id (array_with array place value) (ArrayWith array.0 array.1) e)
@@ -130,7 +130,7 @@ component_stores memory id array place value old e here = record {
 }
   where
     elsewhere :
-        (other : Location) → (other ≡ ComponentOf id place → ⊥) → held_at (with_component id array place value memory) other ≡ held_at memory other
+        (other : Location) → (other ≡ ComponentOf id place → ⊥) → held_at (with_component_stored id array place value memory) other ≡ held_at memory other
     elsewhere (FieldOf object key) differ =
         seen_of_each (field_in key) memory.objects id (ArrayWith array.0 array.1) (array_with array place value) e object (λ is. refl)
     elsewhere (ComponentOf number other) differ =

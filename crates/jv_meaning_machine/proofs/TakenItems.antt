@@ -7,8 +7,8 @@ use Rattle.jv_meaning_machine.specs.Faults.Fault.{TagFault, ConstructionFault}
 use Rattle.jv_meaning_machine.specs.Values.{Value, has_type}
 use Rattle.jv_meaning_machine.specs.Values.Value.{Int, Long, Null, Reference, Half, Unset}
 use Rattle.jv_meaning_machine.specs.Objects.{Object, is_constructed}
-use Rattle.jv_meaning_machine.specs.Operands.{object_at, usable, popped, popped_as, taken_as, taken_before, taken}
-use Rattle.jv_meaning_machine.specs.Arithmetic.{int_in}
+use Rattle.jv_meaning_machine.specs.Operands.{object_at, usable_value, popped, popped_as, taken_as, taken_before, taken}
+use Rattle.jv_meaning_machine.specs.Arithmetic.{as_int}
 use Rattle.jv_meaning_machine.proofs.Leading.{Leads, leaf, bound, bound_gave, tested_gave}
 
 same_items : (a b : Value × List Value) (o : OrFault (Value × List Value)) → o ≡ Ok a → o ≡ Ok b → a.0 ∷ a.1 ≡ b.0 ∷ b.1
@@ -25,7 +25,7 @@ popped_as_gave type stack top e =
     let parts = bound_gave (popped stack) (λ (p : Value × List Value). tested TagFault (has_type type p.0) p) top e in
     popped_gave stack parts.0 parts.1 ∙ ap (λ (p : Value × List Value). p.0 ∷ p.1) (tested_gave TagFault (has_type type parts.0.0) parts.0 top parts.2).1
 
-usable_gave : (objects : List Object) (value same : Value) → usable objects value ≡ Ok same → value ≡ same
+usable_gave : (objects : List Object) (value same : Value) → usable_value objects value ≡ Ok same → value ≡ same
 usable_gave objects (Int number) same e = cc
 usable_gave objects (Long number) same e = cc
 usable_gave objects Null same e = cc
@@ -40,13 +40,13 @@ pub taken_gave :
     → stack ≡ top.0 ∷ top.1
 taken_gave objects type stack top e =
     let parts =
-    bound_gave (popped_as type stack) (λ (p : Value × List Value). usable objects p.0 >>= λ value. Ok (value, p.1)) top e in
-    let inner = bound_gave (usable objects parts.0.0) (λ (value : Value). Ok (value, parts.0.1)) top parts.2 in
+    bound_gave (popped_as type stack) (λ (p : Value × List Value). usable_value objects p.0 >>= λ value. Ok (value, p.1)) top e in
+    let inner = bound_gave (usable_value objects parts.0.0) (λ (value : Value). Ok (value, parts.0.1)) top parts.2 in
     popped_as_gave type stack parts.0 parts.1
     ∙ ap (λ (v : Value). v ∷ parts.0.1) (usable_gave objects parts.0.0 inner.0 inner.1)
     ∙ same_items (inner.0, parts.0.1) top (Ok (inner.0, parts.0.1)) refl inner.2
 
-pub int_gave : (value : Value) (number : ℤ) → int_in value ≡ Ok number → value ≡ Int number
+pub int_gave : (value : Value) (number : ℤ) → as_int value ≡ Ok number → value ≡ Int number
 int_gave (Int known) number e = cc
 int_gave (Long known) number e = absurd cc
 int_gave Null number e = absurd cc

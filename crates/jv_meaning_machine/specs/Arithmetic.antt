@@ -31,21 +31,21 @@ abbrev pub width_of : NumberKind → Width
 width_of numbers.Int = w32
 width_of numbers.Long = w64
 
-abbrev pub value_of : NumberKind → ℤ → Value
-value_of numbers.Int number = Int number
-value_of numbers.Long number = Long number
+abbrev pub number_value : NumberKind → ℤ → Value
+number_value numbers.Int number = Int number
+number_value numbers.Long number = Long number
 
-abbrev pub int_in : Value → OrFault ℤ
-int_in (Int number) = Ok number
-int_in _ = Err TagFault
+abbrev pub as_int : Value → OrFault ℤ
+as_int (Int number) = Ok number
+as_int _ = Err TagFault
 
-abbrev pub long_in : Value → OrFault ℤ
-long_in (Long number) = Ok number
-long_in _ = Err TagFault
+abbrev pub as_long : Value → OrFault ℤ
+as_long (Long number) = Ok number
+as_long _ = Err TagFault
 
-abbrev pub number_in : NumberKind → Value → OrFault ℤ
-number_in numbers.Int value = int_in value
-number_in numbers.Long value = long_in value
+abbrev pub as_number : NumberKind → Value → OrFault ℤ
+as_number numbers.Int value = as_int value
+as_number numbers.Long value = as_long value
 
 -- the operands of an instruction: none, one, two
 abbrev pub none : {A : Type 0} → A → List Value → OrFault A
@@ -86,11 +86,11 @@ shifted shifts.Right w a by = int_shr a by
 shifted shifts.UnsignedRight w a by = cast_signed w (cast_unsigned w a / 2 ^ by)
 
 abbrev pub converted : Conversion → Value → OrFault Value
-converted conversions.IntToLong value = int_in value >>= λ a. Ok (Long a)
-converted conversions.LongToInt value = long_in value >>= λ a. Ok (Int (cast_signed w32 (cast_unsigned w64 a % 4294967296)))
-converted conversions.IntToByte value = int_in value >>= λ a. Ok (Int (low_byte a))
-converted conversions.IntToChar value = int_in value >>= λ a. Ok (Int (low_char a))
-converted conversions.IntToShort value = int_in value >>= λ a. Ok (Int (low_short a))
+converted conversions.IntToLong value = as_int value >>= λ a. Ok (Long a)
+converted conversions.LongToInt value = as_long value >>= λ a. Ok (Int (cast_signed w32 (cast_unsigned w64 a % 4294967296)))
+converted conversions.IntToByte value = as_int value >>= λ a. Ok (Int (low_byte a))
+converted conversions.IntToChar value = as_int value >>= λ a. Ok (Int (low_char a))
+converted conversions.IntToShort value = as_int value >>= λ a. Ok (Int (low_short a))
 
 -- 1, 0 or -1
 abbrev pub compared : ℤ → ℤ → ℤ
@@ -105,16 +105,16 @@ abbrev pub computed : Computation → List Value → OrFault Value
 computed (compute.IntConstant value form) values = none (Int value) values
 computed (compute.LongConstant value) values = none (Long (long_constant value)) values
 computed (compute.Arithmetic kind operator) values =
-    two values >>= λ p. number_in kind p.0 >>= λ a. number_in kind p.1 >>= λ b.
-    Ok (value_of kind (arithmetic operator (width_of kind) a b))
+    two values >>= λ p. as_number kind p.0 >>= λ a. as_number kind p.1 >>= λ b.
+    Ok (number_value kind (arithmetic operator (width_of kind) a b))
 computed (compute.Negate kind) values =
-    one values >>= number_in kind >>= λ a. Ok (value_of kind (int_wrapping_neg (width_of kind) a))
+    one values >>= as_number kind >>= λ a. Ok (number_value kind (int_wrapping_neg (width_of kind) a))
 computed (compute.Shift kind operator) values =
-    two values >>= λ p. number_in kind p.0 >>= λ a. int_in p.1 >>= λ by.
-    Ok (value_of kind (shifted operator (width_of kind) a (places kind by)))
+    two values >>= λ p. as_number kind p.0 >>= λ a. as_int p.1 >>= λ by.
+    Ok (number_value kind (shifted operator (width_of kind) a (places kind by)))
 computed (compute.Convert conversion) values = one values >>= converted conversion
 computed compute.CompareLongs values =
-    two values >>= λ p. long_in p.0 >>= λ a. long_in p.1 >>= λ b. Ok (Int (compared a b))
+    two values >>= λ p. as_long p.0 >>= λ a. as_long p.1 >>= λ b. Ok (Int (compared a b))
 
 -- ---- conditions and switches
 

@@ -24,13 +24,13 @@ use Rattle.jv_meaning_machine.specs.Faults.{OrFault, found, tested, ◌>>=◌}
 use Rattle.jv_meaning_machine.specs.Faults.Fault.{OffsetFault, TagFault, ReferenceFault}
 use Rattle.jv_meaning_machine.specs.Values.{Value, narrowed}
 use Rattle.jv_meaning_machine.specs.Values.Value.{Int, Null, Reference}
-use Rattle.jv_meaning_machine.specs.Objects.{Object, new_array, is_instance}
+use Rattle.jv_meaning_machine.specs.Objects.{Object, new_array, is_instance_of}
 use Rattle.jv_meaning_machine.specs.Objects.Object.{InstanceOf, ArrayWith}
 use Rattle.jv_meaning_machine.specs.State.{Memory}
 use Rattle.jv_meaning_machine.specs.Costs.{array_cells, arrays_cells, paid, with_objects, next_object}
 use Rattle.jv_meaning_machine.specs.Operands.{object_at, taken, taken_as, taken_reference}
 use Rattle.jv_meaning_machine.specs.Effects.{Moment, Done, world_at, method_at, site_at, goes_on, goes_on_with, raises, unless_error, lacks_memory, null_pointer, array_index, array_store, negative_size}
-use Rattle.jv_meaning_machine.specs.Arithmetic.{int_in}
+use Rattle.jv_meaning_machine.specs.Arithmetic.{as_int}
 use Rattle.jv_meaning_machine.specs.Fields.{with_object}
 
 -- ---- an array's components
@@ -47,9 +47,9 @@ abbrev pub at_place : ℤ → List Value → Option Value
 at_place (pos n) values = slice_get values n
 at_place (negsuc n) values = None
 
-abbrev pub place_of : ℤ → ℕ
-place_of (pos n) = n
-place_of (negsuc n) = 0
+abbrev pub place_for : ℤ → ℕ
+place_for (pos n) = n
+place_for (negsuc n) = 0
 
 -- the instruction for numbers of a kind is for these
 abbrev pub holds_base : NumberElement → Base → Bool
@@ -87,19 +87,19 @@ load_from m test index _ below = Err TagFault
 
 abbrev pub load_component : Moment → (FieldTypeOf (List ℕ) → Bool) → Done
 load_component m test =
-    taken_as m.memory.objects types.Int m.frame.stack >>= λ top. int_in top.0 >>= λ index.
+    taken_as m.memory.objects types.Int m.frame.stack >>= λ top. as_int top.0 >>= λ index.
     taken_reference m.memory.objects top.1 >>= λ under. load_from m test index under.0 under.1
 
 -- ---- stores
 
-abbrev pub with_component : ℕ → Components → ℕ → Value → Memory → Memory
-with_component id array place value memory =
+abbrev pub with_component_stored : ℕ → Components → ℕ → Value → Memory → Memory
+with_component_stored id array place value memory =
     with_object id (ArrayWith array.0 (slice_set array.1 place (narrowed array.0 value))) memory
 
 abbrev pub store_at : Moment → ℕ → Components → ℤ → Value → List Value → Option Value → Done
 store_at m id array index value below None = raises m array_index
 store_at m id array index value below (Some old) =
-    goes_on_with m (with_component id array (place_of index) value m.memory) below
+    goes_on_with m (with_component_stored id array (place_for index) value m.memory) below
 
 abbrev pub store_number : Moment → NumberElement → ℤ → Value → Value → List Value → Done
 store_number m kind index value Null below = raises m null_pointer
@@ -111,19 +111,19 @@ store_number m kind index value _ below = Err TagFault
 abbrev pub store_component : Moment → NumberElement → Done
 store_component m kind =
     taken_as m.memory.objects (element_number kind) m.frame.stack >>= λ top.
-    taken_as m.memory.objects types.Int top.1 >>= λ second. int_in second.0 >>= λ index.
+    taken_as m.memory.objects types.Int top.1 >>= λ second. as_int second.0 >>= λ index.
     taken_reference m.memory.objects second.1 >>= λ under. store_number m kind index top.0 under.0 under.1
 
 -- a reference can stand in an array: null, or an object of a class that its components are above
 abbrev pub can_stand : Moment → FieldTypeOf (List ℕ) → Value → OrFault Bool
 can_stand m components Null = Ok true
 can_stand m components (Reference id) =
-    object_at m.memory.objects id >>= λ object. Ok (is_instance (world_at m) object components)
+    object_at m.memory.objects id >>= λ object. Ok (is_instance_of (world_at m) object components)
 can_stand m components _ = Err TagFault
 
 abbrev pub store_reference_if : Moment → ℕ → Components → ℤ → Value → List Value → Bool → Done
 store_reference_if m id array index value below true =
-    goes_on_with m (with_component id array (place_of index) value m.memory) below
+    goes_on_with m (with_component_stored id array (place_for index) value m.memory) below
 store_reference_if m id array index value below false = raises m array_store
 
 abbrev pub store_reference_at : Moment → ℕ → Components → ℤ → Value → List Value → Option Value → Done
@@ -207,7 +207,7 @@ abbrev pub new_reference_array : Moment → ℕ → Done
 new_reference_array m index =
     found OffsetFault (class_operand (current_class (method_at m)) index) >>= λ text.
     unless_error m (resolve_class (world_at m) (site_at m) None text) (λ resolved.
-    taken_as m.memory.objects types.Int m.frame.stack >>= λ top. int_in top.0 >>= λ count.
+    taken_as m.memory.objects types.Int m.frame.stack >>= λ top. as_int top.0 >>= λ count.
     make_array m (components_of resolved) count top.1)
 
 -- ---- arrays of arrays (multianewarray)

@@ -25,13 +25,13 @@ use Rattle.jv_meaning_machine.specs.Faults.{OrFault, found, tested, ◌>>=◌}
 use Rattle.jv_meaning_machine.specs.Faults.Fault.{OffsetFault, TagFault, ReferenceFault, ConstructionFault}
 use Rattle.jv_meaning_machine.specs.Values.{Value}
 use Rattle.jv_meaning_machine.specs.Values.Value.{Int, Null, Reference}
-use Rattle.jv_meaning_machine.specs.Objects.{Object, Instance, is_constructed, is_instance}
+use Rattle.jv_meaning_machine.specs.Objects.{Object, Instance, is_constructed, is_instance_of}
 use Rattle.jv_meaning_machine.specs.Objects.Object.{InstanceOf, ArrayWith}
 use Rattle.jv_meaning_machine.specs.State.{Memory}
 use Rattle.jv_meaning_machine.specs.Operands.{object_at, popped_reference, taken}
 use Rattle.jv_meaning_machine.specs.Effects.{Moment, Done, world_at, method_at, site_at, goes_on, goes_on_with, raises, unless_error, once_initialized, lacks_memory, null_pointer}
 use Rattle.jv_meaning_machine.specs.Effects.Effect.{Enters, Constructs}
-use Rattle.jv_meaning_machine.specs.Arithmetic.{one, none, int_in}
+use Rattle.jv_meaning_machine.specs.Arithmetic.{one, none, as_int}
 use Rattle.jv_meaning_machine.specs.Fields.{instance_in}
 
 -- ---- host/Io, whose methods are built in (own): `write(int)` appends the low eight bits, `read()` gives the next byte of the
@@ -52,7 +52,7 @@ read m below [] = goes_on m (Int (negsuc 0) ∷ below)
 read m below (byte ∷ more) = goes_on_with m (record m.memory { input = more }) (Int (pos byte) ∷ below)
 
 abbrev pub run_built_in : Moment → Bool → List Value → List Value → Done
-run_built_in m true arguments below = one arguments >>= int_in >>= λ number. write m number below
+run_built_in m true arguments below = one arguments >>= as_int >>= λ number. write m number below
 run_built_in m false arguments below = none below arguments >>= λ below. read m below m.memory.input
 
 abbrev pub names_write : Declared → Bool
@@ -62,7 +62,7 @@ names_write d = bytes_eq d.method.name (codes "write")
 
 -- the receiver is an instance of the class that declares the method; every object counts as one of an interface (4.10.1.2)
 abbrev pub can_receive : World → Declared → Object → Bool
-can_receive world d object = is_interface d.by || is_instance world object (class_components d.by.class.name)
+can_receive world d object = is_interface d.by || is_instance_of world object (class_components d.by.class.name)
 
 abbrev pub run_static : Moment → List Value → List Value → MethodTarget → Bool → Done
 run_static m arguments below t true = run_built_in m (names_write t.declared) arguments below
@@ -75,9 +75,9 @@ call_static m descriptor t =
     run_static m arguments.0 arguments.1 t (is_built_in t.declared))
 
 -- the class of an object, by which its method is selected; None for an array's
-abbrev pub class_of : World → Object → OrFault (Option Loaded)
-class_of world (InstanceOf instance) = found ReferenceFault (class_named world instance.class) >>= λ l. Ok (Some l)
-class_of world (ArrayWith components values) = Ok None
+abbrev pub class_of_object : World → Object → OrFault (Option Loaded)
+class_of_object world (InstanceOf instance) = found ReferenceFault (class_named world instance.class) >>= λ l. Ok (Some l)
+class_of_object world (ArrayWith components values) = Ok None
 
 abbrev pub run_on : Moment → ℕ → Object → List Value → List Value → MethodTarget → Done
 run_on m id object arguments below t =
@@ -88,7 +88,7 @@ abbrev pub call_on : Moment → Use → MethodTarget → List Value → Value �
 call_on m how t arguments Null below = raises m null_pointer
 call_on m how t arguments (Reference id) below =
     object_at m.memory.objects id >>= λ object. tested ConstructionFault (is_constructed object) object >>= λ object.
-    class_of (world_at m) object >>= λ class.
+    class_of_object (world_at m) object >>= λ class.
     unless_error m (select (world_at m) (site_at m) how t class) (run_on m id object arguments below)
 call_on m how t arguments _ below = Err TagFault
 

@@ -21,9 +21,9 @@ stack_overflow = codes "java/lang/StackOverflowError"
 -- ---- entering
 
 -- the receiver and the arguments, as they are passed
-abbrev pub passed : Option ℕ → List Value → List Value
-passed None arguments = arguments
-passed (Some receiver) arguments = Reference receiver ∷ arguments
+abbrev pub passed_values : Option ℕ → List Value → List Value
+passed_values None arguments = arguments
+passed_values (Some receiver) arguments = Reference receiver ∷ arguments
 
 abbrev pub first_frame : Environment → Option ℕ → List Value → List Value → MethodFrame
 first_frame method receiver locals stack =
@@ -32,7 +32,7 @@ first_frame method receiver locals stack =
 abbrev pub frame_of : Program → Declared → Option ℕ → List Value → OrFault MethodFrame
 frame_of program d receiver arguments =
     entered_method program d >>= λ method.
-    filled method.code.max_locals (flat_map local_words (passed receiver arguments)) >>= λ locals.
+    filled method.code.max_locals (flat_map local_words (passed_values receiver arguments)) >>= λ locals.
     Ok (first_frame method receiver locals [])
 
 -- where the frame's words are not left, nothing changes but by the throw

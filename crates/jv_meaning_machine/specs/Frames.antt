@@ -33,15 +33,15 @@ stored words (suc zero) (Long value ∷ more) = option_map (λ rest. Unset ∷ r
 stored words (suc index) (local ∷ more) = option_map (λ rest. local ∷ rest) (stored words index more)
 
 -- what a local variable holds
-abbrev pub held : Value → OrFault Value
-held Unset = tested LocalFault false Unset
-held Half = tested LocalFault false Half
-held value = tested LocalFault true value
+abbrev pub local_value : Value → OrFault Value
+local_value Unset = tested LocalFault false Unset
+local_value Half = tested LocalFault false Half
+local_value value = tested LocalFault true value
 
 -- a value of a kind
 abbrev pub local_at : ValueKind → ℕ → List Value → OrFault Value
 local_at kind index locals =
-    found LocalFault (slice_get locals index) >>= held >>= λ value. tested TagFault (has_kind kind value) value
+    found LocalFault (slice_get locals index) >>= local_value >>= λ value. tested TagFault (has_kind kind value) value
 
 -- these words in front, and nothing in the other local variables
 abbrev pub filled : ℕ → List Value → OrFault (List Value)

@@ -20,7 +20,7 @@ use Rattle.jv_meaning_machine.specs.Objects.{key_of}
 use Rattle.jv_meaning_machine.specs.Frames.{Task, InitializationFrame, Frame}
 use Rattle.jv_meaning_machine.specs.Frames.Task.{SetsField, InitializesFirst, RunsInitializer}
 use Rattle.jv_meaning_machine.specs.Frames.Frame.{Initializes}
-use Rattle.jv_meaning_machine.specs.State.{Program, is_accepted, Memory, Control, State, state_of, with_frames, with_state, ClassState, ClassStates, class_state}
+use Rattle.jv_meaning_machine.specs.State.{Program, is_class_accepted, Memory, Control, State, state_of, with_frames, with_state, ClassState, ClassStates, class_state}
 use Rattle.jv_meaning_machine.specs.State.ClassState.{Untouched, Begun, Initialized, Erroneous}
 use Rattle.jv_meaning_machine.specs.Costs.{initialization_words, given_words, with_words_back}
 use Rattle.jv_meaning_machine.specs.Effects.{out_of_memory}
@@ -45,7 +45,7 @@ tasks_of world l = filter_map (setting l) l.class.fields ++ (map InitializesFirs
 
 -- it and all classes and interfaces above it were accepted
 abbrev pub is_verified : Program → Loaded → Bool
-is_verified program l = is_accepted program l && list_all (is_accepted program) (above program.world l.class)
+is_verified program l = is_class_accepted program l && list_all (is_class_accepted program) (above program.world l.class)
 
 abbrev pub first_tasks : Program → Loaded → Frame
 first_tasks program l = Initializes (record { class = l; tasks = tasks_of program.world l })

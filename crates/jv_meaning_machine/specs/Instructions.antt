@@ -33,14 +33,14 @@ use Rattle.jv_meaning_machine.specs.Faults.{OrFault, found, tested, ◌>>=◌}
 use Rattle.jv_meaning_machine.specs.Faults.Fault.{OffsetFault, StackFault, LocalFault, TagFault, ReferenceFault, ReturnFault}
 use Rattle.jv_meaning_machine.specs.Values.{Value, value_width, words, has_kind}
 use Rattle.jv_meaning_machine.specs.Values.Value.{Int, Null, Reference}
-use Rattle.jv_meaning_machine.specs.Objects.{new_object, is_instance}
+use Rattle.jv_meaning_machine.specs.Objects.{new_object, is_instance_of}
 use Rattle.jv_meaning_machine.specs.Frames.{local_words, local_at, stored}
 use Rattle.jv_meaning_machine.specs.State.{Memory}
 use Rattle.jv_meaning_machine.specs.Costs.{paid, with_objects, next_object}
 use Rattle.jv_meaning_machine.specs.Operands.{object_at, popped, popped_reference, taken, taken_as, taken_reference}
 use Rattle.jv_meaning_machine.specs.Effects.{Moment, Done, world_at, method_at, site_at, goes_on, goes_on_with, raises, unless_error, once_initialized, lacks_memory, null_pointer, class_cast, division_by_zero}
 use Rattle.jv_meaning_machine.specs.Effects.Effect.{Goes, Leaves, Throws}
-use Rattle.jv_meaning_machine.specs.Arithmetic.{value_of, width_of, number_in, int_in, none, one, two, divided, computed, holds, table_distance, key_distance}
+use Rattle.jv_meaning_machine.specs.Arithmetic.{number_value, width_of, as_number, as_int, none, one, two, divided, computed, holds, table_distance, key_distance}
 use Rattle.jv_meaning_machine.specs.Literals.{push_constant, push_long_constant}
 use Rattle.jv_meaning_machine.specs.Fields.{use_field}
 use Rattle.jv_meaning_machine.specs.Arrays.{holds_numbers, holds_references, load_component, store_component, store_reference, array_length, make_array, base_of, base_components, new_reference_array, new_multi_array}
@@ -60,22 +60,22 @@ jumps_if m distance stack false = goes_on m stack
 
 abbrev pub divide : Moment → NumberKind → DivisionOperator → ℤ → ℤ → List Value → Bool → Done
 divide m kind operator a b below true = raises m division_by_zero
-divide m kind operator a b below false = goes_on m (value_of kind (divided operator (width_of kind) a b) ∷ below)
+divide m kind operator a b below false = goes_on m (number_value kind (divided operator (width_of kind) a b) ∷ below)
 
 abbrev pub division : Moment → NumberKind → DivisionOperator → List Value → List Value → Done
 division m kind operator values below =
-    two values >>= λ p. number_in kind p.0 >>= λ a. number_in kind p.1 >>= λ b.
+    two values >>= λ p. as_number kind p.0 >>= λ a. as_number kind p.1 >>= λ b.
     divide m kind operator a b below (int_eq b (pos 0))
 
 abbrev pub branch_on_ints : Moment → Test → ℤ → List Value → List Value → Done
 branch_on_ints m (tests.IfInt condition) distance values below =
-    one values >>= int_in >>= λ a. jumps_if m distance below (holds condition a (pos 0))
+    one values >>= as_int >>= λ a. jumps_if m distance below (holds condition a (pos 0))
 branch_on_ints m (tests.IfInts condition) distance values below =
-    two values >>= λ p. int_in p.0 >>= λ a. int_in p.1 >>= λ b. jumps_if m distance below (holds condition a b)
+    two values >>= λ p. as_int p.0 >>= λ a. as_int p.1 >>= λ b. jumps_if m distance below (holds condition a b)
 branch_on_ints m _ distance values below = Err TagFault
 
 abbrev pub store_in_array : Moment → List Value → List Value → Done
-store_in_array m (array ∷ index ∷ value ∷ []) below = int_in index >>= λ index. store_reference m array index value below
+store_in_array m (array ∷ index ∷ value ∷ []) below = as_int index >>= λ index. store_reference m array index value below
 store_in_array m _ below = Err TagFault
 
 -- what is thrown is a Throwable
@@ -83,7 +83,7 @@ abbrev pub throw_value : Moment → Value → Done
 throw_value m Null = raises m null_pointer
 throw_value m (Reference id) =
     object_at m.memory.objects id >>= λ object.
-    tested ReferenceFault (is_instance (world_at m) object (class_components (codes "java/lang/Throwable"))) object >>= λ object.
+    tested ReferenceFault (is_instance_of (world_at m) object (class_components (codes "java/lang/Throwable"))) object >>= λ object.
     Ok (m.memory, Throws id)
 throw_value m _ = Err TagFault
 
@@ -95,12 +95,12 @@ with_operands m (insns.Division kind operator) values below = division m kind op
 with_operands m (insns.Branch test distance) values below = branch_on_ints m test distance values below
 with_operands m (insns.Goto distance form) values below = none below values >>= jumps m distance
 with_operands m (insns.TableSwitch padding default low high distances) values below =
-    one values >>= int_in >>= λ number. jumps m (table_distance default low high distances number) below
+    one values >>= as_int >>= λ number. jumps m (table_distance default low high distances number) below
 with_operands m (insns.LookupSwitch padding default pairs) values below =
-    one values >>= int_in >>= λ number. jumps m (key_distance default pairs number) below
+    one values >>= as_int >>= λ number. jumps m (key_distance default pairs number) below
 with_operands m insns.ReferenceArrayStore values below = store_in_array m values below
 with_operands m (insns.NewArray element) values below =
-    one values >>= int_in >>= λ count. make_array m (base_components (base_of element)) count below
+    one values >>= as_int >>= λ count. make_array m (base_components (base_of element)) count below
 with_operands m insns.Throw values below = one values >>= throw_value m
 with_operands m _ values below = Err TagFault
 
@@ -119,7 +119,7 @@ store m kind index =
 
 abbrev pub increment : Moment → ℕ → ℤ → Done
 increment m index by =
-    local_at kinds.Int index m.frame.locals >>= int_in >>= λ number.
+    local_at kinds.Int index m.frame.locals >>= as_int >>= λ number.
     found LocalFault (stored (Int (int_wrapping_add w32 number by) ∷ []) index m.frame.locals) >>= goes_on_in m m.frame.stack
 
 -- ---- forms of the stack, and comparison of references, which take objects that are not constructed too
@@ -141,16 +141,16 @@ is_same Null (Reference b) = Ok false
 is_same (Reference a) Null = Ok false
 is_same _ _ = Err TagFault
 
-abbrev pub passes : Equality → Bool → Bool
-passes equalities.Same same = same
-passes equalities.Different same = not same
+abbrev pub is_met : Equality → Bool → Bool
+is_met equalities.Same same = same
+is_met equalities.Different same = not same
 
 abbrev pub branch_on_references : Moment → Test → ℤ → Done
 branch_on_references m (tests.IfReferences equality) distance =
     popped_reference m.frame.stack >>= λ second. popped_reference second.1 >>= λ first. is_same first.0 second.0 >>= λ same.
-    jumps_if m distance first.1 (passes equality same)
+    jumps_if m distance first.1 (is_met equality same)
 branch_on_references m (tests.IfNull equality) distance =
-    popped_reference m.frame.stack >>= λ top. is_same top.0 Null >>= λ same. jumps_if m distance top.1 (passes equality same)
+    popped_reference m.frame.stack >>= λ top. is_same top.0 Null >>= λ same. jumps_if m distance top.1 (is_met equality same)
 branch_on_references m _ distance = Err TagFault
 
 -- ---- returns
@@ -193,7 +193,7 @@ abbrev pub when_tested : Moment → ℕ → ℕ → (Bool → Done) → Done
 when_tested m index id next =
     object_at m.memory.objects id >>= λ object. operand_text m index >>= λ text.
     unless_error m (resolve_class (world_at m) (site_at m) None text) (λ class.
-    next (is_instance (world_at m) object (resolved_type class)))
+    next (is_instance_of (world_at m) object (resolved_type class)))
 
 abbrev pub cast_if : Moment → Bool → Done
 cast_if m true = goes_on m m.frame.stack

@@ -82,9 +82,9 @@ new_array components count = ArrayWith components (replicate count (first_of_typ
 
 -- ---- the class of an object, and what it is an instance of (6.5, instanceof): superclasses and superinterfaces alike
 
-abbrev pub type_of : Object → FieldTypeOf (List ℕ)
-type_of (InstanceOf instance) = class_components instance.class
-type_of (ArrayWith components values) = record { dimensions = suc components.dimensions; element = components.element }
+abbrev pub type_of_object : Object → FieldTypeOf (List ℕ)
+type_of_object (InstanceOf instance) = class_components instance.class
+type_of_object (ArrayWith components values) = record { dimensions = suc components.dimensions; element = components.element }
 
 abbrev pub is_class_below : World → Option Loaded → List ℕ → Bool
 is_class_below world None name = false
@@ -105,5 +105,5 @@ is_type_of world _ _ _ _ = false
 abbrev pub is_subtype : World → FieldTypeOf (List ℕ) → FieldTypeOf (List ℕ) → Bool
 is_subtype world type other = is_type_of world type.dimensions type.element other.dimensions other.element
 
-abbrev pub is_instance : World → Object → FieldTypeOf (List ℕ) → Bool
-is_instance world object type = is_subtype world (type_of object) type
+abbrev pub is_instance_of : World → Object → FieldTypeOf (List ℕ) → Bool
+is_instance_of world object type = is_subtype world (type_of_object object) type

@@ -14,10 +14,10 @@ abbrev pub object_at : List Object → ℕ → OrFault Object
 object_at objects id = found ReferenceFault (slice_get objects id)
 
 -- a value can be used: it is no reference to an object that is not constructed
-abbrev pub usable : List Object → Value → OrFault Value
-usable objects (Reference id) =
+abbrev pub usable_value : List Object → Value → OrFault Value
+usable_value objects (Reference id) =
     object_at objects id >>= λ object. tested ConstructionFault (is_constructed object) (Reference id)
-usable objects value = Ok value
+usable_value objects value = Ok value
 
 -- the item on top, and what is below it
 abbrev pub popped : List Value → OrFault (Value × List Value)
@@ -33,7 +33,7 @@ popped_reference stack = popped_as object_type stack
 
 -- to be used
 abbrev pub taken_as : List Object → FrameType → List Value → OrFault (Value × List Value)
-taken_as objects type stack = popped_as type stack >>= λ top. usable objects top.0 >>= λ value. Ok (value, top.1)
+taken_as objects type stack = popped_as type stack >>= λ top. usable_value objects top.0 >>= λ value. Ok (value, top.1)
 
 abbrev pub taken_reference : List Object → List Value → OrFault (Value × List Value)
 taken_reference objects stack = taken_as objects object_type stack

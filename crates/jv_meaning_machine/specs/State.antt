@@ -23,13 +23,13 @@ pub record Program : Type 0 where
   pub units : List ℕ → Option (List ℕ)
 
 -- all of the system's are accepted
-abbrev pub is_accepted : Program → Loaded → Bool
-is_accepted program l = l.by_system || list_any (bytes_eq l.class.name) program.accepted
+abbrev pub is_class_accepted : Program → Loaded → Bool
+is_class_accepted program l = l.by_system || list_any (bytes_eq l.class.name) program.accepted
 
 -- what is known of a method that can be entered, one with code of a class that was accepted
 abbrev pub entered_method : Program → Declared → OrFault Environment
 entered_method program d =
-    tested UnverifiedFault (is_accepted program d.by) d >>= λ d. found OffsetFault d.method.code >>= λ code.
+    tested UnverifiedFault (is_class_accepted program d.by) d >>= λ d. found OffsetFault d.method.code >>= λ code.
     found OffsetFault (method_type_of d.method.descriptor) >>= λ descriptor.
     found OffsetFault (program.instructions code.code) >>= λ instructions.
     Ok (record { world = program.world; site = d; descriptor = descriptor; code = code; instructions = instructions })

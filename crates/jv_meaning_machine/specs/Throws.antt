@@ -81,12 +81,12 @@ caught t frame below handler =
 
 -- ---- initializations that a throw passes: an ExceptionInInitializerError is thrown in place of what is no java/lang/Error
 
-abbrev pub replaced_if : World → Thrown → Bool → OrFault Thrown
-replaced_if world t true = Ok t
-replaced_if world t false = exception world (codes "java/lang/ExceptionInInitializerError") t.memory >>= thrown t.control
+abbrev pub replacement_if : World → Thrown → Bool → OrFault Thrown
+replacement_if world t true = Ok t
+replacement_if world t false = exception world (codes "java/lang/ExceptionInInitializerError") t.memory >>= thrown t.control
 
-abbrev pub replaced : World → Thrown → OrFault Thrown
-replaced world t = replaced_if world t (is_class_of world t.class (codes "java/lang/Error"))
+abbrev pub replacement : World → Thrown → OrFault Thrown
+replacement world t = replacement_if world t (is_class_of world t.class (codes "java/lang/Error"))
 
 -- the class becomes erroneous
 abbrev pub passed_initialization : Loaded → Thrown → Thrown
@@ -104,7 +104,7 @@ unwound world t (Runs frame ∷ below) = elim (handler_for world t.class frame) 
   | Some handler ↦ caught t frame below handler
 ]
 unwound world t (Initializes frame ∷ below) =
-    replaced world (passed_initialization frame.class t) >>= λ t. unwound world t below
+    replacement world (passed_initialization frame.class t) >>= λ t. unwound world t below
 
 -- an object is thrown in the current frame; and so is an exception of a class that the machine makes
 abbrev pub throw : World → Memory → Control → ℕ → OrFault State
