@@ -43,6 +43,29 @@ flows_is_reflexive world (types.Uninitialized o) = eq-eqb o o refl
 pub below_is_reflexive : (world : World) (t : FrameType) → IsBelow world t t
 below_is_reflexive world t = flows_is_reflexive world (erased world t)
 
+-- ---- what is below a class, an array or null, in every world
+
+pub below_is_reference : (world : World) (t u : FrameType) → IsTrue (is_reference u) → IsBelow world t u → IsTrue (is_reference t)
+below_is_reference world types.Null u h k = refl
+below_is_reference world (types.Class x) u h k = refl
+below_is_reference world (types.Array a) u h k = refl
+below_is_reference world types.Top types.Null h k = absurd (clash k)
+below_is_reference world types.Top (types.Class y) h k = absurd (clash k)
+below_is_reference world types.Top (types.Array b) h k = absurd (clash k)
+below_is_reference world types.Int types.Null h k = absurd (clash k)
+below_is_reference world types.Int (types.Class y) h k = absurd (clash k)
+below_is_reference world types.Int (types.Array b) h k = absurd (clash k)
+below_is_reference world types.Long types.Null h k = absurd (clash k)
+below_is_reference world types.Long (types.Class y) h k = absurd (clash k)
+below_is_reference world types.Long (types.Array b) h k = absurd (clash k)
+below_is_reference world types.UninitializedThis types.Null h k = absurd (clash k)
+below_is_reference world types.UninitializedThis (types.Class y) h k = absurd (clash k)
+below_is_reference world types.UninitializedThis (types.Array b) h k = absurd (clash k)
+below_is_reference world (types.Uninitialized o) types.Null h k = absurd (clash k)
+below_is_reference world (types.Uninitialized o) (types.Class y) h k = absurd (clash k)
+below_is_reference world (types.Uninitialized o) (types.Array b) h k = absurd (clash k)
+below_is_reference world t _ h k = absurd (clash h)
+
 -- ---- components of arrays, in every world
 
 same_primitive : (world : World) (a b : Base) → IsTrue (same_base a b) → IsTrue (flows world (erased world (primitive_type a)) (erased world (primitive_type b)))

@@ -89,7 +89,7 @@ has_right_supers world class = each_super world (λ s. s.by_system) class && hav
 
 -- A world with java/lang/Object at the top, as class files and the system's classes make it.
 pub record IsRooted (world : World) : Type 0 where
-  -- the class java/lang/Object has nothing above it
+  -- the class java/lang/Object is no interface and has no superclass
   pub object : (l : Loaded) → class_named world object_name ≡ Some l → IsTrue (is_root l)
   -- the other classes above arrays are loadable interfaces (4.10.1.2)
   pub cloneable : IsTrue (is_interface_named world (codes "java/lang/Cloneable"))

@@ -24,6 +24,10 @@ ComponentsAreBelow =
     (world : World) (a b : FieldTypeOf (List ℕ)) → IsBelow world (types.Array a) (types.Array b)
     → IsBelow world (value_type a) (value_type b)
 
+-- Only a class, an array or null is below one of these.
+abbrev pub BelowIsReference : Type 0
+BelowIsReference = (world : World) (t u : FrameType) → IsTrue (is_reference u) → IsBelow world t u → IsTrue (is_reference t)
+
 -- ---- in a rooted world
 
 abbrev pub BelowIsTransitive : Type 0
@@ -53,7 +57,7 @@ AboveIsBelow =
     (world : World) → IsRooted world → (x y : List ℕ) (l : Loaded) → class_named world x ≡ Some l → IsTrue (is_loadable world l)
     → IsTrue (is_above world y l.class) → IsBelow world (types.Class x) (types.Class y)
 
--- and below a class that is no interface stand only it and the classes that it is above.
+-- and of the classes of the world only it and those that it is above are below a class that is no interface.
 abbrev pub BelowIsAbove : Type 0
 BelowIsAbove =
     (world : World) → IsRooted world → (x y : List ℕ) (l : Loaded) → class_named world x ≡ Some l

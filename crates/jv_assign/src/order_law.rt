@@ -1,6 +1,6 @@
 //! Laws of the order of verification types with interfaces erased (JVMS 4.10.1.2).
 
-ghost use Rattle.jv_assign.specs.OrderLaws.{FlowsIsReflexive, ComponentsAreBelow, BelowIsTransitive, FlowsToObject, FlowsIsBelow, BelowIsKept, AboveIsBelow, BelowIsAbove, ArrayBelowClass, FilesAreRooted};
+ghost use Rattle.jv_assign.specs.OrderLaws.{FlowsIsReflexive, ComponentsAreBelow, BelowIsReference, BelowIsTransitive, FlowsToObject, FlowsIsBelow, BelowIsKept, AboveIsBelow, BelowIsAbove, ArrayBelowClass, FilesAreRooted};
 ghost use Rattle.jv_assign.specs.OrderRows.{WorkedOrderRows};
 
 /// A type flows to itself.
@@ -11,6 +11,11 @@ pub fn flows_is_reflexive()
 /// Where arrays of one type are below arrays of another, so are the values that they contain.
 pub fn components_are_below()
     ensures { ComponentsAreBelow }
+{}
+
+/// Only a class, an array or null is below one of these.
+pub fn below_is_reference()
+    ensures { BelowIsReference }
 {}
 
 /// To be below is transitive.
@@ -38,7 +43,7 @@ pub fn above_is_below()
     ensures { AboveIsBelow }
 {}
 
-/// Below a class that is no interface stand only it and the classes that it is above.
+/// Of the classes of a world only it and those that it is above are below a class that is no interface.
 pub fn below_is_above()
     ensures { BelowIsAbove }
 {}

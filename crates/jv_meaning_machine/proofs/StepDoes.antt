@@ -1,28 +1,23 @@
--- What an instruction did to the memory is what the next state has.
-use Rattle.std.proofs.Common.{◌≡◌, ◌+◌, ◌≤◌, nat_le, Bool, true, false, List, ◌∷◌, length, Option, Ok, refl, sym, ap, ◌∙◌, arith, length-append}
-use Rattle.std.proofs.lemmas.List.{length-map}
+-- What becomes of what an instruction did to the memory, and of its effect.
+use Rattle.std.proofs.Common.{◌≡◌, ◌+◌, nat_le, Bool, true, false, List, ◌∷◌, Option, Ok, refl, sym, ap, ◌∙◌}
 use Rattle.jv_code.specs.Insns.{Instruction}
 use Rattle.jv_meaning_machine.specs.Faults.{OrFault, found, tested, ◌>>=◌}
 use Rattle.jv_meaning_machine.specs.Faults.Fault.{OffsetFault, StackFault}
 use Rattle.jv_meaning_machine.specs.Values.{words}
 use Rattle.jv_meaning_machine.specs.Frames.{Frame}
 use Rattle.jv_meaning_machine.specs.Frames.Frame.{Runs}
-use Rattle.jv_meaning_machine.specs.State.{Program, Memory, State, state_of, with_frames}
+use Rattle.jv_meaning_machine.specs.State.{Memory, state_of, with_frames}
 use Rattle.jv_meaning_machine.specs.Effects.{Effect}
 use Rattle.jv_meaning_machine.specs.Effects.Effect.{Goes}
 use Rattle.jv_meaning_machine.specs.Instructions.{execute}
-use Rattle.jv_meaning_machine.specs.Step.{act, moment, step_in, step}
-use Rattle.jv_meaning_machine.specs.Shapes.{Shape, shape_of, shapes, used_words}
-use Rattle.jv_meaning_machine.specs.Kept.{BeginsWith}
-use Rattle.jv_meaning_machine.specs.StepLaws.{Executes, StepGoesOn, DoneStays, GivenOnce}
+use Rattle.jv_meaning_machine.specs.Step.{act, moment, step_in}
+use Rattle.jv_meaning_machine.specs.Shapes.{used_words}
+use Rattle.jv_meaning_machine.specs.StepLaws.{StepActs, StepGoesOn, DoneStays}
 use Rattle.jv_meaning_machine.proofs.KeptMemory.{keeps_same}
 use Rattle.jv_meaning_machine.proofs.KeptInstructions.{execute_stored}
 use Rattle.jv_meaning_machine.proofs.KeptSteps.{act_stays}
-use Rattle.jv_meaning_machine.proofs.KeptAlone.{never_fewer}
 
-step_acts :
-    (program : Program) (s : State) (memory : Memory) (effect : Effect) (h : Executes program s memory effect)
-    → step program s ≡ act program s.control h.frame h.below (memory, effect)
+pub step_acts : StepActs
 step_acts program s memory effect h =
     ap (λ (frames : List Frame). step_in program s frames) h.frames
     ∙ ap
@@ -51,11 +46,3 @@ done_stays program s next memory effect h e =
     ((act_stays memory (used_words s.control + s.control.words) s.control.main program s.control h.frame h.below memory effect (keeps_same memory)
     ((execute_stored (moment program s h.frame h.insn) h.insn).at (memory, effect) h.does).may (record { sum = refl; same_main = refl }) h.frames).at
     next (sym (step_acts program s memory effect h) ∙ e)).0
-
-pub given_once : GivenOnce
-given_once program n s next later memory effect h made e f =
-    let more : BeginsWith (shapes next.memory) (shapes memory) = (done_stays program s next memory effect h e).objects in
-    let count : length (shapes next.memory) ≡ length (shapes memory) + length more.0 =
-    ap (λ (l : List Shape). length l) more.1 ∙ length-append (shapes memory) more.0 in
-    let rest : length next.memory.objects ≤ length later.memory.objects = never_fewer program n next later f in
-    omega (arith, count, made, rest, length-map next.memory.objects shape_of, length-map memory.objects shape_of)

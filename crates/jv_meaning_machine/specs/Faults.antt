@@ -1,4 +1,4 @@
--- What the machine refuses to do (own): no program that was verified meets one of these. And steps that can end so.
+-- What the machine refuses to do (own), and what verified code is never to ask for. And steps that can end so.
 use Rattle.std.specs.Prelude.{Bool, true, false, Option, Some, None, Result, Ok, Err}
 
 pub data Fault : Type 0 where

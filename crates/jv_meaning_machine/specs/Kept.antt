@@ -19,7 +19,7 @@ StayConstructed before after =
     (number : ℕ) (object : Object) → slice_get before number ≡ Some object → is_constructed object ≡ true
     → (same : Object) × (slice_get after number ≡ Some same) × (is_constructed same ≡ true)
 
--- What an earlier memory has stays in a later one.
+-- What stays from an earlier memory to a later one.
 pub record Keeps (before after : Memory) : Type 0 where
   -- what was written is added to at its end alone
   pub output : BeginsWith after.output before.output
@@ -38,7 +38,7 @@ pub record Keeps (before after : Memory) : Type 0 where
   -- the input is read from its front
   pub input : EndsWith before.input after.input
 
--- So does what an earlier state has in a later one; and the words of the frames and those that are left are the same together.
+-- And from an earlier state to a later one; the words of the frames and those that are left are the same together.
 pub record KeepsState (before after : State) : Type 0 where
   pub memory : Keeps before.memory after.memory
   pub words_budget : used_words after.control + after.control.words ≡ used_words before.control + before.control.words

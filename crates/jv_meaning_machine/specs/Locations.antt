@@ -34,7 +34,7 @@ bare (ArrayWith components values) = ArrayWith components []
 
 -- ---- a store
 
--- One location, if there is such a one, holds another value, and all else is as it was.
+-- One location, if there is such a one, holds this value; each other one, and all that is no location, is as it was.
 pub record StoresAt (before after : Memory) (location : Location) (value : Value) : Type 0 where
   pub there : IsSome (held_at before location) → held_at after location ≡ Some value
   pub others : (other : Location) → (other ≡ location → ⊥) → held_at after other ≡ held_at before other

@@ -18,7 +18,7 @@ use Rattle.jv_meaning_machine.specs.Kept.{BeginsWith, KeepsState}
 
 -- ---- from a state to a later one
 
--- What a state has stays over a step.
+-- What `KeepsState` names stays over a step.
 abbrev pub StepKeeps : Type 0
 StepKeeps = (program : Program) (before later : State) → step program before ≡ Ok later → KeepsState before later
 
@@ -31,7 +31,7 @@ abbrev pub OutputGrows : Type 0
 OutputGrows =
     (program : Program) (n : ℕ) (before later : State) → after program n before ≡ Ok later → BeginsWith later.memory.output before.memory.output
 
--- An object keeps its number, its class and its fields, an array the type of its components and their count.
+-- An object keeps its number, its class and which fields it has, an array the type of its components and their count.
 abbrev pub ObjectsStay : Type 0
 ObjectsStay =
     (program : Program) (n : ℕ) (before later : State) → after program n before ≡ Ok later → (number : ℕ) (object : Object)

@@ -1,5 +1,5 @@
--- Laws of a step that executes an instruction: what the instruction did to the memory is what the next state has.
-use Rattle.std.specs.Prelude.{◌≡◌, ℕ, ◌<◌, true, List, ◌∷◌, Some, Ok, length, nat_le}
+-- Laws of a step that executes an instruction: what becomes of what the instruction did to the memory, and of its effect.
+use Rattle.std.specs.Prelude.{◌≡◌, ℕ, true, List, ◌∷◌, Some, Ok, nat_le}
 use Rattle.jv_code.specs.Insns.{Instruction}
 use Rattle.jv_meaning_typing.specs.Environment.{instruction_at}
 use Rattle.jv_meaning_machine.specs.Values.{Value, words}
@@ -9,8 +9,7 @@ use Rattle.jv_meaning_machine.specs.State.{Program, Memory, State, state_of, wit
 use Rattle.jv_meaning_machine.specs.Effects.{Effect}
 use Rattle.jv_meaning_machine.specs.Effects.Effect.{Goes}
 use Rattle.jv_meaning_machine.specs.Instructions.{execute}
-use Rattle.jv_meaning_machine.specs.Step.{moment, step}
-use Rattle.jv_meaning_machine.specs.Alone.{after}
+use Rattle.jv_meaning_machine.specs.Step.{moment, act, step}
 use Rattle.jv_meaning_machine.specs.Kept.{Keeps}
 
 -- In a state an instruction of the current method is next, and executed it does this to the memory, with an effect.
@@ -22,6 +21,12 @@ pub record Executes (program : Program) (s : State) (memory : Memory) (effect : 
   pub stands : instruction_at frame.method frame.offset ≡ Some insn
   pub does : execute (moment program s frame insn) insn ≡ Ok (memory, effect)
 
+-- The step is what the machine does with that memory and that effect, and nothing else.
+abbrev pub StepActs : Type 0
+StepActs =
+    (program : Program) (s : State) (memory : Memory) (effect : Effect) → (h : Executes program s memory effect)
+    → step program s ≡ act program s.control h.frame h.below (memory, effect)
+
 -- Where it goes on, the next state has that memory, and the frame has the local variables and the stack that the effect names,
 -- which is within max_stack; all else is as it was.
 abbrev pub StepGoesOn : Type 0
@@ -31,16 +36,8 @@ StepGoesOn =
     → (nat_le (words stack) h.frame.method.code.max_stack ≡ true)
     × (next ≡ state_of memory (with_frames s.control (Runs (record h.frame { offset = offset; locals = locals; stack = stack }) ∷ h.below)))
 
--- Whatever the effect is, what the memory has then stays.
+-- Whatever the effect is, what `Keeps` names stays from that memory to the next state's: output, shapes and budgets, not values.
 abbrev pub DoneStays : Type 0
 DoneStays =
     (program : Program) (s next : State) (memory : Memory) (effect : Effect) → Executes program s memory effect → step program s ≡ Ok next
     → Keeps memory next.memory
-
--- Where it made an object, the number of which is the count of objects before (NewLaws), that number is below the count in each
--- later state; so it is not given again.
-abbrev pub GivenOnce : Type 0
-GivenOnce =
-    (program : Program) (n : ℕ) (s next later : State) (memory : Memory) (effect : Effect) → Executes program s memory effect
-    → length s.memory.objects < length memory.objects → step program s ≡ Ok next → after program n next ≡ Ok later
-    → length s.memory.objects < length later.memory.objects

@@ -1,6 +1,11 @@
-//! Laws of a step that executes an instruction: what the instruction did is what the next state has.
+//! Laws of a step that executes an instruction: what becomes of what it did to the memory, and of its effect.
 
-ghost use Rattle.jv_meaning_machine.specs.StepLaws.{DoneStays, GivenOnce, StepGoesOn};
+ghost use Rattle.jv_meaning_machine.specs.StepLaws.{DoneStays, StepActs, StepGoesOn};
+
+/// The step is what the machine does with what the instruction left and with its effect.
+pub fn step_acts()
+    ensures { StepActs }
+{}
 
 /// Where the instruction goes on, the next state has the memory that it left, and the frame has the local
 /// variables and the stack that its effect names.
@@ -8,12 +13,7 @@ pub fn step_goes_on()
     ensures { StepGoesOn }
 {}
 
-/// Whatever its effect is, what the memory has then stays.
+/// Whatever its effect is, output, shapes and budgets of the memory stay.
 pub fn done_stays()
     ensures { DoneStays }
-{}
-
-/// The number that a new object got is not given again.
-pub fn given_once()
-    ensures { GivenOnce }
 {}
