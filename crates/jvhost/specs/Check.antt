@@ -14,7 +14,7 @@ pub record IsCheckedAs (names : List (List ℕ)) (outcome : Outcome) : Type 0 wh
 
 -- ---- files that are not checked
 
--- why the files of these names were not read: one of them can't be, or the program's memory was refused
+-- why the files of these names were not read: the failure holds one of the names, or the program's memory was refused
 abbrev pub IsOneUnread : List (List ℕ) → Failure → Type 0
 IsOneUnread names (Unreadable unread) = Contains names unread.items
 IsOneUnread names Memory = ⊤
