@@ -1,18 +1,13 @@
 -- Members by their places, as they are kept and as their class has them.
-use Rattle.std.proofs.Common.{◌≡◌, ℕ, Bool, true, false, cond, List, ◌∷◌, ◌&&◌, map, ◌+◌, length, Some, None, refl, sym, ap, ◌∙◌}
+use Rattle.std.proofs.Common.{◌≡◌, Bool, true, false, cond, List, ◌∷◌, map, ◌+◌, length, Some, None, refl, sym, ap, ◌∙◌}
 use Rattle.std.specs.Prelude.{position, nat_lt, slice_get, IfSome, ◌<◌}
-use Rattle.std.specs.Borrow.{Bor}
 use Rattle.std.specs.List.{position_or_len, find}
 use Rattle.std.specs.Option.{option_and_then}
-use Rattle.std.specs.Map.{keys_of}
-use Rattle.std.specs.Str.{bytes_eq}
 use Rattle.std.proofs.lemmas.Bool.{ltb-true, ltb-false}
 use Rattle.std.proofs.lemmas.List.Folds.{find_at}
 use Rattle.std.proofs.lemmas.Option.{slice_get_past}
 use Rattle.std.proofs.lemmas.List.Recursion.{is_position_or_len}
 use Rattle.std.proofs.lemmas.List.{length-map}
-use Rattle.std.proofs.lemmas.Slice.Eq.{bytes_eq-Decides}
-use Rattle.jv_loader_class.specs.Inside.Seen.{entry_seen, declares}
 
 -- where a test of what is seen of an item passes first
 module _ {A B : Type 0} (test : B → Bool) (other : A → Bool) (seen : A → B) (same : (a : A) → other a ≡ test (seen a)) where
@@ -31,35 +26,6 @@ module _ {A B : Type 0} (test : B → Bool) (other : A → Bool) (seen : A → B
       let len = len_seen xs in
       ap (λ n. cond (nat_lt n (length xs)) (Some n) None) len
       ∙ ap (λ m. cond (nat_lt (position_or_len test (map seen xs)) m) (Some (position_or_len test (map seen xs))) None) (sym (length-map xs seen))
-
--- ---- texts are equal either way
-
-swapped : (xs ys : List ℕ) → bytes_eq xs ys ≡ bytes_eq ys xs
-swapped xs ys = by_test (bytes_eq xs ys) refl (bytes_eq ys xs) refl
-  where
-    by_test : (b : Bool) → bytes_eq xs ys ≡ b → (d : Bool) → bytes_eq ys xs ≡ d → bytes_eq xs ys ≡ bytes_eq ys xs
-    by_test true e true f = e ∙ sym f
-    by_test true e false f = e ∙ sym ((bytes_eq-Decides ys xs).1 (sym ((bytes_eq-Decides xs ys).0 e)))
-    by_test false e true f = (bytes_eq-Decides xs ys).1 (sym ((bytes_eq-Decides ys xs).0 f)) ∙ sym f
-    by_test false e false f = e ∙ sym f
-
--- ---- the table of members
-
-abbrev pub Texts : Type 0
-Texts = Bor (List ℕ) × Bor (List ℕ)
-
-abbrev pub has_texts : List ℕ → List ℕ → Texts → Bool
-has_texts name descriptor texts = bytes_eq name texts.0.now && bytes_eq descriptor texts.1.now
-
--- the table compares texts the other way round
-pub as_declared : (name descriptor : List ℕ) (e : Texts × ℕ) → has_texts name descriptor e.0 ≡ declares name descriptor (entry_seen e)
-as_declared name descriptor e =
-    ap (λ b. b && bytes_eq descriptor e.0.1.now) (swapped name e.0.0.now) ∙ ap (λ b. bytes_eq e.0.0.now name && b) (swapped descriptor e.0.1.now)
-
-pub place_among : (name descriptor : List ℕ) (entries : List (Texts × ℕ)) → position (has_texts name descriptor) (keys_of entries) ≡ position (declares name descriptor) (map entry_seen entries)
-place_among name descriptor entries =
-    sym (place_seen (has_texts name descriptor) (λ (e : Texts × ℕ). has_texts name descriptor e.0) (λ e. e.0) (λ e. refl) entries)
-    ∙ place_seen (declares name descriptor) (λ (e : Texts × ℕ). has_texts name descriptor e.0) entry_seen (as_declared name descriptor) entries
 
 -- ---- what stands at the place of a search
 

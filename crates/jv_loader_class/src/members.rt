@@ -5,8 +5,8 @@ ghost use Rattle.std.specs.List.{list_any};
 ghost use Rattle.jv_loader_class.specs.Inside.Seen.{member_seen, declares};
 
 use crate::member::Member;
-use indexmap::IndexMap;
 use std::alloc::{AllocError, Global};
+use std::collections::HashMap;
 use std::hash::RandomState;
 use std::marker::Model;
 
@@ -14,16 +14,19 @@ use std::marker::Model;
 /// and the descriptor, however many there are.
 #[derive(Drop)]
 pub(crate) struct Members<'a> {
-    flags: IndexMap<(&'a [u8], &'a [u8]), u16, RandomState>,
+    members: Vec<Member<'a>>,
+    places: HashMap<(&'a [u8], &'a [u8]), usize, RandomState>,
 }
 
 impl<'a> Model for Members<'a> {
     ghost use Rattle.std.specs.Prelude.{List, map};
-    ghost use Rattle.jv_loader_class.specs.Inside.Seen.{MemberSeen, entry_seen};
+    ghost use Rattle.jv_loader_class.specs.Inside.Seen.{MemberSeen, ArePlaces, member_seen};
 
     ghost Value = { List MemberSeen };
 
-    ghost view = { λ m. map entry_seen m.flags.entries };
+    ghost view = { λ m. map member_seen m.members.items };
+
+    ghost invariant = { λ m. ArePlaces (map member_seen m.members.items) m.places };
 }
 
 impl<'a> Members<'a> {
@@ -35,8 +38,9 @@ impl<'a> Members<'a> {
     ) -> Result<Members<'a>, AllocError>
         ensures { IfOk result (λ m. m ≡ []) }
     {
-        let flags = IndexMap::with_capacity_and_hasher(alloc, count, state)?;
-        Ok(Members { flags })
+        let members = Vec::with_capacity(alloc, count)?;
+        let places = HashMap::with_capacity_and_hasher(alloc, count, state)?;
+        Ok(Members { members, places })
     }
 
     /// Adds a member behind the others, none of which has its name and descriptor.
@@ -44,8 +48,10 @@ impl<'a> Members<'a> {
         requires { list_any (declares member.name.now member.descriptor.now) self.old ≡ false }
         ensures { OnOk result (self.new ≡ self.old ++ member_seen member.entry ∷ []) }
     {
-        self.flags
-            .insert((member.name, member.descriptor), member.access_flags)?;
+        self.members.reserve(1)?;
+        self.places
+            .insert((member.name, member.descriptor), self.members.len())?;
+        self.members.push_reserved(member);
         Ok(())
     }
 
@@ -53,7 +59,7 @@ impl<'a> Members<'a> {
     pub(crate) fn count(&self) -> usize
         ensures { result ≡ length self.now }
     {
-        self.flags.len()
+        self.members.len()
     }
 
     /// The member at a place.
@@ -61,20 +67,13 @@ impl<'a> Members<'a> {
         requires { place < length self.now }
         ensures { slice_get self.now place ≡ Some (member_seen result) }
     {
-        match self.flags.get_index(place) {
-            Some((texts, flags)) => Member {
-                access_flags: *flags,
-                name: texts.0,
-                descriptor: texts.1,
-            },
-            None => unreachable!(),
-        }
+        self.members[place]
     }
 
     /// The place of the member with a name and a descriptor.
     pub(crate) fn place_of(&self, name: &[u8], descriptor: &[u8]) -> Option<usize>
         ensures { result ≡ position (declares name.now descriptor.now) self.now }
     {
-        self.flags.get_index_of(&(name, descriptor))
+        self.places.get(&(name, descriptor)).copied()
     }
 }

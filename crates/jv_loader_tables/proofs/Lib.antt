@@ -1,4 +1,5 @@
 pub mod Rows
 pub mod Ways
+pub mod FirstPlace
 pub mod NamesIn
 pub mod Each

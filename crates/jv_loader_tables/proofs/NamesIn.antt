@@ -1,34 +1,48 @@
 -- Names as a table keeps them.
-use Rattle.std.proofs.Common.{◌≡◌, ℕ, Bool, true, false, cond, List, [], ◌∷◌, ◌++◌, ◌||◌, ◌+◌, length, Some, None, refl, sym, ap, ◌∙◌}
-use Rattle.std.specs.Prelude.{position, nat_lt}
+use Rattle.std.proofs.Common.{◌≡◌, ℕ, Bool, true, false, cond, List, [], ◌∷◌, ◌++◌, length, Some, refl, sym, ap, ◌∙◌}
+use Rattle.std.specs.Prelude.{is_some, position}
 use Rattle.std.specs.Borrow.{Bor}
-use Rattle.std.specs.List.{list_any, position_or_len}
-use Rattle.std.proofs.lemmas.List.Recursion.{is_position_or_len}
+use Rattle.std.specs.HashMap.{HashMap, get_by}
+use Rattle.std.specs.Str.{bytes_eq}
 use Rattle.std.proofs.lemmas.List.{map-append, length-map}
+use Rattle.std.proofs.lemmas.Slice.Eq.{bytes_eq-Decides}
 use Rattle.jv_loader_tables.specs.Names.{has_name, with_name}
-use Rattle.jv_loader_tables.specs.Inside.Kept.{text_of, texts_of}
+use Rattle.jv_loader_tables.specs.Inside.Kept.{text_of, texts_of, ArePlaces}
+use Rattle.jv_loader_tables.proofs.FirstPlace.{some_place, joined}
 
-module _ (test : List ℕ → Bool) where
-  pub any_seen : (keys : List (Bor (List ℕ))) → list_any (λ k. test k.now) keys ≡ list_any test (texts_of keys)
-  any_seen [] = refl
-  any_seen (k ∷ keys) = ap (λ b. test k.now || b) (any_seen keys)
+-- texts are equal either way
+pub unlike : (xs ys : List ℕ) → bytes_eq xs ys ≡ false → bytes_eq ys xs ≡ false
+unlike xs ys e = by_test (bytes_eq ys xs) refl
+  where
+    by_test : (d : Bool) → bytes_eq ys xs ≡ d → bytes_eq ys xs ≡ false
+    by_test true f = f ∙ (sym ((bytes_eq-Decides xs ys).1 (sym ((bytes_eq-Decides ys xs).0 f))) ∙ e)
+    by_test false f = f
 
-  len_seen : (keys : List (Bor (List ℕ))) → position_or_len (λ k. test k.now) keys ≡ position_or_len test (texts_of keys)
-  len_seen keys = sym (is_position_or_len (λ ks. position_or_len test (texts_of ks)) (λ k. test k.now) refl step keys)
-    where
-      step : (k : Bor (List ℕ)) (ks : List (Bor (List ℕ))) → position_or_len test (texts_of (k ∷ ks)) ≡ cond (test k.now) 0 (1 + position_or_len test (texts_of ks))
-      step k ks = by_test (test k.now) refl
-        where
-          by_test : (b : Bool) → test k.now ≡ b → position_or_len test (texts_of (k ∷ ks)) ≡ cond b 0 (1 + position_or_len test (texts_of ks))
-          by_test true e = rw e refl
-          by_test false e = rw e refl
+abbrev Name : Type 0
+Name = Bor (List ℕ)
 
-  pub place_seen : (keys : List (Bor (List ℕ))) → position (λ k. test k.now) keys ≡ position test (texts_of keys)
-  place_seen keys =
-      let len = len_seen keys in
-      ap (λ n. cond (nat_lt n (length keys)) (Some n) None) len
-      ∙ ap (λ m. cond (nat_lt (position_or_len test (texts_of keys)) m) (Some (position_or_len test (texts_of keys))) None) (sym (length-map keys text_of))
+abbrev is_text : Name → Name → Bool
+is_text name other = bytes_eq name.now other.now
 
-pub added_seen : (keys : List (Bor (List ℕ))) (name : Bor (List ℕ)) (b : Bool) → b ≡ has_name (texts_of keys) name.now → texts_of (cond b keys (keys ++ name ∷ [])) ≡ with_name (texts_of keys) name.now
-added_seen keys name true e = ap (λ t. cond t (texts_of keys) (texts_of keys ++ name.now ∷ [])) e
-added_seen keys name false e = map-append text_of keys (name ∷ []) ∙ ap (λ t. cond t (texts_of keys) (texts_of keys ++ name.now ∷ [])) e
+module _ {S : Type 0} (names : List Name) (places : HashMap Name ℕ S) (name : Name) (known : ArePlaces names places) where
+  pub is_there : is_some (get_by (is_text name) places) ≡ has_name (texts_of names) name.now
+  is_there = ap is_some (known name) ∙ some_place (bytes_eq name.now) (texts_of names)
+
+  pub stays : is_some (get_by (is_text name) places) ≡ true → texts_of names ≡ with_name (texts_of names) name.now
+  stays found = ap (λ b. cond b (texts_of names) (texts_of names ++ name.now ∷ [])) (sym found ∙ is_there)
+
+  module _ (absent : has_name (texts_of names) name.now ≡ false) where
+    pub behind : texts_of (names ++ name ∷ []) ≡ with_name (texts_of names) name.now
+    behind = map-append text_of names (name ∷ []) ∙ ap (λ b. cond b (texts_of names) (texts_of names ++ name.now ∷ [])) (sym absent)
+
+    -- the name has the count of those before it for its number
+    pub placed_last : (new : HashMap Name ℕ S) → ((other : Name) → get_by (is_text other) new ≡ cond (is_text name other) (Some (length names)) (get_by (is_text other) places))
+        → ArePlaces (names ++ name ∷ []) new
+    placed_last new told other =
+        joined is_text (λ k text. bytes_eq k.now text) (texts_of names) name.now name places new known
+        (λ k. told k ∙ ap (λ n. cond (is_text name k) (Some n) (get_by (is_text k) places)) (sym (length-map names text_of)))
+        (λ k e. let same = (bytes_eq-Decides name.now k.now).0 e in
+        (ap (λ text. has_name (texts_of names) text) (sym same) ∙ absent, (bytes_eq-Decides k.now name.now).1 (sym same)))
+        (λ k e. unlike name.now k.now e)
+        other
+        ∙ ap (position (bytes_eq other.now)) (sym (map-append text_of names (name ∷ [])))

@@ -4,29 +4,35 @@ ghost use Rattle.std.specs.Prelude.{◌≡◌, ◌<◌, [], IfOk, OnOk, OnErr, l
 ghost use Rattle.std.specs.Str.{bytes_eq};
 ghost use Rattle.jv_loader_tables.specs.Names.{has_name, with_name};
 
-use indexmap::IndexSet;
 use std::alloc::{AllocError, Global};
+use std::collections::HashMap;
 use std::hash::RandomState;
 use std::marker::Model;
 
 /// Names, no two equal; each has the number of those that came before it. A look-up costs one hash
 /// of the name, however many there are.
 pub struct Names<'a> {
-    names: IndexSet<&'a [u8], RandomState>,
+    names: Vec<&'a [u8]>,
+    places: HashMap<&'a [u8], usize, RandomState>,
 }
 
 impl<'a> Model for Names<'a> {
     ghost use Rattle.std.specs.Prelude.{ℕ, List};
-    ghost use Rattle.jv_loader_tables.specs.Inside.Kept.{texts_of};
+    ghost use Rattle.jv_loader_tables.specs.Inside.Kept.{texts_of, ArePlaces};
 
     ghost Value = { List (List ℕ) };
 
-    ghost view = { λ n. texts_of n.names.keys };
+    ghost view = { λ n. texts_of n.names.items };
+
+    ghost invariant = { λ n. ArePlaces n.names.items n.places };
 }
 
 impl Drop for Names<'_> {
     fn drop(self) {
-        let Names { names: _ } = self;
+        let Names {
+            names: _,
+            places: _,
+        } = self;
     }
 }
 
@@ -36,7 +42,8 @@ impl<'a> Names<'a> {
         ensures { result ≡ [] }
     {
         Names {
-            names: IndexSet::with_hasher(alloc, state),
+            names: Vec::new(alloc),
+            places: HashMap::with_hasher(alloc, state),
         }
     }
 
@@ -57,15 +64,20 @@ impl<'a> Names<'a> {
         ensures ok { OnOk result (self.new ≡ with_name self.old name.now) }
         ensures refused { OnErr result (self.new ≡ self.old) }
     {
-        let (_place, new) = self.names.insert_full(name)?;
-        Ok(new)
+        if self.places.contains_key(name) {
+            return Ok(false);
+        }
+        self.names.reserve(1)?;
+        self.places.insert(name, self.names.len())?;
+        self.names.push_reserved(name);
+        Ok(true)
     }
 
     /// The number of a name, where it is there.
     pub fn place_of(&self, name: &[u8]) -> Option<usize>
         ensures { result ≡ position (bytes_eq name.now) self.now }
     {
-        self.names.get_index_of(name)
+        self.places.get(name).copied()
     }
 
     /// The name with a number.

@@ -1,7 +1,10 @@
 //! The constants of a class file (JVMS 4.4).
 
+ghost use Rattle.std.specs.Prelude.{◌≡◌};
+
+use std::alloc::AllocError;
+
 /// A constant, whose text is a `T`. Indices and numbers are as they stand in the file.
-#[derive(Clone, Copy)]
 pub enum Constant<T> {
     /// A text (4.4.7).
     Utf8(T),
@@ -33,6 +36,18 @@ pub enum Constant<T> {
     /// not looked at.
     InvokeDynamic(u16, u16),
 }
+
+impl<T: Copy> Clone for Constant<T> {
+    ghost is_clone = { λ x y. y ≡ x };
+
+    ghost is_infallible = { λ _. Unit {0} };
+
+    fn clone(&self) -> Result<Self, AllocError> {
+        Ok(*self)
+    }
+}
+
+impl<T: Copy> Copy for Constant<T> {}
 
 /// Which constant an index names, by its tag (JVMS table 4.4-A).
 #[derive(Clone, Copy)]

@@ -1,6 +1,7 @@
 -- A field or a method as it is kept.
-use Rattle.std.specs.Prelude.{ℕ, Bool, ◌&&◌, List}
+use Rattle.std.specs.Prelude.{◌≡◌, ℕ, Bool, ◌&&◌, List, position}
 use Rattle.std.specs.Borrow.{Bor}
+use Rattle.std.specs.HashMap.{HashMap, get_by}
 use Rattle.std.specs.Str.{bytes_eq}
 use Rattle.jv_loader_world.specs.of_class.Class.{Field, Method}
 use Rattle.jv_loader_class.specs.declared.member.Member.{Member}
@@ -23,10 +24,17 @@ field_seen f = member_made f.access_flags f.name f.descriptor
 abbrev pub method_seen : Method → MemberSeen
 method_seen m = member_made m.access_flags m.name m.descriptor
 
--- an entry of the table of members: name and descriptor, and flags
-abbrev pub entry_seen : (Bor (List ℕ) × Bor (List ℕ)) × ℕ → MemberSeen
-entry_seen e = member_made e.1 e.0.0.now e.0.1.now
-
 -- the member has this name and this descriptor
 abbrev pub declares : List ℕ → List ℕ → MemberSeen → Bool
 declares name descriptor m = bytes_eq m.name name && bytes_eq m.descriptor descriptor
+
+-- a name and a descriptor, as the table has them
+abbrev pub Texts : Type 0
+Texts = Bor (List ℕ) × Bor (List ℕ)
+
+abbrev pub has_texts : Texts → Texts → Bool
+has_texts wanted texts = bytes_eq wanted.0.now texts.0.now && bytes_eq wanted.1.now texts.1.now
+
+-- each member is found at its place, by its name and its descriptor, and nothing else is found
+abbrev pub ArePlaces : {S : Type 0} → List MemberSeen → HashMap Texts ℕ S → Type 0
+ArePlaces members places = (texts : Texts) → get_by (has_texts texts) places ≡ position (declares texts.0.now texts.1.now) members
