@@ -4,7 +4,7 @@ use Rattle.std.specs.Prelude.{map, suc, if◌then◌else◌}
 use Rattle.std.specs.List.{flat_map}
 use Rattle.std.proofs.lemmas.Bool.{lt-ltb}
 use Rattle.jv_format.specs.Format.{half}
-use Rattle.jv_frames.specs.Bytes.{MapForm, form_bytes, table_bytes}
+use Rattle.jv_frames.specs.Bytes.{MapForm, form_bytes, stack_map_bytes}
 use Rattle.jv_asm_builder.specs.declared.fault.BuilderFault.{BuilderFault}
 use Rattle.jv_asm_builder.specs.declared.fault.BuilderFault.TheVariants.{TooLarge}
 use Rattle.jv_asm_builder.specs.Faults.{Expected, ◌>>=◌}
@@ -71,11 +71,11 @@ pub contents_are : (frames : List StackFrame) (out : List ℕ) → (length frame
     → frames_behind (half.spelling (length frames)) 0 frames ≡ Ok out → stack_map_table frames ≡ Ok (Some out)
 contents_are [] out some few e = absurd cc
 contents_are (f ∷ frames) out some few e =
-    ap (λ b. (if b then Ok (f ∷ frames) else Err TooLarge) >>= λ all. forms_from 0 all >>= λ forms. Ok (Some (table_bytes forms))) (lt-ltb (length (f ∷ frames)) 65536 few)
+    ap (λ b. (if b then Ok (f ∷ frames) else Err TooLarge) >>= λ all. forms_from 0 all >>= λ forms. Ok (Some (stack_map_bytes forms))) (lt-ltb (length (f ∷ frames)) 65536 few)
     ∙ by_forms (forms_from 0 (f ∷ frames)) refl e
   where
     by_forms : (r : Expected (List MapForm)) → forms_from 0 (f ∷ frames) ≡ r → (r >>= λ forms. Ok (half.spelling (length (f ∷ frames)) ++ flat_map form_bytes forms)) ≡ Ok out
-        → (r >>= λ forms. Ok (Some (table_bytes forms))) ≡ Ok (Some out)
+        → (r >>= λ forms. Ok (Some (stack_map_bytes forms))) ≡ Ok (Some out)
     by_forms (Err fault) h k = absurd cc
     by_forms (Ok forms) h k =
         ap (λ n. Ok (Some (half.spelling n ++ flat_map form_bytes forms))) (forms_length 0 (f ∷ frames) forms h)

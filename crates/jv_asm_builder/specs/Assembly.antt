@@ -4,7 +4,7 @@ use Rattle.std.specs.Prelude.{◌≡◌, ℕ, ◌+◌, ◌-◌, ◌*◌, ◌%◌
 use Rattle.std.specs.Borrow.{Bor}
 use Rattle.jv_code.specs.Numbers.{signed16}
 use Rattle.jv_format.specs.declared.handlers.Handler.{Handler}
-use Rattle.jv_frames.specs.Bytes.{MapForm, table_bytes}
+use Rattle.jv_frames.specs.Bytes.{MapForm, stack_map_bytes}
 use Rattle.jv_frames.specs.declared.form.Form.TheVariants.{Full}
 use Rattle.jv_frames.specs.declared.item.Item.{Item as StackMapType}
 use Rattle.jv_frames.specs.declared.item.Item.TheVariants as stack_map
@@ -186,7 +186,7 @@ forms_from base (f ∷ frames) = form_from base f >>= λ form. forms_from (f.off
 -- what the StackMapTable holds; without frames there is none
 abbrev pub stack_map_table : List StackFrame → Expected (Option (List ℕ))
 stack_map_table [] = Ok None
-stack_map_table (f ∷ frames) = counted_list (f ∷ frames) >>= λ all. forms_from 0 all >>= λ forms. Ok (Some (table_bytes forms))
+stack_map_table (f ∷ frames) = counted_list (f ∷ frames) >>= λ all. forms_from 0 all >>= λ forms. Ok (Some (stack_map_bytes forms))
 
 -- ---- all of it
 

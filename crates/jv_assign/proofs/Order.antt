@@ -12,7 +12,7 @@ use Rattle.jv_frames.specs.declared.verification.VerificationTypeOf.TheVariants 
 use Rattle.jv_frames.specs.Types.{FrameType, primitive_type, value_type_by, value_type}
 use Rattle.jv_loader_classes.specs.of_loader_world.World.{World}
 use Rattle.jv_assign.specs.Flow.{same_base, component_flows, flows}
-use Rattle.jv_assign.specs.Order.{object_name, erased_element, erased, IsBelow, is_reference, has_loadable_element, is_loadable_type, IsRooted}
+use Rattle.jv_assign.specs.Order.{object_name, erased_element, erased, IsBelow, is_usable_reference, has_loadable_element, is_loadable_type, IsRooted}
 use Rattle.jv_assign.proofs.OrderNames.{flows_to_itself, loadable_to_object, erased_flows_on, erased_kept, arrays_erased, erased_arrays_on, arrays_kept}
 
 clash : false ≡ true → ⊥
@@ -45,7 +45,7 @@ below_is_reflexive world t = flows_is_reflexive world (erased world t)
 
 -- ---- what is below a class, an array or null, in every world
 
-pub below_is_reference : (world : World) (t u : FrameType) → IsTrue (is_reference u) → IsBelow world t u → IsTrue (is_reference t)
+pub below_is_reference : (world : World) (t u : FrameType) → IsTrue (is_usable_reference u) → IsBelow world t u → IsTrue (is_usable_reference t)
 below_is_reference world types.Null u h k = refl
 below_is_reference world (types.Class x) u h k = refl
 below_is_reference world (types.Array a) u h k = refl
@@ -234,7 +234,7 @@ module _ (world : World) (rooted : IsRooted world) where
 
   -- Each class, array and null flows to java/lang/Object, interfaces included. A class is to be loadable: one that is not
   -- there does not (row `missing_to_object`).
-  pub flows_to_object : (t : FrameType) → IsTrue (is_reference t) → IsTrue (is_loadable_type world t) → IsTrue (flows world t (types.Class object_name))
+  pub flows_to_object : (t : FrameType) → IsTrue (is_usable_reference t) → IsTrue (is_loadable_type world t) → IsTrue (flows world t (types.Class object_name))
   flows_to_object types.Null r there = refl
   flows_to_object (types.Class x) r there = loadable_to_object world rooted x there
   flows_to_object (types.Array a) r there = refl
@@ -244,5 +244,5 @@ module _ (world : World) (rooted : IsRooted world) where
   flows_to_object types.UninitializedThis r there = absurd (clash r)
   flows_to_object (types.Uninitialized o) r there = absurd (clash r)
 
-  pub below_object : (t : FrameType) → IsTrue (is_reference t) → IsTrue (is_loadable_type world t) → IsBelow world t (types.Class object_name)
+  pub below_object : (t : FrameType) → IsTrue (is_usable_reference t) → IsTrue (is_loadable_type world t) → IsBelow world t (types.Class object_name)
   below_object t r there = flows_is_below t (types.Class object_name) there (flows_to_object t r there)

@@ -16,7 +16,7 @@ use Rattle.jv_loader_classes.specs.of_loader_world.Laws.{IsWayUp, SystemStandsAl
 use Rattle.jv_loader_classes.proofs.laws_of_loader_world.Up.{none, single, first, found_super, named_stands, super_is_named, same_name, above_by_ways, above_is_transitive}
 use Rattle.jv_loader_classes.proofs.laws_of_loader_world.Standing.{named_super, loadable_by_all}
 use Rattle.jv_assign.specs.Flow.{is_loadable_interface, class_flows, is_above_arrays}
-use Rattle.jv_assign.specs.Order.{object_name, is_interface_named, erased_name, IsBelow, leads_to, has_right_supers, IsRooted}
+use Rattle.jv_assign.specs.Order.{object_name, names_interface, erased_name, IsBelow, leads_to, has_right_supers, IsRooted}
 use Rattle.jv_assign.proofs.Names.{has_name}
 use Rattle.jv_assign.proofs.OrderChains.{any_made, any_found, all_at, IsUp, superclass_by_way, way_to_superclass, superclasses_are_transitive}
 use Rattle.jv_assign.proofs.OrderNames.{same_some, IsSuperclassOf, flow_cases, flows_to_itself, flows_to_superclass, Climbs, climbs, interface_found, nothing_above_object, above_interface, by_erased, erased_to_object, plain_arrays, IsUnder, erased_kept}
@@ -101,13 +101,13 @@ module _ (world : World) (rooted : IsRooted world) where
       by_part name e all (inl k) = inl (by_name name e l.class.super_class k)
       by_part name e all (inr k) = inr (subst (λ o. IsTrue (passes is_interface o)) e (all_at (λ n. passes is_interface (class_named world n)) l.class.interfaces name all k))
 
-  named_interface : (s : Loaded) → class_named world s.class.name ≡ Some s → IsTrue (is_loadable world s) → IsTrue (is_interface s) → IsTrue (is_interface_named world s.class.name)
+  named_interface : (s : Loaded) → class_named world s.class.name ≡ Some s → IsTrue (is_loadable world s) → IsTrue (is_interface s) → IsTrue (names_interface world s.class.name)
   named_interface s e t i = subst (λ o. IsTrue (is_loadable_interface world o)) (sym e) (and_from (is_loadable world s) (is_interface s) t i)
 
   -- ---- what is above a loadable class: interfaces, java/lang/Object and superclasses
 
   abbrev Above : Loaded → Loaded → Type 0
-  Above l to = IsTrue (is_interface_named world to.class.name) ⊎ ((to.class.name ≡ object_name) ⊎ Contains (superclasses world l.class) to)
+  Above l to = IsTrue (names_interface world to.class.name) ⊎ ((to.class.name ≡ object_name) ⊎ Contains (superclasses world l.class) to)
 
   above_cases : (l to : Loaded) (between : List Loaded) → Contains world l → IsTrue (is_loadable world l) → IsWayUp world l.class between to → Above l to
   above_cases l to [] there t way = by_kind (kind_of_super l to there t way)
@@ -149,14 +149,14 @@ module _ (world : World) (rooted : IsRooted world) where
       top = erased_to_object world rooted x loadable
 
       by_case : (to : Loaded) → to.class.name ≡ y → Above l to → IsUnder world x (erased_name world y)
-      by_case to e (inl i) = by_erased world rooted (IsUnder world x) y (λ j. top) (λ plain. absurd (plain (subst (λ n. IsTrue (is_interface_named world n)) e i)))
+      by_case to e (inl i) = by_erased world rooted (IsUnder world x) y (λ j. top) (λ plain. absurd (plain (subst (λ n. IsTrue (names_interface world n)) e i)))
       by_case to e (inr (inl o)) = by_erased world rooted (IsUnder world x) y (λ j. top) (λ plain. subst (IsUnder world x) (sym o ∙ e) top)
       by_case to e (inr (inr k)) =
           erased_kept world rooted x x y loadable (flows_to_itself world (erased_name world x))
           (flows_to_superclass world x y (record { from = l; to = to; found = at; loadable = t; on_chain = k; named = e }))
 
   -- And a class that is below another that is no interface is that one, or has it above.
-  pub below_is_above : (x y : List ℕ) (l : Loaded) → class_named world x ≡ Some l → (IsTrue (is_interface_named world y) → ⊥) → IsBelow world (types.Class x) (types.Class y) → IsTrue (bytes_eq x y || is_above world y l.class)
+  pub below_is_above : (x y : List ℕ) (l : Loaded) → class_named world x ≡ Some l → (IsTrue (names_interface world y) → ⊥) → IsBelow world (types.Class x) (types.Class y) → IsTrue (bytes_eq x y || is_above world y l.class)
   below_is_above x y l at plain h = by_erased world rooted (λ n. IsTrue (class_flows world n y) → IsTrue (bytes_eq x y || is_above world y l.class)) x by_interface (λ other. by_plain) unerased
     where
       unerased : IsUnder world x y
@@ -172,13 +172,13 @@ module _ (world : World) (rooted : IsRooted world) where
       by_climb e (inl named) = is_same (sym (has_name world x l at) ∙ (named ∙ e))
       by_climb e (inr found) = is_up found.0 found.1 found.2 (found.3 ∙ e)
 
-      by_interface : IsTrue (is_interface_named world x) → IsTrue (class_flows world object_name y) → IsTrue (bytes_eq x y || is_above world y l.class)
+      by_interface : IsTrue (names_interface world x) → IsTrue (class_flows world object_name y) → IsTrue (bytes_eq x y || is_above world y l.class)
       by_interface i k = by_case (flow_cases world object_name y k)
         where
           loadable : IsTrue (is_loadable world l)
           loadable = let found = interface_found world rooted x i in subst (λ (m : Loaded). IsTrue (is_loadable world m)) (same_some found.0 l (sym found.1 ∙ at)) found.2
 
-          by_case : (object_name ≡ y) ⊎ (IsTrue (is_interface_named world y) ⊎ IsSuperclassOf world object_name y) → IsTrue (bytes_eq x y || is_above world y l.class)
+          by_case : (object_name ≡ y) ⊎ (IsTrue (names_interface world y) ⊎ IsSuperclassOf world object_name y) → IsTrue (bytes_eq x y || is_above world y l.class)
           by_case (inl e) = by_climb e (climbs world rooted (length world) l (named_stands world x l at) loadable)
           by_case (inr (inl j)) = absurd (plain j)
           by_case (inr (inr f)) = absurd (nothing_above_object world rooted y f)
@@ -186,7 +186,7 @@ module _ (world : World) (rooted : IsRooted world) where
       by_plain : IsTrue (class_flows world x y) → IsTrue (bytes_eq x y || is_above world y l.class)
       by_plain k = by_case (flow_cases world x y k)
         where
-          by_case : (x ≡ y) ⊎ (IsTrue (is_interface_named world y) ⊎ IsSuperclassOf world x y) → IsTrue (bytes_eq x y || is_above world y l.class)
+          by_case : (x ≡ y) ⊎ (IsTrue (names_interface world y) ⊎ IsSuperclassOf world x y) → IsTrue (bytes_eq x y || is_above world y l.class)
           by_case (inl e) = is_same e
           by_case (inr (inl j)) = absurd (plain j)
           by_case (inr (inr f)) =
@@ -195,19 +195,19 @@ module _ (world : World) (rooted : IsRooted world) where
               is_up way.0 f.to (subst (λ (m : Loaded). IsUp world m.class way.0 f.to) same way.1) f.named
 
   -- where neither is an interface, the one is the other, or a superclass of it is
-  pub below_is_superclass : (x y : List ℕ) → (IsTrue (is_interface_named world x) → ⊥) → (IsTrue (is_interface_named world y) → ⊥) → IsBelow world (types.Class x) (types.Class y) → (x ≡ y) ⊎ IsSuperclassOf world x y
+  pub below_is_superclass : (x y : List ℕ) → (IsTrue (names_interface world x) → ⊥) → (IsTrue (names_interface world y) → ⊥) → IsBelow world (types.Class x) (types.Class y) → (x ≡ y) ⊎ IsSuperclassOf world x y
   below_is_superclass x y plain other h =
       by_case
       (flow_cases world x y
       (by_erased world rooted (λ n. IsTrue (class_flows world n y) → IsTrue (class_flows world x y)) x (λ i k. absurd (plain i)) (λ own k. k)
       (by_erased world rooted (λ n. IsUnder world x n → IsUnder world x y) y (λ i k. absurd (other i)) (λ own k. k) h)))
     where
-      by_case : (x ≡ y) ⊎ (IsTrue (is_interface_named world y) ⊎ IsSuperclassOf world x y) → (x ≡ y) ⊎ IsSuperclassOf world x y
+      by_case : (x ≡ y) ⊎ (IsTrue (names_interface world y) ⊎ IsSuperclassOf world x y) → (x ≡ y) ⊎ IsSuperclassOf world x y
       by_case (inl e) = inl e
       by_case (inr (inl i)) = absurd (other i)
       by_case (inr (inr f)) = inr f
 
   -- an array is below no class but java/lang/Object
-  pub array_below_class : (components : FieldTypeOf (List ℕ)) (y : List ℕ) → (IsTrue (is_interface_named world y) → ⊥) → IsBelow world (types.Array components) (types.Class y) → y ≡ object_name
+  pub array_below_class : (components : FieldTypeOf (List ℕ)) (y : List ℕ) → (IsTrue (names_interface world y) → ⊥) → IsBelow world (types.Array components) (types.Class y) → y ≡ object_name
   array_below_class components y plain h =
       plain_arrays world rooted y plain (by_erased world rooted (λ n. IsTrue (is_above_arrays n) → IsTrue (is_above_arrays y)) y (λ i k. absurd (plain i)) (λ own k. k) h)

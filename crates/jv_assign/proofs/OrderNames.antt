@@ -12,7 +12,7 @@ use Rattle.jv_loader_classes.specs.of_loader_world.Above.{class_if_named, superc
 use Rattle.jv_loader_classes.specs.of_loader_world.Verdicts.{passes, each_super, is_interface, have_right_kind, can_name_supers, is_loadable_within, is_loadable}
 use Rattle.jv_loader_classes.proofs.laws_of_loader_world.Up.{named_stands, same_name}
 use Rattle.jv_assign.specs.Flow.{is_loadable_interface, is_loadable_below, class_flows, is_above_arrays}
-use Rattle.jv_assign.specs.Order.{object_name, is_interface_named, erased_name, leads_to, has_right_supers, IsRooted}
+use Rattle.jv_assign.specs.Order.{object_name, names_interface, erased_name, leads_to, has_right_supers, IsRooted}
 use Rattle.jv_assign.proofs.Names.{has_name}
 use Rattle.jv_assign.proofs.OrderChains.{any_made, any_found, IsUp, superclass_by_way, way_to_superclass, superclasses_are_transitive, superclasses_are_named}
 
@@ -51,28 +51,28 @@ below_made world x y h =
     (subst (λ n. IsTrue (bytes_eq h.to.class.name n)) h.named (nat_list_eq_equiv.refl h.to.class.name))))
 
 -- it is the same, or an interface, or a superclass
-pub flow_cases : (world : World) (x y : List ℕ) → IsTrue (class_flows world x y) → (x ≡ y) ⊎ (IsTrue (is_interface_named world y) ⊎ IsSuperclassOf world x y)
-flow_cases world x y h = by_same (or_cases (bytes_eq x y) (is_interface_named world y || is_loadable_below world y (class_named world x)) h)
+pub flow_cases : (world : World) (x y : List ℕ) → IsTrue (class_flows world x y) → (x ≡ y) ⊎ (IsTrue (names_interface world y) ⊎ IsSuperclassOf world x y)
+flow_cases world x y h = by_same (or_cases (bytes_eq x y) (names_interface world y || is_loadable_below world y (class_named world x)) h)
   where
-    by_kind : (is_interface_named world y ≡ true) ⊎ (is_loadable_below world y (class_named world x) ≡ true) → (x ≡ y) ⊎ (IsTrue (is_interface_named world y) ⊎ IsSuperclassOf world x y)
+    by_kind : (names_interface world y ≡ true) ⊎ (is_loadable_below world y (class_named world x) ≡ true) → (x ≡ y) ⊎ (IsTrue (names_interface world y) ⊎ IsSuperclassOf world x y)
     by_kind (inl k) = inr (inl k)
     by_kind (inr k) = inr (inr (below_found world x y k))
 
-    by_same : (bytes_eq x y ≡ true) ⊎ ((is_interface_named world y || is_loadable_below world y (class_named world x)) ≡ true) → (x ≡ y) ⊎ (IsTrue (is_interface_named world y) ⊎ IsSuperclassOf world x y)
+    by_same : (bytes_eq x y ≡ true) ⊎ ((names_interface world y || is_loadable_below world y (class_named world x)) ≡ true) → (x ≡ y) ⊎ (IsTrue (names_interface world y) ⊎ IsSuperclassOf world x y)
     by_same (inl k) = inl (same_name x y k)
-    by_same (inr k) = by_kind (or_cases (is_interface_named world y) (is_loadable_below world y (class_named world x)) k)
+    by_same (inr k) = by_kind (or_cases (names_interface world y) (is_loadable_below world y (class_named world x)) k)
 
 pub flows_to_itself : (world : World) (x : List ℕ) → IsTrue (class_flows world x x)
-flows_to_itself world x = or_left (bytes_eq x x) (is_interface_named world x || is_loadable_below world x (class_named world x)) (nat_list_eq_equiv.refl x)
+flows_to_itself world x = or_left (bytes_eq x x) (names_interface world x || is_loadable_below world x (class_named world x)) (nat_list_eq_equiv.refl x)
 
-pub flows_to_interface : (world : World) (x y : List ℕ) → IsTrue (is_interface_named world y) → IsTrue (class_flows world x y)
+pub flows_to_interface : (world : World) (x y : List ℕ) → IsTrue (names_interface world y) → IsTrue (class_flows world x y)
 flows_to_interface world x y h =
-    or_right (bytes_eq x y) (is_interface_named world y || is_loadable_below world y (class_named world x)) (or_left (is_interface_named world y) (is_loadable_below world y (class_named world x)) h)
+    or_right (bytes_eq x y) (names_interface world y || is_loadable_below world y (class_named world x)) (or_left (names_interface world y) (is_loadable_below world y (class_named world x)) h)
 
 pub flows_to_superclass : (world : World) (x y : List ℕ) → IsSuperclassOf world x y → IsTrue (class_flows world x y)
 flows_to_superclass world x y h =
-    or_right (bytes_eq x y) (is_interface_named world y || is_loadable_below world y (class_named world x))
-    (or_right (is_interface_named world y) (is_loadable_below world y (class_named world x)) (below_made world x y h))
+    or_right (bytes_eq x y) (names_interface world y || is_loadable_below world y (class_named world x))
+    (or_right (names_interface world y) (is_loadable_below world y (class_named world x)) (below_made world x y h))
 
 -- ---- one after the other, where no interface stands between
 
@@ -89,15 +89,15 @@ superclass_of_both world x y z h k =
       named = k.named;
     }
 
-pub class_flows_on : (world : World) (x y z : List ℕ) → (IsTrue (is_interface_named world y) → ⊥) → IsTrue (class_flows world x y) → IsTrue (class_flows world y z) → IsTrue (class_flows world x z)
+pub class_flows_on : (world : World) (x y z : List ℕ) → (IsTrue (names_interface world y) → ⊥) → IsTrue (class_flows world x y) → IsTrue (class_flows world y z) → IsTrue (class_flows world x z)
 class_flows_on world x y z plain h k = by_first (flow_cases world x y h)
   where
-    by_second : IsSuperclassOf world x y → (y ≡ z) ⊎ (IsTrue (is_interface_named world z) ⊎ IsSuperclassOf world y z) → IsTrue (class_flows world x z)
+    by_second : IsSuperclassOf world x y → (y ≡ z) ⊎ (IsTrue (names_interface world z) ⊎ IsSuperclassOf world y z) → IsTrue (class_flows world x z)
     by_second f (inl e) = subst (λ n. IsTrue (class_flows world x n)) e h
     by_second f (inr (inl i)) = flows_to_interface world x z i
     by_second f (inr (inr g)) = flows_to_superclass world x z (superclass_of_both world x y z f g)
 
-    by_first : (x ≡ y) ⊎ (IsTrue (is_interface_named world y) ⊎ IsSuperclassOf world x y) → IsTrue (class_flows world x z)
+    by_first : (x ≡ y) ⊎ (IsTrue (names_interface world y) ⊎ IsSuperclassOf world x y) → IsTrue (class_flows world x z)
     by_first (inl e) = subst (λ n. IsTrue (class_flows world n z)) (sym e) k
     by_first (inr (inl i)) = absurd (plain i)
     by_first (inr (inr f)) = by_second f (flow_cases world y z k)
@@ -127,14 +127,14 @@ module _ (world : World) (rooted : IsRooted world) where
       none_there None h = refl
       none_there (Some name) h = absurd cc
 
-  pub interface_found : (name : List ℕ) → IsTrue (is_interface_named world name) → (l : Loaded) × (class_named world name ≡ Some l) × IsTrue (is_loadable world l) × IsTrue (is_interface l)
+  pub interface_found : (name : List ℕ) → IsTrue (names_interface world name) → (l : Loaded) × (class_named world name ≡ Some l) × IsTrue (is_loadable world l) × IsTrue (is_interface l)
   interface_found name h = by_class (class_named world name) refl h
     where
       by_class : (o : Option Loaded) → class_named world name ≡ o → IsTrue (is_loadable_interface world o) → (l : Loaded) × (class_named world name ≡ Some l) × IsTrue (is_loadable world l) × IsTrue (is_interface l)
       by_class None e k = absurd cc
       by_class (Some l) e k = let parts = and_parts (is_loadable world l) (is_interface l) k in (l, e, parts.0, parts.1)
 
-  pub object_is_plain : IsTrue (is_interface_named world object_name) → ⊥
+  pub object_is_plain : IsTrue (names_interface world object_name) → ⊥
   object_is_plain h = let found = interface_found object_name h in unlike (sym found.3 ∙ (object_parts found.0 found.1).0)
 
   pub nothing_above_object : (z : List ℕ) → IsSuperclassOf world object_name z → ⊥
@@ -243,7 +243,7 @@ module _ (world : World) (rooted : IsRooted world) where
   -- ---- interfaces
 
   -- an interface has java/lang/Object alone above it
-  pub above_interface : (x y : List ℕ) → IsTrue (is_interface_named world x) → IsSuperclassOf world x y → y ≡ object_name
+  pub above_interface : (x y : List ℕ) → IsTrue (names_interface world x) → IsSuperclassOf world x y → y ≡ object_name
   above_interface x y i h =
       let found = interface_found x i in
       let same : found.0 ≡ h.from = same_some found.0 h.from (sym found.1 ∙ h.found) in
@@ -278,15 +278,15 @@ module _ (world : World) (rooted : IsRooted world) where
   -- ---- names erased
 
   -- an erased name is java/lang/Object's, or the name of no interface
-  pub by_erased : (P : List ℕ → Type 0) (y : List ℕ) → (IsTrue (is_interface_named world y) → P object_name) → ((IsTrue (is_interface_named world y) → ⊥) → P y) → P (erased_name world y)
-  by_erased P y if_interface if_not = by_test (is_interface_named world y) refl
+  pub by_erased : (P : List ℕ → Type 0) (y : List ℕ) → (IsTrue (names_interface world y) → P object_name) → ((IsTrue (names_interface world y) → ⊥) → P y) → P (erased_name world y)
+  by_erased P y if_interface if_not = by_test (names_interface world y) refl
     where
-      by_test : (b : Bool) → is_interface_named world y ≡ b → P (if b then object_name else y)
+      by_test : (b : Bool) → names_interface world y ≡ b → P (if b then object_name else y)
       by_test true e = if_interface e
       by_test false e = if_not (λ h. unlike (sym h ∙ e))
 
-  pub erased_is_plain : (y : List ℕ) → IsTrue (is_interface_named world (erased_name world y)) → ⊥
-  erased_is_plain y = by_erased (λ n. IsTrue (is_interface_named world n) → ⊥) y (λ i. object_is_plain) (λ plain. plain)
+  pub erased_is_plain : (y : List ℕ) → IsTrue (names_interface world (erased_name world y)) → ⊥
+  erased_is_plain y = by_erased (λ n. IsTrue (names_interface world n) → ⊥) y (λ i. object_is_plain) (λ plain. plain)
 
   erased_object : erased_name world object_name ≡ object_name
   erased_object = by_erased (λ n. n ≡ object_name) object_name (λ i. refl) (λ plain. refl)
@@ -307,10 +307,10 @@ module _ (world : World) (rooted : IsRooted world) where
       top : IsUnder world w object_name
       top = erased_to_object w loadable
 
-      above_plain : (IsTrue (is_interface_named world x) → ⊥) → IsUnder world w x → IsUnder world w y
+      above_plain : (IsTrue (names_interface world x) → ⊥) → IsUnder world w x → IsUnder world w y
       above_plain plain g = class_flows_on world (erased_name world w) x y plain g k
 
-      by_case : (x ≡ y) ⊎ (IsTrue (is_interface_named world y) ⊎ IsSuperclassOf world x y) → IsUnder world w (erased_name world y)
+      by_case : (x ≡ y) ⊎ (IsTrue (names_interface world y) ⊎ IsSuperclassOf world x y) → IsUnder world w (erased_name world y)
       by_case (inl e) = subst (λ n. IsUnder world w (erased_name world n)) e h
       by_case (inr (inl i)) = by_erased (IsUnder world w) y (λ j. top) (λ plain. absurd (plain i))
       by_case (inr (inr f)) =
@@ -319,14 +319,14 @@ module _ (world : World) (rooted : IsRooted world) where
 
   -- ---- the classes above arrays
 
-  arrays_cases : (y : List ℕ) → IsTrue (is_above_arrays y) → (y ≡ object_name) ⊎ IsTrue (is_interface_named world y)
+  arrays_cases : (y : List ℕ) → IsTrue (is_above_arrays y) → (y ≡ object_name) ⊎ IsTrue (names_interface world y)
   arrays_cases y h = by_first (or_cases (bytes_eq y object_name) (bytes_eq y (codes "java/lang/Cloneable") || bytes_eq y (codes "java/io/Serializable")) h)
     where
-      by_second : (bytes_eq y (codes "java/lang/Cloneable") ≡ true) ⊎ (bytes_eq y (codes "java/io/Serializable") ≡ true) → (y ≡ object_name) ⊎ IsTrue (is_interface_named world y)
-      by_second (inl e) = inr (subst (λ n. IsTrue (is_interface_named world n)) (sym (same_name y (codes "java/lang/Cloneable") e)) rooted.cloneable)
-      by_second (inr e) = inr (subst (λ n. IsTrue (is_interface_named world n)) (sym (same_name y (codes "java/io/Serializable") e)) rooted.serializable)
+      by_second : (bytes_eq y (codes "java/lang/Cloneable") ≡ true) ⊎ (bytes_eq y (codes "java/io/Serializable") ≡ true) → (y ≡ object_name) ⊎ IsTrue (names_interface world y)
+      by_second (inl e) = inr (subst (λ n. IsTrue (names_interface world n)) (sym (same_name y (codes "java/lang/Cloneable") e)) rooted.cloneable)
+      by_second (inr e) = inr (subst (λ n. IsTrue (names_interface world n)) (sym (same_name y (codes "java/io/Serializable") e)) rooted.serializable)
 
-      by_first : (bytes_eq y object_name ≡ true) ⊎ ((bytes_eq y (codes "java/lang/Cloneable") || bytes_eq y (codes "java/io/Serializable")) ≡ true) → (y ≡ object_name) ⊎ IsTrue (is_interface_named world y)
+      by_first : (bytes_eq y object_name ≡ true) ⊎ ((bytes_eq y (codes "java/lang/Cloneable") || bytes_eq y (codes "java/io/Serializable")) ≡ true) → (y ≡ object_name) ⊎ IsTrue (names_interface world y)
       by_first (inl e) = inl (same_name y object_name e)
       by_first (inr e) = by_second (or_cases (bytes_eq y (codes "java/lang/Cloneable")) (bytes_eq y (codes "java/io/Serializable")) e)
 
@@ -337,10 +337,10 @@ module _ (world : World) (rooted : IsRooted world) where
   arrays_erased y h = by_erased (λ n. IsTrue (is_above_arrays n)) y (λ i. object_above_arrays) (λ plain. h)
 
   -- of those that are no interface it is java/lang/Object alone
-  pub plain_arrays : (y : List ℕ) → (IsTrue (is_interface_named world y) → ⊥) → IsTrue (is_above_arrays y) → y ≡ object_name
+  pub plain_arrays : (y : List ℕ) → (IsTrue (names_interface world y) → ⊥) → IsTrue (is_above_arrays y) → y ≡ object_name
   plain_arrays y plain h = by_case (arrays_cases y h)
     where
-      by_case : (y ≡ object_name) ⊎ IsTrue (is_interface_named world y) → y ≡ object_name
+      by_case : (y ≡ object_name) ⊎ IsTrue (names_interface world y) → y ≡ object_name
       by_case (inl e) = e
       by_case (inr i) = absurd (plain i)
 
@@ -350,7 +350,7 @@ module _ (world : World) (rooted : IsRooted world) where
       is_top : erased_name world y ≡ object_name
       is_top = plain_arrays (erased_name world y) (erased_is_plain y) h
 
-      by_case : (erased_name world y ≡ erased_name world z) ⊎ (IsTrue (is_interface_named world (erased_name world z)) ⊎ IsSuperclassOf world (erased_name world y) (erased_name world z)) → IsTrue (is_above_arrays (erased_name world z))
+      by_case : (erased_name world y ≡ erased_name world z) ⊎ (IsTrue (names_interface world (erased_name world z)) ⊎ IsSuperclassOf world (erased_name world y) (erased_name world z)) → IsTrue (is_above_arrays (erased_name world z))
       by_case (inl e) = subst (λ n. IsTrue (is_above_arrays n)) e h
       by_case (inr (inl i)) = absurd (erased_is_plain z i)
       by_case (inr (inr f)) = absurd (nothing_above_object (erased_name world z) (subst (λ n. IsSuperclassOf world n (erased_name world z)) is_top f))
@@ -367,7 +367,7 @@ module _ (world : World) (rooted : IsRooted world) where
       above_plain : IsSuperclassOf world y z → y ≡ object_name → IsOverArrays z
       above_plain f e = absurd (nothing_above_object z (subst (λ n. IsSuperclassOf world n z) e f))
 
-      by_case : (y ≡ z) ⊎ (IsTrue (is_interface_named world z) ⊎ IsSuperclassOf world y z) → IsOverArrays (erased_name world z)
+      by_case : (y ≡ z) ⊎ (IsTrue (names_interface world z) ⊎ IsSuperclassOf world y z) → IsOverArrays (erased_name world z)
       by_case (inl e) = subst (λ n. IsOverArrays (erased_name world n)) e h
       by_case (inr (inl i)) = by_erased IsOverArrays z (λ j. object_above_arrays) (λ plain. absurd (plain i))
       by_case (inr (inr f)) =

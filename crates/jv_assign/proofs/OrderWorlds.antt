@@ -15,11 +15,11 @@ use Rattle.jv_loader_classes.specs.of_loader_world.of_class.ClassFile.{class_nam
 use Rattle.jv_loader_classes.specs.of_loader_world.of_class.Rules.{is_object, is_no_array_name, IsNameRight, IsClassRight}
 use Rattle.jv_loader_classes.specs.of_loader_files.FileContent.{FileContent, IsContent, AreContents}
 use Rattle.jv_loader_classes.specs.of_loader_files.declared.content.Content.TheVariants.{OtherVersion, NoClassFile, MoreThanProfile, Holds}
-use Rattle.jv_loader_classes.specs.of_loader_world.World.{Loaded, World, loaded, class_named, is_reserved, has_class, joined, joined_all, classes_in, world_of}
+use Rattle.jv_loader_classes.specs.of_loader_world.World.{Loaded, World, loaded, class_named, is_reserved, has_class, with_class_of, joined_all, classes_in, world_of}
 use Rattle.jv_loader_classes.specs.of_loader_world.Verdicts.{passes}
 use Rattle.jv_loader_classes.proofs.laws_of_loader_world.Up.{none, single, first, later}
 use Rattle.jv_assign.proofs.OrderChains.{all_at}
-use Rattle.jv_assign.specs.Order.{object_name, is_interface_named, is_root, has_right_superclass, leads_to, has_right_supers, IsRooted, is_rooted_by}
+use Rattle.jv_assign.specs.Order.{object_name, names_interface, is_root, has_right_superclass, leads_to, has_right_supers, IsRooted, is_rooted_by}
 
 -- ---- the superclass of a class that a file holds
 
@@ -85,7 +85,7 @@ held_right (bytes ∷ files) (file ∷ contents) are class k = by_part (λ j. he
 
 -- ---- the classes of a guest are held by its files
 
-one_from : (classes : List Class) (file : FileContent) (files : List FileContent) (class : Class) → Contains (joined classes file) class → Contains classes class ⊎ Contains (file ∷ files) (Holds class)
+one_from : (classes : List Class) (file : FileContent) (files : List FileContent) (class : Class) → Contains (with_class_of classes file) class → Contains classes class ⊎ Contains (file ∷ files) (Holds class)
 one_from classes OtherVersion files class k = inl k
 one_from classes NoClassFile files class k = inl k
 one_from classes MoreThanProfile files class k = inl k
@@ -101,9 +101,9 @@ one_from classes (Holds c) files class k = by_test (is_reserved c.name || has_cl
 
 joined_from : (classes : List Class) (files : List FileContent) (class : Class) → Contains (joined_all classes files) class → Contains classes class ⊎ Contains files (Holds class)
 joined_from classes [] class h = inl h
-joined_from classes (file ∷ files) class h = by_part (joined_from (joined classes file) files class h)
+joined_from classes (file ∷ files) class h = by_part (joined_from (with_class_of classes file) files class h)
   where
-    by_part : Contains (joined classes file) class ⊎ Contains files (Holds class) → Contains classes class ⊎ Contains (file ∷ files) (Holds class)
+    by_part : Contains (with_class_of classes file) class ⊎ Contains files (Holds class) → Contains classes class ⊎ Contains (file ∷ files) (Holds class)
     by_part (inl k) = one_from classes file files class k
     by_part (inr k) = inr (later file files (Holds class) k)
 
@@ -154,8 +154,8 @@ module _ (system : List Class) (contents : List FileContent) where
   pub files_are_rooted : (files : List (List ℕ)) → AreContents files contents → ((guests : World) → IsTrue (is_rooted_by system (map (loaded true) system ++ guests))) → IsRooted whole
   files_are_rooted files are passes_test =
       let object = and_parts (passes is_root (class_named whole object_name)) _ (passes_test (map (loaded false) (classes_in contents))) in
-      let cloneable = and_parts (is_interface_named whole (codes "java/lang/Cloneable")) _ object.1 in
-      let serializable = and_parts (is_interface_named whole (codes "java/io/Serializable")) _ cloneable.1 in
+      let cloneable = and_parts (names_interface whole (codes "java/lang/Cloneable")) _ object.1 in
+      let serializable = and_parts (names_interface whole (codes "java/io/Serializable")) _ cloneable.1 in
       record {
         object = λ l e. subst (λ o. IsTrue (passes is_root o)) e object.0;
         cloneable = cloneable.0;

@@ -23,12 +23,12 @@ abbrev pub object_name : List ℕ
 object_name = codes "java/lang/Object"
 
 -- the name is that of a loadable interface
-abbrev pub is_interface_named : World → List ℕ → Bool
-is_interface_named world name = is_loadable_interface world (class_named world name)
+abbrev pub names_interface : World → List ℕ → Bool
+names_interface world name = is_loadable_interface world (class_named world name)
 
 -- a loadable interface counts as java/lang/Object, each other class as itself (4.10.1.2)
 abbrev pub erased_name : World → List ℕ → List ℕ
-erased_name world name = if is_interface_named world name then object_name else name
+erased_name world name = if names_interface world name then object_name else name
 
 abbrev pub erased_element : World → Element (List ℕ) → Element (List ℕ)
 erased_element world (elements.Base base) = elements.Base base
@@ -51,11 +51,11 @@ IsBelow world type other = IsTrue (flows world (erased world type) (erased world
 -- ---- what a law asks of a type
 
 -- a class, an array or null
-abbrev pub is_reference : FrameType → Bool
-is_reference types.Null = true
-is_reference (types.Class name) = true
-is_reference (types.Array components) = true
-is_reference _ = false
+abbrev pub is_usable_reference : FrameType → Bool
+is_usable_reference types.Null = true
+is_usable_reference (types.Class name) = true
+is_usable_reference (types.Array components) = true
+is_usable_reference _ = false
 
 abbrev pub has_loadable_element : World → Element (List ℕ) → Bool
 has_loadable_element world (elements.Base base) = true
@@ -92,8 +92,8 @@ pub record IsRooted (world : World) : Type 0 where
   -- the class java/lang/Object is no interface and has no superclass
   pub object : (l : Loaded) → class_named world object_name ≡ Some l → IsTrue (is_root l)
   -- the other classes above arrays are loadable interfaces (4.10.1.2)
-  pub cloneable : IsTrue (is_interface_named world (codes "java/lang/Cloneable"))
-  pub serializable : IsTrue (is_interface_named world (codes "java/io/Serializable"))
+  pub cloneable : IsTrue (names_interface world (codes "java/lang/Cloneable"))
+  pub serializable : IsTrue (names_interface world (codes "java/io/Serializable"))
   pub superclass : (l : Loaded) → Contains world l → IsTrue (has_right_superclass l.class)
   -- a class of the system leads up to it, and its supers are right; so it is with a class of a guest that is loadable
   pub system : (l : Loaded) → Contains world l → IsTrue l.by_system → IsTrue (leads_to world object_name l && has_right_supers world l.class)
@@ -102,6 +102,6 @@ pub record IsRooted (world : World) : Type 0 where
 abbrev pub is_rooted_by : List Class → World → Bool
 is_rooted_by system world =
     passes is_root (class_named world object_name)
-    && (is_interface_named world (codes "java/lang/Cloneable")
-    && (is_interface_named world (codes "java/io/Serializable")
+    && (names_interface world (codes "java/lang/Cloneable")
+    && (names_interface world (codes "java/io/Serializable")
     && list_all (λ c. has_right_superclass c && (leads_to world object_name (loaded true c) && has_right_supers world c)) system))

@@ -10,7 +10,7 @@ use Rattle.jv_loader_classes.specs.of_loader_world.World.{Loaded, World, class_n
 use Rattle.jv_loader_classes.specs.of_loader_world.Above.{is_above}
 use Rattle.jv_loader_classes.specs.of_loader_world.Verdicts.{is_loadable}
 use Rattle.jv_assign.specs.Flow.{flows}
-use Rattle.jv_assign.specs.Order.{object_name, is_interface_named, IsBelow, is_reference, is_loadable_type, IsRooted, is_rooted_by}
+use Rattle.jv_assign.specs.Order.{object_name, names_interface, IsBelow, is_usable_reference, is_loadable_type, IsRooted, is_rooted_by}
 
 -- ---- in every world
 
@@ -26,7 +26,7 @@ ComponentsAreBelow =
 
 -- Only a class, an array or null is below one of these.
 abbrev pub BelowIsReference : Type 0
-BelowIsReference = (world : World) (t u : FrameType) → IsTrue (is_reference u) → IsBelow world t u → IsTrue (is_reference t)
+BelowIsReference = (world : World) (t u : FrameType) → IsTrue (is_usable_reference u) → IsBelow world t u → IsTrue (is_usable_reference t)
 
 -- ---- in a rooted world
 
@@ -36,7 +36,7 @@ BelowIsTransitive = (world : World) → IsRooted world → (t u v : FrameType) �
 -- A loadable class, an array and null flow to java/lang/Object.
 abbrev pub FlowsToObject : Type 0
 FlowsToObject =
-    (world : World) → IsRooted world → (t : FrameType) → IsTrue (is_reference t) → IsTrue (is_loadable_type world t)
+    (world : World) → IsRooted world → (t : FrameType) → IsTrue (is_usable_reference t) → IsTrue (is_loadable_type world t)
     → IsTrue (flows world t (types.Class object_name))
 
 -- A loadable type that flows to another is below it.
@@ -61,13 +61,13 @@ AboveIsBelow =
 abbrev pub BelowIsAbove : Type 0
 BelowIsAbove =
     (world : World) → IsRooted world → (x y : List ℕ) (l : Loaded) → class_named world x ≡ Some l
-    → (IsTrue (is_interface_named world y) → ⊥) → IsBelow world (types.Class x) (types.Class y)
+    → (IsTrue (names_interface world y) → ⊥) → IsBelow world (types.Class x) (types.Class y)
     → IsTrue (bytes_eq x y || is_above world y l.class)
 
 -- An array is below no class but java/lang/Object and interfaces.
 abbrev pub ArrayBelowClass : Type 0
 ArrayBelowClass =
-    (world : World) → IsRooted world → (components : FieldTypeOf (List ℕ)) (y : List ℕ) → (IsTrue (is_interface_named world y) → ⊥)
+    (world : World) → IsRooted world → (components : FieldTypeOf (List ℕ)) (y : List ℕ) → (IsTrue (names_interface world y) → ⊥)
     → IsBelow world (types.Array components) (types.Class y) → y ≡ object_name
 
 -- ---- which worlds are rooted

@@ -2,7 +2,7 @@
 
 ghost use Rattle.std.specs.Prelude.{◌≡◌};
 ghost use Rattle.jv_frames.specs.declared.verification.VerificationTypeOf.TheVariants as variants;
-ghost use Rattle.jv_text.specs.Seen.{seen_field};
+ghost use Rattle.jv_text.specs.Seen.{seen_field_type};
 ghost use Rattle.jv_loader_classes.specs.of_loader_world.World.{World};
 ghost use Rattle.jv_assign.specs.Flow.{flows};
 ghost use Rattle.jv_assign.specs.Seen.{seen_type};
@@ -31,7 +31,7 @@ fn flows_to_array(
     from: &VerificationTypeOf<&[u8]>,
     components: FieldType<'_>,
 ) -> bool
-    ensures { result ≡ flows table.now (seen_type from.now) (variants.Array (seen_field components.entry)) }
+    ensures { result ≡ flows table.now (seen_type from.now) (variants.Array (seen_field_type components.entry)) }
 {
     match from {
         VerificationTypeOf::Null => true,

@@ -12,7 +12,7 @@ use Rattle.jv_pool.specs.of_format.declared.handlers.Handler.{Handler}
 use Rattle.jv_pool.specs.of_format.Handlers.{handler_bytes, handler_fits}
 use Rattle.jv_class_parts.specs.Structure.{AttributeInfo, CodeAttribute, MethodAttribute, FieldInfo, MethodInfo, table_bytes, attribute_bytes, code_bytes, contents_bytes, method_attribute_bytes, field_bytes, method_bytes, table_fits, attribute_fits, code_fits, method_attribute_fits, field_fits, method_fits}
 use Rattle.jv_class_parts.specs.Structure.MethodAttribute.{Code, Other}
-use Rattle.jv_class_parts.specs.Attributes.{has_name, is_named, all_named, at_most_one, sole, code_length_right, field_attributes_right, code_right, method_attribute_right, code_in, codes_of, method_attributes_right}
+use Rattle.jv_class_parts.specs.Attributes.{has_attribute_name, has_utf8_name, all_named, at_most_one, sole, code_length_right, field_attributes_right, code_right, method_attribute_right, code_in, codes_of, method_attributes_right}
 use Rattle.jv_class_parts.specs.Parts.{CodeSeen, field_shown, code_shown, method_shown}
 use Rattle.jv_class_parts.specs.Inside.Reading.{Three, three, kept, table, values_in, is_utf8, attribute_of, is_static, field_of, attributes_behind, field, values_behind, field_seen, field_kept, exception, value_of, stack_map_of, code_attributes, code_text, CodeBody, code_of, code_body, code, handlers_kept, stack_maps_kept, code_seen, code_kept, is_code, on_left, on_right, left_of, right_of, Held, code_held, other_held, held, method_attribute_of, method_attribute, code_shown_inside, method_attributes, there, nothing, held_kept, code_behind, method_attribute_kept, codes_kept, method_of, method, method_seen, method_kept}
 use Rattle.jv_class_parts.proofs.Lists.{all_both, all_parts, at_most_one-map, sole-map}
@@ -208,10 +208,10 @@ record OtherFits (pool : List Entry) (a : AttributeInfo) : Type 0 where
 
 OtherFits-from : (pool : List Entry) (a : AttributeInfo) → IsTrue (attribute_right pool (Other a)) → OtherFits pool a
 OtherFits-from pool x h =
-    let a = and_parts (attribute_fits x) (is_named pool x && not (has_name pool (codes "Code") x)) h in
+    let a = and_parts (attribute_fits x) (has_utf8_name pool x && not (has_attribute_name pool (codes "Code") x)) h in
     let b = and_parts (half.fits x.attribute_name_index) (quad.fits (length x.info)) a.0 in
-    let c = and_parts (is_named pool x) (not (has_name pool (codes "Code") x)) a.1 in
-    record { name_fits = b.0; fits = contents_fit x.info b.1; utf8 = c.0; other = not-true (has_name pool (codes "Code") x) c.1 }
+    let c = and_parts (has_utf8_name pool x) (not (has_attribute_name pool (codes "Code") x)) a.1 in
+    record { name_fits = b.0; fits = contents_fit x.info b.1; utf8 = c.0; other = not-true (has_attribute_name pool (codes "Code") x) c.1 }
 
 attribute_spelled : (pool : List Entry) (a : MethodAttribute) → IsTrue (attribute_right pool a) → method_attribute_bytes a ≡ (paired half (held pool)).spelling (from_method_attribute a)
 attribute_spelled pool (Code name c) h =

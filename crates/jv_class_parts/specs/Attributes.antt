@@ -18,8 +18,8 @@ some_and test (Some text) = test text
 abbrev pub is_text_at : List Entry → List ℕ → ℕ → Bool
 is_text_at pool text index = some_and (λ t. bytes_eq t text) (utf8_at pool index)
 
-abbrev pub has_name : List Entry → List ℕ → AttributeInfo → Bool
-has_name pool name a = is_text_at pool name a.attribute_name_index
+abbrev pub has_attribute_name : List Entry → List ℕ → AttributeInfo → Bool
+has_attribute_name pool name a = is_text_at pool name a.attribute_name_index
 
 abbrev pub at_most_one : {A : Type 0} → List A → Bool
 at_most_one [] = true
@@ -32,16 +32,16 @@ sole (x ∷ []) = Some x
 sole _ = None
 
 -- the index of an attribute's name is that of a Utf8 constant (4.7)
-abbrev pub is_named : List Entry → AttributeInfo → Bool
-is_named pool a = is_some (utf8_at pool a.attribute_name_index)
+abbrev pub has_utf8_name : List Entry → AttributeInfo → Bool
+has_utf8_name pool a = is_some (utf8_at pool a.attribute_name_index)
 
 abbrev pub all_named : List Entry → List AttributeInfo → Bool
-all_named pool attributes = list_all (is_named pool) attributes
+all_named pool attributes = list_all (has_utf8_name pool) attributes
 
 -- ---- ConstantValue (4.7.2)
 
 abbrev pub constant_values : List Entry → FieldInfo → List AttributeInfo
-constant_values pool f = filter (has_name pool (codes "ConstantValue")) f.attributes
+constant_values pool f = filter (has_attribute_name pool (codes "ConstantValue")) f.attributes
 
 -- two bytes are an index
 abbrev pub index_in : List ℕ → Option ℕ
@@ -75,7 +75,7 @@ code_length_right code = nat_lt 0 (length code) && nat_lt (length code) 65536
 
 -- StackMapTable (4.7.4): at most one
 abbrev pub stack_maps : List Entry → CodeAttribute → List AttributeInfo
-stack_maps pool c = filter (has_name pool (codes "StackMapTable")) c.attributes
+stack_maps pool c = filter (has_attribute_name pool (codes "StackMapTable")) c.attributes
 
 abbrev pub code_right : List Entry → CodeAttribute → Bool
 code_right pool c = code_length_right c.code && all_named pool c.attributes && at_most_one (stack_maps pool c)
@@ -83,7 +83,7 @@ code_right pool c = code_length_right c.code && all_named pool c.attributes && a
 -- the attribute named `Code` is the code, and every other is passed over
 abbrev pub method_attribute_right : List Entry → MethodAttribute → Bool
 method_attribute_right pool (Code name code) = is_text_at pool (codes "Code") name && code_right pool code
-method_attribute_right pool (Other a) = is_named pool a && not (has_name pool (codes "Code") a)
+method_attribute_right pool (Other a) = has_utf8_name pool a && not (has_attribute_name pool (codes "Code") a)
 
 abbrev pub code_in : MethodAttribute → List CodeAttribute
 code_in (Code name code) = code ∷ []

@@ -3,7 +3,7 @@
 ghost use Rattle.std.specs.Prelude.{◌≡◌, codes};
 ghost use Rattle.jv_pool.specs.of_format.Format.{Finds, half};
 ghost use Rattle.jv_pool.specs.of_format.Readers.{contents, such_that};
-ghost use Rattle.jv_class_parts.specs.Attributes.{is_text_at, has_name, value_index};
+ghost use Rattle.jv_class_parts.specs.Attributes.{is_text_at, has_attribute_name, value_index};
 ghost use Rattle.jv_class_parts.specs.Inside.Kept.{seen_attribute, seen_map};
 ghost use Rattle.jv_class_parts.specs.Inside.Reading.{is_utf8, attribute, one_more, value_kept, counted_values, values_kept, stack_map_kept, counted_stack_maps, stack_maps_kept};
 
@@ -35,13 +35,13 @@ pub(crate) fn is_text(pool: &Pool<'_>, text: &[u8], index: u16) -> bool
 }
 
 pub(crate) fn is_constant_value(pool: &Pool<'_>, attribute: Attribute<'_>) -> bool
-    ensures { result ≡ has_name pool.now (codes "ConstantValue") (seen_attribute attribute.entry) }
+    ensures { result ≡ has_attribute_name pool.now (codes "ConstantValue") (seen_attribute attribute.entry) }
 {
     is_text(pool, b"ConstantValue".as_slice(), attribute.name)
 }
 
 pub(crate) fn is_stack_map_table(pool: &Pool<'_>, attribute: Attribute<'_>) -> bool
-    ensures { result ≡ has_name pool.now (codes "StackMapTable") (seen_attribute attribute.entry) }
+    ensures { result ≡ has_attribute_name pool.now (codes "StackMapTable") (seen_attribute attribute.entry) }
 {
     is_text(pool, b"StackMapTable".as_slice(), attribute.name)
 }

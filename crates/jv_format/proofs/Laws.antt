@@ -9,7 +9,7 @@ use Rattle.std.proofs.lemmas.Bool.{and_parts, and_from, ltb-false, le-ltb, lt-lt
 use Rattle.std.proofs.lemmas.Grind.{common_steps}
 use Rattle.std.proofs.lemmas.List.{append-nil, take_at, drop_at, take-append-drop, length-append, length-take}
 use Rattle.jv_format.specs.Format.{Format, ◌>>=◌, IsBytes, byte, half, text, front, quad}
-use Rattle.jv_format.specs.Readers.{both, list_read, list_of, never, case_of, spelled_at, fits_at, found_as, after, then_read, such_that, passed, bytes_of, signed, signed_fits, signed_read, paired, joined, second_read, contents, alone, whole, enclosed_read, enclosed}
+use Rattle.jv_format.specs.Readers.{both, list_read, list_of, never, case_of, spelled_at, fits_at, found_as, after, then_read, such_that, passed, bytes_of, signed, signed_fits, signed_read, paired, joined, second_read, contents, at_the_end, whole, enclosed_read, enclosed}
 
 abbrev pub just : {A : Type 0} → A → Option A
 just x = Some x
@@ -333,7 +333,7 @@ IsBytes-front (x ∷ front) rest (y ∷ bytes) e h =
 pub contents_is : IsFormat contents
 contents_is = after_is quad length bytes_of quad_is bytes_is (λ n t h. eqb-true (length t) n h)
 
-alone_is : {A : Type 0} (rest : List ℕ) (a : A) (more : List ℕ) (y : A × List ℕ) → alone rest a more ≡ Some y → (more ≡ []) × ((a, rest) ≡ y)
+alone_is : {A : Type 0} (rest : List ℕ) (a : A) (more : List ℕ) (y : A × List ℕ) → at_the_end rest a more ≡ Some y → (more ≡ []) × ((a, rest) ≡ y)
 alone_is rest a [] y e = (refl, cc)
 alone_is rest a (x ∷ more) y e = absurd cc
 

@@ -95,12 +95,12 @@ abbrev pub contents : Format (List ℕ)
 contents = after quad length bytes_of
 
 -- a value that was found, where nothing follows it
-abbrev pub alone : {A : Type 0} → List ℕ → A → List ℕ → Option (A × List ℕ)
-alone rest a [] = Some (a, rest)
-alone rest a (x ∷ more) = None
+abbrev pub at_the_end : {A : Type 0} → List ℕ → A → List ℕ → Option (A × List ℕ)
+at_the_end rest a [] = Some (a, rest)
+at_the_end rest a (x ∷ more) = None
 
 abbrev pub whole : {A : Type 0} → List ℕ → A × List ℕ → Option (A × List ℕ)
-whole rest a = alone rest a.0 a.1
+whole rest a = at_the_end rest a.0 a.1
 
 -- a value that takes the whole of such contents
 abbrev pub enclosed_read : {A : Type 0} → Format A → List ℕ × List ℕ → Option (A × List ℕ)

@@ -12,7 +12,7 @@ use Rattle.jv_frames.specs.declared.entry.FrameEntry.{FrameEntry}
 use Rattle.jv_frames.specs.declared.entry.FrameEntry.TheVariants as entries
 use Rattle.jv_frames.specs.declared.width.Width.{Width}
 use Rattle.jv_frames.specs.Bytes.{MapForm}
-use Rattle.jv_frames.specs.Frames.{MapFrame, map_frame, laid, chopped, locals_behind, stack_in, delta_of, frame_behind, passing, frames_behind}
+use Rattle.jv_frames.specs.Frames.{MapFrame, map_frame, laid, chopped, locals_behind, stack_in, delta_of, frame_behind, frame_if, frames_behind}
 use Rattle.jv_frames.specs.Entries.{IsKnown}
 use Rattle.jv_frames.specs.Inside.Steps.{object_in, entry_of, initial_down}
 
@@ -110,9 +110,9 @@ pub frames_known : (pool : List Entry) (widths : List Width) (test : MapFrame Fr
 frames_known pool widths test base before [] fs h is =
     subst (λ (fs : List (MapFrame FrameEntry)). All (FrameKnown pool widths) fs) (is_some [] fs is) (all_none (FrameKnown pool widths))
 frames_known pool widths test base before (form ∷ more) fs h is =
-    let f = bind_some (frame_behind (entry_of pool) base before form >>= passing test) (λ f. frames_behind (entry_of pool) test (f.offset + 1) f.locals more >>= λ fs. Some (f ∷ fs)) fs is in
+    let f = bind_some (frame_behind (entry_of pool) base before form >>= frame_if test) (λ f. frames_behind (entry_of pool) test (f.offset + 1) f.locals more >>= λ fs. Some (f ∷ fs)) fs is in
     let rest = bind_some (frames_behind (entry_of pool) test (f.0.offset + 1) f.0.locals more) (λ fs. Some (f.0 ∷ fs)) fs f.2 in
-    let g = bind_some (frame_behind (entry_of pool) base before form) (passing test) f.0 f.1 in
+    let g = bind_some (frame_behind (entry_of pool) base before form) (frame_if test) f.0 f.1 in
     let same : g.0 ≡ f.0 = passed_by (test g.0) g.0 f.0 g.2 in
     let one : FrameKnown pool widths f.0 = behind_known pool widths base before form f.0 h (g.1 ∙ ap (λ (f : MapFrame FrameEntry). Some f) same) in
     subst (λ (fs : List (MapFrame FrameEntry)). All (FrameKnown pool widths) fs) (is_some (f.0 ∷ rest.0) fs rest.2)

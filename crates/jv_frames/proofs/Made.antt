@@ -12,7 +12,7 @@ use Rattle.jv_frames.specs.declared.entry.FrameEntry.{FrameEntry}
 use Rattle.jv_frames.specs.declared.limits.Limits.{Limits}
 use Rattle.jv_frames.specs.declared.width.Width.{Width}
 use Rattle.jv_frames.specs.Bytes.{MapForm}
-use Rattle.jv_frames.specs.Frames.{MapFrame, map_frame, laid, chopped, locals_behind, stack_in, delta_of, frame_behind, passing, frames_behind}
+use Rattle.jv_frames.specs.Frames.{MapFrame, map_frame, laid, chopped, locals_behind, stack_in, delta_of, frame_behind, frame_if, frames_behind}
 use Rattle.jv_frames.specs.Entries.{ReadFrame, words_in}
 use Rattle.jv_frames.specs.Inside.Steps.{Built, entry_of, with_pile, with_locals, resumed, settled, settled_in, laid_entry, laid_item, laid_items, stack_laid, chopped_in, finished, form_laid, form_done, all_steps}
 use Rattle.jv_frames.proofs.Typed.{fits_in}
@@ -98,24 +98,24 @@ abbrev pub grown : List Width → List ReadFrame → MapFrame FrameEntry → Bui
 grown widths frames f = table_of widths (frames ++ read_of widths f ∷ []) (f.offset + 1) f.locals []
 
 done_by : (limits : Limits) (delta : ℕ) (widths : List Width) (frames : List ReadFrame) (base : ℕ) (locals stack : List FrameEntry) (b : Bool) → fits_in limits widths (map_frame (base + delta) locals stack) ≡ b
-    → finished limits delta (table_of widths frames base locals stack) ≡ option_map (grown widths frames) (passing (fits_in limits widths) (map_frame (base + delta) locals stack))
+    → finished limits delta (table_of widths frames base locals stack) ≡ option_map (grown widths frames) (frame_if (fits_in limits widths) (map_frame (base + delta) locals stack))
 done_by limits delta widths frames base locals stack true e = rw e refl
 done_by limits delta widths frames base locals stack false e = rw e refl
 
 of_parts : (limits : Limits) (delta : ℕ) (widths : List Width) (frames : List ReadFrame) (base : ℕ) (before locals : List FrameEntry) (o : Option (List FrameEntry))
     → (o >>= (λ stack. Some (table_of widths frames base locals stack)) >>= finished limits delta)
-    ≡ option_map (grown widths frames) (o >>= (λ stack. Some (map_frame (base + delta) locals stack)) >>= passing (fits_in limits widths))
+    ≡ option_map (grown widths frames) (o >>= (λ stack. Some (map_frame (base + delta) locals stack)) >>= frame_if (fits_in limits widths))
 of_parts limits delta widths frames base before locals None = refl
 of_parts limits delta widths frames base before locals (Some stack) = done_by limits delta widths frames base locals stack (fits_in limits widths (map_frame (base + delta) locals stack)) refl
 
 of_both : (limits : Limits) (delta : ℕ) (widths : List Width) (frames : List ReadFrame) (base : ℕ) (o p : Option (List FrameEntry))
     → (o >>= (λ locals. p >>= λ stack. Some (table_of widths frames base locals stack)) >>= finished limits delta)
-    ≡ option_map (grown widths frames) (o >>= (λ locals. p >>= λ stack. Some (map_frame (base + delta) locals stack)) >>= passing (fits_in limits widths))
+    ≡ option_map (grown widths frames) (o >>= (λ locals. p >>= λ stack. Some (map_frame (base + delta) locals stack)) >>= frame_if (fits_in limits widths))
 of_both limits delta widths frames base None p = refl
 of_both limits delta widths frames base (Some locals) p = of_parts limits delta widths frames base locals locals p
 
 done_as : (pool : List Entry) (limits : Limits) (widths : List Width) (frames : List ReadFrame) (base : ℕ) (locals : List FrameEntry) (form : MapForm)
-    → form_done pool limits (table_of widths frames base locals []) form ≡ option_map (grown widths frames) (frame_behind (entry_of pool) base locals form >>= passing (fits_in limits widths))
+    → form_done pool limits (table_of widths frames base locals []) form ≡ option_map (grown widths frames) (frame_behind (entry_of pool) base locals form >>= frame_if (fits_in limits widths))
 done_as pool limits widths frames base locals form =
     ap (λ (o : Option Built). o >>= finished limits (delta_of form)) (laid_as pool widths frames base locals form)
     ∙ of_both limits (delta_of form) widths frames base (locals_behind (entry_of pool) locals form) (stack_in (entry_of pool) form)
@@ -148,7 +148,7 @@ pub all_as : (pool : List Entry) (limits : Limits) (widths : List Width) (frames
 all_as pool limits widths frames base locals [] = ap (λ (l : List ReadFrame). Some l) (sym (append-nil frames))
 all_as pool limits widths frames base locals (form ∷ more) =
     ap (λ (o : Option Built). option_map frames_in (o >>= λ t. all_steps (form_done pool limits) t more)) (done_as pool limits widths frames base locals form)
-    ∙ of_first pool limits widths frames more (frame_behind (entry_of pool) base locals form >>= passing (fits_in limits widths))
+    ∙ of_first pool limits widths frames more (frame_behind (entry_of pool) base locals form >>= frame_if (fits_in limits widths))
     (λ f. all_as pool limits widths (frames ++ read_of widths f ∷ []) (f.offset + 1) f.locals more)
 
 -- ---- how many frames

@@ -13,7 +13,7 @@ use Rattle.jv_frames.specs.declared.limits.Limits.{Limits}
 use Rattle.jv_frames.specs.declared.width.Width.{Width}
 use Rattle.jv_frames.specs.Types.{FrameType}
 use Rattle.jv_frames.specs.Bytes.{MapForm}
-use Rattle.jv_frames.specs.Frames.{MapFrame, PlacedFrame, placed, type_of, is_within, frames_behind, Maps, OneMaps}
+use Rattle.jv_frames.specs.Frames.{MapFrame, PlacedFrame, placed_frame, type_of, is_within, frames_behind, Maps, OneMaps}
 use Rattle.jv_frames.specs.Entries.{ReadFrame, entry_type, frame_placed, frames_placed, HaveWidths, HoldsKnown, HasItsWords}
 use Rattle.jv_frames.specs.Inside.Reading.{table, all_of, whole, whole_table}
 use Rattle.jv_frames.specs.Inside.Steps.{Built, entry_of, initial_down, started, all_steps, all_stepped, beside, form_done, ended, table_read}
@@ -33,7 +33,7 @@ OneMaps-holds pool limits initial bytes one other p q =
     let same : p.forms ≡ q.forms = is_some p.forms q.forms (sym (the_table pool limits initial bytes one p) ∙ the_table pool limits initial bytes other q) in
     let entries : p.entries ≡ q.entries =
     is_some p.entries q.entries (sym p.made ∙ ap (frames_behind (type_of pool) (is_within limits) 0 (reverse initial)) same ∙ q.made) in
-    p.expand ∙ ap (λ (fs : List (MapFrame FrameType)). map (placed limits.max_locals) fs) entries ∙ sym q.expand
+    p.expand ∙ ap (λ (fs : List (MapFrame FrameType)). map (placed_frame limits.max_locals) fs) entries ∙ sym q.expand
 
 -- ---- a table that was read
 
@@ -88,9 +88,9 @@ typed_frames pool limits widths types law names h forms =
     0 (initial_down (length widths)) forms
 
 placed_frames : (pool : List Entry) (types : List FrameType) (max_locals : ℕ) (widths : List Width) (fs : List (MapFrame FrameEntry))
-    → map (frame_placed pool types max_locals) (map (read_of widths) fs) ≡ map (placed max_locals) (map (mapped (entry_type pool types)) fs)
+    → map (frame_placed pool types max_locals) (map (read_of widths) fs) ≡ map (placed_frame max_locals) (map (mapped (entry_type pool types)) fs)
 placed_frames pool types max_locals widths [] = refl
-placed_frames pool types max_locals widths (f ∷ fs) = ap (λ (l : List PlacedFrame). placed max_locals (mapped (entry_type pool types) f) ∷ l) (placed_frames pool types max_locals widths fs)
+placed_frames pool types max_locals widths (f ∷ fs) = ap (λ (l : List PlacedFrame). placed_frame max_locals (mapped (entry_type pool types) f) ∷ l) (placed_frames pool types max_locals widths fs)
 
 pub maps_read : (pool : List Entry) (limits : Limits) (widths : List Width) (types : List FrameType) (bytes : List ℕ) (b : Built) → TypesAgree → NameClasses pool → IsBytes bytes → HaveWidths types widths
     → table_read pool limits (started widths) bytes ≡ Some b → Maps pool limits types bytes (frames_placed pool types limits.max_locals b.frames)

@@ -7,7 +7,7 @@ use Rattle.jv_format.specs.Format.{◌>>=◌}
 use Rattle.jv_frames.specs.declared.item.Item.{Item}
 use Rattle.jv_frames.specs.declared.form.Form.TheVariants.{Same, SameItem, SameItemExtended, Chop, SameExtended, Append, Full}
 use Rattle.jv_frames.specs.Bytes.{MapForm}
-use Rattle.jv_frames.specs.Frames.{MapFrame, map_frame, laid, chopped, locals_behind, stack_in, delta_of, frame_behind, passing, frames_behind}
+use Rattle.jv_frames.specs.Frames.{MapFrame, map_frame, laid, chopped, locals_behind, stack_in, delta_of, frame_behind, frame_if, frames_behind}
 
 -- a step from what stands for a value
 pub named_bind : {A B C D : Type 0} (f : A → B) (g : C → D) (o : Option A) (F : B → Option D) (G : A → Option C) → ((a : A) → F (f a) ≡ option_map g (G a)) → (option_map f o >>= F) ≡ option_map g (o >>= G)
@@ -62,7 +62,7 @@ behind_named {E = E} {T = T} name entry_of type_of law base before form =
     ∙ named_bind (map name) (mapped name) (stack_in entry_of form) (λ ss. Some (map_frame (base + delta_of form) (map name ls) ss)) (λ ss. Some (map_frame (base + delta_of form) ls ss)) (λ ss. refl))
 
 passing_by : {E T : Type 0} (name : E → T) (test : MapFrame T → Bool) (f : MapFrame E) (b : Bool) → test (mapped name f) ≡ b
-    → passing test (mapped name f) ≡ option_map (mapped name) (if b then Some f else None)
+    → frame_if test (mapped name f) ≡ option_map (mapped name) (if b then Some f else None)
 passing_by name test f true e = rw e refl
 passing_by name test f false e = rw e refl
 
@@ -73,10 +73,10 @@ frames_named name entry_of type_of law test type_test same base before [] = refl
 frames_named {E = E} {T = T} name entry_of type_of law test type_test same base before (form ∷ more) =
     let whole : MapFrame T → Option (List (MapFrame T)) = λ f. frames_behind type_of type_test (f.offset + 1) f.locals more >>= λ fs. Some (f ∷ fs) in
     let part : MapFrame E → Option (List (MapFrame E)) = λ f. frames_behind entry_of test (f.offset + 1) f.locals more >>= λ fs. Some (f ∷ fs) in
-    let first : (frame_behind type_of base (map name before) form >>= passing type_test) ≡ option_map (mapped name) (frame_behind entry_of base before form >>= passing test) =
-    ap (λ (o : Option (MapFrame T)). o >>= passing type_test) (behind_named name entry_of type_of law base before form)
-    ∙ named_bind (mapped name) (mapped name) (frame_behind entry_of base before form) (passing type_test) (passing test) (λ f. passing_by name type_test f (test f) (same f)) in
+    let first : (frame_behind type_of base (map name before) form >>= frame_if type_test) ≡ option_map (mapped name) (frame_behind entry_of base before form >>= frame_if test) =
+    ap (λ (o : Option (MapFrame T)). o >>= frame_if type_test) (behind_named name entry_of type_of law base before form)
+    ∙ named_bind (mapped name) (mapped name) (frame_behind entry_of base before form) (frame_if type_test) (frame_if test) (λ f. passing_by name type_test f (test f) (same f)) in
     ap (λ (o : Option (MapFrame T)). o >>= whole) first
-    ∙ named_bind (mapped name) (map (mapped name)) (frame_behind entry_of base before form >>= passing test) whole part (λ f.
+    ∙ named_bind (mapped name) (map (mapped name)) (frame_behind entry_of base before form >>= frame_if test) whole part (λ f.
     ap (λ (o : Option (List (MapFrame T))). o >>= λ fs. Some (mapped name f ∷ fs)) (frames_named name entry_of type_of law test type_test same (f.offset + 1) f.locals more)
     ∙ named_bind (map (mapped name)) (map (mapped name)) (frames_behind entry_of test (f.offset + 1) f.locals more) (λ fs. Some (mapped name f ∷ fs)) (λ fs. Some (f ∷ fs)) (λ fs. refl))

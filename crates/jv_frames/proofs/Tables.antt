@@ -6,13 +6,13 @@ use Rattle.std.proofs.lemmas.Bool.{and_parts, and_from, ltb-true, lt-ltb}
 use Rattle.std.proofs.lemmas.List.{append-nil}
 use Rattle.jv_format.specs.Format.{half, ◌>>=◌, IsBytes}
 use Rattle.jv_format.proofs.Laws.{is_some, bind_some}
-use Rattle.jv_frames.specs.Bytes.{MapForm, form_fits, table_bytes}
+use Rattle.jv_frames.specs.Bytes.{MapForm, form_fits, stack_map_bytes}
 use Rattle.jv_frames.specs.Inside.Reading.{table, forms_of, all_of, whole, whole_table}
 use Rattle.jv_frames.proofs.Forms.{table_is}
 
 -- what a whole table is
 pub record IsWholeTable (bytes : List ℕ) (forms : List MapForm) : Type 0 where
-  pub spelled : bytes ≡ table_bytes forms
+  pub spelled : bytes ≡ stack_map_bytes forms
   pub counted : length forms < 65536
   pub fit : IsTrue (list_all form_fits forms)
 
@@ -31,12 +31,12 @@ table_taken bytes forms small e =
     let parts = and_parts (half.fits (length a.0.0)) ((forms_of (length a.0.0)).fits a.0.0) one.1 in
     let more = and_parts _ (list_all form_fits a.0.0) parts.1 in
     rw (← end.1) (record {
-      spelled = one.0 ∙ ap (λ (r : List ℕ). table_bytes a.0.0 ++ r) end.0 ∙ append-nil (table_bytes a.0.0);
+      spelled = one.0 ∙ ap (λ (r : List ℕ). stack_map_bytes a.0.0 ++ r) end.0 ∙ append-nil (stack_map_bytes a.0.0);
       counted = ltb-true _ _ parts.0;
       fit = more.1;
     })
 
 pub table_again : (bytes : List ℕ) (forms : List MapForm) → IsWholeTable bytes forms → whole_table bytes ≡ Some forms
 table_again bytes forms h =
-    ap (λ (b : List ℕ). table.read b >>= whole) (h.spelled ∙ sym (append-nil (table_bytes forms)))
+    ap (λ (b : List ℕ). table.read b >>= whole) (h.spelled ∙ sym (append-nil (stack_map_bytes forms)))
     ∙ ap (λ (o : Option (List MapForm × List ℕ)). o >>= whole) (table_is.again forms [] (table_fits forms h.counted h.fit))

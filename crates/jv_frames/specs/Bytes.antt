@@ -63,5 +63,5 @@ form_fits (Append delta locals) = is_few (length locals) && (half.fits delta && 
 form_fits (Full delta locals stack) = half.fits delta && (counted_fits locals && counted_fits stack)
 
 -- the bytes of a StackMapTable's contents: the count of the frames, and the frames one after the other
-abbrev pub table_bytes : List MapForm → List ℕ
-table_bytes forms = half.spelling (length forms) ++ flat_map form_bytes forms
+abbrev pub stack_map_bytes : List MapForm → List ℕ
+stack_map_bytes forms = half.spelling (length forms) ++ flat_map form_bytes forms

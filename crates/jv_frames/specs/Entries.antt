@@ -10,7 +10,7 @@ use Rattle.jv_frames.specs.declared.width.Width.{Width}
 use Rattle.jv_frames.specs.declared.width.Width.TheVariants.{One, Two}
 use Rattle.jv_frames.specs.declared.verification.VerificationTypeOf.TheVariants as types
 use Rattle.jv_frames.specs.Types.{FrameType, width}
-use Rattle.jv_frames.specs.Frames.{object_type, MapFrame, map_frame, PlacedFrame, placed}
+use Rattle.jv_frames.specs.Frames.{object_type, MapFrame, map_frame, PlacedFrame, placed_frame}
 
 -- ---- types
 
@@ -43,7 +43,7 @@ abbrev pub frame_typed : List Entry → List FrameType → ReadFrame → MapFram
 frame_typed pool initial f = map_frame f.offset (map (entry_type pool initial) f.locals) (map (entry_type pool initial) f.stack)
 
 abbrev pub frame_placed : List Entry → List FrameType → ℕ → ReadFrame → PlacedFrame
-frame_placed pool initial max_locals f = placed max_locals (frame_typed pool initial f)
+frame_placed pool initial max_locals f = placed_frame max_locals (frame_typed pool initial f)
 
 -- the frames by words that frames which were read stand for
 abbrev pub frames_placed : List Entry → List FrameType → ℕ → List ReadFrame → List PlacedFrame

@@ -8,7 +8,7 @@ use Rattle.jv_frames.specs.declared.item.Item.TheVariants as items
 use Rattle.jv_frames.specs.declared.form.Form.TheVariants.{Same, SameItem, SameItemExtended, Chop, SameExtended, Append, Full}
 use Rattle.jv_frames.specs.declared.limits.Limits.{Limits}
 use Rattle.jv_frames.specs.declared.verification.VerificationTypeOf.TheVariants as types
-use Rattle.jv_frames.specs.Bytes.{MapForm, form_fits, table_bytes}
+use Rattle.jv_frames.specs.Bytes.{MapForm, form_fits, stack_map_bytes}
 use Rattle.jv_frames.specs.Types.{FrameType, reference_type, words}
 
 -- ---- the types of items
@@ -82,15 +82,15 @@ frame_behind entry_of base before form =
     Some (map_frame (base + delta_of form) locals stack)
 
 -- a frame that passes a test
-abbrev pub passing : {T : Type 0} → (MapFrame T → Bool) → MapFrame T → Option (MapFrame T)
-passing test frame = if test frame then Some frame else None
+abbrev pub frame_if : {T : Type 0} → (MapFrame T → Bool) → MapFrame T → Option (MapFrame T)
+frame_if test frame = if test frame then Some frame else None
 
 -- The frames one after the other, each of which passes a test: an offset is its delta more than the base, which behind a
 -- frame is its offset and 1.
 abbrev pub frames_behind : {T : Type 0} → (Item → Option T) → (MapFrame T → Bool) → ℕ → List T → List MapForm → Option (List (MapFrame T))
 frames_behind entry_of test base before [] = Some []
 frames_behind entry_of test base before (form ∷ more) =
-    frame_behind entry_of base before form >>= passing test >>= λ f.
+    frame_behind entry_of base before form >>= frame_if test >>= λ f.
     frames_behind entry_of test (f.offset + 1) f.locals more >>= λ fs. Some (f ∷ fs)
 
 -- the local variables and the stack fit max_locals and max_stack
@@ -128,19 +128,19 @@ pub record PlacedFrame : Type 0 where
   pub offset : ℕ
   pub frame : Frame
 
-abbrev pub placed : ℕ → MapFrame FrameType → PlacedFrame
-placed max_locals f = record { offset = f.offset; frame = by_words max_locals (reverse f.locals) f.stack }
+abbrev pub placed_frame : ℕ → MapFrame FrameType → PlacedFrame
+placed_frame max_locals f = record { offset = f.offset; frame = by_words max_locals (reverse f.locals) f.stack }
 
 -- The bytes are a StackMapTable's contents, and these are its frames by words, behind initial local entries (the first
 -- first), each within the limits. The first delta is the first offset.
 pub record Maps (pool : List Entry) (limits : Limits) (initial : List FrameType) (bytes : List ℕ) (frames : List PlacedFrame) : Type 0 where
   pub forms : List MapForm
-  pub spelled : bytes ≡ table_bytes forms
+  pub spelled : bytes ≡ stack_map_bytes forms
   pub counted : length forms < 65536
   pub fit : IsTrue (list_all form_fits forms)
   pub entries : List (MapFrame FrameType)
   pub made : frames_behind (type_of pool) (is_within limits) 0 (reverse initial) forms ≡ Some entries
-  pub expand : frames ≡ map (placed limits.max_locals) entries
+  pub expand : frames ≡ map (placed_frame limits.max_locals) entries
 
 -- A law: local entries within max_locals come to max_locals local variables.
 abbrev pub FillsLocals : Type 0

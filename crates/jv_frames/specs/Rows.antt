@@ -8,7 +8,7 @@ use Rattle.jv_frames.specs.declared.item.Item.TheVariants as items
 use Rattle.jv_frames.specs.declared.form.Form.TheVariants.{Same, SameItem, SameItemExtended, Chop, SameExtended, Append, Full}
 use Rattle.jv_frames.specs.declared.limits.Limits.{Limits}
 use Rattle.jv_frames.specs.declared.verification.VerificationTypeOf.TheVariants as types
-use Rattle.jv_frames.specs.Bytes.{MapForm, table_bytes}
+use Rattle.jv_frames.specs.Bytes.{MapForm, stack_map_bytes}
 use Rattle.jv_frames.specs.Types.{FrameType, reference_type}
 use Rattle.jv_frames.specs.Frames.{MapFrame, map_frame, frames_behind, is_within, type_of, by_words}
 use Rattle.jv_frames.specs.Initial.{initial_entries, initial_frame}
@@ -46,7 +46,7 @@ forms =
 
 pub record WorkedRows : Type 0 where
   -- the bytes of a map: its count, and each frame
-  pub bytes : table_bytes forms
+  pub bytes : stack_map_bytes forms
       ≡ 0 ∷ 7 ∷ 5 ∷ 67 ∷ 1 ∷ 247 ∷ 1 ∷ 44 ∷ 7 ∷ 0 ∷ 7 ∷ 249 ∷ 0 ∷ 1 ∷ 251 ∷ 0 ∷ 64 ∷ 252 ∷ 0 ∷ 1 ∷ 4 ∷ 255 ∷ 0 ∷ 2 ∷ 0 ∷ 1 ∷ 0 ∷ 0 ∷ 1 ∷ 5 ∷ []
   -- what Class constants name
   pub names_class : reference_type (codes "A") ≡ Some (types.Class (codes "A"))

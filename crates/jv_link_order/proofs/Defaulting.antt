@@ -14,7 +14,7 @@ use Rattle.jv_loader_classes.specs.Inside.Told.{IsAt}
 use Rattle.jv_loader_classes.proofs.Followed.{at_named, some_class}
 use Rattle.jv_loader_lookups.specs.declared.place.Place.{Place}
 use Rattle.jv_loader_lookups.specs.Places.{method_of, method_at}
-use Rattle.jv_loader_lookups.specs.Searched.{classes_at}
+use Rattle.jv_loader_world.specs.Numbers.{classes_at}
 use Rattle.jv_loader_lookups.proofs.Among.{one_behind}
 use Rattle.jv_loader_lookups.proofs.Found.{one_class_more, no_class_left}
 use Rattle.jv_loader_lookups.proofs.Next.{those_at}

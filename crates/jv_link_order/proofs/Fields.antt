@@ -18,10 +18,10 @@ use Rattle.jv_loader_classes.proofs.Followed.{some_class}
 use Rattle.jv_loader_classes.proofs.Numbers.{take_more}
 use Rattle.jv_loader_lookups.specs.declared.place.Place.{Place}
 use Rattle.jv_loader_lookups.specs.Places.{field_in, field_at}
-use Rattle.jv_loader_lookups.specs.Searched.{classes_at, AreNumbers}
+use Rattle.jv_loader_world.specs.Numbers.{classes_at, AreNumbers}
 use Rattle.jv_loader_lookups.proofs.Found.{one_class_more}
 use Rattle.jv_meaning_linking.specs.Kind.{is_static_field}
-use Rattle.jv_meaning_linking.specs.Layout.{own_fields, instance_fields, width, placed, placed_from}
+use Rattle.jv_meaning_linking.specs.Layout.{own_fields, instance_fields, field_words, laid_at, placed_from}
 use Rattle.jv_meaning_linking.proofs.Places.{placed_go_on}
 use Rattle.jv_link_order.specs.declared.layout.Layout.{Layout}
 use Rattle.jv_link_order.specs.Layouts.{placed_field, placed_at, known, IsLaid, own_field}
@@ -29,8 +29,8 @@ use Rattle.jv_link_order.specs.Layouts.{placed_field, placed_at, known, IsLaid, 
 pub nothing_more : (world : World) (layout : Layout) (ds : List DeclaredField) → IsLaid world layout ds → IsLaid world layout (ds ++ [])
 nothing_more world layout ds laid = subst (IsLaid world layout) (sym (append-nil ds)) laid
 
-one_width : (d : DeclaredField) → sum_by width (d ∷ []) ≡ width d
-one_width d = let all = sum_by-cons width d [] in omega (arith, all)
+one_width : (d : DeclaredField) → sum_by field_words (d ∷ []) ≡ field_words d
+one_width d = let all = sum_by-cons field_words d [] in omega (arith, all)
 
 behind_all : (world : World) (old new : Layout) (place : Place) (d : DeclaredField) (ds : List DeclaredField) (wide : Bool) → field_at world place ≡ Some d → new.fields.items ≡ old.fields.items ++ placed_field place old.words ∷ []
     → new.words ≡ old.words + (if wide then 2 else 1) → wide ≡ bytes_eq d.field.descriptor (codes "J") → IsLaid world old ds → IsLaid world new (ds ++ d ∷ [])
@@ -38,15 +38,15 @@ behind_all world old new place d ds wide at fields words is laid = record {
   fields_placed =
       ap (map (placed_at world)) fields ∙ (map-append (placed_at world) old.fields.items (placed_field place old.words ∷ [])
       ∙ (ap (λ ps. ps ++ placed_at world (placed_field place old.words) ∷ []) laid.fields_placed
-      ∙ (ap (λ (o : Option DeclaredField). map known (placed_from 0 ds) ++ option_map (λ x. placed x old.words) o ∷ []) at
-      ∙ (ap (λ n. map known (placed_from 0 ds) ++ known (placed d n) ∷ []) start
-      ∙ (sym (map-append known (placed_from 0 ds) (placed_from (0 + sum_by width ds) (d ∷ []))) ∙ ap (map known) (sym (placed_go_on 0 ds (d ∷ []))))))));
+      ∙ (ap (λ (o : Option DeclaredField). map known (placed_from 0 ds) ++ option_map (λ x. laid_at x old.words) o ∷ []) at
+      ∙ (ap (λ n. map known (placed_from 0 ds) ++ known (laid_at d n) ∷ []) start
+      ∙ (sym (map-append known (placed_from 0 ds) (placed_from (0 + sum_by field_words ds) (d ∷ []))) ∙ ap (map known) (sym (placed_go_on 0 ds (d ∷ []))))))));
   words =
-      words ∙ (ap (λ b. old.words + (if b then 2 else 1)) is ∙ (ap (λ n. n + width d) laid.words
-      ∙ (ap (λ n. sum_by width ds + n) (sym (one_width d)) ∙ sym (sum_by-append width ds (d ∷ [])))));
+      words ∙ (ap (λ b. old.words + (if b then 2 else 1)) is ∙ (ap (λ n. n + field_words d) laid.words
+      ∙ (ap (λ n. sum_by field_words ds + n) (sym (one_width d)) ∙ sym (sum_by-append field_words ds (d ∷ [])))));
 }
   where
-    start : old.words ≡ 0 + sum_by width ds
+    start : old.words ≡ 0 + sum_by field_words ds
     start = let same = laid.words in omega (arith, same)
 
 pub laid_more : (world : World) (old new : Layout) (place : Place) (d : DeclaredField) (ds : List DeclaredField) (wide : Bool) (flags : ℕ) → field_at world place ≡ Some d → new.fields.items ≡ old.fields.items ++ placed_field place old.words ∷ []

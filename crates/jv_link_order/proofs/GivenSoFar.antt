@@ -7,7 +7,7 @@ use Rattle.jv_loader_world.specs.LookUps.{is_among}
 use Rattle.jv_loader_classes.specs.Numbers.{number_named}
 use Rattle.jv_loader_classes.specs.Inside.Told.{IsAt}
 use Rattle.jv_loader_classes.proofs.Followed.{some_class}
-use Rattle.jv_loader_lookups.specs.Searched.{classes_at}
+use Rattle.jv_loader_world.specs.Numbers.{classes_at}
 use Rattle.jv_loader_lookups.specs.Inside.Numbers.{NumbersBelow, numbers_below, AreNumbersOf}
 use Rattle.jv_loader_lookups.proofs.Next.{those_at, those_named, with, without, none_left, added_class}
 use Rattle.jv_meaning_linking.specs.InitializationOrder.{interfaces_in, given_within}

@@ -6,7 +6,7 @@ use Rattle.jv_loader_world.specs.LookUps.{DeclaredField}
 use Rattle.jv_loader_lookups.specs.declared.place.Place.{Place}
 use Rattle.jv_loader_lookups.specs.Places.{field_at}
 use Rattle.jv_meaning_linking.specs.Kind.{is_static_field}
-use Rattle.jv_meaning_linking.specs.Layout.{Placed, placed, placed_from, width}
+use Rattle.jv_meaning_linking.specs.Layout.{Placed, laid_at, placed_from, field_words}
 use Rattle.jv_link_order.specs.declared.layout.PlacedField.{PlacedField}
 use Rattle.jv_link_order.specs.declared.layout.Layout.{Layout}
 
@@ -15,7 +15,7 @@ placed_field field word = record { field = field; word = word }
 
 -- the field at its place, with its first word
 abbrev pub placed_at : World → PlacedField → Option Placed
-placed_at world p = option_map (λ d. placed d p.word) (field_at world p.field)
+placed_at world p = option_map (λ d. laid_at d p.word) (field_at world p.field)
 
 abbrev pub known : Placed → Option Placed
 known p = Some p
@@ -23,7 +23,7 @@ known p = Some p
 -- The layout is that of these fields: each behind the words of those before it, and as many words as they have.
 pub record IsLaid (world : World) (layout : Layout) (fields : List DeclaredField) : Type 0 where
   pub fields_placed : map (placed_at world) layout.fields.items ≡ map known (placed_from 0 fields)
-  pub words : layout.words ≡ sum_by width fields
+  pub words : layout.words ≡ sum_by field_words fields
 
 -- a field, where it is an instance field
 abbrev pub own_field : DeclaredField → List DeclaredField

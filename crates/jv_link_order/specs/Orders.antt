@@ -1,7 +1,7 @@
 -- Orders of initialization as the code has them (JVMS 5.5).
 use Rattle.std.specs.Prelude.{◌≡◌, ℕ, List}
 use Rattle.jv_loader_world.specs.World.{Loaded, World}
-use Rattle.jv_loader_lookups.specs.Searched.{classes_at, AreNumbers}
+use Rattle.jv_loader_world.specs.Numbers.{classes_at, AreNumbers}
 use Rattle.jv_meaning_linking.specs.InitializationOrder.{init_order}
 
 -- they are the numbers of those that are initialized before a class, in their order

@@ -2,7 +2,7 @@
 
 ghost use Rattle.std.specs.Prelude.{◌≡◌, ◌<◌, IfOk, OnOk, length};
 ghost use Rattle.jv_loader_classes.specs.Inside.Told.{IsAt};
-ghost use Rattle.jv_loader_lookups.specs.Searched.{classes_at, AreNumbers};
+ghost use Rattle.jv_loader_world.specs.Numbers.{classes_at, AreNumbers};
 ghost use Rattle.jv_loader_lookups.specs.Inside.Numbers.{AreNumbersOf};
 ghost use Rattle.jv_meaning_linking.specs.InitializationOrder.{given_within, enumerated};
 

@@ -4,7 +4,7 @@ ghost use Rattle.std.specs.Prelude.{◌≡◌, ◌<◌, ◌++◌, ◌∷◌, [],
 ghost use Rattle.jv_loader_world.specs.Overriding.{Declared};
 ghost use Rattle.jv_loader_world.specs.Verdicts.{is_loadable};
 ghost use Rattle.jv_loader_classes.specs.Inside.Told.{IsAt};
-ghost use Rattle.jv_loader_lookups.specs.Searched.{classes_at, AreNumbers};
+ghost use Rattle.jv_loader_world.specs.Numbers.{classes_at, AreNumbers};
 ghost use Rattle.jv_loader_lookups.specs.Places.{method_at, IsMethodPlace};
 ghost use Rattle.jv_meaning_linking.specs.InitializationOrder.{is_default, declares_default};
 ghost use Rattle.jv_link_order.specs.Orders.{IsOrder};

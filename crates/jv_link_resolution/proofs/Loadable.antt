@@ -12,26 +12,14 @@ use Rattle.jv_loader_world.specs.Verdicts.{passes, each_super, have_right_kind, 
 use Rattle.jv_loader_classes.specs.Faults.{fault_of_supers}
 use Rattle.jv_meaning_linking.specs.LinkErrors.{LinkError}
 use Rattle.jv_meaning_linking.specs.ClassResolution.{loading_error, error_of_class}
+use Rattle.jv_meaning_linking.proofs.Loading.{verdict_by, right}
 
 -- ---- by the four tests and that of finals
-
-abbrev verdict_by : Bool → Bool → Bool → Bool → Bool → Option LoadVerdict
-verdict_by circular supers kind names final =
-    if circular then Some Circular else if not supers then Some NoSuper else if not kind then Some WrongKind else if not names then Some NoAccess
-    else if final then Some FinalBroken else None
 
 abbrev fault_by : Bool → Bool → Bool → Bool → Option LoadVerdict
 fault_by circular supers kind names =
     if circular then Some Circular else if not supers then Some NoSuper else if not kind then Some WrongKind else if not names then Some NoAccess
     else None
-
-right : (circular supers kind names final : Bool) → IsTrue (not circular && supers && kind && names) → option_and_then loading_error (verdict_by circular supers kind names final) ≡ None
-right true supers kind names final h = absurd cc
-right false false kind names final h = absurd cc
-right false true false names final h = absurd cc
-right false true true false final h = absurd cc
-right false true true true true h = refl
-right false true true true false h = refl
 
 without_finals : (circular supers kind names final : Bool) → option_and_then loading_error (fault_by circular supers kind names) ≡ option_and_then loading_error (verdict_by circular supers kind names final)
 without_finals true supers kind names final = refl

@@ -9,7 +9,7 @@ use Rattle.jv_text.specs.Types.{field_type_of, TypesAgree}
 use Rattle.jv_meaning_linking.specs.Operands.{through}
 use Rattle.jv_meaning_linking.specs.Operands.MethodConstant.{Methodref, InterfaceMethodref}
 use Rattle.std.specs.Borrow.{Bor}
-use Rattle.jv_text.specs.Seen.{seen_field}
+use Rattle.jv_text.specs.Seen.{seen_field_type}
 use Rattle.jv_loader_world.specs.World.{World, class_named}
 use Rattle.jv_meaning_linking.specs.ClassResolution.{ResolvedClass, member_class}
 use Rattle.jv_meaning_linking.specs.ClassResolution.ResolvedClass.{ArrayOf}
@@ -49,5 +49,5 @@ no_type agree text none = by_type (field_type_of text) refl
 pub array_means : (world : World) (found : ClassRef) (t : FieldTypeOf (Bor (List ℕ))) (r : ResolvedClass) → found ≡ refs.Array t → class_ref_at world found ≡ Some r → class_named world (codes "java/lang/Object") ≡ member_class world r
 array_means world found t r is e = ap (member_class world) (same (sym (ap (class_ref_at world) is) ∙ e))
   where
-    same : Some (ArrayOf (seen_field t)) ≡ Some r → ArrayOf (seen_field t) ≡ r
+    same : Some (ArrayOf (seen_field_type t)) ≡ Some r → ArrayOf (seen_field_type t) ≡ r
     same e = cc

@@ -2,7 +2,7 @@
 use Rattle.std.specs.Prelude.{◌<◌, length, Option, Some, Result, Ok, Err, slice_get}
 use Rattle.std.specs.Option.{option_map}
 use Rattle.jv_format.specs.Format.{◌>>=◌}
-use Rattle.jv_text.specs.Seen.{seen_field}
+use Rattle.jv_text.specs.Seen.{seen_field_type}
 use Rattle.jv_loader_world.specs.World.{World}
 use Rattle.jv_loader_lookups.specs.declared.place.Place.{Place}
 use Rattle.jv_loader_lookups.specs.Places.{method_at, IsMethodPlace}
@@ -22,16 +22,16 @@ use Rattle.jv_link_resolution.specs.declared.target.ClassRef.{ClassRef}
 use Rattle.jv_link_resolution.specs.declared.target.ClassRef.TheVariants as refs
 use Rattle.jv_link_resolution.specs.declared.target.MethodTarget.{MethodTarget}
 
-abbrev pub use_of : Use → UseOfNames
-use_of uses.Getstatic = Getstatic
-use_of uses.Putstatic = Putstatic
-use_of uses.Getfield = Getfield
-use_of uses.Putfield = Putfield
-use_of uses.Invokevirtual = Invokevirtual
-use_of uses.Invokespecial = Invokespecial
-use_of uses.Invokestatic = Invokestatic
-use_of uses.Invokeinterface = Invokeinterface
-use_of uses.New = New
+abbrev pub seen_use : Use → UseOfNames
+seen_use uses.Getstatic = Getstatic
+seen_use uses.Putstatic = Putstatic
+seen_use uses.Getfield = Getfield
+seen_use uses.Putfield = Putfield
+seen_use uses.Invokevirtual = Invokevirtual
+seen_use uses.Invokespecial = Invokespecial
+seen_use uses.Invokestatic = Invokestatic
+seen_use uses.Invokeinterface = Invokeinterface
+seen_use uses.New = New
 
 abbrev pub error_of : LinkError → ErrorOfNames
 error_of errors.NoClassDefFoundError = NoClassDefFoundError
@@ -50,8 +50,8 @@ abbrev pub place_of : Site → Place
 place_of site = record { class = site.class; member = site.method }
 
 -- the method at a site, with its class
-abbrev pub site_at : World → Site → Option SiteOfNames
-site_at world site = method_at world (place_of site)
+abbrev pub seen_site : World → Site → Option SiteOfNames
+seen_site world site = method_at world (place_of site)
 
 -- the site's class is in the world, and its method in the class
 abbrev pub IsSite : World → Site → Type 0
@@ -61,7 +61,7 @@ IsSite world site = IsMethodPlace world (place_of site)
 
 abbrev pub class_ref_at : World → ClassRef → Option ResolvedClass
 class_ref_at world (refs.Class number) = option_map ClassOf (slice_get world number)
-class_ref_at world (refs.Array type) = Some (ArrayOf (seen_field type))
+class_ref_at world (refs.Array type) = Some (ArrayOf (seen_field_type type))
 
 abbrev pub method_target_at : World → MethodTarget → Option TargetOfNames
 method_target_at world t = slice_get world t.named >>= λ l. option_map (target l) (method_at world t.declared)

@@ -2,7 +2,7 @@
 
 ghost use Rattle.std.specs.Prelude.{◌≡◌, ◌<◌, Some, IfOk, length, slice_get};
 ghost use Rattle.std.specs.Option.{ok_or, option_map, option_and_then};
-ghost use Rattle.jv_text.specs.Seen.{seen_element, seen_field};
+ghost use Rattle.jv_text.specs.Seen.{seen_element, seen_field_type};
 ghost use Rattle.jv_text.specs.Types.{field_type_of};
 ghost use Rattle.jv_loader_world.specs.World.{can_name};
 ghost use Rattle.jv_loader_classes.specs.Inside.Told.{IsAt};
@@ -10,7 +10,7 @@ ghost use Rattle.jv_meaning_linking.specs.Uses.{Site as SiteOfNames};
 ghost use Rattle.jv_meaning_linking.specs.LinkErrors.{OrError};
 ghost use Rattle.jv_meaning_linking.specs.ClassResolution.{ResolvedClass, loading_error, error_of_class, resolve_name, resolve_element, resolve_array, resolve_text, creatable, resolve_class, member_class};
 ghost use Rattle.jv_meaning_linking.specs.Access.{same_class};
-ghost use Rattle.jv_link_resolution.specs.Seen.{use_of, error_of, site_at, class_ref_at, answer_at, IsSite};
+ghost use Rattle.jv_link_resolution.specs.Seen.{seen_use, error_of, seen_site, class_ref_at, answer_at, IsSite};
 ghost use Rattle.jv_link_resolution.specs.Inside.Steps.{if_open, if_creatable, named_class, IsWithin, IsRefWithin};
 
 use crate::error::LinkError;
@@ -100,7 +100,7 @@ fn resolve_element<'n>(
     array: FieldType<'n>,
 ) -> Result<ClassRef<'n>, LinkError>
     requires { current < length table.now }
-    ensures found { IsAt table.now current (λ c. answer_at (class_ref_at table.now) result ≡ Some (resolve_element table.now c (seen_field array.entry) (seen_element array.entry.element))) }
+    ensures found { IsAt table.now current (λ c. answer_at (class_ref_at table.now) result ≡ Some (resolve_element table.now c (seen_field_type array.entry) (seen_element array.entry.element))) }
     ensures within { IfOk result (IsRefWithin table.now) }
 {
     if let Element::Class(name) = array.element {
@@ -181,7 +181,7 @@ fn resolve_in<'n>(
     text: &'n [u8],
 ) -> Result<ClassRef<'n>, LinkError>
     requires { current < length table.now }
-    ensures { (s : SiteOfNames) → slice_get table.now current ≡ Some s.by → answer_at (class_ref_at table.now) result ≡ Some (resolve_class table.now s (option_map use_of how) text.now) }
+    ensures { (s : SiteOfNames) → slice_get table.now current ≡ Some s.by → answer_at (class_ref_at table.now) result ≡ Some (resolve_class table.now s (option_map seen_use how) text.now) }
 {
     let found = resolve_text(table, current, text);
     match how {
@@ -203,7 +203,7 @@ pub fn resolve_class<'n>(
     text: &'n [u8],
 ) -> Result<ClassRef<'n>, LinkError>
     requires { IsSite classes.now.world site }
-    ensures { (s : SiteOfNames) → site_at classes.now.world site ≡ Some s → answer_at (class_ref_at classes.now.world) result ≡ Some (resolve_class classes.now.world s (option_map use_of how) text.now) }
+    ensures { (s : SiteOfNames) → seen_site classes.now.world site ≡ Some s → answer_at (class_ref_at classes.now.world) result ≡ Some (resolve_class classes.now.world s (option_map seen_use how) text.now) }
 {
     resolve_in(classes.table(), site.class, how, text)
 }

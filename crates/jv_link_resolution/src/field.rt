@@ -9,7 +9,7 @@ ghost use Rattle.jv_loader_lookups.specs.Places.{field_at, IsFieldPlace};
 ghost use Rattle.jv_meaning_linking.specs.Uses.{Site as SiteOfNames};
 ghost use Rattle.jv_meaning_linking.specs.Operands.{field_operand};
 ghost use Rattle.jv_meaning_linking.specs.FieldResolution.{found_field, field_from, resolved_field, resolve_field};
-ghost use Rattle.jv_link_resolution.specs.Seen.{use_of, site_at, answer_at, IsSite};
+ghost use Rattle.jv_link_resolution.specs.Seen.{seen_use, seen_site, answer_at, IsSite};
 ghost use Rattle.jv_link_resolution.specs.Inside.Steps.{accessible_field};
 
 use crate::access::can_access;
@@ -108,7 +108,7 @@ fn resolve_in(
     requires same { classes.now.world ≡ table.now }
     requires site { IsSite table.now site }
     requires index { IsAt table.now site.class (λ l. IsSome (field_operand l.class index)) }
-    ensures found { (s : SiteOfNames) (reference : MemberReference) → site_at table.now site ≡ Some s → field_operand s.by.class index ≡ Some reference → answer_at (field_at table.now) result ≡ Some (resolve_field table.now s (use_of how) reference) }
+    ensures found { (s : SiteOfNames) (reference : MemberReference) → seen_site table.now site ≡ Some s → field_operand s.by.class index ≡ Some reference → answer_at (field_at table.now) result ≡ Some (resolve_field table.now s (seen_use how) reference) }
     ensures place { IfOk result (IsFieldPlace table.now) }
 {
     let reference = field_name(table, site.class, index);
@@ -134,7 +134,7 @@ pub fn resolve_field(
 ) -> Result<Place, LinkError>
     requires site { IsSite classes.now.world site }
     requires index { IsAt classes.now.world site.class (λ l. IsSome (field_operand l.class index)) }
-    ensures found { (s : SiteOfNames) (reference : MemberReference) → site_at classes.now.world site ≡ Some s → field_operand s.by.class index ≡ Some reference → answer_at (field_at classes.now.world) result ≡ Some (resolve_field classes.now.world s (use_of how) reference) }
+    ensures found { (s : SiteOfNames) (reference : MemberReference) → seen_site classes.now.world site ≡ Some s → field_operand s.by.class index ≡ Some reference → answer_at (field_at classes.now.world) result ≡ Some (resolve_field classes.now.world s (seen_use how) reference) }
     ensures place { IfOk result (IsFieldPlace classes.now.world) }
 {
     resolve_in(classes.table(), classes, site, how, index)

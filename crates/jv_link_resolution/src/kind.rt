@@ -8,7 +8,7 @@ ghost use Rattle.jv_loader_lookups.specs.Places.{field_at, IsFieldPlace};
 ghost use Rattle.jv_meaning_linking.specs.Uses.{Site as SiteOfNames};
 ghost use Rattle.jv_meaning_linking.specs.Kind.{has_field_kind, can_set_final, can_use_final, has_method_kind};
 ghost use Rattle.jv_meaning_linking.specs.MethodResolution.{is_own_init, MethodTarget as TargetOfNames};
-ghost use Rattle.jv_link_resolution.specs.Seen.{use_of, site_at, method_target_at, answer_at, IsSite, IsMethodTarget};
+ghost use Rattle.jv_link_resolution.specs.Seen.{seen_use, seen_site, method_target_at, answer_at, IsSite, IsMethodTarget};
 ghost use Rattle.jv_link_resolution.specs.Inside.Steps.{usable_field, callable_method};
 
 use crate::class::same_class;
@@ -28,7 +28,7 @@ const STATIC_OR_PRIVATE: u16 = 0x000a;
 
 /// Whether an instruction uses a field of this kind, static or not.
 fn has_field_kind(how: Use, flags: u16) -> bool
-    ensures { (f : Field) → flags ≡ f.access_flags → result ≡ has_field_kind (use_of how) f }
+    ensures { (f : Field) → flags ≡ f.access_flags → result ≡ has_field_kind (seen_use how) f }
 {
     match how {
         Use::Getstatic | Use::Putstatic => flags & STATIC != 0,
@@ -39,7 +39,7 @@ fn has_field_kind(how: Use, flags: u16) -> bool
 
 /// Whether an instruction calls a method of this kind.
 fn has_method_kind(how: Use, flags: u16) -> bool
-    ensures { (m : Method) → flags ≡ m.access_flags → result ≡ has_method_kind (use_of how) m }
+    ensures { (m : Method) → flags ≡ m.access_flags → result ≡ has_method_kind (seen_use how) m }
 {
     match how {
         Use::Invokestatic => flags & STATIC != 0,
@@ -59,7 +59,7 @@ fn is_clinit(name: &[u8]) -> bool
 /// The name of the method at a site.
 fn name_at<'a>(table: &ClassTable<'a>, site: Site) -> &'a [u8]
     requires { IsSite table.now site }
-    ensures { (s : SiteOfNames) → site_at table.now site ≡ Some s → result.now ≡ s.method.name }
+    ensures { (s : SiteOfNames) → seen_site table.now site ≡ Some s → result.now ≡ s.method.name }
 {
     let place = Place {
         class: site.class,
@@ -73,7 +73,7 @@ fn name_at<'a>(table: &ClassTable<'a>, site: Site) -> &'a [u8]
 fn can_set_final(table: &ClassTable<'_>, how: Use, site: Site, by: usize) -> bool
     requires site { IsSite table.now site }
     requires by { by < length table.now }
-    ensures { (s : SiteOfNames) (d : DeclaredField) → site_at table.now site ≡ Some s → slice_get table.now site.class ≡ Some s.by → slice_get table.now by ≡ Some d.by → result ≡ can_set_final (use_of how) s d }
+    ensures { (s : SiteOfNames) (d : DeclaredField) → seen_site table.now site ≡ Some s → slice_get table.now site.class ≡ Some s.by → slice_get table.now by ≡ Some d.by → result ≡ can_set_final (seen_use how) s d }
 {
     match how {
         Use::Putfield => is_init(name_at(table, site)) && same_class(table, site.class, by),
@@ -86,7 +86,7 @@ fn can_set_final(table: &ClassTable<'_>, how: Use, site: Site, by: usize) -> boo
 fn can_use_final(table: &ClassTable<'_>, how: Use, site: Site, by: usize, flags: u16) -> bool
     requires site { IsSite table.now site }
     requires by { by < length table.now }
-    ensures { (s : SiteOfNames) (d : DeclaredField) → site_at table.now site ≡ Some s → slice_get table.now site.class ≡ Some s.by → slice_get table.now by ≡ Some d.by → flags ≡ d.field.access_flags → result ≡ can_use_final (use_of how) s d }
+    ensures { (s : SiteOfNames) (d : DeclaredField) → seen_site table.now site ≡ Some s → slice_get table.now site.class ≡ Some s.by → slice_get table.now by ≡ Some d.by → flags ≡ d.field.access_flags → result ≡ can_use_final (seen_use how) s d }
 {
     flags & FINAL == 0 || can_set_final(table, how, site, by)
 }
@@ -100,7 +100,7 @@ pub(crate) fn usable_field(
 ) -> Result<Place, LinkError>
     requires site { IsSite table.now site }
     requires place { IsFieldPlace table.now place }
-    ensures found { (s : SiteOfNames) (d : DeclaredField) → site_at table.now site ≡ Some s → slice_get table.now site.class ≡ Some s.by → field_at table.now place ≡ Some d → slice_get table.now place.class ≡ Some d.by → answer_at (field_at table.now) result ≡ Some (usable_field (use_of how) s d) }
+    ensures found { (s : SiteOfNames) (d : DeclaredField) → seen_site table.now site ≡ Some s → slice_get table.now site.class ≡ Some s.by → field_at table.now place ≡ Some d → slice_get table.now place.class ≡ Some d.by → answer_at (field_at table.now) result ≡ Some (usable_field (seen_use how) s d) }
     ensures place { IfOk result (IsFieldPlace table.now) }
 {
     let field = field_at(table, place);
@@ -116,7 +116,7 @@ pub(crate) fn usable_field(
 /// Whether the named class declares an `<init>` itself that invokespecial calls.
 fn is_own_init(table: &ClassTable<'_>, how: Use, target: MethodTarget, name: &[u8]) -> bool
     requires { IsMethodTarget table.now target }
-    ensures { (t : TargetOfNames) → slice_get table.now target.named ≡ Some t.named → slice_get table.now target.declared.class ≡ Some t.declared.by → name.now ≡ t.declared.method.name → result ≡ is_own_init (use_of how) t }
+    ensures { (t : TargetOfNames) → slice_get table.now target.named ≡ Some t.named → slice_get table.now target.declared.class ≡ Some t.declared.by → name.now ≡ t.declared.method.name → result ≡ is_own_init (seen_use how) t }
 {
     match how {
         Use::Invokespecial => {
@@ -133,7 +133,7 @@ pub(crate) fn callable_method(
     target: MethodTarget,
 ) -> Result<MethodTarget, LinkError>
     requires { IsMethodTarget table.now target }
-    ensures found { (t : TargetOfNames) → method_target_at table.now target ≡ Some t → answer_at (method_target_at table.now) result ≡ Some (callable_method (use_of how) t) }
+    ensures found { (t : TargetOfNames) → method_target_at table.now target ≡ Some t → answer_at (method_target_at table.now) result ≡ Some (callable_method (seen_use how) t) }
     ensures target { IfOk result (IsMethodTarget table.now) }
 {
     let method = method_at(table, target.declared);

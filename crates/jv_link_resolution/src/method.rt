@@ -8,7 +8,7 @@ ghost use Rattle.jv_loader_lookups.specs.Places.{method_at, IsMethodPlace};
 ghost use Rattle.jv_meaning_linking.specs.Uses.{Site as SiteOfNames};
 ghost use Rattle.jv_meaning_linking.specs.Operands.{MethodReference, method_operand};
 ghost use Rattle.jv_meaning_linking.specs.MethodResolution.{names_its_kind, method_from, resolved_method, resolve_method};
-ghost use Rattle.jv_link_resolution.specs.Seen.{use_of, site_at, method_target_at, answer_at, IsSite, IsMethodTarget};
+ghost use Rattle.jv_link_resolution.specs.Seen.{seen_use, seen_site, method_target_at, answer_at, IsSite, IsMethodTarget};
 ghost use Rattle.jv_link_resolution.specs.Inside.References.{constant_of, reference_of};
 ghost use Rattle.jv_link_resolution.specs.Inside.Steps.{looked_up, accessible_method};
 
@@ -134,7 +134,7 @@ fn resolve_in(
     requires same { classes.now.world ≡ table.now }
     requires site { IsSite table.now site }
     requires index { IsAt table.now site.class (λ l. IsSome (method_operand l.class index)) }
-    ensures found { (s : SiteOfNames) (reference : MethodReference) → site_at table.now site ≡ Some s → method_operand s.by.class index ≡ Some reference → answer_at (method_target_at table.now) result ≡ Some (resolve_method table.now s (use_of how) reference) }
+    ensures found { (s : SiteOfNames) (reference : MethodReference) → seen_site table.now site ≡ Some s → method_operand s.by.class index ≡ Some reference → answer_at (method_target_at table.now) result ≡ Some (resolve_method table.now s (seen_use how) reference) }
     ensures target { IfOk result (IsMethodTarget table.now) }
 {
     let reference = method_name(table, site.class, index);
@@ -160,7 +160,7 @@ pub fn resolve_method(
 ) -> Result<MethodTarget, LinkError>
     requires site { IsSite classes.now.world site }
     requires index { IsAt classes.now.world site.class (λ l. IsSome (method_operand l.class index)) }
-    ensures found { (s : SiteOfNames) (reference : MethodReference) → site_at classes.now.world site ≡ Some s → method_operand s.by.class index ≡ Some reference → answer_at (method_target_at classes.now.world) result ≡ Some (resolve_method classes.now.world s (use_of how) reference) }
+    ensures found { (s : SiteOfNames) (reference : MethodReference) → seen_site classes.now.world site ≡ Some s → method_operand s.by.class index ≡ Some reference → answer_at (method_target_at classes.now.world) result ≡ Some (resolve_method classes.now.world s (seen_use how) reference) }
     ensures target { IfOk result (IsMethodTarget classes.now.world) }
 {
     resolve_in(classes.table(), classes, site, how, index)

@@ -11,7 +11,7 @@ use Rattle.jv_loader_world.specs.World.{Loaded, World}
 use Rattle.jv_loader_world.specs.Above.{above, is_above, is_circular, superclass_in, chain_within, superclasses}
 use Rattle.jv_loader_world.specs.Laws.{AboveByWays, AboveIsTransitive}
 use Rattle.jv_loader_world.specs.Overriding.{Declared, is_instance, overrides_itself, declared_if, alike_in, with_declared, overriding}
-use Rattle.jv_loader_world.specs.LookUps.{first_found, else_option, passing}
+use Rattle.jv_loader_world.specs.LookUps.{first_found, else_option, method_if}
 use Rattle.jv_loader.specs.Straight.{IsStraight}
 use Rattle.jv_meaning_linking.specs.Access.{same_class}
 use Rattle.jv_meaning_linking.specs.Selection.{are_alike, classes_below, has_overriding, overrides, overriding_in, first_overriding}
@@ -266,7 +266,7 @@ module _ (world : World) (e : Declared) where
                 by_test true g = absurd (clash (is_circular world c.class) (ap (λ n. is_above world n c.class) (sym (same_text e.by.class.name c.class.name f)) ∙ g) straight)
         by_same d false f at = by_below d (below c) at refl f
 
-        by_alike : (o : Option Declared) → alike_in c e.method ≡ o → passing (λ d. overrides world d e) o ≡ hit opened (met_in world e c o)
+        by_alike : (o : Option Declared) → alike_in c e.method ≡ o → method_if (λ d. overrides world d e) o ≡ hit opened (met_in world e c o)
         by_alike None f = refl
         by_alike (Some d) f =
             let is = alike c e.method d f in
@@ -289,7 +289,7 @@ module _ (world : World) (e : Declared) where
       never true = refl
       never false = refl
 
-      by_alike : (o : Option Declared) → passing (λ d. overrides world d e) o ≡ None
+      by_alike : (o : Option Declared) → method_if (λ d. overrides world d e) o ≡ None
       by_alike None = refl
       by_alike (Some d) =
           ap (λ b. if is_instance d.method && b && bytes_eq d.method.name e.method.name && bytes_eq d.method.descriptor e.method.descriptor && has_overriding world d.by e then Some d else None) unable

@@ -4,7 +4,7 @@ use Rattle.std.specs.Prelude.{IfSome, slice_get, if◌then◌else◌}
 use Rattle.std.specs.List.{list_any}
 use Rattle.std.specs.Option.{option_and_then}
 use Rattle.jv_format.specs.Format.{◌>>=◌}
-use Rattle.jv_loader_tables.specs.Ways.{IsBelow}
+use Rattle.jv_loader_tables.specs.Ways.{IsBelowSize}
 use Rattle.jv_loader_world.specs.World.{Loaded, World}
 use Rattle.jv_loader_world.specs.Above.{superclass_in, superclasses}
 use Rattle.jv_loader_world.specs.Laws.{AboveByWays, AboveIsTransitive}
@@ -75,20 +75,20 @@ module _ (ways : AboveByWays) (above_above : AboveIsTransitive) (world : World) 
   next_straight k c next at is straight = λ s e.
       super_is_straight ways above_above world c s (straight c at) (sym (ap (λ n. n >>= slice_get world) (is c at) ∙ at_superclass world c.class) ∙ e)
 
-pub next_below : (world : World) (k : ℕ) (c : Loaded) (next : Option ℕ) → slice_get world k ≡ Some c → IsAt world k (λ l. next ≡ superclass_number world l.class) → IsBelow (length world) next
-next_below world k c next at is = subst (IsBelow (length world)) (sym (is c at)) (superclass_below world c.class.super_class)
+pub next_below : (world : World) (k : ℕ) (c : Loaded) (next : Option ℕ) → slice_get world k ≡ Some c → IsAt world k (λ l. next ≡ superclass_number world l.class) → IsBelowSize (length world) next
+next_below world k c next at is = subst (IsBelowSize (length world)) (sym (is c at)) (superclass_below world c.class.super_class)
 
 -- ---- loops
 
 -- nothing was run so far: what is run of the rest is what is run of all
 pub record Climbs (world : World) (from : ℕ) (called : Place) (next : Option ℕ) : Type 0 where
-  pub below : IsBelow (length world) next
+  pub below : IsBelowSize (length world) next
   pub straight : IsStraightAt world next
   pub rest : IsAt world from (λ l. (e : Declared) → method_at world called ≡ Some e → run_of (met_upward world e (numbered world next)) ≡ run_of (met_upward world e (Some l)))
 
 -- one waits
 pub record Waits (world : World) (called waits : Place) (first next : Option ℕ) (sure : Option Place) : Type 0 where
-  pub below : IsBelow (length world) next
+  pub below : IsBelowSize (length world) next
   pub straight : IsStraightAt world next
   pub place : IfSome sure (IsMethodPlace world)
   pub rest : (e w : Declared) → method_at world called ≡ Some e → method_at world waits ≡ Some w
@@ -166,7 +166,7 @@ module _ (ways : AboveByWays) (above_above : AboveIsTransitive) (world : World) 
       sym (run_far d (met_upward world e (numbered world next)))
       ∙ (ap (λ m. run_of (m ∷ met_upward world e (numbered world next))) (sym met) ∙ (ap run_of (sym (met_next e k c next at is h.straight)) ∙ h.rest l at_l e at_e))
 
-pub waits_start : (world : World) (called waits : Place) (first : Option ℕ) → IsBelow (length world) first → IsStraightAt world first → Waits world called waits first first None
+pub waits_start : (world : World) (called waits : Place) (first : Option ℕ) → IsBelowSize (length world) first → IsStraightAt world first → Waits world called waits first first None
 waits_start world called waits first below straight = record { below = below; straight = straight; place = tt; rest = λ e w at_e at_w. refl }
 
 pub waits_end : (world : World) (called waits : Place) (first : Option ℕ) (sure : Option Place) (e w : Declared) → method_at world called ≡ Some e → method_at world waits ≡ Some w → Waits world called waits first None sure

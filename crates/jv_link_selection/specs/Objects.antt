@@ -6,8 +6,8 @@ use Rattle.jv_loader_world.specs.Verdicts.{is_loadable}
 use Rattle.jv_loader_classes.specs.Inside.Told.{IsAt}
 
 -- its class, none for an array
-abbrev pub object_at : World → Option ℕ → Option Loaded
-object_at world object = object >>= slice_get world
+abbrev pub object_class_at : World → Option ℕ → Option Loaded
+object_class_at world object = object >>= slice_get world
 
 -- the number is that of a class that can be loaded
 pub record IsLoadableAt (world : World) (number : ℕ) : Type 0 where

@@ -2,7 +2,7 @@
 
 ghost use Rattle.std.specs.Prelude.{◌≡◌, ◌<◌, Some, None, IfSome, length};
 ghost use Rattle.std.specs.Option.{option_and_then};
-ghost use Rattle.jv_loader_tables.specs.Ways.{IsBelow};
+ghost use Rattle.jv_loader_tables.specs.Ways.{IsBelowSize};
 ghost use Rattle.jv_loader_world.specs.World.{World};
 ghost use Rattle.jv_loader_world.specs.Overriding.{Declared};
 ghost use Rattle.jv_loader_classes.specs.Inside.Told.{IsAt};
@@ -45,7 +45,7 @@ fn settle(
     called: Place,
     waits: Place,
 ) -> Option<Place>
-    requires first { IsBelow (length table.now) first }
+    requires first { IsBelowSize (length table.now) first }
     requires straight { IsStraightAt table.now first }
     requires called { IsMethodPlace table.now called }
     requires waits { IsMethodPlace table.now waits }

@@ -8,8 +8,8 @@ ghost use Rattle.jv_loader.specs.Straight.{AreStraight, IsStraight};
 ghost use Rattle.jv_meaning_linking.specs.Uses.{Site as SiteOfNames};
 ghost use Rattle.jv_meaning_linking.specs.MethodResolution.{MethodTarget as TargetOfNames};
 ghost use Rattle.jv_meaning_linking.specs.Selection.{object_class, implements, select_virtual, select_interface, selected, select};
-ghost use Rattle.jv_link_resolution.specs.Seen.{use_of, site_at, method_target_at, answer_at, IsSite, IsMethodTarget};
-ghost use Rattle.jv_link_selection.specs.Objects.{object_at, IsObject};
+ghost use Rattle.jv_link_resolution.specs.Seen.{seen_use, seen_site, method_target_at, answer_at, IsSite, IsMethodTarget};
+ghost use Rattle.jv_link_selection.specs.Objects.{object_class_at, IsObject};
 ghost use Rattle.jv_link_selection.specs.Inside.Called.{virtual_of, interface_of};
 
 use crate::chain::first_alike;
@@ -23,7 +23,7 @@ use jv_loader::{ClassTable, Classes, Place};
 fn object_class(table: &ClassTable<'_>, object: Option<usize>) -> Result<usize, LinkError>
     requires straight { AreStraight table.now }
     requires object { IsObject table.now object }
-    ensures found { answer_at (slice_get table.now) result ≡ Some (object_class table.now (object_at table.now object)) }
+    ensures found { answer_at (slice_get table.now) result ≡ Some (object_class table.now (object_class_at table.now object)) }
     ensures within { IfOk result (λ class. class < length table.now) }
     ensures straight { IfOk result (λ class. IsAt table.now class (IsStraight table.now)) }
 {
@@ -75,7 +75,7 @@ fn select_interface(
 fn implements(table: &ClassTable<'_>, object: Option<usize>, interface: usize) -> bool
     requires object { IsObject table.now object }
     requires interface { interface < length table.now }
-    ensures { IsAt table.now interface (λ i. result ≡ implements table.now (object_at table.now object) i) }
+    ensures { IsAt table.now interface (λ i. result ≡ implements table.now (object_class_at table.now object) i) }
 {
     match object {
         Some(class) => table.is_above(interface, class),
@@ -97,7 +97,7 @@ fn virtual_of(
     requires straight { AreStraight table.now }
     requires object { IsObject table.now object }
     requires called { IsMethodPlace table.now called }
-    ensures found { (e : Declared) → method_at table.now called ≡ Some e → answer_at (method_at table.now) result ≡ Some (virtual_of table.now e (object_at table.now object)) }
+    ensures found { (e : Declared) → method_at table.now called ≡ Some e → answer_at (method_at table.now) result ≡ Some (virtual_of table.now e (object_class_at table.now object)) }
     ensures place { IfOk result (IsMethodPlace table.now) }
 {
     match object_class(table, object) {
@@ -117,7 +117,7 @@ fn interface_of(
     requires straight { AreStraight table.now }
     requires object { IsObject table.now object }
     requires target { IsMethodTarget table.now target.now }
-    ensures found { (t : TargetOfNames) → slice_get table.now target.now.named ≡ Some t.named → method_at table.now target.now.declared ≡ Some t.declared → answer_at (method_at table.now) result ≡ Some (interface_of table.now t (object_at table.now object)) }
+    ensures found { (t : TargetOfNames) → slice_get table.now target.now.named ≡ Some t.named → method_at table.now target.now.declared ≡ Some t.declared → answer_at (method_at table.now) result ≡ Some (interface_of table.now t (object_class_at table.now object)) }
     ensures place { IfOk result (IsMethodPlace table.now) }
 {
     if !implements(table, object, target.named) {
@@ -143,7 +143,7 @@ fn selected(
     requires current { current < length table.now }
     requires target { IsMethodTarget table.now target.now }
     requires object { IsObject table.now object }
-    ensures found { (s : SiteOfNames) (t : TargetOfNames) → slice_get table.now current ≡ Some s.by → slice_get table.now target.now.named ≡ Some t.named → method_at table.now target.now.declared ≡ Some t.declared → answer_at (method_at table.now) result ≡ Some (selected table.now s (use_of how) t (object_at table.now object)) }
+    ensures found { (s : SiteOfNames) (t : TargetOfNames) → slice_get table.now current ≡ Some s.by → slice_get table.now target.now.named ≡ Some t.named → method_at table.now target.now.declared ≡ Some t.declared → answer_at (method_at table.now) result ≡ Some (selected table.now s (seen_use how) t (object_class_at table.now object)) }
     ensures place { IfOk result (IsMethodPlace table.now) }
 {
     match how {
@@ -168,7 +168,7 @@ fn select_in(
     requires site { IsSite table.now site }
     requires target { IsMethodTarget table.now target.now }
     requires object { IsObject table.now object }
-    ensures found { (s : SiteOfNames) (t : TargetOfNames) → site_at table.now site ≡ Some s → method_target_at table.now target.now ≡ Some t → answer_at (method_target_at table.now) result ≡ Some (select table.now s (use_of how) t (object_at table.now object)) }
+    ensures found { (s : SiteOfNames) (t : TargetOfNames) → seen_site table.now site ≡ Some s → method_target_at table.now target.now ≡ Some t → answer_at (method_target_at table.now) result ≡ Some (select table.now s (seen_use how) t (object_class_at table.now object)) }
     ensures target { IfOk result (IsMethodTarget table.now) }
 {
     match selected(table, classes, site.class, how, target, object) {
@@ -198,7 +198,7 @@ pub fn select(
     requires site { IsSite classes.now.world site }
     requires target { IsMethodTarget classes.now.world target.now }
     requires object { IsObject classes.now.world object }
-    ensures found { (s : SiteOfNames) (t : TargetOfNames) → site_at classes.now.world site ≡ Some s → method_target_at classes.now.world target.now ≡ Some t → answer_at (method_target_at classes.now.world) result ≡ Some (select classes.now.world s (use_of how) t (object_at classes.now.world object)) }
+    ensures found { (s : SiteOfNames) (t : TargetOfNames) → seen_site classes.now.world site ≡ Some s → method_target_at classes.now.world target.now ≡ Some t → answer_at (method_target_at classes.now.world) result ≡ Some (select classes.now.world s (seen_use how) t (object_class_at classes.now.world object)) }
     ensures target { IfOk result (IsMethodTarget classes.now.world) }
 {
     classes.are_straight();

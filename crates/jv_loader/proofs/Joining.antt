@@ -15,7 +15,7 @@ use Rattle.jv_loader_files.specs.FileContent.{FileContent}
 use Rattle.jv_loader_files.specs.declared.content.Content.TheVariants.{OtherVersion, NoClassFile, MoreThanProfile, Holds}
 use Rattle.jv_loader_system.specs.SystemClasses.{system_classes}
 use Rattle.jv_loader_world.specs.declared.verdict.LoadVerdict.TheVariants.{Reserved, Duplicate}
-use Rattle.jv_loader_world.specs.World.{Loaded, World, loaded, is_reserved, has_class, joined, joined_all, classes_in, world_of}
+use Rattle.jv_loader_world.specs.World.{Loaded, World, loaded, is_reserved, has_class, with_class_of, joined_all, classes_in, world_of}
 use Rattle.jv_loader_world.specs.Verdicts.{verdict_of_class, verdict_behind, load_verdict}
 use Rattle.jv_loader_classes.specs.Numbers.{number_named}
 use Rattle.jv_loader_world.proofs.Up.{same_name}
@@ -75,7 +75,7 @@ more_guests : (classes : List Class) (class : Class) → guests classes ++ loade
 unfolding guests
 more_guests classes class = append_assoc system_world (map (loaded false) classes) (loaded false class ∷ []) ∙ ap (λ ls. system_world ++ ls) (sym (map-append (loaded false) classes (class ∷ [])))
 
-file_joins : (classes : List Class) (file : FileContent) → with_file (guests classes) file ≡ guests (joined classes file)
+file_joins : (classes : List Class) (file : FileContent) → with_file (guests classes) file ≡ guests (with_class_of classes file)
 file_joins classes OtherVersion = refl
 file_joins classes NoClassFile = refl
 file_joins classes MoreThanProfile = refl
@@ -92,7 +92,7 @@ file_joins classes (Holds class) = by_reserved (is_reserved class.name) refl
 
 files_join : (classes : List Class) (files : List FileContent) → with_files (guests classes) files ≡ guests (joined_all classes files)
 files_join classes [] = refl
-files_join classes (file ∷ files) = ap (λ w. with_files w files) (file_joins classes file) ∙ files_join (joined classes file) files
+files_join classes (file ∷ files) = ap (λ w. with_files w files) (file_joins classes file) ∙ files_join (with_class_of classes file) files
 
 no_guests : guests [] ≡ system_world
 unfolding guests
@@ -158,9 +158,9 @@ one_verdict earlier (Holds class) all grows = by_reserved (is_reserved class.nam
         ap (λ b. verdict_of_entry all (cond b (Err Duplicate) (Ok (length (guests (classes_in earlier)))))) same
         ∙ by_taken (has_class (classes_in earlier) class.name) (subst (λ b. Grows (cond b (guests (classes_in earlier)) (guests (classes_in earlier) ++ loaded false class ∷ [])) all) same grows)
 
-one_more : (classes : List Class) (earlier : List FileContent) (file : FileContent) → joined_all classes (earlier ++ file ∷ []) ≡ joined (joined_all classes earlier) file
+one_more : (classes : List Class) (earlier : List FileContent) (file : FileContent) → joined_all classes (earlier ++ file ∷ []) ≡ with_class_of (joined_all classes earlier) file
 one_more classes [] file = refl
-one_more classes (f ∷ earlier) file = one_more (joined classes f) earlier file
+one_more classes (f ∷ earlier) file = one_more (with_class_of classes f) earlier file
 
 next_guests : (earlier : List FileContent) (file : FileContent) → with_file (guests (classes_in earlier)) file ≡ guests (classes_in (earlier ++ file ∷ []))
 next_guests earlier file = file_joins (classes_in earlier) file ∙ ap guests (sym (one_more [] earlier file))

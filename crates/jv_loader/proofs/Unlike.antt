@@ -14,7 +14,7 @@ use Rattle.jv_loader_world.proofs.Up.{none, first, later, single, above_by_ways}
 use Rattle.jv_loader_world.proofs.Standing.{named_super}
 use Rattle.jv_loader_classes.proofs.Ways.{any_if}
 use Rattle.jv_loader_finals.specs.Finals.{have_other_names, AreUnlike}
-use Rattle.jv_loader_finals.specs.Classes.{classes_at}
+use Rattle.jv_loader_world.specs.Numbers.{classes_at}
 
 super_there : (world : World) (interfaces : List (List ℕ)) (name : Option (List ℕ)) (t : Loaded) → class_if_named world name ≡ Some t → Contains (filter_map (class_named world) (superclass_names name ++ interfaces)) t
 super_there world interfaces None t e = absurd cc

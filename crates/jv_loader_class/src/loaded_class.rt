@@ -7,7 +7,7 @@ ghost use Rattle.jv_loader_world.specs.of_class_parts.Flags.{has, acc_final};
 ghost use Rattle.jv_loader_world.specs.of_class.Class.{class_of, field_named, method_named};
 ghost use Rattle.jv_loader_world.specs.of_class.Rules.{is_no_array_name};
 ghost use Rattle.jv_loader_system.specs.Io.{io};
-ghost use Rattle.jv_loader_world.specs.World.{loaded, same_package, can_name};
+ghost use Rattle.jv_loader_world.specs.World.{package_of, loaded, same_package, can_name};
 ghost use Rattle.jv_loader_world.specs.Verdicts.{is_interface};
 ghost use Rattle.jv_loader_class.specs.Members.{IsField, IsMethod};
 
@@ -222,12 +222,18 @@ impl<'a> LoadedClass<'a> {
         self.access_flags() & FINAL != 0
     }
 
+    /// The name of the class's package, nothing where it has none (JVMS 4.2.1).
+    pub fn package(&self) -> &'a [u8]
+        ensures { result.now ≡ package_of self.now.class.name }
+    {
+        package(self.name())
+    }
+
     /// Whether two classes are in one run-time package (JVMS 5.3).
     pub fn same_package(&self, other: &LoadedClass<'_>) -> bool
         ensures { result ≡ same_package self.now other.now }
     {
-        is_same_loader(self.by_system(), other.by_system())
-            && package(self.name()) == package(other.name())
+        is_same_loader(self.by_system(), other.by_system()) && self.package() == other.package()
     }
 
     /// Whether the class can name another, which is public or in its run-time package (JVMS 5.4.4).

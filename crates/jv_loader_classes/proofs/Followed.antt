@@ -6,7 +6,7 @@ use Rattle.std.proofs.lemmas.List.Elements.{All-append}
 use Rattle.std.proofs.lemmas.Option.{slice_get-get_or}
 use Rattle.jv_format.specs.Format.{◌>>=◌}
 use Rattle.jv_loader_class.specs.of_class.Class.{Class}
-use Rattle.jv_loader_tables.specs.Ways.{IsBelow}
+use Rattle.jv_loader_tables.specs.Ways.{IsBelowSize}
 use Rattle.jv_loader_class.specs.of_loader_world.World.{Loaded, World, class_named}
 use Rattle.jv_loader_class.specs.of_loader_world.Above.{superclass_in, class_if_named, chain_within, superclasses}
 use Rattle.jv_loader_class.specs.of_loader_world.Verdicts.{passes}
@@ -56,13 +56,13 @@ at_superclass world class = at_superclass_named world class.super_class
 -- ---- the chain
 
 pub record HasFollowed (world : World) (number : ℕ) (chain : List ℕ) (left : ℕ) (next : Option ℕ) : Type 0 where
-  pub below : IsBelow (length world) next
+  pub below : IsBelowSize (length world) next
   pub numbers : All (λ k. k < length world) chain
   pub followed : IsAt world number (λ l. superclasses world l.class ≡ filter_map (slice_get world) chain ++ chain_within world left (next >>= slice_get world))
 
 pub follow_start : (world : World) (number : ℕ) (next : Option ℕ) → IsAt world number (λ l. next ≡ superclass_number world l.class) → (l : Loaded) → slice_get world number ≡ Some l → HasFollowed world number [] (length world) next
 follow_start world number next is l at = record {
-  below = subst (IsBelow (length world)) (sym (is l at)) (superclass_below world l.class.super_class);
+  below = subst (IsBelowSize (length world)) (sym (is l at)) (superclass_below world l.class.super_class);
   numbers = λ k d h. absurd (omega (arith, h));
   followed = λ m at_m. ap (chain_within world (length world)) (sym (ap (λ n. n >>= slice_get world) (is m at_m) ∙ at_superclass world m.class));
 }
@@ -79,7 +79,7 @@ found_more world (n ∷ chain) k s e = by_class (slice_get world n) (found_more 
 pub follow_step : (world : World) (number : ℕ) (chain : List ℕ) (left : ℕ) (k : ℕ) (next : Option ℕ) (s : Loaded) → slice_get world k ≡ Some s → k < length world → IsAt world k (λ m. next ≡ superclass_number world m.class)
     → HasFollowed world number chain (suc left) (Some k) → HasFollowed world number (chain ++ k ∷ []) left next
 follow_step world number chain left k next s at less is h = record {
-  below = subst (IsBelow (length world)) (sym (is s at)) (superclass_below world s.class.super_class);
+  below = subst (IsBelowSize (length world)) (sym (is s at)) (superclass_below world s.class.super_class);
   numbers = All-append (λ j. j < length world) chain (k ∷ []) h.numbers (λ j d within. by_place j d within);
   followed = λ l at_l.
       h.followed l at_l

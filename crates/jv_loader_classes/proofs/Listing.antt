@@ -8,6 +8,7 @@ use Rattle.std.specs.Cmp.Lexicographic.{nat_list_eq_equiv}
 use Rattle.std.proofs.lemmas.List.{length-map, map-append}
 use Rattle.std.proofs.lemmas.List.Recursion.{is_position_or_len}
 use Rattle.jv_loader_tables.specs.Names.{with_name}
+use Rattle.jv_loader_tables.proofs.Pushed.{in_two_parts}
 use Rattle.jv_loader_class.specs.of_class.Rules.{is_no_array_name}
 use Rattle.jv_loader_class.specs.of_loader_world.World.{Loaded}
 use Rattle.jv_loader_classes.specs.Numbers.{number_named, IsNumbered, AreNoArrays}
@@ -84,23 +85,6 @@ pub new_name : (ls : List Loaded) (c : Loaded) → number_named ls c.class.name 
 new_name ls c none =
     ap (λ b. cond b (names_of ls) (names_of ls ++ c.class.name ∷ [])) (none_passes (bytes_eq c.class.name) (names_of ls) (number_of_name ls c.class.name ∙ none))
     ∙ sym (map-append name_of ls (c ∷ []))
-
-in_two_parts : {X : Type 0} → (xs : List X) (y z : X) (k : ℕ) → slice_get (xs ++ y ∷ []) k ≡ Some z → (slice_get xs k ≡ Some z) ⊎ ((k ≡ length xs) × (y ≡ z))
-in_two_parts [] y z zero e = inr (refl, same e)
-  where
-    same : Some y ≡ Some z → y ≡ z
-    same e = cc
-in_two_parts [] y z (suc k) e = absurd (past k e)
-  where
-    past : (k : ℕ) → slice_get [] k ≡ Some z → ⊥
-    past zero e = absurd cc
-    past (suc k) e = absurd cc
-in_two_parts (x ∷ xs) y z zero e = inl e
-in_two_parts (x ∷ xs) y z (suc k) e = by_part (in_two_parts xs y z k e)
-  where
-    by_part : (slice_get xs k ≡ Some z) ⊎ ((k ≡ length xs) × (y ≡ z)) → (slice_get xs k ≡ Some z) ⊎ ((suc k ≡ suc (length xs)) × (y ≡ z))
-    by_part (inl e) = inl e
-    by_part (inr h) = inr (ap suc h.0, h.1)
 
 pub numbered_more : (ls : List Loaded) (c : Loaded) → number_named ls c.class.name ≡ None → IsNumbered ls → IsNumbered (ls ++ c ∷ [])
 numbered_more ls c none numbers place l e = by_part (in_two_parts ls c l place e)

@@ -8,7 +8,7 @@ use Rattle.std.proofs.lemmas.List.{length-map, get_or-map}
 use Rattle.std.proofs.lemmas.List.Elements.{Contains-append_cases, All-cons}
 use Rattle.std.proofs.lemmas.Option.{slice_get-get_or}
 use Rattle.jv_format.specs.Format.{◌>>=◌}
-use Rattle.jv_loader_tables.specs.Ways.{Rows, related, IsBelow, is_there}
+use Rattle.jv_loader_tables.specs.Ways.{Rows, related, IsBelowSize, is_there}
 use Rattle.jv_loader_class.specs.of_loader_world.World.{Loaded, World, class_named}
 use Rattle.jv_loader_class.specs.of_loader_world.Above.{super_names, class_if_named}
 use Rattle.jv_loader_class.proofs.laws_of_loader_world.Up.{none, first, later, single, same_name, found_super}
@@ -33,14 +33,14 @@ row_of_class world rows from v c e h is c_is =
 
 -- ---- numbers are below
 
-pub named_below : (world : World) (name : List ℕ) → IsBelow (length world) (number_named world name)
+pub named_below : (world : World) (name : List ℕ) → IsBelowSize (length world) (number_named world name)
 named_below world name = by_number (number_named world name) refl
   where
-    by_number : (o : Option ℕ) → number_named world name ≡ o → IsBelow (length world) o
+    by_number : (o : Option ℕ) → number_named world name ≡ o → IsBelowSize (length world) o
     by_number None e = tt
     by_number (Some k) e = position_within _ world k e
 
-pub superclass_below : (world : World) (name : Option (List ℕ)) → IsBelow (length world) (name >>= number_named world)
+pub superclass_below : (world : World) (name : Option (List ℕ)) → IsBelowSize (length world) (name >>= number_named world)
 superclass_below world None = tt
 superclass_below world (Some name) = named_below world name
 
@@ -190,13 +190,13 @@ to_supers world numbers a b = (there (slice_get world a) refl, back)
 pub class_at : (world : World) (from : ℕ) (c : Loaded) → from < length world → c ≡ get_or world from c → slice_get world from ≡ Some c
 class_at world from c h e = slice_get-get_or world from c h ∙ ap (λ m. Some m) (sym e)
 
-all_named_below : (world : World) (names : List (List ℕ)) → All (IsBelow (length world)) (map (number_named world) names)
+all_named_below : (world : World) (names : List (List ℕ)) → All (IsBelowSize (length world)) (map (number_named world) names)
 all_named_below world [] k d h = absurd (omega (arith, h))
-all_named_below world (name ∷ names) k d h = All-cons (IsBelow (length world)) (number_named world name) (map (number_named world) names) (named_below world name) (all_named_below world names) k d h
+all_named_below world (name ∷ names) k d h = All-cons (IsBelowSize (length world)) (number_named world name) (map (number_named world) names) (named_below world name) (all_named_below world names) k d h
 
-rows_below_of : (world : World) (ls : List Loaded) → All (All (IsBelow (length world))) (map (λ l. super_numbers world l.class) ls)
+rows_below_of : (world : World) (ls : List Loaded) → All (All (IsBelowSize (length world))) (map (λ l. super_numbers world l.class) ls)
 rows_below_of world [] k d h = absurd (omega (arith, h))
-rows_below_of world (l ∷ ls) k d h = All-cons (All (IsBelow (length world))) (super_numbers world l.class) (map (λ m. super_numbers world m.class) ls) (all_named_below world (super_names l.class)) (rows_below_of world ls) k d h
+rows_below_of world (l ∷ ls) k d h = All-cons (All (IsBelowSize (length world))) (super_numbers world l.class) (map (λ m. super_numbers world m.class) ls) (all_named_below world (super_names l.class)) (rows_below_of world ls) k d h
 
 pub rows_below : (world : World) (rows : List (Vec (Option ℕ))) → numbers_of rows ≡ all_super_numbers world → AreAllBelow (length rows) (numbers_of rows)
 rows_below world rows e = subst (λ n. AreAllBelow n (numbers_of rows)) (sym (many_rows world rows e)) (subst (AreAllBelow (length world)) (sym e) (rows_below_of world world))

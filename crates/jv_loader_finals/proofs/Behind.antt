@@ -11,7 +11,7 @@ use Rattle.std.proofs.lemmas.Option.{get_or_from_slice_get}
 use Rattle.jv_class.specs.Class.{EachIsNamed}
 use Rattle.jv_loader_world.specs.World.{Loaded}
 use Rattle.jv_loader_world.specs.Verdicts.{passes, is_final_instance, breaks_final_of, breaks_final, overrides_in, declared_by}
-use Rattle.jv_loader_finals.specs.Classes.{classes_at, AreNumbers}
+use Rattle.jv_loader_world.specs.Numbers.{classes_at, AreNumbers}
 use Rattle.jv_loader_finals.specs.Finals.{declares_final, have_other_names, AreUnlike, breaks_final_at}
 use Rattle.jv_loader_finals.specs.Inside.Fronts.{AreNamed, IsUpToFinal}
 use Rattle.jv_loader_finals.specs.Inside.Overridden.{breaks_final_by}

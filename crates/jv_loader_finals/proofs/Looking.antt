@@ -15,7 +15,7 @@ use Rattle.jv_loader_class.specs.Members.{IsMethod}
 use Rattle.jv_loader_world.specs.World.{Loaded}
 use Rattle.jv_loader_world.specs.Overriding.{is_instance, alike_in}
 use Rattle.jv_loader_world.specs.Verdicts.{passes, is_final_instance}
-use Rattle.jv_loader_finals.specs.Classes.{classes_at, AreNumbers}
+use Rattle.jv_loader_world.specs.Numbers.{classes_at, AreNumbers}
 use Rattle.jv_loader_finals.specs.Inside.Fronts.{AreNamed}
 use Rattle.jv_loader_finals.specs.Inside.Overridden.{can_override, with_overridden, overrides_final, overrides_final_above, breaks_final_by}
 use Rattle.jv_loader_finals.specs.Inside.Steps.{as_method}

@@ -11,7 +11,7 @@ use Rattle.jv_class.specs.Class.{Method, method_named}
 use Rattle.jv_loader_world.specs.World.{Loaded}
 use Rattle.jv_loader_world.specs.Overriding.{Declared, is_instance, declared_if, alike_in}
 use Rattle.jv_loader_world.specs.Verdicts.{passes, declared_by}
-use Rattle.jv_loader_finals.specs.Classes.{classes_at, AreNumbers}
+use Rattle.jv_loader_world.specs.Numbers.{classes_at, AreNumbers}
 use Rattle.jv_loader_finals.specs.Packages.{AreNumbered}
 use Rattle.jv_loader_finals.specs.Inside.Overridden.{have_package, with_overridden, overrides_final, overrides_final_above}
 use Rattle.jv_loader_finals.specs.Inside.Steps.{flags_alike, is_final_overridden_if, is_found_if, AreMarked}

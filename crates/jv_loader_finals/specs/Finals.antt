@@ -4,7 +4,7 @@ use Rattle.std.specs.List.{list_all, list_any}
 use Rattle.std.specs.Str.{bytes_eq}
 use Rattle.jv_loader_world.specs.World.{Loaded}
 use Rattle.jv_loader_world.specs.Verdicts.{passes, is_final_instance, breaks_final}
-use Rattle.jv_loader_finals.specs.Classes.{classes_at}
+use Rattle.jv_loader_world.specs.Numbers.{classes_at}
 
 -- the class declares a final instance method (4.6)
 abbrev pub declares_final : Loaded → Bool

@@ -1,4 +1,3 @@
-pub mod Classes
 pub mod Packages
 pub mod Finals
 pub mod Inside

@@ -2,7 +2,7 @@
 
 ghost use Rattle.std.specs.Prelude.{◌≡◌, ◌*◌, ◌<◌, ◌≤◌, [], ◌∷◌, true, false, length, get_or, set, slice_get, if◌then◌else◌};
 ghost use Rattle.jv_loader_world.specs.Verdicts.{passes};
-ghost use Rattle.jv_loader_finals.specs.Classes.{classes_at, AreNumbers};
+ghost use Rattle.jv_loader_world.specs.Numbers.{classes_at, AreNumbers};
 ghost use Rattle.jv_loader_finals.specs.Packages.{AreNumbered};
 ghost use Rattle.jv_loader_finals.specs.Inside.Overridden.{overrides_final_above, breaks_final_by};
 ghost use Rattle.jv_loader_finals.specs.Inside.Steps.{as_method, flags_alike, is_final_overridden_if, is_found_if};

@@ -4,7 +4,7 @@ ghost use Rattle.std.specs.Prelude.{◌≡◌, ◌*◌, ◌<◌, ◌≤◌, IfOk
 ghost use Rattle.std.specs.List.{All, list_any};
 ghost use Rattle.jv_class.specs.Class.{EachIsNamed};
 ghost use Rattle.jv_loader_world.specs.Verdicts.{passes};
-ghost use Rattle.jv_loader_finals.specs.Classes.{classes_at, AreNumbers};
+ghost use Rattle.jv_loader_world.specs.Numbers.{classes_at, AreNumbers};
 ghost use Rattle.jv_loader_finals.specs.Packages.{AreNumbered};
 ghost use Rattle.jv_loader_finals.specs.Finals.{declares_final, AreUnlike, breaks_final_at};
 ghost use Rattle.jv_loader_finals.specs.Inside.Fronts.{AreNamed, IsUpToFinal};

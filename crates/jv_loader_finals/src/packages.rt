@@ -1,7 +1,6 @@
 //! Run-time packages by number.
 
 ghost use Rattle.std.specs.Prelude.{◌≡◌, ◌<◌, ◌^◌, IfOk, OnOk, length};
-ghost use Rattle.jv_loader_world.specs.World.{package_of};
 ghost use Rattle.jv_loader_tables.specs.Names.{with_name};
 ghost use Rattle.jv_loader_finals.specs.Packages.{AreNumbered};
 ghost use Rattle.jv_loader_finals.specs.Inside.Numbers.{IsFirstAt, number_at};
@@ -10,20 +9,6 @@ use jv_loader_class::LoadedClass;
 use jv_loader_tables::Names;
 use std::alloc::{AllocError, Global};
 use std::hash::RandomState;
-
-/// What stands before the last `/` of a name, nothing where there is none.
-fn package(name: &[u8]) -> &[u8]
-    ensures { result.now ≡ package_of name.now }
-{
-    let mut end = name.len();
-    while end > 0 {
-        end -= 1;
-        if name[end] == b'/' {
-            return &name[..end];
-        }
-    }
-    &name[..0]
-}
 
 /// The place of a text, which joins at the end where it isn't there yet.
 fn place_of<'a>(names: &mut Names<'a>, text: &'a [u8]) -> Result<usize, AllocError>
@@ -62,7 +47,7 @@ pub fn package_numbers(
     let mut names = Names::new(alloc, state);
     let mut numbers = Vec::new(alloc);
     for class in classes {
-        let place = place_of(&mut names, package(class.name()))?;
+        let place = place_of(&mut names, class.package())?;
         numbers.push(number(place, class.by_system()))?;
     }
     Ok(numbers)

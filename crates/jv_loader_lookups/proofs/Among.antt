@@ -12,7 +12,7 @@ use Rattle.jv_loader_classes.specs.Numbers.{IsNumbered}
 use Rattle.jv_loader_classes.proofs.Told.{other_name}
 use Rattle.jv_loader_classes.proofs.Ways.{one_class}
 use Rattle.jv_loader_classes.proofs.Followed.{some_class}
-use Rattle.jv_loader_lookups.specs.Searched.{classes_at, AreNumbers}
+use Rattle.jv_loader_world.specs.Numbers.{classes_at, AreNumbers}
 
 -- classes have one name where they have one number
 pub same_test : (world : World) → IsNumbered world → (a b : ℕ) (l m : Loaded) → slice_get world a ≡ Some l → slice_get world b ≡ Some m → nat_eq a b ≡ bytes_eq m.class.name l.class.name

@@ -9,8 +9,8 @@ use Rattle.jv_loader_world.specs.World.{Loaded, World}
 use Rattle.jv_loader_world.specs.Above.{is_above}
 use Rattle.jv_loader_world.specs.Overriding.{Declared}
 use Rattle.jv_loader_world.specs.Verdicts.{declared_by}
-use Rattle.jv_loader_world.specs.LookUps.{passing, method_in, without_itself, is_inheritable, is_concrete, is_below, candidates, maximally_specific, only, itself, first_found, else_option, searched_from, superinterface_method}
-use Rattle.jv_loader_lookups.specs.Searched.{classes_at}
+use Rattle.jv_loader_world.specs.LookUps.{method_if, method_in, without_itself, is_inheritable, is_concrete, is_below, candidates, maximally_specific, only, itself, first_found, else_option, searched_from, superinterface_method}
+use Rattle.jv_loader_world.specs.Numbers.{classes_at}
 use Rattle.jv_loader_lookups.specs.Inside.Members.{candidate_in, candidates_at, below_in, is_specific, specific_in}
 
 -- ---- a candidate is its class's
@@ -25,7 +25,7 @@ candidate_by name descriptor l c d e = by_test (without_itself l c) (method_name
         same e = cc
     by_flags m false e = absurd cc
 
-    by_test : (b : Bool) (o : Option Method) → cond b (passing is_inheritable (option_map (declared_by c) o)) None ≡ Some d → d.by ≡ c
+    by_test : (b : Bool) (o : Option Method) → cond b (method_if is_inheritable (option_map (declared_by c) o)) None ≡ Some d → d.by ≡ c
     by_test false o e = absurd cc
     by_test true None e = absurd cc
     by_test true (Some m) e = by_flags m (is_inheritable (declared_by c m)) e
@@ -69,15 +69,15 @@ module _ {A B : Type 0} (look : A → Option B) where
       by_look again None = again
       by_look again (Some b) = refl
 
-passing_same : (test : Declared → Bool) (look : Loaded → Option Declared) (cs : List Loaded) → filter test (filter_map look cs) ≡ filter_map (λ c. passing test (look c)) cs
+passing_same : (test : Declared → Bool) (look : Loaded → Option Declared) (cs : List Loaded) → filter test (filter_map look cs) ≡ filter_map (λ c. method_if test (look c)) cs
 passing_same test look [] = refl
 passing_same test look (c ∷ cs) = by_look (passing_same test look cs) (look c)
   where
-    by_test : filter test (filter_map look cs) ≡ filter_map (λ c. passing test (look c)) cs → (d : Declared) (t : Bool) → cond t (d ∷ filter test (filter_map look cs)) (filter test (filter_map look cs)) ≡ cons_option (cond t (Some d) None) (filter_map (λ c. passing test (look c)) cs)
+    by_test : filter test (filter_map look cs) ≡ filter_map (λ c. method_if test (look c)) cs → (d : Declared) (t : Bool) → cond t (d ∷ filter test (filter_map look cs)) (filter test (filter_map look cs)) ≡ cons_option (cond t (Some d) None) (filter_map (λ c. method_if test (look c)) cs)
     by_test again d true = ap (λ ds. d ∷ ds) again
     by_test again d false = again
 
-    by_look : filter test (filter_map look cs) ≡ filter_map (λ c. passing test (look c)) cs → (o : Option Declared) → filter test (cons_option o (filter_map look cs)) ≡ cons_option (passing test o) (filter_map (λ c. passing test (look c)) cs)
+    by_look : filter test (filter_map look cs) ≡ filter_map (λ c. method_if test (look c)) cs → (o : Option Declared) → filter test (cons_option o (filter_map look cs)) ≡ cons_option (method_if test o) (filter_map (λ c. method_if test (look c)) cs)
     by_look again None = again
     by_look again (Some d) = by_test again d (test d)
 
@@ -104,14 +104,14 @@ candidates_same world searched name descriptor l e =
     ap (λ cs. filter is_inheritable (filter_map (method_in name descriptor) (filter (without_itself l) cs))) (sym e)
     ∙ (ap (filter is_inheritable) (only_where (without_itself l) (method_in name descriptor) (classes_at world searched)) ∙ (passing_same is_inheritable _ (classes_at world searched) ∙ inside (classes_at world searched)))
   where
-    inner : (o : Option Declared) (t : Bool) → passing is_inheritable (cond t o None) ≡ cond t (passing is_inheritable o) None
+    inner : (o : Option Declared) (t : Bool) → method_if is_inheritable (cond t o None) ≡ cond t (method_if is_inheritable o) None
     inner o true = refl
     inner o false = refl
 
-    inside : (cs : List Loaded) → filter_map (λ c. passing is_inheritable (cond (without_itself l c) (method_in name descriptor c) None)) cs ≡ filter_map (candidate_in name descriptor l) cs
+    inside : (cs : List Loaded) → filter_map (λ c. method_if is_inheritable (cond (without_itself l c) (method_in name descriptor c) None)) cs ≡ filter_map (candidate_in name descriptor l) cs
     inside [] = refl
     inside (c ∷ cs) =
-        ap (λ o. cons_option o (filter_map (λ c. passing is_inheritable (cond (without_itself l c) (method_in name descriptor c) None)) cs)) (inner (method_in name descriptor c) (without_itself l c))
+        ap (λ o. cons_option o (filter_map (λ c. method_if is_inheritable (cond (without_itself l c) (method_in name descriptor c) None)) cs)) (inner (method_in name descriptor c) (without_itself l c))
         ∙ ap (cons_option (candidate_in name descriptor l c)) (inside cs)
 
 -- what is specific

@@ -2,7 +2,7 @@
 use Rattle.std.proofs.Common.{◌≡◌, ℕ, zero, suc, ◌<◌, List, length, Option, Some, None, refl, sym, ap, ◌∙◌, subst}
 use Rattle.std.specs.Prelude.{slice_get}
 use Rattle.jv_format.specs.Format.{◌>>=◌}
-use Rattle.jv_loader_tables.specs.Ways.{IsBelow}
+use Rattle.jv_loader_tables.specs.Ways.{IsBelowSize}
 use Rattle.jv_loader_world.specs.World.{Loaded, World, class_named}
 use Rattle.jv_loader_world.specs.Above.{superclass_in, chain_within, superclasses}
 use Rattle.jv_loader_world.specs.LookUps.{first_found, else_option}
@@ -13,13 +13,13 @@ use Rattle.jv_loader_classes.proofs.Followed.{at_superclass, at_named, some_clas
 
 -- nothing was found so far: the answer for the rest of the chain is the answer for all
 pub record Climbs {B : Type 0} (world : World) (look : Loaded → Option B) (from left : ℕ) (next : Option ℕ) : Type 0 where
-  pub below : IsBelow (length world) next
+  pub below : IsBelowSize (length world) next
   pub rest : IsAt world from (λ l. first_found look (chain_within world left (next >>= slice_get world)) ≡ first_found look (superclasses world l.class))
 
 module _ {B : Type 0} (world : World) (look : Loaded → Option B) (from : ℕ) where
   pub climb_start : (next : Option ℕ) (left : ℕ) → left ≡ length world → from < length world → IsAt world from (λ l. next ≡ superclass_number world l.class) → Climbs world look from left next
   climb_start next left size less is = record {
-    below = let class = some_class world from less in subst (IsBelow (length world)) (sym (is class.0 class.1)) (superclass_below world class.0.class.super_class);
+    below = let class = some_class world from less in subst (IsBelowSize (length world)) (sym (is class.0 class.1)) (superclass_below world class.0.class.super_class);
     rest = λ l at.
         ap (λ n. first_found look (chain_within world n (next >>= slice_get world))) size
         ∙ ap (λ o. first_found look (chain_within world (length world) o)) (ap (λ n. n >>= slice_get world) (is l at) ∙ at_superclass world l.class);
@@ -31,7 +31,7 @@ module _ {B : Type 0} (world : World) (look : Loaded → Option B) (from : ℕ) 
 
   pub climb_on : (left k : ℕ) (s : Loaded) (next : Option ℕ) → slice_get world k ≡ Some s → look s ≡ None → IsAt world k (λ m. next ≡ superclass_number world m.class) → Climbs world look from (suc left) (Some k) → Climbs world look from left next
   climb_on left k s next at_k none is h = record {
-    below = subst (IsBelow (length world)) (sym (is s at_k)) (superclass_below world s.class.super_class);
+    below = subst (IsBelowSize (length world)) (sym (is s at_k)) (superclass_below world s.class.super_class);
     rest = λ l at.
         ap (λ o. first_found look (chain_within world left o)) (ap (λ n. n >>= slice_get world) (is s at_k) ∙ at_superclass world s.class)
         ∙ (ap (λ o. else_option o (first_found look (chain_within world left (superclass_in world s.class)))) (sym none) ∙ opened left k s l at_k at h);

@@ -5,7 +5,7 @@ use Rattle.std.specs.List.{list_any, filter_map, cons_option}
 use Rattle.jv_loader_world.specs.World.{Loaded, World}
 use Rattle.jv_loader_world.specs.Overriding.{Declared}
 use Rattle.jv_loader_world.specs.LookUps.{only, maximally_specific, is_concrete, searched_from}
-use Rattle.jv_loader_lookups.specs.Searched.{classes_at}
+use Rattle.jv_loader_world.specs.Numbers.{classes_at}
 use Rattle.jv_loader_lookups.specs.Defaults.{defaults, AreSeveral}
 use Rattle.jv_loader_lookups.specs.Inside.Members.{candidates_at, specific_in, is_specific_at}
 use Rattle.jv_loader_lookups.proofs.Candidates.{candidates_same, specific_same}

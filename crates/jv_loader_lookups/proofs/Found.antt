@@ -4,7 +4,7 @@ use Rattle.std.specs.Prelude.{slice_get}
 use Rattle.std.specs.List.{list_any, cons_option}
 use Rattle.jv_loader_world.specs.World.{Loaded, World}
 use Rattle.jv_loader_world.specs.LookUps.{first_found, else_option}
-use Rattle.jv_loader_lookups.specs.Searched.{classes_at}
+use Rattle.jv_loader_world.specs.Numbers.{classes_at}
 
 -- nothing was found before a place: the answer for the rest is the answer for all
 abbrev pub IsLeft : {B : Type 0} → World → (Loaded → Option B) → List ℕ → ℕ → Type 0

@@ -6,7 +6,7 @@ use Rattle.std.proofs.lemmas.List.Elements.{filter_map-append}
 use Rattle.std.proofs.lemmas.List.Sums.{fold-append}
 use Rattle.jv_format.specs.Format.{◌>>=◌}
 use Rattle.jv_class.specs.Class.{Class}
-use Rattle.jv_loader_tables.specs.Ways.{IsBelow}
+use Rattle.jv_loader_tables.specs.Ways.{IsBelowSize}
 use Rattle.jv_loader_world.specs.World.{Loaded, World, class_named}
 use Rattle.jv_loader_world.specs.Above.{superclass_names, class_if_named}
 use Rattle.jv_loader_world.specs.LookUps.{is_among, next_in, searched_within}
@@ -14,7 +14,7 @@ use Rattle.jv_loader_classes.specs.Numbers.{number_named, superclass_number}
 use Rattle.jv_loader_classes.specs.Inside.Told.{IsAt}
 use Rattle.jv_loader_classes.proofs.Told.{named_below, superclass_below}
 use Rattle.jv_loader_classes.proofs.Followed.{at_named, at_superclass, some_class}
-use Rattle.jv_loader_lookups.specs.Searched.{classes_at}
+use Rattle.jv_loader_world.specs.Numbers.{classes_at}
 use Rattle.jv_loader_lookups.specs.Inside.Numbers.{NumbersBelow, numbers_below, AreNumbersOf}
 use Rattle.jv_loader_lookups.proofs.Among.{one_behind}
 
@@ -28,7 +28,7 @@ those_named world (name ∷ names) =
     ap (λ o. cons_option o (those_at world (map (number_named world) names))) (at_named world name)
     ∙ ap (λ ls. cons_option (class_named world name) ls) (those_named world names)
 
-pub each_below : (world : World) (names : List (List ℕ)) (i : ℕ) → IsBelow (length world) (get_or (map (number_named world) names) i None)
+pub each_below : (world : World) (names : List (List ℕ)) (i : ℕ) → IsBelowSize (length world) (get_or (map (number_named world) names) i None)
 each_below world [] zero = tt
 each_below world [] (suc i) = tt
 each_below world (name ∷ names) zero = named_below world name
@@ -90,8 +90,8 @@ by_parts world f b class interfaces superclass e h =
 
 -- ---- steps of a search
 
-below_of : (size : ℕ) (o : Option ℕ) (k : ℕ) → o ≡ Some k → IsBelow size o → k < size
-below_of size o k e h = subst (IsBelow size) e h
+below_of : (size : ℕ) (o : Option ℕ) (k : ℕ) → o ≡ Some k → IsBelowSize size o → k < size
+below_of size o k e h = subst (IsBelowSize size) e h
 
 pub next_below : (world : World) (names : List (List ℕ)) (numbers : List (Option ℕ)) (i k : ℕ) → numbers ≡ map (number_named world) names → get_or numbers i None ≡ Some k → k < length world
 next_below world names numbers i k e h = below_of (length world) (get_or (map (number_named world) names) i None) k (sym (ap (λ ns. get_or ns i None) e) ∙ h) (each_below world names i)

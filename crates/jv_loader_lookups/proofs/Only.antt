@@ -8,7 +8,7 @@ use Rattle.jv_loader_world.specs.Overriding.{Declared}
 use Rattle.jv_loader_world.specs.LookUps.{only}
 use Rattle.jv_loader_classes.specs.Inside.Told.{IsAt}
 use Rattle.jv_loader_lookups.specs.declared.place.Place.{Place}
-use Rattle.jv_loader_lookups.specs.Searched.{classes_at}
+use Rattle.jv_loader_world.specs.Numbers.{classes_at}
 use Rattle.jv_loader_lookups.specs.Places.{method_at, IsMethodPlace}
 use Rattle.jv_loader_lookups.specs.Inside.Members.{candidates_at, specific_in}
 use Rattle.jv_loader_lookups.proofs.Standing.{method_stands}

@@ -4,20 +4,20 @@ use Rattle.std.specs.Prelude.{IfSome, is_some}
 use Rattle.std.specs.Option.{option_and_then}
 use Rattle.jv_loader_world.specs.World.{Loaded, World}
 use Rattle.jv_loader_world.specs.Overriding.{Declared}
-use Rattle.jv_loader_world.specs.LookUps.{passing, method_in, without_itself, is_inheritable}
+use Rattle.jv_loader_world.specs.LookUps.{method_if, method_in, without_itself, is_inheritable}
 use Rattle.jv_loader_lookups.specs.declared.place.Place.{Place}
 use Rattle.jv_loader_lookups.specs.Places.{method_at, IsMethodPlace}
 use Rattle.jv_loader_lookups.specs.Inside.Members.{candidate_in}
 use Rattle.jv_loader_lookups.proofs.Standing.{method_stands}
 
-pub kept : (test : Declared → Bool) (o : Option Declared) (d : Declared) → o ≡ Some d → test d ≡ true → Some d ≡ passing test o
-kept test o d e t = sym (ap (passing test) e ∙ ap (λ b. cond b (Some d) None) t)
+pub kept : (test : Declared → Bool) (o : Option Declared) (d : Declared) → o ≡ Some d → test d ≡ true → Some d ≡ method_if test o
+kept test o d e t = sym (ap (method_if test) e ∙ ap (λ b. cond b (Some d) None) t)
 
-pub dropped : (test : Declared → Bool) (o : Option Declared) (d : Declared) → o ≡ Some d → test d ≡ false → None ≡ passing test o
-dropped test o d e t = sym (ap (passing test) e ∙ ap (λ b. cond b (Some d) None) t)
+pub dropped : (test : Declared → Bool) (o : Option Declared) (d : Declared) → o ≡ Some d → test d ≡ false → None ≡ method_if test o
+dropped test o d e t = sym (ap (method_if test) e ∙ ap (λ b. cond b (Some d) None) t)
 
-pub candidate_by_method : (name descriptor : List ℕ) (l c : Loaded) (o : Option Declared) → without_itself l c ≡ true → o ≡ passing is_inheritable (method_in name descriptor c) → o ≡ candidate_in name descriptor l c
-candidate_by_method name descriptor l c o is e = e ∙ sym (ap (λ b. cond b (passing is_inheritable (method_in name descriptor c)) None) is)
+pub candidate_by_method : (name descriptor : List ℕ) (l c : Loaded) (o : Option Declared) → without_itself l c ≡ true → o ≡ method_if is_inheritable (method_in name descriptor c) → o ≡ candidate_in name descriptor l c
+candidate_by_method name descriptor l c o is e = e ∙ sym (ap (λ b. cond b (method_if is_inheritable (method_in name descriptor c)) None) is)
 
 pub and_not : (b t : Bool) → t ≡ false → b ≡ (b && not t)
 and_not false t e = refl

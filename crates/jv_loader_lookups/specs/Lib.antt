@@ -1,4 +1,3 @@
-pub mod Searched
 pub mod Places
 pub mod Defaults
 pub mod Inside

@@ -5,7 +5,7 @@ ghost use Rattle.std.specs.Option.{option_and_then};
 ghost use Rattle.jv_loader_world.specs.World.{Loaded};
 ghost use Rattle.jv_loader_world.specs.LookUps.{searched_from, lookup_field};
 ghost use Rattle.jv_loader_classes.specs.Inside.Told.{IsAt};
-ghost use Rattle.jv_loader_lookups.specs.Searched.{classes_at, AreNumbers};
+ghost use Rattle.jv_loader_world.specs.Numbers.{classes_at, AreNumbers};
 ghost use Rattle.jv_loader_lookups.specs.Places.{field_at, IsFieldPlace};
 ghost use Rattle.jv_loader_lookups.specs.Inside.Members.{field_named_in};
 

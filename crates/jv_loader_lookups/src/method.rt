@@ -4,9 +4,9 @@ ghost use Rattle.std.specs.Prelude.{◌≡◌, ◌<◌, ◌∷◌, length, codes
 ghost use Rattle.std.specs.Option.{option_and_then};
 ghost use Rattle.jv_loader_world.specs.World.{class_named};
 ghost use Rattle.jv_loader_world.specs.Above.{superclasses};
-ghost use Rattle.jv_loader_world.specs.LookUps.{searched_from, first_found, method_in, passing, is_public_instance, method_if_loaded, lookup_class_method, lookup_interface_method, lookup_method};
+ghost use Rattle.jv_loader_world.specs.LookUps.{searched_from, first_found, method_in, method_if, is_public_instance, method_if_loaded, lookup_class_method, lookup_interface_method, lookup_method};
 ghost use Rattle.jv_loader_classes.specs.Inside.Told.{IsAt};
-ghost use Rattle.jv_loader_lookups.specs.Searched.{classes_at, AreNumbers};
+ghost use Rattle.jv_loader_world.specs.Numbers.{classes_at, AreNumbers};
 ghost use Rattle.jv_loader_lookups.specs.Places.{method_at, IsMethodPlace};
 
 use crate::declared::{declared_method, is_public_instance};
@@ -63,7 +63,7 @@ fn lookup_class_method(
 
 /// The public instance method of a name and a descriptor that java/lang/Object declares (JVMS 5.4.3.4).
 pub fn method_of_object(table: &ClassTable<'_>, name: &[u8], descriptor: &[u8]) -> Option<Place>
-    ensures found { option_and_then (method_at table.now) result ≡ passing is_public_instance (method_if_loaded name.now descriptor.now (class_named table.now (codes "java/lang/Object"))) }
+    ensures found { option_and_then (method_at table.now) result ≡ method_if is_public_instance (method_if_loaded name.now descriptor.now (class_named table.now (codes "java/lang/Object"))) }
     ensures place { IfSome result (IsMethodPlace table.now) }
 {
     let Some(object) = table.find(b"java/lang/Object") else {

@@ -4,7 +4,7 @@ ghost use Rattle.std.specs.Prelude.{◌≡◌, ◌<◌, suc, map, length, IfOk, 
 ghost use Rattle.jv_loader_world.specs.LookUps.{searched_within, searched_from};
 ghost use Rattle.jv_loader_classes.specs.Numbers.{number_named};
 ghost use Rattle.jv_loader_classes.specs.Inside.Told.{IsAt};
-ghost use Rattle.jv_loader_lookups.specs.Searched.{classes_at, AreNumbers};
+ghost use Rattle.jv_loader_world.specs.Numbers.{classes_at, AreNumbers};
 ghost use Rattle.jv_loader_lookups.specs.Inside.Numbers.{AreNumbersOf};
 
 use crate::begun::Begun;

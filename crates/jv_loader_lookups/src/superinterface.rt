@@ -5,7 +5,7 @@ ghost use Rattle.std.specs.List.{list_any, filter_map};
 ghost use Rattle.std.specs.Option.{option_and_then};
 ghost use Rattle.jv_loader_world.specs.LookUps.{searched_from, without_itself, first_found, only, superinterface_method};
 ghost use Rattle.jv_loader_classes.specs.Inside.Told.{IsAt};
-ghost use Rattle.jv_loader_lookups.specs.Searched.{classes_at, AreNumbers};
+ghost use Rattle.jv_loader_world.specs.Numbers.{classes_at, AreNumbers};
 ghost use Rattle.jv_loader_lookups.specs.Places.{method_at, IsMethodPlace};
 ghost use Rattle.jv_loader_lookups.specs.Inside.Members.{candidate_in, below_in, candidates_at, specific_in, is_specific_at};
 ghost use Rattle.jv_loader_lookups.specs.Defaults.{defaults, AreDefaults, IsDefaultPlace};

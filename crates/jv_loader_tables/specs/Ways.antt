@@ -22,8 +22,8 @@ abbrev pub with_pair : Rows → ℕ → ℕ → Rows
 with_pair rows from to = set rows from (set (get_or rows from []) to true)
 
 -- a number that is there is below a size
-abbrev pub IsBelow : ℕ → Option ℕ → Type 0
-IsBelow size place = IfSome place (λ n. n < size)
+abbrev pub IsBelowSize : ℕ → Option ℕ → Type 0
+IsBelowSize size place = IfSome place (λ n. n < size)
 
 abbrev pub is_there : ℕ → Option ℕ → Bool
 is_there number None = false

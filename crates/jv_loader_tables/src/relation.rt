@@ -2,7 +2,7 @@
 
 ghost use Rattle.std.specs.Prelude.{◌≡◌, ◌↔◌, ◌<◌, ◌||◌, ◌&&◌, ℕ, false, IsTrue, IfOk, OnOk, OnErr, length, get_or, nat_eq};
 ghost use Rattle.std.specs.List.{All, list_any};
-ghost use Rattle.jv_loader_tables.specs.Ways.{Rows, related, with_pair, empty, IsSquare, Reaches, IsBelow, is_there};
+ghost use Rattle.jv_loader_tables.specs.Ways.{Rows, related, with_pair, empty, IsSquare, Reaches, IsBelowSize, is_there};
 ghost use Rattle.jv_loader_tables.specs.Inside.Steps.{rows_of};
 
 use std::alloc::{AllocError, Global};
@@ -137,7 +137,7 @@ impl Relation {
     /// Relates a number to one, where that is there.
     pub fn relate_if(&mut self, from: usize, to: Option<usize>)
         requires from { from < length self.now }
-        requires to { IsBelow (length self.now) to }
+        requires to { IsBelowSize (length self.now) to }
         ensures size { length self.new ≡ length self.old }
         ensures related { (a b : ℕ) → related self.new a b ≡ (related self.old a b || (nat_eq a from && is_there b to)) }
     {
@@ -150,7 +150,7 @@ impl Relation {
     /// Relates a number to each that is there.
     pub fn relate_each(&mut self, from: usize, to: &[Option<usize>])
         requires from { from < length self.now }
-        requires to { All (IsBelow (length self.now)) to.now }
+        requires to { All (IsBelowSize (length self.now)) to.now }
         ensures size { length self.new ≡ length self.old }
         ensures related { (a b : ℕ) → related self.new a b ≡ (related self.old a b || (nat_eq a from && list_any (is_there b) to.now)) }
     {

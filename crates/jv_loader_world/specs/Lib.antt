@@ -4,6 +4,7 @@ pub mod Laws
 pub mod Overriding
 pub mod Verdicts
 pub mod LookUps
+pub mod Numbers
 pub mod Rows
 pub use Rattle.jv_loader_files.specs as of_loader_files
 pub use Rattle.jv_loader_files.specs.of_class

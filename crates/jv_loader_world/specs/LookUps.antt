@@ -107,9 +107,9 @@ lookup_class_method world l name descriptor =
 abbrev pub is_public_instance : Declared → Bool
 is_public_instance d = has d.method.access_flags acc_public && not (has d.method.access_flags acc_static)
 
-abbrev pub passing : (Declared → Bool) → Option Declared → Option Declared
-passing test None = None
-passing test (Some d) = if test d then Some d else None
+abbrev pub method_if : (Declared → Bool) → Option Declared → Option Declared
+method_if test None = None
+method_if test (Some d) = if test d then Some d else None
 
 abbrev pub method_if_loaded : List ℕ → List ℕ → Option Loaded → Option Declared
 method_if_loaded name descriptor None = None
@@ -118,7 +118,7 @@ method_if_loaded name descriptor (Some l) = method_in name descriptor l
 abbrev pub lookup_interface_method : World → Loaded → List ℕ → List ℕ → Option Declared
 lookup_interface_method world l name descriptor =
     else_option (method_in name descriptor l)
-    (else_option (passing is_public_instance (method_if_loaded name descriptor (class_named world (codes "java/lang/Object"))))
+    (else_option (method_if is_public_instance (method_if_loaded name descriptor (class_named world (codes "java/lang/Object"))))
     (superinterface_method world l name descriptor))
 
 -- from a class or an interface

@@ -29,14 +29,14 @@ abbrev pub has_class : List Class → List ℕ → Bool
 has_class classes name = list_any (λ c. bytes_eq c.name name) classes
 
 -- one file more: its class joins where its name is neither reserved nor taken by an earlier file (own)
-abbrev pub joined : List Class → FileContent → List Class
-joined classes (Holds class) =
+abbrev pub with_class_of : List Class → FileContent → List Class
+with_class_of classes (Holds class) =
     if is_reserved class.name || has_class classes class.name then classes else classes ++ class ∷ []
-joined classes _ = classes
+with_class_of classes _ = classes
 
 abbrev pub joined_all : List Class → List FileContent → List Class
 joined_all classes [] = classes
-joined_all classes (file ∷ files) = joined_all (joined classes file) files
+joined_all classes (file ∷ files) = joined_all (with_class_of classes file) files
 
 -- the classes of a guest's files, in the order of the files
 abbrev pub classes_in : List FileContent → List Class

@@ -12,7 +12,8 @@ use Rattle.jv_class.specs.Class.{Class}
 use Rattle.jv_loader_world.specs.World.{Loaded, World, class_named}
 use Rattle.jv_loader_world.specs.Above.{above, is_circular, class_if_named, superclass_in, chain_within, superclasses}
 use Rattle.jv_loader_world.specs.Laws.{AboveByWays, AboveIsTransitive}
-use Rattle.jv_meaning_linking.proofs.Found.{none, first, later, split, in_find, same_text}
+use Rattle.jv_loader_world.proofs.Up.{none, first, later, name_of, names_of, named_is_member}
+use Rattle.jv_meaning_linking.proofs.Found.{split, in_find, same_text}
 use Rattle.jv_meaning_linking.proofs.Searched.{AllOf, superclass_is_super, of_chain, direct}
 
 pub in_any : {X : Type 0} (test : X → Bool) (xs : List X) (x : X) → Contains xs x → IsTrue (test x) → IsTrue (list_any test xs)
@@ -45,24 +46,6 @@ superclass_is_named world class s e = by_name class.super_class e
     by_name : (o : Option (List ℕ)) → class_if_named world o ≡ Some s → IsNamedIn world s
     by_name None e = absurd cc
     by_name (Some name) e = ap (class_named world) (found_is_named world name s e) ∙ e
-
-abbrev pub name_of : Loaded → List ℕ
-name_of l = l.class.name
-
-abbrev pub names_of : List Loaded → List (List ℕ)
-names_of ls = map name_of ls
-
-named_is_member : (world : World) (name : List ℕ) (s : Loaded) → class_named world name ≡ Some s → is_member bytes_eq (names_of world) name ≡ true
-named_is_member [] name s e = absurd cc
-named_is_member (l ∷ world) name s e = by_test (bytes_eq l.class.name name) refl (λ k. named_is_member world name s k) e
-  where
-    turned : (b : Bool) → bytes_eq l.class.name name ≡ b → bytes_eq name l.class.name ≡ b
-    turned b t = nat_list_eq_equiv.symm name l.class.name ∙ t
-
-    by_test : (b : Bool) → bytes_eq l.class.name name ≡ b → (class_named world name ≡ Some s → is_member bytes_eq (names_of world) name ≡ true) → cond b (Some l) (class_named world name) ≡ Some s
-        → (bytes_eq name l.class.name || is_member bytes_eq (names_of world) name) ≡ true
-    by_test true t again e = ap (λ b. b || is_member bytes_eq (names_of world) name) (turned true t)
-    by_test false t again e = ap (λ b. b || is_member bytes_eq (names_of world) name) (turned false t) ∙ again e
 
 -- ---- classes whose names differ
 

@@ -13,7 +13,8 @@ use Rattle.jv_loader_world.specs.LookUps.{is_among}
 use Rattle.jv_loader_world.specs.Laws.{AboveByWays, AboveIsTransitive}
 use Rattle.jv_meaning_linking.specs.InitializationOrder.{interfaces_in, given_within, enumerated, declares_default, init_order}
 use Rattle.jv_meaning_linking.specs.Laws.{IsInterfaceWay, IsOwnSuperinterface, EachBehind, IsNext, behind_superclass, IsInitOrder, InitOrderIsRight}
-use Rattle.jv_meaning_linking.proofs.Found.{none, single, first, later, split, in_filter, in_found, same_text}
+use Rattle.jv_loader_world.proofs.Up.{none, single, first, later}
+use Rattle.jv_meaning_linking.proofs.Found.{split, in_filter, in_found, same_text}
 use Rattle.jv_meaning_linking.proofs.Searched.{AllOf, of_joined, of_fold, of_given, interfaces_above}
 use Rattle.jv_meaning_linking.proofs.Chain.{in_any, found_is_named, IsNamedIn, IsFresh, NoTwo, few}
 

@@ -14,7 +14,8 @@ use Rattle.jv_loader_world.specs.Laws.{AboveByWays, AboveIsTransitive}
 use Rattle.jv_meaning_linking.specs.Access.{same_class}
 use Rattle.jv_meaning_linking.specs.Selection.{upward, classes_below}
 use Rattle.jv_meaning_linking.specs.Laws.{NoneBreaksFinal, FinalIsRun}
-use Rattle.jv_meaning_linking.proofs.Found.{none, first, later, split, same_text}
+use Rattle.jv_loader_world.proofs.Up.{none, first, later}
+use Rattle.jv_meaning_linking.proofs.Found.{split, same_text}
 use Rattle.jv_meaning_linking.proofs.Searched.{AllOf, superclass_is_above}
 use Rattle.jv_meaning_linking.proofs.Chain.{in_any, chain_is_above}
 use Rattle.jv_meaning_linking.proofs.Unchanged.{OnlyItself, class_has, only_is_run}

@@ -10,26 +10,14 @@ use Rattle.std.proofs.lemmas.List.Elements.{Contains-append_left, Contains-appen
 use Rattle.std.proofs.lemmas.Slice.Eq.{bytes_eq-Decides}
 use Rattle.jv_class.specs.Class.{Class, Field, Method, field_named, method_named}
 use Rattle.jv_loader_world.specs.Overriding.{Declared}
-use Rattle.jv_loader_world.specs.LookUps.{first_found, else_option, only, passing}
+use Rattle.jv_loader_world.specs.LookUps.{first_found, else_option, only, method_if}
+use Rattle.jv_loader_world.proofs.Up.{none, single, first, later}
 use Rattle.jv_meaning_linking.specs.LinkErrors.{LinkError, OrError, ◌>>=◌, provided}
 use Rattle.jv_meaning_linking.specs.Selection.{one_of}
 
 -- ---- elements
 
 module _ {X : Type 0} where
-  pub none : (y : X) → Contains [] y → ⊥
-  none y h = absurd (omega (arith, h.1))
-
-  pub single : (x y : X) → Contains (x ∷ []) y → x ≡ y
-  single x y (zero, less, e) = e
-  single x y (suc k, less, e) = absurd (omega (arith, less))
-
-  pub first : (x : X) (xs : List X) → Contains (x ∷ xs) x
-  first x xs = Contains-append_left (x ∷ []) xs x (zero, omega arith, refl)
-
-  pub later : (x : X) (xs : List X) (y : X) → Contains xs y → Contains (x ∷ xs) y
-  later x xs y h = Contains-append_right (x ∷ []) xs y h
-
   -- the first, or one of the others
   pub split : (x : X) (xs : List X) (y : X) → Contains (x ∷ xs) y → (x ≡ y) ⊎ Contains xs y
   split x xs y h = by_part (Contains-append_cases (x ∷ []) xs y h)
@@ -129,7 +117,7 @@ in_one (x ∷ y ∷ ds) d e = absurd cc
 
 -- ---- steps
 
-pub passed : (test : Declared → Bool) (o : Option Declared) (d : Declared) → passing test o ≡ Some d → (o ≡ Some d) × IsTrue (test d)
+pub passed : (test : Declared → Bool) (o : Option Declared) (d : Declared) → method_if test o ≡ Some d → (o ≡ Some d) × IsTrue (test d)
 passed test None d e = absurd cc
 passed test (Some x) d e = by_test (test x) refl e
   where

@@ -6,7 +6,7 @@ pub mod Chain
 pub mod Places
 pub mod Unchanged
 mod Finals
-mod Loading
+pub mod Loading
 mod Errors
 mod OneWalk
 mod Enumerated

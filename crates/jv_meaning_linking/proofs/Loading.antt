@@ -14,13 +14,14 @@ use Rattle.jv_loader_world.specs.declared.verdict.LoadVerdict.TheVariants.{Circu
 use Rattle.jv_loader_world.specs.Laws.{AboveByWays, AboveIsTransitive, LoadableByAll, IsWayUp, stands_itself}
 use Rattle.jv_meaning_linking.specs.ClassResolution.{loading_error, error_of_class}
 use Rattle.jv_meaning_linking.specs.Laws.{LoadableResolves}
-use Rattle.jv_meaning_linking.proofs.Found.{none, first, later, split, in_found, found_in}
+use Rattle.jv_loader_world.proofs.Up.{none, first, later}
+use Rattle.jv_meaning_linking.proofs.Found.{split, in_found, found_in}
 use Rattle.jv_meaning_linking.proofs.Searched.{direct}
 use Rattle.jv_meaning_linking.proofs.Finals.{found_stands}
 
 -- ---- what the error says of the four tests
 
-abbrev verdict_by : Bool → Bool → Bool → Bool → Bool → Option LoadVerdict
+abbrev pub verdict_by : Bool → Bool → Bool → Bool → Bool → Option LoadVerdict
 verdict_by circular supers kind names final =
     if circular then Some Circular else if not supers then Some NoSuper else if not kind then Some WrongKind else if not names then Some NoAccess
     else if final then Some FinalBroken else None
@@ -32,7 +33,7 @@ none_wrong false true false names final e = absurd cc
 none_wrong false true true false final e = absurd cc
 none_wrong false true true true final e = refl
 
-right : (circular supers kind names final : Bool) → IsTrue (not circular && supers && kind && names) → option_and_then loading_error (verdict_by circular supers kind names final) ≡ None
+pub right : (circular supers kind names final : Bool) → IsTrue (not circular && supers && kind && names) → option_and_then loading_error (verdict_by circular supers kind names final) ≡ None
 right true supers kind names final h = absurd cc
 right false false kind names final h = absurd cc
 right false true false names final h = absurd cc

@@ -12,7 +12,7 @@ use Rattle.jv_loader_world.specs.World.{Loaded, World, class_named}
 use Rattle.jv_loader_world.specs.Above.{above, superclasses}
 use Rattle.jv_loader_world.specs.Overriding.{Declared}
 use Rattle.jv_loader_world.specs.Verdicts.{is_interface, declared_by}
-use Rattle.jv_loader_world.specs.LookUps.{DeclaredField, field_by, lookup_field, searched_from, first_found, itself, only, else_option, passing, method_in, method_if_loaded, without_itself, superinterfaces, is_inheritable, is_concrete, is_public_instance, candidates, maximally_specific, is_below, superinterface_method, lookup_class_method, lookup_interface_method}
+use Rattle.jv_loader_world.specs.LookUps.{DeclaredField, field_by, lookup_field, searched_from, first_found, itself, only, else_option, method_if, method_in, method_if_loaded, without_itself, superinterfaces, is_inheritable, is_concrete, is_public_instance, candidates, maximally_specific, is_below, superinterface_method, lookup_class_method, lookup_interface_method}
 use Rattle.jv_loader_world.specs.Laws.{AboveByWays, AboveIsTransitive}
 use Rattle.jv_meaning_linking.specs.LinkErrors.{◌>>=◌, provided}
 use Rattle.jv_meaning_linking.specs.LinkErrors.LinkError.{IncompatibleClassChangeError, IllegalAccessError, NoSuchFieldError, NoSuchMethodError}
@@ -160,7 +160,7 @@ module _ (ways : AboveByWays) (above_above : AboveIsTransitive) (world : World) 
   in_interface named name descriptor d e = by_own (in_else (method_in name descriptor named) _ d e)
     where
       of_object : Option Declared
-      of_object = passing is_public_instance (method_if_loaded name descriptor (class_named world (codes "java/lang/Object")))
+      of_object = method_if is_public_instance (method_if_loaded name descriptor (class_named world (codes "java/lang/Object")))
 
       by_others : (of_object ≡ Some d) ⊎ (superinterface_method world named name descriptor ≡ Some d) → IsFound (IsCalledPlace named) name descriptor d
       by_others (inl f) =

@@ -13,7 +13,7 @@ use Rattle.jv_loader_world.specs.World.{Loaded, World, class_named}
 use Rattle.jv_loader_world.specs.Above.{superclasses}
 use Rattle.jv_loader_world.specs.Overriding.{Declared, declared_if, alike_in, is_instance}
 use Rattle.jv_loader_world.specs.Verdicts.{is_interface}
-use Rattle.jv_loader_world.specs.LookUps.{passing, method_if_loaded, is_inheritable, is_concrete, is_public_instance, candidates, maximally_specific, is_below}
+use Rattle.jv_loader_world.specs.LookUps.{method_if, method_if_loaded, is_inheritable, is_concrete, is_public_instance, candidates, maximally_specific, is_below}
 use Rattle.jv_loader_world.specs.Laws.{AboveByWays, AboveIsTransitive}
 use Rattle.jv_meaning_linking.specs.Uses.{Use, Site}
 use Rattle.jv_meaning_linking.specs.Uses.Use.{Invokevirtual, Invokespecial, Invokeinterface}
@@ -23,7 +23,8 @@ use Rattle.jv_meaning_linking.specs.Kind.{is_static_method}
 use Rattle.jv_meaning_linking.specs.MethodResolution.{MethodTarget, target}
 use Rattle.jv_meaning_linking.specs.Selection.{upward, overrides, overriding_in, first_overriding, first_alike, superinterface_default, not_abstract, found_or_default, select_virtual, implements, public_or_default, select_interface, interface_first, special_start, select_from, object_class, selected}
 use Rattle.jv_meaning_linking.specs.Laws.{IsObject, IsRun, SelectedIsRun, SpecialIsRun}
-use Rattle.jv_meaning_linking.proofs.Found.{first, in_filter, in_or, in_first, in_one, passed, went_on, held, method_is_named}
+use Rattle.jv_loader_world.proofs.Up.{first}
+use Rattle.jv_meaning_linking.proofs.Found.{in_filter, in_or, in_first, in_one, passed, went_on, held, method_is_named}
 use Rattle.jv_meaning_linking.proofs.Resolved.{method_in_is, candidate, in_object}
 
 -- ---- flags
@@ -124,7 +125,7 @@ module _ (ways : AboveByWays) (above_above : AboveIsTransitive) (world : World) 
   SpecialRun start called d = IsRun world start called d ⊎ ((root : Loaded) × IsTrue (is_interface start) × IsObject world root × IsRun world root called d)
 
   -- a public instance method of java/lang/Object
-  root_run : (called x d : Declared) → passing is_public_instance (method_if_loaded called.method.name called.method.descriptor (class_named world (codes "java/lang/Object"))) ≡ Some x → not_abstract x ≡ Ok d → (root : Loaded) × IsObject world root × IsRun world root called d
+  root_run : (called x d : Declared) → method_if is_public_instance (method_if_loaded called.method.name called.method.descriptor (class_named world (codes "java/lang/Object"))) ≡ Some x → not_abstract x ≡ Ok d → (root : Loaded) × IsObject world root × IsRun world root called d
   root_run called x d e f =
       let test = passed is_public_instance (method_if_loaded called.method.name called.method.descriptor (class_named world (codes "java/lang/Object"))) x e in
       let root = in_object ways above_above world called.method.name called.method.descriptor x test.0 in
@@ -144,7 +145,7 @@ module _ (ways : AboveByWays) (above_above : AboveIsTransitive) (world : World) 
   from_interface start called d i None e f = inl (default_run start called d f)
   from_interface start called d i (Some x) e f = by_part (in_or (alike_in start called.method) _ x e)
     where
-      by_part : (alike_in start called.method ≡ Some x) ⊎ (passing is_public_instance (method_if_loaded called.method.name called.method.descriptor (class_named world (codes "java/lang/Object"))) ≡ Some x) → SpecialRun start called d
+      by_part : (alike_in start called.method ≡ Some x) ⊎ (method_if is_public_instance (method_if_loaded called.method.name called.method.descriptor (class_named world (codes "java/lang/Object"))) ≡ Some x) → SpecialRun start called d
       by_part (inl own) = inl (concrete_run start called x d (upward_from world start called.method start x (first start (superclasses world start.class)) own) f)
       by_part (inr root) = let run = root_run called x d root f in inr (run.0, i, run.1, run.2)
 

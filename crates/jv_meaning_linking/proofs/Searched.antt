@@ -11,7 +11,8 @@ use Rattle.jv_loader_world.specs.LookUps.{is_among, next_in, searched_within, se
 use Rattle.jv_loader_world.specs.Laws.{AboveByWays, AboveIsTransitive}
 use Rattle.jv_meaning_linking.specs.InitializationOrder.{interfaces_in, given_within, enumerated, declares_default, init_order}
 use Rattle.jv_meaning_linking.specs.Laws.{IsAtOrAbove}
-use Rattle.jv_meaning_linking.proofs.Found.{none, single, first, later, split, in_filter, in_found, found_in}
+use Rattle.jv_loader_world.proofs.Up.{none, single, first, later}
+use Rattle.jv_meaning_linking.proofs.Found.{split, in_filter, in_found, found_in}
 
 -- what holds of each class of a list
 abbrev pub AllOf : (Loaded → Type 0) → List Loaded → Type 0

@@ -15,7 +15,7 @@ use Rattle.jv_loader_world.specs.World.{Loaded, World, class_named, same_package
 use Rattle.jv_loader_world.specs.Above.{superclass_in, superclasses}
 use Rattle.jv_loader_world.specs.Overriding.{Declared, declared_if, alike_in, is_instance, is_package_private, overrides_itself, with_declared, overriding}
 use Rattle.jv_loader_world.specs.Verdicts.{is_interface}
-use Rattle.jv_loader_world.specs.LookUps.{first_found, else_option, passing, is_public_instance, method_if_loaded}
+use Rattle.jv_loader_world.specs.LookUps.{first_found, else_option, method_if, is_public_instance, method_if_loaded}
 use Rattle.jv_meaning_linking.specs.Uses.{Site}
 use Rattle.jv_meaning_linking.specs.Uses.Use.{Invokevirtual}
 use Rattle.jv_meaning_linking.specs.LinkErrors.{◌>>=◌, provided}
@@ -24,7 +24,8 @@ use Rattle.jv_meaning_linking.specs.Access.{same_class}
 use Rattle.jv_meaning_linking.specs.MethodResolution.{MethodTarget, target}
 use Rattle.jv_meaning_linking.specs.Selection.{upward, classes_below, are_alike, has_overriding, overrides, overriding_in, first_overriding, first_alike, found_or_default, interface_first, special_first, special_start, select_from, select}
 use Rattle.jv_meaning_linking.specs.Laws.{IsAboveObject, PrivateIsRun, NamedIsRun}
-use Rattle.jv_meaning_linking.proofs.Found.{none, first, later, split, passed, same_text}
+use Rattle.jv_loader_world.proofs.Up.{none, first, later}
+use Rattle.jv_meaning_linking.proofs.Found.{split, passed, same_text}
 use Rattle.jv_meaning_linking.proofs.Chain.{IsNamedIn, superclasses_are_named}
 use Rattle.jv_meaning_linking.proofs.Run.{alike}
 
@@ -126,7 +127,7 @@ module _ (world : World) (l : Loaded) (e : Declared) (is : IsAboveObject world l
 
   overriding_itself : overriding_in world e e.by ≡ Some e
   overriding_itself =
-      ap (passing (λ d. overrides world d e)) (alike_itself e is.declared is.instance) ∙ ap (λ b. if b then Some e else None) (overrides_same world e is.instance)
+      ap (method_if (λ d. overrides world d e)) (alike_itself e is.declared is.instance) ∙ ap (λ b. if b then Some e else None) (overrides_same world e is.instance)
 
   pub itself_first : OnlyItself world l e → first_overriding world e l ≡ Some e
   itself_first single = first_is (overriding_in world e) (upward world l) e.by e is.place overriding_itself (λ c d h f. the_same single c d h f)
@@ -226,7 +227,7 @@ named_is_run world site t object by declared instance concrete straight =
     found = by_kind (is_interface t.named)
       where
         by_kind : (b : Bool) → (if b then interface_first world t.declared.method t.named else first_alike world t.declared.method t.named) ≡ Some t.declared
-        by_kind true = ap (λ o. option_or o (passing is_public_instance (method_if_loaded t.declared.method.name t.declared.method.descriptor (class_named world (codes "java/lang/Object"))))) own
+        by_kind true = ap (λ o. option_or o (method_if is_public_instance (method_if_loaded t.declared.method.name t.declared.method.descriptor (class_named world (codes "java/lang/Object"))))) own
         by_kind false = ap (λ o. else_option o (first_found (λ c. alike_in c t.declared.method) (superclasses world t.named.class))) own
 
     from_named : select_from world t.declared.method (special_start world site.by t.named) ≡ Ok t.declared

@@ -18,11 +18,11 @@ abbrev pub instance_fields : World → Loaded → List DeclaredField
 instance_fields world l = flat_map own_fields (reverse (upward world l))
 
 -- two words for a long
-abbrev pub width : DeclaredField → ℕ
-width d = if bytes_eq d.field.descriptor (codes "J") then 2 else 1
+abbrev pub field_words : DeclaredField → ℕ
+field_words d = if bytes_eq d.field.descriptor (codes "J") then 2 else 1
 
 abbrev pub object_words : World → Loaded → ℕ
-object_words world l = sum_by width (instance_fields world l)
+object_words world l = sum_by field_words (instance_fields world l)
 
 -- what an object costs: a cell, and one for each of its words
 abbrev pub object_cells : World → Loaded → ℕ
@@ -34,13 +34,13 @@ pub record Placed : Type 0 where
   pub field : DeclaredField
   pub place : ℕ
 
-abbrev pub placed : DeclaredField → ℕ → Placed
-placed d n = record { field = d; place = n }
+abbrev pub laid_at : DeclaredField → ℕ → Placed
+laid_at d n = record { field = d; place = n }
 
 -- each field behind the words of those before it
 abbrev pub placed_from : ℕ → List DeclaredField → List Placed
 placed_from n [] = []
-placed_from n (d ∷ more) = placed d n ∷ placed_from (n + width d) more
+placed_from n (d ∷ more) = laid_at d n ∷ placed_from (n + field_words d) more
 
 abbrev pub layout : World → Loaded → List Placed
 layout world l = placed_from 0 (instance_fields world l)
@@ -48,7 +48,7 @@ layout world l = placed_from 0 (instance_fields world l)
 -- ---- which places are right
 
 abbrev pub end_of : Placed → ℕ
-end_of p = p.place + width p.field
+end_of p = p.place + field_words p.field
 
 -- two fields have no word in common
 abbrev pub AreApart : Placed → Placed → Type 0

@@ -11,7 +11,7 @@ use Rattle.jv_loader_world.specs.World.{Loaded, World, class_named}
 use Rattle.jv_loader_world.specs.Above.{is_above, superclass_in, superclasses}
 use Rattle.jv_loader_world.specs.Overriding.{Declared, is_instance, alike_in, overriding}
 use Rattle.jv_loader_world.specs.Verdicts.{is_interface}
-use Rattle.jv_loader_world.specs.LookUps.{is_among, first_found, candidates, maximally_specific, is_concrete, is_public_instance, passing, method_if_loaded}
+use Rattle.jv_loader_world.specs.LookUps.{is_among, first_found, candidates, maximally_specific, is_concrete, is_public_instance, method_if, method_if_loaded}
 use Rattle.jv_meaning_linking.specs.Uses.{Use, Site}
 use Rattle.jv_meaning_linking.specs.Uses.Use.{Invokevirtual, Invokespecial, Invokeinterface}
 use Rattle.jv_meaning_linking.specs.LinkErrors.{OrError, ◌>>=◌, provided}
@@ -45,7 +45,7 @@ overrides world d e = are_alike d.method e.method && has_overriding world d.by e
 -- ---- instance methods upward from a class
 
 abbrev pub overriding_in : World → Declared → Loaded → Option Declared
-overriding_in world e l = passing (λ d. overrides world d e) (alike_in l e.method)
+overriding_in world e l = method_if (λ d. overrides world d e) (alike_in l e.method)
 
 -- the first that overrides a method
 abbrev pub first_overriding : World → Declared → Loaded → Option Declared
@@ -114,7 +114,7 @@ special_start world current named =
 abbrev pub interface_first : World → Method → Loaded → Option Declared
 interface_first world m l =
     option_or (alike_in l m)
-    (passing is_public_instance (method_if_loaded m.name m.descriptor (class_named world (codes "java/lang/Object"))))
+    (method_if is_public_instance (method_if_loaded m.name m.descriptor (class_named world (codes "java/lang/Object"))))
 
 -- from a class: the first upward, whose access is not asked
 abbrev pub special_first : World → Method → Loaded → Option Declared

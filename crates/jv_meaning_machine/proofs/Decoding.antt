@@ -13,7 +13,7 @@ use Rattle.jv_code.specs.Inside.Reading.{insn_read}
 use Rattle.jv_code.specs.Places.{all_fit, IsCode}
 use Rattle.jv_code.proofs.Laws.{insn_is}
 use Rattle.jv_code.proofs.Sizes.{some_bytes}
-use Rattle.jv_meaning_machine.specs.Alone.{AreInstructions, AreUnits}
+use Rattle.jv_meaning_machine.specs.Alone.{FindsInstructions, AreUnits}
 
 -- what passes a test, and nothing else
 passed_gave : {A : Type 0} (test : Bool) (a b : A) → (if test then Some a else None) ≡ Some b → (test ≡ true) × (a ≡ b)
@@ -83,7 +83,7 @@ code_passes bytes all code =
     (and_from (all_fit 0 all) (nat_le 1 (length bytes) && nat_le (length bytes) 65535) code.fit
     (and_from (nat_le 1 (length bytes)) (nat_le (length bytes) 65535) (le-leb 1 (length bytes) code.some) (le-leb (length bytes) 65535 code.few)))
 
-pub are_instructions : AreInstructions instructions_in
+pub are_instructions : FindsInstructions instructions_in
 unfolding instructions_in
 are_instructions bytes all = (there, back)
   where

@@ -10,7 +10,7 @@ use Rattle.jv_meaning_machine.specs.State.ClassState.{Untouched, Initialized}
 use Rattle.jv_meaning_machine.specs.State.End.{Running, NoMain}
 use Rattle.jv_meaning_machine.specs.Initialization.{main_method, begin_in, is_verified}
 use Rattle.jv_meaning_machine.specs.Start.{Budget, start_memory, start_control, start_with, start}
-use Rattle.jv_meaning_machine.specs.Alone.{Guest, Judged, IsJudged, after, alone}
+use Rattle.jv_meaning_machine.specs.Alone.{Guest, Judged, IsJudged, after_steps, alone}
 use Rattle.jv_meaning_machine.specs.Laws.{EndFitsBehind, EndFitsAlone, EndedGuestStays}
 use Rattle.jv_meaning_machine.proofs.Leading.{Leads, leaf, bound, chained}
 use Rattle.jv_meaning_machine.proofs.KeptAlone.{alone_goes_on}
@@ -47,7 +47,7 @@ module _ (G : ClassStates → ℕ → List Frame → Type 0) (kept : IsKept G) (
   pub alone_goes :
       (judged : Judged) (g : Guest) (b : Budget) (n : ℕ) (s : State) → IsJudged g.files judged → alone judged g b n ≡ Ok s → Went G kept s
   alone_goes judged g b n s right e =
-      (chained (Went G kept) (Went G kept) (start judged.program g.main g.input b) (after judged.program n)
+      (chained (Went G kept) (Went G kept) (start judged.program g.main g.input b) (after_steps judged.program n)
       (start_goes judged.program g.main g.input b own) (λ t h. record { at = λ u f. after_goes G kept judged.program n t u h f })).at
       s e
     where

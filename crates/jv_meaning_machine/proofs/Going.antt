@@ -26,10 +26,10 @@ use Rattle.jv_meaning_machine.specs.Calls.{entered_on}
 use Rattle.jv_meaning_machine.specs.Instructions.{execute}
 use Rattle.jv_meaning_machine.specs.Literals.{constant_value}
 use Rattle.jv_meaning_machine.specs.Throws.{exception, Thrown, counted, thrown, handler_for, at_handler, caught, replacement_if, replacement, passed_initialization, passed_method, unwound, throw, raise}
-use Rattle.jv_meaning_machine.specs.Entering.{frame_of, enter_within, enter, at_offset, resumed, leave_to}
+use Rattle.jv_meaning_machine.specs.Entering.{method_frame, enter_within, enter, at_offset, resumed, leave_to}
 use Rattle.jv_meaning_machine.specs.Initialization.{begin_within, begin_if, begin_in, begin, is_verified, first_tasks, tasks_of, main_arguments, tasks_left, finish, finished, set_field, do_task, with_tasks, do_first}
 use Rattle.jv_meaning_machine.specs.Step.{waiting, act, moment, step_in, step}
-use Rattle.jv_meaning_machine.specs.Alone.{after}
+use Rattle.jv_meaning_machine.specs.Alone.{after_steps}
 use Rattle.jv_meaning_machine.specs.Laws.{EndFits}
 use Rattle.jv_meaning_machine.proofs.Leading.{Leads, leaf, bound, bound_tested, chained}
 
@@ -172,7 +172,7 @@ module _ (G : ClassStates → ℕ → List Frame → Type 0) (kept : IsKept G) w
       (program : Program) (before after : Memory) (control : Control) (d : Declared) (receiver : Option ℕ) (arguments : List Value)
       → Going control control.frames → Leads State Went (enter program before after control d receiver arguments)
   enter_goes program before after control d receiver arguments h =
-      bound (frame_of program d receiver arguments) (λ frame. enter_within program.world before after control frame (given_words (method_words frame) control))
+      bound (method_frame program d receiver arguments) (λ frame. enter_within program.world before after control frame (given_words (method_words frame) control))
       (λ frame e.
       by_gift (λ (o : Option Control). Leads State Went (enter_within program.world before after control frame o)) (method_words frame) control
       (raise_goes program.world before control _ h)
@@ -316,10 +316,10 @@ module _ (G : ClassStates → ℕ → List Frame → Type 0) (kept : IsKept G) w
   pub step_goes : (program : Program) (s t : State) → Went s → step program s ≡ Ok t → Went t
   step_goes program s t h e = (step_in_goes program s s.control.frames refl h).at t e
 
-  after_leads : (program : Program) (n : ℕ) (s : State) → Went s → Leads State Went (after program n s)
+  after_leads : (program : Program) (n : ℕ) (s : State) → Went s → Leads State Went (after_steps program n s)
   after_leads program zero s h = leaf Went s h
   after_leads program (suc n) s h =
-      chained Went Went (after program n s) (step program) (after_leads program n s h) (λ t k. record { at = λ u e. step_goes program t u k e })
+      chained Went Went (after_steps program n s) (step program) (after_leads program n s h) (λ t k. record { at = λ u e. step_goes program t u k e })
 
-  pub after_goes : (program : Program) (n : ℕ) (s t : State) → Went s → after program n s ≡ Ok t → Went t
+  pub after_goes : (program : Program) (n : ℕ) (s t : State) → Went s → after_steps program n s ≡ Ok t → Went t
   after_goes program n s t h e = (after_leads program n s h).at t e

@@ -17,7 +17,7 @@ use Rattle.jv_meaning_machine.specs.Literals.{string_name}
 use Rattle.jv_meaning_machine.specs.Initialization.{main_method, begin}
 use Rattle.jv_meaning_machine.specs.Start.{Budget, start_cells, start_memory, start_control, start_with, start}
 use Rattle.jv_meaning_machine.specs.Step.{step}
-use Rattle.jv_meaning_machine.specs.Alone.{Guest, Judged, after, alone}
+use Rattle.jv_meaning_machine.specs.Alone.{Guest, Judged, after_steps, alone}
 use Rattle.jv_meaning_machine.specs.Shapes.{Shape, shape_of, shapes, shape_cells, used_cells, used_words, first_cells}
 use Rattle.jv_meaning_machine.specs.Kept.{BeginsWith, Keeps, KeepsState}
 use Rattle.jv_meaning_machine.specs.RunLaws.{OutputGrows, ObjectsStay, ObjectsAreNeverFewer, AloneGoesOn, OutputIsBudgeted, WordsAreBudgeted, CellsAreBudgeted, FirstObjectsCost}
@@ -96,7 +96,7 @@ from_over b memory s t h k =
 pub alone_leads : (judged : Judged) (g : Guest) (b : Budget) (n : ℕ) → Leads State (IsFromStart judged.program g.input b) (alone judged g b n)
 alone_leads judged g b n =
     chained (IsFromStart judged.program g.input b) (IsFromStart judged.program g.input b) (start judged.program g.main g.input b)
-    (after judged.program n) (start_leads judged.program g.main g.input b)
+    (after_steps judged.program n) (start_leads judged.program g.main g.input b)
     (λ s h.
     record {
       at = λ t e. record {
@@ -108,15 +108,15 @@ alone_leads judged g b n =
 
 -- ---- a guest alone
 
-after_later : (program : Program) (n more : ℕ) (s t : State) → after program n s ≡ Ok t → after program (n + more) s ≡ after program more t
-after_later program n zero s t e = ap (λ (k : ℕ). after program k s) (add-zero n) ∙ e
+after_later : (program : Program) (n more : ℕ) (s t : State) → after_steps program n s ≡ Ok t → after_steps program (n + more) s ≡ after_steps program more t
+after_later program n zero s t e = ap (λ (k : ℕ). after_steps program k s) (add-zero n) ∙ e
 after_later program n (suc more) s t e =
-    ap (λ (k : ℕ). after program k s) (add-suc n more) ∙ ap (λ (o : OrFault State). o >>= step program) (after_later program n more s t e)
+    ap (λ (k : ℕ). after_steps program k s) (add-suc n more) ∙ ap (λ (o : OrFault State). o >>= step program) (after_later program n more s t e)
 
 pub alone_goes_on : AloneGoesOn
 alone_goes_on judged g b n more s e = by_start (start judged.program g.main g.input b) e
   where
-    by_start : (o : OrFault State) → (o >>= after judged.program n) ≡ Ok s → (o >>= after judged.program (n + more)) ≡ after judged.program more s
+    by_start : (o : OrFault State) → (o >>= after_steps judged.program n) ≡ Ok s → (o >>= after_steps judged.program (n + more)) ≡ after_steps judged.program more s
     by_start (Ok first) f = after_later judged.program n more first s f
     by_start (Err fault) f = absurd cc
 

@@ -14,7 +14,7 @@ use Rattle.jv_meaning_machine.specs.Operands.{object_at}
 use Rattle.jv_meaning_machine.specs.Effects.{Moment, world_at, goes_on_with, lacks_memory}
 use Rattle.jv_meaning_machine.specs.Effects.Effect.{Constructs}
 use Rattle.jv_meaning_machine.specs.Fields.{instance_in}
-use Rattle.jv_meaning_machine.specs.Calls.{written, write, read, run_built_in, run_static, call_static, run_on, call_on, can_enter, construct, call_special, call_instance, call_target, call}
+use Rattle.jv_meaning_machine.specs.Calls.{with_byte_written, write, read, run_built_in, run_static, call_static, run_on, call_on, can_enter, construct, call_special, call_instance, call_target, call}
 use Rattle.jv_meaning_machine.proofs.Leading.{leaf, failing, bound, bound_tested}
 use Rattle.jv_meaning_machine.proofs.KeptMemory.{begins_same, keeps_same, keeps_written, keeps_read, with_input}
 use Rattle.jv_meaning_machine.proofs.KeptDone.{IsKept, leaves_same, instance_stands, Kept, made_kept, same_kept, unless_kept, once_kept}
@@ -26,7 +26,7 @@ write_kept m number below = by_test (m.memory.output_left == 0) refl
   where
     by_test :
         (test : Bool) → (m.memory.output_left == 0) ≡ test
-        → Kept m (if test then lacks_memory m else goes_on_with m (written number m.memory) below)
+        → Kept m (if test then lacks_memory m else goes_on_with m (with_byte_written number m.memory) below)
     by_test true e = same_kept m _ refl
     by_test false e = made_kept m _ _ refl (keeps_written number m.memory e) (record { statics = refl; objects = begins_same m.memory.objects })
 

@@ -23,7 +23,7 @@ use Rattle.jv_meaning_machine.specs.Effects.{out_of_memory}
 use Rattle.jv_meaning_machine.specs.Fields.{described}
 use Rattle.jv_meaning_machine.specs.Literals.{constant_value}
 use Rattle.jv_meaning_machine.specs.Throws.{exception_made, exception, Thrown, counted, thrown, handler_for, caught, replacement_if, replacement, passed_initialization, passed_method, unwound, throw, raise}
-use Rattle.jv_meaning_machine.specs.Entering.{frame_of, enter_within, enter, at_offset, resumed, leave_to, leave}
+use Rattle.jv_meaning_machine.specs.Entering.{method_frame, enter_within, enter, at_offset, resumed, leave_to, leave}
 use Rattle.jv_meaning_machine.specs.Initialization.{begin_within, begin_if, begin_in, begin, is_verified, tasks_of, main_arguments, tasks_left, finish, finished, set_field, do_task, with_tasks, do_first, initialization_step}
 use Rattle.jv_meaning_machine.specs.Shapes.{frame_words}
 use Rattle.jv_meaning_machine.specs.Kept.{Keeps}
@@ -178,7 +178,7 @@ module _ (from : Memory) (all_words : ℕ) (main : List ℕ) where
       → Keeps from before → Keeps from after → HasWords control control.frames
       → Leads State Stays (enter program before after control d receiver arguments)
   enter_stays program before after control d receiver arguments h k w =
-      bound (frame_of program d receiver arguments) (λ frame. enter_within program.world before after control frame (given_words (method_words frame) control))
+      bound (method_frame program d receiver arguments) (λ frame. enter_within program.world before after control frame (given_words (method_words frame) control))
       (λ frame e. enter_within_stays program.world before after control frame h k w)
 
   -- ---- returns

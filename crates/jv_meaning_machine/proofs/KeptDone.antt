@@ -14,7 +14,7 @@ use Rattle.jv_meaning_linking.specs.LinkErrors.{OrError, error_class}
 use Rattle.jv_meaning_linking.specs.Operands.{field_operand}
 use Rattle.jv_meaning_linking.specs.FieldResolution.{resolve_field}
 use Rattle.jv_meaning_typing.specs.Environment.{current_class}
-use Rattle.jv_meaning_linking.specs.Layout.{instance_fields, width, object_cells}
+use Rattle.jv_meaning_linking.specs.Layout.{instance_fields, field_words, object_cells}
 use Rattle.jv_meaning_machine.specs.Faults.{found, tested, ◌>>=◌}
 use Rattle.jv_meaning_machine.specs.Faults.Fault.{OffsetFault, ReferenceFault, TagFault, ConstructionFault}
 use Rattle.jv_meaning_machine.specs.Values.{Value}
@@ -25,11 +25,11 @@ use Rattle.jv_meaning_machine.specs.State.{Program, Memory, ClassState, class_st
 use Rattle.jv_meaning_machine.specs.State.ClassState.{Untouched, Begun, Initialized, Erroneous}
 use Rattle.jv_meaning_machine.specs.Costs.{array_cells, paid, next_object}
 use Rattle.jv_meaning_machine.specs.Operands.{object_at}
-use Rattle.jv_meaning_machine.specs.Effects.{Effect, Moment, Done, world_at, method_at, site_at, goes_on_with, in_state, once_initialized, unless_error}
+use Rattle.jv_meaning_machine.specs.Effects.{Effect, Moment, Done, world_at, method_of_moment, site_at, goes_on_with, in_state, once_initialized, unless_error}
 use Rattle.jv_meaning_machine.specs.Effects.Effect.{Goes, Enters, Constructs, Leaves, Throws, Raises, Begins}
 use Rattle.jv_meaning_machine.specs.Arrays.{base_components}
 use Rattle.jv_meaning_machine.specs.Literals.{string_value, chars_of, char_of, string_with, literal_in, literal_made, literal_cells, literal_or_new, literal, string_loaded, constant_value, push_value, push_constant, push_long_constant}
-use Rattle.jv_meaning_machine.specs.Fields.{use_for, get_static, put_static, instance_in, get_field_of, get_field, can_be_set, with_field, with_object, put_field_of, put_field, access_field, use_field}
+use Rattle.jv_meaning_machine.specs.Fields.{use_for, get_static, put_static, instance_in, get_field_of, get_field, can_be_set, with_field_value, with_object, put_field_of, put_field, access_field, use_field}
 use Rattle.jv_meaning_machine.specs.Shapes.{shape_of, shape_cells, field_cells, keys_in}
 use Rattle.jv_meaning_machine.specs.Shapes.Shape.{ObjectShape}
 use Rattle.jv_meaning_machine.specs.Kept.{Keeps, LeavesAll}
@@ -162,9 +162,9 @@ get_field_kept m d = search (bound, get_field_of_kept)
 
 keeps_field :
     (memory : Memory) (id : ℕ) (instance : Instance) (key : FieldKey) (value : Value) → slice_get memory.objects id ≡ Some (InstanceOf instance)
-    → Keeps memory (with_object id (with_field key value instance) memory)
+    → Keeps memory (with_object id (with_field_value key value instance) memory)
 keeps_field memory id instance key value e =
-    keeps_object id (InstanceOf instance) (with_field key value instance) memory e
+    keeps_object id (InstanceOf instance) (with_field_value key value instance) memory e
     (ap (λ (keys : List FieldKey). ObjectShape instance.class keys) (same_keys key value instance.fields)) (λ constructed. constructed)
 
 put_field_of_stored :
@@ -181,9 +181,9 @@ put_field_of_stored m reference d (Reference id) value below =
         → Stored m
         (tested ConstructionFault (can_be_set m reference id instance) instance >>= λ instance.
         tested ReferenceFault (is_some (value_at (key_of d) instance.fields)) instance >>= λ instance.
-        goes_on_with m (with_object id (with_field (key_of d) value instance) m.memory) below)
+        goes_on_with m (with_object id (with_field_value (key_of d) value instance) m.memory) below)
     at_instance instance e =
-        let h : Keeps m.memory (with_object id (with_field (key_of d) value instance) m.memory) = keeps_field m.memory id instance (key_of d) value e in
+        let h : Keeps m.memory (with_object id (with_field_value (key_of d) value instance) m.memory) = keeps_field m.memory id instance (key_of d) value e in
         search (bound_tested, made_stored, h)
 put_field_of_stored m reference d Half value below = failing TagFault
 put_field_of_stored m reference d Unset value below = failing TagFault
@@ -210,7 +210,7 @@ unless_does stores m (Err error) next h = leaf (IsDone stores m) (m.memory, Rais
 
 pub use_field_does : (m : Moment) (how : FieldAccess) (index : ℕ) → Does (stores_field how) m (use_field m how index)
 use_field_does m how index =
-    bound (found OffsetFault (field_operand (current_class (method_at m)) index))
+    bound (found OffsetFault (field_operand (current_class (method_of_moment m)) index))
     (λ reference. unless_error m (resolve_field (world_at m) (site_at m) (use_for how) reference) (access_field m how reference))
     (λ reference e.
     unless_does (stores_field how) m (resolve_field (world_at m) (site_at m) (use_for how) reference) (access_field m how reference)
@@ -219,10 +219,10 @@ use_field_does m how index =
 -- ---- what objects cost
 
 -- the cells of an object's fields are those of its layout
-field_cells_are : (fields : List DeclaredField) → sum_by field_cells (keys_in (map first_entry fields)) ≡ sum_by width fields
+field_cells_are : (fields : List DeclaredField) → sum_by field_cells (keys_in (map first_entry fields)) ≡ sum_by field_words fields
 field_cells_are [] = refl
 field_cells_are (d ∷ more) =
-    omega (arith, sum_by-cons field_cells (key_of d) (keys_in (map first_entry more)), sum_by-cons width d more, field_cells_are more)
+    omega (arith, sum_by-cons field_cells (key_of d) (keys_in (map first_entry more)), sum_by-cons field_words d more, field_cells_are more)
 
 -- an object that the machine makes costs the cells of its class
 pub cost_of_object :

@@ -22,13 +22,13 @@ use Rattle.jv_meaning_machine.specs.Values.{Value}
 use Rattle.jv_meaning_machine.specs.Values.Value.{Int, Long, Null, Reference, Half, Unset}
 use Rattle.jv_meaning_machine.specs.Objects.{Content, Object, value_at, new_object}
 use Rattle.jv_meaning_machine.specs.Operands.{taken}
-use Rattle.jv_meaning_machine.specs.Locations.{Location, field_in, component_in, held_at}
+use Rattle.jv_meaning_machine.specs.Locations.{Location, field_of_object, component_in, held_at}
 use Rattle.jv_meaning_machine.specs.Locations.Location.{FieldOf, ComponentOf, StaticField}
 use Rattle.jv_meaning_machine.specs.Kept.{LeavesAll}
 use Rattle.jv_meaning_machine.specs.StoreLaws.{is_store, OthersLeaveAll, OthersStoreNothing}
 use Rattle.jv_meaning_machine.specs.State.{Memory}
 use Rattle.jv_meaning_machine.specs.Costs.{paid}
-use Rattle.jv_meaning_machine.specs.Effects.{Effect, Moment, Done, world_at, method_at}
+use Rattle.jv_meaning_machine.specs.Effects.{Effect, Moment, Done, world_at, method_of_moment}
 use Rattle.jv_meaning_machine.specs.Arrays.{holds_numbers, holds_references}
 use Rattle.jv_meaning_machine.specs.Calls.{use_for_call}
 use Rattle.jv_meaning_machine.specs.Instructions.{jumps, jumps_if, divide, division, branch_on_ints, store_in_array, throw_value, with_operands, load, store, increment, move_words, branch_on_references, return_value, return_nothing, push_object, create, new, when_tested, cast_if, check_cast_of, check_cast, answered, instance_of_value, instance_of, execute_other, execute_by, execute}
@@ -184,8 +184,8 @@ execute_other_does m insns.ReferenceArrayLoad = load_component_kept m holds_refe
 execute_other_does m (insns.ArrayStore element) = store_component_stored m element
 execute_other_does m (insns.Stack form) = move_words_kept m form
 execute_other_does m (insns.Branch test distance) = branch_on_references_kept m test distance
-execute_other_does m (insns.ReturnValue kind) = return_value_kept m kind (method_at m).descriptor.result
-execute_other_does m insns.Return = return_nothing_kept m (method_at m).descriptor.result
+execute_other_does m (insns.ReturnValue kind) = return_value_kept m kind (method_of_moment m).descriptor.result
+execute_other_does m insns.Return = return_nothing_kept m (method_of_moment m).descriptor.result
 execute_other_does m (insns.Field access index) = use_field_does m access index
 execute_other_does m (insns.Invoke how index) = call_kept m (use_for_call how) index
 execute_other_does m (insns.InvokeInterface index count) = call_kept m Invokeinterface index
@@ -241,6 +241,6 @@ others_store_nothing m insn after effect other e = by_location
             ap f (ap (λ (l : List Object). slice_get l number) left.objects.1 ∙ in_longer m.memory.objects left.objects.0 number object g)
 
     by_location : (location : Location) → IsSome (held_at m.memory location) → held_at after location ≡ held_at m.memory location
-    by_location (FieldOf object key) some = found_in (field_in key) refl object some
+    by_location (FieldOf object key) some = found_in (field_of_object key) refl object some
     by_location (ComponentOf array place) some = found_in (component_in place) refl array some
     by_location (StaticField key) some = ap (λ (content : Content). value_at key content) left.statics

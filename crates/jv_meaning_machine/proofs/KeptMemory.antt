@@ -13,7 +13,7 @@ use Rattle.jv_meaning_machine.specs.State.{Memory}
 use Rattle.jv_meaning_machine.specs.Costs.{paid, with_objects}
 use Rattle.jv_meaning_machine.specs.Literals.{literal_in}
 use Rattle.jv_meaning_machine.specs.Fields.{with_static, with_object}
-use Rattle.jv_meaning_machine.specs.Calls.{written}
+use Rattle.jv_meaning_machine.specs.Calls.{with_byte_written}
 use Rattle.jv_meaning_machine.specs.Shapes.{Shape, shape_of, shapes, shape_cells, keys_in}
 use Rattle.jv_meaning_machine.specs.Kept.{BeginsWith, EndsWith, Keeps}
 
@@ -208,7 +208,7 @@ not_none : (n : ℕ) → (n == 0) ≡ false → 1 ≤ n
 not_none zero e = absurd (true≢false e)
 not_none (suc n) e = omega arith
 
-pub keeps_written : (number : ℤ) (memory : Memory) → (memory.output_left == 0) ≡ false → Keeps memory (written number memory)
+pub keeps_written : (number : ℤ) (memory : Memory) → (memory.output_left == 0) ≡ false → Keeps memory (with_byte_written number memory)
 keeps_written number memory e = record {
   output = ((cast_unsigned w32 number % 256) ∷ [], refl);
   output_budget = omega (arith, length-append memory.output ((cast_unsigned w32 number % 256) ∷ []), not_none memory.output_left e);

@@ -17,7 +17,7 @@ use Rattle.jv_meaning_machine.specs.Calls.{entered_on}
 use Rattle.jv_meaning_machine.specs.Instructions.{execute}
 use Rattle.jv_meaning_machine.specs.Entering.{at_offset, enter}
 use Rattle.jv_meaning_machine.specs.Step.{waiting, act, moment, step_in, step}
-use Rattle.jv_meaning_machine.specs.Alone.{after}
+use Rattle.jv_meaning_machine.specs.Alone.{after_steps}
 use Rattle.jv_meaning_machine.specs.Shapes.{used_words}
 use Rattle.jv_meaning_machine.specs.Kept.{Keeps, KeepsState}
 use Rattle.jv_meaning_machine.proofs.Leading.{Leads, leaf, bound, chained}
@@ -118,11 +118,11 @@ state_over a b c h k = record {
   main = k.main ∙ h.main;
 }
 
-after_leads : (program : Program) (n : ℕ) (s : State) → Leads State (KeepsState s) (after program n s)
+after_leads : (program : Program) (n : ℕ) (s : State) → Leads State (KeepsState s) (after_steps program n s)
 after_leads program zero s = leaf (KeepsState s) s (record { memory = keeps_same s.memory; words_budget = refl; main = refl })
 after_leads program (suc n) s =
-    chained (KeepsState s) (KeepsState s) (after program n s) (step program) (after_leads program n s)
+    chained (KeepsState s) (KeepsState s) (after_steps program n s) (step program) (after_leads program n s)
     (λ t h. record { at = λ u e. state_over s t u h (step_kept program t u e) })
 
-pub after_kept : (program : Program) (n : ℕ) (s t : State) → after program n s ≡ Ok t → KeepsState s t
+pub after_kept : (program : Program) (n : ℕ) (s t : State) → after_steps program n s ≡ Ok t → KeepsState s t
 after_kept program n s t e = (after_leads program n s).at t e

@@ -11,7 +11,7 @@ use Rattle.jv_loader_world.specs.of_loader_files.FileContent.{FileContent}
 use Rattle.jv_loader_world.specs.World.{Loaded, World, loaded, class_named, classes_in, world_of}
 use Rattle.jv_loader_world.specs.Overriding.{Declared}
 use Rattle.jv_loader_world.specs.Verdicts.{declared_by, is_loadable}
-use Rattle.jv_loader_world.specs.LookUps.{method_in, passing}
+use Rattle.jv_loader_world.specs.LookUps.{method_in, method_if}
 use Rattle.jv_meaning_machine.specs.Initialization.{is_main, main_in}
 use Rattle.jv_meaning_machine.specs.Laws.{NoMainWithoutFiles, MainIsItsOwn}
 
@@ -95,12 +95,12 @@ main_is_its_own contents name d e = by_class (class_named (world_of system_class
     by_test l m false f its = absurd cc
 
     by_method : (l : Loaded) (o : Option Method) → method_named l.class (codes "main") (codes "([Ljava/lang/String;)V") ≡ o → plain l ≡ true
-        → passing is_main (option_map (declared_by l) o) ≡ Some d → d.by.by_system ≡ false
+        → method_if is_main (option_map (declared_by l) o) ≡ Some d → d.by.by_system ≡ false
     by_method l None f h k = absurd cc
     by_method l (Some m) f h k = by_test l m (is_main (declared_by l m)) k (own l m l.by_system refl f h)
 
     by_loadable : (l : Loaded) (b : Bool) → plain l ≡ true
-        → (elim b [ false ↦ None | true ↦ passing is_main (method_in (codes "main") (codes "([Ljava/lang/String;)V") l) ]) ≡ Some d → d.by.by_system ≡ false
+        → (elim b [ false ↦ None | true ↦ method_if is_main (method_in (codes "main") (codes "([Ljava/lang/String;)V") l) ]) ≡ Some d → d.by.by_system ≡ false
     by_loadable l true h k = by_method l (method_named l.class (codes "main") (codes "([Ljava/lang/String;)V")) refl h k
     by_loadable l false h k = absurd cc
 

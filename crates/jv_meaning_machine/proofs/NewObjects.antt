@@ -27,7 +27,7 @@ use Rattle.jv_meaning_machine.specs.State.{Memory, ClassState, class_state}
 use Rattle.jv_meaning_machine.specs.State.ClassState.{Untouched, Begun, Initialized, Erroneous}
 use Rattle.jv_meaning_machine.specs.Costs.{array_cells, arrays_cells, paid, next_object}
 use Rattle.jv_meaning_machine.specs.Operands.{taken, taken_as}
-use Rattle.jv_meaning_machine.specs.Effects.{Effect, Moment, Done, world_at, method_at, site_at, in_state, unless_error, out_of_memory}
+use Rattle.jv_meaning_machine.specs.Effects.{Effect, Moment, Done, world_at, method_of_moment, site_at, in_state, unless_error, out_of_memory}
 use Rattle.jv_meaning_machine.specs.Effects.Effect.{Throws, Raises}
 use Rattle.jv_meaning_machine.specs.Arithmetic.{one, as_int}
 use Rattle.jv_meaning_machine.specs.Literals.{string_name, literal_in, literal_made, literal_cells, literal_or_new, string_loaded, constant_value, pushed_constant, push_value, pool_at}
@@ -76,12 +76,12 @@ module _ (m : Moment) (P : Memory × Effect → Type 0) (how : Option Use) (inde
       (next : ResolvedClass → Done) → ((effect : Effect) → ThrowsClassError m how index m.memory effect → P (m.memory, effect))
       → ((resolved : ResolvedClass) → NamesClass m how index resolved → Leads (Memory × Effect) P (next resolved))
       → Leads (Memory × Effect) P
-      (found OffsetFault (class_operand (current_class (method_at m)) index) >>= λ text.
+      (found OffsetFault (class_operand (current_class (method_of_moment m)) index) >>= λ text.
       unless_error m (resolve_class (world_at m) (site_at m) how text) next)
-  class_leads next fails h = by_operand (class_operand (current_class (method_at m)) index) refl
+  class_leads next fails h = by_operand (class_operand (current_class (method_of_moment m)) index) refl
     where
       by_resolution :
-          (text : List ℕ) → class_operand (current_class (method_at m)) index ≡ Some text → (o : OrError ResolvedClass)
+          (text : List ℕ) → class_operand (current_class (method_of_moment m)) index ≡ Some text → (o : OrError ResolvedClass)
           → resolve_class (world_at m) (site_at m) how text ≡ o → Leads (Memory × Effect) P (unless_error m o next)
       by_resolution text e (Ok resolved) f = h resolved (record { text = text; operand = e; resolves = f })
       by_resolution text e (Err error) f =
@@ -89,7 +89,7 @@ module _ (m : Moment) (P : Memory × Effect → Type 0) (how : Option Use) (inde
           (fails (Raises (error_class error)) (record { text = text; operand = e; error = error; unresolved = f; same = refl; throws = refl }))
 
       by_operand :
-          (o : Option (List ℕ)) → class_operand (current_class (method_at m)) index ≡ o
+          (o : Option (List ℕ)) → class_operand (current_class (method_of_moment m)) index ≡ o
           → Leads (Memory × Effect) P (found OffsetFault o >>= λ text. unless_error m (resolve_class (world_at m) (site_at m) how text) next)
       by_operand None e = failing OffsetFault
       by_operand (Some text) e = by_resolution text e (resolve_class (world_at m) (site_at m) how text) refl

@@ -17,7 +17,7 @@ use Rattle.jv_meaning_machine.specs.State.End.{NoMain}
 use Rattle.jv_meaning_machine.specs.Initialization.{main_method}
 use Rattle.jv_meaning_machine.specs.Start.{Budget, start_memory, start_control, start_with, start}
 use Rattle.jv_meaning_machine.specs.Step.{step}
-use Rattle.jv_meaning_machine.specs.Alone.{Guest, Judged, IsJudged, accepted_names, after, alone}
+use Rattle.jv_meaning_machine.specs.Alone.{Guest, Judged, IsJudged, accepted_names, after_steps, alone}
 use Rattle.jv_meaning_machine.specs.Observation.{Observed, Shows, FaultsWithin, observation}
 use Rattle.jv_meaning_machine.specs.Kept.{BeginsWith}
 use Rattle.jv_meaning_machine.specs.ForwardLaws.{IsLater}
@@ -175,7 +175,7 @@ shows_no_main main input b n = by_class (class_named (world_of system_classes []
       right = found_none.1;
       state = state_of (start_memory (world_of system_classes []) input b error) (start_control main b NoMain);
       ran =
-          ap (λ (o : OrFault State). o >>= after found_none.0.program n)
+          ap (λ (o : OrFault State). o >>= after_steps found_none.0.program n)
           (ap
           (λ (o : Option Loaded).
           found ReferenceFault o >>= λ l.
@@ -191,16 +191,16 @@ shows_no_main main input b n = by_class (class_named (world_of system_classes []
 
 -- ---- faults stay, and what is shown grows
 
-fault_over : (program : Program) (n more : ℕ) (s : State) (fault : Fault) → after program n s ≡ Err fault → after program (n + more) s ≡ Err fault
-fault_over program n zero s fault e = ap (λ (k : ℕ). after program k s) (add-zero n) ∙ e
+fault_over : (program : Program) (n more : ℕ) (s : State) (fault : Fault) → after_steps program n s ≡ Err fault → after_steps program (n + more) s ≡ Err fault
+fault_over program n zero s fault e = ap (λ (k : ℕ). after_steps program k s) (add-zero n) ∙ e
 fault_over program n (suc more) s fault e =
-    ap (λ (k : ℕ). after program k s) (add-suc n more) ∙ ap (λ (o : OrFault State). o >>= step program) (fault_over program n more s fault e)
+    ap (λ (k : ℕ). after_steps program k s) (add-suc n more) ∙ ap (λ (o : OrFault State). o >>= step program) (fault_over program n more s fault e)
 
 alone_fault_over :
     (judged : Judged) (g : Guest) (b : Budget) (n more : ℕ) (fault : Fault) → alone judged g b n ≡ Err fault → alone judged g b (n + more) ≡ Err fault
 alone_fault_over judged g b n more fault e = by_start (start judged.program g.main g.input b) e
   where
-    by_start : (o : OrFault State) → (o >>= after judged.program n) ≡ Err fault → (o >>= after judged.program (n + more)) ≡ Err fault
+    by_start : (o : OrFault State) → (o >>= after_steps judged.program n) ≡ Err fault → (o >>= after_steps judged.program (n + more)) ≡ Err fault
     by_start (Ok first) f = fault_over judged.program n more first fault f
     by_start (Err other) f = f
 

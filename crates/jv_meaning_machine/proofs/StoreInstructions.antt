@@ -15,7 +15,7 @@ use Rattle.jv_meaning_linking.specs.LinkErrors.{OrError, error_class}
 use Rattle.jv_meaning_linking.specs.Operands.{field_operand}
 use Rattle.jv_meaning_linking.specs.FieldResolution.{resolve_field}
 use Rattle.jv_meaning_typing.specs.Environment.{current_class}
-use Rattle.jv_meaning_typing.specs.Named.{object_type, array_with, class_components}
+use Rattle.jv_meaning_typing.specs.Named.{object_class_type, array_with, class_components}
 use Rattle.jv_meaning_typing.specs.NumberRules.{element_number}
 use Rattle.jv_meaning_machine.specs.Faults.{found, ◌>>=◌}
 use Rattle.jv_meaning_machine.specs.Faults.Fault.{OffsetFault, TagFault}
@@ -26,14 +26,14 @@ use Rattle.jv_meaning_machine.specs.Objects.Object.{InstanceOf, ArrayWith}
 use Rattle.jv_meaning_machine.specs.State.{Memory, ClassState, class_state}
 use Rattle.jv_meaning_machine.specs.State.ClassState.{Untouched, Begun, Initialized, Erroneous}
 use Rattle.jv_meaning_machine.specs.Operands.{object_at, popped_reference, taken_as, taken_reference, taken}
-use Rattle.jv_meaning_machine.specs.Effects.{Effect, Moment, Done, world_at, method_at, site_at, goes_on_with, in_state, once_initialized, unless_error, null_pointer, array_index, array_store}
+use Rattle.jv_meaning_machine.specs.Effects.{Effect, Moment, Done, world_at, method_of_moment, site_at, goes_on_with, in_state, once_initialized, unless_error, null_pointer, array_index, array_store}
 use Rattle.jv_meaning_machine.specs.Effects.Effect.{Goes, Raises, Begins}
 use Rattle.jv_meaning_machine.specs.Arithmetic.{as_int}
-use Rattle.jv_meaning_machine.specs.Fields.{use_for, described, with_static, put_static, instance_in, can_be_set, with_object, with_field, put_field_of, put_field, access_field, use_field}
+use Rattle.jv_meaning_machine.specs.Fields.{use_for, described, with_static, put_static, instance_in, can_be_set, with_object, with_field_value, put_field_of, put_field, access_field, use_field}
 use Rattle.jv_meaning_machine.specs.Instructions.{store_in_array}
 use Rattle.jv_meaning_machine.specs.Arrays.{Components, array_in, at_place, place_for, holds_numbers, holds_references, with_component_stored, store_at, store_number, store_component, can_stand, store_reference_if, store_reference_at, store_reference}
 use Rattle.jv_meaning_machine.specs.Initialization.{is_under_way}
-use Rattle.jv_meaning_machine.specs.Locations.{field_in, component_in}
+use Rattle.jv_meaning_machine.specs.Locations.{field_of_object, component_in}
 use Rattle.jv_meaning_machine.specs.StoreLaws.{NamesField, ThrowsLinkError, BeginsFirst, PutsToNull, StoresToNull, StoresOutside, StoresStranger, PutsStatic, PutsField, PutsComponent, PutstaticStores, PutfieldStores, ArrayStoreStores, ReferenceArrayStoreStores}
 use Rattle.jv_meaning_machine.proofs.Leading.{Leads, leaf, failing, bound, bound_tested, chained, found_gave}
 use Rattle.jv_meaning_machine.proofs.KeptDone.{instance_stands}
@@ -63,14 +63,14 @@ module _ (m : Moment) (P : Memory × Effect → Type 0) where
       → ((d : DeclaredField) (names : NamesField m how index d) → Leads (Memory × Effect) P (access_field m how names.reference d))
       → Leads (Memory × Effect) P (use_field m how index)
   use_field_leads how index fails h =
-      bound (found OffsetFault (field_operand (current_class (method_at m)) index))
+      bound (found OffsetFault (field_operand (current_class (method_of_moment m)) index))
       (λ reference. unless_error m (resolve_field (world_at m) (site_at m) (use_for how) reference) (access_field m how reference))
       (λ reference e.
-      by_resolution reference (found_gave OffsetFault (field_operand (current_class (method_at m)) index) reference e)
+      by_resolution reference (found_gave OffsetFault (field_operand (current_class (method_of_moment m)) index) reference e)
       (resolve_field (world_at m) (site_at m) (use_for how) reference) refl)
     where
       by_resolution :
-          (reference : MemberReference) → field_operand (current_class (method_at m)) index ≡ Some reference → (o : OrError DeclaredField)
+          (reference : MemberReference) → field_operand (current_class (method_of_moment m)) index ≡ Some reference → (o : OrError DeclaredField)
           → resolve_field (world_at m) (site_at m) (use_for how) reference ≡ o
           → Leads (Memory × Effect) P (unless_error m o (access_field m how reference))
       by_resolution reference e (Ok d) f = h d (record { reference = reference; operand = e; resolved = f })
@@ -142,7 +142,7 @@ put_on m reference d type e (Reference id) value below s =
     (instance : Instance) → (object_at m.memory.objects id >>= instance_in) ≡ Ok instance → can_be_set m reference id instance ≡ true
     → is_some (value_at (key_of d) instance.fields) ≡ true
     → Leads (Memory × Effect) (FieldPutOf m reference d)
-    (goes_on_with m (with_object id (with_field (key_of d) (narrowed type value) instance) m.memory) below) =
+    (goes_on_with m (with_object id (with_field_value (key_of d) (narrowed type value) instance) m.memory) below) =
     λ instance f can g.
     let is : slice_get m.memory.objects id ≡ Some (InstanceOf instance) = instance_stands m.memory.objects id instance f in
     leaf (FieldPutOf m reference d) _
@@ -157,7 +157,7 @@ put_on m reference d type e (Reference id) value below s =
       can_be = can;
       type = type;
       described = found_gave OffsetFault (field_type_of d.field.descriptor) type e;
-      there = subst (λ (o : Option Object). IsSome (field_in (key_of d) o)) (sym is) g;
+      there = subst (λ (o : Option Object). IsSome (field_of_object (key_of d) o)) (sym is) g;
       stores = field_stores m.memory id instance (key_of d) (narrowed type value) is;
       goes = refl;
     })) in
@@ -175,7 +175,7 @@ put_field_leads m reference d =
     λ type top under e f g.
     put_on m reference d type e under.0 top.0 under.1
     (taken_gave m.memory.objects (value_type type) m.frame.stack top f
-    ∙ ap (λ (l : List Value). top.0 ∷ l) (popped_as_gave object_type top.1 under g)) in
+    ∙ ap (λ (l : List Value). top.0 ∷ l) (popped_as_gave object_class_type top.1 under g)) in
     search (bound, stored)
 
 abbrev FieldPut : Moment → ℕ → Memory × Effect → Type 0
@@ -287,7 +287,7 @@ store_component_leads m kind =
     (taken_gave m.memory.objects (element_number kind) m.frame.stack top e
     ∙ ap (λ (l : List Value). top.0 ∷ l)
     (taken_gave m.memory.objects types.Int top.1 second f
-    ∙ ap (λ (l : List Value). second.0 ∷ l) (taken_gave m.memory.objects object_type second.1 under h)
+    ∙ ap (λ (l : List Value). second.0 ∷ l) (taken_gave m.memory.objects object_class_type second.1 under h)
     ∙ ap (λ (v : Value). v ∷ under.0 ∷ under.1) (int_gave second.0 index g))) in
     search (bound, stored)
 
@@ -401,8 +401,8 @@ store_in_array_leads m operands known =
 pub reference_array_store_stores : ReferenceArrayStoreStores
 reference_array_store_stores m after effect e =
     (chained (AreThree m.frame.stack) (ReferencePut m)
-    (taken m.memory.objects (array_with (class_components (codes "java/lang/Object")) ∷ types.Int ∷ object_type ∷ []) m.frame.stack)
+    (taken m.memory.objects (array_with (class_components (codes "java/lang/Object")) ∷ types.Int ∷ object_class_type ∷ []) m.frame.stack)
     (λ operands. store_in_array m operands.0 operands.1)
-    (three_taken m.memory.objects (array_with (class_components (codes "java/lang/Object"))) types.Int object_type m.frame.stack)
+    (three_taken m.memory.objects (array_with (class_components (codes "java/lang/Object"))) types.Int object_class_type m.frame.stack)
     (store_in_array_leads m)).at
     (after, effect) e

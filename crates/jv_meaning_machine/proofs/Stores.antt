@@ -6,11 +6,11 @@ use Rattle.jv_meaning_machine.specs.Values.{Value, narrowed}
 use Rattle.jv_meaning_machine.specs.Objects.{FieldKey, Object, Instance, same_key, value_at, with_value}
 use Rattle.jv_meaning_machine.specs.Objects.Object.{InstanceOf, ArrayWith}
 use Rattle.jv_meaning_machine.specs.State.{Memory}
-use Rattle.jv_meaning_machine.specs.Fields.{with_static, with_object, with_field}
+use Rattle.jv_meaning_machine.specs.Fields.{with_static, with_object, with_field_value}
 use Rattle.jv_meaning_machine.specs.Arrays.{Components, with_component_stored}
 use Rattle.jv_meaning_machine.specs.Shapes.{shape_of}
 use Rattle.jv_meaning_machine.specs.Shapes.Shape.{ObjectShape, ArrayShape}
-use Rattle.jv_meaning_machine.specs.Locations.{Location, field_in, component_in, held_at, bare, StoresAt}
+use Rattle.jv_meaning_machine.specs.Locations.{Location, field_of_object, component_in, held_at, bare, StoresAt}
 use Rattle.jv_meaning_machine.specs.Locations.Location.{FieldOf, ComponentOf, StaticField}
 use Rattle.jv_meaning_machine.specs.StoreLaws.{OtherFieldsStay}
 use Rattle.jv_meaning_machine.proofs.Contents.{stored_is_there}
@@ -86,26 +86,26 @@ seen_of_each f objects id old object e number same = by_number (cases_eq number 
 
 pub field_stores :
     (memory : Memory) (id : ℕ) (instance : Instance) (key : FieldKey) (value : Value) → slice_get memory.objects id ≡ Some (InstanceOf instance)
-    → StoresAt memory (with_object id (with_field key value instance) memory) (FieldOf id key) value
+    → StoresAt memory (with_object id (with_field_value key value instance) memory) (FieldOf id key) value
 field_stores memory id instance key value e = record {
   there = λ h.
-      ap (field_in key) (set_there memory.objects id (with_field key value instance) (InstanceOf instance) e)
-      ∙ stored_is_there key value instance.fields (subst (λ (o : Option Object). IsSome (field_in key o)) e h);
+      ap (field_of_object key) (set_there memory.objects id (with_field_value key value instance) (InstanceOf instance) e)
+      ∙ stored_is_there key value instance.fields (subst (λ (o : Option Object). IsSome (field_of_object key o)) e h);
   others = elsewhere;
   shapes_same =
-      same_of_all shape_of id (InstanceOf instance) (with_field key value instance) memory.objects e
+      same_of_all shape_of id (InstanceOf instance) (with_field_value key value instance) memory.objects e
       (ap (λ (keys : List FieldKey). ObjectShape instance.class keys) (same_keys key value instance.fields));
-  objects_same = same_of_all bare id (InstanceOf instance) (with_field key value instance) memory.objects e refl;
+  objects_same = same_of_all bare id (InstanceOf instance) (with_field_value key value instance) memory.objects e refl;
   rest = refl;
 }
   where
     elsewhere :
-        (other : Location) → (other ≡ FieldOf id key → ⊥) → held_at (with_object id (with_field key value instance) memory) other ≡ held_at memory other
+        (other : Location) → (other ≡ FieldOf id key → ⊥) → held_at (with_object id (with_field_value key value instance) memory) other ≡ held_at memory other
     elsewhere (FieldOf object other) differ =
-        seen_of_each (field_in other) memory.objects id (InstanceOf instance) (with_field key value instance) e object
+        seen_of_each (field_of_object other) memory.objects id (InstanceOf instance) (with_field_value key value instance) e object
         (λ is. other_fields_stay key other value instance.fields (λ f. differ (ap (λ (n : ℕ). FieldOf n other) is ∙ ap (λ (k : FieldKey). FieldOf id k) f)))
     elsewhere (ComponentOf array place) differ =
-        seen_of_each (component_in place) memory.objects id (InstanceOf instance) (with_field key value instance) e array (λ is. refl)
+        seen_of_each (component_in place) memory.objects id (InstanceOf instance) (with_field_value key value instance) e array (λ is. refl)
     elsewhere (StaticField other) differ = refl
 
 -- ---- a component of an array
@@ -132,7 +132,7 @@ component_stores memory id array place value old e here = record {
     elsewhere :
         (other : Location) → (other ≡ ComponentOf id place → ⊥) → held_at (with_component_stored id array place value memory) other ≡ held_at memory other
     elsewhere (FieldOf object key) differ =
-        seen_of_each (field_in key) memory.objects id (ArrayWith array.0 array.1) (array_with array place value) e object (λ is. refl)
+        seen_of_each (field_of_object key) memory.objects id (ArrayWith array.0 array.1) (array_with array place value) e object (λ is. refl)
     elsewhere (ComponentOf number other) differ =
         seen_of_each (component_in other) memory.objects id (ArrayWith array.0 array.1) (array_with array place value) e number
         (λ is.

@@ -37,8 +37,8 @@ accepted_names (file ∷ files) (verdict ∷ verdicts) = accepted_in file verdic
 accepted_names _ _ = []
 
 -- bytes have these instructions exactly where they are the code of them
-abbrev pub AreInstructions : (List ℕ → Option (List Instruction)) → Type 0
-AreInstructions instructions = (bytes : List ℕ) (all : List Instruction) → (instructions bytes ≡ Some all) ↔ IsCode bytes all
+abbrev pub FindsInstructions : (List ℕ → Option (List Instruction)) → Type 0
+FindsInstructions instructions = (bytes : List ℕ) (all : List Instruction) → (instructions bytes ≡ Some all) ↔ IsCode bytes all
 
 -- and these units exactly where they spell them
 abbrev pub AreUnits : (List ℕ → Option (List ℕ)) → Type 0
@@ -54,16 +54,16 @@ pub record IsJudged (files : List (List ℕ)) (judged : Judged) : Type 0 where
       (place : ℕ) (verdict : Verdict) → slice_get judged.verdicts place ≡ Some verdict
       → IsVerdictOfFile system_classes contents place verdict
   pub accepted : judged.program.accepted ≡ accepted_names contents judged.verdicts
-  pub instructions : AreInstructions judged.program.instructions
+  pub instructions : FindsInstructions judged.program.instructions
   pub units : AreUnits judged.program.units
 
 -- ---- the run
 
 -- so many steps from a state, the last one outermost
-abbrev pub after : Program → ℕ → State → OrFault State
-after program zero s = Ok s
-after program (suc n) s = after program n s >>= step program
+abbrev pub after_steps : Program → ℕ → State → OrFault State
+after_steps program zero s = Ok s
+after_steps program (suc n) s = after_steps program n s >>= step program
 
 -- the state of a guest whose files were judged, after so many of its own steps
 abbrev pub alone : Judged → Guest → Budget → ℕ → OrFault State
-alone judged g b n = start judged.program g.main g.input b >>= after judged.program n
+alone judged g b n = start judged.program g.main g.input b >>= after_steps judged.program n

@@ -96,14 +96,14 @@ converted conversions.IntToShort value = as_int value >>= λ a. Ok (Int (low_sho
 abbrev pub compared : ℤ → ℤ → ℤ
 compared a b = if int_lt b a then pos 1 else if int_lt a b then negsuc 0 else pos 0
 
-abbrev pub long_constant : LongValue → ℤ
-long_constant longs.Zero = pos 0
-long_constant longs.One = pos 1
+abbrev pub long_constant_value : LongValue → ℤ
+long_constant_value longs.Zero = pos 0
+long_constant_value longs.One = pos 1
 
 -- what a computation gives for its operands
 abbrev pub computed : Computation → List Value → OrFault Value
 computed (compute.IntConstant value form) values = none (Int value) values
-computed (compute.LongConstant value) values = none (Long (long_constant value)) values
+computed (compute.LongConstant value) values = none (Long (long_constant_value value)) values
 computed (compute.Arithmetic kind operator) values =
     two values >>= λ p. as_number kind p.0 >>= λ a. as_number kind p.1 >>= λ b.
     Ok (number_value kind (arithmetic operator (width_of kind) a b))

@@ -29,7 +29,7 @@ use Rattle.jv_meaning_machine.specs.Objects.Object.{InstanceOf, ArrayWith}
 use Rattle.jv_meaning_machine.specs.State.{Memory}
 use Rattle.jv_meaning_machine.specs.Costs.{array_cells, arrays_cells, paid, with_objects, next_object}
 use Rattle.jv_meaning_machine.specs.Operands.{object_at, taken, taken_as, taken_reference}
-use Rattle.jv_meaning_machine.specs.Effects.{Moment, Done, world_at, method_at, site_at, goes_on, goes_on_with, raises, unless_error, lacks_memory, null_pointer, array_index, array_store, negative_size}
+use Rattle.jv_meaning_machine.specs.Effects.{Moment, Done, world_at, method_of_moment, site_at, goes_on, goes_on_with, raises, unless_error, lacks_memory, null_pointer, array_index, array_store, negative_size}
 use Rattle.jv_meaning_machine.specs.Arithmetic.{as_int}
 use Rattle.jv_meaning_machine.specs.Fields.{with_object}
 
@@ -205,7 +205,7 @@ components_of (ArrayOf type) = type
 
 abbrev pub new_reference_array : Moment → ℕ → Done
 new_reference_array m index =
-    found OffsetFault (class_operand (current_class (method_at m)) index) >>= λ text.
+    found OffsetFault (class_operand (current_class (method_of_moment m)) index) >>= λ text.
     unless_error m (resolve_class (world_at m) (site_at m) None text) (λ resolved.
     taken_as m.memory.objects types.Int m.frame.stack >>= λ top. as_int top.0 >>= λ count.
     make_array m (components_of resolved) count top.1)
@@ -236,7 +236,7 @@ array_resolved dimensions (ArrayOf type) = tested OffsetFault (not (nat_lt type.
 
 abbrev pub new_multi_array : Moment → ℕ → ℕ → Done
 new_multi_array m index dimensions =
-    found OffsetFault (class_operand (current_class (method_at m)) index) >>= λ text.
+    found OffsetFault (class_operand (current_class (method_of_moment m)) index) >>= λ text.
     unless_error m (resolve_class (world_at m) (site_at m) None text) (λ resolved.
     array_resolved dimensions resolved >>= λ type.
     taken m.memory.objects (replicate dimensions types.Int) m.frame.stack >>= λ counts.

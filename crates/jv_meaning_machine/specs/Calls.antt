@@ -19,7 +19,7 @@ use Rattle.jv_meaning_linking.specs.Operands.MethodConstant.{Methodref, Interfac
 use Rattle.jv_meaning_linking.specs.MethodResolution.{MethodTarget, resolve_method}
 use Rattle.jv_meaning_linking.specs.Selection.{select}
 use Rattle.jv_meaning_typing.specs.Environment.{current_class}
-use Rattle.jv_meaning_typing.specs.MemberRules.{is_named}
+use Rattle.jv_meaning_typing.specs.MemberRules.{is_that_name}
 use Rattle.jv_meaning_typing.specs.Named.{class_components}
 use Rattle.jv_meaning_machine.specs.Faults.{OrFault, found, tested, ◌>>=◌}
 use Rattle.jv_meaning_machine.specs.Faults.Fault.{OffsetFault, TagFault, ReferenceFault, ConstructionFault}
@@ -29,7 +29,7 @@ use Rattle.jv_meaning_machine.specs.Objects.{Object, Instance, is_constructed, i
 use Rattle.jv_meaning_machine.specs.Objects.Object.{InstanceOf, ArrayWith}
 use Rattle.jv_meaning_machine.specs.State.{Memory}
 use Rattle.jv_meaning_machine.specs.Operands.{object_at, popped_reference, taken}
-use Rattle.jv_meaning_machine.specs.Effects.{Moment, Done, world_at, method_at, site_at, goes_on, goes_on_with, raises, unless_error, once_initialized, lacks_memory, null_pointer}
+use Rattle.jv_meaning_machine.specs.Effects.{Moment, Done, world_at, method_of_moment, site_at, goes_on, goes_on_with, raises, unless_error, once_initialized, lacks_memory, null_pointer}
 use Rattle.jv_meaning_machine.specs.Effects.Effect.{Enters, Constructs}
 use Rattle.jv_meaning_machine.specs.Arithmetic.{one, none, as_int}
 use Rattle.jv_meaning_machine.specs.Fields.{instance_in}
@@ -40,12 +40,12 @@ use Rattle.jv_meaning_machine.specs.Fields.{instance_in}
 abbrev pub is_built_in : Declared → Bool
 is_built_in d = d.by.by_system && bytes_eq d.by.class.name (codes "host/Io")
 
-abbrev pub written : ℤ → Memory → Memory
-written number memory =
+abbrev pub with_byte_written : ℤ → Memory → Memory
+with_byte_written number memory =
     record memory { output = memory.output ++ (cast_unsigned w32 number % 256) ∷ []; output_left = memory.output_left - 1 }
 
 abbrev pub write : Moment → ℤ → List Value → Done
-write m number below = if m.memory.output_left == 0 then lacks_memory m else goes_on_with m (written number m.memory) below
+write m number below = if m.memory.output_left == 0 then lacks_memory m else goes_on_with m (with_byte_written number m.memory) below
 
 abbrev pub read : Moment → List Value → List ℕ → Done
 read m below [] = goes_on m (Int (negsuc 0) ∷ below)
@@ -97,7 +97,7 @@ call_on m how t arguments _ below = Err TagFault
 
 abbrev pub is_superclass_of : World → List ℕ → Option Loaded → Bool
 is_superclass_of world name None = false
-is_superclass_of world name (Some l) = is_named name l.class.super_class
+is_superclass_of world name (Some l) = is_that_name name l.class.super_class
 
 abbrev pub comes_next : World → Instance → Option (List ℕ) → List ℕ → Bool
 comes_next world instance None name = bytes_eq name instance.class
@@ -150,7 +150,7 @@ is_constant_for how constant = true
 
 abbrev pub call : Moment → Use → ℕ → Done
 call m how index =
-    found OffsetFault (method_operand (current_class (method_at m)) index) >>= λ reference.
+    found OffsetFault (method_operand (current_class (method_of_moment m)) index) >>= λ reference.
     tested OffsetFault (is_constant_for how reference.constant) reference >>= λ reference.
     found OffsetFault (method_type_of reference.member.descriptor) >>= λ descriptor.
     unless_error m (resolve_method (world_at m) (site_at m) how reference) (call_target m how descriptor)

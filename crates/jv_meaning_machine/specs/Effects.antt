@@ -42,8 +42,8 @@ Done = OrFault (Memory × Effect)
 abbrev pub world_at : Moment → World
 world_at m = m.program.world
 
-abbrev pub method_at : Moment → Environment
-method_at m = m.frame.method
+abbrev pub method_of_moment : Moment → Environment
+method_of_moment m = m.frame.method
 
 abbrev pub site_at : Moment → Site
 site_at m = m.frame.method.site

@@ -25,15 +25,15 @@ abbrev pub passed_values : Option ℕ → List Value → List Value
 passed_values None arguments = arguments
 passed_values (Some receiver) arguments = Reference receiver ∷ arguments
 
-abbrev pub first_frame : Environment → Option ℕ → List Value → List Value → MethodFrame
-first_frame method receiver locals stack =
+abbrev pub entered_frame : Environment → Option ℕ → List Value → List Value → MethodFrame
+entered_frame method receiver locals stack =
     record { method = method; receiver = receiver; offset = 0; locals = locals; stack = stack }
 
-abbrev pub frame_of : Program → Declared → Option ℕ → List Value → OrFault MethodFrame
-frame_of program d receiver arguments =
+abbrev pub method_frame : Program → Declared → Option ℕ → List Value → OrFault MethodFrame
+method_frame program d receiver arguments =
     entered_method program d >>= λ method.
     filled method.code.max_locals (flat_map local_words (passed_values receiver arguments)) >>= λ locals.
-    Ok (first_frame method receiver locals [])
+    Ok (entered_frame method receiver locals [])
 
 -- where the frame's words are not left, nothing changes but by the throw
 abbrev pub enter_within : World → Memory → Memory → Control → MethodFrame → Option Control → OrFault State
@@ -44,7 +44,7 @@ enter_within world before after control frame (Some given) =
 -- a method is entered above the frames, with another memory than before where that is an `<init>`
 abbrev pub enter : Program → Memory → Memory → Control → Declared → Option ℕ → List Value → OrFault State
 enter program before after control d receiver arguments =
-    frame_of program d receiver arguments >>= λ frame.
+    method_frame program d receiver arguments >>= λ frame.
     enter_within program.world before after control frame (given_words (method_words frame) control)
 
 -- ---- leaving

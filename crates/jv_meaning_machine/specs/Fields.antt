@@ -23,7 +23,7 @@ use Rattle.jv_meaning_machine.specs.Objects.{FieldKey, key_of, value_at, with_va
 use Rattle.jv_meaning_machine.specs.Objects.Object.{InstanceOf, ArrayWith}
 use Rattle.jv_meaning_machine.specs.State.{Memory}
 use Rattle.jv_meaning_machine.specs.Operands.{object_at, popped_reference, taken_as, taken_reference}
-use Rattle.jv_meaning_machine.specs.Effects.{Moment, Done, world_at, method_at, site_at, goes_on, goes_on_with, raises, unless_error, once_initialized, null_pointer}
+use Rattle.jv_meaning_machine.specs.Effects.{Moment, Done, world_at, method_of_moment, site_at, goes_on, goes_on_with, raises, unless_error, once_initialized, null_pointer}
 
 -- the type of a field
 abbrev pub described : List ℕ → OrFault (FieldTypeOf (List ℕ))
@@ -71,8 +71,8 @@ can_be_set m reference id instance =
 abbrev pub with_object : ℕ → Object → Memory → Memory
 with_object id object memory = record memory { objects = slice_set memory.objects id object }
 
-abbrev pub with_field : FieldKey → Value → Instance → Object
-with_field key value instance = InstanceOf (record instance { fields = with_value key value instance.fields })
+abbrev pub with_field_value : FieldKey → Value → Instance → Object
+with_field_value key value instance = InstanceOf (record instance { fields = with_value key value instance.fields })
 
 abbrev pub put_field_of : Moment → MemberReference → DeclaredField → Value → Value → List Value → Done
 put_field_of m reference d Null value below = raises m null_pointer
@@ -80,7 +80,7 @@ put_field_of m reference d (Reference id) value below =
     object_at m.memory.objects id >>= instance_in >>= λ instance.
     tested ConstructionFault (can_be_set m reference id instance) instance >>= λ instance.
     tested ReferenceFault (is_some (value_at (key_of d) instance.fields)) instance >>= λ instance.
-    goes_on_with m (with_object id (with_field (key_of d) value instance) m.memory) below
+    goes_on_with m (with_object id (with_field_value (key_of d) value instance) m.memory) below
 put_field_of m reference d _ value below = Err TagFault
 
 abbrev pub put_field : Moment → MemberReference → DeclaredField → Done
@@ -104,5 +104,5 @@ use_for access.PutField = Putfield
 
 abbrev pub use_field : Moment → FieldAccess → ℕ → Done
 use_field m how index =
-    found OffsetFault (field_operand (current_class (method_at m)) index) >>= λ reference.
+    found OffsetFault (field_operand (current_class (method_of_moment m)) index) >>= λ reference.
     unless_error m (resolve_field (world_at m) (site_at m) (use_for how) reference) (access_field m how reference)

@@ -4,7 +4,7 @@ use Rattle.jv_loader_world.specs.World.{Loaded}
 use Rattle.jv_meaning_machine.specs.State.{Program, State, class_state}
 use Rattle.jv_meaning_machine.specs.State.ClassState.{Initialized, Erroneous}
 use Rattle.jv_meaning_machine.specs.Start.{Budget}
-use Rattle.jv_meaning_machine.specs.Alone.{Guest, Judged, IsJudged, after, alone}
+use Rattle.jv_meaning_machine.specs.Alone.{Guest, Judged, IsJudged, after_steps, alone}
 use Rattle.jv_meaning_machine.specs.Kept.{StayConstructed}
 
 -- a state of a guest alone, and a later one
@@ -36,5 +36,5 @@ ThrowsNeverFall =
 -- An object that is constructed stays so, over any number of steps of any program (JVMS 2.9).
 abbrev pub ConstructedStays : Type 0
 ConstructedStays =
-    (program : Program) (n : ℕ) (before later : State) → after program n before ≡ Ok later
+    (program : Program) (n : ℕ) (before later : State) → after_steps program n before ≡ Ok later
     → StayConstructed before.memory.objects later.memory.objects

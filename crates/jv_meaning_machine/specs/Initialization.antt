@@ -10,7 +10,7 @@ use Rattle.jv_loader_world.specs.World.{Loaded, World, class_named}
 use Rattle.jv_loader_world.specs.Above.{above}
 use Rattle.jv_loader_world.specs.Overriding.{Declared}
 use Rattle.jv_loader_world.specs.Verdicts.{is_loadable}
-use Rattle.jv_loader_world.specs.LookUps.{DeclaredField, field_by, method_in, passing}
+use Rattle.jv_loader_world.specs.LookUps.{DeclaredField, field_by, method_in, method_if}
 use Rattle.jv_meaning_linking.specs.InitializationOrder.{init_order}
 use Rattle.jv_meaning_machine.specs.Faults.{OrFault, found, ◌>>=◌}
 use Rattle.jv_meaning_machine.specs.Faults.Fault.{OffsetFault}
@@ -77,7 +77,7 @@ is_main d = has d.method.access_flags acc_public && has d.method.access_flags ac
 abbrev pub main_in : World → Loaded → Option Declared
 main_in world l = elim (is_loadable world l) [
   | false ↦ None
-  | true ↦ passing is_main (method_in (codes "main") (codes "([Ljava/lang/String;)V") l)
+  | true ↦ method_if is_main (method_in (codes "main") (codes "([Ljava/lang/String;)V") l)
 ]
 
 abbrev pub main_method : World → List ℕ → Option Declared

@@ -7,6 +7,7 @@ use Rattle.jv_loader_world.specs.Rows.{object_name}
 use Rattle.jv_loader_system.specs.Mnemonics.{iconst, bipush, iadd, aload, invokespecial, return}
 use Rattle.jv_loader_system.specs.String.{length_body}
 use Rattle.jv_loader_world.specs.World.{class_named}
+use Rattle.jv_format.specs.Handlers.{handler}
 use Rattle.jv_meaning_machine.specs.Faults.{OrFault, found, ◌>>=◌}
 use Rattle.jv_meaning_machine.specs.Faults.Fault.{ReferenceFault}
 use Rattle.jv_meaning_machine.specs.State.{Program, State}
@@ -14,7 +15,7 @@ use Rattle.jv_meaning_machine.specs.Start.{start}
 use Rattle.jv_meaning_machine.specs.Initialization.{begin}
 use Rattle.jv_meaning_machine.specs.State.End.{Threw}
 use Rattle.jv_meaning_machine.specs.Observation.{Observed}
-use Rattle.jv_meaning_machine.specs.Samples.{program_of, budget, run_with, shown, invokestatic, invokevirtual, getstatic, putstatic, new, ldc, dup, pop, idiv, code, method, class_with, static_int, handler, main_name, main, only_main}
+use Rattle.jv_meaning_machine.specs.Samples.{program_of, budget, run_with, shown, invokestatic, invokevirtual, getstatic, putstatic, new, ldc, dup, pop, idiv, code, method, class_with, static_int, main_name, main, only_main}
 use Rattle.jv_meaning_machine.specs.MachineRows.{returned, threw}
 
 -- ---- a constant of the main class

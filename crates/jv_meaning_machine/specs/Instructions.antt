@@ -38,7 +38,7 @@ use Rattle.jv_meaning_machine.specs.Frames.{local_words, local_at, stored}
 use Rattle.jv_meaning_machine.specs.State.{Memory}
 use Rattle.jv_meaning_machine.specs.Costs.{paid, with_objects, next_object}
 use Rattle.jv_meaning_machine.specs.Operands.{object_at, popped, popped_reference, taken, taken_as, taken_reference}
-use Rattle.jv_meaning_machine.specs.Effects.{Moment, Done, world_at, method_at, site_at, goes_on, goes_on_with, raises, unless_error, once_initialized, lacks_memory, null_pointer, class_cast, division_by_zero}
+use Rattle.jv_meaning_machine.specs.Effects.{Moment, Done, world_at, method_of_moment, site_at, goes_on, goes_on_with, raises, unless_error, once_initialized, lacks_memory, null_pointer, class_cast, division_by_zero}
 use Rattle.jv_meaning_machine.specs.Effects.Effect.{Goes, Leaves, Throws}
 use Rattle.jv_meaning_machine.specs.Arithmetic.{number_value, width_of, as_number, as_int, none, one, two, divided, computed, holds, table_distance, key_distance}
 use Rattle.jv_meaning_machine.specs.Literals.{push_constant, push_long_constant}
@@ -177,7 +177,7 @@ create m (ClassOf l) = once_initialized m l (push_object m l (paid (object_cells
 create m (ArrayOf type) = Err OffsetFault
 
 abbrev pub operand_text : Moment → ℕ → OrFault (List ℕ)
-operand_text m index = found OffsetFault (class_operand (current_class (method_at m)) index)
+operand_text m index = found OffsetFault (class_operand (current_class (method_of_moment m)) index)
 
 abbrev pub new : Moment → ℕ → Done
 new m index = operand_text m index >>= λ text. unless_error m (resolve_class (world_at m) (site_at m) (Some New) text) (create m)
@@ -234,8 +234,8 @@ execute_other m insns.ReferenceArrayLoad = load_component m holds_references
 execute_other m (insns.ArrayStore element) = store_component m element
 execute_other m (insns.Stack form) = move_words m form
 execute_other m (insns.Branch test distance) = branch_on_references m test distance
-execute_other m (insns.ReturnValue kind) = return_value m kind (method_at m).descriptor.result
-execute_other m insns.Return = return_nothing m (method_at m).descriptor.result
+execute_other m (insns.ReturnValue kind) = return_value m kind (method_of_moment m).descriptor.result
+execute_other m insns.Return = return_nothing m (method_of_moment m).descriptor.result
 execute_other m (insns.Field access index) = use_field m access index
 execute_other m (insns.Invoke how index) = call m (use_for_call how) index
 execute_other m (insns.InvokeInterface index count) = call m Invokeinterface index

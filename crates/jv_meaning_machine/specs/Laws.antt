@@ -11,7 +11,7 @@ use Rattle.jv_meaning_machine.specs.State.End.{Running}
 use Rattle.jv_meaning_machine.specs.Initialization.{main_method}
 use Rattle.jv_meaning_machine.specs.Step.{step}
 use Rattle.jv_meaning_machine.specs.Start.{Budget}
-use Rattle.jv_meaning_machine.specs.Alone.{Guest, Judged, IsJudged, after, alone}
+use Rattle.jv_meaning_machine.specs.Alone.{Guest, Judged, IsJudged, after_steps, alone}
 
 -- ---- states
 
@@ -21,7 +21,7 @@ EndedStays = (program : Program) (s : State) → s.control.frames ≡ [] → ste
 
 -- It stays for any number of steps.
 abbrev pub EndedStaysOver : Type 0
-EndedStaysOver = (program : Program) (n : ℕ) (s : State) → s.control.frames ≡ [] → after program n s ≡ Ok s
+EndedStaysOver = (program : Program) (n : ℕ) (s : State) → s.control.frames ≡ [] → after_steps program n s ≡ Ok s
 
 -- ---- ends
 

@@ -19,7 +19,7 @@ use Rattle.jv_meaning_machine.specs.Objects.{FieldKey, Object, new_instance, wit
 use Rattle.jv_meaning_machine.specs.Objects.Object.{InstanceOf, ArrayWith}
 use Rattle.jv_meaning_machine.specs.State.{Program, Memory}
 use Rattle.jv_meaning_machine.specs.Costs.{array_cells, paid, with_objects, next_object}
-use Rattle.jv_meaning_machine.specs.Effects.{Moment, Done, method_at, goes_on, goes_on_with, lacks_memory}
+use Rattle.jv_meaning_machine.specs.Effects.{Moment, Done, method_of_moment, goes_on, goes_on_with, lacks_memory}
 use Rattle.jv_meaning_machine.specs.Arrays.{base_components}
 
 -- ---- string literals
@@ -98,7 +98,7 @@ push_value m None = lacks_memory m
 push_value m (Some made) = goes_on_with m made.0 (made.1 ∷ m.frame.stack)
 
 abbrev pub pool_at : Moment → List Entry
-pool_at m = (current_class (method_at m)).constant_pool
+pool_at m = (current_class (method_of_moment m)).constant_pool
 
 abbrev pub push_constant : Moment → ℕ → Done
 push_constant m index =

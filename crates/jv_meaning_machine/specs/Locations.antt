@@ -13,9 +13,9 @@ pub data Location : Type 0 where
 
 -- ---- what stands there
 
-abbrev pub field_in : FieldKey → Option Object → Option Value
-field_in key (Some (InstanceOf instance)) = value_at key instance.fields
-field_in key _ = None
+abbrev pub field_of_object : FieldKey → Option Object → Option Value
+field_of_object key (Some (InstanceOf instance)) = value_at key instance.fields
+field_of_object key _ = None
 
 abbrev pub component_in : ℕ → Option Object → Option Value
 component_in place (Some (ArrayWith components values)) = slice_get values place
@@ -23,7 +23,7 @@ component_in place _ = None
 
 -- the value that a location holds, if there is such a location
 abbrev pub held_at : Memory → Location → Option Value
-held_at memory (FieldOf object key) = field_in key (slice_get memory.objects object)
+held_at memory (FieldOf object key) = field_of_object key (slice_get memory.objects object)
 held_at memory (ComponentOf array place) = component_in place (slice_get memory.objects array)
 held_at memory (StaticField key) = value_at key memory.statics
 

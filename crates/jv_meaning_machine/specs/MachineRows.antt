@@ -5,11 +5,12 @@ use Rattle.jv_code.specs.Insns.{Instruction}
 use Rattle.jv_loader_world.specs.of_class.Class.{Class, Method}
 use Rattle.jv_loader_world.specs.Rows.{object_name, class_with as bare_class}
 use Rattle.jv_loader_system.specs.Mnemonics.{iconst, bipush, invokespecial, return}
+use Rattle.jv_format.specs.Handlers.{handler}
 use Rattle.jv_meaning_machine.specs.Faults.{OrFault}
 use Rattle.jv_meaning_machine.specs.State.{Program}
 use Rattle.jv_meaning_machine.specs.State.End.{Running, Returned, Threw, NoMain}
 use Rattle.jv_meaning_machine.specs.Observation.{Observed}
-use Rattle.jv_meaning_machine.specs.Samples.{java_lang, program_of, run_with, shown, iconst_m1, invokestatic, new, ldc, dup, pop, idiv, iushr, new_ints, code, method, class_with, handler, main_name, main, only_main, run, run_text}
+use Rattle.jv_meaning_machine.specs.Samples.{java_lang, program_of, run_with, shown, iconst_m1, invokestatic, new, ldc, dup, pop, idiv, iushr, new_ints, code, method, class_with, main_name, main, only_main, run, run_text}
 
 -- it ended in the throw of an object of a class of java/lang, the only throw, without output
 abbrev pub threw : ℕ → List ℕ → OrFault Observed

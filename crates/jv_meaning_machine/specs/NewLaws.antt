@@ -26,7 +26,7 @@ use Rattle.jv_meaning_machine.specs.Objects.{Object, new_object, new_array}
 use Rattle.jv_meaning_machine.specs.State.{Memory, class_state}
 use Rattle.jv_meaning_machine.specs.Costs.{array_cells, arrays_cells}
 use Rattle.jv_meaning_machine.specs.Operands.{taken}
-use Rattle.jv_meaning_machine.specs.Effects.{Effect, Moment, world_at, method_at, site_at, out_of_memory, negative_size}
+use Rattle.jv_meaning_machine.specs.Effects.{Effect, Moment, world_at, method_of_moment, site_at, out_of_memory, negative_size}
 use Rattle.jv_meaning_machine.specs.Effects.Effect.{Goes, Throws, Raises, Begins}
 use Rattle.jv_meaning_machine.specs.Literals.{string_name, literal_in, literal_cells, string_with, chars_of, constant_value, pushed_constant, pool_at}
 use Rattle.jv_meaning_machine.specs.Arrays.{arrays_made, base_of, base_components, components_of, is_negative_count, count_of}
@@ -58,12 +58,12 @@ MakesIf m cells objects below after effect = LacksCells m cells after effect ⊎
 
 pub record NamesClass (m : Moment) (how : Option Use) (index : ℕ) (resolved : ResolvedClass) : Type 0 where
   pub text : List ℕ
-  pub operand : class_operand (current_class (method_at m)) index ≡ Some text
+  pub operand : class_operand (current_class (method_of_moment m)) index ≡ Some text
   pub resolves : resolve_class (world_at m) (site_at m) how text ≡ Ok resolved
 
 pub record ThrowsClassError (m : Moment) (how : Option Use) (index : ℕ) (after : Memory) (effect : Effect) : Type 0 where
   pub text : List ℕ
-  pub operand : class_operand (current_class (method_at m)) index ≡ Some text
+  pub operand : class_operand (current_class (method_of_moment m)) index ≡ Some text
   pub error : LinkError
   pub unresolved : resolve_class (world_at m) (site_at m) how text ≡ Err error
   pub same : after ≡ m.memory

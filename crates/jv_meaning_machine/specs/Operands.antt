@@ -2,7 +2,7 @@
 -- (4.9.2).
 use Rattle.std.specs.Prelude.{ℕ, List, [], ◌∷◌, reverse, slice_get, Ok, Err}
 use Rattle.jv_frames.specs.Types.{FrameType}
-use Rattle.jv_meaning_typing.specs.Named.{object_type}
+use Rattle.jv_meaning_typing.specs.Named.{object_class_type}
 use Rattle.jv_meaning_machine.specs.Faults.{OrFault, found, tested, ◌>>=◌}
 use Rattle.jv_meaning_machine.specs.Faults.Fault.{StackFault, TagFault, ReferenceFault, ConstructionFault}
 use Rattle.jv_meaning_machine.specs.Values.{Value, has_type}
@@ -29,14 +29,14 @@ abbrev pub popped_as : FrameType → List Value → OrFault (Value × List Value
 popped_as type stack = popped stack >>= λ top. tested TagFault (has_type type top.0) top
 
 abbrev pub popped_reference : List Value → OrFault (Value × List Value)
-popped_reference stack = popped_as object_type stack
+popped_reference stack = popped_as object_class_type stack
 
 -- to be used
 abbrev pub taken_as : List Object → FrameType → List Value → OrFault (Value × List Value)
 taken_as objects type stack = popped_as type stack >>= λ top. usable_value objects top.0 >>= λ value. Ok (value, top.1)
 
 abbrev pub taken_reference : List Object → List Value → OrFault (Value × List Value)
-taken_reference objects stack = taken_as objects object_type stack
+taken_reference objects stack = taken_as objects object_class_type stack
 
 -- those of these types, one by one downward, in front of what was taken before
 abbrev pub taken_before : List Object → List Value → List FrameType → List Value → OrFault (List Value × List Value)

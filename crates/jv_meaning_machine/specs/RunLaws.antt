@@ -12,7 +12,7 @@ use Rattle.jv_meaning_machine.specs.Locations.Location.{StaticField}
 use Rattle.jv_meaning_machine.specs.State.{Program, State}
 use Rattle.jv_meaning_machine.specs.Start.{Budget, start_cells}
 use Rattle.jv_meaning_machine.specs.Step.{step}
-use Rattle.jv_meaning_machine.specs.Alone.{Guest, Judged, IsJudged, after, alone}
+use Rattle.jv_meaning_machine.specs.Alone.{Guest, Judged, IsJudged, after_steps, alone}
 use Rattle.jv_meaning_machine.specs.Shapes.{shape_of, used_cells, used_words, first_cells}
 use Rattle.jv_meaning_machine.specs.Kept.{BeginsWith, KeepsState}
 
@@ -24,24 +24,24 @@ StepKeeps = (program : Program) (before later : State) → step program before �
 
 -- And over any number of steps.
 abbrev pub RunKeeps : Type 0
-RunKeeps = (program : Program) (n : ℕ) (before later : State) → after program n before ≡ Ok later → KeepsState before later
+RunKeeps = (program : Program) (n : ℕ) (before later : State) → after_steps program n before ≡ Ok later → KeepsState before later
 
 -- What was written stands at the front of all that is written later.
 abbrev pub OutputGrows : Type 0
 OutputGrows =
-    (program : Program) (n : ℕ) (before later : State) → after program n before ≡ Ok later → BeginsWith later.memory.output before.memory.output
+    (program : Program) (n : ℕ) (before later : State) → after_steps program n before ≡ Ok later → BeginsWith later.memory.output before.memory.output
 
 -- An object keeps its number, its class and which fields it has, an array the type of its components and their count.
 abbrev pub ObjectsStay : Type 0
 ObjectsStay =
-    (program : Program) (n : ℕ) (before later : State) → after program n before ≡ Ok later → (number : ℕ) (object : Object)
+    (program : Program) (n : ℕ) (before later : State) → after_steps program n before ≡ Ok later → (number : ℕ) (object : Object)
     → slice_get before.memory.objects number ≡ Some object
     → (same : Object) × (slice_get later.memory.objects number ≡ Some same) × (shape_of same ≡ shape_of object)
 
 -- Objects are never fewer. (Which number a new one gets is said in NewLaws, and that none is given twice in StepLaws.)
 abbrev pub ObjectsAreNeverFewer : Type 0
 ObjectsAreNeverFewer =
-    (program : Program) (n : ℕ) (before later : State) → after program n before ≡ Ok later
+    (program : Program) (n : ℕ) (before later : State) → after_steps program n before ≡ Ok later
     → length before.memory.objects ≤ length later.memory.objects
 
 -- ---- a guest alone
@@ -50,7 +50,7 @@ ObjectsAreNeverFewer =
 abbrev pub AloneGoesOn : Type 0
 AloneGoesOn =
     (judged : Judged) (g : Guest) (b : Budget) (n more : ℕ) (s : State) → alone judged g b n ≡ Ok s
-    → alone judged g b (n + more) ≡ after judged.program more s
+    → alone judged g b (n + more) ≡ after_steps judged.program more s
 
 -- What it wrote and what it may still write are its budget's bytes of output together, always.
 abbrev pub OutputIsBudgeted : Type 0

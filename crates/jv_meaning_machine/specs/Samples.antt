@@ -27,7 +27,7 @@ use Rattle.jv_meaning_machine.specs.Faults.{OrFault, ◌>>=◌}
 use Rattle.std.specs.Prelude.{Ok}
 use Rattle.jv_meaning_machine.specs.State.{Program, End}
 use Rattle.jv_meaning_machine.specs.Start.{Budget, start}
-use Rattle.jv_meaning_machine.specs.Alone.{after}
+use Rattle.jv_meaning_machine.specs.Alone.{after_steps}
 use Rattle.jv_meaning_machine.specs.Observation.{Observed, observation}
 
 -- ---- the system's classes
@@ -62,7 +62,7 @@ budget output = record { cells = 64; words = 64; output = output }
 
 abbrev pub run_with : Program → List ℕ → List ℕ → ℕ → ℕ → OrFault Observed
 run_with program main input output n =
-    start program main input (budget output) >>= after program n >>= λ s. Ok (observation [] n s)
+    start program main input (budget output) >>= after_steps program n >>= λ s. Ok (observation [] n s)
 
 abbrev pub shown : ℕ → List ℕ → ℕ → Option (List ℕ) → End → OrFault Observed
 shown n output throws last end =
@@ -177,10 +177,6 @@ class_with name super_name text fields methods = record {
 
 abbrev pub static_int : List ℕ → Option InitialValue → Field
 static_int name initial = record { access_flags = 9; name = name; descriptor = codes "I"; initial = initial }
-
-abbrev pub handler : ℕ → ℕ → ℕ → ℕ → Handler
-handler start_pc end_pc handler_pc catch_type =
-    record { start_pc = start_pc; end_pc = end_pc; handler_pc = handler_pc; catch_type = catch_type }
 
 abbrev pub main_name : List ℕ
 main_name = codes "Main"

@@ -19,7 +19,7 @@ use Rattle.jv_meaning_machine.specs.Values.Value.{Int, Null, Reference}
 use Rattle.jv_meaning_machine.specs.Objects.{FieldKey, Content, Instance, key_of, value_at, with_value}
 use Rattle.jv_meaning_machine.specs.Objects.Object.{InstanceOf, ArrayWith}
 use Rattle.jv_meaning_machine.specs.State.{Memory, class_state}
-use Rattle.jv_meaning_machine.specs.Effects.{Effect, Moment, world_at, method_at, site_at, null_pointer, array_index, array_store}
+use Rattle.jv_meaning_machine.specs.Effects.{Effect, Moment, world_at, method_of_moment, site_at, null_pointer, array_index, array_store}
 use Rattle.jv_meaning_machine.specs.Effects.Effect.{Goes, Raises, Begins}
 use Rattle.jv_meaning_machine.specs.Fields.{use_for, can_be_set}
 use Rattle.jv_meaning_machine.specs.Arrays.{at_place, holds_numbers, holds_references, can_stand}
@@ -42,7 +42,7 @@ OtherFieldsStay =
 -- the field to which the index of an instruction resolves
 pub record NamesField (m : Moment) (how : FieldAccess) (index : ℕ) (d : DeclaredField) : Type 0 where
   pub reference : MemberReference
-  pub operand : field_operand (current_class (method_at m)) index ≡ Some reference
+  pub operand : field_operand (current_class (method_of_moment m)) index ≡ Some reference
   pub resolved : resolve_field (world_at m) (site_at m) (use_for how) reference ≡ Ok d
 
 -- ---- what comes before a store to a field, and leaves the memory as it is
@@ -50,7 +50,7 @@ pub record NamesField (m : Moment) (how : FieldAccess) (index : ℕ) (d : Declar
 -- the index resolves to no field, and the error is thrown
 pub record ThrowsLinkError (m : Moment) (how : FieldAccess) (index : ℕ) (effect : Effect) : Type 0 where
   pub reference : MemberReference
-  pub operand : field_operand (current_class (method_at m)) index ≡ Some reference
+  pub operand : field_operand (current_class (method_of_moment m)) index ≡ Some reference
   pub error : LinkError
   pub unresolved : resolve_field (world_at m) (site_at m) (use_for how) reference ≡ Err error
   pub throws : effect ≡ Raises (error_class error)

@@ -10,12 +10,13 @@ use Rattle.jv_loader_world.specs.Rows.{object_name}
 use Rattle.jv_loader_system.specs.Mnemonics.{iconst, bipush, aload, invokespecial, return}
 use Rattle.jv_loader_system.specs.Throwable.{init_body as throwable_init}
 use Rattle.jv_loader_system.specs.Throwables.{init_body as error_init}
+use Rattle.jv_format.specs.Handlers.{handler}
 use Rattle.jv_meaning_machine.specs.Faults.{OrFault}
 use Rattle.jv_meaning_machine.specs.Faults.Fault.{ConstructionFault}
 use Rattle.jv_meaning_machine.specs.State.{Program}
 use Rattle.jv_meaning_machine.specs.State.End.{Running, Returned, Threw}
 use Rattle.jv_meaning_machine.specs.Observation.{Observed}
-use Rattle.jv_meaning_machine.specs.Samples.{java_lang, program_of, run_with, shown, invokestatic, getstatic, new, ldc, dup, pop, idiv, iushr, new_ints, code, method, class_with, static_int, handler, main_name, main, only_main, run, run_text}
+use Rattle.jv_meaning_machine.specs.Samples.{java_lang, program_of, run_with, shown, invokestatic, getstatic, new, ldc, dup, pop, idiv, iushr, new_ints, code, method, class_with, static_int, main_name, main, only_main, run, run_text}
 use Rattle.jv_meaning_machine.specs.MachineRows.{returned, threw, calls_f}
 use Rattle.jv_meaning_machine.specs.InitializationRows.{clinit, divides_by_zero, E, construct_P, make_S}
 

@@ -48,24 +48,24 @@ words values = sum_by value_words values
 
 -- ---- kinds
 
-abbrev pub is_reference : Value → Bool
-is_reference Null = true
-is_reference (Reference object) = true
-is_reference _ = false
+abbrev pub is_reference_value : Value → Bool
+is_reference_value Null = true
+is_reference_value (Reference object) = true
+is_reference_value _ = false
 
 abbrev pub has_kind : ValueKind → Value → Bool
 has_kind kinds.Int (Int value) = true
 has_kind kinds.Long (Long value) = true
-has_kind kinds.Reference value = is_reference value
+has_kind kinds.Reference value = is_reference_value value
 has_kind _ _ = false
 
 -- the kind of values of a verification type (4.10.1.2): which class a reference is to is asked where that matters
 abbrev pub has_type : FrameType → Value → Bool
 has_type types.Int value = has_kind kinds.Int value
 has_type types.Long value = has_kind kinds.Long value
-has_type types.Null value = is_reference value
-has_type (types.Class name) value = is_reference value
-has_type (types.Array components) value = is_reference value
+has_type types.Null value = is_reference_value value
+has_type (types.Class name) value = is_reference_value value
+has_type (types.Array components) value = is_reference_value value
 has_type _ value = false
 
 -- ---- what a field or an element begins with (2.3, 2.4)

@@ -11,7 +11,7 @@ use Rattle.jv_text.specs.Descriptor.{MethodDescriptor}
 use Rattle.jv_text.specs.declared.descriptor.Base.TheVariants as bases
 use Rattle.jv_text.specs.declared.descriptor.Element.TheVariants as elements
 use Rattle.jv_frames.specs.declared.verification.VerificationTypeOf.TheVariants as types
-use Rattle.jv_frames.specs.Bytes.{table_bytes}
+use Rattle.jv_frames.specs.Bytes.{stack_map_bytes}
 use Rattle.jv_frames.specs.Frames.{Frame, PlacedFrame}
 use Rattle.jv_code.specs.Successors.{falls_through}
 use Rattle.jv_code.specs.declared.insn.Insn.TheVariants as insns
@@ -203,7 +203,7 @@ module _ (lists : OneList) (stands : StandsInList) (apart : StartsApart) where
   )
     where
       none : (maps : List PlacedFrame) → AreFrames (env_of (codes "()V") no_arguments (coded [] (Some []) (insns.Return ∷ [])) (insns.Return ∷ [])) maps → ⊥
-      none maps are = let spelled : [] ≡ table_bytes are.spelled.forms = are.spelled.spelled in cc
+      none maps are = let spelled : [] ≡ stack_map_bytes are.spelled.forms = are.spelled.spelled in cc
 
   behind_return : HasVerdict (void (insns.Return ∷ insns.Return ∷ [])) (broken 1 rules.Merge)
   behind_return = first_fault (codes "()V") (coded [] None (insns.Return ∷ insns.Return ∷ [])) 1 rules.Merge

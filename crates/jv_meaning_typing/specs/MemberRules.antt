@@ -27,7 +27,7 @@ use Rattle.jv_meaning_typing.specs.Named.{FieldUse, field_named_by, MethodUse, m
 -- ---- fields
 
 abbrev pub field_guard : Environment → FieldUse → List FrameType
-field_guard env field = guard env (is_guarded_field env field.reference)
+field_guard env field = guard env (is_guarded_field env.world env.site.by field.reference)
 
 abbrev pub get_field : Environment → FieldUse → Frame → Option Frame
 get_field env field frame =
@@ -71,7 +71,7 @@ is_of_class Methodref = true
 is_of_class InterfaceMethodref = false
 
 abbrev pub method_guard : Environment → MethodUse → List FrameType
-method_guard env method = guard env (is_guarded_method env method.reference)
+method_guard env method = guard env (is_guarded_method env.world env.site.by method.reference)
 
 abbrev pub invoke_virtual : Environment → MethodUse → Frame → Option Frame
 invoke_virtual env method frame =
@@ -117,20 +117,20 @@ abbrev pub class_of_new : Environment → Option Instruction → Option (List �
 class_of_new env (Some (insns.New index)) = class_operand (current_class env) index
 class_of_new env _ = None
 
-abbrev pub is_named : List ℕ → Option (List ℕ) → Bool
-is_named name None = false
-is_named name (Some other) = bytes_eq name other
+abbrev pub is_that_name : List ℕ → Option (List ℕ) → Bool
+is_that_name name None = false
+is_that_name name (Some other) = bytes_eq name other
 
 -- what `new` at an offset made is of the class that is named there; a guarded `<init>` is for objects of the current class
 abbrev pub constructs_new : Environment → MethodUse → ℕ → Bool
 constructs_new env method offset =
-    is_named method.reference.class (class_of_new env (instruction_at env offset))
+    is_that_name method.reference.class (class_of_new env (instruction_at env offset))
     && list_all (flows env.world method.owner) (method_guard env method)
 
 -- the constructor of the current class or of its direct superclass is called on the receiver
 abbrev pub constructs_this : Environment → MethodUse → Bool
 constructs_this env method =
-    bytes_eq method.reference.class (current_class env).name || is_named method.reference.class (current_class env).super_class
+    bytes_eq method.reference.class (current_class env).name || is_that_name method.reference.class (current_class env).super_class
 
 -- the type that the object gets, if the method can be called on it
 abbrev pub constructed_type : Environment → MethodUse → FrameType → Option FrameType

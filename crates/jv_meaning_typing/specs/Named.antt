@@ -11,7 +11,7 @@ use Rattle.jv_pool.specs.Constants.{Entry, at_index, MemberReference}
 use Rattle.jv_class_parts.specs.Flags.{has, acc_protected, acc_static}
 use Rattle.jv_frames.specs.declared.verification.VerificationTypeOf.TheVariants as types
 use Rattle.jv_frames.specs.Types.{FrameType, reference_type, value_type}
-use Rattle.jv_loader_world.specs.World.{Loaded, class_named, same_package}
+use Rattle.jv_loader_world.specs.World.{Loaded, World, class_named, same_package}
 use Rattle.jv_loader_world.specs.LookUps.{is_subclass, lookup_field, lookup_method}
 use Rattle.jv_meaning_linking.specs.Operands.{class_operand, field_operand, MethodConstant, MethodReference, method_operand}
 use Rattle.jv_meaning_linking.specs.Operands.MethodConstant.{Methodref, InterfaceMethodref}
@@ -21,8 +21,8 @@ use Rattle.jv_meaning_typing.specs.Environment.{Environment, current_class}
 abbrev pub class_type : List ℕ → FrameType
 class_type name = types.Class name
 
-abbrev pub object_type : FrameType
-object_type = class_type (codes "java/lang/Object")
+abbrev pub object_class_type : FrameType
+object_class_type = class_type (codes "java/lang/Object")
 
 abbrev pub throwable_type : FrameType
 throwable_type = class_type (codes "java/lang/Throwable")
@@ -141,22 +141,22 @@ method_named_by env index =
 
 -- The class is a proper superclass of the current one, and what is found from it is protected, no static member, and
 -- declared in another run-time package.
-abbrev pub is_guarded : Environment → Loaded → Loaded → ℕ → Bool
-is_guarded env named by flags =
-    is_subclass env.world env.site.by named && not (same_class env.site.by named)
-    && has flags acc_protected && not (has flags acc_static) && not (same_package env.site.by by)
+abbrev pub is_guarded : World → (current named by : Loaded) → ℕ → Bool
+is_guarded world current named by flags =
+    is_subclass world current named && not (same_class current named)
+    && has flags acc_protected && not (has flags acc_static) && not (same_package current by)
 
-abbrev pub is_guarded_field : Environment → MemberReference → Bool
-is_guarded_field env reference =
-    unwrap_or (class_named env.world reference.class >>= λ named.
-    lookup_field env.world named reference.name reference.descriptor >>= λ d.
-    Some (is_guarded env named d.by d.field.access_flags)) false
+abbrev pub is_guarded_field : World → (current : Loaded) → MemberReference → Bool
+is_guarded_field world current reference =
+    unwrap_or (class_named world reference.class >>= λ named.
+    lookup_field world named reference.name reference.descriptor >>= λ d.
+    Some (is_guarded world current named d.by d.field.access_flags)) false
 
-abbrev pub is_guarded_method : Environment → MemberReference → Bool
-is_guarded_method env reference =
-    unwrap_or (class_named env.world reference.class >>= λ named.
-    lookup_method env.world named reference.name reference.descriptor >>= λ d.
-    Some (is_guarded env named d.by d.method.access_flags)) false
+abbrev pub is_guarded_method : World → (current : Loaded) → MemberReference → Bool
+is_guarded_method world current reference =
+    unwrap_or (class_named world reference.class >>= λ named.
+    lookup_method world named reference.name reference.descriptor >>= λ d.
+    Some (is_guarded world current named d.by d.method.access_flags)) false
 
 -- what an object has to flow to beside the class that is named, if a guarded member is used on it
 abbrev pub guard : Environment → Bool → List FrameType

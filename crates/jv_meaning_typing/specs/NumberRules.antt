@@ -19,7 +19,7 @@ use Rattle.jv_code.specs.declared.kinds.NumberKind.{NumberKind}
 use Rattle.jv_code.specs.declared.kinds.NumberKind.TheVariants as number_kinds
 use Rattle.jv_code.specs.declared.kinds.Test.{Test}
 use Rattle.jv_code.specs.declared.kinds.Test.TheVariants as tests
-use Rattle.jv_meaning_typing.specs.Named.{array_with, class_components, object_type, throwable_type}
+use Rattle.jv_meaning_typing.specs.Named.{array_with, class_components, object_class_type, throwable_type}
 use Rattle.std.specs.Prelude.{codes}
 
 -- the types of what is taken, the last of which stands on top, and of what is given
@@ -98,7 +98,7 @@ fixed_exchange (insns.Goto distance form) = Some (exchange [] [])
 fixed_exchange (insns.TableSwitch padding default low high distances) = Some (exchange (types.Int ∷ []) [])
 fixed_exchange (insns.LookupSwitch padding default pairs) = Some (exchange (types.Int ∷ []) [])
 fixed_exchange insns.ReferenceArrayStore =
-    Some (exchange (array_with (class_components (codes "java/lang/Object")) ∷ types.Int ∷ object_type ∷ []) [])
+    Some (exchange (array_with (class_components (codes "java/lang/Object")) ∷ types.Int ∷ object_class_type ∷ []) [])
 fixed_exchange (insns.NewArray element) = Some (exchange (types.Int ∷ []) (new_array_type element ∷ []))
 fixed_exchange insns.Throw = Some (exchange (throwable_type ∷ []) [])
 fixed_exchange _ = None

@@ -17,7 +17,7 @@ use Rattle.jv_loader_world.specs.World.{World}
 use Rattle.jv_meaning_typing.specs.Environment.{Environment}
 use Rattle.jv_meaning_typing.specs.StackForms.{rearranged}
 use Rattle.jv_meaning_typing.specs.FrameChanges.{with_stack, with_locals, is_reference, is_of_kind, taken, taken_as_any, taken_of_kind, exchanged, item_width, stored, is_same_object, replaced}
-use Rattle.jv_meaning_typing.specs.Named.{object_type, constant_type, long_constant_type, operand_type, operand_name, array_of_operand, array_operand, when}
+use Rattle.jv_meaning_typing.specs.Named.{object_class_type, constant_type, long_constant_type, operand_type, operand_name, array_of_operand, array_operand, when}
 use Rattle.jv_meaning_typing.specs.NumberRules.{number_arrays, element_number}
 
 abbrev pub pushed : Frame → FrameType → Frame
@@ -115,10 +115,10 @@ new_object env pc index frame =
 
 -- any class or array is cast to the type that is named
 abbrev pub check_cast : Environment → ℕ → Frame → Option Frame
-check_cast env index frame = operand_type env index >>= λ type. exchanged env.world (object_type ∷ []) (type ∷ []) frame
+check_cast env index frame = operand_type env index >>= λ type. exchanged env.world (object_class_type ∷ []) (type ∷ []) frame
 
 abbrev pub instance_of : Environment → ℕ → Frame → Option Frame
-instance_of env index frame = operand_type env index >>= λ type. exchanged env.world (object_type ∷ []) (types.Int ∷ []) frame
+instance_of env index frame = operand_type env index >>= λ type. exchanged env.world (object_class_type ∷ []) (types.Int ∷ []) frame
 
 -- ---- returns
 

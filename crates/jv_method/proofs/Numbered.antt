@@ -8,30 +8,30 @@ use Rattle.jv_loader_files.specs.declared.content.Content.TheVariants.{OtherVers
 use Rattle.jv_loader_world.specs.declared.verdict.LoadVerdict.{LoadVerdict}
 use Rattle.jv_loader_world.specs.declared.verdict.LoadVerdict.TheVariants.{Reserved, Duplicate, Circular, NoSuper, WrongKind, NoAccess, FinalBroken}
 use Rattle.jv_loader_world.specs.Above.{is_circular, superclasses}
-use Rattle.jv_loader_world.specs.World.{Loaded, World, loaded, is_reserved, has_class, joined, joined_all, classes_in, world_of}
+use Rattle.jv_loader_world.specs.World.{Loaded, World, loaded, is_reserved, has_class, with_class_of, joined_all, classes_in, world_of}
 use Rattle.jv_loader_world.specs.Verdicts.{verdict_of_class, verdict_behind, load_verdict, each_super, is_loadable, have_right_kind, can_name_supers, has_final_super, breaks_final}
 use Rattle.jv_method.specs.Inside.Numbered.{joins, next_number, number_behind}
 
 -- ---- lists
 
-joined_next : (classes : List Class) (files : List FileContent) (k : ℕ) (f : FileContent) → slice_get files k ≡ Some f → joined_all classes (take (suc k) files) ≡ joined (joined_all classes (take k files)) f
+joined_next : (classes : List Class) (files : List FileContent) (k : ℕ) (f : FileContent) → slice_get files k ≡ Some f → joined_all classes (take (suc k) files) ≡ with_class_of (joined_all classes (take k files)) f
 joined_next classes [] zero f e = absurd cc
 joined_next classes [] (suc k) f e = absurd cc
 joined_next classes (x ∷ files) zero f e =
     let same : x ≡ f = cc in
-    ap (joined classes) same
-joined_next classes (x ∷ files) (suc k) f e = joined_next (joined classes x) files k f e
+    ap (with_class_of classes) same
+joined_next classes (x ∷ files) (suc k) f e = joined_next (with_class_of classes x) files k f e
 
 joined_parts : (classes : List Class) (files : List FileContent) (k : ℕ) → joined_all classes files ≡ joined_all (joined_all classes (take k files)) (drop k files)
 joined_parts classes [] zero = refl
 joined_parts classes [] (suc k) = refl
 joined_parts classes (x ∷ files) zero = refl
-joined_parts classes (x ∷ files) (suc k) = joined_parts (joined classes x) files k
+joined_parts classes (x ∷ files) (suc k) = joined_parts (with_class_of classes x) files k
 
 abbrev Grows : List Class → List Class → Type 0
 Grows before after = (more : List Class) × (after ≡ before ++ more)
 
-one_grows : (classes : List Class) (f : FileContent) → Grows classes (joined classes f)
+one_grows : (classes : List Class) (f : FileContent) → Grows classes (with_class_of classes f)
 one_grows classes OtherVersion = ([], sym (append-nil classes))
 one_grows classes NoClassFile = ([], sym (append-nil classes))
 one_grows classes MoreThanProfile = ([], sym (append-nil classes))
@@ -45,7 +45,7 @@ all_grow : (classes : List Class) (files : List FileContent) → Grows classes (
 all_grow classes [] = ([], sym (append-nil classes))
 all_grow classes (f ∷ files) =
     let one = one_grows classes f in
-    let more = all_grow (joined classes f) files in
+    let more = all_grow (with_class_of classes f) files in
     (one.0 ++ more.0, more.1 ∙ (ap (λ cs. cs ++ more.0) one.1 ∙ append_assoc classes one.0 more.0))
 
 behind_system : (system : List Class) (guests : World) (n : ℕ) → slice_get (map (loaded true) system ++ guests) (length system + n) ≡ slice_get guests n
@@ -75,7 +75,7 @@ one_of_world world l =
     by_tests false false false false false = refl
 
 class_joins : (system : List Class) (earlier : List FileContent) (world : World) (class : Class)
-    → joined (classes_in earlier) (Holds class) ≡ cond (joins (verdict_behind system earlier world (Holds class))) (classes_in earlier ++ class ∷ []) (classes_in earlier)
+    → with_class_of (classes_in earlier) (Holds class) ≡ cond (joins (verdict_behind system earlier world (Holds class))) (classes_in earlier ++ class ∷ []) (classes_in earlier)
 class_joins system earlier world class =
     by_tests (is_reserved class.name) (has_class (classes_in earlier) class.name) (verdict_of_class world (loaded false class)) (one_of_world world (loaded false class))
   where
@@ -91,7 +91,7 @@ one_more n classes class true =
     let more = length-append classes (class ∷ []) in
     omega (arith, more)
 
-number_of : (system : List Class) (earlier : List FileContent) (world : World) (f : FileContent) → length system + length (joined (classes_in earlier) f) ≡ next_number (number_behind system earlier) (verdict_behind system earlier world f)
+number_of : (system : List Class) (earlier : List FileContent) (world : World) (f : FileContent) → length system + length (with_class_of (classes_in earlier) f) ≡ next_number (number_behind system earlier) (verdict_behind system earlier world f)
 number_of system earlier world OtherVersion = refl
 number_of system earlier world NoClassFile = refl
 number_of system earlier world MoreThanProfile = refl
@@ -134,7 +134,7 @@ module _ (system : List Class) (contents : List FileContent) (k : ℕ) (f : File
       let held = must_hold system (take k contents) (world_of system contents) f on_f in
       let on_class : joins (verdict_behind system (take k contents) (world_of system contents) (Holds held.0)) ≡ true = subst (λ g. joins (verdict_behind system (take k contents) (world_of system contents) g) ≡ true) held.1 on_f in
       let here : joined_all [] (take (suc k) contents) ≡ classes_in (take k contents) ++ held.0 ∷ [] =
-      joined_next [] contents k f at ∙ (ap (joined (classes_in (take k contents))) held.1
+      joined_next [] contents k f at ∙ (ap (with_class_of (classes_in (take k contents))) held.1
       ∙ (class_joins system (take k contents) (world_of system contents) held.0 ∙ ap (λ b. cond b (classes_in (take k contents) ++ held.0 ∷ []) (classes_in (take k contents))) on_class)) in
       let more = all_grow (joined_all [] (take (suc k) contents)) (drop (suc k) contents) in
       let all : classes_in contents ≡ (classes_in (take k contents) ++ held.0 ∷ []) ++ more.0 = joined_parts [] contents (suc k) ∙ (more.1 ∙ ap (λ (cs : List Class). cs ++ more.0) here) in (

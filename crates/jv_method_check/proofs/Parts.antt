@@ -7,7 +7,7 @@ use Rattle.jv_meaning_typing.specs.Environment.{Environment}
 use Rattle.jv_rules_constants.specs.PoolTypes.{PoolTypes, typed_result}
 use Rattle.jv_method_code.specs.of_rules_class.Current.{CurrentClass, IsOfClass}
 use Rattle.jv_method_code.specs.of_rules_uses.Method.{MethodContext, IsOfMethod}
-use Rattle.jv_method_code.specs.of_method_frames.Mapped.{EntryTypes, entry_words, initial_types}
+use Rattle.jv_method_code.specs.of_method_frames.Mapped.{EntryTypes, local_entry_words, initial_types}
 use Rattle.jv_method_code.specs.of_method_tables.Tables.{entry_types, HasHandlers, HasMap, MapsTo}
 use Rattle.jv_method_code.proofs.laws_of_method_tables.SameTypes.{same_types}
 use Rattle.jv_method_code.specs.Pass.{Pass, HasRoom, IsOfPass}
@@ -48,13 +48,13 @@ maps_told method constants code (Ok found) same is told = λ env of.
     (told env (subst (λ (p : PoolTypes). HasMap (entry_types p method.initial) code (record { max_locals = method.body.max_locals; max_stack = method.body.max_stack }) method.body.stack_map_table env) (sym same) (has_map method code env of is)))
 
 pub rooms_told : {E : Type 0} (method : ReadMethod) (constants : PoolTypes) (result : Result (Option (List ReadFrame)) E) → constants ≡ constants_of method
-    → IfOk result (λ found. IfSome found (λ frames. All (λ f. f.local_words ≡ entry_words (entry_types constants method.initial) f) frames))
+    → IfOk result (λ found. IfSome found (λ frames. All (λ f. f.local_words ≡ local_entry_words (entry_types constants method.initial) f) frames))
     → IfOk result (λ found. IfSome found (λ frames. All (λ f. f.local_words ≤ method.body.max_locals) frames)) → IfOk result (λ found. IfSome found (HaveRoom method))
 rooms_told method constants (Err e) same words room = tt
 rooms_told method constants (Ok None) same words room = tt
 rooms_told method constants (Ok (Some frames)) same words room = λ k d within.
     record {
-      words = words k d within ∙ ap (λ (p : PoolTypes). entry_words (entry_types p method.initial) (slice_index_or frames k d)) same;
+      words = words k d within ∙ ap (λ (p : PoolTypes). local_entry_words (entry_types p method.initial) (slice_index_or frames k d)) same;
       room = room k d within;
     }
 

@@ -21,13 +21,13 @@ use Rattle.jv_rules.specs.of_rules_class.Current.{CurrentClass}
 use Rattle.jv_rules.specs.of_rules_uses.Method.{MethodContext, IsOfMethod}
 use Rattle.jv_rules.specs.Laws.{KeepsLocalCount}
 use Rattle.std.proofs.lemmas.List.{length-map}
-use Rattle.jv_method_tables.specs.of_method_frames.Mapped.{EntryTypes, names_of, world_of, map_frame, thrown_frame}
+use Rattle.jv_method_tables.specs.of_method_frames.Mapped.{EntryTypes, names_of_types, world_of_types, frame_by_types, thrown_frame}
 use Rattle.jv_method_code.specs.Pass.{Pass, IsOfPass, names_in, maps_of}
 use Rattle.jv_method_code.specs.Inside.Kept.{IsPass}
 use Rattle.jv_method_code.specs.Inside.Walk.{merged, when_falls}
 
 module _ (pass : Pass) (entries : List Item) (count : ℕ) (kept : IsPass pass entries count) (env : Environment) (is : IsOfPass pass env) where
-  pub world_is : env.world ≡ world_of pass.types
+  pub world_is : env.world ≡ world_of_types pass.types
   world_is = is.context.class.world ∙ ap (λ (t : TypeWorld). t.world) (sym kept.types)
 
   pub names_are : pass.context.class.types.names ≡ names_in pass
@@ -44,17 +44,17 @@ module _ (pass : Pass) (entries : List Item) (count : ℕ) (kept : IsPass pass e
 
   -- a frame against one of the map
   pub flow_is : (types : EntryTypes) (f : NumberFrame) (map : ReadFrame) (r : Bool) → types ≡ pass.types → length f.locals ≡ pass.max_locals
-      → r ≡ frame_flows (world_of types) (frame_of (names_of types) f) (map_frame types (length f.locals) map)
-      → r ≡ frame_flows env.world (frame_of (names_in pass) f) (map_frame pass.types pass.max_locals map)
+      → r ≡ frame_flows (world_of_types types) (frame_of (names_of_types types) f) (frame_by_types types (length f.locals) map)
+      → r ≡ frame_flows env.world (frame_of (names_in pass) f) (frame_by_types pass.types pass.max_locals map)
   flow_is types f map r e room h =
       h
-      ∙ (ap (λ (t : EntryTypes). frame_flows (world_of t) (frame_of (names_of t) f) (map_frame t (length f.locals) map)) e
-      ∙ (ap (λ (n : ℕ). frame_flows (world_of pass.types) (frame_of (names_in pass) f) (map_frame pass.types n map)) room
-      ∙ ap (λ (w : World). frame_flows w (frame_of (names_in pass) f) (map_frame pass.types pass.max_locals map)) (sym world_is)))
+      ∙ (ap (λ (t : EntryTypes). frame_flows (world_of_types t) (frame_of (names_of_types t) f) (frame_by_types t (length f.locals) map)) e
+      ∙ (ap (λ (n : ℕ). frame_flows (world_of_types pass.types) (frame_of (names_in pass) f) (frame_by_types pass.types n map)) room
+      ∙ ap (λ (w : World). frame_flows w (frame_of (names_in pass) f) (frame_by_types pass.types pass.max_locals map)) (sym world_is)))
 
   pub flows_there : (types : EntryTypes) (f : NumberFrame) (map : ReadFrame) (r : Bool) (o : Option Frame) → types ≡ pass.types → length f.locals ≡ pass.max_locals
-      → r ≡ frame_flows (world_of types) (frame_of (names_of types) f) (map_frame types (length f.locals) map)
-      → Some (map_frame pass.types pass.max_locals map) ≡ o → r ≡ flows_into env (frame_of (names_in pass) f) o
+      → r ≡ frame_flows (world_of_types types) (frame_of (names_of_types types) f) (frame_by_types types (length f.locals) map)
+      → Some (frame_by_types pass.types pass.max_locals map) ≡ o → r ≡ flows_into env (frame_of (names_in pass) f) o
   flows_there types f map r o e room h at = flow_is types f map r e room h ∙ ap (flows_into env (frame_of (names_in pass) f)) at
 
   -- what a handler begins with against one of the map
@@ -81,17 +81,17 @@ module _ (pass : Pass) (entries : List Item) (count : ℕ) (kept : IsPass pass e
 
   pub handles_there : (types : EntryTypes) (insn : Instruction) (f : NumberFrame) (object : Option Item) (thrown : Item) (handler : Handler) (map : ReadFrame) (r : Bool)
       → types ≡ pass.types → length f.locals ≡ pass.max_locals
-      → r ≡ frame_flows (world_of types) (thrown_frame (names_of types) f object thrown) (map_frame types (length f.locals) map)
+      → r ≡ frame_flows (world_of_types types) (thrown_frame (names_of_types types) f object thrown) (frame_by_types types (length f.locals) map)
       → option_map (typed (names_in pass)) object ≡ constructed_object env insn (frame_of (names_in pass) f)
       → Some (typed (names_in pass) thrown) ≡ catch_type env handler.catch_type
-      → Some (map_frame pass.types pass.max_locals map) ≡ frame_at (maps_of pass) handler.handler_pc
+      → Some (frame_by_types pass.types pass.max_locals map) ≡ frame_at (maps_of pass) handler.handler_pc
       → r ≡ handles env (maps_of pass) (handler_frame env insn (frame_of (names_in pass) f)) handler
   handles_there types insn f object thrown handler map r e room h o t at =
       h
-      ∙ (ap (λ (x : EntryTypes). frame_flows (world_of x) (thrown_frame (names_of x) f object thrown) (map_frame x (length f.locals) map)) e
-      ∙ (ap (λ (n : ℕ). frame_flows (world_of pass.types) (thrown_frame (names_in pass) f object thrown) (map_frame pass.types n map)) room
-      ∙ (ap (λ (w : World). frame_flows w (thrown_frame (names_in pass) f object thrown) (map_frame pass.types pass.max_locals map)) (sym world_is)
-      ∙ (ap (λ (x : Frame). frame_flows env.world x (map_frame pass.types pass.max_locals map)) (thrown_is insn f object thrown o)
+      ∙ (ap (λ (x : EntryTypes). frame_flows (world_of_types x) (thrown_frame (names_of_types x) f object thrown) (frame_by_types x (length f.locals) map)) e
+      ∙ (ap (λ (n : ℕ). frame_flows (world_of_types pass.types) (thrown_frame (names_in pass) f object thrown) (frame_by_types pass.types n map)) room
+      ∙ (ap (λ (w : World). frame_flows w (thrown_frame (names_in pass) f object thrown) (frame_by_types pass.types pass.max_locals map)) (sym world_is)
+      ∙ (ap (λ (x : Frame). frame_flows env.world x (frame_by_types pass.types pass.max_locals map)) (thrown_is insn f object thrown o)
       ∙ (ap (flows_into env (with_stack (handler_frame env insn (frame_of (names_in pass) f)) (typed (names_in pass) thrown ∷ []))) at
       ∙ handles_is insn (frame_of (names_in pass) f) handler (typed (names_in pass) thrown) t)))))
 
@@ -105,31 +105,31 @@ module _ (pass : Pass) (entries : List Item) (count : ℕ) (kept : IsPass pass e
       → IsFrame (names_in pass) (merged env.world (when_falls falls (frame_of (names_in pass) f)) o) f falls
   merged_none falls f o e = subst (λ (x : Option Frame). IsFrame (names_in pass) (merged env.world (when_falls falls (frame_of (names_in pass) f)) x) f falls) e (none_merged falls f)
 
-  pub merged_not : (f : NumberFrame) (map : ReadFrame) (o : Option Frame) → Some (map_frame pass.types pass.max_locals map) ≡ o
-      → false ≡ frame_flows env.world (frame_of (names_in pass) f) (map_frame pass.types pass.max_locals map)
+  pub merged_not : (f : NumberFrame) (map : ReadFrame) (o : Option Frame) → Some (frame_by_types pass.types pass.max_locals map) ≡ o
+      → false ≡ frame_flows env.world (frame_of (names_in pass) f) (frame_by_types pass.types pass.max_locals map)
       → merged env.world (Some (frame_of (names_in pass) f)) o ≡ None
   merged_not f map o at h =
       ap (merged env.world (Some (frame_of (names_in pass) f))) (sym at)
-      ∙ ap (λ (b : Bool). if b then Some (map_frame pass.types pass.max_locals map) else None) (sym h)
+      ∙ ap (λ (b : Bool). if b then Some (frame_by_types pass.types pass.max_locals map) else None) (sym h)
 
-  pub merged_flows : (f : NumberFrame) (map : ReadFrame) (o : Option Frame) → Some (map_frame pass.types pass.max_locals map) ≡ o
-      → true ≡ frame_flows env.world (frame_of (names_in pass) f) (map_frame pass.types pass.max_locals map)
-      → merged env.world (Some (frame_of (names_in pass) f)) o ≡ Some (map_frame pass.types pass.max_locals map)
+  pub merged_flows : (f : NumberFrame) (map : ReadFrame) (o : Option Frame) → Some (frame_by_types pass.types pass.max_locals map) ≡ o
+      → true ≡ frame_flows env.world (frame_of (names_in pass) f) (frame_by_types pass.types pass.max_locals map)
+      → merged env.world (Some (frame_of (names_in pass) f)) o ≡ Some (frame_by_types pass.types pass.max_locals map)
   merged_flows f map o at h =
       ap (merged env.world (Some (frame_of (names_in pass) f))) (sym at)
-      ∙ ap (λ (b : Bool). if b then Some (map_frame pass.types pass.max_locals map) else None) (sym h)
+      ∙ ap (λ (b : Bool). if b then Some (frame_by_types pass.types pass.max_locals map) else None) (sym h)
 
-  pub merged_map : (map : ReadFrame) (o : Option Frame) → Some (map_frame pass.types pass.max_locals map) ≡ o
-      → merged env.world None o ≡ Some (map_frame pass.types pass.max_locals map)
+  pub merged_map : (map : ReadFrame) (o : Option Frame) → Some (frame_by_types pass.types pass.max_locals map) ≡ o
+      → merged env.world None o ≡ Some (frame_by_types pass.types pass.max_locals map)
   merged_map map o at = ap (merged env.world None) (sym at)
 
   pub set_is : (types : EntryTypes) (count_before : ℕ) (new : NumberFrame) (map : ReadFrame) → types ≡ pass.types → count_before ≡ pass.max_locals
-      → frame_of (names_of types) new ≡ map_frame types count_before map → Some (map_frame pass.types pass.max_locals map) ≡ Some (frame_of (names_in pass) new)
+      → frame_of (names_of_types types) new ≡ frame_by_types types count_before map → Some (frame_by_types pass.types pass.max_locals map) ≡ Some (frame_of (names_in pass) new)
   set_is types count_before new map e room h =
       ap (λ (f : Frame). Some f)
-      (ap (λ (n : ℕ). map_frame pass.types n map) (sym room)
-      ∙ (ap (λ (t : EntryTypes). map_frame t count_before map) (sym e)
-      ∙ (sym h ∙ ap (λ (t : EntryTypes). frame_of (names_of t) new) e)))
+      (ap (λ (n : ℕ). frame_by_types pass.types n map) (sym room)
+      ∙ (ap (λ (t : EntryTypes). frame_by_types t count_before map) (sym e)
+      ∙ (sym h ∙ ap (λ (t : EntryTypes). frame_of (names_of_types t) new) e)))
 
   -- ---- the first frame
 

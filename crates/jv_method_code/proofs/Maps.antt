@@ -9,7 +9,7 @@ use Rattle.jv_pool.specs.Constants.{Entry}
 use Rattle.jv_frames.specs.Types.{FrameType}
 use Rattle.jv_frames.specs.Frames.{PlacedFrame, RiseFrom, OffsetsRise}
 use Rattle.jv_frames.specs.Entries.{ReadFrame, frame_placed, frames_placed}
-use Rattle.jv_method_tables.specs.of_method_frames.Mapped.{map_frame, initial_types}
+use Rattle.jv_method_tables.specs.of_method_frames.Mapped.{frame_by_types, initial_types}
 use Rattle.jv_method_code.specs.Pass.{Pass, IsOfPass, maps_of}
 use Rattle.jv_meaning_typing.specs.Environment.{Environment, current_class}
 use Rattle.jv_meaning_typing.specs.Typing.{HasFrames, frame_at, limits_of, entries_before}
@@ -78,7 +78,7 @@ offset_there (Some g) f offset e h = cc
 
 pub found_at : OffsetsRise → (pass : Pass) (env : Environment) (frames : List ReadFrame) (place offset : ℕ) (f : ReadFrame) → IsOfPass pass env → pass.frames ≡ frames
     → slice_get frames place ≡ Some f → option_map (λ (g : ReadFrame). g.offset) (slice_get frames place) ≡ Some offset
-    → frame_at (maps_of pass) offset ≡ Some (map_frame pass.types pass.max_locals f)
+    → frame_at (maps_of pass) offset ≡ Some (frame_by_types pass.types pass.max_locals f)
 found_at law pass env frames place offset f is e at o =
     found pass.types.constants.pool (initial_types pass.types) pass.max_locals 0 place offset pass.frames f (rises law env (maps_of pass) is.maps.spelled)
     (ap (λ (fs : List ReadFrame). slice_get fs place) e ∙ at) (offset_there (slice_get frames place) f offset at o)

@@ -6,7 +6,7 @@ use Rattle.jv_frames.specs.Frames.{PlacedFrame}
 use Rattle.jv_meaning_typing.specs.Environment.{Environment, IsEnvironment}
 use Rattle.jv_meaning_typing.specs.Typing.{AreFrames, entries_before}
 use Rattle.jv_rules.specs.of_rules_uses.Method.{MethodContext, IsOfMethod}
-use Rattle.jv_method_tables.specs.of_method_frames.Mapped.{EntryTypes, initial_types, names_of, entry_words}
+use Rattle.jv_method_tables.specs.of_method_frames.Mapped.{EntryTypes, initial_types, names_of_types, local_entry_words}
 
 -- what the rules ask of it, the types of the initial local entries among what the map's entries stand for, how many local
 -- variables it has, its handlers, and the frames of its stack map
@@ -18,7 +18,7 @@ pub record Pass : Type 0 where
   pub frames : List ReadFrame
 
 abbrev pub names_in : Pass → List (List ℕ)
-names_in pass = names_of pass.types
+names_in pass = names_of_types pass.types
 
 -- the frames by words that those of the stack map stand for
 abbrev pub maps_of : Pass → List PlacedFrame
@@ -35,5 +35,5 @@ pub record IsOfPass (pass : Pass) (env : Environment) : Type 0 where
 
 -- a frame of the map has the words of its local entries, for which there is room
 pub record HasRoom (types : EntryTypes) (max_locals : ℕ) (f : ReadFrame) : Type 0 where
-  pub words : f.local_words ≡ entry_words types f
+  pub words : f.local_words ≡ local_entry_words types f
   pub room : f.local_words ≤ max_locals

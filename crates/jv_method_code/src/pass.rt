@@ -8,7 +8,7 @@ ghost use Rattle.jv_frames.specs.Types.{words};
 ghost use Rattle.jv_meaning_typing.specs.Environment.{Environment};
 ghost use Rattle.jv_meaning_typing.specs.Typing.{catch_type, frame_at};
 ghost use Rattle.jv_rules_types.specs.Typed.{typed, typed_all};
-ghost use Rattle.jv_method_tables.specs.of_method_frames.Mapped.{map_frame};
+ghost use Rattle.jv_method_tables.specs.of_method_frames.Mapped.{frame_by_types};
 ghost use Rattle.jv_method_code.specs.Pass.{IsOfPass, HasRoom, maps_of, names_in};
 
 use jv_format::ExceptionTable;
@@ -93,7 +93,7 @@ impl<'p, 'm, 'e, 't, 'a> Pass<'p, 'm, 'e, 't, 'a> {
 
     /// The frame of the stack map at an offset, where there is one.
     pub(crate) fn map_at(&self, offset: u32) -> Option<MapFrame<'p>>
-        ensures frame { (env : Environment) → IsOfPass self.now env → option_map (map_frame self.now.types self.now.max_locals) result ≡ frame_at (maps_of self.now) offset }
+        ensures frame { (env : Environment) → IsOfPass self.now env → option_map (frame_by_types self.now.types self.now.max_locals) result ≡ frame_at (maps_of self.now) offset }
         ensures room { IfSome result (HasRoom self.now.types self.now.max_locals) }
     {
         offsets_rise();

@@ -17,28 +17,28 @@ pub record EntryTypes : Type 0 where
   pub constants : PoolTypes
   pub initial : List Item
 
-abbrev pub names_of : EntryTypes → List (List ℕ)
-names_of types = types.constants.types.names
+abbrev pub names_of_types : EntryTypes → List (List ℕ)
+names_of_types types = types.constants.types.names
 
-abbrev pub world_of : EntryTypes → World
-world_of types = types.constants.types.world
+abbrev pub world_of_types : EntryTypes → World
+world_of_types types = types.constants.types.world
 
 abbrev pub initial_types : EntryTypes → List FrameType
-initial_types types = typed_all (names_of types) types.initial
+initial_types types = typed_all (names_of_types types) types.initial
 
-abbrev pub type_of : EntryTypes → FrameEntry → FrameType
-type_of types entry = entry_type types.constants.pool (initial_types types) entry
+abbrev pub type_of_entry : EntryTypes → FrameEntry → FrameType
+type_of_entry types entry = entry_type types.constants.pool (initial_types types) entry
 
-abbrev pub types_of : EntryTypes → List FrameEntry → List FrameType
-types_of types entries = map (entry_type types.constants.pool (initial_types types)) entries
+abbrev pub types_of_entries : EntryTypes → List FrameEntry → List FrameType
+types_of_entries types entries = map (entry_type types.constants.pool (initial_types types)) entries
 
 -- the frame by words that a frame which was read stands for
-abbrev pub map_frame : EntryTypes → ℕ → ReadFrame → Frame
-map_frame types max_locals f = (frame_placed types.constants.pool (initial_types types) max_locals f).frame
+abbrev pub frame_by_types : EntryTypes → ℕ → ReadFrame → Frame
+frame_by_types types max_locals f = (frame_placed types.constants.pool (initial_types types) max_locals f).frame
 
 -- the words of its local entries
-abbrev pub entry_words : EntryTypes → ReadFrame → ℕ
-entry_words types f = words (types_of types f.locals)
+abbrev pub local_entry_words : EntryTypes → ReadFrame → ℕ
+local_entry_words types f = words (types_of_entries types f.locals)
 
 -- what a handler begins with: the frame before the instruction, in which an object that the instruction constructs cannot
 -- be used, and what was thrown alone on the stack

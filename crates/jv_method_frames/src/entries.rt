@@ -3,7 +3,7 @@
 ghost use Rattle.std.specs.Prelude.{◌≡◌, slice_index_or};
 ghost use Rattle.jv_frames.specs.declared.verification.VerificationTypeOf.TheVariants as variants;
 ghost use Rattle.jv_rules_types.specs.Typed.{typed};
-ghost use Rattle.jv_method_frames.specs.Mapped.{names_of, type_of};
+ghost use Rattle.jv_method_frames.specs.Mapped.{names_of_types, type_of_entry};
 
 use jv_frames::{FrameEntry, VerificationTypeOf};
 use jv_rules_constants::ConstantTypes;
@@ -64,7 +64,7 @@ impl<'e, 't, 'a> EntryTypes<'e, 't, 'a> {
 
     /// The type that an entry stands for.
     pub(crate) fn item(&self, entry: FrameEntry) -> Item
-        ensures { typed (names_of self.now) result ≡ type_of self.now entry }
+        ensures { typed (names_of_types self.now) result ≡ type_of_entry self.now entry }
     {
         match entry {
             FrameEntry::Top => VerificationTypeOf::Top,

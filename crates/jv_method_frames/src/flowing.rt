@@ -12,7 +12,7 @@ ghost use Rattle.jv_meaning_typing.specs.FrameChanges.{is_same_object};
 ghost use Rattle.jv_meaning_typing.specs.Rule.{without_object};
 ghost use Rattle.jv_rules_types.specs.Typed.{typed, typed_all};
 ghost use Rattle.jv_rules_frames.specs.Numbered.{frame_of};
-ghost use Rattle.jv_method_frames.specs.Mapped.{names_of, world_of, types_of, entry_words, map_frame, thrown_frame};
+ghost use Rattle.jv_method_frames.specs.Mapped.{names_of_types, world_of_types, types_of_entries, local_entry_words, frame_by_types, thrown_frame};
 ghost use Rattle.jv_method_frames.specs.Inside.Locals.{left_in};
 
 use crate::entries::EntryTypes;
@@ -59,8 +59,8 @@ fn locals_flow(
     object: Option<Item>,
     map: &MapFrame<'_>,
 ) -> bool
-    requires { map.now.local_words ≡ entry_words types.now map.now }
-    ensures { result ≡ all_flow (flows (world_of types.now)) (without_object (option_map (typed (names_of types.now)) object) (typed_all (names_of types.now) frame.now.locals)) (expanded (length frame.now.locals) (reverse (types_of types.now map.now.locals))) }
+    requires { map.now.local_words ≡ local_entry_words types.now map.now }
+    ensures { result ≡ all_flow (flows (world_of_types types.now)) (without_object (option_map (typed (names_of_types types.now)) object) (typed_all (names_of_types types.now) frame.now.locals)) (expanded (length frame.now.locals) (reverse (types_of_entries types.now map.now.locals))) }
 {
     let mut at = map.local_words();
     if usize::from(at) > frame.local_count() {
@@ -82,7 +82,7 @@ fn locals_flow(
 
 /// Whether the stack's items flow to a frame's, one by one.
 fn stack_flows(types: &EntryTypes<'_, '_, '_>, frame: &TypeFrame, map: &MapFrame<'_>) -> bool
-    ensures { result ≡ all_flow (item_flows (world_of types.now)) (typed_all (names_of types.now) frame.now.stack) (types_of types.now map.now.stack) }
+    ensures { result ≡ all_flow (item_flows (world_of_types types.now)) (typed_all (names_of_types types.now) frame.now.stack) (types_of_entries types.now map.now.stack) }
 {
     let height = frame.height();
     let mut left = height;
@@ -101,7 +101,7 @@ fn stack_flows(types: &EntryTypes<'_, '_, '_>, frame: &TypeFrame, map: &MapFrame
 
 /// Whether `this` may not be initialized in a frame of the map: whether it is among the local entries.
 pub(crate) fn has_this(types: &EntryTypes<'_, '_, '_>, map: &MapFrame<'_>) -> bool
-    ensures { result ≡ list_any is_uninitialized_this (reverse (types_of types.now map.now.locals)) }
+    ensures { result ≡ list_any is_uninitialized_this (reverse (types_of_entries types.now map.now.locals)) }
 {
     let mut entries = map.locals();
     while let Some(entry) = entries.next() {
@@ -114,15 +114,15 @@ pub(crate) fn has_this(types: &EntryTypes<'_, '_, '_>, map: &MapFrame<'_>) -> bo
 
 /// Whether a frame of the map may have `this` as the frame before it has it.
 fn flag_flows(types: &EntryTypes<'_, '_, '_>, frame: &TypeFrame, map: &MapFrame<'_>) -> bool
-    ensures { result ≡ (not frame.now.flag_this_uninit || list_any is_uninitialized_this (reverse (types_of types.now map.now.locals))) }
+    ensures { result ≡ (not frame.now.flag_this_uninit || list_any is_uninitialized_this (reverse (types_of_entries types.now map.now.locals))) }
 {
     !frame.flag_this_uninit() || has_this(types, map)
 }
 
 /// Whether a frame flows into a frame of the map, with as many local variables.
 pub fn frame_flows(types: &EntryTypes<'_, '_, '_>, frame: &TypeFrame, map: &MapFrame<'_>) -> bool
-    requires { map.now.local_words ≡ entry_words types.now map.now }
-    ensures { result ≡ frame_flows (world_of types.now) (frame_of (names_of types.now) frame.now) (map_frame types.now (length frame.now.locals) map.now) }
+    requires { map.now.local_words ≡ local_entry_words types.now map.now }
+    ensures { result ≡ frame_flows (world_of_types types.now) (frame_of (names_of_types types.now) frame.now) (frame_by_types types.now (length frame.now.locals) map.now) }
 {
     locals_flow(types, frame, None, map)
         && stack_flows(types, frame, map)
@@ -131,7 +131,7 @@ pub fn frame_flows(types: &EntryTypes<'_, '_, '_>, frame: &TypeFrame, map: &MapF
 
 /// Whether what was thrown alone on the stack flows to a frame's stack.
 fn thrown_stack_flows(types: &EntryTypes<'_, '_, '_>, thrown: Item, map: &MapFrame<'_>) -> bool
-    ensures { result ≡ all_flow (item_flows (world_of types.now)) (typed (names_of types.now) thrown ∷ []) (types_of types.now map.now.stack) }
+    ensures { result ≡ all_flow (item_flows (world_of_types types.now)) (typed (names_of_types types.now) thrown ∷ []) (types_of_entries types.now map.now.stack) }
 {
     let mut entries = map.stack();
     let Some(entry) = entries.next() else {
@@ -149,8 +149,8 @@ pub fn thrown_flows(
     thrown: Item,
     map: &MapFrame<'_>,
 ) -> bool
-    requires { map.now.local_words ≡ entry_words types.now map.now }
-    ensures { result ≡ frame_flows (world_of types.now) (thrown_frame (names_of types.now) frame.now object thrown) (map_frame types.now (length frame.now.locals) map.now) }
+    requires { map.now.local_words ≡ local_entry_words types.now map.now }
+    ensures { result ≡ frame_flows (world_of_types types.now) (thrown_frame (names_of_types types.now) frame.now object thrown) (frame_by_types types.now (length frame.now.locals) map.now) }
 {
     locals_flow(types, frame, object, map)
         && thrown_stack_flows(types, thrown, map)

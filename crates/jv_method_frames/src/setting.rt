@@ -7,7 +7,7 @@ ghost use Rattle.jv_frames.specs.Types.{words};
 ghost use Rattle.jv_rules_types.specs.Typed.{typed_all};
 ghost use Rattle.jv_rules_frames.specs.Numbered.{blank, frame_of, with_locals, with_stack};
 ghost use Rattle.jv_method_frames.specs.Inside.Locals.{is_this};
-ghost use Rattle.jv_method_frames.specs.Mapped.{names_of, types_of, entry_words, map_frame};
+ghost use Rattle.jv_method_frames.specs.Mapped.{names_of_types, types_of_entries, local_entry_words, frame_by_types};
 
 use crate::entries::EntryTypes;
 use crate::flowing::{has_this, words_of};
@@ -19,9 +19,9 @@ use std::alloc::AllocError;
 /// Gives the local variables, which hold nothing, the types of a frame's entries.
 fn set_locals(types: &EntryTypes<'_, '_, '_>, frame: &mut TypeFrame, map: &MapFrame<'_>)
     requires blank { frame.old ≡ blank (length frame.old.locals) }
-    requires words { map.now.local_words ≡ entry_words types.now map.now }
+    requires words { map.now.local_words ≡ local_entry_words types.now map.now }
     requires room { map.now.local_words ≤ length frame.old.locals }
-    ensures locals { typed_all (names_of types.now) frame.new.locals ≡ expanded (length frame.old.locals) (reverse (types_of types.now map.now.locals)) }
+    ensures locals { typed_all (names_of_types types.now) frame.new.locals ≡ expanded (length frame.old.locals) (reverse (types_of_entries types.now map.now.locals)) }
     ensures count { length frame.new.locals ≡ length frame.old.locals }
     ensures same { frame.new ≡ with_locals frame.new.locals frame.old }
 {
@@ -41,7 +41,7 @@ fn push_items(
     map: &MapFrame<'_>,
 ) -> Result<(), AllocError>
     requires { frame.old.stack ≡ [] }
-    ensures stack { OnOk result (reverse (typed_all (names_of types.now) frame.new.stack) ≡ types_of types.now map.now.stack) }
+    ensures stack { OnOk result (reverse (typed_all (names_of_types types.now) frame.new.stack) ≡ types_of_entries types.now map.now.stack) }
     ensures same { frame.new ≡ with_stack frame.new.stack frame.old }
 {
     let mut entries = map.stack();
@@ -61,9 +61,9 @@ pub fn set_to_map(
     frame: &mut TypeFrame,
     map: &MapFrame<'_>,
 ) -> Result<(), AllocError>
-    requires words { map.now.local_words ≡ entry_words types.now map.now }
+    requires words { map.now.local_words ≡ local_entry_words types.now map.now }
     requires room { map.now.local_words ≤ length frame.old.locals }
-    ensures ok { OnOk result (frame_of (names_of types.now) frame.new ≡ map_frame types.now (length frame.old.locals) map.now) }
+    ensures ok { OnOk result (frame_of (names_of_types types.now) frame.new ≡ frame_by_types types.now (length frame.old.locals) map.now) }
     ensures same { length frame.new.locals ≡ length frame.old.locals }
 {
     frame.clear();

@@ -13,12 +13,12 @@ use Rattle.jv_frames.specs.declared.verification.VerificationTypeOf.TheVariants 
 use Rattle.jv_frames.specs.declared.width.Width.{Width}
 use Rattle.jv_frames.specs.Bytes.{MapForm}
 use Rattle.jv_frames.specs.Entries.{ReadFrame, HasItsWords, HaveWidths, entry_type, frame_placed, frames_placed, word_count, words_in}
-use Rattle.jv_frames.specs.Frames.{MapFrame, Maps, PlacedFrame, expanded, frame_behind, frames_behind, is_within, map_frame, passing, placed, type_of}
+use Rattle.jv_frames.specs.Frames.{MapFrame, Maps, PlacedFrame, expanded, frame_behind, frames_behind, is_within, map_frame, frame_if, placed_frame, type_of}
 use Rattle.jv_frames.specs.Types.{FrameType, width, words}
 use Rattle.jv_frames.proofs.Typed.{fits_typed}
 use Rattle.jv_rules_types.specs.Typed.{typed, typed_all}
 use Rattle.jv_rules_frames.specs.Numbered.{Item}
-use Rattle.jv_method_frames.specs.Mapped.{EntryTypes, entry_words, initial_types}
+use Rattle.jv_method_frames.specs.Mapped.{EntryTypes, local_entry_words, initial_types}
 use Rattle.jv_method_frames.proofs.Behind.{words_length}
 use Rattle.jv_method_frames.proofs.Settings.{words_reversed}
 use Rattle.jv_method_frames.specs.Inside.Locals.{words_of_entries}
@@ -61,7 +61,7 @@ module _ (pool : List Entry) (initial : List FrameType) (widths : List Width) (w
 
 -- ---- frames that were made have passed their test
 
-passes : (test : MapFrame FrameType → Bool) (g f : MapFrame FrameType) → passing test g ≡ Some f → test f ≡ true
+passes : (test : MapFrame FrameType → Bool) (g f : MapFrame FrameType) → frame_if test g ≡ Some f → test f ≡ true
 passes test g f e = by_test (test g) refl e
   where
     by_test : (b : Bool) → test g ≡ b → (if b then Some g else None) ≡ Some f → test f ≡ true
@@ -75,9 +75,9 @@ all_passed : (type_of : MapItem → Option FrameType) (test : MapFrame FrameType
     → frames_behind type_of test base before forms ≡ Some fs → AllPass test fs
 all_passed type_of test base before [] fs e = subst (λ (fs : List (MapFrame FrameType)). AllPass test fs) (is_some [] fs e) (All-nil (λ f. test f ≡ true))
 all_passed type_of test base before (form ∷ more) fs e =
-    let f = bind_some (frame_behind type_of base before form >>= passing test) (λ f. frames_behind type_of test (f.offset + 1) f.locals more >>= λ fs. Some (f ∷ fs)) fs e in
+    let f = bind_some (frame_behind type_of base before form >>= frame_if test) (λ f. frames_behind type_of test (f.offset + 1) f.locals more >>= λ fs. Some (f ∷ fs)) fs e in
     let rest = bind_some (frames_behind type_of test (f.0.offset + 1) f.0.locals more) (λ fs. Some (f.0 ∷ fs)) fs f.2 in
-    let g = bind_some (frame_behind type_of base before form) (passing test) f.0 f.1 in
+    let g = bind_some (frame_behind type_of base before form) (frame_if test) f.0 f.1 in
     subst (λ (fs : List (MapFrame FrameType)). AllPass test fs) (is_some (f.0 ∷ rest.0) fs rest.2)
     (All-cons (λ f. test f ≡ true) f.0 rest.0 (passes test g.0 f.0 g.2) (all_passed type_of test (f.0.offset + 1) f.0.locals more rest.0 rest.1))
 
@@ -106,28 +106,28 @@ module _ (pool : List Entry) (initial : List FrameType) (limits : Limits) where
   abbrev placed_of : ReadFrame → PlacedFrame
   placed_of f = frame_placed pool initial limits.max_locals f
 
-  one_within : (f : ReadFrame) (e : MapFrame FrameType) → placed_of f ≡ placed limits.max_locals e → is_within limits e ≡ true → typed_words f ≤ limits.max_locals
+  one_within : (f : ReadFrame) (e : MapFrame FrameType) → placed_of f ≡ placed_frame limits.max_locals e → is_within limits e ≡ true → typed_words f ≤ limits.max_locals
   one_within f e same h =
       let long : length (placed_of f).frame.locals ≡ length (expanded limits.max_locals (reverse e.locals)) = ap (λ (p : PlacedFrame). length p.frame.locals) same in
       let room : words e.locals ≤ limits.max_locals = leb-true (words e.locals) limits.max_locals (both (nat_le (words e.locals) limits.max_locals) (nat_le (words e.stack) limits.max_stack) h).0 in
       omega (arith, long, room, expanded_length limits.max_locals (map (entry_type pool initial) f.locals), expanded_length limits.max_locals e.locals)
 
-  all_within : (frames : List ReadFrame) (es : List (MapFrame FrameType)) → map placed_of frames ≡ map (placed limits.max_locals) es → AllPass (is_within limits) es
+  all_within : (frames : List ReadFrame) (es : List (MapFrame FrameType)) → map placed_of frames ≡ map (placed_frame limits.max_locals) es → AllPass (is_within limits) es
       → All (λ f. typed_words f ≤ limits.max_locals) frames
   all_within [] es same h = All-nil (λ f. typed_words f ≤ limits.max_locals)
   all_within (f ∷ frames) [] same h = absurd cc
   all_within (f ∷ frames) (e ∷ es) same h =
       All-cons (λ f. typed_words f ≤ limits.max_locals) f frames
-      (one_within f e (same_head (placed_of f) (placed limits.max_locals e) (map placed_of frames) (map (placed limits.max_locals) es) same) (All-head (λ f. is_within limits f ≡ true) e es h))
-      (all_within frames es (same_tail (placed_of f) (placed limits.max_locals e) (map placed_of frames) (map (placed limits.max_locals) es) same) (All-tail (λ f. is_within limits f ≡ true) e es h))
+      (one_within f e (same_head (placed_of f) (placed_frame limits.max_locals e) (map placed_of frames) (map (placed_frame limits.max_locals) es) same) (All-head (λ f. is_within limits f ≡ true) e es h))
+      (all_within frames es (same_tail (placed_of f) (placed_frame limits.max_locals e) (map placed_of frames) (map (placed_frame limits.max_locals) es) same) (All-tail (λ f. is_within limits f ≡ true) e es h))
 
 -- ---- frames that were read
 
 module _ (types : EntryTypes) (limits : Limits) (bytes : List ℕ) (widths : List Width) (wide : HaveWidths (initial_types types) widths) (frames : List ReadFrame) (own : All (HasItsWords widths) frames) where
-  one_words : (f : ReadFrame) → HasItsWords widths f → f.local_words ≡ entry_words types f
+  one_words : (f : ReadFrame) → HasItsWords widths f → f.local_words ≡ local_entry_words types f
   one_words f h = h ∙ sym (same_words types.constants.pool (initial_types types) widths wide f.locals)
 
-  pub have_words : All (λ f. f.local_words ≡ entry_words types f) frames
+  pub have_words : All (λ f. f.local_words ≡ local_entry_words types f) frames
   have_words = λ k d lt. one_words (get_or frames k d) (own k d lt)
 
   pub have_room : Maps types.constants.pool limits (initial_types types) bytes (frames_placed types.constants.pool (initial_types types) limits.max_locals frames)

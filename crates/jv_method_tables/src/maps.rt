@@ -7,7 +7,7 @@ ghost use Rattle.jv_class_parts.specs.Seen.{seen_bytes};
 ghost use Rattle.jv_frames.specs.Entries.{HaveWidths, word_count};
 ghost use Rattle.jv_frames.specs.Types.{width};
 ghost use Rattle.jv_meaning_typing.specs.Environment.{Environment};
-ghost use Rattle.jv_method_frames.specs.Mapped.{entry_words};
+ghost use Rattle.jv_method_frames.specs.Mapped.{local_entry_words};
 ghost use Rattle.jv_rules_types.specs.Typed.{typed, typed_all};
 ghost use Rattle.jv_method_tables.specs.Tables.{entry_types, HasMap, MapsTo};
 ghost use Rattle.jv_method_tables.specs.Inside.Parts.{IsSpelled};
@@ -50,7 +50,7 @@ fn spelled_frames(
     bytes: &[u8],
 ) -> Result<Option<MapFrames>, AllocError>
     ensures spelled { IfOk result (λ found. IsSpelled (entry_types constants.now initial.now) limits bytes.now found) }
-    ensures words { IfOk result (λ found. IfSome found (λ frames. All (λ f. f.local_words ≡ entry_words (entry_types constants.now initial.now) f) frames)) }
+    ensures words { IfOk result (λ found. IfSome found (λ frames. All (λ f. f.local_words ≡ local_entry_words (entry_types constants.now initial.now) f) frames)) }
     ensures room { IfOk result (λ found. IfSome found (λ frames. All (λ f. f.local_words ≤ limits.max_locals) frames)) }
 {
     let widths = widths_of(alloc, initial)?;
@@ -77,7 +77,7 @@ pub fn read_map(
 ) -> Result<Option<MapFrames>, AllocError>
     requires { starts.now ≡ code.now.bytes.now }
     ensures map { IfOk result (λ found. (env : Environment) → HasMap (entry_types constants.now initial.now) code.now.bytes.now limits (option_map seen_bytes bytes.entry) env → MapsTo (entry_types constants.now initial.now) limits.max_locals env found) }
-    ensures words { IfOk result (λ found. IfSome found (λ frames. All (λ f. f.local_words ≡ entry_words (entry_types constants.now initial.now) f) frames)) }
+    ensures words { IfOk result (λ found. IfSome found (λ frames. All (λ f. f.local_words ≡ local_entry_words (entry_types constants.now initial.now) f) frames)) }
     ensures room { IfOk result (λ found. IfSome found (λ frames. All (λ f. f.local_words ≤ limits.max_locals) frames)) }
 {
     one_maps();

@@ -1,7 +1,7 @@
 //! What is known of a text (JVMS 4.2, 4.3, 4.4.1, 4.7.2).
 
 ghost use Rattle.std.specs.Prelude.{◌≡◌, ◌↔◌, IsTrue, IsSome};
-ghost use Rattle.jv_text.specs.Seen.{seen_element, seen_field};
+ghost use Rattle.jv_text.specs.Seen.{seen_element, seen_field_type};
 ghost use Rattle.jv_pool.specs.Rules.{NamesClass, IsFieldDescriptor};
 ghost use Rattle.jv_text.specs.Name.{begins_with, is_array_name, is_init};
 ghost use Rattle.jv_pool.specs.Facts.{value_of_base, value_of_element, value_of_type, IsFieldKnown, IsMethodKnown, AreFacts};
@@ -39,7 +39,7 @@ fn value_of_element(element: Element<&[u8]>) -> ConstantValueKind
 }
 
 fn value_of_type(t: FieldType<'_>) -> ConstantValueKind
-    ensures { result ≡ value_of_type (seen_field t.entry) }
+    ensures { result ≡ value_of_type (seen_field_type t.entry) }
 {
     if t.dimensions == 0 {
         value_of_element(t.element)

@@ -11,7 +11,7 @@ use Rattle.jv_frames.specs.Types.{FrameType}
 use Rattle.jv_frames.specs.Frames.{Frame}
 use Rattle.jv_meaning_typing.specs.Environment.{Environment}
 use Rattle.jv_meaning_typing.specs.FrameChanges.{exchanged}
-use Rattle.jv_meaning_typing.specs.Named.{object_type, when}
+use Rattle.jv_meaning_typing.specs.Named.{object_class_type, when}
 use Rattle.jv_meaning_typing.specs.ValueRules.{new_object, new_reference_array, new_multi_array, check_cast, instance_of}
 use Rattle.jv_rules_types.specs.Typed.{TypeWorld, typed}
 use Rattle.jv_rules_frames.specs.Numbered.{Item, NumberFrame, frame_of}
@@ -39,18 +39,18 @@ module _ (constants : PoolTypes) (env : Environment) (of : IsOver constants env)
       (subst (λ (t : TypeWorld). IsOutcome t.names (exchanged t.world (expected t.names) (given t.names) (frame_of t.names old)) new answer) same h)
 
   pub cast_as : (index : ℕ) (target : Item) → Some (typed names target) ≡ class_type_at constants.pool index
-      → IsOutcome world.names (exchanged world.world (object_type ∷ []) (typed world.names target ∷ []) (frame_of world.names old)) new answer
+      → IsOutcome world.names (exchanged world.world (object_class_type ∷ []) (typed world.names target ∷ []) (frame_of world.names old)) new answer
       → IsOutcome names (check_cast env index before) new answer
   cast_as index target e h =
-      subst (λ o. IsOutcome names (o >>= λ type. exchanged env.world (object_type ∷ []) (type ∷ []) before) new answer) (e ∙ sym (ap (λ p. class_type_at p index) of.pool))
-      (in_world (λ ns. object_type ∷ []) (λ ns. typed ns target ∷ []) h)
+      subst (λ o. IsOutcome names (o >>= λ type. exchanged env.world (object_class_type ∷ []) (type ∷ []) before) new answer) (e ∙ sym (ap (λ p. class_type_at p index) of.pool))
+      (in_world (λ ns. object_class_type ∷ []) (λ ns. typed ns target ∷ []) h)
 
   pub tested_as : (index : ℕ) (target : Item) → Some (typed names target) ≡ class_type_at constants.pool index
-      → IsOutcome world.names (exchanged world.world (object_type ∷ []) (types.Int ∷ []) (frame_of world.names old)) new answer
+      → IsOutcome world.names (exchanged world.world (object_class_type ∷ []) (types.Int ∷ []) (frame_of world.names old)) new answer
       → IsOutcome names (instance_of env index before) new answer
   tested_as index target e h =
-      subst (λ o. IsOutcome names (o >>= λ type. exchanged env.world (object_type ∷ []) (types.Int ∷ []) before) new answer) (e ∙ sym (ap (λ p. class_type_at p index) of.pool))
-      (in_world (λ ns. object_type ∷ []) (λ ns. types.Int ∷ []) h)
+      subst (λ o. IsOutcome names (o >>= λ type. exchanged env.world (object_class_type ∷ []) (types.Int ∷ []) before) new answer) (e ∙ sym (ap (λ p. class_type_at p index) of.pool))
+      (in_world (λ ns. object_class_type ∷ []) (λ ns. types.Int ∷ []) h)
 
   pub array_made : (index : ℕ) (array : Item) → Some (typed names array) ≡ array_of_at constants.pool index
       → IsOutcome world.names (exchanged world.world (types.Int ∷ []) (typed world.names array ∷ []) (frame_of world.names old)) new answer

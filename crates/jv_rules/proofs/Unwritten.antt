@@ -23,7 +23,7 @@ use Rattle.jv_code.specs.declared.kinds.ValueKind.TheVariants as kinds
 use Rattle.jv_assign.specs.Flow.{flows}
 use Rattle.jv_meaning_typing.specs.Environment.{Environment}
 use Rattle.jv_meaning_typing.specs.FrameChanges.{with_stack, with_locals, is_of_kind, taken, taken_as_all, taken_as_any, taken_of_kind, exchanged, item_width, stored, is_same_object, replaced}
-use Rattle.jv_meaning_typing.specs.Named.{object_type, constant_type, long_constant_type, operand_type, operand_name, array_of_operand, array_operand, FieldUse, field_named_by, MethodUse, method_named_by, current_type, when}
+use Rattle.jv_meaning_typing.specs.Named.{object_class_type, constant_type, long_constant_type, operand_type, operand_name, array_of_operand, array_operand, FieldUse, field_named_by, MethodUse, method_named_by, current_type, when}
 use Rattle.jv_meaning_typing.specs.NumberRules.{Exchange, fixed_exchange, number_arrays, element_number}
 use Rattle.jv_meaning_typing.specs.StackForms.{rearranged}
 use Rattle.jv_meaning_typing.specs.ValueRules.{pushed, has_room, load, value_kind, store, increment, reference_component, with_component, array_length, take_reference, new_object, return_value, return_nothing}
@@ -159,9 +159,9 @@ module _ (G : List FrameType → Bool → Type 0) where
         (λ array. exchanged_keeps (replicate dimensions types.Int) (array ∷ []))
     other_keeps pc insns.ArrayLength e = mapped (array_length frame.stack) (with_stack frame) (λ stack. h)
     other_keeps pc (insns.CheckCast index) e =
-        bound (operand_type env index) (λ type. exchanged env.world (object_type ∷ []) (type ∷ []) frame) (λ type. exchanged_keeps (object_type ∷ []) (type ∷ []))
+        bound (operand_type env index) (λ type. exchanged env.world (object_class_type ∷ []) (type ∷ []) frame) (λ type. exchanged_keeps (object_class_type ∷ []) (type ∷ []))
     other_keeps pc (insns.InstanceOf index) e =
-        bound (operand_type env index) (λ type. exchanged env.world (object_type ∷ []) (types.Int ∷ []) frame) (λ type. exchanged_keeps (object_type ∷ []) (types.Int ∷ []))
+        bound (operand_type env index) (λ type. exchanged env.world (object_class_type ∷ []) (types.Int ∷ []) frame) (λ type. exchanged_keeps (object_class_type ∷ []) (types.Int ∷ []))
     other_keeps pc insns.Nop e = tt
     other_keeps pc insns.NullConstant e = tt
     other_keeps pc (insns.Compute what) e = tt

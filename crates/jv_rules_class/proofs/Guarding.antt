@@ -20,7 +20,8 @@ use Rattle.jv_loader_lookups.proofs.Chain.{not_named}
 use Rattle.jv_meaning_linking.specs.Access.{same_class}
 use Rattle.jv_meaning_linking.specs.Operands.{MethodReference, through}
 use Rattle.jv_meaning_linking.specs.Operands.MethodConstant.{Methodref, InterfaceMethodref}
-use Rattle.jv_rules_class.specs.Inside.Guarded.{is_below, is_far, field_is_far, method_is_far, is_guarded, is_guarded_field, is_guarded_method, IsGuard}
+use Rattle.jv_meaning_typing.specs.Named.{is_guarded, is_guarded_field, is_guarded_method}
+use Rattle.jv_rules_class.specs.Inside.Guarded.{is_proper_subclass, is_far, field_is_far, method_is_far, IsGuard}
 use Rattle.jv_rules_class.specs.Inside.Kept.{AreGuards}
 
 -- ---- superclasses
@@ -44,12 +45,12 @@ far_alone true true c d e h = refl
 far_alone true false c d e h = absurd cc
 far_alone false b c d e h = absurd cc
 
-far_only : (world : World) (current named by : Loaded) (flags : ℕ) → is_below world current named ≡ true → is_guarded world current named by flags ≡ is_far current by flags
+far_only : (world : World) (current named by : Loaded) (flags : ℕ) → is_proper_subclass world current named ≡ true → is_guarded world current named by flags ≡ is_far current by flags
 far_only world current named by flags below =
     far_alone (is_subclass world current named) (not (same_class current named)) (has flags acc_protected) (not (has flags acc_static)) (not (same_package current by)) below
 
 pub field_guarded : (world : World) (current : ℕ) (c : Loaded) (reference : MemberReference) (k : ℕ) (answer : Bool) → slice_get world current ≡ Some c → number_named world reference.class ≡ Some k
-    → IsAt world current (λ c. IsAt world k (λ l. is_below world c l ≡ true)) → IsAt world current (λ c. IsAt world k (λ n. answer ≡ field_is_far world c n reference))
+    → IsAt world current (λ c. IsAt world k (λ l. is_proper_subclass world c l ≡ true)) → IsAt world current (λ c. IsAt world k (λ n. answer ≡ field_is_far world c n reference))
     → is_guarded_field world c reference ≡ answer
 field_guarded world current c reference k answer at numbered below far =
     let there = stands_at world reference.class k numbered in
@@ -58,13 +59,13 @@ field_guarded world current c reference k answer at numbered below far =
     ap (λ o. unwrap_or (o >>= λ n. lookup_field world n reference.name reference.descriptor >>= λ d. Some (is_guarded world c n d.by d.field.access_flags)) false) there.2
     ∙ (by_found (lookup_field world named reference.name reference.descriptor) ∙ sym (far c at named there.1))
   where
-    found : (n : Loaded) → is_below world c n ≡ true → (o : Option DeclaredField)
+    found : (n : Loaded) → is_proper_subclass world c n ≡ true → (o : Option DeclaredField)
         → unwrap_or (o >>= λ d. Some (is_guarded world c n d.by d.field.access_flags)) false ≡ unwrap_or (o >>= λ d. Some (is_far c d.by d.field.access_flags)) false
     found n h None = refl
     found n h (Some d) = far_only world c n d.by d.field.access_flags h
 
 pub method_guarded : (world : World) (current : ℕ) (c : Loaded) (reference : MemberReference) (k : ℕ) (answer : Bool) → slice_get world current ≡ Some c → number_named world reference.class ≡ Some k
-    → IsAt world current (λ c. IsAt world k (λ l. is_below world c l ≡ true)) → IsAt world current (λ c. IsAt world k (λ n. answer ≡ method_is_far world c n reference))
+    → IsAt world current (λ c. IsAt world k (λ l. is_proper_subclass world c l ≡ true)) → IsAt world current (λ c. IsAt world k (λ n. answer ≡ method_is_far world c n reference))
     → is_guarded_method world c reference ≡ answer
 method_guarded world current c reference k answer at numbered below far =
     let there = stands_at world reference.class k numbered in
@@ -73,7 +74,7 @@ method_guarded world current c reference k answer at numbered below far =
     ap (λ o. unwrap_or (o >>= λ n. lookup_method world n reference.name reference.descriptor >>= λ d. Some (is_guarded world c n d.by d.method.access_flags)) false) there.2
     ∙ (by_found (lookup_method world named reference.name reference.descriptor) ∙ sym (far c at named there.1))
   where
-    found : (n : Loaded) → is_below world c n ≡ true → (o : Option Declared)
+    found : (n : Loaded) → is_proper_subclass world c n ≡ true → (o : Option Declared)
         → unwrap_or (o >>= λ d. Some (is_guarded world c n d.by d.method.access_flags)) false ≡ unwrap_or (o >>= λ d. Some (is_far c d.by d.method.access_flags)) false
     found n h None = refl
     found n h (Some d) = far_only world c n d.by d.method.access_flags h

@@ -14,10 +14,9 @@ use Rattle.jv_meaning_linking.specs.Operands.{MethodReference, method_operand}
 use Rattle.jv_link_resolution.specs.Inside.References.{method_operand_in}
 use Rattle.jv_meaning_typing.specs.Environment.{Environment}
 use Rattle.jv_meaning_typing.specs.Named.{is_guarded_field, is_guarded_method}
-use Rattle.jv_meaning_typing.specs.MemberRules.{is_named, is_interface_named}
+use Rattle.jv_meaning_typing.specs.MemberRules.{is_that_name, is_interface_named}
 use Rattle.jv_rules_constants.specs.PoolTypes.{PoolTypes}
 use Rattle.jv_rules_class.specs.Current.{CurrentClass, IsOfClass}
-use Rattle.jv_rules_class.specs.Inside.Guarded.{is_guarded_field as is_guarded_field_in, is_guarded_method as is_guarded_method_in}
 use Rattle.jv_rules_class.specs.Inside.Kept.{IsNoArray, IsKept}
 
 -- ---- interfaces
@@ -37,27 +36,27 @@ module _ (constants : PoolTypes) (class : Loaded) (name : ℕ) (superclass : Opt
   abbrev value : CurrentClass
   value = record { types = constants.types; by = class }
 
-  pub field_told : (v : CurrentClass) → value ≡ v → (env : Environment) → IsOfClass v env → (reference : MemberReference) → field_reference_at v.by.class.constant_pool index ≡ Some reference → is_guarded_field env reference ≡ answer
-  field_told v same = subst (λ (u : CurrentClass). (env : Environment) → IsOfClass u env → (reference : MemberReference) → field_reference_at u.by.class.constant_pool index ≡ Some reference → is_guarded_field env reference ≡ answer) same told
+  pub field_told : (v : CurrentClass) → value ≡ v → (env : Environment) → IsOfClass v env → (reference : MemberReference) → field_reference_at v.by.class.constant_pool index ≡ Some reference → is_guarded_field env.world env.site.by reference ≡ answer
+  field_told v same = subst (λ (u : CurrentClass). (env : Environment) → IsOfClass u env → (reference : MemberReference) → field_reference_at u.by.class.constant_pool index ≡ Some reference → is_guarded_field env.world env.site.by reference ≡ answer) same told
     where
-      told : (env : Environment) → IsOfClass value env → (reference : MemberReference) → field_reference_at class.class.constant_pool index ≡ Some reference → is_guarded_field env reference ≡ answer
+      told : (env : Environment) → IsOfClass value env → (reference : MemberReference) → field_reference_at class.class.constant_pool index ≡ Some reference → is_guarded_field env.world env.site.by reference ≡ answer
       told env of reference e =
-          ap (λ w. is_guarded_field_in w env.site.by reference) of.world
-          ∙ (ap (λ (l : Loaded). is_guarded_field_in constants.types.world l reference) of.by
+          ap (λ w. is_guarded_field w env.site.by reference) of.world
+          ∙ (ap (λ (l : Loaded). is_guarded_field constants.types.world l reference) of.by
           ∙ ((kept.guards index).field reference (subst (λ p. field_reference_at p index ≡ Some reference) (sym kept.pool) e) ∙ sym is))
 
-  pub method_told : (v : CurrentClass) → value ≡ v → (env : Environment) → IsOfClass v env → (m : MethodReference) → method_operand v.by.class index ≡ Some m → is_guarded_method env m.member ≡ answer
-  method_told v same = subst (λ (u : CurrentClass). (env : Environment) → IsOfClass u env → (m : MethodReference) → method_operand u.by.class index ≡ Some m → is_guarded_method env m.member ≡ answer) same told
+  pub method_told : (v : CurrentClass) → value ≡ v → (env : Environment) → IsOfClass v env → (m : MethodReference) → method_operand v.by.class index ≡ Some m → is_guarded_method env.world env.site.by m.member ≡ answer
+  method_told v same = subst (λ (u : CurrentClass). (env : Environment) → IsOfClass u env → (m : MethodReference) → method_operand u.by.class index ≡ Some m → is_guarded_method env.world env.site.by m.member ≡ answer) same told
     where
-      told : (env : Environment) → IsOfClass value env → (m : MethodReference) → method_operand class.class index ≡ Some m → is_guarded_method env m.member ≡ answer
+      told : (env : Environment) → IsOfClass value env → (m : MethodReference) → method_operand class.class index ≡ Some m → is_guarded_method env.world env.site.by m.member ≡ answer
       told env of m e =
-          ap (λ w. is_guarded_method_in w env.site.by m.member) of.world
-          ∙ (ap (λ (l : Loaded). is_guarded_method_in constants.types.world l m.member) of.by
+          ap (λ w. is_guarded_method w env.site.by m.member) of.world
+          ∙ (ap (λ (l : Loaded). is_guarded_method constants.types.world l m.member) of.by
           ∙ ((kept.guards index).method m (subst (λ p. method_operand_in p index ≡ Some m) (sym kept.pool) e) ∙ sym is))
 
 -- ---- arrays
 
-pub no_array_is : (text : List ℕ) (name : Option (List ℕ)) → IsNoArray name → is_array_name text ≡ true → is_named text name ≡ false
+pub no_array_is : (text : List ℕ) (name : Option (List ℕ)) → IsNoArray name → is_array_name text ≡ true → is_that_name text name ≡ false
 no_array_is text None none array = refl
 no_array_is text (Some name) none array = by_test (bytes_eq text name) refl
   where

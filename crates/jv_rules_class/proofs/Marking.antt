@@ -7,11 +7,11 @@ use Rattle.std.proofs.lemmas.Grind.{get_or-set_at}
 use Rattle.std.proofs.lemmas.List.Folds.{list_any-append}
 use Rattle.std.proofs.lemmas.List.{get_or-set_other}
 use Rattle.jv_pool.specs.Constants.{Entry}
-use Rattle.jv_meaning_typing.specs.MemberRules.{is_named}
+use Rattle.jv_meaning_typing.specs.MemberRules.{is_that_name}
 use Rattle.jv_rules_types.specs.Typed.{name_at}
 use Rattle.jv_rules_types.specs.Inside.Kept.{AreDistinct}
 use Rattle.jv_rules_types.proofs.Numbered.{same_number}
-use Rattle.jv_rules_class.specs.Inside.Named.{class_named_at}
+use Rattle.jv_rules_class.specs.Inside.Named.{class_of_constant}
 use Rattle.jv_rules_class.specs.Inside.Marked.{names_it, AreMarkedAt}
 
 or_true : (b : Bool) → (b || true) ≡ true
@@ -31,13 +31,13 @@ set_at marks place at within = by_test (nat_eq place at) refl
     by_test false e = get_or-set_other marks at place true false (eqb-false place at e) ∙ sym (or_false (get_or marks place false))
 
 pub name_marked : (names : List (List ℕ)) (pool : List Entry) (marks : List Bool) (index number at : ℕ) → AreDistinct names → length marks ≡ length names
-    → at < length names → get_or names at (codes "java/lang/Object") ≡ name_at names number → Some (name_at names number) ≡ class_named_at pool index
+    → at < length names → get_or names at (codes "java/lang/Object") ≡ name_at names number → Some (name_at names number) ≡ class_of_constant pool index
     → (place : ℕ) → place < length names → get_or (slice_set marks at true) place false ≡ (get_or marks place false || names_it pool (name_at names place) index)
 name_marked names pool marks index number at distinct size within same is place below =
     set_at marks place at (subst (λ n. at < n) (sym size) within)
     ∙ ap (λ b. get_or marks place false || b)
     (same_number names (codes "java/lang/Object") distinct place at below within
-    ∙ (ap (bytes_eq (name_at names place)) same ∙ ap (is_named (name_at names place)) is))
+    ∙ (ap (bytes_eq (name_at names place)) same ∙ ap (is_that_name (name_at names place)) is))
 
 -- ---- all marks
 

@@ -17,7 +17,7 @@ use Rattle.jv_loader_classes.specs.Numbers.{number_named, AreNoArrays}
 use Rattle.jv_loader_classes.proofs.Told.{stands_at}
 use Rattle.jv_assign.proofs.Names.{has_name}
 use Rattle.jv_rules_types.specs.Typed.{name_at}
-use Rattle.jv_rules_class.specs.Inside.Named.{class_in, class_named_at, class_named_by}
+use Rattle.jv_rules_class.specs.Inside.Named.{class_in, class_of_constant, class_of_constant_at}
 use Rattle.jv_rules_class.specs.Inside.Kept.{IsNoArray}
 
 -- ---- a text as the name of a class
@@ -59,12 +59,12 @@ is_array text kind none = by_array (is_array_name text) refl
 
 -- ---- what an index names
 
-named_by_text : (pool : List Entry) (index : ℕ) (text : List ℕ) → class_name_at pool index ≡ Some text → class_named_at pool index ≡ class_in (reference_type text)
+named_by_text : (pool : List Entry) (index : ℕ) (text : List ℕ) → class_name_at pool index ≡ Some text → class_of_constant pool index ≡ class_in (reference_type text)
 named_by_text pool index text e = ap (λ o. class_in (o >>= reference_type)) e
 
 -- the number of the class of a text, by the number of its name
 pub class_numbered : (names : List (List ℕ)) (world : World) (pool : List Entry) (index number : ℕ) (found : Option ℕ)
-    → Some (name_at names number) ≡ class_named_at pool index → found ≡ number_named world (name_at names number)
+    → Some (name_at names number) ≡ class_of_constant pool index → found ≡ number_named world (name_at names number)
     → (text : List ℕ) → class_name_at pool index ≡ Some text → found ≡ number_named world text
 class_numbered names world pool index number found is at text e =
     at ∙ ap (number_named world) (class_is text (name_at names number) (sym (named_by_text pool index text e) ∙ sym is))
@@ -83,14 +83,14 @@ array_unnumbered world none text array = by_number (number_named world text) ref
         let name : is_array_name there.0.class.name ≡ true = ap is_array_name (has_name world text there.0 there.2) ∙ array in
         absurd (clash (subst (λ b. IsTrue (not b)) name (none k there.0 there.1)))
 
-pub array_numbered : (world : World) (pool : List Entry) (index : ℕ) → AreNoArrays world → NamesByKind pool → None ≡ class_named_at pool index
+pub array_numbered : (world : World) (pool : List Entry) (index : ℕ) → AreNoArrays world → NamesByKind pool → None ≡ class_of_constant pool index
     → (text : List ℕ) → class_name_at pool index ≡ Some text → None ≡ number_named world text
 array_numbered world pool index none kinds is text e =
     sym (array_unnumbered world none text (is_array text (kinds.class index text e) (sym (named_by_text pool index text e) ∙ sym is)))
 
 -- ---- where the rules say that no array is named
 
-pub named_class : (pool : List Entry) (index : ℕ) → NamesByKind pool → IsClassAt pool index → class_named_at pool index ≡ class_name_at pool index
+pub named_class : (pool : List Entry) (index : ℕ) → NamesByKind pool → IsClassAt pool index → class_of_constant pool index ≡ class_name_at pool index
 named_class pool index kinds right = by_text (class_name_at pool index) refl right
   where
     by_test : (b : Bool) → IsTrue (not b) → b ≡ false
@@ -118,13 +118,13 @@ text_no_array text = by_array (is_array_name text) refl
     by_array true e = of_array (field_type_of text)
     by_array false e = by_class (is_class_name text) e
 
-pub named_no_array : (pool : List Entry) (index : ℕ) → IsNoArray (class_named_at pool index)
+pub named_no_array : (pool : List Entry) (index : ℕ) → IsNoArray (class_of_constant pool index)
 named_no_array pool index = by_text (class_name_at pool index)
   where
     by_text : (o : Option (List ℕ)) → IsNoArray (class_in (o >>= reference_type))
     by_text None = tt
     by_text (Some text) = text_no_array text
 
-pub named_by_no_array : (pool : List Entry) (index : Option ℕ) → IsNoArray (class_named_by pool index)
+pub named_by_no_array : (pool : List Entry) (index : Option ℕ) → IsNoArray (class_of_constant_at pool index)
 named_by_no_array pool None = tt
 named_by_no_array pool (Some index) = named_no_array pool index

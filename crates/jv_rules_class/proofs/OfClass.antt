@@ -15,10 +15,10 @@ use Rattle.jv_class.specs.ClassFile.{class_name, super_index, IsWellFormed}
 use Rattle.jv_class.specs.Rules.{is_object, is_no_array_name, is_class_at, IsClassAt, IsNameRight}
 use Rattle.jv_class.specs.Class.{Class, all_found, field_of, method_of, super_of, class_of}
 use Rattle.jv_loader_world.specs.World.{Loaded}
-use Rattle.jv_meaning_typing.specs.MemberRules.{is_named}
+use Rattle.jv_meaning_typing.specs.MemberRules.{is_that_name}
 use Rattle.jv_rules_types.specs.Typed.{name_at}
 use Rattle.jv_rules_constants.specs.PoolTypes.{PoolTypes}
-use Rattle.jv_rules_class.specs.Inside.Named.{class_named_at, class_named_by}
+use Rattle.jv_rules_class.specs.Inside.Named.{class_of_constant, class_of_constant_at}
 use Rattle.jv_rules_class.specs.Inside.Marked.{names_it, AreMarkedAt}
 use Rattle.jv_rules_class.specs.Inside.Kept.{AreGuards, IsNoArray, IsKept}
 use Rattle.jv_rules_class.proofs.Naming.{named_class, named_no_array, named_by_no_array}
@@ -67,12 +67,12 @@ super_right pool super_class (Some name) h other = by_object (is_object name) h.
 module _ (c : ClassStructure) (kinds : NamesByKind c.constant_pool) (well : IsWellFormed c) where
   -- ---- the class itself
 
-  pub itself_named : class_named_at c.constant_pool c.this_class ≡ class_name c
+  pub itself_named : class_of_constant c.constant_pool c.this_class ≡ class_name c
   itself_named = named_class c.constant_pool c.this_class kinds (name_right c.constant_pool c.super_class (class_name c) well.rules.itself.named)
 
   -- ---- its superclass
 
-  pub super_named : (super : Option (List ℕ)) → super_of c ≡ Some super → class_named_by c.constant_pool (super_index c) ≡ super
+  pub super_named : (super : Option (List ℕ)) → super_of c ≡ Some super → class_of_constant_at c.constant_pool (super_index c) ≡ super
   super_named super e = by_index (c.super_class == 0) refl e
     where
       none : Some None ≡ Some super → None ≡ super
@@ -83,7 +83,7 @@ module _ (c : ClassStructure) (kinds : NamesByKind c.constant_pool) (well : IsWe
       by_name (Some name) f = cc
 
       by_index : (b : Bool) → (c.super_class == 0) ≡ b → cond b (Some None) (option_map (λ name. Some name) (class_name_at c.constant_pool c.super_class)) ≡ Some super
-          → class_named_by c.constant_pool (cond b None (Some c.super_class)) ≡ super
+          → class_of_constant_at c.constant_pool (cond b None (Some c.super_class)) ≡ super
       by_index true is f = none f
       by_index false is f =
           named_class c.constant_pool c.super_class kinds (super_right c.constant_pool c.super_class (class_name c) well.rules.itself.named is) ∙ by_name (class_name_at c.constant_pool c.super_class) f
@@ -99,8 +99,8 @@ module _ (c : ClassStructure) (kinds : NamesByKind c.constant_pool) (well : IsWe
   same_any name (index ∷ indices) names right e =
       let first = chained (class_name_at c.constant_pool index) _ names e in
       let rest = chained (all_found (class_name_at c.constant_pool) indices) _ names first.2 in
-      let here : is_named name (class_named_at c.constant_pool index) ≡ bytes_eq first.0 name =
-      ap (is_named name) (named_class c.constant_pool index kinds (All-head (IsClassAt c.constant_pool) index indices right) ∙ first.1) ∙ nat_list_eq_equiv.symm name first.0 in
+      let here : is_that_name name (class_of_constant c.constant_pool index) ≡ bytes_eq first.0 name =
+      ap (is_that_name name) (named_class c.constant_pool index kinds (All-head (IsClassAt c.constant_pool) index indices right) ∙ first.1) ∙ nat_list_eq_equiv.symm name first.0 in
       ap (λ b. b || list_any (names_it c.constant_pool name) indices) here
       ∙ (ap (λ b. bytes_eq first.0 name || b) (same_any name indices rest.0 (All-tail (IsClassAt c.constant_pool) index indices right) rest.1)
       ∙ ap (list_any (λ other. bytes_eq other name)) (both rest.2))
@@ -111,12 +111,12 @@ module _ (c : ClassStructure) (kinds : NamesByKind c.constant_pool) (well : IsWe
   -- ---- the whole
 
   pub known : (constants : PoolTypes) (l : Loaded) (name : ℕ) (superclass : Option ℕ) (direct guarded : List Bool) → constants.pool ≡ c.constant_pool → class_of c ≡ Some l.class
-      → class_named_at constants.pool c.this_class ≡ Some (name_at constants.types.names name) → option_map (name_at constants.types.names) superclass ≡ class_named_by constants.pool (super_index c)
+      → class_of_constant constants.pool c.this_class ≡ Some (name_at constants.types.names name) → option_map (name_at constants.types.names) superclass ≡ class_of_constant_at constants.pool (super_index c)
       → AreMarkedAt constants.types.names constants.pool c.interfaces direct → AreGuards constants.types.world l constants.pool guarded → IsKept constants l name superclass direct guarded
   known constants l name superclass direct guarded same of named above marked guards =
       let is = parts c l.class of in
-      let one_name : Some (name_at constants.types.names name) ≡ Some l.class.name = sym named ∙ (ap (λ p. class_named_at p c.this_class) same ∙ (itself_named ∙ is.name)) in
-      let is_above : class_named_by constants.pool (super_index c) ≡ l.class.super_class = ap (λ p. class_named_by p (super_index c)) same ∙ super_named l.class.super_class is.super_class in
+      let one_name : Some (name_at constants.types.names name) ≡ Some l.class.name = sym named ∙ (ap (λ p. class_of_constant p c.this_class) same ∙ (itself_named ∙ is.name)) in
+      let is_above : class_of_constant_at constants.pool (super_index c) ≡ l.class.super_class = ap (λ p. class_of_constant_at p (super_index c)) same ∙ super_named l.class.super_class is.super_class in
       record {
         pool = same ∙ is.pool;
         named = one one_name;
@@ -136,7 +136,7 @@ module _ (c : ClassStructure) (kinds : NamesByKind c.constant_pool) (well : IsWe
       one : {a b : List ℕ} → Some a ≡ Some b → a ≡ b
       one f = cc
 
-  pub there : (pool : List Entry) (index : ℕ) → pool ≡ c.constant_pool → index ≡ c.this_class → IsSome (class_name_at pool index) → IsSome (class_named_at pool index)
+  pub there : (pool : List Entry) (index : ℕ) → pool ≡ c.constant_pool → index ≡ c.this_class → IsSome (class_name_at pool index) → IsSome (class_of_constant pool index)
   there pool index same is named =
-      subst IsSome (sym itself_named ∙ (ap (λ p. class_named_at p c.this_class) (sym same) ∙ ap (class_named_at pool) (sym is)))
+      subst IsSome (sym itself_named ∙ (ap (λ p. class_of_constant p c.this_class) (sym same) ∙ ap (class_of_constant pool) (sym is)))
       (subst IsSome (ap (class_name_at pool) is ∙ ap (λ p. class_name_at p c.this_class) same) named)

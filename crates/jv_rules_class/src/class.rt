@@ -10,7 +10,7 @@ ghost use Rattle.jv_loader_classes.specs.Inside.Told.{IsAt};
 ghost use Rattle.jv_meaning_linking.specs.Operands.{MethodReference, method_operand};
 ghost use Rattle.jv_meaning_typing.specs.Environment.{Environment};
 ghost use Rattle.jv_meaning_typing.specs.Named.{current_type, is_guarded_field, is_guarded_method};
-ghost use Rattle.jv_meaning_typing.specs.MemberRules.{is_named, is_near, is_interface_named, is_direct_interface};
+ghost use Rattle.jv_meaning_typing.specs.MemberRules.{is_that_name, is_near, is_interface_named, is_direct_interface};
 ghost use Rattle.jv_rules_types.specs.Typed.{typed, name_at};
 ghost use Rattle.jv_rules_class.specs.Current.{IsOfClass};
 
@@ -126,7 +126,7 @@ impl<'e, 't, 'a> CurrentClass<'e, 't, 'a> {
 
     /// Whether a name is that of the superclass.
     pub fn is_superclass(&self, name: u32) -> bool
-        ensures { is_named (name_at self.now.types.names name) self.now.by.class.super_class ≡ result }
+        ensures { is_that_name (name_at self.now.types.names name) self.now.by.class.super_class ≡ result }
     {
         match self.superclass {
             Some(superclass) => self.constants.names().same_name(name, superclass),
@@ -137,7 +137,7 @@ impl<'e, 't, 'a> CurrentClass<'e, 't, 'a> {
     /// Neither the class nor its superclass has the name of an array. The call does nothing.
     pub fn has_no_array_name(&self)
         ensures itself { (text : List ℕ) → is_array_name text ≡ true → bytes_eq text self.now.by.class.name ≡ false }
-        ensures superclass { (text : List ℕ) → is_array_name text ≡ true → is_named text self.now.by.class.super_class ≡ false }
+        ensures superclass { (text : List ℕ) → is_array_name text ≡ true → is_that_name text self.now.by.class.super_class ≡ false }
     {
         let _class = &self.class;
     }
@@ -171,8 +171,8 @@ impl<'e, 't, 'a> CurrentClass<'e, 't, 'a> {
     /// Whether the field or the method that the constant at an index names is guarded (JVMS 4.10.1.8): its class is a proper
     /// superclass of this one, and what is found from there is protected, not static, and of another run-time package.
     pub fn is_guarded(&self, index: u16) -> bool
-        ensures field { (env : Environment) → IsOfClass self.now env → (reference : MemberReference) → field_reference_at self.now.by.class.constant_pool index ≡ Some reference → is_guarded_field env reference ≡ result }
-        ensures method { (env : Environment) → IsOfClass self.now env → (m : MethodReference) → method_operand self.now.by.class index ≡ Some m → is_guarded_method env m.member ≡ result }
+        ensures field { (env : Environment) → IsOfClass self.now env → (reference : MemberReference) → field_reference_at self.now.by.class.constant_pool index ≡ Some reference → is_guarded_field env.world env.site.by reference ≡ result }
+        ensures method { (env : Environment) → IsOfClass self.now env → (m : MethodReference) → method_operand self.now.by.class index ≡ Some m → is_guarded_method env.world env.site.by m.member ≡ result }
     {
         is_marked(&self.guarded, index)
     }

@@ -9,7 +9,8 @@ ghost use Rattle.jv_loader_classes.specs.Numbers.{number_named};
 ghost use Rattle.jv_loader_classes.specs.Inside.Told.{IsAt};
 ghost use Rattle.jv_meaning_linking.specs.Operands.{MethodReference};
 ghost use Rattle.jv_link_resolution.specs.Inside.References.{method_operand_in};
-ghost use Rattle.jv_rules_class.specs.Inside.Guarded.{is_below, is_far, field_is_far, method_is_far, is_guarded_field, is_guarded_method, member_named, IsGuard};
+ghost use Rattle.jv_meaning_typing.specs.Named.{is_guarded_field, is_guarded_method};
+ghost use Rattle.jv_rules_class.specs.Inside.Guarded.{is_proper_subclass, is_far, field_is_far, method_is_far, member_named, IsGuard};
 ghost use Rattle.jv_rules_class.specs.Inside.Kept.{AreGuards};
 
 use crate::names::class_number;
@@ -28,7 +29,7 @@ const STATIC: u16 = 0x0008;
 fn is_below(table: &ClassTable<'_>, current: usize, named: usize) -> bool
     requires current { current < length table.now }
     requires named { named < length table.now }
-    ensures { IsAt table.now current (λ c. IsAt table.now named (λ n. result ≡ is_below table.now c n)) }
+    ensures { IsAt table.now current (λ c. IsAt table.now named (λ n. result ≡ is_proper_subclass table.now c n)) }
 {
     table.is_subclass(current, named) && !same_class(table, current, named)
 }
@@ -102,8 +103,8 @@ fn superclass_at(constants: &ConstantTypes<'_, '_>, current: usize, index: u16) 
     requires { current < length constants.now.types.world }
     ensures found { IfSome result (λ n. (text : List ℕ) → class_name_at constants.now.pool index ≡ Some text → number_named constants.now.types.world text ≡ Some n) }
     ensures within { IfSome result (λ n. n < length constants.now.types.world) }
-    ensures below { IfSome result (λ n. IsAt constants.now.types.world current (λ c. IsAt constants.now.types.world n (λ l. is_below constants.now.types.world c l ≡ true))) }
-    ensures none { IfNone result (IsAt constants.now.types.world current (λ c. (text : List ℕ) (l : Loaded) → class_name_at constants.now.pool index ≡ Some text → class_named constants.now.types.world text ≡ Some l → is_below constants.now.types.world c l ≡ false)) }
+    ensures below { IfSome result (λ n. IsAt constants.now.types.world current (λ c. IsAt constants.now.types.world n (λ l. is_proper_subclass constants.now.types.world c l ≡ true))) }
+    ensures none { IfNone result (IsAt constants.now.types.world current (λ c. (text : List ℕ) (l : Loaded) → class_name_at constants.now.pool index ≡ Some text → class_named constants.now.types.world text ≡ Some l → is_proper_subclass constants.now.types.world c l ≡ false)) }
 {
     let Some(named) = class_at(constants, index) else {
         return None;

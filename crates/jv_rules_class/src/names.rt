@@ -4,7 +4,7 @@ ghost use Rattle.std.specs.Prelude.{◌≡◌, IsSome, Some};
 ghost use Rattle.std.specs.Option.{option_map};
 ghost use Rattle.jv_class_parts.specs.Seen.{seen_index};
 ghost use Rattle.jv_rules_types.specs.Typed.{name_at};
-ghost use Rattle.jv_rules_class.specs.Inside.Named.{class_named_at, class_named_by};
+ghost use Rattle.jv_rules_class.specs.Inside.Named.{class_of_constant, class_of_constant_at};
 
 use jv_frames::VerificationTypeOf;
 use jv_pool::ClassIndex;
@@ -12,7 +12,7 @@ use jv_rules_constants::ConstantTypes;
 
 /// The number of the name of the class, and no array, that a Class constant names.
 pub(crate) fn class_number(constants: &ConstantTypes<'_, '_>, index: u16) -> Option<u32>
-    ensures { option_map (name_at constants.now.types.names) result ≡ class_named_at constants.now.pool index }
+    ensures { option_map (name_at constants.now.types.names) result ≡ class_of_constant constants.now.pool index }
 {
     match constants.class_type(index) {
         Some(VerificationTypeOf::Class(number)) => Some(number),
@@ -22,8 +22,8 @@ pub(crate) fn class_number(constants: &ConstantTypes<'_, '_>, index: u16) -> Opt
 
 /// The number of the name of the class that a constant is known to name.
 pub(crate) fn known_number(constants: &ConstantTypes<'_, '_>, index: ClassIndex) -> u32
-    requires { IsSome (class_named_at constants.now.pool index.0) }
-    ensures { class_named_at constants.now.pool index.0 ≡ Some (name_at constants.now.types.names result) }
+    requires { IsSome (class_of_constant constants.now.pool index.0) }
+    ensures { class_of_constant constants.now.pool index.0 ≡ Some (name_at constants.now.types.names result) }
 {
     match class_number(constants, index.0) {
         Some(number) => number,
@@ -33,7 +33,7 @@ pub(crate) fn known_number(constants: &ConstantTypes<'_, '_>, index: ClassIndex)
 
 /// The number of the name of the class that a constant names, where there is one.
 pub(crate) fn number_by(constants: &ConstantTypes<'_, '_>, index: Option<ClassIndex>) -> Option<u32>
-    ensures { option_map (name_at constants.now.types.names) result ≡ class_named_by constants.now.pool (option_map seen_index index) }
+    ensures { option_map (name_at constants.now.types.names) result ≡ class_of_constant_at constants.now.pool (option_map seen_index index) }
 {
     match index {
         Some(index) => class_number(constants, index.0),

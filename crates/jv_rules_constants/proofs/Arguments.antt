@@ -5,7 +5,7 @@ use Rattle.std.proofs.lemmas.List.{append-nil, map-append, length-append, length
 use Rattle.std.proofs.Math.Seq.{take-suc, drop-append_seam}
 use Rattle.std.specs.Borrow.{Bor}
 use Rattle.jv_text.specs.declared.descriptor.FieldTypeOf.{FieldTypeOf}
-use Rattle.jv_text.specs.Seen.{seen_field}
+use Rattle.jv_text.specs.Seen.{seen_field_type}
 use Rattle.jv_frames.specs.Types.{FrameType, value_type}
 use Rattle.jv_rules_values.specs.of_rules_types.Typed.{GoesOn, typed, typed_all}
 use Rattle.jv_rules_constants.specs.Inside.Lasting.{Lasts, IsFront}
@@ -28,12 +28,12 @@ joins_more {before = before} {types = types} first goes_on second = record {
 
 -- the values of one parameter more
 pub one_more : (parameters : List (FieldTypeOf (Bor (List ℕ)))) (n : ℕ) (d : FieldTypeOf (Bor (List ℕ))) → n < length parameters
-    → map value_type (map seen_field (take n parameters)) ++ value_type (seen_field (get_or parameters n d)) ∷ [] ≡ map value_type (map seen_field (take (n + 1) parameters))
+    → map value_type (map seen_field_type (take n parameters)) ++ value_type (seen_field_type (get_or parameters n d)) ∷ [] ≡ map value_type (map seen_field_type (take (n + 1) parameters))
 one_more parameters n d within =
-    sym (ap (λ k. map value_type (map seen_field (take k parameters))) (add-one n)
-    ∙ (ap (λ l. map value_type (map seen_field l)) (take-suc parameters n d within)
-    ∙ (ap (map value_type) (map-append seen_field (take n parameters) (get_or parameters n d ∷ []))
-    ∙ map-append value_type (map seen_field (take n parameters)) (seen_field (get_or parameters n d) ∷ []))))
+    sym (ap (λ k. map value_type (map seen_field_type (take k parameters))) (add-one n)
+    ∙ (ap (λ l. map value_type (map seen_field_type l)) (take-suc parameters n d within)
+    ∙ (ap (map value_type) (map-append seen_field_type (take n parameters) (get_or parameters n d ∷ []))
+    ∙ map-append value_type (map seen_field_type (take n parameters)) (seen_field_type (get_or parameters n d) ∷ []))))
 
 -- what has joined stands behind what was there
 range_behind : (before items : List Item) → slice_range (before ++ items) (length before) (length (before ++ items)) ≡ items

@@ -2,7 +2,7 @@
 
 ghost use Rattle.std.specs.Prelude.{◌≡◌, IfOk};
 ghost use Rattle.std.specs.Option.{option_map};
-ghost use Rattle.jv_rules_values.specs.of_meaning_typing.Named.{object_type, string_type, throwable_type};
+ghost use Rattle.jv_rules_values.specs.of_meaning_typing.Named.{object_class_type, string_type, throwable_type};
 ghost use Rattle.jv_rules_values.specs.of_rules_types.Typed.{typed, typed_field};
 ghost use Rattle.jv_rules_constants.specs.PoolTypes.{typed_call, named_type_at, class_type_at, field_type_at, call_types_at};
 
@@ -134,7 +134,7 @@ impl<'t, 'a> ConstantTypes<'t, 'a> {
 
     /// The class java/lang/Object.
     pub fn object(&self) -> Item
-        ensures { typed self.now.types.names result ≡ object_type }
+        ensures { typed self.now.types.names result ≡ object_class_type }
     {
         VerificationTypeOf::Class(self.names.object())
     }

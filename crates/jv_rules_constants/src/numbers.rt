@@ -1,7 +1,7 @@
 //! Types of descriptors with numbers for names (JVMS 4.3).
 
 ghost use Rattle.std.specs.Prelude.{◌≡◌, [], ◌∷◌, map, IfOk, OnOk};
-ghost use Rattle.jv_text.specs.Seen.{seen_element, seen_field, seen_result};
+ghost use Rattle.jv_text.specs.Seen.{seen_element, seen_field_type, seen_result};
 ghost use Rattle.jv_frames.specs.Types.{value_type};
 ghost use Rattle.jv_rules_values.specs.of_rules_types.Typed.{typed_element, typed_field, GoesOn};
 ghost use Rattle.jv_rules_constants.specs.PoolTypes.{typed_result};
@@ -36,7 +36,7 @@ pub(crate) fn field_by_number<'a>(
     names: &mut TypeNames<'_, 'a>,
     type_of: FieldType<'a>,
 ) -> Result<FieldTypeOf<u32>, AllocError>
-    ensures number { IfOk result (λ t. Lasts typed_field names.new.names t (seen_field type_of.entry)) }
+    ensures number { IfOk result (λ t. Lasts typed_field names.new.names t (seen_field_type type_of.entry)) }
     ensures goes_on { GoesOn names.old.names names.new.names }
     ensures world { names.new.world ≡ names.old.world }
 {
@@ -71,7 +71,7 @@ fn push_argument<'a>(
     arguments: &mut Vec<Item>,
     parameter: FieldType<'a>,
 ) -> Result<(), AllocError>
-    ensures joins { OnOk result (Joins names.new.names arguments.old.items arguments.new.items (value_type (seen_field parameter.entry) ∷ [])) }
+    ensures joins { OnOk result (Joins names.new.names arguments.old.items arguments.new.items (value_type (seen_field_type parameter.entry) ∷ [])) }
     ensures goes_on { GoesOn names.old.names names.new.names }
     ensures world { names.new.world ≡ names.old.world }
 {
@@ -86,7 +86,7 @@ pub(crate) fn push_arguments<'b, 'a: 'b>(
     arguments: &mut Vec<Item>,
     parameters: &'b [FieldType<'a>],
 ) -> Result<(), AllocError>
-    ensures joins { OnOk result (Joins names.new.names arguments.old.items arguments.new.items (map value_type (map seen_field parameters.now))) }
+    ensures joins { OnOk result (Joins names.new.names arguments.old.items arguments.new.items (map value_type (map seen_field_type parameters.now))) }
     ensures goes_on { GoesOn names.old.names names.new.names }
     ensures world { names.new.world ≡ names.old.world }
 {

@@ -1,7 +1,7 @@
 //! What the texts of a pool say as types (JVMS 4.3, 4.4.1), each text read once.
 
 ghost use Rattle.std.specs.Prelude.{◌≡◌, ◌≤◌, false, length, get_or, IfOk, OnOk, slice_range};
-ghost use Rattle.jv_text.specs.Seen.{seen_method};
+ghost use Rattle.jv_text.specs.Seen.{seen_method_type};
 ghost use Rattle.jv_text.specs.Types.{field_type_of};
 ghost use Rattle.jv_pool.specs.Constants.{utf8_at};
 ghost use Rattle.jv_pool.specs.Facts.{AreFacts};
@@ -75,7 +75,7 @@ fn method_entry<'b, 'a: 'b>(
     arguments: &mut Vec<Item>,
     method: &'b MethodType<'a>,
 ) -> Result<MethodEntry, AllocError>
-    ensures entry { IfOk result (λ e. IsMethodEntry names.new.names arguments.new.items e (seen_method method.now)) }
+    ensures entry { IfOk result (λ e. IsMethodEntry names.new.names arguments.new.items e (seen_method_type method.now)) }
     ensures front { OnOk result (IsFront arguments.old.items arguments.new.items) }
     ensures goes_on { GoesOn names.old.names names.new.names }
     ensures world { names.new.world ≡ names.old.world }

@@ -5,8 +5,7 @@ use Rattle.jv_frames.specs.Frames.{Frame}
 use Rattle.jv_meaning_typing.specs.FrameChanges.{replaced}
 use Rattle.jv_meaning_typing.specs.MemberRules.{constructed, flag_behind}
 use Rattle.jv_rules_types.specs.Typed.{typed, typed_all}
-use Rattle.jv_rules_frames.specs.Numbered.{Item, NumberFrame, frame_of, with_locals, with_stack}
-use Rattle.jv_rules_members.specs.Inside.Flags.{with_flag}
+use Rattle.jv_rules_frames.specs.Numbered.{Item, NumberFrame, frame_of, with_locals, with_stack, with_flag}
 
 abbrev frame_with : List FrameType → List FrameType → Bool → Frame
 frame_with locals stack flag = record { locals = locals; stack = stack; flag_this_uninit = flag }

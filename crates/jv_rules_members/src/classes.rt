@@ -3,7 +3,7 @@
 ghost use Rattle.std.specs.Prelude.{[], ◌∷◌, replicate};
 ghost use Rattle.jv_frames.specs.declared.verification.VerificationTypeOf.TheVariants as variants;
 ghost use Rattle.jv_meaning_typing.specs.FrameChanges.{taken, exchanged};
-ghost use Rattle.jv_meaning_typing.specs.Named.{object_type};
+ghost use Rattle.jv_meaning_typing.specs.Named.{object_class_type};
 ghost use Rattle.jv_rules_types.specs.Typed.{typed, typed_all};
 ghost use Rattle.jv_rules_frames.specs.Numbered.{frame_of};
 ghost use Rattle.jv_rules_values.specs.Outcomes.{IsOutcome, Takes};
@@ -15,7 +15,7 @@ use jv_rules_values::{Outcome, exchange, take_as};
 
 /// Takes a class or an array, and gives it as the type to which it is cast.
 pub fn cast(types: &TypeNames<'_, '_>, frame: &mut TypeFrame, target: Item) -> Outcome
-    ensures { IsOutcome types.now.names (exchanged types.now.world (object_type ∷ []) (typed types.now.names target ∷ []) (frame_of types.now.names frame.old)) frame.new result }
+    ensures { IsOutcome types.now.names (exchanged types.now.world (object_class_type ∷ []) (typed types.now.names target ∷ []) (frame_of types.now.names frame.old)) frame.new result }
 {
     let object = VerificationTypeOf::Class(types.object());
     exchange(types, frame, &[object], Some(target))
@@ -23,7 +23,7 @@ pub fn cast(types: &TypeNames<'_, '_>, frame: &mut TypeFrame, target: Item) -> O
 
 /// Takes a class or an array, and gives an int.
 pub fn test_instance(types: &TypeNames<'_, '_>, frame: &mut TypeFrame) -> Outcome
-    ensures { IsOutcome types.now.names (exchanged types.now.world (object_type ∷ []) (variants.Int ∷ []) (frame_of types.now.names frame.old)) frame.new result }
+    ensures { IsOutcome types.now.names (exchanged types.now.world (object_class_type ∷ []) (variants.Int ∷ []) (frame_of types.now.names frame.old)) frame.new result }
 {
     let object = VerificationTypeOf::Class(types.object());
     exchange(types, frame, &[object], Some(VerificationTypeOf::Int))

@@ -4,9 +4,8 @@ ghost use Rattle.std.specs.Prelude.{◌≡◌, ℕ, List};
 ghost use Rattle.jv_meaning_typing.specs.FrameChanges.{taken};
 ghost use Rattle.jv_meaning_typing.specs.MemberRules.{constructed, flag_behind};
 ghost use Rattle.jv_rules_types.specs.Typed.{typed, typed_all};
-ghost use Rattle.jv_rules_frames.specs.Numbered.{frame_of, item_words};
+ghost use Rattle.jv_rules_frames.specs.Numbered.{frame_of, item_words, with_flag};
 ghost use Rattle.jv_rules_members.specs.Objects.{TakesObject};
-ghost use Rattle.jv_rules_members.specs.Inside.Flags.{with_flag};
 
 use jv_frames::VerificationTypeOf;
 use jv_rules_frames::TypeFrame;

@@ -18,7 +18,7 @@ use Rattle.jv_rules_constants.specs.declared.texts.MethodTypes.{MethodTypes}
 use Rattle.jv_rules_constants.specs.PoolTypes.{CallTypes, call_types, typed_call, typed_result}
 use Rattle.jv_rules_values.specs.Outcomes.{given}
 use Rattle.jv_rules_operands.specs.declared.methods.CalledTypes.{CalledTypes}
-use Rattle.jv_rules_operands.specs.Operands.{IsCalled, NamesMethod}
+use Rattle.jv_rules_operands.specs.Operands.{IsCalled, FindsCalledTypes}
 use Rattle.jv_rules_operands.specs.Inside.Parts.{reference_of}
 use Rattle.jv_rules_operands.specs.Inside.Calls.{is_array, result_given, can_be_of as can_be_by_number}
 use Rattle.jv_rules_operands.proofs.Members.{constant_of}
@@ -116,7 +116,7 @@ pub names_method : (names : List (List ℕ)) (b : Bool) (class name descriptor :
     → can_be_by_number b owner ≡ true
     → to.of_class ≡ b → to.is_init ≡ is_init n → to.plain_name ≡ (not (is_init n) && not (is_clinit n)) → to.owner ≡ owner → to.arguments ≡ found.arguments
     → given names to.result ≡ result_given names found.result
-    → NamesMethod names (made b class name descriptor) (Some to)
+    → FindsCalledTypes names (made b class name descriptor) (Some to)
 names_method names b class name descriptor n owner found to named typed_as described can of_class init plain owned arguments result =
     let c = found_in class reference_type (typed names owner) typed_as in
     let d = descriptor_found descriptor (typed_call names found) described in
@@ -138,7 +138,7 @@ names_method names b class name descriptor n owner found to named typed_as descr
       arguments = ap (λ (t : CallTypes). t.arguments) same ∙ ap (λ a. typed_all names a.now) (sym arguments);
       result = ap (λ (t : CallTypes). result_types t.result) same ∙ (result_same names found.result ∙ sym result);
     } in
-    subst (λ o. NamesMethod names o (Some to)) (sym (all ∙ (test ∙ end))) is_called
+    subst (λ o. FindsCalledTypes names o (Some to)) (sym (all ∙ (test ∙ end))) is_called
   where
     constant_class : (b : Bool) → is_of_class (constant_of b) ≡ b
     constant_class true = refl

@@ -45,10 +45,10 @@ pub record IsField (names : List (List ℕ)) (named : FieldUse) (field : FieldTy
   pub owner : named.owner ≡ types.Class (name_at names field.owner)
   pub value : named.type ≡ typed names field.value
 
-abbrev pub NamesField : List (List ℕ) → Option FieldUse → Option FieldTypes → Type 0
-NamesField names None None = Unit {0}
-NamesField names (Some named) (Some field) = IsField names named field
-NamesField names _ _ = ⊥
+abbrev pub FindsFieldTypes : List (List ℕ) → Option FieldUse → Option FieldTypes → Type 0
+FindsFieldTypes names None None = Unit {0}
+FindsFieldTypes names (Some named) (Some field) = IsField names named field
+FindsFieldTypes names _ _ = ⊥
 
 -- ---- methods
 
@@ -62,7 +62,7 @@ pub record IsCalled (names : List (List ℕ)) (named : MethodUse) (called : Call
   pub arguments : named.arguments ≡ typed_all names called.arguments.now
   pub result : named.result ≡ given names called.result
 
-abbrev pub NamesMethod : List (List ℕ) → Option MethodUse → Option CalledTypes → Type 0
-NamesMethod names None None = Unit {0}
-NamesMethod names (Some named) (Some called) = IsCalled names named called
-NamesMethod names _ _ = ⊥
+abbrev pub FindsCalledTypes : List (List ℕ) → Option MethodUse → Option CalledTypes → Type 0
+FindsCalledTypes names None None = Unit {0}
+FindsCalledTypes names (Some named) (Some called) = IsCalled names named called
+FindsCalledTypes names _ _ = ⊥

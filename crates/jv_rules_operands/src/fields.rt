@@ -3,7 +3,7 @@
 ghost use Rattle.std.specs.Prelude.{◌≡◌};
 ghost use Rattle.jv_meaning_typing.specs.Environment.{Environment};
 ghost use Rattle.jv_meaning_typing.specs.Named.{field_named_by};
-ghost use Rattle.jv_rules_operands.specs.Operands.{HasPool, NamesField};
+ghost use Rattle.jv_rules_operands.specs.Operands.{HasPool, FindsFieldTypes};
 
 use crate::classes::names_class;
 use crate::indices::{field_indices, text_at};
@@ -20,7 +20,7 @@ pub struct FieldTypes {
 
 /// The field that a Fieldref constant names; `None` where the index names none, or one of an array.
 pub fn field_types(constants: &ConstantTypes<'_, '_>, index: u16) -> Option<FieldTypes>
-    ensures { (env : Environment) → HasPool constants.now.pool env → NamesField constants.now.types.names (field_named_by env index) result }
+    ensures { (env : Environment) → HasPool constants.now.pool env → FindsFieldTypes constants.now.types.names (field_named_by env index) result }
 {
     let indices = field_indices(constants.pool(), index)?;
     let _name = text_at(constants.pool(), indices.name)?;

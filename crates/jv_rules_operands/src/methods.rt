@@ -6,7 +6,7 @@ ghost use Rattle.jv_class.specs.Rules.{is_clinit};
 ghost use Rattle.jv_meaning_typing.specs.Environment.{Environment};
 ghost use Rattle.jv_meaning_typing.specs.Named.{method_named_by};
 ghost use Rattle.jv_rules_values.specs.Outcomes.{given};
-ghost use Rattle.jv_rules_operands.specs.Operands.{HasPool, NamesMethod};
+ghost use Rattle.jv_rules_operands.specs.Operands.{HasPool, FindsCalledTypes};
 ghost use Rattle.jv_rules_operands.specs.Inside.Calls.{can_be_of, result_given};
 
 use crate::indices::{method_indices, text_at};
@@ -59,7 +59,7 @@ fn result_given(type_of: Option<FieldTypeOf<u32>>) -> Option<Item>
 /// The method that a Methodref or an InterfaceMethodref constant names; `None` where the index names none, or one of an
 /// array as that of an interface.
 pub fn called_types<'c>(constants: &'c ConstantTypes<'_, '_>, index: u16) -> Option<CalledTypes<'c>>
-    ensures { (env : Environment) → HasPool constants.now.pool env → NamesMethod constants.now.types.names (method_named_by env index) result }
+    ensures { (env : Environment) → HasPool constants.now.pool env → FindsCalledTypes constants.now.types.names (method_named_by env index) result }
 {
     let indices = method_indices(constants.pool(), index)?;
     let name = text_at(constants.pool(), indices.member.name)?;

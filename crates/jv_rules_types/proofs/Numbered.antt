@@ -7,6 +7,7 @@ use Rattle.std.proofs.lemmas.Bool.{eqb-true}
 use Rattle.std.proofs.lemmas.List.Quantifiers.{position-Some}
 use Rattle.std.proofs.lemmas.Slice.Eq.{bytes_eq-Decides}
 use Rattle.jv_loader_tables.specs.Names.{with_name}
+use Rattle.jv_loader_tables.proofs.Pushed.{in_two_parts}
 use Rattle.jv_assign.proofs.laws_of_loader_classes.Listing.{found_before, found_last, none_passes}
 use Rattle.jv_rules_types.specs.Typed.{GoesOn}
 use Rattle.jv_rules_types.specs.Inside.Kept.{AreDistinct}
@@ -39,23 +40,6 @@ same_number names d distinct m n hm hn = by_names (bytes_eq (get_or names m d) (
         by_numbers true f =
             let same : m ≡ n = (eqb-true m n f) in
             sym ((bytes_eq-Decides (get_or names m d) (get_or names n d)).1 (ap (λ k. get_or names k d) same)) ∙ e
-
-in_two_parts : (xs : List (List ℕ)) (y z : List ℕ) (k : ℕ) → slice_get (xs ++ y ∷ []) k ≡ Some z → (slice_get xs k ≡ Some z) ⊎ ((k ≡ length xs) × (y ≡ z))
-in_two_parts [] y z zero e = inr (refl, same e)
-  where
-    same : Some y ≡ Some z → y ≡ z
-    same e = cc
-in_two_parts [] y z (suc k) e = absurd (past k e)
-  where
-    past : (k : ℕ) → slice_get [] k ≡ Some z → ⊥
-    past zero e = absurd cc
-    past (suc k) e = absurd cc
-in_two_parts (x ∷ xs) y z zero e = inl e
-in_two_parts (x ∷ xs) y z (suc k) e = by_part (in_two_parts xs y z k e)
-  where
-    by_part : (slice_get xs k ≡ Some z) ⊎ ((k ≡ length xs) × (y ≡ z)) → (slice_get (x ∷ xs) (suc k) ≡ Some z) ⊎ ((suc k ≡ suc (length xs)) × (y ≡ z))
-    by_part (inl e) = inl e
-    by_part (inr h) = inr (ap suc h.0, h.1)
 
 -- a name more that is none of the others
 pub distinct_more : (names : List (List ℕ)) (name : List ℕ) → position (bytes_eq name) names ≡ None → AreDistinct names → AreDistinct (names ++ name ∷ [])

@@ -2,7 +2,7 @@
 
 ghost use Rattle.std.specs.Prelude.{◌≡◌};
 ghost use Rattle.jv_frames.specs.declared.verification.VerificationTypeOf.TheVariants as variants;
-ghost use Rattle.jv_text.specs.Seen.{seen_field};
+ghost use Rattle.jv_text.specs.Seen.{seen_field_type};
 ghost use Rattle.jv_assign.specs.Flow.{class_flows, flows};
 ghost use Rattle.jv_assign.specs.FrameFlow.{item_flows};
 ghost use Rattle.jv_assign.specs.Seen.{seen_type};
@@ -24,7 +24,7 @@ impl<'t, 'a> TypeNames<'t, 'a> {
 
     /// The type of a field with its class by its name.
     fn field_by_name(&self, type_of: FieldTypeOf<u32>) -> FieldType<'a>
-        ensures { seen_field result ≡ typed_field self.now.names type_of }
+        ensures { seen_field_type result ≡ typed_field self.now.names type_of }
     {
         let element = match type_of.element {
             Element::Base(base) => Element::Base(base),

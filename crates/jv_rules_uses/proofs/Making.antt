@@ -20,7 +20,7 @@ use Rattle.jv_rules_class.specs.of_link_resolution.Inside.References.{method_ope
 use Rattle.jv_meaning_typing.specs.Environment.{Environment, current_class, instruction_at}
 use Rattle.jv_meaning_typing.specs.FrameChanges.{taken}
 use Rattle.jv_meaning_typing.specs.Named.{when, MethodUse, method_named_by, current_type}
-use Rattle.jv_meaning_typing.specs.MemberRules.{has_plain_name, called_on, is_near, invoke_super, is_named, class_of_new, constructs_new, constructs_this, constructed_type, construct_top}
+use Rattle.jv_meaning_typing.specs.MemberRules.{has_plain_name, called_on, is_near, invoke_super, is_that_name, class_of_new, constructs_new, constructs_this, constructed_type, construct_top}
 use Rattle.jv_rules_types.specs.Typed.{TypeWorld, name_at, typed, typed_all}
 use Rattle.jv_rules_frames.specs.Numbered.{Item, NumberFrame, frame_of, with_stack}
 use Rattle.jv_rules_class.specs.Current.{CurrentClass, IsOfClass}
@@ -121,21 +121,21 @@ one_wide text t e = by_array (is_array_name text) e
 -- ---- the receiver
 
 pub this_or_super : (class : CurrentClass) (env : Environment) (named : MethodUse) (name : List ℕ) → IsOfClass class env → named.reference.class ≡ name
-    → constructs_this env named ≡ (bytes_eq name class.by.class.name || is_named name class.by.class.super_class)
+    → constructs_this env named ≡ (bytes_eq name class.by.class.name || is_that_name name class.by.class.super_class)
 this_or_super class env named name of is =
-    ap (λ t. bytes_eq t (current_class env).name || is_named t (current_class env).super_class) is
-    ∙ ap (λ (l : Loaded). bytes_eq name l.class.name || is_named name l.class.super_class) of.by
+    ap (λ t. bytes_eq t (current_class env).name || is_that_name t (current_class env).super_class) is
+    ∙ ap (λ (l : Loaded). bytes_eq name l.class.name || is_that_name name l.class.super_class) of.by
 
 -- ---- what `new` made
 
 module _ (env : Environment) (index : ℕ) (named : MethodUse) (offset : ℕ) (pool : List Entry) (class : ℕ) (answer : Bool) (has : HasPool pool env) (is : method_named_by env index ≡ Some named)
     (made : class_of_new env (instruction_at env offset) ≡ class_operand (current_class env) class)
-    (told : (m : MethodReference) → method_operand_in pool index ≡ Some m → is_named m.member.class (class_name_at pool class) ≡ answer) where
-  pub is_made : is_named named.reference.class (class_of_new env (instruction_at env offset)) ≡ answer
+    (told : (m : MethodReference) → method_operand_in pool index ≡ Some m → is_that_name m.member.class (class_name_at pool class) ≡ answer) where
+  pub is_made : is_that_name named.reference.class (class_of_new env (instruction_at env offset)) ≡ answer
   is_made =
       let reference = method_reference env index named is in
-      ap (is_named named.reference.class) (made ∙ ap (λ p. class_name_at p class) has)
-      ∙ (ap (λ (r : MemberReference). is_named r.class (class_name_at pool class)) (sym reference.member)
+      ap (is_that_name named.reference.class) (made ∙ ap (λ p. class_name_at p class) has)
+      ∙ (ap (λ (r : MemberReference). is_that_name r.class (class_name_at pool class)) (sym reference.member)
       ∙ told reference.constant (ap (λ p. method_operand_in p index) (sym has) ∙ reference.found))
 
 -- ---- types of one word

@@ -19,7 +19,7 @@ use Rattle.jv_rules_values.specs.Outcomes.{given}
 use Rattle.jv_rules_class.specs.Current.{CurrentClass, IsOfClass}
 use Rattle.jv_rules_operands.specs.declared.fields.FieldTypes.{FieldTypes}
 use Rattle.jv_rules_operands.specs.declared.methods.CalledTypes.{CalledTypes}
-use Rattle.jv_rules_operands.specs.Operands.{HasPool, NamesField, IsCalled, NamesMethod}
+use Rattle.jv_rules_operands.specs.Operands.{HasPool, FindsFieldTypes, IsCalled, FindsCalledTypes}
 use Rattle.jv_rules_members.specs.declared.fields.FieldOperand.{FieldOperand}
 use Rattle.jv_rules_members.specs.Operands.{IsField}
 use Rattle.jv_rules_uses.specs.Method.{MethodContext, IsOfMethod}
@@ -78,17 +78,17 @@ method_reference env index named e =
 -- ---- guarded members
 
 pub field_guarded : (class : CurrentClass) (env : Environment) (index : ℕ) (named : FieldUse) (answer : Bool) → IsOfClass class env
-    → ((reference : MemberReference) → field_reference_at class.by.class.constant_pool index ≡ Some reference → is_guarded_field env reference ≡ answer)
+    → ((reference : MemberReference) → field_reference_at class.by.class.constant_pool index ≡ Some reference → is_guarded_field env.world env.site.by reference ≡ answer)
     → field_named_by env index ≡ Some named → field_guard env named ≡ guard env answer
 field_guarded class env index named answer of told e =
     ap (guard env) (told named.reference (ap (λ (l : Loaded). field_reference_at l.class.constant_pool index) (sym of.by) ∙ field_reference env index named e))
 
 pub method_guarded : (class : CurrentClass) (env : Environment) (index : ℕ) (named : MethodUse) (answer : Bool) → IsOfClass class env
-    → ((m : MethodReference) → method_operand class.by.class index ≡ Some m → is_guarded_method env m.member ≡ answer)
+    → ((m : MethodReference) → method_operand class.by.class index ≡ Some m → is_guarded_method env.world env.site.by m.member ≡ answer)
     → method_named_by env index ≡ Some named → method_guard env named ≡ guard env answer
 method_guarded class env index named answer of told e =
     let is = method_reference env index named e in
-    ap (λ (r : MemberReference). guard env (is_guarded_method env r)) (sym is.member)
+    ap (λ (r : MemberReference). guard env (is_guarded_method env.world env.site.by r)) (sym is.member)
     ∙ ap (guard env) (told is.constant (ap (λ (l : Loaded). method_operand l.class index) (sym of.by) ∙ is.found))
 
 -- ---- operands
@@ -96,7 +96,7 @@ method_guarded class env index named answer of told e =
 abbrev operand : FieldTypes → Option Item → Bool → FieldOperand
 operand field guarded own = record { owner = types.Class field.owner; value = field.value; guard = guarded; sets_own = own }
 
-pub uses_field : (world : TypeWorld) (env : Environment) (o : Option FieldUse) (field : FieldTypes) (guarded : Option Item) (own : Bool) → env.world ≡ world.world → NamesField world.names o (Some field)
+pub uses_field : (world : TypeWorld) (env : Environment) (o : Option FieldUse) (field : FieldTypes) (guarded : Option Item) (own : Bool) → env.world ≡ world.world → FindsFieldTypes world.names o (Some field)
     → ((named : FieldUse) → o ≡ Some named → field_guard env named ≡ given world.names guarded)
     → (is_init env.site.method.name && bytes_eq (name_at world.names field.owner) (current_class env).name) ≡ own
     → UsesField world env o (Some (operand field guarded own))
@@ -125,6 +125,6 @@ pub record IsNamed (names : List (List ℕ)) (o : Option MethodUse) (called : Ca
   pub is : o ≡ Some method
   pub types : IsCalled names method called
 
-pub is_named : (names : List (List ℕ)) (o : Option MethodUse) (called : CalledTypes) → NamesMethod names o (Some called) → IsNamed names o called
+pub is_named : (names : List (List ℕ)) (o : Option MethodUse) (called : CalledTypes) → FindsCalledTypes names o (Some called) → IsNamed names o called
 is_named names None called h = absurd h
 is_named names (Some method) called h = record { method = method; is = refl; types = h }

@@ -7,7 +7,7 @@ ghost use Rattle.jv_meaning_typing.specs.Environment.{Environment, current_class
 ghost use Rattle.jv_meaning_typing.specs.Named.{MethodUse, field_named_by, method_named_by};
 ghost use Rattle.jv_rules_types.specs.Typed.{name_at};
 ghost use Rattle.jv_rules_members.specs.Operands.{IsMethod};
-ghost use Rattle.jv_rules_operands.specs.Operands.{NamesField, NamesMethod};
+ghost use Rattle.jv_rules_operands.specs.Operands.{FindsFieldTypes, FindsCalledTypes};
 ghost use Rattle.jv_rules_uses.specs.Method.{IsOfMethod};
 ghost use Rattle.jv_rules_uses.specs.Inside.Used.{UsesField, Calls};
 
@@ -19,7 +19,7 @@ use jv_rules_operands::{CalledTypes, FieldTypes, called_types, field_types};
 
 /// The class of the field that an index names, and the type of its values.
 fn field_types_at(context: &MethodContext<'_, '_, '_, '_>, index: u16) -> Option<FieldTypes>
-    ensures { (env : Environment) → IsOfMethod context.now env → NamesField context.now.class.types.names (field_named_by env index) result }
+    ensures { (env : Environment) → IsOfMethod context.now env → FindsFieldTypes context.now.class.types.names (field_named_by env index) result }
 {
     field_types(context.constants(), index)
 }
@@ -52,7 +52,7 @@ pub(crate) fn called_types_at<'e>(
     context: &MethodContext<'_, 'e, '_, '_>,
     index: u16,
 ) -> Option<CalledTypes<'e>>
-    ensures { (env : Environment) → IsOfMethod context.now env → NamesMethod context.now.class.types.names (method_named_by env index) result }
+    ensures { (env : Environment) → IsOfMethod context.now env → FindsCalledTypes context.now.class.types.names (method_named_by env index) result }
 {
     called_types(context.constants(), index)
 }

@@ -4,7 +4,7 @@ ghost use Rattle.std.specs.Prelude.{◌≡◌, ℕ, List, Some, None, IsSome, If
 ghost use Rattle.jv_pool.specs.Constants.{class_name_at, utf8_at};
 ghost use Rattle.jv_meaning_linking.specs.Operands.{MethodReference};
 ghost use Rattle.jv_rules_class.specs.of_link_resolution.Inside.References.{method_operand_in};
-ghost use Rattle.jv_meaning_typing.specs.MemberRules.{is_named};
+ghost use Rattle.jv_meaning_typing.specs.MemberRules.{is_that_name};
 ghost use Rattle.jv_rules_uses.specs.Inside.Constructed.{class_by, IsFirst};
 
 use jv_pool::{Constant, Pool, Utf8Index};
@@ -31,7 +31,7 @@ fn first_of(pool: &Pool<'_>, class: u16) -> Option<u16>
 
 /// Whether two Class constants name the same text.
 fn same_text(pool: &Pool<'_>, one: u16, other: u16) -> bool
-    ensures { (text : List ℕ) → class_name_at pool.now one ≡ Some text → is_named text (class_name_at pool.now other) ≡ result }
+    ensures { (text : List ℕ) → class_name_at pool.now one ≡ Some text → is_that_name text (class_name_at pool.now other) ≡ result }
 {
     let Some(first) = first_of(pool, one) else {
         return false;
@@ -55,7 +55,7 @@ fn class_of_method(pool: &Pool<'_>, index: u16) -> Option<u16>
 
 /// Whether the method that an index names is named with the class that a Class constant names.
 pub(crate) fn is_named_with(pool: &Pool<'_>, index: u16, class: u16) -> bool
-    ensures { (m : MethodReference) → method_operand_in pool.now index ≡ Some m → is_named m.member.class (class_name_at pool.now class) ≡ result }
+    ensures { (m : MethodReference) → method_operand_in pool.now index ≡ Some m → is_that_name m.member.class (class_name_at pool.now class) ≡ result }
 {
     match class_of_method(pool, index) {
         Some(owner) => same_text(pool, owner, class),

@@ -6,7 +6,7 @@ ghost use Rattle.std.specs.Option.{option_map};
 ghost use Rattle.jv_frames.specs.Types.{primitive_type, value_type, value_type_by};
 ghost use Rattle.jv_rules_frames.specs.of_meaning_typing.FrameChanges.{is_of_kind, exchanged, with_stack};
 ghost use Rattle.jv_rules_frames.specs.of_meaning_typing.ValueRules.{reference_component, with_component, reference_array_load, is_array_or_null, array_length, take_reference, return_nothing};
-ghost use Rattle.jv_rules_frames.specs.of_meaning_typing.Named.{array_with, class_components, object_type};
+ghost use Rattle.jv_rules_frames.specs.of_meaning_typing.Named.{array_with, class_components, object_class_type};
 ghost use Rattle.jv_rules_frames.specs.of_rules_types.Typed.{typed, typed_element, typed_field, typed_all};
 ghost use Rattle.jv_rules_frames.specs.Numbered.{frame_of};
 ghost use Rattle.jv_rules_values.specs.Outcomes.{IsOutcome, IsFrame, typed_option, outcome_of_component};
@@ -104,7 +104,7 @@ pub fn reference_array_load(types: &TypeNames<'_, '_>, frame: &mut TypeFrame) ->
 
 /// Stores a reference in an array.
 pub fn reference_array_store(types: &TypeNames<'_, '_>, frame: &mut TypeFrame) -> Outcome
-    ensures { IsOutcome types.now.names (exchanged types.now.world (array_with (class_components (codes "java/lang/Object")) ∷ variants.Int ∷ object_type ∷ []) [] (frame_of types.now.names frame.old)) frame.new result }
+    ensures { IsOutcome types.now.names (exchanged types.now.world (array_with (class_components (codes "java/lang/Object")) ∷ variants.Int ∷ object_class_type ∷ []) [] (frame_of types.now.names frame.old)) frame.new result }
 {
     let object = types.object();
     let objects = FieldTypeOf {

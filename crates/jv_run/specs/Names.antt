@@ -16,5 +16,5 @@ abbrev pub names_of : List ℕ → List (List ℕ)
 names_of listing = take (length (listing_parts listing) - 1) (listing_parts listing)
 
 -- a name is among some
-abbrev pub has_name : List ℕ → List (List ℕ) → Bool
-has_name wanted names = list_any (λ name. bytes_eq name wanted) names
+abbrev pub is_among : List ℕ → List (List ℕ) → Bool
+is_among wanted names = list_any (λ name. bytes_eq name wanted) names

@@ -3,11 +3,11 @@ ghost use Rattle.std.specs.Prelude.{◌≡◌, ◌≢◌, ◌≤◌, ◌+◌, �
 ghost use Rattle.std.specs.IoError.{error_kind};
 ghost use Rattle.jv_meaning.specs.Guest.{bytes_of};
 ghost use Rattle.jv_run.specs.Folder.{AreClassFilesOf, IsFolderOf, IsReadUpToLimit, file_name};
-ghost use Rattle.jv_run.specs.Names.{has_name, names_of};
+ghost use Rattle.jv_run.specs.Names.{is_among, names_of};
 
 use crate::failure::Failure;
 use crate::file::read_past_limit;
-use crate::names::{class_file_names, has_name, names_in};
+use crate::names::{class_file_names, is_among, names_in};
 use std::alloc::{AllocError, Global};
 use std::io;
 use std::io::{Error, ErrorKind};
@@ -190,10 +190,10 @@ fn read_input<R: Files + AllocGlobal>(
     names: &[&[u8]],
 ) -> Result<Vec<u8>, Failure>
     ensures most { IfOk result (λ input. vec_len input ≤ 16777217) }
-    ensures absent { has_name (codes "input") (map bytes_of names.now) ≡ false
+    ensures absent { is_among (codes "input") (map bytes_of names.now) ≡ false
         → IfOk result (λ input. input.items ≡ []) }
 {
-    if has_name(names, b"input") {
+    if is_among(names, b"input") {
         read_file(rt, folder, b"input", INPUT_LIMIT)
     } else {
         Ok(Vec::new(rt.alloc()))

@@ -5,7 +5,7 @@ ghost use Rattle.std.specs.Cmp.Lexicographic.{slice_cmp};
 ghost use Rattle.std.specs.List.{list_any};
 ghost use Rattle.std.specs.Str.{bytes_eq};
 ghost use Rattle.jv_meaning.specs.Guest.{bytes_of};
-ghost use Rattle.jv_run.specs.Names.{has_name, is_class_file, listing_parts, names_of};
+ghost use Rattle.jv_run.specs.Names.{is_among, is_class_file, listing_parts, names_of};
 
 use std::alloc::{AllocError, Global};
 
@@ -56,8 +56,8 @@ fn any_is(names: &[&[u8]], wanted: &[u8]) -> bool
 }
 
 /// Whether a name is among the names.
-pub fn has_name(names: &[&[u8]], wanted: &[u8]) -> bool
-    ensures { result ≡ has_name wanted.now (map bytes_of names.now) }
+pub fn is_among(names: &[&[u8]], wanted: &[u8]) -> bool
+    ensures { result ≡ is_among wanted.now (map bytes_of names.now) }
 {
     any_is(names, wanted)
 }

@@ -6,7 +6,7 @@ ghost use Rattle.jv_text.specs.Name.{is_class_name};
 ghost use Rattle.jv_text.specs.declared.descriptor.Base.{Base};
 ghost use Rattle.jv_text.specs.declared.descriptor.FieldTypeOf.{FieldTypeOf};
 ghost use Rattle.jv_text.specs.Descriptor.{base_letter, element_text, is_element, field_text, is_field_type, IsField};
-ghost use Rattle.jv_text.specs.Seen.{seen_element, seen_field};
+ghost use Rattle.jv_text.specs.Seen.{seen_element, seen_field_type};
 ghost use Rattle.jv_text.specs.Types.{field_type_of};
 ghost use Rattle.jv_text.specs.Inside.Elements.{IsElementText};
 
@@ -107,8 +107,8 @@ fn element_at(text: &[u8]) -> Option<(Element<&[u8]>, &[u8])>
 
 /// Reads the field descriptor at the front, and gives what follows.
 pub(crate) fn field_at(text: &[u8]) -> Option<(FieldType<'_>, &[u8])>
-    ensures found { IfSome result (λ x. text.now ≡ field_text (seen_field x.0) ++ x.1.now) }
-    ensures fits { IfSome result (λ x. IsTrue (is_field_type (seen_field x.0))) }
+    ensures found { IfSome result (λ x. text.now ≡ field_text (seen_field_type x.0) ++ x.1.now) }
+    ensures fits { IfSome result (λ x. IsTrue (is_field_type (seen_field_type x.0))) }
     ensures none { IfNone result ((t : FieldTypeOf (List ℕ)) (rest : List ℕ)
         → IsTrue (is_field_type t) → text.now ≢ field_text t ++ rest) }
 {
@@ -127,7 +127,7 @@ pub(crate) fn field_at(text: &[u8]) -> Option<(FieldType<'_>, &[u8])>
 ///
 /// What stands between `L` and `;` is a class name whatever it is: `LF;` is a class named F.
 pub fn field_type(text: &[u8]) -> Result<FieldType<'_>, BadDescriptor>
-    ensures ok { IfOk result (λ t. IsField text.now (seen_field t)) }
+    ensures ok { IfOk result (λ t. IsField text.now (seen_field_type t)) }
     ensures bad { IfErr result (λ _. (t : FieldTypeOf (List ℕ)) → IsField text.now t → ⊥) }
 {
     let Some((t, rest)) = field_at(text) else {
@@ -161,7 +161,7 @@ fn known_element(text: &[u8]) -> Element<&[u8]>
 /// 4.3.2). It looks at the brackets and at one byte behind them, and not at a class's name.
 pub fn known_field_type(text: &[u8]) -> FieldType<'_>
     requires { IsSome (field_type_of text.now) }
-    ensures { field_type_of text.now ≡ Some (seen_field result) }
+    ensures { field_type_of text.now ≡ Some (seen_field_type result) }
 {
     let Some((dimensions, rest)) = dimensions_at(text) else {
         unreachable!();

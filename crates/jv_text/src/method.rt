@@ -4,7 +4,7 @@ ghost use Rattle.std.specs.Prelude.{◌≡◌, ◌≢◌, ◌↔◌, ℕ, ◌+�
 ghost use Rattle.jv_text.specs.declared.descriptor.FieldTypeOf.{FieldTypeOf};
 ghost use Rattle.jv_text.specs.declared.descriptor.DescFault.{DescFault};
 ghost use Rattle.jv_text.specs.Descriptor.{field_text, is_field_type, field_slots, result_text, is_result_type, MethodDescriptor, slots, is_floating, is_floating_result, IsMethod};
-ghost use Rattle.jv_text.specs.Seen.{seen_field, seen_result, seen_method, HasShape};
+ghost use Rattle.jv_text.specs.Seen.{seen_field_type, seen_result, seen_method_type, HasShape};
 
 use crate::descriptor::{
     BadDescriptor, Base, DescFault, Element, FieldType, MethodShape, MethodType,
@@ -14,7 +14,7 @@ use std::alloc::Global;
 
 /// The local variables that a parameter of the type fills.
 fn slots_of(t: FieldType<'_>) -> u8
-    ensures { result ≡ field_slots (seen_field t.entry) }
+    ensures { result ≡ field_slots (seen_field_type t.entry) }
 {
     match t.element {
         Element::Base(Base::Long | Base::Double) if t.dimensions == 0 => 2,
@@ -24,14 +24,14 @@ fn slots_of(t: FieldType<'_>) -> u8
 
 /// Whether the type is float or double, or an array of one of these.
 pub fn is_floating(t: FieldType<'_>) -> bool
-    ensures { result ≡ is_floating (seen_field t.entry) }
+    ensures { result ≡ is_floating (seen_field_type t.entry) }
 {
     matches!(t.element, Element::Base(Base::Float | Base::Double))
 }
 
 /// The answer for some types and one more.
 fn or_floating(floating: bool, t: FieldType<'_>) -> bool
-    ensures { result ≡ (floating || is_floating (seen_field t.entry)) }
+    ensures { result ≡ (floating || is_floating (seen_field_type t.entry)) }
 {
     floating || is_floating(t)
 }
@@ -49,9 +49,9 @@ fn or_floating_result(floating: bool, result_type: Option<FieldType<'_>>) -> boo
 /// Reads the parameter at the front, after others that fill so many slots. Gives the parameter,
 /// the slots of all, at most 255, and what follows.
 fn parameter_at(text: &[u8], slots: u8) -> Option<(FieldType<'_>, u8, &[u8])>
-    ensures found { IfSome result (λ x. text.now ≡ field_text (seen_field x.0) ++ x.2.now) }
-    ensures fits { IfSome result (λ x. IsTrue (is_field_type (seen_field x.0))) }
-    ensures total { IfSome result (λ x. x.1 ≡ slots + field_slots (seen_field x.0)) }
+    ensures found { IfSome result (λ x. text.now ≡ field_text (seen_field_type x.0) ++ x.2.now) }
+    ensures fits { IfSome result (λ x. IsTrue (is_field_type (seen_field_type x.0))) }
+    ensures total { IfSome result (λ x. x.1 ≡ slots + field_slots (seen_field_type x.0)) }
     ensures few { IfSome result (λ x. x.1 ≤ 255) }
     ensures none { IfNone result ((t : FieldTypeOf (List ℕ)) (rest : List ℕ)
         → IsTrue (is_field_type t) → slots + field_slots t ≤ 255
@@ -128,7 +128,7 @@ pub fn method_shape(text: &[u8]) -> Result<MethodShape<'_>, BadDescriptor>
 /// The parameters fill at most 255 slots; a receiver is not counted here, and who knows of one
 /// counts it. `Memory` comes where a growth was refused, and then at once.
 pub fn method_type(alloc: Global, text: &[u8]) -> Result<MethodType<'_>, DescFault>
-    ensures ok { IfOk result (λ m. IsMethod text.now (seen_method m)) }
+    ensures ok { IfOk result (λ m. IsMethod text.now (seen_method_type m)) }
     ensures bad { result ≡ Err DescFault.BadDescriptor → (m : MethodDescriptor)
         → IsMethod text.now m → ⊥ }
 {

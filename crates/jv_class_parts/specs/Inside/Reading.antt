@@ -14,7 +14,7 @@ use Rattle.jv_class_parts.specs.declared.fault.PartsFault.TheVariants.{Format as
 use Rattle.jv_class_parts.specs.Structure.{AttributeInfo, CodeAttribute, MethodAttribute, FieldInfo, MethodInfo, ClassStructure, table_bytes, attribute_bytes, code_bytes, method_attribute_bytes, field_bytes, method_bytes, table_fits, attribute_fits, code_fits, method_attribute_fits, field_fits, method_fits}
 use Rattle.jv_class_parts.specs.Structure.MethodAttribute.{Code, Other}
 use Rattle.jv_class_parts.specs.Flags.{has, acc_static}
-use Rattle.jv_class_parts.specs.Attributes.{is_text_at, has_name, at_most_one, is_named, value_index, code_length_right, field_attributes_right, code_right, method_attribute_right, method_attributes_right}
+use Rattle.jv_class_parts.specs.Attributes.{is_text_at, has_attribute_name, at_most_one, has_utf8_name, value_index, code_length_right, field_attributes_right, code_right, method_attribute_right, method_attributes_right}
 use Rattle.jv_class_parts.specs.Parts.{FieldSeen, CodeSeen, MethodSeen, field_shown, code_shown, method_shown}
 
 -- ---- forms
@@ -80,13 +80,13 @@ is_utf8 pool index = is_some (utf8_at pool index)
 
 abbrev pub attribute : List Entry → Format AttributeInfo
 attribute pool =
-    shaped attribute_bytes (λ a. attribute_fits a && is_named pool a) attribute_of (both (such_that (is_utf8 pool) half) contents)
+    shaped attribute_bytes (λ a. attribute_fits a && has_utf8_name pool a) attribute_of (both (such_that (is_utf8 pool) half) contents)
 
 -- ---- a field's attributes
 
 -- the attribute tells the value of a static field
 abbrev pub tells_value : List Entry → Bool → AttributeInfo → Bool
-tells_value pool static a = static && has_name pool (codes "ConstantValue") a
+tells_value pool static a = static && has_attribute_name pool (codes "ConstantValue") a
 
 abbrev pub value_of : List Entry → Bool → AttributeInfo → Option ℕ
 value_of pool static a = if tells_value pool static a then value_index a else None
@@ -124,7 +124,7 @@ abbrev pub exception : Format Handler
 exception = shaped handler_bytes handler_fits exception_of (both (both half half) (both half half))
 
 abbrev pub stack_map_of : List Entry → AttributeInfo → Option (List ℕ)
-stack_map_of pool a = if has_name pool (codes "StackMapTable") a then Some a.info else None
+stack_map_of pool a = if has_attribute_name pool (codes "StackMapTable") a then Some a.info else None
 
 abbrev pub code_attributes : List Entry → Format (List AttributeInfo)
 code_attributes pool = solely (stack_map_of pool) (attribute pool)

@@ -4,7 +4,7 @@ use Rattle.std.specs.Global.{Vec}
 use Rattle.jv_loader_world.specs.World.{World}
 use Rattle.jv_loader_world.specs.LookUps.{searched_from}
 use Rattle.jv_loader_classes.specs.Inside.Told.{IsAt}
-use Rattle.jv_loader_lookups.specs.Searched.{classes_at, AreNumbers}
+use Rattle.jv_loader_world.specs.Numbers.{classes_at, AreNumbers}
 
 abbrev pub numbers_in : Vec ℕ → List ℕ
 numbers_in list = list.items

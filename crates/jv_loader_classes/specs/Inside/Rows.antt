@@ -2,7 +2,7 @@
 use Rattle.std.specs.Prelude.{ℕ, List, map, Option}
 use Rattle.std.specs.Global.{Vec}
 use Rattle.std.specs.List.{All}
-use Rattle.jv_loader_tables.specs.Ways.{IsBelow}
+use Rattle.jv_loader_tables.specs.Ways.{IsBelowSize}
 use Rattle.jv_loader_class.specs.of_loader_world.World.{World}
 use Rattle.jv_loader_classes.specs.Numbers.{super_numbers}
 
@@ -16,4 +16,4 @@ abbrev pub all_super_numbers : World → List (List (Option ℕ))
 all_super_numbers world = map (λ l. super_numbers world l.class) world
 
 abbrev pub AreAllBelow : ℕ → List (List (Option ℕ)) → Type 0
-AreAllBelow size rows = All (All (IsBelow size)) rows
+AreAllBelow size rows = All (All (IsBelowSize size)) rows

@@ -7,8 +7,8 @@ use Rattle.jv_class.specs.Class.{field_named}
 use Rattle.jv_loader_world.specs.World.{Loaded, World}
 use Rattle.jv_loader_world.specs.Above.{is_above}
 use Rattle.jv_loader_world.specs.Overriding.{Declared}
-use Rattle.jv_loader_world.specs.LookUps.{DeclaredField, field_by, method_in, without_itself, is_inheritable, is_concrete, is_below, passing}
-use Rattle.jv_loader_lookups.specs.Searched.{classes_at}
+use Rattle.jv_loader_world.specs.LookUps.{DeclaredField, field_by, method_in, without_itself, is_inheritable, is_concrete, is_below, method_if}
+use Rattle.jv_loader_world.specs.Numbers.{classes_at}
 
 -- the field of a name and a descriptor that a class declares (JVMS 5.4.3.2)
 abbrev pub field_named_in : List ℕ → List ℕ → Loaded → Option DeclaredField
@@ -16,7 +16,7 @@ field_named_in name descriptor l = option_map (field_by l) (field_named l.class 
 
 -- the method that a superinterface declares and a class can inherit (JVMS 5.4.3.3)
 abbrev pub candidate_in : List ℕ → List ℕ → Loaded → Loaded → Option Declared
-candidate_in name descriptor l c = if without_itself l c then passing is_inheritable (method_in name descriptor c) else None
+candidate_in name descriptor l c = if without_itself l c then method_if is_inheritable (method_in name descriptor c) else None
 
 -- such methods of all classes with these numbers
 abbrev pub candidates_at : World → List ℕ → List ℕ → List ℕ → Loaded → List Declared
@@ -31,7 +31,7 @@ abbrev pub is_specific : World → List Declared → Declared → Bool
 is_specific world all d = is_concrete d && not (list_any (is_below world d) all)
 
 abbrev pub specific_in : World → List Declared → List ℕ → List ℕ → Loaded → Loaded → Option Declared
-specific_in world all name descriptor l c = passing (is_specific world all) (candidate_in name descriptor l c)
+specific_in world all name descriptor l c = method_if (is_specific world all) (candidate_in name descriptor l c)
 
 abbrev pub is_specific_at : World → List Declared → List ℕ → List ℕ → Loaded → Loaded → Bool
 is_specific_at world all name descriptor l c = is_some (specific_in world all name descriptor l c)

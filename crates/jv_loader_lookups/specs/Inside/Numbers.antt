@@ -2,7 +2,7 @@
 use Rattle.std.specs.Prelude.{◌≡◌, ℕ, Bool, false, List, length, get_or, nat_eq}
 use Rattle.std.specs.List.{list_any}
 use Rattle.jv_loader_world.specs.World.{World}
-use Rattle.jv_loader_lookups.specs.Searched.{AreNumbers}
+use Rattle.jv_loader_world.specs.Numbers.{AreNumbers}
 
 pub record NumbersBelow : Type 0 where
   pub size : ℕ

@@ -3,15 +3,16 @@ use Rattle.std.specs.Prelude.{◌≡◌, ℕ, Bool, false, not, ◌&&◌, List, 
 use Rattle.jv_format.specs.Format.{◌>>=◌}
 use Rattle.jv_pool.specs.Constants.{Entry, MemberReference, field_reference_at}
 use Rattle.jv_class_parts.specs.Flags.{has, acc_protected, acc_static}
-use Rattle.jv_loader_world.specs.World.{Loaded, World, class_named, same_package}
+use Rattle.jv_loader_world.specs.World.{Loaded, World, same_package}
 use Rattle.jv_loader_world.specs.LookUps.{is_subclass, lookup_field, lookup_method}
 use Rattle.jv_meaning_linking.specs.Access.{same_class}
 use Rattle.jv_meaning_linking.specs.Operands.{MethodReference}
+use Rattle.jv_meaning_typing.specs.Named.{is_guarded_field, is_guarded_method}
 use Rattle.jv_link_resolution.specs.Inside.References.{method_operand_in}
 
 -- the class is a proper superclass of the current one
-abbrev pub is_below : World → Loaded → Loaded → Bool
-is_below world current named = is_subclass world current named && not (same_class current named)
+abbrev pub is_proper_subclass : World → Loaded → Loaded → Bool
+is_proper_subclass world current named = is_subclass world current named && not (same_class current named)
 
 -- a member with these flags that a class declares is protected, not static, and of another run-time package
 abbrev pub is_far : Loaded → Loaded → ℕ → Bool
@@ -25,25 +26,6 @@ field_is_far world current named reference =
 abbrev pub method_is_far : World → Loaded → Loaded → MemberReference → Bool
 method_is_far world current named reference =
     unwrap_or (lookup_method world named reference.name reference.descriptor >>= λ d. Some (is_far current d.by d.method.access_flags)) false
-
--- ---- the rules, with the current class in place of an environment
-
-abbrev pub is_guarded : World → Loaded → Loaded → Loaded → ℕ → Bool
-is_guarded world current named by flags =
-    is_subclass world current named && not (same_class current named)
-    && has flags acc_protected && not (has flags acc_static) && not (same_package current by)
-
-abbrev pub is_guarded_field : World → Loaded → MemberReference → Bool
-is_guarded_field world current reference =
-    unwrap_or (class_named world reference.class >>= λ named.
-    lookup_field world named reference.name reference.descriptor >>= λ d.
-    Some (is_guarded world current named d.by d.field.access_flags)) false
-
-abbrev pub is_guarded_method : World → Loaded → MemberReference → Bool
-is_guarded_method world current reference =
-    unwrap_or (class_named world reference.class >>= λ named.
-    lookup_method world named reference.name reference.descriptor >>= λ d.
-    Some (is_guarded world current named d.by d.method.access_flags)) false
 
 -- ---- constants
 

@@ -3,13 +3,13 @@ use Rattle.std.specs.Prelude.{◌≡◌, ℕ, ◌<◌, Bool, false, List, length
 use Rattle.std.specs.List.{list_any}
 use Rattle.std.specs.Str.{bytes_eq}
 use Rattle.jv_pool.specs.Constants.{Entry}
-use Rattle.jv_meaning_typing.specs.MemberRules.{is_named}
+use Rattle.jv_meaning_typing.specs.MemberRules.{is_that_name}
 use Rattle.jv_rules_types.specs.Typed.{name_at}
-use Rattle.jv_rules_class.specs.Inside.Named.{class_named_at}
+use Rattle.jv_rules_class.specs.Inside.Named.{class_of_constant}
 
 -- the constant at an index names the class of this name
 abbrev pub names_it : List Entry → List ℕ → ℕ → Bool
-names_it pool name index = is_named name (class_named_at pool index)
+names_it pool name index = is_that_name name (class_of_constant pool index)
 
 -- the names of the classes that the constants at these indices name are marked, and no others
 pub record AreMarkedAt (names : List (List ℕ)) (pool : List Entry) (indices : List ℕ) (marks : List Bool) : Type 0 where

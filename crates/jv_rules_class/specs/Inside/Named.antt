@@ -12,9 +12,9 @@ class_in (Some (types.Class name)) = Some name
 class_in _ = None
 
 -- the class, and no array, that the Class constant at an index names (4.4.1)
-abbrev pub class_named_at : List Entry → ℕ → Option (List ℕ)
-class_named_at pool index = class_in (class_type_at pool index)
+abbrev pub class_of_constant : List Entry → ℕ → Option (List ℕ)
+class_of_constant pool index = class_in (class_type_at pool index)
 
 -- the same of an index that may be none
-abbrev pub class_named_by : List Entry → Option ℕ → Option (List ℕ)
-class_named_by pool index = index >>= class_named_at pool
+abbrev pub class_of_constant_at : List Entry → Option ℕ → Option (List ℕ)
+class_of_constant_at pool index = index >>= class_of_constant pool

@@ -1,6 +1,6 @@
 use Rattle.std.proofs.Common.{◌≡◌, ◌∙◌, ◌-◌, suc, sym, arith, length}
 use Rattle.jv_loader_classes.proofs.Followed.{some_class}
-use Rattle.jv_loader_lookups.specs.Searched.{classes_at}
+use Rattle.jv_loader_world.specs.Numbers.{classes_at}
 use Rattle.jv_loader_lookups.proofs.Among.{among}
 use Rattle.jv_loader_lookups.proofs.Next.{next_below}
 use Rattle.jv_link_order.proofs.GivenSoFar.{gives_with, gives_without, given_before, given_now}

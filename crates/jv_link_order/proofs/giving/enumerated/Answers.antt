@@ -2,7 +2,7 @@ use Rattle.std.proofs.Common.{◌≡◌, ◌∙◌, ap, subst, arith, length}
 use Rattle.std.specs.List.{fold}
 use Rattle.jv_loader_classes.specs.Inside.Told.{IsAt}
 use Rattle.jv_loader_classes.proofs.Followed.{some_class}
-use Rattle.jv_loader_lookups.specs.Searched.{classes_at}
+use Rattle.jv_loader_world.specs.Numbers.{classes_at}
 use Rattle.jv_loader_lookups.specs.Inside.Numbers.{NumbersBelow}
 use Rattle.jv_loader_lookups.proofs.Next.{next_below}
 use Rattle.jv_meaning_linking.specs.InitializationOrder.{interfaces_in, given_within}

@@ -1,4 +1,4 @@
-use Rattle.jv_loader_lookups.specs.Searched.{AreNumbers}
+use Rattle.jv_loader_world.specs.Numbers.{AreNumbers}
 use Rattle.jv_link_order.proofs.Defaulting.{IsDefaultLeft}
 use Rattle.jv_link_order.proofs.order.add_defaults.Given as goal
 

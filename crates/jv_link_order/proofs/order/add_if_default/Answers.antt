@@ -1,5 +1,5 @@
 use Rattle.std.proofs.Common.{◌∙◌, ap, sym}
-use Rattle.jv_loader_lookups.specs.Searched.{classes_at}
+use Rattle.jv_loader_world.specs.Numbers.{classes_at}
 use Rattle.jv_link_order.proofs.Defaulting.{added_default}
 use Rattle.jv_link_order.proofs.order.add_if_default.Goals as goal
 

@@ -1,8 +1,8 @@
 use Rattle.std.proofs.Common.{◌∙◌, ◌++◌, ◌∷◌, [], ap, sym, subst, length}
-use Rattle.jv_loader_tables.specs.Ways.{IsBelow}
+use Rattle.jv_loader_tables.specs.Ways.{IsBelowSize}
 use Rattle.jv_loader_classes.proofs.Told.{superclass_below}
 use Rattle.jv_loader_classes.proofs.Followed.{some_class}
-use Rattle.jv_loader_lookups.specs.Searched.{classes_at, AreNumbers}
+use Rattle.jv_loader_world.specs.Numbers.{classes_at, AreNumbers}
 use Rattle.jv_link_order.proofs.Defaulting.{no_superclass, one_superclass, one_number}
 use Rattle.jv_link_order.proofs.order.superclass_first.Goals as goal
 
@@ -19,4 +19,4 @@ pub returns-clause-numbers : goal.returns-clause-numbers
 returns-clause-numbers c =
     let class = some_class c.args.table.now c.args.class c.requires in
     subst (AreNumbers c.args.table.now) (sym (c.in_ok-push.ensures.items ∙ ap (λ xs. xs ++ c.in-Some.superclass ∷ []) c.new-order.ensures.items))
-    (one_number (length c.args.table.now) c.in-Some.superclass (subst (IsBelow (length c.args.table.now)) (sym (c.super_of.ensures class.0 class.1) ∙ c.in-Some.is) (superclass_below c.args.table.now class.0.class.super_class)))
+    (one_number (length c.args.table.now) c.in-Some.superclass (subst (IsBelowSize (length c.args.table.now)) (sym (c.super_of.ensures class.0 class.1) ∙ c.in-Some.is) (superclass_below c.args.table.now class.0.class.super_class)))

@@ -1,5 +1,5 @@
 use Rattle.std.proofs.Common.{◌∙◌, ap, sym, Some}
-use Rattle.jv_text.specs.Seen.{seen_field}
+use Rattle.jv_text.specs.Seen.{seen_field_type}
 use Rattle.jv_meaning_linking.specs.ClassResolution.{resolve_array}
 use Rattle.jv_link_resolution.proofs.Operands.{no_type}
 use Rattle.jv_link_resolution.proofs.class.resolve_array.Goals as goal
@@ -7,7 +7,7 @@ use Rattle.jv_link_resolution.proofs.class.resolve_array.Goals as goal
 pub returns-in-Ok-clause-found : goal.returns-in-Ok-clause-found
 returns-in-Ok-clause-found c = λ cur at.
     c.resolve_element.ensures.found cur at
-    ∙ ap (λ o. Some (resolve_array c.args.table.now cur o)) (sym ((c.types_agree.ensures.field c.args.text.now (seen_field c.in-Ok.array)).0 c.in-Ok.ensures.ok))
+    ∙ ap (λ o. Some (resolve_array c.args.table.now cur o)) (sym ((c.types_agree.ensures.field c.args.text.now (seen_field_type c.in-Ok.array)).0 c.in-Ok.ensures.ok))
 
 pub returns-in-Err-clause-found : goal.returns-in-Err-clause-found
 returns-in-Err-clause-found c = λ cur at.

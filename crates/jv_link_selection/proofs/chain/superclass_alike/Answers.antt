@@ -1,5 +1,5 @@
 use Rattle.std.proofs.Common.{◌≡◌, ◌∙◌, ◌+◌, ◌-◌, suc, length, Option, Some, sym, subst, arith}
-use Rattle.jv_loader_tables.specs.Ways.{IsBelow}
+use Rattle.jv_loader_tables.specs.Ways.{IsBelowSize}
 use Rattle.jv_loader_world.specs.World.{Loaded}
 use Rattle.jv_loader_world.specs.Overriding.{Declared, alike_in}
 use Rattle.jv_loader_classes.proofs.Followed.{some_class}
@@ -22,7 +22,7 @@ returns-in_default-clause-found c = λ l at e at_e.
 pub alike_in-requires-clause-class : goal.alike_in-requires-clause-class
 alike_in-requires-clause-class c =
     let called = method_stands c.args.table.now c.args.called c.requires.called in
-    subst (IsBelow (length c.args.table.now)) c.in-Some.is (c.loop.invariant called.0 called.1).below
+    subst (IsBelowSize (length c.args.table.now)) c.in-Some.is (c.loop.invariant called.0 called.1).below
 
 pub returns-in-Some-alike_in-clause-found : goal.returns-in-Some-alike_in-clause-found
 returns-in-Some-alike_in-clause-found c = λ l at e at_e.
@@ -30,7 +30,7 @@ returns-in-Some-alike_in-clause-found c = λ l at e at_e.
     let look : Loaded → Option Declared = λ s. alike_in s e.method in
     let left = c.count-end.result - (c.loop.counter + 1) in
     let one_less : c.count-end.result - c.loop.counter ≡ suc (c.count-end.result - (c.loop.counter + 1)) = omega (arith, c.loop-test.true) in
-    let class = some_class world c.in-Some.superclass (subst (IsBelow (length world)) c.in-Some.is (c.loop.invariant e at_e).below) in
+    let class = some_class world c.in-Some.superclass (subst (IsBelowSize (length world)) c.in-Some.is (c.loop.invariant e at_e).below) in
     let there = method_stands world c.in-Some-alike_in.place c.in-Some-alike_in.ensures.place in
     there.1 ∙ climb_found world look c.args.from left c.in-Some.superclass class.0 there.0 class.1 (sym (c.in-Some-alike_in.ensures.found class.0 class.1 e at_e) ∙ there.1)
     (subst (λ n. Climbs world look c.args.from n (Some c.in-Some.superclass)) one_less (subst (Climbs world look c.args.from (c.count-end.result - c.loop.counter)) c.in-Some.is (c.loop.invariant e at_e))) l at
@@ -38,7 +38,7 @@ returns-in-Some-alike_in-clause-found c = λ l at e at_e.
 pub super_of-next-requires-in-loop : goal.super_of-next-requires-in-loop
 super_of-next-requires-in-loop c =
     let called = method_stands c.args.table.now c.args.called c.requires.called in
-    subst (IsBelow (length c.args.table.now)) c.in-Some.is (c.loop.invariant called.0 called.1).below
+    subst (IsBelowSize (length c.args.table.now)) c.in-Some.is (c.loop.invariant called.0 called.1).below
 
 pub loop-preserved : goal.loop-preserved
 loop-preserved c = λ e at_e.
@@ -46,6 +46,6 @@ loop-preserved c = λ e at_e.
     let look : Loaded → Option Declared = λ s. alike_in s e.method in
     let left = c.count-end.result - (c.loop.counter + 1) in
     let one_less : c.count-end.result - c.loop.counter ≡ suc (c.count-end.result - (c.loop.counter + 1)) = omega (arith, c.loop-test.true) in
-    let class = some_class world c.in-Some.superclass (subst (IsBelow (length world)) c.in-Some.is (c.loop.invariant e at_e).below) in
+    let class = some_class world c.in-Some.superclass (subst (IsBelowSize (length world)) c.in-Some.is (c.loop.invariant e at_e).below) in
     climb_on world look c.args.from left c.in-Some.superclass class.0 c.super_of-next-in-loop.result class.1 (sym (c.in_default-alike_in.ensures.found class.0 class.1 e at_e)) c.super_of-next-in-loop.ensures
     (subst (λ n. Climbs world look c.args.from n (Some c.in-Some.superclass)) one_less (subst (Climbs world look c.args.from (c.count-end.result - c.loop.counter)) c.in-Some.is (c.loop.invariant e at_e)))

@@ -1,5 +1,5 @@
 use Rattle.std.proofs.Common.{◌<◌, ◌∙◌, length, subst, sym}
-use Rattle.jv_loader_tables.specs.Ways.{IsBelow}
+use Rattle.jv_loader_tables.specs.Ways.{IsBelowSize}
 use Rattle.jv_loader_classes.proofs.Followed.{some_class}
 use Rattle.jv_link_selection.specs.Inside.Climbing.{upward_of, numbered}
 use Rattle.jv_link_selection.proofs.Upward.{Climbs, next_below, next_straight, fewer, climbs_on, climbs_sure, climbs_open, climbs_far}

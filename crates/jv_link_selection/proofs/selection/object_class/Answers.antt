@@ -8,14 +8,14 @@ use Rattle.jv_loader.specs.Straight.{IsStraight}
 use Rattle.jv_meaning_linking.specs.LinkErrors.LinkError.{AbstractMethodError}
 use Rattle.jv_meaning_linking.specs.Selection.{object_class}
 use Rattle.jv_link_resolution.specs.Seen.{answer}
-use Rattle.jv_link_selection.specs.Objects.{object_at}
+use Rattle.jv_link_selection.specs.Objects.{object_class_at}
 use Rattle.jv_link_selection.proofs.selection.object_class.Goals as goal
 
 pub returns-in-Some-find-clause-found : goal.returns-in-Some-find-clause-found
 returns-in-Some-find-clause-found c =
     let world = c.args.table.now in
     let there = stands_at world (codes "java/lang/Object") c.in-Some-find.class (sym c.find.ensures ∙ c.in-Some-find.is) in
-    ap (option_map answer) there.1 ∙ (ap (λ o. Some (ok_or o AbstractMethodError)) (sym there.2) ∙ ap (λ o. Some (object_class world (object_at world o))) (sym c.in-None.is))
+    ap (option_map answer) there.1 ∙ (ap (λ o. Some (ok_or o AbstractMethodError)) (sym there.2) ∙ ap (λ o. Some (object_class world (object_class_at world o))) (sym c.in-None.is))
 
 pub returns-in-Some-find-clause-straight : goal.returns-in-Some-find-clause-straight
 returns-in-Some-find-clause-straight c = λ l at.
@@ -28,4 +28,4 @@ pub returns-in-None-find-clause-found : goal.returns-in-None-find-clause-found
 returns-in-None-find-clause-found c =
     let world = c.args.table.now in
     ap (λ o. Some (ok_or o AbstractMethodError)) (sym (not_named world (codes "java/lang/Object") (sym c.find.ensures ∙ c.in-None-find.is)))
-    ∙ ap (λ o. Some (object_class world (object_at world o))) (sym c.in-None.is)
+    ∙ ap (λ o. Some (object_class world (object_class_at world o))) (sym c.in-None.is)

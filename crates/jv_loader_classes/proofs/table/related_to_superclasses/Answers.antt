@@ -1,6 +1,6 @@
 use Rattle.std.proofs.Common.{◌∙◌, ◌≤◌, IsTrue, ◌||◌, ◌&&◌, nat_eq, take, map, length, None, sym, ap, subst}
 use Rattle.std.proofs.lemmas.List.{get_or-map, length-map}
-use Rattle.jv_loader_tables.specs.Ways.{IsBelow, is_there}
+use Rattle.jv_loader_tables.specs.Ways.{IsBelowSize, is_there}
 use Rattle.jv_loader_classes.specs.Numbers.{superclass_number}
 use Rattle.jv_loader_classes.proofs.Rows.{told_at, told_more, told_all}
 use Rattle.jv_loader_classes.proofs.Told.{row_of_class, superclass_below, to_superclass}
@@ -10,8 +10,8 @@ pub relate_if-requires-clause-to : goal.relate_if-requires-clause-to
 relate_if-requires-clause-to c =
     let world = c.args.classes.now in
     let row = c.deref.ensures.value ∙ row_of_class world c.args.rows.now c.loop-from.from c.index-rows-from.result c.index-classes-from.result c.requires.rows c.loop-from-test.true c.index-rows-from.is c.index-classes-from.is in
-    subst (λ n. IsBelow n c.superclass_of.result) (sym c.loop-from.invariant.0)
-    (subst (IsBelow (length world)) (sym (c.superclass_of.ensures world row)) (superclass_below world c.index-classes-from.result.class.super_class))
+    subst (λ n. IsBelowSize n c.superclass_of.result) (sym c.loop-from.invariant.0)
+    (subst (IsBelowSize (length world)) (sym (c.superclass_of.ensures world row)) (superclass_below world c.index-classes-from.result.class.super_class))
 
 pub loop-from-preserved : goal.loop-from-preserved
 loop-from-preserved c =

@@ -1,7 +1,7 @@
 use Rattle.std.proofs.Common.{◌≡◌, [], ◌∷◌, length, drop}
 use Rattle.std.specs.Prelude.{slice_get}
 use Rattle.jv_loader_world.specs.Verdicts.{passes}
-use Rattle.jv_loader_finals.specs.Classes.{classes_at}
+use Rattle.jv_loader_world.specs.Numbers.{classes_at}
 use Rattle.jv_loader_finals.specs.Inside.Overridden.{overrides_final_above}
 use Rattle.jv_loader_finals.specs.Inside.Steps.{as_method}
 use Rattle.jv_loader_finals.proofs.Marking.{IsWalked}

@@ -1,5 +1,5 @@
 use Rattle.std.proofs.Common.{take}
-use Rattle.jv_loader_finals.specs.Classes.{classes_at}
+use Rattle.jv_loader_world.specs.Numbers.{classes_at}
 use Rattle.jv_loader_finals.specs.Inside.Fronts.{AreNamed}
 use Rattle.jv_loader_finals.proofs.finals.are_named.Given as goal
 

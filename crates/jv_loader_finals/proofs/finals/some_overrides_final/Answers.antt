@@ -1,5 +1,5 @@
 use Rattle.std.proofs.Common.{◌∙◌, arith}
-use Rattle.jv_loader_finals.specs.Classes.{classes_at}
+use Rattle.jv_loader_world.specs.Numbers.{classes_at}
 use Rattle.jv_loader_finals.proofs.Looking.{some_breaks, none_breaks, none_breaks_of_all}
 use Rattle.jv_loader_finals.proofs.finals.some_overrides_final.Goals as goal
 

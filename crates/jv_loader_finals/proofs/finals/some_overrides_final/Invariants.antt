@@ -1,6 +1,6 @@
 use Rattle.std.proofs.Common.{◌≡◌, false, length, take}
 use Rattle.std.specs.List.{list_any}
-use Rattle.jv_loader_finals.specs.Classes.{classes_at}
+use Rattle.jv_loader_world.specs.Numbers.{classes_at}
 use Rattle.jv_loader_finals.specs.Inside.Overridden.{breaks_final_by}
 use Rattle.jv_loader_finals.proofs.finals.some_overrides_final.Given as goal
 

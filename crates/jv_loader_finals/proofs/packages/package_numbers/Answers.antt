@@ -1,6 +1,5 @@
-use Rattle.std.proofs.Common.{◌≤◌, length, ap, ◌∙◌, subst, arith}
+use Rattle.std.proofs.Common.{◌≤◌, length, subst, arith}
 use Rattle.std.proofs.lemmas.List.{take_all}
-use Rattle.jv_loader_world.specs.World.{package_of}
 use Rattle.jv_loader_finals.specs.Inside.Numbers.{AreTheirs}
 use Rattle.jv_loader_finals.proofs.Numbering.{numbered_step, all_numbered}
 use Rattle.jv_loader_finals.proofs.packages.package_numbers.Goals as goal
@@ -9,7 +8,7 @@ pub loop-class-preserved : goal.loop-class-preserved
 loop-class-preserved c =
     let step = numbered_step c.loop-class.names c.place_of.new.names c.package.result.now c.args.classes.now c.loop-class.class-index c.class-item.result c.loop-class.numbers.items c.push.new.self.items c.in_ok-place.place c.number.result c.by_system.result
     c.loop-class.invariant.theirs c.loop-class.invariant.few (omega arith) c.class-item.is
-    (c.package.ensures ∙ ap package_of c.name.ensures) c.by_system.ensures c.in_ok-place.ensures.names c.in_ok-place.ensures.place c.number.ensures c.in_ok-push.ensures.items
+    c.package.ensures c.by_system.ensures c.in_ok-place.ensures.names c.in_ok-place.ensures.place c.number.ensures c.in_ok-push.ensures.items
     in
     record { theirs = step.0; few = step.1 }
 

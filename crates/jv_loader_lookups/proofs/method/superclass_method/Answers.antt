@@ -1,5 +1,5 @@
 use Rattle.std.proofs.Common.{◌≡◌, ◌∙◌, ◌+◌, ◌-◌, suc, length, Some, sym, subst, arith}
-use Rattle.jv_loader_tables.specs.Ways.{IsBelow}
+use Rattle.jv_loader_tables.specs.Ways.{IsBelowSize}
 use Rattle.jv_loader_world.specs.LookUps.{method_in}
 use Rattle.jv_loader_classes.proofs.Followed.{some_class}
 use Rattle.jv_loader_lookups.proofs.Chain.{Climbs, climb_start, climb_on, climb_found, climb_end}
@@ -25,7 +25,7 @@ returns-in-Some-declared_method-clause-found c = λ l at.
     let look = method_in c.args.name.now c.args.descriptor.now in
     let left = c.count-end.result - (c.loop.counter + 1) in
     let one_less : c.count-end.result - c.loop.counter ≡ suc (c.count-end.result - (c.loop.counter + 1)) = omega (arith, c.loop-test.true) in
-    let class = some_class world c.in-Some.superclass (subst (IsBelow (length world)) c.in-Some.is c.loop.invariant.below) in
+    let class = some_class world c.in-Some.superclass (subst (IsBelowSize (length world)) c.in-Some.is c.loop.invariant.below) in
     let there = method_stands world c.in-Some-declared_method.place c.in-Some-declared_method.ensures.place in
     there.1 ∙ climb_found world look c.args.from left c.in-Some.superclass class.0 there.0 class.1 (sym (c.in-Some-declared_method.ensures.found class.0 class.1) ∙ there.1)
     (subst (λ n. Climbs world look c.args.from n (Some c.in-Some.superclass)) one_less (subst (Climbs world look c.args.from (c.count-end.result - c.loop.counter)) c.in-Some.is c.loop.invariant)) l at
@@ -36,6 +36,6 @@ loop-preserved c =
     let look = method_in c.args.name.now c.args.descriptor.now in
     let left = c.count-end.result - (c.loop.counter + 1) in
     let one_less : c.count-end.result - c.loop.counter ≡ suc (c.count-end.result - (c.loop.counter + 1)) = omega (arith, c.loop-test.true) in
-    let class = some_class world c.in-Some.superclass (subst (IsBelow (length world)) c.in-Some.is c.loop.invariant.below) in
+    let class = some_class world c.in-Some.superclass (subst (IsBelowSize (length world)) c.in-Some.is c.loop.invariant.below) in
     climb_on world look c.args.from left c.in-Some.superclass class.0 c.super_of-next-in-loop.result class.1 (sym (c.in_default-declared_method.ensures.found class.0 class.1)) c.super_of-next-in-loop.ensures
     (subst (λ n. Climbs world look c.args.from n (Some c.in-Some.superclass)) one_less (subst (Climbs world look c.args.from (c.count-end.result - c.loop.counter)) c.in-Some.is c.loop.invariant))

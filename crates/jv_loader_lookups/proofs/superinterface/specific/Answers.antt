@@ -1,5 +1,5 @@
 use Rattle.std.proofs.Common.{◌∙◌, sym}
-use Rattle.jv_loader_lookups.specs.Searched.{classes_at}
+use Rattle.jv_loader_world.specs.Numbers.{classes_at}
 use Rattle.jv_loader_lookups.specs.Inside.Members.{candidates_at, is_specific}
 use Rattle.jv_loader_lookups.proofs.Candidates.{candidate_by, below_same, abstract_one, above_other, most_specific}
 use Rattle.jv_loader_lookups.proofs.Standing.{method_stands}

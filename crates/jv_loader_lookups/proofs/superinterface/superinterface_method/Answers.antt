@@ -1,6 +1,6 @@
 use Rattle.std.proofs.Common.{◌∙◌, refl, None}
 use Rattle.jv_loader_world.specs.LookUps.{first_found}
-use Rattle.jv_loader_lookups.specs.Searched.{classes_at}
+use Rattle.jv_loader_world.specs.Numbers.{classes_at}
 use Rattle.jv_loader_lookups.specs.Places.{method_at}
 use Rattle.jv_loader_lookups.specs.Inside.Members.{candidate_in}
 use Rattle.jv_loader_lookups.proofs.Candidates.{method_found, some_first}

@@ -1,13 +1,13 @@
 use Rattle.std.proofs.Common.{sym, ap, subst, ◌∙◌}
 use Rattle.jv_meaning_typing.specs.Typing.{frame_at}
-use Rattle.jv_method_tables.specs.of_method_frames.Mapped.{entry_words}
+use Rattle.jv_method_tables.specs.of_method_frames.Mapped.{local_entry_words}
 use Rattle.jv_method_code.specs.Pass.{Pass, maps_of}
 use Rattle.jv_method_code.specs.Inside.Kept.{IsPass}
 use Rattle.jv_method_code.proofs.Flowing.{handles_there}
 use Rattle.jv_method_code.proofs.handlers.handles.Goals as goal
 
 pub thrown_flows-requires : goal.thrown_flows-requires
-thrown_flows-requires c = c.in-Some-map_at.ensures.room.words ∙ ap (λ (p : Pass). entry_words p.types c.in-Some-map_at.map) (sym c.pass.view_is)
+thrown_flows-requires c = c.in-Some-map_at.ensures.room.words ∙ ap (λ (p : Pass). local_entry_words p.types c.in-Some-map_at.map) (sym c.pass.view_is)
 
 pub returns-in-Some-map_at : goal.returns-in-Some-map_at
 returns-in-Some-map_at c = λ env insn is constructed.

@@ -1,7 +1,7 @@
 use Rattle.std.proofs.Common.{Bool, true, false, sym, ap, subst, ◌∙◌}
 use Rattle.jv_meaning_typing.specs.Typing.{frame_at}
 use Rattle.jv_rules_frames.specs.Numbered.{frame_of}
-use Rattle.jv_method_tables.specs.of_method_frames.Mapped.{entry_words}
+use Rattle.jv_method_tables.specs.of_method_frames.Mapped.{local_entry_words}
 use Rattle.jv_method_code.specs.Pass.{Pass, names_in, maps_of}
 use Rattle.jv_method_code.specs.Inside.Kept.{IsPass}
 use Rattle.jv_method_code.specs.Inside.Walk.{merged, when_falls}
@@ -10,7 +10,7 @@ use Rattle.jv_method_code.proofs.step.merge.Goals.{else-falls-via-then-falls+els
 use Rattle.jv_method_code.proofs.step.merge.Goals as goal
 
 pub frame_flows-requires : goal.frame_flows-requires
-frame_flows-requires c = c.in-Some.ensures.room.words ∙ ap (λ (p : Pass). entry_words p.types c.in-Some.map) (sym c.pass.view_is)
+frame_flows-requires c = c.in-Some.ensures.room.words ∙ ap (λ (p : Pass). local_entry_words p.types c.in-Some.map) (sym c.pass.view_is)
 
 pub returns-then-not-frame_flows-clause-merged : goal.returns-then-not-frame_flows-clause-merged
 returns-then-not-frame_flows-clause-merged c = λ env is.
@@ -24,7 +24,7 @@ returns-then-not-frame_flows-clause-merged c = λ env is.
     (flow_is pass entries count kept env is c.pass.inside.types.now c.args.frame.now c.in-Some.map false (ap (λ (p : Pass). p.types) c.pass.view_is) c.requires c.if-not-frame_flows.ensures)
 
 pub set_to_map-requires-clause-words : goal.set_to_map-requires-clause-words
-set_to_map-requires-clause-words c = c.in-Some.ensures.room.words ∙ ap (λ (p : Pass). entry_words p.types c.in-Some.map) (sym c.pass.view_is)
+set_to_map-requires-clause-words c = c.in-Some.ensures.room.words ∙ ap (λ (p : Pass). local_entry_words p.types c.in-Some.map) (sym c.pass.view_is)
 
 pub returns-clause-merged : goal.returns-clause-merged
 returns-clause-merged c = λ env is.

@@ -1,12 +1,12 @@
 use Rattle.std.proofs.Common.{sym, ap, subst, ◌∙◌}
-use Rattle.jv_method_tables.specs.of_method_frames.Mapped.{entry_words}
+use Rattle.jv_method_tables.specs.of_method_frames.Mapped.{local_entry_words}
 use Rattle.jv_method_code.specs.Pass.{Pass}
 use Rattle.jv_method_code.specs.Inside.Kept.{IsPass}
 use Rattle.jv_method_code.proofs.Flowing.{flows_there}
 use Rattle.jv_method_code.proofs.targets.flows_into.Goals as goal
 
 pub frame_flows-requires : goal.frame_flows-requires
-frame_flows-requires c = c.in-Some.ensures.room.words ∙ ap (λ (p : Pass). entry_words p.types c.in-Some.map) (sym c.pass.view_is)
+frame_flows-requires c = c.in-Some.ensures.room.words ∙ ap (λ (p : Pass). local_entry_words p.types c.in-Some.map) (sym c.pass.view_is)
 
 pub returns-in-Some : goal.returns-in-Some
 returns-in-Some c = λ env is.

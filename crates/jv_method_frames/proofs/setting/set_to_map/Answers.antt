@@ -5,7 +5,7 @@ use Rattle.jv_frames.specs.Frames.{expanded}
 use Rattle.jv_rules_types.specs.Typed.{typed, typed_all}
 use Rattle.jv_rules_frames.specs.Numbered.{Item, NumberFrame}
 use Rattle.jv_rules_frames.proofs.Replacing.{map_reversed}
-use Rattle.jv_method_frames.specs.Mapped.{names_of, types_of}
+use Rattle.jv_method_frames.specs.Mapped.{names_of_types, types_of_entries}
 use Rattle.jv_method_frames.proofs.Settings.{frame_made}
 use Rattle.jv_method_frames.proofs.setting.set_to_map.Goals as goal
 
@@ -17,7 +17,7 @@ returns-in_err-push_items-clause-same c =
 pub returns-clause-ok : goal.returns-clause-ok
 returns-clause-ok c =
     let types = c.args.types.now in
-    let names = names_of types in
+    let names = names_of_types types in
     let n = length c.args.frame.now.locals in
     let blank : length c.clear.new.self.locals ≡ n = ap (λ (f : NumberFrame). length f.locals) c.clear.ensures ∙ length-replicate {A = Item} n variants.Top in
     let set : c.set_flag.new.self.locals ≡ c.set_locals.new.frame.locals =
@@ -25,7 +25,7 @@ returns-clause-ok c =
     let turned : c.set_flag.new.self.stack ≡ reverse c.push_items.new.frame.stack =
     ap (λ (f : NumberFrame). f.stack) c.set_flag.ensures ∙ ap (λ (f : NumberFrame). f.stack) c.turn_stack.ensures in
     frame_made names c.set_flag.new.self _ _ _
-    (ap (typed_all names) set ∙ (c.set_locals.ensures.locals ∙ ap (λ k. expanded k (reverse (types_of types c.args.map.now.locals))) blank))
+    (ap (typed_all names) set ∙ (c.set_locals.ensures.locals ∙ ap (λ k. expanded k (reverse (types_of_entries types c.args.map.now.locals))) blank))
     (ap (typed_all names) turned ∙ (map_reversed (typed names) c.push_items.new.frame.stack ∙ c.in_ok-push_items.ensures.stack))
     (ap (λ (f : NumberFrame). f.flag_this_uninit) c.set_flag.ensures ∙ c.has_this.ensures)
 

@@ -7,7 +7,7 @@ use Rattle.jv_code.specs.Insns.{instruction_of}
 use Rattle.jv_code.specs.declared.kinds.ValueKind.{ValueKind}
 use Rattle.jv_meaning_typing.specs.FrameChanges.{exchanged}
 use Rattle.jv_meaning_typing.specs.MemberRules.{field_rule, invoke_rule, invoke_interface_rule}
-use Rattle.jv_meaning_typing.specs.Named.{array_with, class_components, object_type}
+use Rattle.jv_meaning_typing.specs.Named.{array_with, class_components, object_class_type}
 use Rattle.jv_meaning_typing.specs.NumberRules.{computation, number_type, new_array_type, test}
 use Rattle.jv_meaning_typing.specs.Rule.{by_exchange, effect, test_references}
 use Rattle.jv_meaning_typing.specs.ValueRules.{store, array_load, array_store, reference_array_load, return_value}
@@ -75,7 +75,7 @@ pub returns-in-ReferenceArrayStore : goal.returns-in-ReferenceArrayStore
 returns-in-ReferenceArrayStore c = λ env of.
     let names = c.args.constants.now.types.names in
     at_insn names env c.args.offset (frame_of names c.args.frame.now) c.reference_array_store.new.frame c.reference_array_store.result c.in-ReferenceArrayStore.is
-    (in_class c.args.context.now c.args.constants.now env of c.names-types.result.now c.names-types.ensures c.reference_array_store.new.frame c.reference_array_store.result (λ w ns. exchanged w (array_with (class_components (codes "java/lang/Object")) ∷ types.Int ∷ object_type ∷ []) [] (frame_of ns c.args.frame.now)) c.reference_array_store.ensures)
+    (in_class c.args.context.now c.args.constants.now env of c.names-types.result.now c.names-types.ensures c.reference_array_store.new.frame c.reference_array_store.result (λ w ns. exchanged w (array_with (class_components (codes "java/lang/Object")) ∷ types.Int ∷ object_class_type ∷ []) [] (frame_of ns c.args.frame.now)) c.reference_array_store.ensures)
 
 pub returns-in-Stack : goal.returns-in-Stack
 returns-in-Stack c = λ env of.

@@ -4,7 +4,7 @@ use Rattle.jv_pool.specs.Seen.{seen_member}
 use Rattle.jv_loader_world.specs.World.{World}
 use Rattle.jv_loader_classes.specs.Numbers.{number_named}
 use Rattle.jv_loader_classes.specs.Inside.Told.{IsAt}
-use Rattle.jv_rules_class.specs.Inside.Guarded.{is_below, field_is_far}
+use Rattle.jv_rules_class.specs.Inside.Guarded.{is_proper_subclass, field_is_far}
 use Rattle.jv_rules_class.proofs.Guarding.{one_member, field_guarded}
 use Rattle.jv_rules_class.proofs.guards.is_guarded_field.Goals as goal
 
@@ -17,5 +17,5 @@ returns-in-Some-fieldref_index c = λ l at reference class_is is.
     let same : seen_member c.field_reference.result ≡ reference =
     one_member (sym c.field_reference.ensures ∙ (ap (λ p. field_reference_at p c.in-Some-fieldref_index.index.0) c.pool-in-Some-fieldref_index.ensures ∙ (ap (field_reference_at c.args.constants.now.pool) c.in-Some-fieldref_index.ensures.same ∙ is))) in
     field_guarded world current l reference k answer at (subst (λ (w : World). number_named w reference.class ≡ Some k) c.requires.world (c.in-Some.ensures.found reference.class class_is))
-    (subst (λ (w : World). IsAt w current (λ m. IsAt w k (λ n. is_below w m n ≡ true))) c.requires.world c.in-Some.ensures.below)
+    (subst (λ (w : World). IsAt w current (λ m. IsAt w k (λ n. is_proper_subclass w m n ≡ true))) c.requires.world c.in-Some.ensures.below)
     (subst (λ (r : MemberReference). IsAt world current (λ m. IsAt world k (λ n. answer ≡ field_is_far world m n r))) same c.field_is_far.ensures)

@@ -6,7 +6,7 @@ use Rattle.jv_loader_world.specs.World.{World}
 use Rattle.jv_loader_classes.specs.Numbers.{number_named}
 use Rattle.jv_loader_classes.specs.Inside.Told.{IsAt}
 use Rattle.jv_link_resolution.specs.Inside.References.{method_operand_in}
-use Rattle.jv_rules_class.specs.Inside.Guarded.{is_below, method_is_far, member_named}
+use Rattle.jv_rules_class.specs.Inside.Guarded.{is_proper_subclass, method_is_far, member_named}
 use Rattle.jv_rules_class.proofs.Guarding.{one_member, method_guarded}
 use Rattle.jv_rules_class.proofs.guards.is_guarded_method.Goals as goal
 
@@ -19,5 +19,5 @@ returns-in-Some-method_in c = λ l at m class_is is.
     let same : seen_member c.in-Some-method_in.method ≡ m.member =
     one_member (c.in-Some-method_in.ensures ∙ (ap (λ p. option_map member_named (method_operand_in p c.args.index)) c.pool.ensures ∙ ap (option_map member_named) is)) in
     method_guarded world current l m.member k answer at (subst (λ (w : World). number_named w m.member.class ≡ Some k) c.requires.world (c.in-Some.ensures.found m.member.class class_is))
-    (subst (λ (w : World). IsAt w current (λ o. IsAt w k (λ n. is_below w o n ≡ true))) c.requires.world c.in-Some.ensures.below)
+    (subst (λ (w : World). IsAt w current (λ o. IsAt w k (λ n. is_proper_subclass w o n ≡ true))) c.requires.world c.in-Some.ensures.below)
     (subst (λ (r : MemberReference). IsAt world current (λ o. IsAt world k (λ n. answer ≡ method_is_far world o n r))) same c.method_is_far.ensures)

@@ -3,7 +3,7 @@ use Rattle.std.specs.Prelude.{slice_get}
 use Rattle.jv_loader_world.specs.World.{World}
 use Rattle.jv_loader_classes.specs.Inside.Told.{IsAt}
 use Rattle.jv_rules_types.specs.Typed.{TypeWorld}
-use Rattle.jv_rules_class.specs.Inside.Guarded.{is_below}
+use Rattle.jv_rules_class.specs.Inside.Guarded.{is_proper_subclass}
 use Rattle.jv_rules_class.proofs.Guarding.{no_class, stands_there}
 use Rattle.jv_rules_class.proofs.guards.superclass_at.Goals as goal
 
@@ -14,6 +14,6 @@ pub returns-else-is_below-clause-none : goal.returns-else-is_below-clause-none
 returns-else-is_below-clause-none c = λ cur at text l e named.
     let same : c.table.result.now ≡ c.args.constants.now.types.world = c.table.ensures ∙ ap (λ (t : TypeWorld). t.world) c.names.ensures in
     let there : slice_get c.args.constants.now.types.world c.in-Some.named ≡ Some l = stands_there c.args.constants.now.types.world text c.in-Some.named (sym c.in-Some.is ∙ c.class_at.ensures.number text e) l named in
-    let below : IsAt c.args.constants.now.types.world c.args.current (λ m. IsAt c.args.constants.now.types.world c.in-Some.named (λ n. c.is_below.result ≡ is_below c.args.constants.now.types.world m n)) =
-    subst (λ (w : World). IsAt w c.args.current (λ m. IsAt w c.in-Some.named (λ n. c.is_below.result ≡ is_below w m n))) same c.is_below.ensures in
+    let below : IsAt c.args.constants.now.types.world c.args.current (λ m. IsAt c.args.constants.now.types.world c.in-Some.named (λ n. c.is_below.result ≡ is_proper_subclass c.args.constants.now.types.world m n)) =
+    subst (λ (w : World). IsAt w c.args.current (λ m. IsAt w c.in-Some.named (λ n. c.is_below.result ≡ is_proper_subclass w m n))) same c.is_below.ensures in
     sym (below cur at l there) ∙ c.if-is_below.false

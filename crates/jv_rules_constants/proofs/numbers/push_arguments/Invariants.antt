@@ -1,5 +1,5 @@
 use Rattle.std.proofs.Common.{◌≡◌, map, take}
-use Rattle.jv_text.specs.Seen.{seen_field}
+use Rattle.jv_text.specs.Seen.{seen_field_type}
 use Rattle.jv_frames.specs.Types.{value_type}
 use Rattle.jv_rules_values.specs.of_rules_types.Typed.{GoesOn}
 use Rattle.jv_rules_constants.specs.Inside.Kept.{Joins}
@@ -7,7 +7,7 @@ use Rattle.jv_rules_constants.proofs.numbers.push_arguments.Given as goal
 
 abbrev pub invariant-loop-parameter : goal.invariant-loop-parameter
 invariant-loop-parameter l = record {
-  joins : Joins l.names.names l.initial.arguments.items l.arguments.items (map value_type (map seen_field (take l.parameter-index l.parameters)));
+  joins : Joins l.names.names l.initial.arguments.items l.arguments.items (map value_type (map seen_field_type (take l.parameter-index l.parameters)));
   goes_on : GoesOn l.initial.names.names l.names.names;
   world : l.names.world ≡ l.initial.names.world;
 }

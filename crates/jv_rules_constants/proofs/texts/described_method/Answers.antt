@@ -1,5 +1,5 @@
 use Rattle.std.proofs.Common.{None, Err, sym, ap, subst}
-use Rattle.jv_text.specs.Seen.{seen_method}
+use Rattle.jv_text.specs.Seen.{seen_method_type}
 use Rattle.jv_rules_constants.specs.PoolTypes.{typed_result}
 use Rattle.jv_rules_constants.specs.Inside.Lasting.{Lasts}
 use Rattle.jv_rules_constants.proofs.Descriptors.{no_such_method}
@@ -10,8 +10,8 @@ pub returns-in_ok-entry-in-Ok-clause-described : goal.returns-in_ok-entry-in-Ok-
 returns-in_ok-entry-in-Ok-clause-described c = record {
   field = subst (Lasts typed_result _ None) (sym c.requires) (nothing_named _);
   method = record {
-    method = seen_method c.in-Ok.method;
-    is = (c.types_agree.ensures.method c.args.text.now (seen_method c.in-Ok.method)).0 c.in-Ok.ensures.ok;
+    method = seen_method_type c.in-Ok.method;
+    is = (c.types_agree.ensures.method c.args.text.now (seen_method_type c.in-Ok.method)).0 c.in-Ok.ensures.ok;
     entered = c.in_ok-entry-in-Ok.ensures.entry;
   };
 }

@@ -6,7 +6,7 @@ use Rattle.jv_meaning_typing.specs.Environment.{Environment}
 use Rattle.jv_meaning_typing.specs.Named.{method_named_by}
 use Rattle.jv_rules_types.specs.Typed.{typed}
 use Rattle.jv_rules_constants.specs.PoolTypes.{typed_call}
-use Rattle.jv_rules_operands.specs.Operands.{HasPool, NamesMethod}
+use Rattle.jv_rules_operands.specs.Operands.{HasPool, FindsCalledTypes}
 use Rattle.jv_rules_operands.specs.declared.methods.CalledTypes.{CalledTypes}
 use Rattle.jv_rules_operands.specs.declared.indices.MethodIndices.{MethodIndices}
 use Rattle.jv_rules_operands.specs.Inside.Parts.{method_indices}
@@ -29,8 +29,8 @@ returns-in_err-types c = λ env has.
     let none : made i.of_class (class_name_at pool i.member.class) (utf8_at pool i.member.name) (utf8_at pool i.member.descriptor) ≡ None =
     no_call i.of_class (class_name_at pool i.member.class) (utf8_at pool i.member.name) (utf8_at pool i.member.descriptor)
     (sym (ap (option_map (typed_call c.args.constants.now.types.names)) c.in_err-types.was) ∙ c.method_type.ensures) in
-    subst (NamesMethod c.args.constants.now.types.names (method_named_by env c.args.index)) (sym c.from_residual-in_err-types.ensures)
-    (subst (λ o. NamesMethod c.args.constants.now.types.names o None)
+    subst (FindsCalledTypes c.args.constants.now.types.names (method_named_by env c.args.index)) (sym c.from_residual-in_err-types.ensures)
+    (subst (λ o. FindsCalledTypes c.args.constants.now.types.names o None)
     (sym (named_at env pool c.pool.result.now c.args.index i has c.pool.ensures (sym c.method_indices.ensures ∙ c.in_ok-indices.was) ∙ none)) tt)
 
 pub returns-then-can_be_of : goal.returns-then-can_be_of
@@ -46,7 +46,7 @@ returns-then-can_be_of c = λ env has.
       arguments = c.in_ok-types.types.arguments;
       result = c.result_given.result;
     } in
-    subst (λ o. NamesMethod names o (Some to))
+    subst (λ o. FindsCalledTypes names o (Some to))
     (sym (named_at env pool c.pool.result.now c.args.index i has c.pool.ensures (sym c.method_indices.ensures ∙ c.in_ok-indices.was)))
     (names_method names i.of_class (class_name_at pool i.member.class) (utf8_at pool i.member.name) (utf8_at pool i.member.descriptor) c.in_ok-name.name.now c.in_ok-owner.owner c.in_ok-types.types to
     (ap (λ p. utf8_at p i.member.name) (sym c.pool-2.ensures) ∙ (sym c.text_at.ensures ∙ ap option_copied c.in_ok-name.was))

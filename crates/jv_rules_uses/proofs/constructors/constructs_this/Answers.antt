@@ -1,5 +1,5 @@
 use Rattle.std.proofs.Common.{◌≡◌, ◌∙◌, ◌||◌, List, ℕ, sym, ap}
-use Rattle.jv_meaning_typing.specs.MemberRules.{is_named}
+use Rattle.jv_meaning_typing.specs.MemberRules.{is_that_name}
 use Rattle.jv_rules_types.specs.Typed.{name_at}
 use Rattle.jv_rules_class.specs.Current.{CurrentClass}
 use Rattle.jv_rules_uses.proofs.Using.{of_class}
@@ -15,4 +15,4 @@ returns-else-is_current c = λ env of named is.
     class_named c.args.context.now.class.types.names named.reference.class c.args.called.owner owner is.class (c.in-Some.ensures {u = tt})
     ∙ ap (λ (k : CurrentClass). name_at k.types.names owner) (sym c.class-class.ensures) in
     this_or_super class env named name (of_class c.args.context.now env class of c.class-class.ensures) same
-    ∙ (ap (λ b. b || is_named name class.by.class.super_class) (c.is_current.ensures ∙ c.if-is_current.false) ∙ c.is_superclass.ensures)
+    ∙ (ap (λ b. b || is_that_name name class.by.class.super_class) (c.is_current.ensures ∙ c.if-is_current.false) ∙ c.is_superclass.ensures)

@@ -1,6 +1,6 @@
 use Rattle.std.proofs.Common.{arith, refl, ◌++◌, ◌∷◌, []}
 use Rattle.std.proofs.lemmas.Grind.{common_steps}
-use Rattle.jv_text.specs.Seen.{seen_field, seen_result}
+use Rattle.jv_text.specs.Seen.{seen_field_type, seen_result}
 use Rattle.jv_text.proofs.Methods.{Front-push, Front-method, Front-no_parameter, Front-no_result, floats_more, floats_all}
 use Rattle.jv_text.proofs.method.method_shape.Goals as goal
 
@@ -10,9 +10,9 @@ returns-in_default-parameter_at-clause-bad c =
 
 pub loop-rest-preserved : goal.loop-rest-preserved
 loop-rest-preserved c = (
-  c.loop-rest.invariant.0 ++ seen_field c.in-Some.parameter ∷ [],
+  c.loop-rest.invariant.0 ++ seen_field_type c.in-Some.parameter ∷ [],
   Front-push _ _ _ _ _ _ _ c.in-Some.ensures.fits c.in-Some.ensures.total c.in-Some.ensures.few c.in-Some.ensures.found c.loop-rest.invariant.1,
-  floats_more c.loop-rest.invariant.0 (seen_field c.in-Some.parameter) c.loop-rest.floating _ c.or_floating-floating.ensures c.loop-rest.invariant.2,
+  floats_more c.loop-rest.invariant.0 (seen_field_type c.in-Some.parameter) c.loop-rest.floating _ c.or_floating-floating.ensures c.loop-rest.invariant.2,
 )
 
 pub returns-in-Some-result_type-clause-ok : goal.returns-in-Some-result_type-clause-ok

@@ -3,7 +3,7 @@ use Rattle.std.specs.Option.{option_and_then}
 use Rattle.jv_loader_world.specs.LookUps.{lookup_field}
 use Rattle.jv_loader_classes.specs.Inside.Told.{IsAt}
 use Rattle.jv_loader_lookups.specs.Places.{field_at}
-use Rattle.jv_loader_lookups.specs.Searched.{AreNumbers}
+use Rattle.jv_loader_world.specs.Numbers.{AreNumbers}
 use Rattle.jv_loader.specs.Inside.Searches.{IsSearch}
 use Rattle.jv_loader.proofs.classes.Classes.lookup_field.Goals as goal
 

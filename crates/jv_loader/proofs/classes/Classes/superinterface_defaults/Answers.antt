@@ -1,7 +1,7 @@
 use Rattle.std.proofs.Common.{sym, subst}
 use Rattle.jv_loader_classes.specs.Inside.Told.{IsAt}
 use Rattle.jv_loader_lookups.specs.Defaults.{defaults, AreDefaults}
-use Rattle.jv_loader_lookups.specs.Searched.{AreNumbers}
+use Rattle.jv_loader_world.specs.Numbers.{AreNumbers}
 use Rattle.jv_loader.specs.Inside.Searches.{IsSearch}
 use Rattle.jv_loader.proofs.classes.Classes.superinterface_defaults.Goals as goal
 

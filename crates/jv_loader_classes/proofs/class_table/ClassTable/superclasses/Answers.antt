@@ -1,5 +1,5 @@
 use Rattle.std.proofs.Common.{◌≡◌, ◌+◌, ◌-◌, suc, length, Some, sym, subst, arith}
-use Rattle.jv_loader_tables.specs.Ways.{IsBelow}
+use Rattle.jv_loader_tables.specs.Ways.{IsBelowSize}
 use Rattle.jv_loader_classes.proofs.Followed.{HasFollowed, follow_start, follow_step, follow_end, some_class}
 use Rattle.jv_loader_classes.proofs.class_table.ClassTable.superclasses.Goals as goal
 
@@ -23,7 +23,7 @@ loop-preserved c =
     let world = c.args.self.now in
     let left = c.count-end.result - (c.loop.counter + 1) in
     let one_less : c.count-end.result - c.loop.counter ≡ suc (c.count-end.result - (c.loop.counter + 1)) = omega (arith, c.loop-test.true) in
-    let less = subst (IsBelow (length world)) c.in-Some.is c.loop.invariant.below in
+    let less = subst (IsBelowSize (length world)) c.in-Some.is c.loop.invariant.below in
     let class = some_class world c.in-Some.superclass less in
     subst (λ chain. HasFollowed world c.args.number chain left c.super_of-next-in-loop.result) (sym c.in_ok-push.ensures.items)
     (follow_step world c.args.number c.loop.chain.items left c.in-Some.superclass c.super_of-next-in-loop.result class.0 class.1 less c.super_of-next-in-loop.ensures

@@ -1,6 +1,6 @@
 use Rattle.std.proofs.Common.{sym, ap, subst, ◌∙◌}
 use Rattle.std.specs.Option.{option_map}
-use Rattle.jv_method_tables.specs.of_method_frames.Mapped.{map_frame}
+use Rattle.jv_method_tables.specs.of_method_frames.Mapped.{frame_by_types}
 use Rattle.jv_method_code.specs.Pass.{Pass, HasRoom}
 use Rattle.jv_method_code.proofs.Maps.{all_at, found_at, none_at, within}
 use Rattle.jv_method_code.proofs.pass.Pass.map_at.Goals as goal
@@ -8,7 +8,7 @@ use Rattle.jv_method_code.proofs.pass.Pass.map_at.Goals as goal
 pub returns-in_err-place-clause-frame : goal.returns-in_err-place-clause-frame
 returns-in_err-place-clause-frame c = λ env is.
     let pass = c.args.self.now in
-    ap (option_map (map_frame pass.types pass.max_locals)) c.from_residual.ensures
+    ap (option_map (frame_by_types pass.types pass.max_locals)) c.from_residual.ensures
     ∙ sym (none_at pass c.self.inside.frames.now c.args.offset (ap (λ (p : Pass). p.frames) (sym c.self.view_is)) c.in_err-place.ensures.none)
 
 pub frame_at-requires : goal.frame_at-requires

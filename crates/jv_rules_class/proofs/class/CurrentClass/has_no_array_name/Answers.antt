@@ -1,6 +1,6 @@
 use Rattle.std.proofs.Common.{◌≡◌, false, Some, subst}
 use Rattle.std.specs.Str.{bytes_eq}
-use Rattle.jv_meaning_typing.specs.MemberRules.{is_named}
+use Rattle.jv_meaning_typing.specs.MemberRules.{is_that_name}
 use Rattle.jv_rules_class.specs.Current.{CurrentClass}
 use Rattle.jv_rules_class.proofs.Keeping.{no_array_is}
 use Rattle.jv_rules_class.proofs.class.CurrentClass.has_no_array_name.Goals as goal
@@ -11,5 +11,5 @@ returns-clause-itself c = λ text array.
 
 pub returns-clause-superclass : goal.returns-clause-superclass
 returns-clause-superclass c = λ text array.
-    subst (λ (v : CurrentClass). is_named text v.by.class.super_class ≡ false) c.self.view_is
+    subst (λ (v : CurrentClass). is_that_name text v.by.class.super_class ≡ false) c.self.view_is
     (no_array_is text c.self.inside.class.now.class.super_class c.self.invariant.no_array_above array)
