@@ -32,7 +32,7 @@ fn number(place: usize, by_system: bool) -> usize
 }
 
 /// A number for the run-time package of each class (JVMS 5.3); names of packages are hashed with the
-/// state, each once or twice.
+/// state, each once, and a new one twice more.
 ///
 /// # Errors
 ///

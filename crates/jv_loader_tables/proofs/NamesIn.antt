@@ -7,7 +7,7 @@ use Rattle.std.specs.Str.{bytes_eq}
 use Rattle.std.proofs.lemmas.List.{map-append, length-map}
 use Rattle.std.proofs.lemmas.Slice.Eq.{bytes_eq-Decides}
 use Rattle.jv_loader_tables.specs.Names.{has_name, with_name}
-use Rattle.jv_loader_tables.specs.Inside.Kept.{text_of, texts_of, ArePlaces}
+use Rattle.jv_loader_tables.specs.Inside.Kept.{text_of, texts_of, AreNamePlaces}
 use Rattle.jv_loader_tables.proofs.FirstPlace.{some_place, joined}
 
 -- texts are equal either way
@@ -24,7 +24,7 @@ Name = Bor (List ℕ)
 abbrev is_text : Name → Name → Bool
 is_text name other = bytes_eq name.now other.now
 
-module _ {S : Type 0} (names : List Name) (places : HashMap Name ℕ S) (name : Name) (known : ArePlaces names places) where
+module _ {S : Type 0} (names : List Name) (places : HashMap Name ℕ S) (name : Name) (known : AreNamePlaces names places) where
   pub is_there : is_some (get_by (is_text name) places) ≡ has_name (texts_of names) name.now
   is_there = ap is_some (known name) ∙ some_place (bytes_eq name.now) (texts_of names)
 
@@ -37,7 +37,7 @@ module _ {S : Type 0} (names : List Name) (places : HashMap Name ℕ S) (name : 
 
     -- the name has the count of those before it for its number
     pub placed_last : (new : HashMap Name ℕ S) → ((other : Name) → get_by (is_text other) new ≡ cond (is_text name other) (Some (length names)) (get_by (is_text other) places))
-        → ArePlaces (names ++ name ∷ []) new
+        → AreNamePlaces (names ++ name ∷ []) new
     placed_last new told other =
         joined is_text (λ k text. bytes_eq k.now text) (texts_of names) name.now name places new known
         (λ k. told k ∙ ap (λ n. cond (is_text name k) (Some n) (get_by (is_text k) places)) (sym (length-map names text_of)))

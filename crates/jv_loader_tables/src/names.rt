@@ -10,7 +10,7 @@ use std::hash::RandomState;
 use std::marker::Model;
 
 /// Names, no two equal; each has the number of those that came before it. A look-up costs one hash
-/// of the name, however many there are.
+/// of the name, however many there are, and a name that joins costs two.
 pub struct Names<'a> {
     names: Vec<&'a [u8]>,
     places: HashMap<&'a [u8], usize, RandomState>,
@@ -18,13 +18,13 @@ pub struct Names<'a> {
 
 impl<'a> Model for Names<'a> {
     ghost use Rattle.std.specs.Prelude.{ℕ, List};
-    ghost use Rattle.jv_loader_tables.specs.Inside.Kept.{texts_of, ArePlaces};
+    ghost use Rattle.jv_loader_tables.specs.Inside.Kept.{texts_of, AreNamePlaces};
 
     ghost Value = { List (List ℕ) };
 
     ghost view = { λ n. texts_of n.names.items };
 
-    ghost invariant = { λ n. ArePlaces n.names.items n.places };
+    ghost invariant = { λ n. AreNamePlaces n.names.items n.places };
 }
 
 impl Drop for Names<'_> {

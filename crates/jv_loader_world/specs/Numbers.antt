@@ -1,4 +1,5 @@
--- Classes by their numbers, which are their places in a world.
+-- Classes by their numbers, which are their places in a world, as contracts of loaded classes speak of them. No rule of
+-- loading or linking does.
 use Rattle.std.specs.Prelude.{ℕ, ◌<◌, List, length, slice_get}
 use Rattle.std.specs.List.{All, filter_map}
 use Rattle.jv_loader_world.specs.World.{Loaded, World}

@@ -117,6 +117,7 @@ abbrev pub class_of_new : Environment → Option Instruction → Option (List �
 class_of_new env (Some (insns.New index)) = class_operand (current_class env) index
 class_of_new env _ = None
 
+-- a name that may be missing is this one
 abbrev pub is_that_name : List ℕ → Option (List ℕ) → Bool
 is_that_name name None = false
 is_that_name name (Some other) = bytes_eq name other

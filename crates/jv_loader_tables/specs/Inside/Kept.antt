@@ -11,5 +11,5 @@ abbrev pub texts_of : List (Bor (List ℕ)) → List (List ℕ)
 texts_of names = map text_of names
 
 -- each name is found under its number, and nothing else is found
-abbrev pub ArePlaces : {S : Type 0} → List (Bor (List ℕ)) → HashMap (Bor (List ℕ)) ℕ S → Type 0
-ArePlaces names places = (name : Bor (List ℕ)) → get_by (λ key. bytes_eq name.now key.now) places ≡ position (bytes_eq name.now) (texts_of names)
+abbrev pub AreNamePlaces : {S : Type 0} → List (Bor (List ℕ)) → HashMap (Bor (List ℕ)) ℕ S → Type 0
+AreNamePlaces names places = (name : Bor (List ℕ)) → get_by (λ key. bytes_eq name.now key.now) places ≡ position (bytes_eq name.now) (texts_of names)
