@@ -1,19 +1,21 @@
 //! Instructions by their names.
 
-use crate::shown::has_code;
+use crate::shown::{are_ok, has_code};
 use jv_asm_builder::{ArrayType, CodeBuilder, Label, Op};
 use std::alloc::Global;
 
 /// Whether some instructions without operands are put.
 fn puts_ops(code: &mut CodeBuilder<'_>) -> bool {
-    code.op(Op::ACONST_NULL).is_ok()
-        && code.op(Op::CALOAD).is_ok()
-        && code.op(Op::AASTORE).is_ok()
-        && code.op(Op::DUP2_X2).is_ok()
-        && code.op(Op::LUSHR).is_ok()
-        && code.op(Op::I2S).is_ok()
-        && code.op(Op::ARRAYLENGTH).is_ok()
-        && code.op(Op::ATHROW).is_ok()
+    are_ok(&[
+        code.op(Op::ACONST_NULL),
+        code.op(Op::CALOAD),
+        code.op(Op::AASTORE),
+        code.op(Op::DUP2_X2),
+        code.op(Op::LUSHR),
+        code.op(Op::I2S),
+        code.op(Op::ARRAYLENGTH),
+        code.op(Op::ATHROW),
+    ])
 }
 
 #[test]
@@ -46,14 +48,16 @@ fn shortest_ints(rt: HostRuntime) {
 }
 
 fn puts_locals(code: &mut CodeBuilder<'_>) -> bool {
-    code.iload(3).is_ok()
-        && code.lload(4).is_ok()
-        && code.aload(256).is_ok()
-        && code.istore(0).is_ok()
-        && code.lstore(255).is_ok()
-        && code.astore(1).is_ok()
-        && code.iinc(255, -128).is_ok()
-        && code.iinc(256, 1).is_ok()
+    are_ok(&[
+        code.iload(3),
+        code.lload(4),
+        code.aload(256),
+        code.istore(0),
+        code.lstore(255),
+        code.astore(1),
+        code.iinc(255, -128),
+        code.iinc(256, 1),
+    ])
 }
 
 #[test]
@@ -69,26 +73,30 @@ fn shortest_locals(rt: HostRuntime) {
 }
 
 fn puts_indices(code: &mut CodeBuilder<'_>) -> bool {
-    code.ldc(255).is_ok()
-        && code.ldc(256).is_ok()
-        && code.ldc2_w(1).is_ok()
-        && code.getstatic(2).is_ok()
-        && code.putstatic(3).is_ok()
-        && code.getfield(4).is_ok()
-        && code.putfield(5).is_ok()
-        && code.invokevirtual(6).is_ok()
-        && code.invokespecial(7).is_ok()
-        && code.invokestatic(8).is_ok()
+    are_ok(&[
+        code.ldc(255),
+        code.ldc(256),
+        code.ldc2_w(1),
+        code.getstatic(2),
+        code.putstatic(3),
+        code.getfield(4),
+        code.putfield(5),
+        code.invokevirtual(6),
+        code.invokespecial(7),
+        code.invokestatic(8),
+    ])
 }
 
 fn puts_objects(code: &mut CodeBuilder<'_>) -> bool {
-    code.invokeinterface(1, 2).is_ok()
-        && code.new_object(3).is_ok()
-        && code.newarray(ArrayType::CHAR).is_ok()
-        && code.anewarray(4).is_ok()
-        && code.multianewarray(5, 6).is_ok()
-        && code.checkcast(7).is_ok()
-        && code.instanceof(8).is_ok()
+    are_ok(&[
+        code.invokeinterface(1, 2),
+        code.new_object(3),
+        code.newarray(ArrayType::CHAR),
+        code.anewarray(4),
+        code.multianewarray(5, 6),
+        code.checkcast(7),
+        code.instanceof(8),
+    ])
 }
 
 #[test]
@@ -105,26 +113,30 @@ fn indices(rt: HostRuntime) {
 }
 
 fn puts_tests(code: &mut CodeBuilder<'_>, top: Label) -> bool {
-    code.ifeq(top).is_ok()
-        && code.ifne(top).is_ok()
-        && code.iflt(top).is_ok()
-        && code.ifge(top).is_ok()
-        && code.ifgt(top).is_ok()
-        && code.ifle(top).is_ok()
-        && code.ifnull(top).is_ok()
-        && code.ifnonnull(top).is_ok()
+    are_ok(&[
+        code.ifeq(top),
+        code.ifne(top),
+        code.iflt(top),
+        code.ifge(top),
+        code.ifgt(top),
+        code.ifle(top),
+        code.ifnull(top),
+        code.ifnonnull(top),
+    ])
 }
 
 fn puts_comparisons(code: &mut CodeBuilder<'_>, top: Label) -> bool {
-    code.if_icmpeq(top).is_ok()
-        && code.if_icmpne(top).is_ok()
-        && code.if_icmplt(top).is_ok()
-        && code.if_icmpge(top).is_ok()
-        && code.if_icmpgt(top).is_ok()
-        && code.if_icmple(top).is_ok()
-        && code.if_acmpeq(top).is_ok()
-        && code.if_acmpne(top).is_ok()
-        && code.goto(top).is_ok()
+    are_ok(&[
+        code.if_icmpeq(top),
+        code.if_icmpne(top),
+        code.if_icmplt(top),
+        code.if_icmpge(top),
+        code.if_icmpgt(top),
+        code.if_icmple(top),
+        code.if_acmpeq(top),
+        code.if_acmpne(top),
+        code.goto(top),
+    ])
 }
 
 /// Whether the branches on one word are these bytes.

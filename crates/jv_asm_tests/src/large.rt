@@ -54,8 +54,8 @@ const CODE: CodeDescription<'static> = CodeDescription {
 };
 
 /// The size of the file, and 0 where it is too large; no answer where memory was refused.
-fn size(alloc: Global, description: Description<'_>) -> Option<usize> {
-    match write_class(alloc, &description) {
+fn size(alloc: Global, description: &Description<'_>) -> Option<usize> {
+    match write_class(alloc, description) {
         Ok(file) => Some(file.len()),
         Err(AsmFault::TooLarge) => Some(0),
         Err(_) => None,
@@ -79,19 +79,7 @@ fn size_with_constants(alloc: Global, constant: Constant<&[u8]>, count: usize) -
         methods: &[],
         attributes: &[],
     };
-    size(alloc, description)
-}
-
-#[test]
-fn pools(rt: HostRuntime) {
-    let alloc = rt.alloc();
-    let integer = Constant::Integer(7);
-    assert!(rt; size_with_constants(alloc, integer, 65535) == Some(0));
-    assert!(rt; size_with_constants(alloc, integer, 65534) == Some(24 + 5 * 65534));
-    // A Long takes two indices.
-    let long = Constant::Long(7, 7);
-    assert!(rt; size_with_constants(alloc, long, 32768) == Some(0));
-    assert!(rt; size_with_constants(alloc, long, 32767) == Some(24 + 9 * 32767));
+    size(alloc, &description)
 }
 
 /// The size of a file with a text of so many bytes.
@@ -100,12 +88,6 @@ fn size_with_text(alloc: Global, length: usize) -> Option<usize> {
         Ok(text) => size_with_constants(alloc, Constant::Utf8(&text), 1),
         Err(_) => None,
     }
-}
-
-#[test]
-fn texts(rt: HostRuntime) {
-    assert!(rt; size_with_text(rt.alloc(), 65536) == Some(0));
-    assert!(rt; size_with_text(rt.alloc(), 65535) == Some(24 + 3 + 65535));
 }
 
 /// The size of a file with so many interfaces.
@@ -117,7 +99,7 @@ fn size_with_interfaces(alloc: Global, count: usize) -> Option<usize> {
         interfaces: &interfaces,
         ..EMPTY
     };
-    size(alloc, description)
+    size(alloc, &description)
 }
 
 /// The size of a file with so many fields.
@@ -129,7 +111,7 @@ fn size_with_fields(alloc: Global, count: usize) -> Option<usize> {
         fields: &fields,
         ..EMPTY
     };
-    size(alloc, description)
+    size(alloc, &description)
 }
 
 /// The size of a file with so many methods.
@@ -141,7 +123,7 @@ fn size_with_methods(alloc: Global, count: usize) -> Option<usize> {
         methods: &methods,
         ..EMPTY
     };
-    size(alloc, description)
+    size(alloc, &description)
 }
 
 /// The size of a file with so many attributes.
@@ -153,20 +135,7 @@ fn size_with_attributes(alloc: Global, count: usize) -> Option<usize> {
         attributes: &attributes,
         ..EMPTY
     };
-    size(alloc, description)
-}
-
-#[test]
-fn tables(rt: HostRuntime) {
-    let alloc = rt.alloc();
-    assert!(rt; size_with_interfaces(alloc, 65536) == Some(0));
-    assert!(rt; size_with_interfaces(alloc, 65535) == Some(24 + 2 * 65535));
-    assert!(rt; size_with_fields(alloc, 65536) == Some(0));
-    assert!(rt; size_with_fields(alloc, 65535) == Some(24 + 8 * 65535));
-    assert!(rt; size_with_methods(alloc, 65536) == Some(0));
-    assert!(rt; size_with_methods(alloc, 65535) == Some(24 + 8 * 65535));
-    assert!(rt; size_with_attributes(alloc, 65536) == Some(0));
-    assert!(rt; size_with_attributes(alloc, 65535) == Some(24 + 6 * 65535));
+    size(alloc, &description)
 }
 
 /// The size of a file with one method that has this code.
@@ -190,7 +159,7 @@ fn size_with_code(alloc: Global, code: CodeDescription<'_>) -> Option<usize> {
         methods: &methods,
         attributes: &[],
     };
-    size(alloc, description)
+    size(alloc, &description)
 }
 
 /// The size of a file with one method that has so many handlers.
@@ -215,15 +184,6 @@ fn size_with_attributes_of_code(alloc: Global, count: usize) -> Option<usize> {
         ..CODE
     };
     size_with_code(alloc, code)
-}
-
-#[test]
-fn tables_of_code(rt: HostRuntime) {
-    let alloc = rt.alloc();
-    assert!(rt; size_with_handlers(alloc, 65536) == Some(0));
-    assert!(rt; size_with_handlers(alloc, 65535) == Some(50 + 8 * 65535));
-    assert!(rt; size_with_attributes_of_code(alloc, 65536) == Some(0));
-    assert!(rt; size_with_attributes_of_code(alloc, 65535) == Some(50 + 6 * 65535));
 }
 
 /// The size of code, and 0 where it is too large; no answer where memory was refused.
@@ -259,12 +219,73 @@ fn size_of_pairs(alloc: Global, count: usize) -> Option<usize> {
     }
 }
 
+/// What there is much of.
+#[derive(Clone, Copy, Debug)]
+enum Part {
+    Integers,
+    Longs,
+    Text,
+    Interfaces,
+    Fields,
+    Methods,
+    Attributes,
+    Handlers,
+    AttributesOfCode,
+    Nops,
+    Distances,
+    Pairs,
+}
+
+/// The size of what is written, and 0 where it is too large; no answer where memory was refused.
+fn size_with(alloc: Global, part: Part, count: usize) -> Option<usize> {
+    match part {
+        Part::Integers => size_with_constants(alloc, Constant::Integer(7), count),
+        Part::Longs => size_with_constants(alloc, Constant::Long(7, 7), count),
+        Part::Text => size_with_text(alloc, count),
+        Part::Interfaces => size_with_interfaces(alloc, count),
+        Part::Fields => size_with_fields(alloc, count),
+        Part::Methods => size_with_methods(alloc, count),
+        Part::Attributes => size_with_attributes(alloc, count),
+        Part::Handlers => size_with_handlers(alloc, count),
+        Part::AttributesOfCode => size_with_attributes_of_code(alloc, count),
+        Part::Nops => size_of_nops(alloc, count),
+        Part::Distances => size_of_table(alloc, 65535, count),
+        Part::Pairs => size_of_pairs(alloc, count),
+    }
+}
+
+/// What there is much of, how much, and the size.
+static SIZES: [(Part, usize, usize); 23] = [
+    (Part::Integers, 65535, 0),
+    (Part::Integers, 65534, 24 + 5 * 65534),
+    // A Long takes two indices.
+    (Part::Longs, 32768, 0),
+    (Part::Longs, 32767, 24 + 9 * 32767),
+    (Part::Text, 65536, 0),
+    (Part::Text, 65535, 24 + 3 + 65535),
+    (Part::Interfaces, 65536, 0),
+    (Part::Interfaces, 65535, 24 + 2 * 65535),
+    (Part::Fields, 65536, 0),
+    (Part::Fields, 65535, 24 + 8 * 65535),
+    (Part::Methods, 65536, 0),
+    (Part::Methods, 65535, 24 + 8 * 65535),
+    (Part::Attributes, 65536, 0),
+    (Part::Attributes, 65535, 24 + 6 * 65535),
+    (Part::Handlers, 65536, 0),
+    (Part::Handlers, 65535, 50 + 8 * 65535),
+    (Part::AttributesOfCode, 65536, 0),
+    (Part::AttributesOfCode, 65535, 50 + 6 * 65535),
+    (Part::Nops, 65536, 0),
+    (Part::Nops, 65535, 65535),
+    (Part::Distances, 65536, 0),
+    (Part::Pairs, 8191, 0),
+    (Part::Pairs, 8190, 12 + 8 * 8190),
+];
+
 #[test]
-fn codes(rt: HostRuntime) {
-    let alloc = rt.alloc();
-    assert!(rt; size_of_nops(alloc, 65536) == Some(0));
-    assert!(rt; size_of_nops(alloc, 65535) == Some(65535));
-    assert!(rt; size_of_table(alloc, 65535, 65536) == Some(0));
-    assert!(rt; size_of_pairs(alloc, 8191) == Some(0));
-    assert!(rt; size_of_pairs(alloc, 8190) == Some(12 + 8 * 8190));
+fn sizes(rt: HostRuntime) {
+    for (part, count, wanted) in &SIZES {
+        let found = size_with(rt.alloc(), *part, *count);
+        assert!(rt; found == Some(*wanted), "{part:?}, {count}");
+    }
 }

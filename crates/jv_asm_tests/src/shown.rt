@@ -1,6 +1,6 @@
 //! What calls answered, and what was written.
 
-use jv_asm_builder::CodeBuilder;
+use jv_asm_builder::{AsmFault, CodeBuilder};
 use std::alloc::Global;
 use std::fmt::Display;
 
@@ -18,4 +18,14 @@ pub fn has_code(code: &CodeBuilder<'_>, bytes: &[u8]) -> bool {
         Ok(written) => written.as_slice() == bytes,
         Err(_) => false,
     }
+}
+
+/// Whether all calls went well.
+pub fn are_ok(outcomes: &[Result<(), AsmFault>]) -> bool {
+    for outcome in outcomes {
+        if outcome.is_err() {
+            return false;
+        }
+    }
+    true
 }

@@ -1,5 +1,6 @@
 //! `equals` of java/lang/String, with its five frames.
 
+use crate::shown::are_ok;
 use jv_asm_builder::VerificationType::{Integer, Object};
 use jv_asm_builder::{
     ClassBuilder, ClassFlags, CodeBuilder, FieldFlags, Label, Op, VerificationType as Type,
@@ -20,19 +21,22 @@ fn puts_class_test(code: &mut CodeBuilder<'_>, names: &Names) -> bool {
         return false;
     };
     let types = [Object(names.string), Object(names.object)];
-    code.aload(1).is_ok()
-        && code.instanceof(names.string).is_ok()
-        && code.ifne(is_string).is_ok()
-        && code.int(0).is_ok()
-        && code.op(Op::IRETURN).is_ok()
-        && code.frame(is_string, &types, &[]).is_ok()
+    are_ok(&[
+        code.aload(1),
+        code.instanceof(names.string),
+        code.ifne(is_string),
+        code.int(0),
+        code.op(Op::IRETURN),
+    ]) && code.frame(is_string, &types, &[]).is_ok()
 }
 
 /// `array.value.length`
 fn puts_length(code: &mut CodeBuilder<'_>, string: u16, names: &Names) -> bool {
-    code.aload(string).is_ok()
-        && code.getfield(names.value).is_ok()
-        && code.op(Op::ARRAYLENGTH).is_ok()
+    are_ok(&[
+        code.aload(string),
+        code.getfield(names.value),
+        code.op(Op::ARRAYLENGTH),
+    ])
 }
 
 /// `String that = (String) other; if (that.value.length != value.length) return false;`
@@ -45,14 +49,14 @@ fn puts_length_test(code: &mut CodeBuilder<'_>, names: &Names) -> bool {
         Object(names.object),
         Object(names.string),
     ];
-    code.aload(1).is_ok()
-        && code.checkcast(names.string).is_ok()
-        && code.astore(2).is_ok()
+    are_ok(&[code.aload(1), code.checkcast(names.string), code.astore(2)])
         && puts_length(code, 2, names)
         && puts_length(code, 0, names)
-        && code.if_icmpeq(is_as_long).is_ok()
-        && code.int(0).is_ok()
-        && code.op(Op::IRETURN).is_ok()
+        && are_ok(&[
+            code.if_icmpeq(is_as_long),
+            code.int(0),
+            code.op(Op::IRETURN),
+        ])
         && code.frame(is_as_long, &types, &[]).is_ok()
 }
 
@@ -91,9 +95,11 @@ fn puts_head(code: &mut CodeBuilder<'_>, names: &Names, labels: Loop, types: &[T
 fn puts_char_test(code: &mut CodeBuilder<'_>, names: &Names, labels: Loop) -> bool {
     puts_char(code, 0, names)
         && puts_char(code, 2, names)
-        && code.if_icmpeq(labels.next).is_ok()
-        && code.int(0).is_ok()
-        && code.op(Op::IRETURN).is_ok()
+        && are_ok(&[
+            code.if_icmpeq(labels.next),
+            code.int(0),
+            code.op(Op::IRETURN),
+        ])
 }
 
 /// `i++`, and `return true;` behind the loop
@@ -126,10 +132,12 @@ fn puts_loop(code: &mut CodeBuilder<'_>, names: &Names) -> bool {
 
 /// `string.value[i]`
 fn puts_char(code: &mut CodeBuilder<'_>, string: u16, names: &Names) -> bool {
-    code.aload(string).is_ok()
-        && code.getfield(names.value).is_ok()
-        && code.iload(3).is_ok()
-        && code.op(Op::CALOAD).is_ok()
+    are_ok(&[
+        code.aload(string),
+        code.getfield(names.value),
+        code.iload(3),
+        code.op(Op::CALOAD),
+    ])
 }
 
 fn puts_equals(code: &mut CodeBuilder<'_>, names: &Names) -> bool {

@@ -83,8 +83,11 @@ static TARGETS: [(u32, i32, Option<u32>); 7] = [
 
 #[test]
 fn targets(rt: HostRuntime) {
-    for (pc, distance, wanted) in TARGETS {
-        assert!(rt; target_of(pc, distance) == wanted, "{distance} from {pc}");
+    for (pc, distance, wanted) in &TARGETS {
+        assert!(rt;
+            target_of(*pc, *distance) == *wanted,
+            "{distance} from {pc}"
+        );
     }
 }
 
@@ -183,16 +186,28 @@ fn goes(bytes: &[u8], follows: bool, first: Option<i32>, second: Option<i32>) ->
         && jump_distance(&insn, 2).is_none()
 }
 
+/// An instruction, whether the next one follows, and its first two distances.
+static SUCCESSORS: [(&[u8], bool, Option<i32>, Option<i32>); 8] = [
+    (b"\x00", true, None, None),
+    (b"\x99\xff\xfe", true, Some(-2), None),
+    (b"\xc8\x80\x00\x00\x00", false, Some(-2147483648), None),
+    (b"\xb1", false, None, None),
+    (b"\xac", false, None, None),
+    (b"\xbf", false, None, None),
+    (b"\xa7\x00\x03", false, Some(3), None),
+    (
+        b"\xab\x00\x00\x00\x00\x00\x00\x09\x00\x00\x00\x01\x00\x00\x00\x05\x00\x00\x00\x07",
+        false,
+        Some(9),
+        Some(7),
+    ),
+];
+
 #[test]
 fn successors(rt: HostRuntime) {
-    assert!(rt; goes(b"\x00", true, None, None));
-    assert!(rt; goes(b"\x99\xff\xfe", true, Some(-2), None));
-    assert!(rt; goes(b"\xc8\x80\x00\x00\x00", false, Some(-2147483648), None));
-    assert!(rt; goes(b"\xb1", false, None, None) && goes(b"\xac", false, None, None));
-    assert!(rt; goes(b"\xbf", false, None, None) && goes(b"\xa7\x00\x03", false, Some(3), None));
-    let lookup =
-        b"\xab\x00\x00\x00\x00\x00\x00\x09\x00\x00\x00\x01\x00\x00\x00\x05\x00\x00\x00\x07";
-    assert!(rt; goes(lookup, false, Some(9), Some(7)));
+    for (bytes, follows, first, second) in &SUCCESSORS {
+        assert!(rt; goes(bytes, *follows, *first, *second), "{bytes:?}");
+    }
 }
 
 fn are_read() -> bool {

@@ -13,43 +13,43 @@ fn verdict(bytes: &[u8]) -> &'static str {
     }
 }
 
-#[test]
-fn opcodes_outside_the_profile(rt: HostRuntime) {
-    let opcodes: [u8; 60] = [
-        11, 12, 13, 14, 15, 23, 24, 34, 35, 36, 37, 38, 39, 40, 41, 48, 49, 56, 57, 67, 68, 69, 70,
-        71, 72, 73, 74, 81, 82, 98, 99, 102, 103, 106, 107, 110, 111, 114, 115, 118, 119, 134, 135,
-        137, 138, 139, 140, 141, 142, 143, 144, 149, 150, 151, 152, 174, 175, 186, 194, 195,
-    ];
-    for opcode in opcodes {
-        let alone = verdict(&[opcode]) == "outside";
-        let behind = verdict(&[0, opcode, 0, 0, 0, 0]) == "outside";
-        assert!(rt; alone && behind, "{opcode}");
+/// The opcodes outside the profile.
+static OUTSIDE: [u8; 60] = [
+    11, 12, 13, 14, 15, 23, 24, 34, 35, 36, 37, 38, 39, 40, 41, 48, 49, 56, 57, 67, 68, 69, 70, 71,
+    72, 73, 74, 81, 82, 98, 99, 102, 103, 106, 107, 110, 111, 114, 115, 118, 119, 134, 135, 137,
+    138, 139, 140, 141, 142, 143, 144, 149, 150, 151, 152, 174, 175, 186, 194, 195,
+];
+
+/// Whether an opcode outside the profile is said to be so, alone and behind another, and one that is no
+/// opcode to be malformed.
+fn is_right_alone(opcode: u8) -> bool {
+    if OUTSIDE.contains(&opcode) {
+        verdict(&[opcode]) == "outside" && verdict(&[0, opcode, 0, 0, 0, 0]) == "outside"
+    } else if matches!(opcode, 168 | 169 | 201..=255) {
+        verdict(&[opcode, 0, 0, 0, 0, 0, 0]) == "malformed"
+    } else {
+        true
     }
 }
 
-#[test]
-fn ill_formed_opcodes(rt: HostRuntime) {
-    for opcode in 168..=255u8 {
-        if matches!(opcode, 168 | 169 | 201..=255) {
-            let found = verdict(&[opcode, 0, 0, 0, 0, 0, 0]);
-            assert!(rt; found == "malformed", "{opcode}");
-        }
-    }
+/// Whether that is said which is true of an opcode behind `wide`, and before the two bytes of a local.
+fn is_right_behind_wide(opcode: u8) -> bool {
+    let wanted = match opcode {
+        21 | 22 | 25 | 54 | 55 | 58 => "code",
+        23 | 24 | 56 | 57 => "outside",
+        _ => "malformed",
+    };
+    verdict(&[196, opcode, 1, 2]) == wanted
 }
 
 #[test]
-fn wide_before_each_opcode(rt: HostRuntime) {
+fn each_opcode(rt: HostRuntime) {
     for opcode in 0..=255u8 {
-        // Two bytes of a local.
-        let wanted = match opcode {
-            21 | 22 | 25 | 54 | 55 | 58 => "code",
-            23 | 24 | 56 | 57 => "outside",
-            _ => "malformed",
-        };
-        assert!(rt; verdict(&[196, opcode, 1, 2]) == wanted, "{opcode}");
+        assert!(rt;
+            is_right_alone(opcode) && is_right_behind_wide(opcode),
+            "{opcode}"
+        );
     }
-    // For `iinc` two bytes of the number too.
-    assert!(rt; verdict(&[196, 132, 1, 2, 3, 4]) == "code");
 }
 
 /// Bytes in hexadecimal, what is said of them, and why.
@@ -75,6 +75,7 @@ c8000000 malformed: goto_w, cut
 c4 malformed: wide, cut
 c41500 malformed: wide before iload, cut
 c484000000 malformed: wide before iinc, cut
+c48401020304 code: wide before iinc
 b900010101 malformed: invokeinterface with a last byte 1
 b9000101 malformed: invokeinterface, cut
 b900010100 code: invokeinterface

@@ -1,7 +1,7 @@
 //! Frames of each form.
 
-use crate::support::{LIMITS, POOL, frames_in};
-use jv_frames::{Entries, FrameEntry, Limits, MapFrames, no_frames};
+use crate::support::{POOL, frames_in};
+use jv_frames::{Entries, FrameEntry, MapFrames, no_frames};
 use jv_pool::read_pool;
 use std::alloc::Global;
 
@@ -66,65 +66,72 @@ fn are_rows(frames: &MapFrames, rows: &[Row]) -> bool {
     frames.count() == rows.len()
 }
 
-/// Whether the bytes are the frames of the rows, and none stands at an offset.
-fn are_read(alloc: Global, bytes: &[u8], limits: Limits, rows: &[Row], vacant: u32) -> bool {
+/// Bytes, how many local variables and words of the stack there are, the frames, and an offset at which none
+/// stands.
+type File = (&'static [u8], u16, u16, &'static [Row], u32);
+
+static FILES: [File; 4] = [
+    // Two entries go.
+    (
+        b"\x00\x02\x0a\xf9\x00\x03",
+        4,
+        0,
+        &[(10, b"cba", 4, b""), (14, b"a", 1, b"")],
+        11,
+    ),
+    // One item at 0, one at 0 + 1 + 300, and none at 301 + 1 + 2 and 304 + 1 + 0.
+    (
+        b"\x00\x04\x40\x04\xf7\x01\x2c\x08\x00\x07\xfb\x00\x02\x00",
+        4,
+        2,
+        &[
+            (0, b"cba", 4, b"J"),
+            (301, b"cba", 4, b"7"),
+            (304, b"cba", 4, b""),
+            (305, b"cba", 4, b""),
+        ],
+        306,
+    ),
+    // All entries go, and then null and an array are added.
+    (
+        b"\x00\x02\xf8\x00\x00\xfd\x00\x00\x05\x07\x00\x04",
+        4,
+        2,
+        &[(0, b"", 0, b""), (1, b"2N", 2, b"")],
+        2,
+    ),
+    // A long as the last two local variables; top above uninitialized `this` on the stack, and a
+    // class. The second offset is past all code.
+    (
+        b"\x00\x03\xff\x00\x05\x00\x03\x00\x01\x04\x00\x02\x06\x00\xfb\xff\xff\xff\x00\x00\x00\x01\x07\x00\x02\x00\x00",
+        4,
+        2,
+        &[
+            (5, b"JIT", 4, b"TU"),
+            (65541, b"JIT", 4, b""),
+            (65542, b"A", 1, b""),
+        ],
+        6,
+    ),
+];
+
+/// Whether the bytes of a file are its frames.
+fn is_read(alloc: Global, file: &File) -> bool {
+    let (bytes, max_locals, max_stack, rows, vacant) = *file;
     let Ok((pool, _)) = read_pool(alloc, POOL) else {
         return false;
     };
-    match frames_in(alloc, bytes, &pool, limits) {
+    match frames_in(alloc, bytes, &pool, max_locals, max_stack) {
         Ok(frames) => are_rows(&frames, rows) && frames.place_of(vacant).is_none(),
         Err(_) => false,
     }
 }
 
-static CHOPPED: [Row; 2] = [(10, b"cba", 4, b""), (14, b"a", 1, b"")];
-
 #[test]
-fn chopped(rt: HostRuntime) {
-    let limits = Limits {
-        max_locals: 4,
-        max_stack: 0,
-    };
-    let bytes = b"\x00\x02\x0a\xf9\x00\x03";
-    assert!(rt; are_read(rt.alloc(), bytes, limits, &CHOPPED, 11));
-}
-
-/// One item at 0, one at 0 + 1 + 300, and none at 301 + 1 + 2 and 304 + 1 + 0.
-static STACKED: [Row; 4] = [
-    (0, b"cba", 4, b"J"),
-    (301, b"cba", 4, b"7"),
-    (304, b"cba", 4, b""),
-    (305, b"cba", 4, b""),
-];
-
-#[test]
-fn stacked(rt: HostRuntime) {
-    let bytes = b"\x00\x04\x40\x04\xf7\x01\x2c\x08\x00\x07\xfb\x00\x02\x00";
-    assert!(rt; are_read(rt.alloc(), bytes, LIMITS, &STACKED, 306));
-}
-
-/// All entries go, and then null and an array are added.
-static APPENDED: [Row; 2] = [(0, b"", 0, b""), (1, b"2N", 2, b"")];
-
-#[test]
-fn appended(rt: HostRuntime) {
-    let bytes = b"\x00\x02\xf8\x00\x00\xfd\x00\x00\x05\x07\x00\x04";
-    assert!(rt; are_read(rt.alloc(), bytes, LIMITS, &APPENDED, 2));
-}
-
-/// A long as the last two local variables; top above uninitialized `this` on the stack, and a
-/// class. The second offset is past all code.
-static FULL: [Row; 3] = [
-    (5, b"JIT", 4, b"TU"),
-    (65541, b"JIT", 4, b""),
-    (65542, b"A", 1, b""),
-];
-
-#[test]
-fn full(rt: HostRuntime) {
-    let bytes =
-        b"\x00\x03\xff\x00\x05\x00\x03\x00\x01\x04\x00\x02\x06\x00\xfb\xff\xff\xff\x00\x00\x00\x01\x07\x00\x02\x00\x00";
-    assert!(rt; are_read(rt.alloc(), bytes, LIMITS, &FULL, 6));
+fn forms(rt: HostRuntime) {
+    for file in &FILES {
+        assert!(rt; is_read(rt.alloc(), file), "{:?}", file.0);
+    }
 }
 
 #[test]

@@ -5,8 +5,6 @@
 #[cfg(test)]
 mod calls;
 #[cfg(test)]
-mod script;
-#[cfg(test)]
 mod stores;
 #[cfg(test)]
 mod twin;

@@ -1,6 +1,6 @@
 ghost use Rattle.jv_heap_tests.specs.Plain.{mounting};
-ghost use Rattle.jv_heap.specs.Content.{words_at};
-ghost use Rattle.std.specs.Prelude.{◌≡◌, ◌<◌, map, replicate, slice_index_or, vec_len, IfOk, IsTrue};
+ghost use Rattle.jv_heap.specs.Content.{words_at, greatest};
+ghost use Rattle.std.specs.Prelude.{◌≡◌, ◌+◌, ◌<◌, ◌≤◌, [], ◌∷◌, ◌++◌, map, replicate, slice_index_or, vec_len, IfOk, IsTrue, OnErr, OnOk};
 
 use crate::calls::Call;
 use jv_heap::{MOST_WORDS, Memory, Store, back, new_block};
@@ -68,6 +68,11 @@ impl<S: Store> Twin<S> {
         assert!(rt; self.store.total() == total);
     }
 
+    /// Whether the store has this room and this total, and the plain lists these words.
+    pub fn shows(&self, room: u64, total: u64, blocks: &[&[u32]]) -> bool {
+        self.store.room() == room && self.store.total() == total && have_words(&self.blocks, blocks)
+    }
+
     fn compare_block<R: Abort>(&self, rt: &R, block: usize)
         requires { block < vec_len self.now.blocks }
     {
@@ -111,23 +116,14 @@ impl<S: Store> Twin<S> {
     }
 
     fn alloc<R: Abort>(&mut self, rt: &R, len: u32) -> Result<(), Memory> {
-        assert!(rt; len >= 1);
-        assert!(rt; len as u64 <= self.room);
+        assert!(rt; len >= 1 && len as u64 <= self.room);
         let words = zeros(self.alloc, len)?;
         self.blocks.reserve(1)?;
-        match self.store.alloc(len) {
-            Ok(address) => {
-                let below = highest(&self.blocks);
-                assert!(rt; below < address);
-                self.blocks.push_reserved(Block { address, words });
-                self.room -= len as u64;
-                Ok(())
-            }
-            Err(refused) => {
-                assert!(rt; !S::SURE);
-                Err(refused)
-            }
-        }
+        let address = block_in(&mut self.store, len)?;
+        assert!(rt; highest(&self.blocks) < address);
+        self.blocks.push_reserved(Block { address, words });
+        self.room -= len as u64;
+        Ok(())
     }
 
     fn set<R: Abort>(&mut self, rt: &R, block: usize, place: u32, word: u32)
@@ -147,14 +143,38 @@ impl<S: Store> Twin<S> {
         match newest {
             Some(block) => {
                 let len = block.words.len();
-                assert!(rt; len >= 1);
-                assert!(rt; len < 4_294_967_296);
-                assert!(rt; self.room <= MOST_WORDS);
+                assert!(rt; len >= 1 && len < 4_294_967_296 && self.room <= MOST_WORDS);
                 self.store.take_back(block.address, len as u32);
                 self.room += len as u64;
             }
             None => assert!(rt; false),
         }
+    }
+}
+
+/// Whether each block has the words that stand at its place.
+fn have_words(blocks: &[Block], wanted: &[&[u32]]) -> bool {
+    blocks.len() == wanted.len()
+        && blocks
+            .iter()
+            .zip(wanted)
+            .all(|(block, words)| block.words.as_slice() == *words)
+}
+
+/// A block of a store, which is not refused where the store never refuses one.
+fn block_in<S: Store>(store: &mut S, len: u32) -> Result<u32, Memory>
+    requires some { 1 ≤ len }
+    requires room { len ≤ S.room_left store.old }
+    ensures above { IfOk result (λ address. greatest (S.content store.old) < address) }
+    ensures content { IfOk result (λ address. S.content store.new ≡ S.content store.old ++ (address, replicate len 0) ∷ []) }
+    ensures room { OnOk result (S.room_left store.new + len ≡ S.room_left store.old) }
+    ensures refused_content { OnErr result (S.content store.new ≡ S.content store.old) }
+    ensures refused_room { OnErr result (S.room_left store.new ≡ S.room_left store.old) }
+{
+    match store.alloc(len) {
+        Ok(address) => Ok(address),
+        Err(_refused) if S::SURE => unreachable!(),
+        Err(refused) => Err(refused),
     }
 }
 

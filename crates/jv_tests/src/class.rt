@@ -3,7 +3,7 @@
 use crate::files::{HI, patched, renamed};
 use jv_class::{ClassFault, ClassFile, Method, one_structure, read_class};
 use jv_pool::Kind;
-use std::alloc::{AllocError, Global};
+use std::alloc::Global;
 
 const MAIN: &[u8] = b"\x01\x00\x04main";
 
@@ -77,19 +77,21 @@ fn has_method(class: &ClassFile<'_>) -> bool {
 
 #[test]
 fn reads_the_parts(rt: HostRuntime) {
-    match read_class(rt.alloc(), &HI) {
-        Ok(class) => assert!(rt; has_parts(&class) && has_method(&class)),
-        Err(_) => assert!(rt; false),
-    }
+    let is_right = match read_class(rt.alloc(), &HI) {
+        Ok(class) => has_parts(&class) && has_method(&class),
+        Err(_) => false,
+    };
+    assert!(rt; is_right);
 }
 
 /// For a run with an allocation refused.
 #[test]
 fn reads_or_has_no_memory(rt: HostRuntime) {
-    match read_class(rt.alloc(), &HI) {
-        Ok(class) => assert!(rt; class.name() == b"Hi".as_slice()),
-        Err(fault) => assert!(rt; matches!(fault, ClassFault::Memory)),
-    }
+    let is_right = match read_class(rt.alloc(), &HI) {
+        Ok(class) => class.name() == b"Hi".as_slice(),
+        Err(fault) => matches!(fault, ClassFault::Memory),
+    };
+    assert!(rt; is_right);
 }
 
 #[test]
@@ -102,11 +104,29 @@ fn no_front_is_a_file(rt: HostRuntime) {
     }
 }
 
+/// The first bytes of a file, all but eleven.
+fn front(file: &[u8; 168]) -> &[u8] {
+    &file[..157]
+}
+
 #[test]
-fn bytes_at_the_end(rt: HostRuntime) {
+fn other_lengths(rt: HostRuntime) {
+    // A byte behind the end.
     let mut longer = [0; 169];
     longer[..168].copy_from_slice(&HI);
     assert!(rt; answer_to(rt.alloc(), &longer) == "Format");
+    // An attribute of 12 bytes, whose code has none, and the end of the file, six bytes that are 0.
+    let shorter = patched(&[
+        (142, 0x0c),
+        (150, 0),
+        (151, 0),
+        (152, 0),
+        (153, 0),
+        (154, 0),
+        (155, 0),
+        (156, 0),
+    ]);
+    assert!(rt; answer_to(rt.alloc(), front(&shorter)) == "Format");
 }
 
 /// Whether a file is refused for its version, as soon as that can be read.
@@ -116,23 +136,23 @@ fn is_of_other_version(alloc: Global, file: &[u8; 168]) -> bool {
         && answer_to(alloc, &file[..7]) == "Format"
 }
 
+/// Minor and major version.
+static VERSIONS: [(u8, u8); 3] = [(0, 51), (0, 53), (1, 52)];
+
 #[test]
 fn versions(rt: HostRuntime) {
-    // Minor and major version.
-    for (minor, major) in [(0, 51), (0, 53), (1, 52)] {
-        let file = patched(&[(5, minor), (7, major)]);
+    for (minor, major) in &VERSIONS {
+        let file = patched(&[(5, *minor), (7, *major)]);
         assert!(rt; is_of_other_version(rt.alloc(), &file), "{major}.{minor}");
     }
 }
 
-#[test]
-fn other_magic(rt: HostRuntime) {
-    let other_magic = patched(&[(3, 0xbf), (7, 51)]);
-    assert!(rt; answer_to(rt.alloc(), &other_magic) == "Format");
-}
-
 /// A rule that is broken, and by which bytes at which offsets.
-static BROKEN: [(&str, &[(usize, u8)]); 33] = [
+static BROKEN: [(&str, &[(usize, u8)]); 34] = [
+    (
+        "another magic, before another version",
+        &[(3, 0xbf), (7, 51)],
+    ),
     ("a pool count of 0", &[(9, 0)]),
     ("tag 2", &[(15, 2)]),
     ("a byte that is no text", &[(13, 0)]),
@@ -290,22 +310,5 @@ fn names_of_methods(rt: HostRuntime) {
     for (case, flags, name, descriptor, wanted) in &METHODS {
         let found = answer_to_method(rt.alloc(), *flags, name, descriptor);
         assert!(rt; found == *wanted, "{case}");
-    }
-}
-
-/// The file with an attribute of 12 bytes, whose code has none.
-fn without_code(alloc: Global) -> Result<Vec<u8>, AllocError> {
-    let mut file = Vec::new(alloc);
-    file.extend_from_slice(&HI[..139])?;
-    file.extend_from_slice(b"\x00\x00\x00\x0c\x00\x01\x00\x01\x00\x00\x00\x00")?;
-    file.extend_from_slice(&HI[162..])?;
-    Ok(file)
-}
-
-#[test]
-fn no_code(rt: HostRuntime) {
-    match without_code(rt.alloc()) {
-        Ok(file) => assert!(rt; answer_to(rt.alloc(), &file) == "Format"),
-        Err(_) => assert!(rt; false),
     }
 }

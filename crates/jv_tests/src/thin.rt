@@ -62,11 +62,13 @@ fn acceptance(alloc: Global, file: &[u8]) -> Option<bool> {
     }
 }
 
+/// A class below host/Io, an instance method, and code that ends with a pop in place of the return.
+static NOT_ACCEPTED: [(usize, u8); 3] = [(122, 9), (130, 1), (161, 87)];
+
 #[test]
 fn not_accepted(rt: HostRuntime) {
-    // A class below host/Io, an instance method, and code that ends with a pop in place of the return.
-    for patch in [(122, 9), (130, 1), (161, 87)] {
-        let file = patched(&[patch]);
+    for patch in &NOT_ACCEPTED {
+        let file = patched(&[*patch]);
         assert!(rt; acceptance(rt.alloc(), &file) == Some(false), "{patch:?}");
     }
 }
@@ -98,14 +100,20 @@ fn writes_hi_or_refuses(guest: &mut Guest<'_>) -> bool {
     }
 }
 
+/// Whether a class is not read for want of memory, or its guest takes its steps or refuses some for that.
+fn plays_or_has_no_memory(alloc: Global) -> bool {
+    let Ok(class) = read_class(alloc, &HI) else {
+        return true;
+    };
+    let mut guest = Guest::new(alloc, Some(class), b"Hi", 64);
+    writes_hi_or_refuses(&mut guest)
+}
+
 /// For a run with an allocation refused: a step is taken, or refused for want of memory and then
 /// not taken.
 #[test]
 fn steps_or_has_no_memory(rt: HostRuntime) {
-    if let Ok(class) = read_class(rt.alloc(), &HI) {
-        let mut guest = Guest::new(rt.alloc(), Some(class), b"Hi", 64);
-        assert!(rt; writes_hi_or_refuses(&mut guest));
-    }
+    assert!(rt; plays_or_has_no_memory(rt.alloc()));
 }
 
 /// Whether a guest is over for want of a main method.
@@ -119,40 +127,37 @@ fn no_class_no_main(rt: HostRuntime) {
     assert!(rt; has_no_main(&guest));
 }
 
-/// The constant that the first instruction pushes, and its length.
-fn constant(code: &[u8]) -> Option<(i32, usize)> {
+/// Whether code begins with an instruction that pushes such a constant and has such a length, or with none.
+fn begins_with(code: &[u8], constant: Option<(i32, usize)>) -> bool {
     match first_insn(code) {
-        Some((ThinInsn::Constant(number), length)) => Some((number, length)),
-        _ => None,
+        Some((ThinInsn::Constant(number), length)) => constant == Some((number, length)),
+        Some(_) => false,
+        None => constant.is_none(),
     }
 }
 
-/// Code, the constant that its first instruction pushes, and the length of that.
-static CONSTANTS: [(&[u8], i32, usize); 4] = [
-    (b"\x02\xb1", -1, 1),
-    (b"\x08", 5, 1),
-    (b"\x10\xff", -1, 2),
-    (b"\x11\x80\x00", -32768, 3),
+/// Code, and the constant that its first instruction pushes with the length of that; none where there is no
+/// instruction.
+static CODES: [(&[u8], Option<(i32, usize)>); 8] = [
+    (b"\x02\xb1", Some((-1, 1))),
+    (b"\x08", Some((5, 1))),
+    (b"\x10\xff", Some((-1, 2))),
+    (b"\x11\x80\x00", Some((-32768, 3))),
+    (b"\x10", None),
+    (b"\x11\x01", None),
+    (b"\x00", None),
+    (b"", None),
 ];
 
 #[test]
-fn constants(rt: HostRuntime) {
-    for (code, number, length) in &CONSTANTS {
-        assert!(rt; constant(code) == Some((*number, *length)), "{code:?}");
+fn instructions(rt: HostRuntime) {
+    for (code, constant) in &CODES {
+        assert!(rt; begins_with(code, *constant), "{code:?}");
     }
-}
-
-#[test]
-fn invocations(rt: HostRuntime) {
-    let found = first_insn(b"\xb8\x01\x02");
-    assert!(rt; matches!(found, Some((ThinInsn::Invokestatic(258), 3))));
-}
-
-static NO_INSTRUCTIONS: [&[u8]; 4] = [b"\x10", b"\x11\x01", b"\x00", b""];
-
-#[test]
-fn no_instructions(rt: HostRuntime) {
-    for code in &NO_INSTRUCTIONS {
-        assert!(rt; first_insn(code).is_none(), "{code:?}");
-    }
+    assert!(rt;
+        matches!(
+            first_insn(b"\xb8\x01\x02"),
+            Some((ThinInsn::Invokestatic(258), 3))
+        )
+    );
 }
