@@ -21,7 +21,7 @@ use Rattle.jv_code.specs.Places.{all_fit}
 use Rattle.jv_code.proofs.Pairs.{pair_found}
 use Rattle.jv_code.proofs.Sizes.{some_bytes}
 use Rattle.jv_asm.specs.declared.item.Item.{Item}
-use Rattle.jv_asm.specs.Items.{zeros, lookup_switch_bytes, code_of_item, code_of_items, IsItemOf, AreInstructions, count_right, table_right, lookup_right, ItemsAreCode}
+use Rattle.jv_asm.specs.Items.{zeros, lookup_switch_bytes, code_of_item, code_of_items, IsItemOf, AreInstructions, count_keeps_rules, table_keeps_rules, lookup_keeps_rules, ItemsAreCode}
 use Rattle.jv_asm.proofs.Sizes.{distances_length, pairs_length}
 
 -- ---- switches
@@ -29,7 +29,7 @@ use Rattle.jv_asm.proofs.Sizes.{distances_length, pairs_length}
 zeros_fit : (at : ℕ) → IsTrue (padding_fits at (zeros at))
 zeros_fit at = eq-eqb _ _ (length-replicate (3 - at % 4) 0)
 
-table_fits_if : (z : ℤ) (offsets : List ℤ) → IsTrue (count_right z (length offsets)) → IsTrue (distances_fit z (flat_map signed32.spelling offsets))
+table_fits_if : (z : ℤ) (offsets : List ℤ) → IsTrue (count_keeps_rules z (length offsets)) → IsTrue (distances_fit z (flat_map signed32.spelling offsets))
 table_fits_if (pos n) offsets h =
     let count : length offsets ≡ n + 1 = eqb-true _ _ h in
     eq-eqb _ _ (omega (arith, distances_length offsets))
@@ -72,13 +72,13 @@ lookup_spelled at default pairs =
     let count : length pairs ≡ length (flat_map pair.spelling pairs) / 8 = omega arith in
     ap (λ (n : ℕ). 171 ∷ (zeros at ++ (signed32.spelling default ++ (quad.spelling n ++ flat_map pair.spelling pairs)))) count
 
-table_switch_fits : (at : ℕ) (default low high : ℤ) (offsets : List ℤ) → IsTrue (table_right default low high offsets)
+table_switch_fits : (at : ℕ) (default low high : ℤ) (offsets : List ℤ) → IsTrue (table_keeps_rules default low high offsets)
     → IsTrue (insn_fits at (TableSwitch (zeros at) default low high (flat_map signed32.spelling offsets)))
 table_switch_fits at default low high offsets h =
-    let fit = and_parts (signed32.fits default && (signed32.fits low && signed32.fits high)) (count_right (high -ℤ low) (length offsets)) h in
+    let fit = and_parts (signed32.fits default && (signed32.fits low && signed32.fits high)) (count_keeps_rules (high -ℤ low) (length offsets)) h in
     and_from _ _ (zeros_fit at) (and_from _ _ fit.0 (table_fits_if (high -ℤ low) offsets fit.1))
 
-lookup_switch_fits : (at : ℕ) (default : ℤ) (pairs : List (ℤ × ℤ)) → IsTrue (lookup_right default pairs)
+lookup_switch_fits : (at : ℕ) (default : ℤ) (pairs : List (ℤ × ℤ)) → IsTrue (lookup_keeps_rules default pairs)
     → IsTrue (insn_fits at (LookupSwitch (zeros at) default (flat_map pair.spelling pairs)))
 lookup_switch_fits at default pairs h =
     let fit = and_parts _ _ h in
@@ -147,31 +147,31 @@ spelled at (InstanceOf n) i h = ap (code_of_item at) h
 
 -- ---- lists of items
 
-all_right : (at : ℕ) (items : List Item) (insns : List Instruction) → AreInstructions at items insns
+all_spelled : (at : ℕ) (items : List Item) (insns : List Instruction) → AreInstructions at items insns
     → (code_of_items at items ≡ flat_map insn_bytes insns) × IsTrue (all_fit at insns)
-all_right at [] [] h = (refl, refl)
-all_right at [] (insn ∷ insns) h = absurd h
-all_right at (i ∷ items) [] h = absurd h
-all_right at (i ∷ items) (insn ∷ insns) h =
+all_spelled at [] [] h = (refl, refl)
+all_spelled at [] (insn ∷ insns) h = absurd h
+all_spelled at (i ∷ items) [] h = absurd h
+all_spelled at (i ∷ items) (insn ∷ insns) h =
     let one = spelled at insn i h.0.spells in
-    let rest = all_right (at + length (code_of_item at i)) items insns h.1 in (
+    let rest = all_spelled (at + length (code_of_item at i)) items insns h.1 in (
       ap (λ b. b ++ code_of_items (at + length (code_of_item at i)) items) one ∙ ap (λ b. insn_bytes insn ++ b) rest.0,
       and_from _ _ h.0.fits (subst (λ (b : List ℕ). IsTrue (all_fit (at + length b) insns)) one rest.1),
     )
 
-some_right : (items : List Item) (insns : List Instruction) → 1 ≤ length items → AreInstructions 0 items insns → 1 ≤ length (code_of_items 0 items)
-some_right [] insns some h = absurd (omega arith)
-some_right (i ∷ items) [] some h = absurd h
-some_right (i ∷ items) (insn ∷ insns) some h =
+some_spelled : (items : List Item) (insns : List Instruction) → 1 ≤ length items → AreInstructions 0 items insns → 1 ≤ length (code_of_items 0 items)
+some_spelled [] insns some h = absurd (omega arith)
+some_spelled (i ∷ items) [] some h = absurd h
+some_spelled (i ∷ items) (insn ∷ insns) some h =
     let one = ap length (spelled 0 insn i h.0.spells) in
     omega (arith, some_bytes insn, length-append (code_of_item 0 i) (code_of_items (0 + length (code_of_item 0 i)) items))
 
 pub items_are_code : ItemsAreCode
 items_are_code = record {
   code = λ items insns some few h. record {
-    spelled = (all_right 0 items insns h).0;
-    fit = (all_right 0 items insns h).1;
-    some = some_right items insns some h;
+    spelled = (all_spelled 0 items insns h).0;
+    fit = (all_spelled 0 items insns h).1;
+    some = some_spelled items insns some h;
     few = few;
   };
   table = λ at default low high offsets h. record {

@@ -140,17 +140,17 @@ AreInstructions at _ _ = ⊥
 -- ---- the law
 
 -- one offset for each number from the lowest to the highest, where the highest less the lowest is the number given
-abbrev pub count_right : ℤ → ℕ → Bool
-count_right (pos n) count = count == n + 1
-count_right (negsuc n) count = false
+abbrev pub count_keeps_rules : ℤ → ℕ → Bool
+count_keeps_rules (pos n) count = count == n + 1
+count_keeps_rules (negsuc n) count = false
 
-abbrev pub table_right : ℤ → ℤ → ℤ → List ℤ → Bool
-table_right default low high offsets =
-    (signed32.fits default && (signed32.fits low && signed32.fits high)) && count_right (high -ℤ low) (length offsets)
+abbrev pub table_keeps_rules : ℤ → ℤ → ℤ → List ℤ → Bool
+table_keeps_rules default low high offsets =
+    (signed32.fits default && (signed32.fits low && signed32.fits high)) && count_keeps_rules (high -ℤ low) (length offsets)
 
 -- the keys rise
-abbrev pub lookup_right : ℤ → List (ℤ × ℤ) → Bool
-lookup_right default pairs =
+abbrev pub lookup_keeps_rules : ℤ → List (ℤ × ℤ) → Bool
+lookup_keeps_rules default pairs =
     signed32.fits default && (list_all pair.fits pairs && (nat_lt (length pairs) 2147483648 && keys_rise pairs))
 
 -- Items that are instructions, some of them and few enough, are code, and that list of instructions. A `tableswitch` with
@@ -158,9 +158,9 @@ lookup_right default pairs =
 pub record ItemsAreCode : Type 0 where
   pub code : (items : List Item) (insns : List Instruction) → 1 ≤ length items → length (code_of_items 0 items) ≤ 65535
       → AreInstructions 0 items insns → IsCode (code_of_items 0 items) insns
-  pub table : (at : ℕ) (default low high : ℤ) (offsets : Bor (List ℤ)) → IsTrue (table_right default low high offsets.now)
+  pub table : (at : ℕ) (default low high : ℤ) (offsets : Bor (List ℤ)) → IsTrue (table_keeps_rules default low high offsets.now)
       → IsInstruction at (item.Tableswitch default low high offsets) (TableSwitch (zeros at) default low high (flat_map signed32.spelling offsets.now))
-  pub lookup : (at : ℕ) (default : ℤ) (pairs : Bor (List (ℤ × ℤ))) → IsTrue (lookup_right default pairs.now)
+  pub lookup : (at : ℕ) (default : ℤ) (pairs : Bor (List (ℤ × ℤ))) → IsTrue (lookup_keeps_rules default pairs.now)
       → IsInstruction at (item.Lookupswitch default pairs) (LookupSwitch (zeros at) default (flat_map pair.spelling pairs.now))
 
 -- a size, or 65,536 or more where the size is that

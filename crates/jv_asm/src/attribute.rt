@@ -10,7 +10,7 @@ ghost use Rattle.jv_asm.specs.Description.{described_attribute};
 
 use crate::description::AttributeDescription;
 use crate::part::{
-    Part, half_right, halves_right, put_half, put_quad, put_table, put_three, table_right,
+    Part, half_fits, halves_fit, put_half, put_quad, put_table, put_three, table_fits,
 };
 use jv_format::Handler;
 use std::alloc::AllocError;
@@ -25,7 +25,7 @@ pub(crate) fn put_contents(out: &mut Vec<u8>, contents: &[u8]) -> Result<(), All
 }
 
 /// Whether the length of contents fits four bytes.
-pub(crate) fn contents_right(contents: &[u8]) -> bool
+pub(crate) fn contents_fit(contents: &[u8]) -> bool
     ensures { result ≡ quad.fits (length contents.now) }
 {
     contents.len() < 4_294_967_296
@@ -45,8 +45,8 @@ impl Part for AttributeDescription<'_> {
         put_contents(out, self.info)
     }
 
-    fn is_right(&self) -> bool {
-        half_right(self.attribute_name_index) && contents_right(self.info)
+    fn fits_fields(&self) -> bool {
+        half_fits(self.attribute_name_index) && contents_fit(self.info)
     }
 }
 
@@ -64,8 +64,8 @@ impl Part for Handler {
         put_half(out, self.catch_type)
     }
 
-    fn is_right(&self) -> bool {
-        halves_right(self.start_pc, self.end_pc) && halves_right(self.handler_pc, self.catch_type)
+    fn fits_fields(&self) -> bool {
+        halves_fit(self.start_pc, self.end_pc) && halves_fit(self.handler_pc, self.catch_type)
     }
 }
 
@@ -81,7 +81,7 @@ pub(crate) fn put_handlers(out: &mut Vec<u8>, handlers: &[Handler]) -> Result<()
 pub(crate) fn are_handlers(handlers: &[Handler]) -> bool
     ensures { result ≡ table_fits handler_fits handlers.now }
 {
-    table_right(handlers)
+    table_fits(handlers)
 }
 
 /// How many bytes attributes have, their count aside.

@@ -39,7 +39,7 @@ impl Part for i32 {
         put_signed_quad(out, *self)
     }
 
-    fn is_right(&self) -> bool {
+    fn fits_fields(&self) -> bool {
         true
     }
 }
@@ -58,7 +58,7 @@ impl Part for (i32, i32) {
         put_signed_quad(out, self.1)
     }
 
-    fn is_right(&self) -> bool {
+    fn fits_fields(&self) -> bool {
         true
     }
 }

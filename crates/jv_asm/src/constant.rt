@@ -5,7 +5,7 @@ ghost use Rattle.jv_format.specs.Format.{byte, half, quad, text};
 ghost use Rattle.jv_class.specs.of_pool.Constants.{Entry, constant_bytes, constant_fits, entries_of};
 ghost use Rattle.jv_class.specs.of_pool.Seen.{seen};
 
-use crate::part::{Part, half_right, halves_right, put_half, put_quad};
+use crate::part::{Part, half_fits, halves_fit, put_half, put_quad};
 use jv_class::of_pool::Constant;
 use std::alloc::AllocError;
 
@@ -60,22 +60,22 @@ fn put_handle(out: &mut Vec<u8>, kind: u8, index: u16) -> Result<(), AllocError>
     put_half(out, index)
 }
 
-fn handle_right(kind: u8, index: u16) -> bool
+fn handle_fits(kind: u8, index: u16) -> bool
     ensures { result ≡ (byte.fits kind && half.fits index) }
 {
-    half_right(u16::from(kind)) && half_right(index)
+    half_fits(u16::from(kind)) && half_fits(index)
 }
 
-fn quad_right(number: u32) -> bool
+fn quad_fits(number: u32) -> bool
     ensures { result ≡ quad.fits number }
 {
     true
 }
 
-fn quads_right(first: u32, second: u32) -> bool
+fn quads_fit(first: u32, second: u32) -> bool
     ensures { result ≡ (quad.fits first && quad.fits second) }
 {
-    quad_right(first) && quad_right(second)
+    quad_fits(first) && quad_fits(second)
 }
 
 impl Part for Constant<&[u8]> {
@@ -106,32 +106,32 @@ impl Part for Constant<&[u8]> {
         }
     }
 
-    fn is_right(&self) -> bool {
+    fn fits_fields(&self) -> bool {
         match *self {
             Constant::Utf8(text) => text.len() < 65536,
-            Constant::Integer(bits) => quad_right(bits),
-            Constant::Float(bits) => quad_right(bits),
-            Constant::Long(high, low) => quads_right(high, low),
-            Constant::Double(high, low) => quads_right(high, low),
-            Constant::Class(name) => half_right(name),
-            Constant::String(text) => half_right(text),
-            Constant::Fieldref(class, member) => halves_right(class, member),
-            Constant::Methodref(class, member) => halves_right(class, member),
-            Constant::InterfaceMethodref(class, member) => halves_right(class, member),
-            Constant::NameAndType(name, descriptor) => halves_right(name, descriptor),
-            Constant::MethodHandle(kind, index) => handle_right(kind, index),
-            Constant::MethodType(descriptor) => half_right(descriptor),
-            Constant::InvokeDynamic(bootstrap, member) => halves_right(bootstrap, member),
+            Constant::Integer(bits) => quad_fits(bits),
+            Constant::Float(bits) => quad_fits(bits),
+            Constant::Long(high, low) => quads_fit(high, low),
+            Constant::Double(high, low) => quads_fit(high, low),
+            Constant::Class(name) => half_fits(name),
+            Constant::String(text) => half_fits(text),
+            Constant::Fieldref(class, member) => halves_fit(class, member),
+            Constant::Methodref(class, member) => halves_fit(class, member),
+            Constant::InterfaceMethodref(class, member) => halves_fit(class, member),
+            Constant::NameAndType(name, descriptor) => halves_fit(name, descriptor),
+            Constant::MethodHandle(kind, index) => handle_fits(kind, index),
+            Constant::MethodType(descriptor) => half_fits(descriptor),
+            Constant::InvokeDynamic(bootstrap, member) => halves_fit(bootstrap, member),
         }
     }
 }
 
 /// Whether the numbers of a constant fit their fields: all but a text with more than 65,535 bytes
 /// do.
-pub fn constant_is_right(constant: &Constant<&[u8]>) -> bool
+pub fn constant_fits(constant: &Constant<&[u8]>) -> bool
     ensures { result ≡ constant_fits (seen constant.now) }
 {
-    constant.is_right()
+    constant.fits_fields()
 }
 
 /// How many entries of the table a constant takes (4.4.5).

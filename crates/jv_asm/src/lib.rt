@@ -20,7 +20,7 @@ mod writer;
 pub use code::{
     item_size, items_are_code, lookupswitch_size, put_item, tableswitch_size, write_code,
 };
-pub use constant::{constant_is_right, entries, put_index};
+pub use constant::{constant_fits, entries, put_index};
 pub use description::{
     AttributeDescription, CodeDescription, Description, FieldDescription,
     MethodAttributeDescription, MethodDescription,

@@ -6,15 +6,13 @@ ghost use Rattle.jv_format.specs.Format.{half, quad};
 ghost use Rattle.jv_class.specs.of_class_parts.Structure.{FieldInfo, MethodInfo, MethodAttribute, contents_bytes, table_bytes, table_fits, attribute_bytes, attribute_fits, code_bytes, code_fits, method_attribute_bytes, method_attribute_fits, field_bytes, field_fits, method_bytes, method_fits};
 ghost use Rattle.jv_asm.specs.Description.{described_attribute, described_code, described_method_attribute, described_field, described_method};
 
-use crate::attribute::{
-    are_handlers, attributes_length, contents_right, put_contents, put_handlers,
-};
+use crate::attribute::{are_handlers, attributes_length, contents_fit, put_contents, put_handlers};
 use crate::description::{
     AttributeDescription, CodeDescription, FieldDescription, MethodAttributeDescription,
     MethodDescription,
 };
 use crate::part::{
-    Part, half_right, halves_right, put_half, put_quad, put_table, put_three, table_right,
+    Part, half_fits, halves_fit, put_half, put_quad, put_table, put_three, table_fits,
 };
 use std::alloc::AllocError;
 
@@ -39,13 +37,13 @@ fn put_code(out: &mut Vec<u8>, code: &CodeDescription<'_>) -> Result<(), AllocEr
     put_table(out, code.attributes)
 }
 
-fn code_right(code: &CodeDescription<'_>) -> bool
+fn code_fits(code: &CodeDescription<'_>) -> bool
     ensures { result ≡ code_fits (described_code code.now) }
 {
-    halves_right(code.max_stack, code.max_locals)
-        && contents_right(code.code)
+    halves_fit(code.max_stack, code.max_locals)
+        && contents_fit(code.code)
         && are_handlers(code.exception_table)
-        && table_right(code.attributes)
+        && table_fits(code.attributes)
 }
 
 /// How many bytes a Code attribute holds.
@@ -59,10 +57,10 @@ fn code_length(code: &CodeDescription<'_>) -> u64
 }
 
 /// Whether the numbers of a Code attribute fit, that of its bytes among them.
-pub(crate) fn whole_code_right(code: &CodeDescription<'_>) -> bool
+pub(crate) fn whole_code_fits(code: &CodeDescription<'_>) -> bool
     ensures { result ≡ (quad.fits (length (code_bytes (described_code code.now))) && code_fits (described_code code.now)) }
 {
-    code_right(code) && code_length(code) < 4_294_967_296
+    code_fits(code) && code_length(code) < 4_294_967_296
 }
 
 /// A Code attribute behind its name and its length.
@@ -97,12 +95,12 @@ impl Part for MethodAttributeDescription<'_> {
         }
     }
 
-    fn is_right(&self) -> bool {
+    fn fits_fields(&self) -> bool {
         match self {
             MethodAttributeDescription::Code(name, code) => {
-                half_right(*name) && whole_code_right(code)
+                half_fits(*name) && whole_code_fits(code)
             }
-            MethodAttributeDescription::Other(attribute) => attribute.is_right(),
+            MethodAttributeDescription::Other(attribute) => attribute.fits_fields(),
         }
     }
 }
@@ -126,10 +124,10 @@ impl Part for FieldDescription<'_> {
         put_table(out, self.attributes)
     }
 
-    fn is_right(&self) -> bool {
-        halves_right(self.access_flags, self.name_index)
-            && half_right(self.descriptor_index)
-            && table_right(self.attributes)
+    fn fits_fields(&self) -> bool {
+        halves_fit(self.access_flags, self.name_index)
+            && half_fits(self.descriptor_index)
+            && table_fits(self.attributes)
     }
 }
 
@@ -144,7 +142,7 @@ pub trait Method {
         ensures { OnOk result (out.new.items ≡ out.old.items ++ method_bytes (method self.now)) };
 
     /// Whether its counts and lengths fit their fields.
-    fn is_right(&self) -> bool
+    fn fits_fields(&self) -> bool
         ensures { result ≡ method_fits (method self.now) };
 }
 
@@ -161,10 +159,10 @@ impl Method for MethodDescription<'_> {
         put_table(out, self.attributes)
     }
 
-    fn is_right(&self) -> bool {
-        halves_right(self.access_flags, self.name_index)
-            && half_right(self.descriptor_index)
-            && table_right(self.attributes)
+    fn fits_fields(&self) -> bool {
+        halves_fit(self.access_flags, self.name_index)
+            && half_fits(self.descriptor_index)
+            && table_fits(self.attributes)
     }
 }
 
@@ -180,19 +178,19 @@ pub(crate) fn put_methods<M: Method>(out: &mut Vec<u8>, methods: &[M]) -> Result
     Ok(())
 }
 
-fn all_methods_right<M: Method>(methods: &[M]) -> bool
+fn all_methods_fit<M: Method>(methods: &[M]) -> bool
     ensures { result ≡ list_all method_fits (map M.method methods.now) }
 {
     for method in methods {
-        if !method.is_right() {
+        if !method.fits_fields() {
             return false;
         }
     }
     true
 }
 
-pub(crate) fn methods_right<M: Method>(methods: &[M]) -> bool
+pub(crate) fn methods_fit<M: Method>(methods: &[M]) -> bool
     ensures { result ≡ table_fits method_fits (map M.method methods.now) }
 {
-    methods.len() < 65536 && all_methods_right(methods)
+    methods.len() < 65536 && all_methods_fit(methods)
 }

@@ -29,7 +29,7 @@ pub(crate) trait Part {
         ensures { OnOk result (out.new.items ≡ out.old.items ++ bytes (view self.now)) };
 
     /// Whether its counts and lengths fit their fields.
-    fn is_right(&self) -> bool
+    fn fits_fields(&self) -> bool
         ensures { result ≡ fits (view self.now) };
 }
 
@@ -46,22 +46,22 @@ impl Part for u16 {
         put_half(out, *self)
     }
 
-    fn is_right(&self) -> bool {
-        half_right(*self)
+    fn fits_fields(&self) -> bool {
+        half_fits(*self)
     }
 }
 
 /// Whether a number fits two bytes; by its type it does.
-pub(crate) fn half_right(number: u16) -> bool
+pub(crate) fn half_fits(number: u16) -> bool
     ensures { result ≡ half.fits number }
 {
     true
 }
 
-pub(crate) fn halves_right(first: u16, second: u16) -> bool
+pub(crate) fn halves_fit(first: u16, second: u16) -> bool
     ensures { result ≡ (half.fits first && half.fits second) }
 {
-    half_right(first) && half_right(second)
+    half_fits(first) && half_fits(second)
 }
 
 /// A number in two bytes.
@@ -117,11 +117,11 @@ pub(crate) fn put_table<T: Part>(out: &mut Vec<u8>, items: &[T]) -> Result<(), A
 }
 
 /// Whether the numbers of all parts fit.
-pub(crate) fn all_right<T: Part>(items: &[T]) -> bool
+pub(crate) fn all_fit<T: Part>(items: &[T]) -> bool
     ensures { result ≡ list_all T.fits (map T.view items.now) }
 {
     for item in items {
-        if !item.is_right() {
+        if !item.fits_fields() {
             return false;
         }
     }
@@ -129,10 +129,10 @@ pub(crate) fn all_right<T: Part>(items: &[T]) -> bool
 }
 
 /// Whether there are so few parts that their number fits, and their numbers fit.
-pub(crate) fn table_right<T: Part>(items: &[T]) -> bool
+pub(crate) fn table_fits<T: Part>(items: &[T]) -> bool
     ensures { result ≡ table_fits T.fits (map T.view items.now) }
 {
-    items.len() < 65536 && all_right(items)
+    items.len() < 65536 && all_fit(items)
 }
 
 /// How many numbers there are, and the numbers.
@@ -147,5 +147,5 @@ pub(crate) fn put_halves(out: &mut Vec<u8>, numbers: &[u16]) -> Result<(), Alloc
 pub(crate) fn are_halves(numbers: &[u16]) -> bool
     ensures { result ≡ table_fits half.fits numbers.now }
 {
-    table_right(numbers)
+    table_fits(numbers)
 }

@@ -13,10 +13,10 @@ ghost use Rattle.jv_asm.specs.declared.fault.AsmFault.TheVariants.{TooLarge};
 use crate::constant::entries;
 use crate::description::Description;
 use crate::fault::AsmFault;
-use crate::member::{Method, methods_right, put_methods};
+use crate::member::{Method, methods_fit, put_methods};
 use crate::part::{
-    all_right, are_halves, half_right, halves_right, put_all, put_half, put_halves, put_table,
-    table_right,
+    all_fit, are_halves, half_fits, halves_fit, put_all, put_half, put_halves, put_table,
+    table_fits,
 };
 use jv_class::of_pool::Constant;
 use std::alloc::{AllocError, Global};
@@ -36,21 +36,21 @@ fn count_of(pool: &[Constant<&[u8]>]) -> u64
     count
 }
 
-fn pool_right(pool: &[Constant<&[u8]>]) -> bool
+fn pool_fits(pool: &[Constant<&[u8]>]) -> bool
     ensures { result ≡ pool_fits (map seen pool.now) }
 {
-    count_of(pool) < 65536 && all_right(pool)
+    count_of(pool) < 65536 && all_fit(pool)
 }
 
-fn body_right<M: Method>(description: &Description<'_>, methods: &[M]) -> bool
+fn body_fits<M: Method>(description: &Description<'_>, methods: &[M]) -> bool
     ensures { result ≡ body_fits (with_methods (described_class description.now) (map M.method methods.now)) }
 {
-    halves_right(description.access_flags, description.this_class)
-        && half_right(description.super_class)
+    halves_fit(description.access_flags, description.this_class)
+        && half_fits(description.super_class)
         && are_halves(description.interfaces)
-        && table_right(description.fields)
-        && methods_right(methods)
-        && table_right(description.attributes)
+        && table_fits(description.fields)
+        && methods_fit(methods)
+        && table_fits(description.attributes)
 }
 
 /// What stands before the fields, the pool aside.
@@ -115,7 +115,7 @@ pub(crate) fn put_header(out: &mut Vec<u8>, minor: u16, major: u16) -> Result<()
 fn is_fit<M: Method>(description: &Description<'_>, methods: &[M]) -> bool
     ensures { IsTrue result ↔ IsFit (with_methods (described_class description.now) (map M.method methods.now)) }
 {
-    pool_right(description.constant_pool) && body_right(description, methods)
+    pool_fits(description.constant_pool) && body_fits(description, methods)
 }
 
 /// The bytes of a class file whose numbers fit.

@@ -81,14 +81,14 @@ impl BuiltCode {
         }
     }
 
-    fn is_right(&self, method: &BuiltMethod) -> bool
+    fn fits_fields(&self, method: &BuiltMethod) -> bool
         ensures { result ≡ method_fits (with_code method.now self.now) }
     {
         match &self.stack_map {
             Some(map) => method
                 .description(&[self.attribute(&[map.attribute()])])
-                .is_right(),
-            None => method.description(&[self.attribute(&[])]).is_right(),
+                .fits_fields(),
+            None => method.description(&[self.attribute(&[])]).fits_fields(),
         }
     }
 }
@@ -120,10 +120,10 @@ impl Method for BuiltMethod {
         }
     }
 
-    fn is_right(&self) -> bool {
+    fn fits_fields(&self) -> bool {
         match &self.code {
-            Some(code) => code.is_right(self),
-            None => self.description(&[]).is_right(),
+            Some(code) => code.fits_fields(self),
+            None => self.description(&[]).fits_fields(),
         }
     }
 }

@@ -7,7 +7,7 @@ ghost use Rattle.jv_asm_builder.specs.Added.{IsNew, IsAdded, HasRoom};
 ghost use Rattle.jv_asm_builder.specs.Inside.Pooled.{holding, key_holding, IsIndexFound, IsPooled};
 ghost use Rattle.jv_asm.specs.declared.fault.AsmFault.TheVariants.{TooLarge};
 
-use jv_asm::{AsmFault, constant_is_right, entries};
+use jv_asm::{AsmFault, constant_fits, entries};
 use jv_pool::Constant;
 use std::alloc::{AllocError, Global};
 use std::collections::BTreeMap;
@@ -103,7 +103,7 @@ impl<'a> PoolBuilder<'a> {
         }
         let index = self.count;
         let count = u64::from(index) + entries(&constant);
-        if count > 65535 || !constant_is_right(&constant) {
+        if count > 65535 || !constant_fits(&constant) {
             return Err(AsmFault::TooLarge);
         }
         self.add(constant, count as u16)?;

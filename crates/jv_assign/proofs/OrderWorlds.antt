@@ -12,7 +12,7 @@ use Rattle.jv_loader_classes.specs.of_loader_world.of_class_parts.Attributes.{so
 use Rattle.jv_loader_classes.specs.of_loader_world.of_class_parts.Flags.{has, acc_interface}
 use Rattle.jv_loader_classes.specs.of_loader_world.of_class.Class.{Class, all_found, field_of, method_of, super_of, class_of}
 use Rattle.jv_loader_classes.specs.of_loader_world.of_class.ClassFile.{class_name}
-use Rattle.jv_loader_classes.specs.of_loader_world.of_class.Rules.{is_object, is_no_array_name, IsNameRight, IsClassRight}
+use Rattle.jv_loader_classes.specs.of_loader_world.of_class.Rules.{is_object, is_no_array_name, KeepsRulesAsName, ItselfKeepsRules}
 use Rattle.jv_loader_classes.specs.of_loader_files.FileContent.{FileContent, IsContent, AreContents}
 use Rattle.jv_loader_classes.specs.of_loader_files.declared.content.Content.TheVariants.{OtherVersion, NoClassFile, MoreThanProfile, Holds}
 use Rattle.jv_loader_classes.specs.of_loader_world.World.{Loaded, World, loaded, class_named, is_reserved, has_class, with_class_of, joined_all, classes_in, world_of}
@@ -62,10 +62,10 @@ right_by interface false named (Some name) above no_name i n e =
     by_kind true h = h
     by_kind false h = refl
 
-class_right : (c : ClassStructure) (class : Class) → IsClassRight c → class_of c ≡ Some class → IsTrue (has_right_superclass class)
+class_right : (c : ClassStructure) (class : Class) → ItselfKeepsRules c → class_of c ≡ Some class → IsTrue (has_right_superclass class)
 class_right c class rules e =
     let parts = parts_of c class e in
-    let named : IsNameRight c.constant_pool c.super_class class.name = subst (λ o. IsSomeAnd o (IsNameRight c.constant_pool c.super_class)) parts.name rules.named in
+    let named : KeepsRulesAsName c.constant_pool c.super_class class.name = subst (λ o. IsSomeAnd o (KeepsRulesAsName c.constant_pool c.super_class)) parts.name rules.named in
     subst (λ f. IsTrue (if has f acc_interface then some_and is_object class.super_class else is_some class.super_class || is_object class.name)) parts.access_flags
     (right_by (has c.access_flags acc_interface) (c.super_class == 0) (is_object class.name) (class_name_at c.constant_pool c.super_class) class.super_class
     (λ t. ap (class_name_at c.constant_pool) (eqb-true c.super_class 0 t)) rules.supers.interface_super named.superclass parts.super_class)

@@ -20,7 +20,7 @@ use Rattle.jv_class_parts.specs.declared.member.Method.{Method}
 use Rattle.jv_class_parts.specs.Structure.{ClassStructure}
 use Rattle.std.specs.Prelude.{is_some, IfSome, slice_get}
 use Rattle.jv_class.proofs.ShownOf.{members_shown}
-use Rattle.jv_class.specs.Rules.{AreMembersRight, NoTwoAlike, is_object, is_no_array_name, is_class_at, IsNameRight, IsClassAt, AreSupersRight, IsFieldRight, IsMethodRight}
+use Rattle.jv_class.specs.Rules.{MembersKeepRules, NoTwoAlike, is_object, is_no_array_name, is_class_at, KeepsRulesAsName, IsClassAt, SupersKeepRules, KeepsRulesAsField, KeepsRulesAsMethod}
 use Rattle.jv_class.specs.Inside.Shown.{shown_field_texts, shown_method_texts, KeepsFieldShown, KeepsMethodShown}
 use Rattle.jv_class_parts.specs.Parts.{fields_of, methods_of}
 use Rattle.jv_class.proofs.Kept.{all_there, all_unseen, some_there}
@@ -178,16 +178,16 @@ unlike_methods pool xs ks zip some b h =
 
 -- ---- the texts of members that keep their rules are there
 
-pub fields_there : (c : ClassStructure) (pool : List Entry) (xs : List Field) → pool ≡ c.constant_pool → map seen_field xs ≡ fields_of c → AreMembersRight c → All (λ x. IsSome (shown_field_texts pool (seen_field x))) xs
+pub fields_there : (c : ClassStructure) (pool : List Entry) (xs : List Field) → pool ≡ c.constant_pool → map seen_field xs ≡ fields_of c → MembersKeepRules c → All (λ x. IsSome (shown_field_texts pool (seen_field x))) xs
 fields_there c pool xs e is right =
     let all : All (KeepsFieldShown c.constant_pool c.access_flags) (map seen_field xs) = subst (λ fs. All (KeepsFieldShown c.constant_pool c.access_flags) fs) (sym is) (members_shown c right).fields in
-    let some : All (λ f. IsSome (shown_field_texts c.constant_pool f)) (map seen_field xs) = all_there (shown_field_texts c.constant_pool) (λ f. IsFieldRight c.constant_pool c.access_flags f.access_flags f.constant_value) (map seen_field xs) all in
+    let some : All (λ f. IsSome (shown_field_texts c.constant_pool f)) (map seen_field xs) = all_there (shown_field_texts c.constant_pool) (λ f. KeepsRulesAsField c.constant_pool c.access_flags f.access_flags f.constant_value) (map seen_field xs) all in
     all_unseen (λ f. IsSome (shown_field_texts pool f)) seen_field xs (subst (λ p. All (λ f. IsSome (shown_field_texts p f)) (map seen_field xs)) (sym e) some)
 
-pub methods_there : (c : ClassStructure) (pool : List Entry) (xs : List Method) → pool ≡ c.constant_pool → map seen_method xs ≡ methods_of c → AreMembersRight c → All (λ x. IsSome (shown_method_texts pool (seen_method x))) xs
+pub methods_there : (c : ClassStructure) (pool : List Entry) (xs : List Method) → pool ≡ c.constant_pool → map seen_method xs ≡ methods_of c → MembersKeepRules c → All (λ x. IsSome (shown_method_texts pool (seen_method x))) xs
 methods_there c pool xs e is right =
     let all : All (KeepsMethodShown c.constant_pool c.access_flags) (map seen_method xs) = subst (λ fs. All (KeepsMethodShown c.constant_pool c.access_flags) fs) (sym is) (members_shown c right).methods in
-    let some : All (λ f. IsSome (shown_method_texts c.constant_pool f)) (map seen_method xs) = all_there (shown_method_texts c.constant_pool) (λ m. IsMethodRight c.access_flags m.access_flags (is_some m.code)) (map seen_method xs) all in
+    let some : All (λ f. IsSome (shown_method_texts c.constant_pool f)) (map seen_method xs) = all_there (shown_method_texts c.constant_pool) (λ m. KeepsRulesAsMethod c.access_flags m.access_flags (is_some m.code)) (map seen_method xs) all in
     all_unseen (λ f. IsSome (shown_method_texts pool f)) seen_method xs (subst (λ p. All (λ f. IsSome (shown_method_texts p f)) (map seen_method xs)) (sym e) some)
 
 class_there : (o : Option (List ℕ)) → IsTrue (some_and is_no_array_name o) → IsSome o
@@ -200,7 +200,7 @@ classes_named pool (x ∷ xs) all =
     All-cons (λ i. IsSome (class_name_at pool i.0)) x xs (class_there (class_name_at pool x.0) (All-head (IsClassAt pool) x.0 (map seen_index xs) all))
     (classes_named pool xs (All-tail (IsClassAt pool) x.0 (map seen_index xs) all))
 
-pub classes_there : (c : ClassStructure) (xs : List ClassIndex) → map seen_index xs ≡ c.interfaces → AreSupersRight c → All (λ i. IsSome (class_name_at c.constant_pool i.0)) xs
+pub classes_there : (c : ClassStructure) (xs : List ClassIndex) → map seen_index xs ≡ c.interfaces → SupersKeepRules c → All (λ i. IsSome (class_name_at c.constant_pool i.0)) xs
 classes_there c xs is right = classes_named c.constant_pool xs (subst (All (IsClassAt c.constant_pool)) (sym is) right.interfaces)
 
 first_there : (a b : Option (List ℕ)) → IsSome (joined a b) → IsSome a
@@ -234,7 +234,7 @@ named_unless_zero : (object : Bool) (pool : List Entry) (index : ℕ) → (index
 named_unless_zero true pool index other h = absurd (other (eqb-true index 0 h))
 named_unless_zero false pool index other h = some_named _ (class_name_at pool index) h
 
-pub super_there : (pool : List Entry) (index : ℕ) (name : Option (List ℕ)) → IsSomeAnd name (IsNameRight pool index) → (index ≡ 0 → ⊥) → IsSome (class_name_at pool index)
+pub super_there : (pool : List Entry) (index : ℕ) (name : Option (List ℕ)) → IsSomeAnd name (KeepsRulesAsName pool index) → (index ≡ 0 → ⊥) → IsSome (class_name_at pool index)
 super_there pool index None h other = absurd h
 super_there pool index (Some name) h other = named_unless_zero (is_object name) pool index other h.superclass
 
@@ -252,18 +252,18 @@ if_some_same : {X : Type 0} (o : Option X) (P Q : X → Type 0) → ((x : X) →
 if_some_same None P Q f h = tt
 if_some_same (Some x) P Q f h = f x h
 
-pub field_there : (c : ClassStructure) (place : ℕ) (o : Option Field) → AreMembersRight c → option_map seen_field o ≡ slice_get (fields_of c) place
+pub field_there : (c : ClassStructure) (place : ℕ) (o : Option Field) → MembersKeepRules c → option_map seen_field o ≡ slice_get (fields_of c) place
     → IfSome o (λ f. IsSome (utf8_at c.constant_pool f.name.0)) × IfSome o (λ f. IsSome (utf8_at c.constant_pool f.descriptor.0))
 field_there c place o right e =
-    let there = texts_at seen_field c.constant_pool (shown_field_texts c.constant_pool) (λ t f. IsFieldRight c.constant_pool c.access_flags f.access_flags f.constant_value t) (fields_of c) place o (members_shown c right).fields e in (
+    let there = texts_at seen_field c.constant_pool (shown_field_texts c.constant_pool) (λ t f. KeepsRulesAsField c.constant_pool c.access_flags f.access_flags f.constant_value t) (fields_of c) place o (members_shown c right).fields e in (
       if_some_same o _ _ (λ f h. first_there (utf8_at c.constant_pool f.name.0) (utf8_at c.constant_pool f.descriptor.0) h) there,
       if_some_same o _ _ (λ f h. second_there (utf8_at c.constant_pool f.name.0) (utf8_at c.constant_pool f.descriptor.0) h) there,
     )
 
-pub method_there : (c : ClassStructure) (place : ℕ) (o : Option Method) → AreMembersRight c → option_map seen_method o ≡ slice_get (methods_of c) place
+pub method_there : (c : ClassStructure) (place : ℕ) (o : Option Method) → MembersKeepRules c → option_map seen_method o ≡ slice_get (methods_of c) place
     → IfSome o (λ m. IsSome (utf8_at c.constant_pool m.name.0)) × IfSome o (λ m. IsSome (utf8_at c.constant_pool m.descriptor.0))
 method_there c place o right e =
-    let there = texts_at seen_method c.constant_pool (shown_method_texts c.constant_pool) (λ t m. IsMethodRight c.access_flags m.access_flags (is_some m.code) t) (methods_of c) place o (members_shown c right).methods e in (
+    let there = texts_at seen_method c.constant_pool (shown_method_texts c.constant_pool) (λ t m. KeepsRulesAsMethod c.access_flags m.access_flags (is_some m.code) t) (methods_of c) place o (members_shown c right).methods e in (
       if_some_same o _ _ (λ m h. first_there (utf8_at c.constant_pool m.name.0) (utf8_at c.constant_pool m.descriptor.0) h) there,
       if_some_same o _ _ (λ m h. second_there (utf8_at c.constant_pool m.name.0) (utf8_at c.constant_pool m.descriptor.0) h) there,
     )

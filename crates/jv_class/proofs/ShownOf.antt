@@ -8,9 +8,9 @@ use Rattle.jv_class_parts.specs.of_pool.Constants.{Entry}
 use Rattle.jv_class_parts.specs.Structure.{MethodInfo, ClassStructure}
 use Rattle.jv_class_parts.specs.Attributes.{sole, codes_of}
 use Rattle.jv_class_parts.specs.Parts.{code_shown, field_shown, method_shown}
-use Rattle.jv_class.specs.Rules.{KeepsMethodRules, IsMethodRight, NoTwoAlike, AreMembersRight, AreMembersUnlike, has_code, method_texts}
+use Rattle.jv_class.specs.Rules.{KeepsMethodRules, KeepsRulesAsMethod, NoTwoAlike, MembersKeepRules, AreMembersUnlike, has_code, method_texts}
 use Rattle.jv_class.specs.Supported.{IsSupported}
-use Rattle.jv_class.specs.Inside.Shown.{KeepsFieldShown, KeepsMethodShown, shown_field_texts, shown_method_texts, IsFieldShownSupported, IsMethodShownSupported, AreShownRight, AreShownUnlike, AreShownSupported}
+use Rattle.jv_class.specs.Inside.Shown.{KeepsFieldShown, KeepsMethodShown, shown_field_texts, shown_method_texts, IsFieldShownSupported, IsMethodShownSupported, ShownKeepRules, AreShownUnlike, AreShownSupported}
 use Rattle.jv_class.proofs.Kept.{all_unseen}
 
 pub all_also : {A : Type 0} (P Q : A → Type 0) → ((a : A) → P a → Q a) → (xs : List A) → All P xs → All Q xs
@@ -31,22 +31,22 @@ code_there : (pool : List Entry) (m : MethodInfo) → has_code m ≡ is_some (me
 code_there pool m = some_mapped (code_shown pool) (sole (codes_of m))
 
 pub method_shown_keeps : (pool : List Entry) (flags : ℕ) (m : MethodInfo) → KeepsMethodRules pool flags m → KeepsMethodShown pool flags (method_shown pool m)
-method_shown_keeps pool flags m = subst (λ code. IsSomeAnd (method_texts pool m) (IsMethodRight flags m.access_flags code)) (code_there pool m)
+method_shown_keeps pool flags m = subst (λ code. IsSomeAnd (method_texts pool m) (KeepsRulesAsMethod flags m.access_flags code)) (code_there pool m)
 
 method_keeps : (pool : List Entry) (flags : ℕ) (m : MethodInfo) → KeepsMethodShown pool flags (method_shown pool m) → KeepsMethodRules pool flags m
-method_keeps pool flags m = subst (λ code. IsSomeAnd (method_texts pool m) (IsMethodRight flags m.access_flags code)) (sym (code_there pool m))
+method_keeps pool flags m = subst (λ code. IsSomeAnd (method_texts pool m) (KeepsRulesAsMethod flags m.access_flags code)) (sym (code_there pool m))
 
 -- ---- the rules of all
 
-pub members_shown : (c : ClassStructure) → AreMembersRight c → AreShownRight c
+pub members_shown : (c : ClassStructure) → MembersKeepRules c → ShownKeepRules c
 members_shown c right = record {
   fields = All-map (KeepsFieldShown c.constant_pool c.access_flags) (field_shown c.constant_pool) c.fields right.fields;
   methods = All-map (KeepsMethodShown c.constant_pool c.access_flags) (method_shown c.constant_pool) c.methods
       (all_also (KeepsMethodRules c.constant_pool c.access_flags) (λ m. KeepsMethodShown c.constant_pool c.access_flags (method_shown c.constant_pool m)) (method_shown_keeps c.constant_pool c.access_flags) c.methods right.methods);
 }
 
-pub members_right : (c : ClassStructure) → AreShownRight c → AreMembersRight c
-members_right c shown = record {
+pub members_keep_rules : (c : ClassStructure) → ShownKeepRules c → MembersKeepRules c
+members_keep_rules c shown = record {
   fields = all_unseen (KeepsFieldShown c.constant_pool c.access_flags) (field_shown c.constant_pool) c.fields shown.fields;
   methods = all_also (λ m. KeepsMethodShown c.constant_pool c.access_flags (method_shown c.constant_pool m)) (KeepsMethodRules c.constant_pool c.access_flags) (method_keeps c.constant_pool c.access_flags) c.methods
       (all_unseen (KeepsMethodShown c.constant_pool c.access_flags) (method_shown c.constant_pool) c.methods shown.methods);

@@ -27,7 +27,7 @@ use Rattle.jv_class_parts.specs.of_pool.Constants.{NameAndDescriptor, name_and_d
 use Rattle.jv_class_parts.specs.of_pool.Facts.{value_of_base, value_of_element, value_of_type}
 use Rattle.jv_class_parts.specs.Structure.{ClassStructure}
 use Rattle.jv_class_parts.specs.Parts.{FieldSeen}
-use Rattle.jv_class.specs.Rules.{is_integer, is_long, is_string, takes, value_right, IsFieldRight, KeepsClassRules}
+use Rattle.jv_class.specs.Rules.{is_integer, is_long, is_string, takes, value_keeps_rules, KeepsRulesAsField, KeepsClassRules}
 use Rattle.jv_class.proofs.ShownOf.{members_shown, supported_shown}
 use Rattle.jv_class.specs.Inside.Shown.{KeepsFieldShown}
 use Rattle.jv_class_parts.specs.Parts.{fields_of}
@@ -112,15 +112,15 @@ both_ways : (b : Bool) → b ≡ true → IsTrue (not b) → ⊥
 both_ways b t n = cc
 
 module _ (pool : List Entry) (flags : ℕ) (f : FieldSeen) (index : ℕ) (at : f.constant_value ≡ Some index) where
-  right_value : (texts : NameAndDescriptor) → IsFieldRight pool flags f.access_flags f.constant_value texts → HasNoFloating texts.descriptor → is_value (kind_at pool index) ≡ true
-  right_value texts right none =
-      taken (value_of_type right.type) (kind_at pool index) (ap (value_right pool (value_of_type right.type)) (sym at) ∙ right.value_kind)
+  kept_value : (texts : NameAndDescriptor) → KeepsRulesAsField pool flags f.access_flags f.constant_value texts → HasNoFloating texts.descriptor → is_value (kind_at pool index) ≡ true
+  kept_value texts right none =
+      taken (value_of_type right.type) (kind_at pool index) (ap (value_keeps_rules pool (value_of_type right.type)) (sym at) ∙ right.value_kind)
       (λ e. both_ways (is_floating right.type) (floating_type right.type e) (none.field right.type right.described))
 
-  by_texts : (n d : Option (List ℕ)) → IsSomeAnd (n >>= λ a. d >>= λ b. Some (name_and_descriptor a b)) (IsFieldRight pool flags f.access_flags f.constant_value) → IsSomeAnd d HasNoFloating → is_value (kind_at pool index) ≡ true
+  by_texts : (n d : Option (List ℕ)) → IsSomeAnd (n >>= λ a. d >>= λ b. Some (name_and_descriptor a b)) (KeepsRulesAsField pool flags f.access_flags f.constant_value) → IsSomeAnd d HasNoFloating → is_value (kind_at pool index) ≡ true
   by_texts None d right none = absurd right
   by_texts (Some n) None right none = absurd right
-  by_texts (Some n) (Some d) right none = right_value (name_and_descriptor n d) right none
+  by_texts (Some n) (Some d) right none = kept_value (name_and_descriptor n d) right none
 
   pub value_kept : KeepsFieldShown pool flags f → IsFieldShownSupported pool f → is_value (kind_at pool index) ≡ true
   value_kept right none = by_texts (utf8_at pool f.name_index) (utf8_at pool f.descriptor_index) right none

@@ -4,7 +4,7 @@ use Rattle.jv_class_parts.specs.of_format.Format.{half}
 use Rattle.jv_class_parts.specs.of_pool.Constants.{class_name_at, pool_bytes}
 use Rattle.jv_class_parts.specs.of_pool.Rules.{IsPool}
 use Rattle.jv_class_parts.specs.Structure.{ClassStructure, magic, class_bytes, body_fits}
-use Rattle.jv_class_parts.specs.Attributes.{attributes_right}
+use Rattle.jv_class_parts.specs.Attributes.{attributes_keep_rules}
 use Rattle.jv_class_parts.specs.Parts.{is_52_0}
 use Rattle.jv_class.specs.Rules.{KeepsClassRules}
 use Rattle.jv_class.specs.Supported.{IsSupported}
@@ -24,7 +24,7 @@ pub record IsOtherVersion (bytes : List ℕ) : Type 0 where
 pub record IsWellFormed (c : ClassStructure) : Type 0 where
   pub pool : IsPool (pool_bytes c.constant_pool) c.constant_pool
   pub fits : IsTrue (body_fits c)
-  pub attributes : IsTrue (attributes_right c)
+  pub attributes : IsTrue (attributes_keep_rules c)
   pub rules : KeepsClassRules c
 
 -- the bytes are the class file with this structure

@@ -8,7 +8,7 @@ ghost use Rattle.std.specs.List.{All, AllZip, IsDistinct};
 ghost use Rattle.jv_class_parts.specs.of_pool.Constants.{utf8_at};
 ghost use Rattle.jv_class_parts.specs.Seen.{seen_field, seen_method};
 ghost use Rattle.jv_class.specs.Inside.Reading.{IsKeyOf, IsFieldKey, IsMethodKey, FailsForMemory};
-ghost use Rattle.jv_class.specs.Rules.{NoTwoAlike, AreMembersRight, AreMembersUnlike};
+ghost use Rattle.jv_class.specs.Rules.{NoTwoAlike, MembersKeepRules, AreMembersUnlike};
 ghost use Rattle.jv_class.specs.Inside.Shown.{shown_field_texts, shown_method_texts, AreShownUnlike};
 ghost use Rattle.jv_class.specs.declared.fault.ClassFault.TheVariants.{Memory};
 
@@ -99,7 +99,7 @@ fn methods_are_unlike(
 
 /// The same of each as it was read.
 fn shown_are_unlike(alloc: Global, parts: &Parts<'_>) -> Result<bool, ClassFault>
-    requires { AreMembersRight parts.now }
+    requires { MembersKeepRules parts.now }
     ensures ok { IfOk result (λ unlike. IsTrue unlike ↔ AreShownUnlike parts.now) }
     ensures memory { FailsForMemory result }
 {
@@ -111,7 +111,7 @@ fn shown_are_unlike(alloc: Global, parts: &Parts<'_>) -> Result<bool, ClassFault
 
 /// Whether no two fields, and no two methods, are alike.
 pub(crate) fn members_are_unlike(alloc: Global, parts: &Parts<'_>) -> Result<bool, ClassFault>
-    requires { AreMembersRight parts.now }
+    requires { MembersKeepRules parts.now }
     ensures ok { IfOk result (λ unlike. IsTrue unlike ↔ AreMembersUnlike parts.now) }
     ensures memory { FailsForMemory result }
 {

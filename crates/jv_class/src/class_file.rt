@@ -5,20 +5,20 @@ ghost use Rattle.std.specs.Option.{option_map};
 ghost use Rattle.std.specs.List.{All};
 ghost use Rattle.jv_class_parts.specs.of_pool.Constants.{class_name_at, pool_bytes, utf8_at};
 ghost use Rattle.jv_class_parts.specs.of_pool.Rules.{IsPool};
-ghost use Rattle.jv_class_parts.specs.Attributes.{attributes_right};
+ghost use Rattle.jv_class_parts.specs.Attributes.{attributes_keep_rules};
 ghost use Rattle.jv_class_parts.specs.Structure.{body_fits};
 ghost use Rattle.jv_class_parts.specs.Seen.{seen_index, seen_field, seen_method};
 ghost use Rattle.jv_class.specs.ClassFile.{class_name, IsWellFormed};
 ghost use Rattle.jv_class.specs.ClassFile.{super_index};
-ghost use Rattle.jv_class.specs.Rules.{AreMembersRight, KeepsClassRules};
-ghost use Rattle.jv_class.specs.Inside.Shown.{AreShownRight, AreShownSupported};
+ghost use Rattle.jv_class.specs.Rules.{MembersKeepRules, KeepsClassRules};
+ghost use Rattle.jv_class.specs.Inside.Shown.{ShownKeepRules, AreShownSupported};
 ghost use Rattle.jv_class_parts.specs.Parts.{fields_of, methods_of};
 ghost use Rattle.jv_class.specs.Supported.{IsSupported};
 ghost use Rattle.jv_class.specs.Value.{value_number, IsValueNamed, value_of_field};
 ghost use Rattle.jv_class.specs.declared.fault.ClassFault.TheVariants.{Version, Format, Unsupported};
 
 use crate::alike::members_are_unlike;
-use crate::class_rules::class_is_right;
+use crate::class_rules::itself_keeps_rules;
 use crate::constant_value::{ConstantValue, value_at};
 use crate::fault::ClassFault;
 use crate::supported::{are_supported_constants, are_supported_fields, are_supported_methods};
@@ -47,18 +47,18 @@ impl<'a> Model for ClassFile<'a> {
 }
 
 /// Whether fields and methods, as they were read, keep the rules of their own.
-fn shown_are_right(parts: &Parts<'_>) -> bool
-    ensures { IsTrue result ↔ AreShownRight parts.now }
+fn shown_keep_rules(parts: &Parts<'_>) -> bool
+    ensures { IsTrue result ↔ ShownKeepRules parts.now }
 {
     field_rules::keep_rules(parts.pool(), parts.access_flags(), parts.fields())
         && method_rules::keep_rules(parts.pool(), parts.access_flags(), parts.methods())
 }
 
 /// Whether fields and methods keep the rules of their own.
-fn members_are_right(parts: &Parts<'_>) -> bool
-    ensures { IsTrue result ↔ AreMembersRight parts.now }
+fn members_keep_rules(parts: &Parts<'_>) -> bool
+    ensures { IsTrue result ↔ MembersKeepRules parts.now }
 {
-    shown_are_right(parts)
+    shown_keep_rules(parts)
 }
 
 fn shown_are_supported(parts: &Parts<'_>) -> bool
@@ -75,43 +75,60 @@ fn is_supported(parts: &Parts<'_>) -> bool
     shown_are_supported(parts)
 }
 
+/// Whether these parts keep the rules and the profile supports them; why not, where they don't.
+fn judged(alloc: Global, parts: &Parts<'_>) -> Result<(), ClassFault>
+    ensures right { IfOk result (λ _. KeepsClassRules parts.now × IsSupported parts.now) }
+    ensures format { result ≡ Err Format → KeepsClassRules parts.now → ⊥ }
+    ensures unsupported { result ≡ Err Unsupported → KeepsClassRules parts.now × (IsSupported parts.now → ⊥) }
+    ensures version { result ≢ Err Version }
+{
+    if !itself_keeps_rules(parts) || !members_keep_rules(parts) {
+        return Err(ClassFault::Format);
+    }
+    if !members_are_unlike(alloc, parts)? {
+        return Err(ClassFault::Format);
+    }
+    if !is_supported(parts) {
+        return Err(ClassFault::Unsupported);
+    }
+    Ok(())
+}
+
 /// The class of these parts, where they keep the rules and the profile supports them.
 pub(crate) fn class_of(alloc: Global, parts: Parts<'_>) -> Result<ClassFile<'_>, ClassFault>
     requires pool { IsPool (pool_bytes parts.constant_pool) parts.constant_pool }
     requires fits { IsTrue (body_fits parts) }
-    requires attributes { IsTrue (attributes_right parts) }
+    requires attributes { IsTrue (attributes_keep_rules parts) }
     ensures found { IfOk result (λ c. c ≡ parts.entry) }
     ensures right { IfOk result (λ c. KeepsClassRules c × IsSupported c) }
     ensures format { result ≡ Err Format → KeepsClassRules parts.entry → ⊥ }
     ensures unsupported { result ≡ Err Unsupported → KeepsClassRules parts.entry × (IsSupported parts.entry → ⊥) }
     ensures version { result ≢ Err Version }
 {
-    if !class_is_right(&parts) || !members_are_right(&parts) {
-        return Err(ClassFault::Format);
+    match judged(alloc, &parts) {
+        Ok(()) => Ok(ClassFile { parts }),
+        Err(fault) => Err(fault),
     }
-    if !members_are_unlike(alloc, &parts)? {
-        return Err(ClassFault::Format);
-    }
-    if !is_supported(&parts) {
-        return Err(ClassFault::Unsupported);
-    }
-    Ok(ClassFile { parts })
 }
 
 /// The method at a place.
 fn method_at<'a>(parts: &Parts<'a>, place: usize) -> Option<Method<'a>>
     ensures { option_map seen_method result ≡ slice_get (methods_of parts.now) place }
 {
-    let method = parts.methods().get(place)?;
-    Some(*method)
+    match parts.methods().get(place) {
+        Some(method) => Some(*method),
+        None => None,
+    }
 }
 
 /// The field at a place.
 fn field_at(parts: &Parts<'_>, place: usize) -> Option<Field>
     ensures { option_map seen_field result ≡ slice_get (fields_of parts.now) place }
 {
-    let field = parts.fields().get(place)?;
-    Some(*field)
+    match parts.fields().get(place) {
+        Some(field) => Some(*field),
+        None => None,
+    }
 }
 
 impl<'a> ClassFile<'a> {
@@ -222,8 +239,12 @@ impl<'a> ClassFile<'a> {
         ensures same { option_map value_number result ≡ value_of_field self.now place }
         ensures named { IfSome result (λ value. IsValueNamed self.now.constant_pool value) }
     {
-        let field = field_at(&self.parts, place)?;
-        let index = field.constant_value?;
+        let Some(field) = field_at(&self.parts, place) else {
+            return None;
+        };
+        let Some(index) = field.constant_value else {
+            return None;
+        };
         value_at(self.parts.pool(), index)
     }
 }

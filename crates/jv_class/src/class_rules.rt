@@ -7,7 +7,7 @@ ghost use Rattle.jv_class_parts.specs.of_pool.Constants.{class_name_at};
 ghost use Rattle.jv_class_parts.specs.of_pool.Seen.{seen_text};
 ghost use Rattle.jv_class_parts.specs.Attributes.{some_and};
 ghost use Rattle.jv_class_parts.specs.Seen.{seen_index};
-ghost use Rattle.jv_class.specs.Rules.{is_object, is_no_array_name, is_class_at, IsClassAt, super_right, interface_super_right, IsNameRight, AreSupersRight, IsClassRight};
+ghost use Rattle.jv_class.specs.Rules.{is_object, is_no_array_name, is_class_at, IsClassAt, super_keeps_rules, interface_super_keeps_rules, KeepsRulesAsName, SupersKeepRules, ItselfKeepsRules};
 
 use crate::flags::are_of_class;
 use crate::names::is_object;
@@ -19,8 +19,10 @@ use jv_class_parts::{ClassFlags, Parts};
 fn name_at<'a>(pool: &Pool<'a>, index: u16) -> Option<&'a [u8]>
     ensures { option_map seen_text result ≡ class_name_at pool.now index }
 {
-    let index = pool.class_index(index)?;
-    Some(pool.class_name(index))
+    match pool.class_index(index) {
+        Some(index) => Some(pool.class_name(index)),
+        None => None,
+    }
 }
 
 /// Whether the index is that of a Class constant with the name java/lang/Object.
@@ -43,8 +45,8 @@ fn is_class_at(pool: &Pool<'_>, index: u16) -> bool
     }
 }
 
-fn super_is_right(pool: &Pool<'_>, name: &[u8], super_class: u16) -> bool
-    ensures { result ≡ super_right pool.now name.now super_class }
+fn super_keeps_rules(pool: &Pool<'_>, name: &[u8], super_class: u16) -> bool
+    ensures { result ≡ super_keeps_rules pool.now name.now super_class }
 {
     if is_object(name) {
         super_class == 0
@@ -54,8 +56,8 @@ fn super_is_right(pool: &Pool<'_>, name: &[u8], super_class: u16) -> bool
 }
 
 /// Whether the superclass of an interface is java/lang/Object.
-fn interface_super_is_right(pool: &Pool<'_>, class_flags: ClassFlags, super_class: u16) -> bool
-    ensures { result ≡ interface_super_right pool.now class_flags.0 super_class }
+fn interface_super_keeps_rules(pool: &Pool<'_>, class_flags: ClassFlags, super_class: u16) -> bool
+    ensures { result ≡ interface_super_keeps_rules pool.now class_flags.0 super_class }
 {
     if class_flags.intersects(ClassFlags::INTERFACE) {
         is_object_at(pool, super_class)
@@ -64,18 +66,18 @@ fn interface_super_is_right(pool: &Pool<'_>, class_flags: ClassFlags, super_clas
     }
 }
 
-fn is_name_right(pool: &Pool<'_>, name: &[u8], super_class: u16) -> bool
-    ensures { IsTrue result ↔ IsNameRight pool.now super_class name.now }
+fn name_keeps_rules(pool: &Pool<'_>, name: &[u8], super_class: u16) -> bool
+    ensures { IsTrue result ↔ KeepsRulesAsName pool.now super_class name.now }
 {
-    !is_array_name(name) && super_is_right(pool, name, super_class)
+    !is_array_name(name) && super_keeps_rules(pool, name, super_class)
 }
 
 /// Whether a class has a name that goes with its superclass.
 fn is_named(pool: &Pool<'_>, this_class: u16, super_class: u16) -> bool
-    ensures { IsTrue result ↔ IsSomeAnd (class_name_at pool.now this_class) (IsNameRight pool.now super_class) }
+    ensures { IsTrue result ↔ IsSomeAnd (class_name_at pool.now this_class) (KeepsRulesAsName pool.now super_class) }
 {
     match name_at(pool, this_class) {
-        Some(name) => is_name_right(pool, name, super_class),
+        Some(name) => name_keeps_rules(pool, name, super_class),
         None => false,
     }
 }
@@ -97,18 +99,18 @@ fn each_is_class(pool: &Pool<'_>, interfaces: &[ClassIndex]) -> bool
 }
 
 /// Whether the superclass and the interfaces of a class are right.
-fn supers_are_right(parts: &Parts<'_>) -> bool
-    ensures { IsTrue result ↔ AreSupersRight parts.now }
+fn supers_keep_rules(parts: &Parts<'_>) -> bool
+    ensures { IsTrue result ↔ SupersKeepRules parts.now }
 {
-    interface_super_is_right(parts.pool(), parts.access_flags(), parts.super_class())
+    interface_super_keeps_rules(parts.pool(), parts.access_flags(), parts.super_class())
         && are_classes(parts.pool(), parts.interfaces())
 }
 
 /// Whether the class's own flags and names keep their rules.
-pub(crate) fn class_is_right(parts: &Parts<'_>) -> bool
-    ensures { IsTrue result ↔ IsClassRight parts.now }
+pub(crate) fn itself_keeps_rules(parts: &Parts<'_>) -> bool
+    ensures { IsTrue result ↔ ItselfKeepsRules parts.now }
 {
     are_of_class(parts.access_flags())
         && is_named(parts.pool(), parts.this_class(), parts.super_class())
-        && supers_are_right(parts)
+        && supers_keep_rules(parts)
 }

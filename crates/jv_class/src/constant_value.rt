@@ -26,10 +26,10 @@ pub(crate) fn value_at(pool: &Pool<'_>, index: u16) -> Option<ConstantValue>
     ensures named { IfSome result (λ value. IsValueNamed pool.now value) }
     ensures none { IfNone result (is_value (kind_at pool.now index) ≡ false) }
 {
-    match pool.kind(index)? {
-        Kind::Integer => Some(ConstantValue::Integer(IntegerIndex(index))),
-        Kind::Long => Some(ConstantValue::Long(LongIndex(index))),
-        Kind::String => Some(ConstantValue::String(StringIndex(index))),
+    match pool.kind(index) {
+        Some(Kind::Integer) => Some(ConstantValue::Integer(IntegerIndex(index))),
+        Some(Kind::Long) => Some(ConstantValue::Long(LongIndex(index))),
+        Some(Kind::String) => Some(ConstantValue::String(StringIndex(index))),
         _ => None,
     }
 }

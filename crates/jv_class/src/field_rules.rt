@@ -6,7 +6,7 @@ ghost use Rattle.jv_class_parts.specs.of_pool.Constants.{NameAndDescriptor};
 ghost use Rattle.jv_class_parts.specs.of_pool.Facts.{AreFacts};
 ghost use Rattle.jv_class_parts.specs.Flags.{has, acc_interface};
 ghost use Rattle.jv_class_parts.specs.Seen.{seen_field};
-ghost use Rattle.jv_class.specs.Rules.{interface_field_flags_right, field_flags_right, takes, value_right, IsFieldRight};
+ghost use Rattle.jv_class.specs.Rules.{interface_field_flags_keep_rules, field_flags_keep_rules, takes, value_keeps_rules, KeepsRulesAsField};
 ghost use Rattle.jv_class.specs.Inside.Shown.{KeepsFieldShown};
 
 use crate::flags::{are_not_final_and_volatile, are_of_interface_field, have_one_visibility};
@@ -14,8 +14,8 @@ use bitflags::Flags;
 use jv_class_parts::of_pool::{ConstantValueKind, FieldFacts, Kind, Pool, TextFacts};
 use jv_class_parts::{ClassFlags, Field, FieldFlags};
 
-fn are_right_in(in_interface: bool, flags: FieldFlags) -> bool
-    ensures { result ≡ interface_field_flags_right in_interface flags.0 }
+fn flags_keep_rules_in(in_interface: bool, flags: FieldFlags) -> bool
+    ensures { result ≡ interface_field_flags_keep_rules in_interface flags.0 }
 {
     if in_interface {
         are_of_interface_field(flags)
@@ -24,12 +24,12 @@ fn are_right_in(in_interface: bool, flags: FieldFlags) -> bool
     }
 }
 
-fn flags_are_right(in_interface: bool, flags: FieldFlags) -> bool
-    ensures { result ≡ field_flags_right in_interface flags.0 }
+fn flags_keep_rules(in_interface: bool, flags: FieldFlags) -> bool
+    ensures { result ≡ field_flags_keep_rules in_interface flags.0 }
 {
     have_one_visibility(flags.0)
         && are_not_final_and_volatile(flags)
-        && are_right_in(in_interface, flags)
+        && flags_keep_rules_in(in_interface, flags)
 }
 
 /// Whether a static field whose type asks for such a value may have a constant of that kind.
@@ -45,8 +45,8 @@ fn takes(value: ConstantValueKind, constant: Option<Kind>) -> bool
     }
 }
 
-fn value_is_right(pool: &Pool<'_>, value: ConstantValueKind, constant: Option<u16>) -> bool
-    ensures { result ≡ value_right pool.now value constant }
+fn value_keeps_rules(pool: &Pool<'_>, value: ConstantValueKind, constant: Option<u16>) -> bool
+    ensures { result ≡ value_keeps_rules pool.now value constant }
 {
     match constant {
         Some(index) => takes(value, pool.kind(index)),
@@ -55,26 +55,26 @@ fn value_is_right(pool: &Pool<'_>, value: ConstantValueKind, constant: Option<u1
 }
 
 /// Whether a field with a name and a type of which this is known keeps the rules.
-fn is_right(
+fn keeps_rules_by_facts(
     pool: &Pool<'_>,
     class_flags: ClassFlags,
     field: Field,
     name: TextFacts,
     facts: FieldFacts,
 ) -> bool
-    ensures { result ≡ (name.unqualified && field_flags_right (has class_flags.0 acc_interface) field.access_flags.0
-        && value_right pool.now facts.value field.constant_value) }
+    ensures { result ≡ (name.unqualified && field_flags_keep_rules (has class_flags.0 acc_interface) field.access_flags.0
+        && value_keeps_rules pool.now facts.value field.constant_value) }
 {
     name.unqualified
-        && flags_are_right(
+        && flags_keep_rules(
             class_flags.intersects(ClassFlags::INTERFACE),
             field.access_flags,
         )
-        && value_is_right(pool, facts.value, field.constant_value)
+        && value_keeps_rules(pool, facts.value, field.constant_value)
 }
 
 /// Whether a field with texts of which this is known keeps the rules.
-fn is_right_field(
+fn field_keeps_rules(
     pool: &Pool<'_>,
     class_flags: ClassFlags,
     field: Field,
@@ -82,10 +82,10 @@ fn is_right_field(
     descriptor: TextFacts,
 ) -> bool
     ensures { (texts : NameAndDescriptor) → AreFacts texts.name name → AreFacts texts.descriptor descriptor
-        → (IsTrue result ↔ IsFieldRight pool.now class_flags.0 field.access_flags.0 field.constant_value texts) }
+        → (IsTrue result ↔ KeepsRulesAsField pool.now class_flags.0 field.access_flags.0 field.constant_value texts) }
 {
     match descriptor.field {
-        Some(facts) => is_right(pool, class_flags, field, name, facts),
+        Some(facts) => keeps_rules_by_facts(pool, class_flags, field, name, facts),
         None => false,
     }
 }
@@ -99,7 +99,7 @@ fn keeps_rules(pool: &Pool<'_>, class_flags: ClassFlags, field: Field) -> bool
     let Some(descriptor) = pool.utf8_index(field.descriptor.0) else {
         return false;
     };
-    is_right_field(
+    field_keeps_rules(
         pool,
         class_flags,
         field,

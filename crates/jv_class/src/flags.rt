@@ -1,7 +1,7 @@
 //! Which access flags go together (JVMS tables 4.1-A, 4.5-A and 4.6-A).
 
 ghost use Rattle.std.specs.Prelude.{◌≡◌};
-ghost use Rattle.jv_class_parts.specs.Flags.{class_flags_right, visibility, visibility_right, volatile_right, interface_field_right, abstract_right, interface_method_right, init_flags_right};
+ghost use Rattle.jv_class_parts.specs.Flags.{class_flags_keep_rules, visibility, visibility_keeps_rules, volatile_keeps_rules, interface_field_keeps_rules, abstract_keeps_rules, interface_method_keeps_rules, init_flags_keep_rules};
 
 use bitflags::Flags;
 use jv_class_parts::{ClassFlags, FieldFlags, MethodFlags};
@@ -28,7 +28,7 @@ const VISIBILITIES: u16 = 0x0007;
 
 /// Whether a class can have these flags (4.1).
 pub(crate) fn are_of_class(flags: ClassFlags) -> bool
-    ensures { result ≡ class_flags_right flags.0 }
+    ensures { result ≡ class_flags_keep_rules flags.0 }
 {
     if flags.intersects(ClassFlags::INTERFACE) {
         flags.intersects(ClassFlags::ABSTRACT) && !flags.intersects(FINAL_SUPER_OR_ENUM)
@@ -46,7 +46,7 @@ fn visibility(flags: u16) -> u16
 
 /// Whether at most one of public, private and protected is set (4.5, 4.6).
 pub(crate) fn have_one_visibility(flags: u16) -> bool
-    ensures { result ≡ visibility_right flags }
+    ensures { result ≡ visibility_keeps_rules flags }
 {
     let visibility = visibility(flags);
     visibility == 0 || visibility == 1 || visibility == 2 || visibility == 4
@@ -54,21 +54,21 @@ pub(crate) fn have_one_visibility(flags: u16) -> bool
 
 /// Whether a field is not final and volatile (4.5).
 pub(crate) fn are_not_final_and_volatile(flags: FieldFlags) -> bool
-    ensures { result ≡ volatile_right flags.0 }
+    ensures { result ≡ volatile_keeps_rules flags.0 }
 {
     !(flags.intersects(FieldFlags::FINAL) && flags.intersects(FieldFlags::VOLATILE))
 }
 
 /// Whether a field of an interface can have these flags (4.5).
 pub(crate) fn are_of_interface_field(flags: FieldFlags) -> bool
-    ensures { result ≡ interface_field_right flags.0 }
+    ensures { result ≡ interface_field_keeps_rules flags.0 }
 {
     flags.0 & ALL_BUT_SYNTHETIC == PUBLIC_STATIC_FINAL
 }
 
 /// Whether flags that go with no abstract method come with none (4.6).
 pub(crate) fn are_apart_from_abstract(flags: MethodFlags) -> bool
-    ensures { result ≡ abstract_right flags.0 }
+    ensures { result ≡ abstract_keeps_rules flags.0 }
 {
     if flags.intersects(MethodFlags::ABSTRACT) {
         !flags.intersects(NOT_WITH_ABSTRACT)
@@ -79,7 +79,7 @@ pub(crate) fn are_apart_from_abstract(flags: MethodFlags) -> bool
 
 /// Whether a method of an interface can have these flags (4.6).
 pub(crate) fn are_of_interface_method(flags: MethodFlags) -> bool
-    ensures { result ≡ interface_method_right flags.0 }
+    ensures { result ≡ interface_method_keeps_rules flags.0 }
 {
     let visibility = visibility(flags.0);
     (visibility == 1 || visibility == 2) && !flags.intersects(NOT_IN_INTERFACES)
@@ -87,7 +87,7 @@ pub(crate) fn are_of_interface_method(flags: MethodFlags) -> bool
 
 /// Whether `<init>` can have these flags (4.6).
 pub(crate) fn are_of_init(flags: MethodFlags) -> bool
-    ensures { result ≡ init_flags_right flags.0 }
+    ensures { result ≡ init_flags_keep_rules flags.0 }
 {
     !flags.intersects(NOT_OF_INIT)
 }

@@ -6,7 +6,7 @@ ghost use Rattle.jv_class_parts.specs.of_pool.Constants.{NameAndDescriptor};
 ghost use Rattle.jv_class_parts.specs.of_pool.Facts.{AreFacts};
 ghost use Rattle.jv_class_parts.specs.Flags.{has, acc_interface};
 ghost use Rattle.jv_class_parts.specs.Seen.{seen_method};
-ghost use Rattle.jv_class.specs.Rules.{interface_flags_right, named_flags_right, method_flags_right, init_right, clinit_right, slots_right, is_bodiless, code_there_right, IsMethodRight};
+ghost use Rattle.jv_class.specs.Rules.{interface_flags_keep_rules, named_flags_keep_rules, method_flags_keep_rules, init_keeps_rules, clinit_keeps_rules, slots_keep_rules, is_bodiless, code_presence_keeps_rules, KeepsRulesAsMethod};
 ghost use Rattle.jv_class.specs.Inside.Shown.{KeepsMethodShown};
 
 use crate::flags::{
@@ -21,8 +21,8 @@ use jv_class_parts::{ClassFlags, Method, MethodFlags};
 /// Abstract and native.
 const WITHOUT_CODE: MethodFlags = MethodFlags(0x0500);
 
-fn are_right_in(in_interface: bool, flags: MethodFlags) -> bool
-    ensures { result ≡ interface_flags_right in_interface flags.0 }
+fn flags_keep_rules_in(in_interface: bool, flags: MethodFlags) -> bool
+    ensures { result ≡ interface_flags_keep_rules in_interface flags.0 }
 {
     if in_interface {
         are_of_interface_method(flags)
@@ -31,8 +31,8 @@ fn are_right_in(in_interface: bool, flags: MethodFlags) -> bool
     }
 }
 
-fn are_right_for(name: &[u8], flags: MethodFlags) -> bool
-    ensures { result ≡ named_flags_right name.now flags.0 }
+fn named_flags_keep_rules(name: &[u8], flags: MethodFlags) -> bool
+    ensures { result ≡ named_flags_keep_rules name.now flags.0 }
 {
     if is_init(name) {
         are_of_init(flags)
@@ -41,21 +41,21 @@ fn are_right_for(name: &[u8], flags: MethodFlags) -> bool
     }
 }
 
-fn flags_are_right(in_interface: bool, name: &[u8], flags: MethodFlags) -> bool
-    ensures { result ≡ method_flags_right in_interface name.now flags.0 }
+fn flags_keep_rules(in_interface: bool, name: &[u8], flags: MethodFlags) -> bool
+    ensures { result ≡ method_flags_keep_rules in_interface name.now flags.0 }
 {
     if is_clinit(name) {
         true
     } else {
         have_one_visibility(flags.0)
             && are_apart_from_abstract(flags)
-            && are_right_in(in_interface, flags)
-            && are_right_for(name, flags)
+            && flags_keep_rules_in(in_interface, flags)
+            && named_flags_keep_rules(name, flags)
     }
 }
 
-fn init_is_right(in_interface: bool, name: &[u8], void: bool) -> bool
-    ensures { result ≡ init_right in_interface name.now void }
+fn init_keeps_rules(in_interface: bool, name: &[u8], void: bool) -> bool
+    ensures { result ≡ init_keeps_rules in_interface name.now void }
 {
     if is_init(name) {
         !in_interface && void
@@ -64,8 +64,8 @@ fn init_is_right(in_interface: bool, name: &[u8], void: bool) -> bool
     }
 }
 
-fn clinit_is_right(name: &[u8], descriptor: &[u8], flags: MethodFlags) -> bool
-    ensures { result ≡ clinit_right name.now descriptor.now flags.0 }
+fn clinit_keeps_rules(name: &[u8], descriptor: &[u8], flags: MethodFlags) -> bool
+    ensures { result ≡ clinit_keeps_rules name.now descriptor.now flags.0 }
 {
     if is_clinit(name) {
         flags.intersects(MethodFlags::STATIC) && is_no_arguments_void(descriptor)
@@ -75,8 +75,8 @@ fn clinit_is_right(name: &[u8], descriptor: &[u8], flags: MethodFlags) -> bool
 }
 
 /// Whether the parameters and the receiver fill at most 255 slots.
-fn slots_are_right(flags: MethodFlags, count: u8) -> bool
-    ensures { result ≡ slots_right flags.0 count }
+fn slots_keep_rules(flags: MethodFlags, count: u8) -> bool
+    ensures { result ≡ slots_keep_rules flags.0 count }
 {
     flags.intersects(MethodFlags::STATIC) || count < 255
 }
@@ -88,8 +88,8 @@ fn is_bodiless(name: &[u8], flags: MethodFlags) -> bool
 }
 
 /// Whether a method has code exactly where it has to.
-fn code_is_right(name: &[u8], method: Method<'_>) -> bool
-    ensures { result ≡ code_there_right name.now method.entry.access_flags.0 (is_some (seen_method method.entry).code) }
+fn code_presence_keeps_rules(name: &[u8], method: Method<'_>) -> bool
+    ensures { result ≡ code_presence_keeps_rules name.now method.entry.access_flags.0 (is_some (seen_method method.entry).code) }
 {
     if is_bodiless(name, method.access_flags) {
         method.code.is_none()
@@ -99,47 +99,47 @@ fn code_is_right(name: &[u8], method: Method<'_>) -> bool
 }
 
 /// Whether a method's name and descriptor go with its flags and its result.
-fn names_are_right(
+fn names_keep_rules(
     in_interface: bool,
     flags: MethodFlags,
     name: &[u8],
     descriptor: &[u8],
     void: bool,
 ) -> bool
-    ensures { result ≡ (method_flags_right in_interface name.now flags.0 && init_right in_interface name.now void
-        && clinit_right name.now descriptor.now flags.0) }
+    ensures { result ≡ (method_flags_keep_rules in_interface name.now flags.0 && init_keeps_rules in_interface name.now void
+        && clinit_keeps_rules name.now descriptor.now flags.0) }
 {
-    flags_are_right(in_interface, name, flags)
-        && init_is_right(in_interface, name, void)
-        && clinit_is_right(name, descriptor, flags)
+    flags_keep_rules(in_interface, name, flags)
+        && init_keeps_rules(in_interface, name, void)
+        && clinit_keeps_rules(name, descriptor, flags)
 }
 
 /// Whether a method with these texts, of whose type this is known, keeps the rules.
-fn is_right(
+fn keeps_rules_by_facts(
     class_flags: ClassFlags,
     method: Method<'_>,
     name: &[u8],
     descriptor: &[u8],
     facts: MethodFacts,
 ) -> bool
-    ensures { result ≡ ((method_flags_right (has class_flags.0 acc_interface) name.now method.entry.access_flags.0
-        && init_right (has class_flags.0 acc_interface) name.now facts.void
-        && clinit_right name.now descriptor.now method.entry.access_flags.0)
-        && slots_right method.entry.access_flags.0 facts.slots
-        && code_there_right name.now method.entry.access_flags.0 (is_some (seen_method method.entry).code)) }
+    ensures { result ≡ ((method_flags_keep_rules (has class_flags.0 acc_interface) name.now method.entry.access_flags.0
+        && init_keeps_rules (has class_flags.0 acc_interface) name.now facts.void
+        && clinit_keeps_rules name.now descriptor.now method.entry.access_flags.0)
+        && slots_keep_rules method.entry.access_flags.0 facts.slots
+        && code_presence_keeps_rules name.now method.entry.access_flags.0 (is_some (seen_method method.entry).code)) }
 {
-    names_are_right(
+    names_keep_rules(
         class_flags.intersects(ClassFlags::INTERFACE),
         method.access_flags,
         name,
         descriptor,
         facts.void,
-    ) && slots_are_right(method.access_flags, facts.slots)
-        && code_is_right(name, method)
+    ) && slots_keep_rules(method.access_flags, facts.slots)
+        && code_presence_keeps_rules(name, method)
 }
 
 /// Whether a method with these texts, of which this is known, keeps the rules.
-fn is_right_method(
+fn method_keeps_rules(
     class_flags: ClassFlags,
     method: Method<'_>,
     name: &[u8],
@@ -149,11 +149,12 @@ fn is_right_method(
 ) -> bool
     ensures { (texts : NameAndDescriptor) → texts.name ≡ name.now → texts.descriptor ≡ descriptor.now
         → AreFacts texts.name name_facts → AreFacts texts.descriptor descriptor_facts
-        → (IsTrue result ↔ IsMethodRight class_flags.0 method.entry.access_flags.0 (is_some (seen_method method.entry).code) texts) }
+        → (IsTrue result ↔ KeepsRulesAsMethod class_flags.0 method.entry.access_flags.0 (is_some (seen_method method.entry).code) texts) }
 {
     match descriptor_facts.method {
         Some(facts) => {
-            name_facts.method_name && is_right(class_flags, method, name, descriptor, facts)
+            name_facts.method_name
+                && keeps_rules_by_facts(class_flags, method, name, descriptor, facts)
         }
         None => false,
     }
@@ -168,7 +169,7 @@ fn keeps_rules(pool: &Pool<'_>, class_flags: ClassFlags, method: Method<'_>) -> 
     let Some(descriptor) = pool.utf8_index(method.descriptor.0) else {
         return false;
     };
-    is_right_method(
+    method_keeps_rules(
         class_flags,
         method,
         pool.utf8(name),

@@ -18,7 +18,9 @@ use std::alloc::Global;
 fn magic_at(bytes: &[u8]) -> Option<&[u8]>
     ensures { Finds magic_number bytes.now (λ rest. (3405691582, rest.now)) result }
 {
-    let (found, rest) = quad_at(bytes)?;
+    let Some((found, rest)) = quad_at(bytes) else {
+        return None;
+    };
     if found == 0xcafe_babe {
         Some(rest)
     } else {
@@ -30,9 +32,15 @@ fn magic_at(bytes: &[u8]) -> Option<&[u8]>
 fn version_at(bytes: &[u8]) -> Option<((u16, u16), &[u8])>
     ensures { Finds header bytes.now (λ x. ((3405691582, (x.0.0, x.0.1)), x.1.now)) result }
 {
-    let rest = magic_at(bytes)?;
-    let (minor, rest) = half_at(rest)?;
-    let (major, rest) = half_at(rest)?;
+    let Some(rest) = magic_at(bytes) else {
+        return None;
+    };
+    let Some((minor, rest)) = half_at(rest) else {
+        return None;
+    };
+    let Some((major, rest)) = half_at(rest) else {
+        return None;
+    };
     Some(((minor, major), rest))
 }
 

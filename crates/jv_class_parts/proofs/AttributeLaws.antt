@@ -63,8 +63,8 @@ named_leaves pool xs h =
 -- ---- a field's
 
 -- the rule of the values, by whether the field is static
-abbrev pub values_right : List Entry → Bool → List AttributeInfo → Bool
-values_right pool static xs =
+abbrev pub values_keep_rules : List Entry → Bool → List AttributeInfo → Bool
+values_keep_rules pool static xs =
     cond static
     (at_most_one (filter (has_attribute_name pool (codes "ConstantValue")) xs) && list_all (λ a. is_some (value_index a)) (filter (has_attribute_name pool (codes "ConstantValue")) xs))
     true
@@ -72,7 +72,7 @@ values_right pool static xs =
 abbrev pub static_value_in : List Entry → Bool → List AttributeInfo → Option ℕ
 static_value_in pool static xs = cond static (sole (filter (has_attribute_name pool (codes "ConstantValue")) xs) >>= value_index) None
 
-values_enter : (pool : List Entry) (static : Bool) (xs : List AttributeInfo) → IsTrue (values_right pool static xs) → IsTrue (list_all (has_value pool static) xs) × IsTrue (at_most_one (values_in (value_of pool static) xs))
+values_enter : (pool : List Entry) (static : Bool) (xs : List AttributeInfo) → IsTrue (values_keep_rules pool static xs) → IsTrue (list_all (has_value pool static) xs) × IsTrue (at_most_one (values_in (value_of pool static) xs))
 values_enter pool true xs h =
     let named = has_attribute_name pool (codes "ConstantValue") in
     let a = and_parts (at_most_one (filter named xs)) _ h in
@@ -80,7 +80,7 @@ values_enter pool true xs h =
     (own, same_number named value_index xs own ∙ a.0)
 values_enter pool false xs h = (all_true xs, ap at_most_one (none_in {V = ℕ} xs))
 
-values_leave : (pool : List Entry) (static : Bool) (xs : List AttributeInfo) → IsTrue (list_all (has_value pool static) xs) → IsTrue (at_most_one (values_in (value_of pool static) xs)) → IsTrue (values_right pool static xs)
+values_leave : (pool : List Entry) (static : Bool) (xs : List AttributeInfo) → IsTrue (list_all (has_value pool static) xs) → IsTrue (at_most_one (values_in (value_of pool static) xs)) → IsTrue (values_keep_rules pool static xs)
 values_leave pool true xs own one =
     let named = has_attribute_name pool (codes "ConstantValue") in
     and_from _ _ (sym (same_number named value_index xs own) ∙ one) (sym (all_own named value_index xs) ∙ own)
@@ -92,9 +92,9 @@ field_attribute_is pool static = such_is (has_value pool static) (attribute pool
 pub field_attributes_is : (pool : List Entry) (static : Bool) → IsFormat (field_attributes pool static)
 field_attributes_is pool static = solely_is (value_of pool static) (field_attribute pool static) (field_attribute_is pool static)
 
-pub field_attributes_enter : (pool : List Entry) (static : Bool) (xs : List AttributeInfo) → IsTrue (table_fits attribute_fits xs) → IsTrue (all_named pool xs && values_right pool static xs) → IsTrue ((field_attributes pool static).fits xs)
+pub field_attributes_enter : (pool : List Entry) (static : Bool) (xs : List AttributeInfo) → IsTrue (table_fits attribute_fits xs) → IsTrue (all_named pool xs && values_keep_rules pool static xs) → IsTrue ((field_attributes pool static).fits xs)
 field_attributes_enter pool static xs h right =
-    let a = and_parts (all_named pool xs) (values_right pool static xs) right in
+    let a = and_parts (all_named pool xs) (values_keep_rules pool static xs) right in
     let b = values_enter pool static xs a.1 in
     let c = named_enters pool xs h a.0 in
     let d = and_parts (nat_lt (length xs) 65536) (list_all (λ x. attribute_fits x && has_utf8_name pool x) xs) c in
@@ -103,7 +103,7 @@ field_attributes_enter pool static xs h right =
 
 pub record FieldAttributesFit (pool : List Entry) (static : Bool) (xs : List AttributeInfo) : Type 0 where
   pub fit : IsTrue (table_fits attribute_fits xs)
-  pub right : IsTrue (all_named pool xs && values_right pool static xs)
+  pub right : IsTrue (all_named pool xs && values_keep_rules pool static xs)
   pub own : IsTrue (list_all (has_value pool static) xs)
 
 pub field_attributes_leave : (pool : List Entry) (static : Bool) (xs : List AttributeInfo) → IsTrue ((field_attributes pool static).fits xs) → FieldAttributesFit pool static xs

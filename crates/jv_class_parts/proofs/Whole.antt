@@ -10,7 +10,7 @@ use Rattle.jv_pool.proofs.laws_of_format.Laws.{is_some, IsFormat, half_is, both_
 use Rattle.jv_pool.specs.Constants.{Entry, pool_bytes}
 use Rattle.jv_pool.specs.Rules.{IsPool, OnePool}
 use Rattle.jv_class_parts.specs.Structure.{ClassStructure, table_bytes, attribute_bytes, field_bytes, method_bytes, body_bytes, table_fits, attribute_fits, field_fits, method_fits, body_fits}
-use Rattle.jv_class_parts.specs.Attributes.{all_named, field_attributes_right, method_attributes_right, attributes_right}
+use Rattle.jv_class_parts.specs.Attributes.{all_named, field_attributes_keep_rules, method_attributes_keep_rules, attributes_keep_rules}
 use Rattle.jv_class_parts.specs.Parts.{IsBehindVersion, OneBehindVersion, is_52_0, field_shown, method_shown}
 use Rattle.jv_class_parts.specs.Inside.Reading.{three, kept, table, field_attributes, field, method, Body, class_body, structure_of, body_in, structure_in, values_kept, field_kept, method_kept, passed_over, members_kept, BodySeen, body_kept, body_shown, AreBody, FailsWhole}
 use Rattle.jv_class_parts.specs.declared.fault.PartsFault.{PartsFault}
@@ -93,11 +93,11 @@ record Fits (pool : List Entry) (b : Body) : Type 0 where
   pub fields : IsTrue (table_fits field_fits b.1.1.0)
   pub methods : IsTrue (table_fits method_fits b.1.1.1.0)
   pub attributes : IsTrue (table_fits attribute_fits b.1.1.1.1)
-  pub fields_right : IsTrue (list_all (field_attributes_right pool) b.1.1.0)
-  pub methods_right : IsTrue (list_all (method_attributes_right pool) b.1.1.1.0)
+  pub fields_keep_rules : IsTrue (list_all (field_attributes_keep_rules pool) b.1.1.0)
+  pub methods_keep_rules : IsTrue (list_all (method_attributes_keep_rules pool) b.1.1.1.0)
   pub named : IsTrue (all_named pool b.1.1.1.1)
 
-Fits-from_structure : (c : ClassStructure) → IsTrue (body_fits c) → IsTrue (attributes_right c) → Fits c.constant_pool (body_of c)
+Fits-from_structure : (c : ClassStructure) → IsTrue (body_fits c) → IsTrue (attributes_keep_rules c) → Fits c.constant_pool (body_of c)
 Fits-from_structure c h k =
     let pool = c.constant_pool in
     let names : Bool = half.fits c.access_flags && half.fits c.this_class && half.fits c.super_class in
@@ -110,8 +110,8 @@ Fits-from_structure c h k =
     let e = and_parts names i d.0 in
     let g = and_parts (half.fits c.access_flags && half.fits c.this_class) (half.fits c.super_class) e.0 in
     let j = and_parts (half.fits c.access_flags) (half.fits c.this_class) g.0 in
-    let r = and_parts (list_all (field_attributes_right pool) c.fields && list_all (method_attributes_right pool) c.methods) (all_named pool c.attributes) k in
-    let s = and_parts (list_all (field_attributes_right pool) c.fields) (list_all (method_attributes_right pool) c.methods) r.0 in
+    let r = and_parts (list_all (field_attributes_keep_rules pool) c.fields && list_all (method_attributes_keep_rules pool) c.methods) (all_named pool c.attributes) k in
+    let s = and_parts (list_all (field_attributes_keep_rules pool) c.fields) (list_all (method_attributes_keep_rules pool) c.methods) r.0 in
     record {
       access_flags = j.0;
       this_class = j.1;
@@ -120,21 +120,21 @@ Fits-from_structure c h k =
       fields = d.1;
       methods = b.1;
       attributes = a.1;
-      fields_right = s.0;
-      methods_right = s.1;
+      fields_keep_rules = s.0;
+      methods_keep_rules = s.1;
       named = r.1;
     }
 
-structure-from_Fits : (pool : List Entry) (b : Body) → Fits pool b → IsTrue (body_fits (structure_of pool b)) × IsTrue (attributes_right (structure_of pool b))
+structure-from_Fits : (pool : List Entry) (b : Body) → Fits pool b → IsTrue (body_fits (structure_of pool b)) × IsTrue (attributes_keep_rules (structure_of pool b))
 structure-from_Fits pool b h = (
   and_from _ _ (and_from _ _ (and_from _ _ (and_from _ _ (and_from _ _ (and_from _ _ h.access_flags h.this_class) h.super_class) h.interfaces) h.fields) h.methods) h.attributes,
-  and_from _ _ (and_from _ _ h.fields_right h.methods_right) h.named,
+  and_from _ _ (and_from _ _ h.fields_keep_rules h.methods_keep_rules) h.named,
 )
 
 body-from_Fits : (pool : List Entry) (b : Body) → Fits pool b → IsTrue ((class_body pool).fits b)
 body-from_Fits pool b h =
-    let fs = table_both field_fits (field_attributes_right pool) b.1.1.0 h.fields h.fields_right in
-    let ms = table_both method_fits (method_attributes_right pool) b.1.1.1.0 h.methods h.methods_right in
+    let fs = table_both field_fits (field_attributes_keep_rules pool) b.1.1.0 h.fields h.fields_keep_rules in
+    let ms = table_both method_fits (method_attributes_keep_rules pool) b.1.1.1.0 h.methods h.methods_keep_rules in
     let as' = field_attributes_enter pool false b.1.1.1.1 h.attributes (and_from _ _ h.named refl) in
     and_from _ _ (and_from _ _ h.access_flags (and_from _ _ h.this_class h.super_class)) (and_from _ _ h.interfaces (and_from _ _ fs (and_from _ _ ms as')))
 
@@ -150,8 +150,8 @@ Fits-from_body pool b h =
     let e = and_parts i (f && (m && l)) a.1 in
     let g = and_parts f (m && l) e.1 in
     let j = and_parts m l g.1 in
-    let fs = table_parts field_fits (field_attributes_right pool) b.1.1.0 g.0 in
-    let ms = table_parts method_fits (method_attributes_right pool) b.1.1.1.0 j.0 in
+    let fs = table_parts field_fits (field_attributes_keep_rules pool) b.1.1.0 g.0 in
+    let ms = table_parts method_fits (method_attributes_keep_rules pool) b.1.1.1.0 j.0 in
     let as' = field_attributes_leave pool false b.1.1.1.1 j.1 in
     record {
       access_flags = c.0;
@@ -161,8 +161,8 @@ Fits-from_body pool b h =
       fields = fs.0;
       methods = ms.0;
       attributes = as'.fit;
-      fields_right = fs.1;
-      methods_right = ms.1;
+      fields_keep_rules = fs.1;
+      methods_keep_rules = ms.1;
       named = (and_parts (all_named pool b.1.1.1.1) true as'.right).0;
     }
 

@@ -58,32 +58,32 @@ static_value pool f =
     if has f.access_flags acc_static then sole (constant_values pool f) >>= value_index else None
 
 -- a static field has at most one, which holds two bytes
-abbrev pub are_values_right : List Entry → FieldInfo → Bool
-are_values_right pool f =
+abbrev pub values_keep_rules_of : List Entry → FieldInfo → Bool
+values_keep_rules_of pool f =
     if has f.access_flags acc_static
     then at_most_one (constant_values pool f) && list_all (λ a. is_some (value_index a)) (constant_values pool f)
     else true
 
-abbrev pub field_attributes_right : List Entry → FieldInfo → Bool
-field_attributes_right pool f = all_named pool f.attributes && are_values_right pool f
+abbrev pub field_attributes_keep_rules : List Entry → FieldInfo → Bool
+field_attributes_keep_rules pool f = all_named pool f.attributes && values_keep_rules_of pool f
 
 -- ---- Code (4.7.3)
 
 -- the code has 1 to 65,535 bytes
-abbrev pub code_length_right : List ℕ → Bool
-code_length_right code = nat_lt 0 (length code) && nat_lt (length code) 65536
+abbrev pub code_length_keeps_rules : List ℕ → Bool
+code_length_keeps_rules code = nat_lt 0 (length code) && nat_lt (length code) 65536
 
 -- StackMapTable (4.7.4): at most one
 abbrev pub stack_maps : List Entry → CodeAttribute → List AttributeInfo
 stack_maps pool c = filter (has_attribute_name pool (codes "StackMapTable")) c.attributes
 
-abbrev pub code_right : List Entry → CodeAttribute → Bool
-code_right pool c = code_length_right c.code && all_named pool c.attributes && at_most_one (stack_maps pool c)
+abbrev pub code_keeps_rules : List Entry → CodeAttribute → Bool
+code_keeps_rules pool c = code_length_keeps_rules c.code && all_named pool c.attributes && at_most_one (stack_maps pool c)
 
 -- the attribute named `Code` is the code, and every other is passed over
-abbrev pub method_attribute_right : List Entry → MethodAttribute → Bool
-method_attribute_right pool (Code name code) = is_text_at pool (codes "Code") name && code_right pool code
-method_attribute_right pool (Other a) = has_utf8_name pool a && not (has_attribute_name pool (codes "Code") a)
+abbrev pub method_attribute_keeps_rules : List Entry → MethodAttribute → Bool
+method_attribute_keeps_rules pool (Code name code) = is_text_at pool (codes "Code") name && code_keeps_rules pool code
+method_attribute_keeps_rules pool (Other a) = has_utf8_name pool a && not (has_attribute_name pool (codes "Code") a)
 
 abbrev pub code_in : MethodAttribute → List CodeAttribute
 code_in (Code name code) = code ∷ []
@@ -93,13 +93,13 @@ abbrev pub codes_of : MethodInfo → List CodeAttribute
 codes_of m = flat_map code_in m.attributes
 
 -- a method has at most one Code attribute; whether it has one is asked with its name and flags
-abbrev pub method_attributes_right : List Entry → MethodInfo → Bool
-method_attributes_right pool m = list_all (method_attribute_right pool) m.attributes && at_most_one (codes_of m)
+abbrev pub method_attributes_keep_rules : List Entry → MethodInfo → Bool
+method_attributes_keep_rules pool m = list_all (method_attribute_keeps_rules pool) m.attributes && at_most_one (codes_of m)
 
 -- ---- all attributes of a class file
 
-abbrev pub attributes_right : ClassStructure → Bool
-attributes_right c =
-    list_all (field_attributes_right c.constant_pool) c.fields
-    && list_all (method_attributes_right c.constant_pool) c.methods
+abbrev pub attributes_keep_rules : ClassStructure → Bool
+attributes_keep_rules c =
+    list_all (field_attributes_keep_rules c.constant_pool) c.fields
+    && list_all (method_attributes_keep_rules c.constant_pool) c.methods
     && all_named c.constant_pool c.attributes

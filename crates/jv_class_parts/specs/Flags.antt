@@ -69,8 +69,8 @@ abbrev pub has : ℕ → ℕ → Bool
 has flags mask = not (bit_and flags mask == 0)
 
 -- an interface is abstract, and not final, super or an enum; no other class is final and abstract, or an annotation (4.1)
-abbrev pub class_flags_right : ℕ → Bool
-class_flags_right flags =
+abbrev pub class_flags_keep_rules : ℕ → Bool
+class_flags_keep_rules flags =
     if has flags acc_interface then has flags acc_abstract && not (has flags (acc_final + acc_super + acc_enum))
     else not (has flags acc_final && has flags acc_abstract) && not (has flags acc_annotation)
 
@@ -79,14 +79,14 @@ abbrev pub visibility : ℕ → ℕ
 visibility flags = bit_and flags (acc_public + acc_private + acc_protected)
 
 -- at most one of them is set (4.5, 4.6)
-abbrev pub visibility_right : ℕ → Bool
-visibility_right flags =
+abbrev pub visibility_keeps_rules : ℕ → Bool
+visibility_keeps_rules flags =
     visibility flags == 0 || visibility flags == acc_public
     || visibility flags == acc_private || visibility flags == acc_protected
 
 -- a field is not final and volatile (4.5)
-abbrev pub volatile_right : ℕ → Bool
-volatile_right flags = not (has flags acc_final && has flags acc_volatile)
+abbrev pub volatile_keeps_rules : ℕ → Bool
+volatile_keeps_rules flags = not (has flags acc_final && has flags acc_volatile)
 
 -- the flags of a field but synthetic
 abbrev pub field_flags_but_synthetic : ℕ
@@ -94,22 +94,22 @@ field_flags_but_synthetic =
     acc_public + acc_private + acc_protected + acc_static + acc_final + acc_volatile + acc_transient + acc_enum
 
 -- a field of an interface is public, static and final, and else at most synthetic (4.5)
-abbrev pub interface_field_right : ℕ → Bool
-interface_field_right flags = bit_and flags field_flags_but_synthetic == acc_public + acc_static + acc_final
+abbrev pub interface_field_keeps_rules : ℕ → Bool
+interface_field_keeps_rules flags = bit_and flags field_flags_but_synthetic == acc_public + acc_static + acc_final
 
 -- an abstract method is not private, static, final, synchronized, native or strict (4.6)
-abbrev pub abstract_right : ℕ → Bool
-abstract_right flags =
+abbrev pub abstract_keeps_rules : ℕ → Bool
+abstract_keeps_rules flags =
     if has flags acc_abstract
     then not (has flags (acc_private + acc_static + acc_final + acc_synchronized + acc_native + acc_strict))
     else true
 
 -- a method of an interface is public or private, and not final, synchronized or native (4.6)
-abbrev pub interface_method_right : ℕ → Bool
-interface_method_right flags =
+abbrev pub interface_method_keeps_rules : ℕ → Bool
+interface_method_keeps_rules flags =
     (visibility flags == acc_public || visibility flags == acc_private)
     && not (has flags (acc_final + acc_synchronized + acc_native))
 
 -- `<init>` has at most a visibility, varargs, strict and synthetic (4.6)
-abbrev pub init_flags_right : ℕ → Bool
-init_flags_right flags = not (has flags (acc_static + acc_final + acc_synchronized + acc_bridge + acc_native + acc_abstract))
+abbrev pub init_flags_keep_rules : ℕ → Bool
+init_flags_keep_rules flags = not (has flags (acc_static + acc_final + acc_synchronized + acc_bridge + acc_native + acc_abstract))

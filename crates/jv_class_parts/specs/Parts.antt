@@ -5,7 +5,7 @@ use Rattle.jv_pool.specs.of_format.declared.handlers.Handler.{Handler}
 use Rattle.jv_pool.specs.Constants.{Entry, pool_bytes}
 use Rattle.jv_pool.specs.Rules.{IsPool}
 use Rattle.jv_class_parts.specs.Structure.{CodeAttribute, FieldInfo, MethodInfo, ClassStructure, body_bytes, body_fits}
-use Rattle.jv_class_parts.specs.Attributes.{sole, static_value, stack_maps, codes_of, attributes_right}
+use Rattle.jv_class_parts.specs.Attributes.{sole, static_value, stack_maps, codes_of, attributes_keep_rules}
 
 -- the version of this host's class files (4.1): 52.0, that of Java SE 8
 abbrev pub is_52_0 : ℕ → ℕ → Type 0
@@ -18,7 +18,7 @@ pub record IsBehindVersion (bytes : List ℕ) (c : ClassStructure) : Type 0 wher
   pub version : is_52_0 c.minor_version c.major_version
   pub pool : IsPool (pool_bytes c.constant_pool) c.constant_pool
   pub fits : IsTrue (body_fits c)
-  pub attributes : IsTrue (attributes_right c)
+  pub attributes : IsTrue (attributes_keep_rules c)
 
 -- A law: bytes have one such structure at most.
 abbrev pub OneBehindVersion : Type 0

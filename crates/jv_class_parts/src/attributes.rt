@@ -50,7 +50,9 @@ pub(crate) fn is_stack_map_table(pool: &Pool<'_>, attribute: Attribute<'_>) -> b
 fn name_at<'a>(pool: &Pool<'_>, bytes: &'a [u8]) -> Option<(u16, &'a [u8])>
     ensures { Finds (such_that (is_utf8 pool.now) half) bytes.now (λ x. (x.0, x.1.now)) result }
 {
-    let (index, rest) = half_at(bytes)?;
+    let Some((index, rest)) = half_at(bytes) else {
+        return None;
+    };
     if is_utf8(pool, index) {
         Some((index, rest))
     } else {
@@ -62,7 +64,9 @@ fn name_at<'a>(pool: &Pool<'_>, bytes: &'a [u8]) -> Option<(u16, &'a [u8])>
 pub(crate) fn contents_at(bytes: &[u8]) -> Option<(&[u8], &[u8])>
     ensures { Finds contents bytes.now (λ x. (x.0.now, x.1.now)) result }
 {
-    let (length, rest) = quad_at(bytes)?;
+    let Some((length, rest)) = quad_at(bytes) else {
+        return None;
+    };
     bytes_at(length as usize, rest)
 }
 
@@ -73,8 +77,12 @@ pub(crate) fn attribute_at<'a>(
 ) -> Option<(Attribute<'a>, &'a [u8])>
     ensures { Finds (attribute pool.now) bytes.now (λ x. (seen_attribute x.0, x.1.now)) result }
 {
-    let (name, rest) = name_at(pool, bytes)?;
-    let (info, rest) = contents_at(rest)?;
+    let Some((name, rest)) = name_at(pool, bytes) else {
+        return None;
+    };
+    let Some((info, rest)) = contents_at(rest) else {
+        return None;
+    };
     Some((Attribute { name, info }, rest))
 }
 
@@ -82,8 +90,8 @@ pub(crate) fn attribute_at<'a>(
 fn index_in(attribute: Attribute<'_>) -> Option<u16>
     ensures { result ≡ value_index (seen_attribute attribute.entry) }
 {
-    match half_at(attribute.info)? {
-        (index, []) => Some(index),
+    match half_at(attribute.info) {
+        Some((index, [])) => Some(index),
         _ => None,
     }
 }
@@ -109,10 +117,14 @@ fn value_at<'a>(
 ) -> Option<(Option<u16>, &'a [u8])>
     ensures { Finds (value_kept pool.now is_static) bytes.now (λ x. (x.0, x.1.now)) result }
 {
-    let (attribute, rest) = attribute_at(pool, bytes)?;
+    let Some((attribute, rest)) = attribute_at(pool, bytes) else {
+        return None;
+    };
     if is_static && is_constant_value(pool, attribute) {
-        let index = index_in(attribute)?;
-        Some((Some(index), rest))
+        match index_in(attribute) {
+            Some(index) => Some((Some(index), rest)),
+            None => None,
+        }
     } else {
         Some((None, rest))
     }
@@ -150,7 +162,9 @@ pub(crate) fn values_at<'a>(
 ) -> Option<(Option<u16>, &'a [u8])>
     ensures { Finds (values_kept pool.now is_static) bytes.now (λ x. (x.0, x.1.now)) result }
 {
-    let (count, rest) = half_at(bytes)?;
+    let Some((count, rest)) = half_at(bytes) else {
+        return None;
+    };
     values_listed(pool, is_static, count, rest)
 }
 
@@ -160,7 +174,9 @@ pub(crate) fn values_at<'a>(
 fn stack_map_at<'a>(pool: &Pool<'_>, bytes: &'a [u8]) -> Option<(Option<&'a [u8]>, &'a [u8])>
     ensures { Finds (stack_map_kept pool.now) bytes.now (λ x. (seen_map x.0, x.1.now)) result }
 {
-    let (attribute, rest) = attribute_at(pool, bytes)?;
+    let Some((attribute, rest)) = attribute_at(pool, bytes) else {
+        return None;
+    };
     if is_stack_map_table(pool, attribute) {
         Some((Some(attribute.info), rest))
     } else {
@@ -198,6 +214,8 @@ pub(crate) fn stack_maps_at<'a>(
 ) -> Option<(Option<&'a [u8]>, &'a [u8])>
     ensures { Finds (stack_maps_kept pool.now) bytes.now (λ x. (seen_map x.0, x.1.now)) result }
 {
-    let (count, rest) = half_at(bytes)?;
+    let Some((count, rest)) = half_at(bytes) else {
+        return None;
+    };
     stack_maps_listed(pool, count, rest)
 }

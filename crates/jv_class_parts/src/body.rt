@@ -139,8 +139,10 @@ fn methods_at<'a>(
 fn passed_over_at<'a>(pool: &Pool<'_>, bytes: &'a [u8]) -> Option<&'a [u8]>
     ensures { Finds (passed_over pool.now) bytes.now (λ rest. (0, rest.now)) result }
 {
-    let (_, rest) = values_at(pool, false, bytes)?;
-    Some(rest)
+    match values_at(pool, false, bytes) {
+        Some((_, rest)) => Some(rest),
+        None => None,
+    }
 }
 
 /// The methods behind their number, and what follows the attributes behind them.

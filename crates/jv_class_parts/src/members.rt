@@ -20,9 +20,15 @@ use jv_pool::{Pool, Utf8Index};
 pub(crate) fn three_at(bytes: &[u8]) -> Option<((u16, u16, u16), &[u8])>
     ensures { Finds three bytes.now (λ x. ((x.0.0, (x.0.1, x.0.2)), x.1.now)) result }
 {
-    let (first, rest) = half_at(bytes)?;
-    let (second, rest) = half_at(rest)?;
-    let (third, rest) = half_at(rest)?;
+    let Some((first, rest)) = half_at(bytes) else {
+        return None;
+    };
+    let Some((second, rest)) = half_at(rest) else {
+        return None;
+    };
+    let Some((third, rest)) = half_at(rest) else {
+        return None;
+    };
     Some(((first, second, third), rest))
 }
 
@@ -49,8 +55,12 @@ fn constant_value_at<'a>(
 pub(crate) fn field_at<'a>(pool: &Pool<'_>, bytes: &'a [u8]) -> Option<(Field, &'a [u8])>
     ensures { Finds (field_kept pool.now) bytes.now (λ x. (seen_field x.0, x.1.now)) result }
 {
-    let ((flags, name, descriptor), rest) = three_at(bytes)?;
-    let (constant_value, rest) = constant_value_at(pool, flags, rest)?;
+    let Some(((flags, name, descriptor), rest)) = three_at(bytes) else {
+        return None;
+    };
+    let Some((constant_value, rest)) = constant_value_at(pool, flags, rest) else {
+        return None;
+    };
     let field = Field {
         access_flags: FieldFlags(flags),
         name: Utf8Index(name),
@@ -65,8 +75,12 @@ pub(crate) fn field_at<'a>(pool: &Pool<'_>, bytes: &'a [u8]) -> Option<(Field, &
 fn limits_at(bytes: &[u8]) -> Option<((u16, u16), &[u8])>
     ensures { Finds (both half half) bytes.now (λ x. ((x.0.0, x.0.1), x.1.now)) result }
 {
-    let (max_stack, rest) = half_at(bytes)?;
-    let (max_locals, rest) = half_at(rest)?;
+    let Some((max_stack, rest)) = half_at(bytes) else {
+        return None;
+    };
+    let Some((max_locals, rest)) = half_at(rest) else {
+        return None;
+    };
     Some(((max_stack, max_locals), rest))
 }
 
@@ -74,7 +88,9 @@ fn limits_at(bytes: &[u8]) -> Option<((u16, u16), &[u8])>
 fn code_text_at(bytes: &[u8]) -> Option<(&[u8], &[u8])>
     ensures { Finds code_text bytes.now (λ x. (x.0.now, x.1.now)) result }
 {
-    let (code, rest) = contents_at(bytes)?;
+    let Some((code, rest)) = contents_at(bytes) else {
+        return None;
+    };
     if !code.is_empty() && code.len() < 65536 {
         Some((code, rest))
     } else {
@@ -86,8 +102,12 @@ fn code_text_at(bytes: &[u8]) -> Option<(&[u8], &[u8])>
 fn handlers_at(bytes: &[u8]) -> Option<(ExceptionTable<'_>, &[u8])>
     ensures { Finds handlers_kept bytes.now (λ x. (handlers_of x.0, x.1.now)) result }
 {
-    let (count, rest) = half_at(bytes)?;
-    let (bytes, rest) = bytes_at(usize::from(count) * 8, rest)?;
+    let Some((count, rest)) = half_at(bytes) else {
+        return None;
+    };
+    let Some((bytes, rest)) = bytes_at(usize::from(count) * 8, rest) else {
+        return None;
+    };
     Some((ExceptionTable { bytes }, rest))
 }
 
@@ -98,8 +118,12 @@ fn tables_at<'a>(
 ) -> Option<((ExceptionTable<'a>, Option<&'a [u8]>), &'a [u8])>
     ensures { Finds (both handlers_kept (stack_maps_kept pool.now)) bytes.now (λ x. ((handlers_of x.0.0, seen_map x.0.1), x.1.now)) result }
 {
-    let (handlers, rest) = handlers_at(bytes)?;
-    let (map, rest) = stack_maps_at(pool, rest)?;
+    let Some((handlers, rest)) = handlers_at(bytes) else {
+        return None;
+    };
+    let Some((map, rest)) = stack_maps_at(pool, rest) else {
+        return None;
+    };
     Some(((handlers, map), rest))
 }
 
@@ -107,9 +131,15 @@ fn tables_at<'a>(
 fn code_at<'a>(pool: &Pool<'_>, bytes: &'a [u8]) -> Option<(MethodCode<'a>, &'a [u8])>
     ensures { Finds (code_kept pool.now) bytes.now (λ x. (seen_code x.0, x.1.now)) result }
 {
-    let ((max_stack, max_locals), rest) = limits_at(bytes)?;
-    let (code, rest) = code_text_at(rest)?;
-    let ((exception_table, stack_map_table), rest) = tables_at(pool, rest)?;
+    let Some(((max_stack, max_locals), rest)) = limits_at(bytes) else {
+        return None;
+    };
+    let Some((code, rest)) = code_text_at(rest) else {
+        return None;
+    };
+    let Some(((exception_table, stack_map_table), rest)) = tables_at(pool, rest) else {
+        return None;
+    };
     let code = MethodCode {
         max_stack,
         max_locals,
@@ -124,8 +154,12 @@ fn code_at<'a>(pool: &Pool<'_>, bytes: &'a [u8]) -> Option<(MethodCode<'a>, &'a 
 fn enclosed_code_at<'a>(pool: &Pool<'_>, bytes: &'a [u8]) -> Option<(MethodCode<'a>, &'a [u8])>
     ensures { Finds (enclosed (code_kept pool.now)) bytes.now (λ x. (seen_code x.0, x.1.now)) result }
 {
-    let (inside, rest) = contents_at(bytes)?;
-    let (code, after) = code_at(pool, inside)?;
+    let Some((inside, rest)) = contents_at(bytes) else {
+        return None;
+    };
+    let Some((code, after)) = code_at(pool, inside) else {
+        return None;
+    };
     if after.is_empty() {
         Some((code, rest))
     } else {
@@ -143,7 +177,9 @@ fn is_code(pool: &Pool<'_>, name: u16) -> bool
 fn passed_over_at<'a>(pool: &Pool<'_>, name: u16, bytes: &'a [u8]) -> Option<(&'a [u8], &'a [u8])>
     ensures { Finds (such_that (λ _. is_utf8 pool.now name) contents) bytes.now (λ x. (x.0.now, x.1.now)) result }
 {
-    let (inside, rest) = contents_at(bytes)?;
+    let Some((inside, rest)) = contents_at(bytes) else {
+        return None;
+    };
     if is_utf8(pool, name) {
         Some((inside, rest))
     } else {
@@ -160,10 +196,14 @@ fn held_at<'a>(
     ensures { Finds (held_kept pool.now name) bytes.now (λ x. (seen_codes x.0, x.1.now)) result }
 {
     if is_code(pool, name) {
-        let (code, rest) = enclosed_code_at(pool, bytes)?;
+        let Some((code, rest)) = enclosed_code_at(pool, bytes) else {
+            return None;
+        };
         Some((Some(code), rest))
     } else {
-        let (_, rest) = passed_over_at(pool, name, bytes)?;
+        let Some((_, rest)) = passed_over_at(pool, name, bytes) else {
+            return None;
+        };
         Some((None, rest))
     }
 }
@@ -175,7 +215,9 @@ fn method_attribute_at<'a>(
 ) -> Option<(Option<MethodCode<'a>>, &'a [u8])>
     ensures { Finds (method_attribute_kept pool.now) bytes.now (λ x. (seen_codes x.0, x.1.now)) result }
 {
-    let (name, rest) = half_at(bytes)?;
+    let Some((name, rest)) = half_at(bytes) else {
+        return None;
+    };
     held_at(pool, name, rest)
 }
 
@@ -206,7 +248,9 @@ fn codes_listed<'a>(
 fn codes_at<'a>(pool: &Pool<'_>, bytes: &'a [u8]) -> Option<(Option<MethodCode<'a>>, &'a [u8])>
     ensures { Finds (codes_kept pool.now) bytes.now (λ x. (seen_codes x.0, x.1.now)) result }
 {
-    let (count, rest) = half_at(bytes)?;
+    let Some((count, rest)) = half_at(bytes) else {
+        return None;
+    };
     codes_listed(pool, count, rest)
 }
 
@@ -216,8 +260,12 @@ fn codes_at<'a>(pool: &Pool<'_>, bytes: &'a [u8]) -> Option<(Option<MethodCode<'
 pub(crate) fn method_at<'a>(pool: &Pool<'_>, bytes: &'a [u8]) -> Option<(Method<'a>, &'a [u8])>
     ensures { Finds (method_kept pool.now) bytes.now (λ x. (seen_method x.0, x.1.now)) result }
 {
-    let ((flags, name, descriptor), rest) = three_at(bytes)?;
-    let (code, rest) = codes_at(pool, rest)?;
+    let Some(((flags, name, descriptor), rest)) = three_at(bytes) else {
+        return None;
+    };
+    let Some((code, rest)) = codes_at(pool, rest) else {
+        return None;
+    };
     let method = Method {
         access_flags: MethodFlags(flags),
         name: Utf8Index(name),

@@ -5,7 +5,7 @@ use Rattle.jv_format.specs.Format.{Format, ◌>>=◌, quad}
 use Rattle.jv_format.specs.Readers.{both, after, such_that, bytes_of, passed, then_read, found_as}
 use Rattle.jv_format.proofs.Laws.{is_some, bind_some}
 use Rattle.jv_code.specs.Numbers.{signed32}
-use Rattle.jv_code.specs.Switches.{pairs_right}
+use Rattle.jv_code.specs.Switches.{pairs_keep_rules}
 use Rattle.jv_code.specs.Inside.SwitchReading.{padding, pair_count, pairs_of, pairs, lookup_switch, known_pairs_of, known_pairs, known_lookup_switch}
 use Rattle.jv_code.specs.Insns.{Instruction}
 use Rattle.jv_code.specs.Inside.Reading.{lookup_switch_of, lookup_switch_read, insn_read, known_lookup_switch_read, known_insn_read}
@@ -36,7 +36,7 @@ both_covers {A = A} {B = B} h f g more bytes x e =
     ∙ ap (λ o. o >>= λ (z : B × List ℕ). Some ((a.0.0, z.0), z.1)) (more a.0.1 b.0 b.1) ∙ b.2
 
 pairs_covered : Covers pairs known_pairs
-pairs_covered = after_covers quad pair_count pairs_of known_pairs_of (λ n. such_covered (pairs_right n) (bytes_of (8 * n)))
+pairs_covered = after_covers quad pair_count pairs_of known_pairs_of (λ n. such_covered (pairs_keep_rules n) (bytes_of (8 * n)))
 
 lookup_covered : (at : ℕ) → Covers (lookup_switch at) (known_lookup_switch at)
 lookup_covered at = both_covers (padding at) (both signed32 pairs) (both signed32 known_pairs) (both_covers signed32 pairs known_pairs pairs_covered)

@@ -25,7 +25,7 @@ use Rattle.jv_code.specs.declared.shapes.OpcodeShape.{OpcodeShape}
 use Rattle.jv_code.specs.declared.shapes.OpcodeShape.TheVariants as shape
 use Rattle.jv_code.specs.Opcodes.{int_opcode, long_opcode, load_0_opcode, store_0_opcode, array_load_opcode, array_store_opcode, stack_opcode, number_offset, arithmetic_opcode, division_opcode, shift_opcode, conversion_opcode, branch_opcode, return_opcode, element_code}
 use Rattle.jv_code.specs.Numbers.{signed8, signed16, signed32}
-use Rattle.jv_code.specs.Switches.{pairs_right}
+use Rattle.jv_code.specs.Switches.{pairs_keep_rules}
 use Rattle.jv_code.specs.Inside.SwitchReading.{distance_bytes, bounds, distance_bytes_between, table_switch, pair_count, pairs_of, pairs, lookup_switch}
 use Rattle.jv_code.specs.Insns.{Instruction, insn_bytes, insn_fits}
 use Rattle.jv_code.specs.Inside.Shapes.{shape_at}
@@ -64,7 +64,7 @@ eight_each : (n : ℕ) (t : List ℕ) → IsTrue ((pairs_of n).fits t) → pair_
 eight_each n t h = let long : length t ≡ 8 * n = eqb-true _ _ (and_parts _ _ h).0 in omega arith
 
 pairs_are : IsFormat pairs
-pairs_are = after_is quad pair_count pairs_of quad_is (λ n. such_is (pairs_right n) (bytes_of (8 * n)) (bytes_is (8 * n))) eight_each
+pairs_are = after_is quad pair_count pairs_of quad_is (λ n. such_is (pairs_keep_rules n) (bytes_of (8 * n)) (bytes_is (8 * n))) eight_each
 
 lookup_switch_is : (at : ℕ) → IsFormat (lookup_switch at)
 lookup_switch_is at = both_is _ _ (bytes_is (3 - at % 4)) (both_is signed32 pairs signed32_is pairs_are)

@@ -11,7 +11,8 @@ use Rattle.jv_code.specs.declared.shapes.OpcodeShape.{OpcodeShape}
 use Rattle.jv_code.specs.Inside.Shapes.{shape_at}
 use Rattle.jv_code.specs.Places.{all_fit}
 use Rattle.jv_code.specs.Inside.Reading.{insn, insn_read, operands}
-use Rattle.jv_code.specs.Unsupported.{is_from_to, moves_floats, computes_floats, is_unsupported, makes_floats, is_wide_float, front_unsupported, IsUnsupported, CodeIsSupported}
+use Rattle.jv_format.specs.Numbers.{is_from_to}
+use Rattle.jv_code.specs.Unsupported.{moves_floats, computes_floats, is_unsupported, makes_floats, is_wide_float, front_unsupported, IsUnsupported, CodeIsSupported}
 use Rattle.jv_code.proofs.Tables.{all_below, one_below}
 use Rattle.jv_code.proofs.Laws.{insn_is}
 use Rattle.jv_code.proofs.Sizes.{size, size-cons, shorter}

@@ -11,7 +11,7 @@ use Rattle.jv_code.specs.Insns.{Instruction, insn_bytes, insn_fits}
 use Rattle.jv_code.specs.Places.{all_fit, IsCode, IsAt, IsStart, IsStartOrEnd, OneList, StandsInList, StartsApart, OneAtOffset, FitsThere, EachHasDistance, KeysRise}
 use Rattle.jv_code.specs.Inside.Reading.{insn, insn_read, known_insn_read}
 use Rattle.jv_code.specs.Numbers.{signed32}
-use Rattle.jv_code.specs.Switches.{padding_fits, pairs_fit, pairs_right, pairs_in, keys_rise}
+use Rattle.jv_code.specs.Switches.{padding_fits, pairs_fit, pairs_keep_rules, pairs_in, keys_rise}
 use Rattle.jv_code.proofs.Distances.{each_distance}
 use Rattle.jv_code.proofs.Known.{insn_known}
 use Rattle.jv_code.proofs.Laws.{insn_is}
@@ -214,8 +214,8 @@ EachHasDistance-holds bytes pc padding default low high distances at =
 pub KeysRise-holds : KeysRise
 KeysRise-holds bytes pc padding default pairs at =
     let fits = (and_parts (signed32.fits default) (pairs_fit pairs) (and_parts (padding_fits pc padding) (signed32.fits default && pairs_fit pairs) (at_rest bytes pc _ at).1).1).1 in
-    let rest = (and_parts (quad.fits (length pairs / 8)) (length pairs == 8 * (length pairs / 8) && pairs_right (length pairs / 8) pairs) fits).1 in
-    let right = (and_parts (length pairs == 8 * (length pairs / 8)) (pairs_right (length pairs / 8) pairs) rest).1 in
+    let rest = (and_parts (quad.fits (length pairs / 8)) (length pairs == 8 * (length pairs / 8) && pairs_keep_rules (length pairs / 8) pairs) fits).1 in
+    let right = (and_parts (length pairs == 8 * (length pairs / 8)) (pairs_keep_rules (length pairs / 8) pairs) rest).1 in
     (and_parts (nat_lt (length pairs / 8) 2147483648) (keys_rise (pairs_in pairs)) right).1
 
 -- ---- what is read where an instruction is known to stand

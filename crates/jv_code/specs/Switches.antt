@@ -59,12 +59,12 @@ keys_rise [] = true
 keys_rise (p ∷ pairs) = rise_above p.0 pairs
 
 -- fewer than 2^31 pairs, and rising keys
-abbrev pub pairs_right : ℕ → List ℕ → Bool
-pairs_right n pairs = nat_lt n 2147483648 && keys_rise (pairs_in pairs)
+abbrev pub pairs_keep_rules : ℕ → List ℕ → Bool
+pairs_keep_rules n pairs = nat_lt n 2147483648 && keys_rise (pairs_in pairs)
 
 -- eight bytes a pair
 abbrev pub pairs_fit : List ℕ → Bool
-pairs_fit pairs = quad.fits (length pairs / 8) && (length pairs == 8 * (length pairs / 8) && pairs_right (length pairs / 8) pairs)
+pairs_fit pairs = quad.fits (length pairs / 8) && (length pairs == 8 * (length pairs / 8) && pairs_keep_rules (length pairs / 8) pairs)
 
 -- ---- laws
 

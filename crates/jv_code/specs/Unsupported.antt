@@ -1,13 +1,11 @@
 -- Code that goes beyond the profile: instructions of the profile, and then one of the instructions of floating point
 -- numbers, monitors, dynamic calls and their kin that the JVMS has and the profile leaves out (own). jsr, ret, jsr_w and
 -- the opcodes from 202 on are ill formed and not among them (JVMS 4.9.1, 6.5).
-use Rattle.std.specs.Prelude.{◌≡◌, ℕ, Bool, false, ◌&&◌, ◌||◌, List, [], ◌∷◌, ◌++◌, IsTrue, nat_le, ◌==◌}
+use Rattle.std.specs.Prelude.{◌≡◌, ℕ, Bool, false, ◌&&◌, ◌||◌, List, [], ◌∷◌, ◌++◌, IsTrue, ◌==◌}
 use Rattle.std.specs.List.{flat_map}
+use Rattle.jv_format.specs.Numbers.{is_from_to}
 use Rattle.jv_code.specs.Insns.{Instruction, insn_bytes}
 use Rattle.jv_code.specs.Places.{all_fit, IsCode}
-
-abbrev pub is_from_to : ℕ → ℕ → ℕ → Bool
-is_from_to first last opcode = nat_le first opcode && nat_le opcode last
 
 -- fconst_0 to dconst_1; fload, dload and those with the local in the opcode; faload, daload; the stores
 abbrev pub moves_floats : ℕ → Bool

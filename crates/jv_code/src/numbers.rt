@@ -10,7 +10,9 @@ use jv_format::{byte_at, half_at, quad_at};
 pub(crate) fn signed8_at(bytes: &[u8]) -> Option<(i8, &[u8])>
     ensures { Finds signed8 bytes.now (λ x. (x.0, x.1.now)) result }
 {
-    let (value, rest) = byte_at(bytes)?;
+    let Some((value, rest)) = byte_at(bytes) else {
+        return None;
+    };
     Some((value.cast_signed(), rest))
 }
 
@@ -19,7 +21,9 @@ pub(crate) fn signed8_at(bytes: &[u8]) -> Option<(i8, &[u8])>
 pub(crate) fn signed16_at(bytes: &[u8]) -> Option<(i16, &[u8])>
     ensures { Finds signed16 bytes.now (λ x. (x.0, x.1.now)) result }
 {
-    let (value, rest) = half_at(bytes)?;
+    let Some((value, rest)) = half_at(bytes) else {
+        return None;
+    };
     Some((value.cast_signed(), rest))
 }
 
@@ -28,6 +32,8 @@ pub(crate) fn signed16_at(bytes: &[u8]) -> Option<(i16, &[u8])>
 pub(crate) fn signed32_at(bytes: &[u8]) -> Option<(i32, &[u8])>
     ensures { Finds signed32 bytes.now (λ x. (x.0, x.1.now)) result }
 {
-    let (value, rest) = quad_at(bytes)?;
+    let Some((value, rest)) = quad_at(bytes) else {
+        return None;
+    };
     Some((value.cast_signed(), rest))
 }

@@ -60,7 +60,9 @@ fn whole<'a>(insn: WholeInsn) -> Insn<&'a [u8]>
 fn index_at(index_use: IndexUse, bytes: &[u8]) -> Option<(Insn<&[u8]>, &[u8])>
     ensures { Reads (made half (indexed index_use) bytes.now) result }
 {
-    let (index, rest) = half_at(bytes)?;
+    let Some((index, rest)) = half_at(bytes) else {
+        return None;
+    };
     Some((indexed(index_use, index), rest))
 }
 
@@ -79,7 +81,9 @@ fn with_local<'a>(local_use: LocalUse, form: LocalForm, local: u16) -> Insn<&'a 
 fn local_at(local_use: LocalUse, bytes: &[u8]) -> Option<(Insn<&[u8]>, &[u8])>
     ensures { Reads (made byte (with_local local_use local.Byte) bytes.now) result }
 {
-    let (local, rest) = byte_at(bytes)?;
+    let Some((local, rest)) = byte_at(bytes) else {
+        return None;
+    };
     let insn = with_local(local_use, LocalForm::Byte, u16::from(local));
     Some((insn, rest))
 }
@@ -88,7 +92,9 @@ fn local_at(local_use: LocalUse, bytes: &[u8]) -> Option<(Insn<&[u8]>, &[u8])>
 fn wide_local_at(local_use: LocalUse, bytes: &[u8]) -> Option<(Insn<&[u8]>, &[u8])>
     ensures { Reads (made half (with_local local_use local.Wide) bytes.now) result }
 {
-    let (local, rest) = half_at(bytes)?;
+    let Some((local, rest)) = half_at(bytes) else {
+        return None;
+    };
     let insn = with_local(local_use, LocalForm::Wide, local);
     Some((insn, rest))
 }
@@ -97,7 +103,9 @@ fn wide_local_at(local_use: LocalUse, bytes: &[u8]) -> Option<(Insn<&[u8]>, &[u8
 fn branch_at(test: Test, bytes: &[u8]) -> Option<(Insn<&[u8]>, &[u8])>
     ensures { Reads (made signed16 (branch_by test) bytes.now) result }
 {
-    let (distance, rest) = signed16_at(bytes)?;
+    let Some((distance, rest)) = signed16_at(bytes) else {
+        return None;
+    };
     Some((Insn::Branch(test, distance), rest))
 }
 
@@ -105,7 +113,9 @@ fn branch_at(test: Test, bytes: &[u8]) -> Option<(Insn<&[u8]>, &[u8])>
 fn goto_at(bytes: &[u8]) -> Option<(Insn<&[u8]>, &[u8])>
     ensures { Reads (made signed16 goto_by bytes.now) result }
 {
-    let (distance, rest) = signed16_at(bytes)?;
+    let Some((distance, rest)) = signed16_at(bytes) else {
+        return None;
+    };
     Some((Insn::Goto(i32::from(distance), JumpForm::Half), rest))
 }
 
@@ -113,7 +123,9 @@ fn goto_at(bytes: &[u8]) -> Option<(Insn<&[u8]>, &[u8])>
 fn far_goto_at(bytes: &[u8]) -> Option<(Insn<&[u8]>, &[u8])>
     ensures { Reads (made signed32 far_goto_by bytes.now) result }
 {
-    let (distance, rest) = signed32_at(bytes)?;
+    let Some((distance, rest)) = signed32_at(bytes) else {
+        return None;
+    };
     Some((Insn::Goto(distance, JumpForm::Quad), rest))
 }
 
@@ -121,7 +133,9 @@ fn far_goto_at(bytes: &[u8]) -> Option<(Insn<&[u8]>, &[u8])>
 fn byte_constant_at(bytes: &[u8]) -> Option<(Insn<&[u8]>, &[u8])>
     ensures { Reads (made signed8 byte_constant bytes.now) result }
 {
-    let (value, rest) = signed8_at(bytes)?;
+    let Some((value, rest)) = signed8_at(bytes) else {
+        return None;
+    };
     let computation = Computation::IntConstant(i16::from(value), IntForm::Byte);
     Some((Insn::Compute(computation), rest))
 }
@@ -130,7 +144,9 @@ fn byte_constant_at(bytes: &[u8]) -> Option<(Insn<&[u8]>, &[u8])>
 fn half_constant_at(bytes: &[u8]) -> Option<(Insn<&[u8]>, &[u8])>
     ensures { Reads (made signed16 half_constant bytes.now) result }
 {
-    let (value, rest) = signed16_at(bytes)?;
+    let Some((value, rest)) = signed16_at(bytes) else {
+        return None;
+    };
     let computation = Computation::IntConstant(value, IntForm::Half);
     Some((Insn::Compute(computation), rest))
 }
@@ -139,7 +155,9 @@ fn half_constant_at(bytes: &[u8]) -> Option<(Insn<&[u8]>, &[u8])>
 fn pool_byte_at(bytes: &[u8]) -> Option<(Insn<&[u8]>, &[u8])>
     ensures { Reads (made byte pool_byte bytes.now) result }
 {
-    let (index, rest) = byte_at(bytes)?;
+    let Some((index, rest)) = byte_at(bytes) else {
+        return None;
+    };
     Some((Insn::PoolConstant(u16::from(index), IndexForm::Byte), rest))
 }
 
@@ -147,8 +165,12 @@ fn pool_byte_at(bytes: &[u8]) -> Option<(Insn<&[u8]>, &[u8])>
 fn increment_at(bytes: &[u8]) -> Option<(Insn<&[u8]>, &[u8])>
     ensures { Reads (made (both byte signed8) increment_by bytes.now) result }
 {
-    let (local, rest) = byte_at(bytes)?;
-    let (value, rest) = signed8_at(rest)?;
+    let Some((local, rest)) = byte_at(bytes) else {
+        return None;
+    };
+    let Some((value, rest)) = signed8_at(rest) else {
+        return None;
+    };
     let insn = Insn::Increment(u16::from(local), i16::from(value), IncrementForm::Byte);
     Some((insn, rest))
 }
@@ -157,8 +179,12 @@ fn increment_at(bytes: &[u8]) -> Option<(Insn<&[u8]>, &[u8])>
 fn wide_increment_at(bytes: &[u8]) -> Option<(Insn<&[u8]>, &[u8])>
     ensures { Reads (made (both half signed16) wide_increment_by bytes.now) result }
 {
-    let (local, rest) = half_at(bytes)?;
-    let (value, rest) = signed16_at(rest)?;
+    let Some((local, rest)) = half_at(bytes) else {
+        return None;
+    };
+    let Some((value, rest)) = signed16_at(rest) else {
+        return None;
+    };
     Some((Insn::Increment(local, value, IncrementForm::Wide), rest))
 }
 
@@ -176,8 +202,12 @@ fn count_at(bytes: &[u8]) -> Option<(u8, &[u8])>
 fn invoke_interface_at(bytes: &[u8]) -> Option<(Insn<&[u8]>, &[u8])>
     ensures { Reads (made (both half count) invoke_interface_of bytes.now) result }
 {
-    let (index, rest) = half_at(bytes)?;
-    let (count, rest) = count_at(rest)?;
+    let Some((index, rest)) = half_at(bytes) else {
+        return None;
+    };
+    let Some((count, rest)) = count_at(rest) else {
+        return None;
+    };
     Some((Insn::InvokeInterface(index, count), rest))
 }
 
@@ -200,8 +230,12 @@ fn element_of(code: u8) -> Option<ElementType>
 fn new_array_at(bytes: &[u8]) -> Option<(Insn<&[u8]>, &[u8])>
     ensures { Reads (made element_type new_array_of bytes.now) result }
 {
-    let (code, rest) = byte_at(bytes)?;
-    let element = element_of(code)?;
+    let Some((code, rest)) = byte_at(bytes) else {
+        return None;
+    };
+    let Some(element) = element_of(code) else {
+        return None;
+    };
     Some((Insn::NewArray(element), rest))
 }
 
@@ -209,7 +243,9 @@ fn new_array_at(bytes: &[u8]) -> Option<(Insn<&[u8]>, &[u8])>
 fn dimensions_at(bytes: &[u8]) -> Option<(u8, &[u8])>
     ensures { Finds dimensions bytes.now (λ x. (x.0, x.1.now)) result }
 {
-    let (dimensions, rest) = byte_at(bytes)?;
+    let Some((dimensions, rest)) = byte_at(bytes) else {
+        return None;
+    };
     if dimensions == 0 {
         return None;
     }
@@ -220,8 +256,12 @@ fn dimensions_at(bytes: &[u8]) -> Option<(u8, &[u8])>
 fn new_multi_array_at(bytes: &[u8]) -> Option<(Insn<&[u8]>, &[u8])>
     ensures { Reads (made (both half dimensions) new_multi_array_of bytes.now) result }
 {
-    let (index, rest) = half_at(bytes)?;
-    let (dimensions, rest) = dimensions_at(rest)?;
+    let Some((index, rest)) = half_at(bytes) else {
+        return None;
+    };
+    let Some((dimensions, rest)) = dimensions_at(rest) else {
+        return None;
+    };
     Some((Insn::NewMultiArray(index, dimensions), rest))
 }
 

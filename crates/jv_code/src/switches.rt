@@ -5,7 +5,7 @@ ghost use Rattle.std.specs.Option.{option_map};
 ghost use Rattle.jv_format.specs.Format.{Finds};
 ghost use Rattle.jv_format.specs.Readers.{paired};
 ghost use Rattle.jv_code.specs.Numbers.{signed32};
-ghost use Rattle.jv_code.specs.Switches.{distances_in, pair, pairs_in, keys_rise, pairs_right, pair_distance, distance_for};
+ghost use Rattle.jv_code.specs.Switches.{distances_in, pair, pairs_in, keys_rise, pairs_keep_rules, pair_distance, distance_for};
 ghost use Rattle.jv_code.specs.Inside.SwitchReading.{padding, distance_bytes, bounds, distance_bytes_between, pairs_of, pairs, known_pairs};
 ghost use Rattle.jv_code.specs.Inside.Reading.{table_switch_read, lookup_switch_read, known_lookup_switch_read, Reads};
 
@@ -16,8 +16,12 @@ use jv_format::{bytes_at, quad_at};
 fn front_pair(bytes: &[u8]) -> Option<((i32, i32), &[u8])>
     ensures { Finds pair bytes.now (λ x. ((x.0.0, x.0.1), x.1.now)) result }
 {
-    let (key, rest) = signed32_at(bytes)?;
-    let (distance, rest) = signed32_at(rest)?;
+    let Some((key, rest)) = signed32_at(bytes) else {
+        return None;
+    };
+    let Some((distance, rest)) = signed32_at(rest) else {
+        return None;
+    };
     Some(((key, distance), rest))
 }
 
@@ -37,7 +41,9 @@ pub fn first_distance(bytes: &[u8]) -> Option<(i32, &[u8])>
 fn first_of_distances(bytes: &[u8]) -> Option<i32>
     ensures { result ≡ slice_get (distances_in bytes.now) 0 }
 {
-    let (distance, _rest) = first_distance(bytes)?;
+    let Some((distance, _rest)) = first_distance(bytes) else {
+        return None;
+    };
     Some(distance)
 }
 
@@ -84,7 +90,9 @@ pub fn pair_at(bytes: &[u8], place: usize) -> Option<(i32, i32)>
 fn first_of_pairs(bytes: &[u8]) -> Option<(i32, i32)>
     ensures { result ≡ slice_get (pairs_in bytes.now) 0 }
 {
-    let (pair, _rest) = first_pair(bytes)?;
+    let Some((pair, _rest)) = first_pair(bytes) else {
+        return None;
+    };
     Some(pair)
 }
 
@@ -173,17 +181,27 @@ fn distance_bytes_at(low: i32, high: i32, bytes: &[u8]) -> Option<(&[u8], &[u8])
 fn bounds_at(bytes: &[u8]) -> Option<((i32, i32, i32), &[u8])>
     ensures { Finds bounds bytes.now (λ x. ((x.0.0, (x.0.1, x.0.2)), x.1.now)) result }
 {
-    let (default, rest) = signed32_at(bytes)?;
-    let (low, rest) = signed32_at(rest)?;
-    let (high, rest) = signed32_at(rest)?;
+    let Some((default, rest)) = signed32_at(bytes) else {
+        return None;
+    };
+    let Some((low, rest)) = signed32_at(rest) else {
+        return None;
+    };
+    let Some((high, rest)) = signed32_at(rest) else {
+        return None;
+    };
     Some(((default, low, high), rest))
 }
 
 fn distances_at(bytes: &[u8]) -> Option<((i32, i32, i32, &[u8]), &[u8])>
     ensures { Finds (paired bounds distance_bytes_between) bytes.now (λ x. (((x.0.0, (x.0.1, x.0.2)), x.0.3.now), x.1.now)) result }
 {
-    let ((default, low, high), rest) = bounds_at(bytes)?;
-    let (distances, rest) = distance_bytes_at(low, high, rest)?;
+    let Some(((default, low, high), rest)) = bounds_at(bytes) else {
+        return None;
+    };
+    let Some((distances, rest)) = distance_bytes_at(low, high, rest) else {
+        return None;
+    };
     Some(((default, low, high, distances), rest))
 }
 
@@ -198,16 +216,20 @@ fn padding_at(at: usize, bytes: &[u8]) -> Option<(&[u8], &[u8])>
 pub(crate) fn table_switch_at(at: usize, bytes: &[u8]) -> Option<(Insn<&[u8]>, &[u8])>
     ensures { Reads (table_switch_read at bytes.now) result }
 {
-    let (padding, rest) = padding_at(at, bytes)?;
-    let ((default, low, high, distances), rest) = distances_at(rest)?;
+    let Some((padding, rest)) = padding_at(at, bytes) else {
+        return None;
+    };
+    let Some(((default, low, high, distances), rest)) = distances_at(rest) else {
+        return None;
+    };
     Some((
         Insn::TableSwitch(padding, default, low, high, distances),
         rest,
     ))
 }
 
-fn pairs_right(count: u32, bytes: &[u8]) -> bool
-    ensures { result ≡ pairs_right count bytes.now }
+fn pairs_keep_rules(count: u32, bytes: &[u8]) -> bool
+    ensures { result ≡ pairs_keep_rules count bytes.now }
 {
     count < 2147483648 && keys_rise(bytes)
 }
@@ -215,8 +237,10 @@ fn pairs_right(count: u32, bytes: &[u8]) -> bool
 fn pairs_of(count: u32, bytes: &[u8]) -> Option<(&[u8], &[u8])>
     ensures { Finds (pairs_of count) bytes.now (λ x. (x.0.now, x.1.now)) result }
 {
-    let (pairs, rest) = bytes_at(8 * (count as usize), bytes)?;
-    if !pairs_right(count, pairs) {
+    let Some((pairs, rest)) = bytes_at(8 * (count as usize), bytes) else {
+        return None;
+    };
+    if !pairs_keep_rules(count, pairs) {
         return None;
     }
     Some((pairs, rest))
@@ -225,7 +249,9 @@ fn pairs_of(count: u32, bytes: &[u8]) -> Option<(&[u8], &[u8])>
 fn pairs_at(bytes: &[u8]) -> Option<(&[u8], &[u8])>
     ensures { Finds pairs bytes.now (λ x. (x.0.now, x.1.now)) result }
 {
-    let (count, rest) = quad_at(bytes)?;
+    let Some((count, rest)) = quad_at(bytes) else {
+        return None;
+    };
     pairs_of(count, rest)
 }
 
@@ -233,16 +259,24 @@ fn pairs_at(bytes: &[u8]) -> Option<(&[u8], &[u8])>
 pub(crate) fn lookup_switch_at(at: usize, bytes: &[u8]) -> Option<(Insn<&[u8]>, &[u8])>
     ensures { Reads (lookup_switch_read at bytes.now) result }
 {
-    let (padding, rest) = padding_at(at, bytes)?;
-    let (default, rest) = signed32_at(rest)?;
-    let (pairs, rest) = pairs_at(rest)?;
+    let Some((padding, rest)) = padding_at(at, bytes) else {
+        return None;
+    };
+    let Some((default, rest)) = signed32_at(rest) else {
+        return None;
+    };
+    let Some((pairs, rest)) = pairs_at(rest) else {
+        return None;
+    };
     Some((Insn::LookupSwitch(padding, default, pairs), rest))
 }
 
 fn known_pairs_at(bytes: &[u8]) -> Option<(&[u8], &[u8])>
     ensures { Finds known_pairs bytes.now (λ x. (x.0.now, x.1.now)) result }
 {
-    let (count, rest) = quad_at(bytes)?;
+    let Some((count, rest)) = quad_at(bytes) else {
+        return None;
+    };
     bytes_at(8 * (count as usize), rest)
 }
 
@@ -251,8 +285,14 @@ fn known_pairs_at(bytes: &[u8]) -> Option<(&[u8], &[u8])>
 pub(crate) fn known_lookup_switch_at(at: usize, bytes: &[u8]) -> Option<(Insn<&[u8]>, &[u8])>
     ensures { Reads (known_lookup_switch_read at bytes.now) result }
 {
-    let (padding, rest) = padding_at(at, bytes)?;
-    let (default, rest) = signed32_at(rest)?;
-    let (pairs, rest) = known_pairs_at(rest)?;
+    let Some((padding, rest)) = padding_at(at, bytes) else {
+        return None;
+    };
+    let Some((default, rest)) = signed32_at(rest) else {
+        return None;
+    };
+    let Some((pairs, rest)) = known_pairs_at(rest) else {
+        return None;
+    };
     Some((Insn::LookupSwitch(padding, default, pairs), rest))
 }

@@ -1,6 +1,6 @@
 -- The numbers of a class file (JVMS 4): the bytes of a u1, a u2 and a u4, the high byte first, and which numbers have
 -- such bytes.
-use Rattle.std.specs.Prelude.{◌≡◌, ℕ, ◌/◌, ◌%◌, ◌<◌, Bool, List, [], ◌∷◌, nat_lt}
+use Rattle.std.specs.Prelude.{◌≡◌, ℕ, ◌/◌, ◌%◌, ◌<◌, Bool, ◌&&◌, List, [], ◌∷◌, nat_lt, nat_le}
 use Rattle.byteorder.specs.Endian.{big_bytes}
 
 abbrev pub u1_bytes : ℕ → List ℕ
@@ -20,6 +20,10 @@ u2_fits n = nat_lt n 65536
 
 abbrev pub u4_fits : ℕ → Bool
 u4_fits n = nat_lt n 4294967296
+
+-- a number from one to another
+abbrev pub is_from_to : (first last n : ℕ) → Bool
+is_from_to first last n = nat_le first n && nat_le n last
 
 -- A law: these are the bytes that the library that reads and writes them calls big-endian.
 pub record AreBigEndian : Type 0 where

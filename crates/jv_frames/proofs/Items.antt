@@ -7,7 +7,7 @@ use Rattle.jv_format.proofs.Laws.{is_some, IsFormat, Took, half_is, list_is, aft
 use Rattle.jv_frames.specs.declared.item.Item.{Item}
 use Rattle.jv_frames.specs.declared.item.Item.TheVariants as items
 use Rattle.jv_frames.specs.Bytes.{item_bytes, item_fits}
-use Rattle.jv_frames.specs.Inside.Reading.{object, uninitialized, item_contents, item_read, item, items_of, counted}
+use Rattle.jv_frames.specs.Inside.Reading.{object, uninitialized, item_contents, item_read, item, so_many_items, counted_items}
 
 abbrev found : Item → List ℕ → Option (Item × List ℕ)
 found i bytes = Some (i, bytes)
@@ -44,8 +44,8 @@ item_again (items.Uninitialized offset) rest h = again_as half uninitialized off
 pub item_is : IsFormat item
 item_is = record { takes = item_takes; again = item_again }
 
-pub items_are : (n : ℕ) → IsFormat (items_of n)
+pub items_are : (n : ℕ) → IsFormat (so_many_items n)
 items_are n = list_is n item item_is
 
-pub counted_is : IsFormat counted
-counted_is = after_is half length items_of half_is items_are (λ n list h. eqb-true _ _ (and_parts _ _ h).0)
+pub counted_is : IsFormat counted_items
+counted_is = after_is half length so_many_items half_is items_are (λ n list h. eqb-true _ _ (and_parts _ _ h).0)

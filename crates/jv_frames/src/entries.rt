@@ -37,7 +37,9 @@ impl<'m> Entries<'m> {
     pub fn next(&mut self) -> Option<FrameEntry>
         ensures { MatchOption result (self.old ≡ []) (λ entry. self.old ≡ entry ∷ self.new) }
     {
-        let (entry, below) = self.nodes.at(self.top)?;
+        let Some((entry, below)) = self.nodes.at(self.top) else {
+            return None;
+        };
         self.top = below;
         Some(entry)
     }

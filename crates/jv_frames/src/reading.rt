@@ -19,7 +19,9 @@ use std::alloc::Global;
 fn item_at(bytes: &[u8]) -> Option<(Item, &[u8])>
     ensures { Finds item bytes.now (λ x. (x.0, x.1.now)) result }
 {
-    let (tag, rest) = byte_at(bytes)?;
+    let Some((tag, rest)) = byte_at(bytes) else {
+        return None;
+    };
     match tag {
         0 => Some((Item::Top, rest)),
         1 => Some((Item::Integer, rest)),
@@ -27,11 +29,15 @@ fn item_at(bytes: &[u8]) -> Option<(Item, &[u8])>
         5 => Some((Item::Null, rest)),
         6 => Some((Item::UninitializedThis, rest)),
         7 => {
-            let (class, rest) = half_at(rest)?;
+            let Some((class, rest)) = half_at(rest) else {
+                return None;
+            };
             Some((Item::Object(class), rest))
         }
         8 => {
-            let (offset, rest) = half_at(rest)?;
+            let Some((offset, rest)) = half_at(rest) else {
+                return None;
+            };
             Some((Item::Uninitialized(offset), rest))
         }
         _ => None,

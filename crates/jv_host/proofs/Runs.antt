@@ -11,7 +11,7 @@ use Rattle.jv_meaning.specs.Guest.{Guest, Observed, bytes_of}
 use Rattle.jv_meaning.specs.Thin.Machine.{State, Fault, Program, ◌>>=◌, program_of, next, start, state_after, end_of_activity}
 use Rattle.jv_meaning.specs.Thin.Alone.{runnable_class_of, alone, observation, Shows, IsRunningAfter, IsOverAfter, FaultsWithin}
 use Rattle.jv_interp.specs.Thin.GuestState.{GuestState}
-use Rattle.jv_host.specs.Inside.Admission.{Runs, IsAdmitted, IsFound}
+use Rattle.jv_host.specs.Inside.Admission.{Runs, IsAdmitted, IsFoundVerdict}
 use Rattle.jv_class_parts.specs.Structure.{ClassStructure}
 
 abbrev just_ok : State → Result State Fault
@@ -105,7 +105,7 @@ one_file (f ∷ []) none e = refl
 one_file (f ∷ g ∷ files) none e = absurd (omega (arith, e))
 
 -- a guest at its start stands for itself alone
-pub admitted_at_start : (g : Guest) (b : Budget) (file : List ℕ) (verdict : Verdict) (class : Option ClassStructure) (running : GuestState) → g.files ≡ file ∷ [] → IsFound file verdict class
+pub admitted_at_start : (g : Guest) (b : Budget) (file : List ℕ) (verdict : Verdict) (class : Option ClassStructure) (running : GuestState) → g.files ≡ file ∷ [] → IsFoundVerdict file verdict class
     → running.program ≡ program_of g.main class → running.state ≡ start (program_of g.main class) b.output → IsAdmitted g b (verdict ∷ []) running 0
 admitted_at_start g b file verdict class running one found program state = record {
   file = file;

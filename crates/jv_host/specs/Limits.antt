@@ -1,6 +1,7 @@
 -- The limits of the host, and the order in which it refuses a guest (own).
 use Rattle.std.specs.Prelude.{ℕ, Bool, ◌&&◌, not, nat_le, nat_lt, ◌==◌, if◌then◌else◌, List, length, Option, Some, None}
 use Rattle.std.specs.List.{list_any}
+use Rattle.jv_class.specs.of_format.Numbers.{is_from_to}
 use Rattle.jv_meaning.specs.declared.guest.Budget.{Budget}
 use Rattle.jv_meaning.specs.Guest.{Guest}
 use Rattle.jv_host.specs.declared.fault.AdmitFault.{AdmitFault}
@@ -9,10 +10,6 @@ use Rattle.jv_host.specs.declared.fault.AdmitFault.TheVariants.{NoFiles, TooMany
 -- a file longer than 4,194,304 bytes
 abbrev pub is_long_file : List ℕ → Bool
 is_long_file file = nat_lt 4194304 (length file)
-
--- a number from one to another
-abbrev pub is_from_to : (least most n : ℕ) → Bool
-is_from_to least most n = nat_le least n && nat_le n most
 
 -- 64 to 16,777,216 cells, 64 to 1,048,576 words, and at most 1,048,576 bytes of output
 abbrev pub is_in_range : Budget → Bool

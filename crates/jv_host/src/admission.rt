@@ -6,7 +6,7 @@ ghost use Rattle.jv_meaning.specs.Guest.{Observed, guest_of, observed_of};
 ghost use Rattle.jv_meaning.specs.Thin.Alone.{Shows, IsRunningAfter};
 ghost use Rattle.jv_interp.specs.declared.thin.fault.StepFault.TheVariants.{Stuck};
 ghost use Rattle.jv_host.specs.Host.{Admission, WasRunning, IsFullTurn, IsStuckAfter};
-ghost use Rattle.jv_host.specs.Inside.Admission.{IsFound};
+ghost use Rattle.jv_host.specs.Inside.Admission.{IsFoundVerdict};
 
 use crate::run::{Stopped, take_steps};
 use jv_class::{ClassFault, ClassFile, read_class};
@@ -43,7 +43,7 @@ pub(crate) struct Refused;
 
 /// The verdict of a file, and its class where that is accepted.
 fn judge<'a>(alloc: Global, bytes: &'a [u8]) -> Result<(Verdict, Option<ClassFile<'a>>), Refused>
-    ensures { IfOk result (λ x. IsFound bytes.now x.0 x.1) }
+    ensures { IfOk result (λ x. IsFoundVerdict bytes.now x.0 x.1) }
 {
     let class = match read_class(alloc, bytes) {
         Ok(class) => class,

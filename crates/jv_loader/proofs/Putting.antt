@@ -7,7 +7,8 @@ use Rattle.jv_loader_classes.proofs.Numbers.{take_more}
 use Rattle.jv_loader_files.specs.FileContent.{FileContent, IsContent, AreContents}
 use Rattle.jv_loader_world.specs.declared.verdict.LoadVerdict.{LoadVerdict}
 use Rattle.jv_loader_world.specs.World.{World}
-use Rattle.jv_loader.specs.Inside.Files.{ArePut, with_file, with_files, entry_of, entries_from, text_of, texts_of}
+use Rattle.jv_loader_class.specs.of_loader_tables.Inside.Kept.{text_of, texts_of}
+use Rattle.jv_loader.specs.Inside.Files.{ArePut, with_file, with_files, entry_of, entries_from}
 
 are_more : (bytes : List (List ℕ)) (contents : List FileContent) (b : List ℕ) (f : FileContent) → AreContents bytes contents → IsContent b f → AreContents (bytes ++ b ∷ []) (contents ++ f ∷ [])
 are_more [] [] b f h k = (k, tt)

@@ -8,7 +8,8 @@ ghost use Rattle.jv_loader_lookups.specs.Places.{field_at, method_at, IsFieldPla
 ghost use Rattle.jv_loader_lookups.specs.Defaults.{defaults, AreDefaults, IsDefaultPlace};
 ghost use Rattle.jv_loader.specs.Loading.{AreLoaded};
 ghost use Rattle.jv_loader.specs.Straight.{AreStraight};
-ghost use Rattle.jv_loader.specs.Inside.Files.{texts_of, IsOfFiles};
+ghost use Rattle.jv_loader_class.specs.of_loader_tables.Inside.Kept.{texts_of};
+ghost use Rattle.jv_loader.specs.Inside.Files.{IsOfFiles};
 ghost use Rattle.jv_loader.specs.Inside.Searches.{IsSearch};
 
 use crate::entry::put_files;

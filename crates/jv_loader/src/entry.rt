@@ -4,7 +4,8 @@ ghost use Rattle.std.specs.Prelude.{◌≡◌, false, IfOk, OnOk};
 ghost use Rattle.jv_loader_files.specs.FileContent.{FileContent, IsContent};
 ghost use Rattle.jv_loader_files.specs.declared.content.Content.TheVariants.{Holds};
 ghost use Rattle.jv_loader_world.specs.World.{is_reserved};
-ghost use Rattle.jv_loader.specs.Inside.Files.{with_file, entry_of, texts_of, ArePut};
+ghost use Rattle.jv_loader_class.specs.of_loader_tables.Inside.Kept.{texts_of};
+ghost use Rattle.jv_loader.specs.Inside.Files.{with_file, entry_of, ArePut};
 
 use jv_loader_class::LoadedClass;
 use jv_loader_classes::ClassList;

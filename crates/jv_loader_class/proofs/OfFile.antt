@@ -16,7 +16,8 @@ use Rattle.jv_loader_world.specs.of_class.Class.{Class, all_found, field_of, met
 use Rattle.jv_loader_class.specs.declared.kept.Kept.{Kept}
 use Rattle.jv_loader_class.specs.Inside.Seen.{MemberSeen, field_seen, method_seen}
 use Rattle.jv_loader_class.specs.Inside.Found.{member_with, field_texts, field_at, method_texts, method_at, interface_at}
-use Rattle.jv_loader_class.specs.Inside.Kept.{Keeps, text_of}
+use Rattle.jv_loader_tables.specs.Inside.Kept.{text_of}
+use Rattle.jv_loader_class.specs.Inside.Kept.{Keeps}
 use Rattle.jv_loader_class.proofs.AllFound.{found_of_seen, seen_of_found}
 
 pub if_ok_so : {A F : Type 0} (r : Result A F) (P Q : A → Type 0) → ((x : A) → P x → Q x) → IfOk r P → IfOk r Q

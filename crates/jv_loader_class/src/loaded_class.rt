@@ -38,11 +38,11 @@ pub struct LoadedClass<'a> {
 
 impl<'a> Model for LoadedClass<'a> {
     ghost use Rattle.jv_loader_world.specs.World.{Loaded, loaded};
-    ghost use Rattle.jv_loader_class.specs.Inside.Kept.{class_in, IsLoaded};
+    ghost use Rattle.jv_loader_class.specs.Inside.Kept.{class_of_file, IsLoaded};
 
     ghost Value = { Loaded };
 
-    ghost view = { λ l. loaded l.by_system (class_in l.file) };
+    ghost view = { λ l. loaded l.by_system (class_of_file l.file) };
 
     ghost invariant = { λ l. IsLoaded l.by_system l.file l.kept };
 }

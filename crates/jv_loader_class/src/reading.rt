@@ -6,9 +6,10 @@ ghost use Rattle.std.specs.Option.{option_copied};
 ghost use Rattle.jv_loader_world.specs.of_pool.Constants.{class_name_at, utf8_at};
 ghost use Rattle.jv_loader_world.specs.of_class.Class.{Class, all_found, class_of, super_of};
 ghost use Rattle.jv_loader_world.specs.of_class.Rules.{NoTwoAlike};
-ghost use Rattle.jv_loader_class.specs.Inside.Kept.{Keeps, text_of};
+ghost use Rattle.jv_loader_tables.specs.Inside.Kept.{text_of};
+ghost use Rattle.jv_loader_class.specs.Inside.Kept.{Keeps};
 ghost use Rattle.jv_loader_class.specs.Inside.Seen.{field_seen, member_seen, method_seen};
-ghost use Rattle.jv_loader_class.specs.Inside.Found.{field_at, field_texts, interface_at, member_at, method_at, method_texts};
+ghost use Rattle.jv_loader_class.specs.Inside.Found.{field_at, field_texts, interface_at, member_seen_at, method_at, method_texts};
 
 use crate::kept::Kept;
 use crate::member::Member;
@@ -27,7 +28,7 @@ fn member_in<'a>(
 ) -> Member<'a>
     requires name { IsSome (utf8_at pool.now name.0) }
     requires descriptor { IsSome (utf8_at pool.now descriptor.0) }
-    ensures { member_at pool.now access_flags name.0 descriptor.0 ≡ Some (member_seen result) }
+    ensures { member_seen_at pool.now access_flags name.0 descriptor.0 ≡ Some (member_seen result) }
 {
     Member {
         access_flags,

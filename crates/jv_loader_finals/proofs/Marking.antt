@@ -14,7 +14,7 @@ use Rattle.jv_loader_world.specs.Verdicts.{passes, declared_by}
 use Rattle.jv_loader_world.specs.Numbers.{classes_at, AreNumbers}
 use Rattle.jv_loader_finals.specs.Packages.{AreNumbered}
 use Rattle.jv_loader_finals.specs.Inside.Overridden.{have_package, with_overridden, overrides_final, overrides_final_above}
-use Rattle.jv_loader_finals.specs.Inside.Steps.{flags_alike, is_final_overridden_if, is_found_if, AreMarked}
+use Rattle.jv_loader_finals.specs.Inside.Steps.{flags_alike, is_final_overridden_if, is_found_if, ArePackagesMarked}
 use Rattle.jv_loader_finals.proofs.Passing.{some_at}
 
 -- ---- one class further up
@@ -52,7 +52,7 @@ number_within classes packages marks place numbered room h =
     let less : get_or packages place 0 < 2 * length classes = numbered.below place 0 (omega (arith, many, h)) in
     omega (arith, less, room)
 
-pub none_are_marked : (classes : List Loaded) (packages : List ℕ) (n : ℕ) → AreMarked classes packages (replicate n false) []
+pub none_are_marked : (classes : List Loaded) (packages : List ℕ) (n : ℕ) → ArePackagesMarked classes packages (replicate n false) []
 none_are_marked classes packages n place l e = unmarked n (get_or packages place 0)
   where
     unmarked : (n k : ℕ) → get_or (replicate n false) k false ≡ false
@@ -61,7 +61,7 @@ none_are_marked classes packages n place l e = unmarked n (get_or packages place
     unmarked (suc n) (suc k) = unmarked n k
 
 pub one_more_marked : (classes : List Loaded) (packages : List ℕ) (marks : List Bool) (found : List Loaded) (place : ℕ) (s : Loaded) → AreNumbered classes packages → get_or packages place 0 < length marks → slice_get classes place ≡ Some s
-    → AreMarked classes packages marks found → AreMarked classes packages (set marks (get_or packages place 0) true) (s ∷ found)
+    → ArePackagesMarked classes packages marks found → ArePackagesMarked classes packages (set marks (get_or packages place 0) true) (s ∷ found)
 one_more_marked classes packages marks found place s numbered within at marked k l e =
     by_test (nat_eq (get_or packages place 0) (get_or packages k 0)) refl ∙ ap (λ b. b || have_package found l) (numbered.same place k s l at e)
   where
@@ -78,7 +78,7 @@ one_more_marked classes packages marks found place s numbered within at marked k
 -- of the classes found, whose packages are marked, the rest of the way says what the whole way says
 pub record IsWalked (classes : List Loaded) (packages : List ℕ) (marks : List Bool) (m : Method) (rest : List ℕ) (whole : Bool) : Type 0 where
   pub found : List Loaded
-  pub marked : AreMarked classes packages marks found
+  pub marked : ArePackagesMarked classes packages marks found
   pub same : overrides_final_above m found (classes_at classes rest) ≡ whole
 
 pub way_begins : (classes : List Loaded) (packages : List ℕ) (cleared marks : List Bool) (n : ℕ) (m : Method) (chain : List ℕ) (of : ℕ) → AreNumbered classes packages → 2 * length classes ≤ n → of < length classes
@@ -114,8 +114,8 @@ pub way_goes_on : (classes : List Loaded) (packages : List ℕ) (marks after : L
     → IsWalked classes packages after m rest whole
 way_goes_on classes packages marks after m place rest s whole numbered within walked at kept e = record {
   found = with_overridden walked.found (alike_in s m);
-  marked = subst (λ ms. AreMarked classes packages ms (with_overridden walked.found (alike_in s m))) (sym e)
-      (subst (AreMarked classes packages (cond (is_found_if (get_or marks (get_or packages place 0) false) (flags_alike s m)) (set marks (get_or packages place 0) true) marks)) (sym found_by)
+  marked = subst (λ ms. ArePackagesMarked classes packages ms (with_overridden walked.found (alike_in s m))) (sym e)
+      (subst (ArePackagesMarked classes packages (cond (is_found_if (get_or marks (get_or packages place 0) false) (flags_alike s m)) (set marks (get_or packages place 0) true) marks)) (sym found_by)
       (by_test (is_found_if (get_or marks (get_or packages place 0) false) (flags_alike s m))));
   same = ap (λ b. b || overrides_final_above m (with_overridden walked.found (alike_in s m)) (classes_at classes rest))
       (sym kept ∙ (ap (λ b. is_final_overridden_if b (flags_alike s m)) (walked.marked place s at) ∙ sym (step_final walked.found s m)))
@@ -125,7 +125,7 @@ way_goes_on classes packages marks after m place rest s whole numbered within wa
     found_by : with_overridden walked.found (alike_in s m) ≡ cond (is_found_if (get_or marks (get_or packages place 0) false) (flags_alike s m)) (s ∷ walked.found) walked.found
     found_by = step_found walked.found s m ∙ ap (λ b. cond (is_found_if b (flags_alike s m)) (s ∷ walked.found) walked.found) (sym (walked.marked place s at))
 
-    by_test : (b : Bool) → AreMarked classes packages (cond b (set marks (get_or packages place 0) true) marks) (cond b (s ∷ walked.found) walked.found)
+    by_test : (b : Bool) → ArePackagesMarked classes packages (cond b (set marks (get_or packages place 0) true) marks) (cond b (s ∷ walked.found) walked.found)
     by_test true = one_more_marked classes packages marks walked.found place s numbered within at walked.marked
     by_test false = walked.marked
 

@@ -15,13 +15,13 @@ pub struct Begun {
 
 impl Model for Begun {
     ghost use Rattle.std.specs.Prelude.{length};
-    ghost use Rattle.jv_loader_lookups.specs.Inside.Numbers.{NumbersBelow, numbers_below, AreMarked};
+    ghost use Rattle.jv_loader_lookups.specs.Inside.Numbers.{NumbersBelow, numbers_below, AreNumbersMarked};
 
     ghost Value = { NumbersBelow };
 
     ghost view = { λ b. numbers_below (length b.marks.items) b.order.items };
 
-    ghost invariant = { λ b. AreMarked b.marks.items b.order.items };
+    ghost invariant = { λ b. AreNumbersMarked b.marks.items b.order.items };
 }
 
 impl Drop for Begun {

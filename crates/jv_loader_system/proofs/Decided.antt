@@ -16,12 +16,12 @@ use Rattle.jv_text.specs.Types.{field_type_of, method_type_of, TypesAgree}
 use Rattle.jv_loader_files.specs.of_pool.declared.constant.Constant.TheVariants.{Utf8, Integer, Float, Long, Double, Class, String, Fieldref, Methodref, InterfaceMethodref, NameAndType, MethodHandle, MethodType, InvokeDynamic}
 use Rattle.jv_loader_files.specs.of_pool.Constants.{Entry, NameAndDescriptor, named_at, pool_fits, utf8_at, class_name_at, name_and_type_at}
 use Rattle.jv_loader_files.specs.of_pool.Facts.{value_of_type}
-use Rattle.jv_loader_files.specs.of_pool.Rules.{IsFieldDescriptor, IsMethodDescriptor, IsDescriptor, NamesField, special_name_right, NamesMethod, KeepsRules}
+use Rattle.jv_loader_files.specs.of_pool.Rules.{IsFieldDescriptor, IsMethodDescriptor, IsDescriptor, NamesField, special_name_keeps_rules, NamesMethod, KeepsRules}
 use Rattle.jv_loader_files.specs.of_class_parts.Structure.{FieldInfo, MethodInfo, ClassStructure, body_fits}
-use Rattle.jv_loader_files.specs.of_class_parts.Attributes.{attributes_right, static_value}
-use Rattle.jv_loader_files.specs.of_class_parts.Flags.{has, acc_interface, class_flags_right}
+use Rattle.jv_loader_files.specs.of_class_parts.Attributes.{attributes_keep_rules, static_value}
+use Rattle.jv_loader_files.specs.of_class_parts.Flags.{has, acc_interface, class_flags_keep_rules}
 use Rattle.jv_loader_files.specs.of_class_parts.Parts.{is_52_0}
-use Rattle.jv_loader_files.specs.of_class.Rules.{is_no_array_name, is_class_at, super_right, interface_super_right, field_flags_right, value_right, IsFieldRight, method_flags_right, init_right, clinit_right, slots_right, code_there_right, IsMethodRight, field_texts, method_texts, has_code, NoTwoAlike, KeepsClassRules}
+use Rattle.jv_loader_files.specs.of_class.Rules.{is_no_array_name, is_class_at, super_keeps_rules, interface_super_keeps_rules, field_flags_keep_rules, value_keeps_rules, KeepsRulesAsField, method_flags_keep_rules, init_keeps_rules, clinit_keeps_rules, slots_keep_rules, code_presence_keeps_rules, KeepsRulesAsMethod, field_texts, method_texts, has_code, NoTwoAlike, KeepsClassRules}
 use Rattle.jv_loader_files.specs.of_class.Supported.{HasNoFloating, IsSupportedConstant, IsSupportedType, AreSupportedFlags, is_supported_method, IsSupported}
 use Rattle.jv_asm.specs.Law.{CanBeRead}
 
@@ -77,7 +77,7 @@ names_field member = is_some (field_type_of member.descriptor)
 
 abbrev pub names_method : NameAndDescriptor → Bool
 names_method member =
-    is_method_name member.name && passes (λ type. special_name_right member.name type.result) (method_type_of member.descriptor)
+    is_method_name member.name && passes (λ type. special_name_keeps_rules member.name type.result) (method_type_of member.descriptor)
 
 abbrev pub keeps_rules : List Entry → Entry → Bool
 keeps_rules pool (Utf8 text) = list_all is_ascii text
@@ -138,44 +138,44 @@ rules_kept agree pool (InvokeDynamic bootstrap name_and_type) h = absurd cc
 
 -- ---- the class, its fields and its methods (4.1, 4.5, 4.6)
 
-abbrev pub name_right : List Entry → ℕ → List ℕ → Bool
-name_right pool super_class name = is_no_array_name name && super_right pool name super_class
+abbrev pub name_keeps_rules : List Entry → ℕ → List ℕ → Bool
+name_keeps_rules pool super_class name = is_no_array_name name && super_keeps_rules pool name super_class
 
-abbrev pub itself_right : ClassStructure → Bool
-itself_right c =
-    class_flags_right c.access_flags && (passes (name_right c.constant_pool c.super_class) (class_name_at c.constant_pool c.this_class)
-    && (interface_super_right c.constant_pool c.access_flags c.super_class && list_all (is_class_at c.constant_pool) c.interfaces))
+abbrev pub itself_keeps_rules : ClassStructure → Bool
+itself_keeps_rules c =
+    class_flags_keep_rules c.access_flags && (passes (name_keeps_rules c.constant_pool c.super_class) (class_name_at c.constant_pool c.this_class)
+    && (interface_super_keeps_rules c.constant_pool c.access_flags c.super_class && list_all (is_class_at c.constant_pool) c.interfaces))
 
-abbrev pub field_right : List Entry → ℕ → FieldInfo → NameAndDescriptor → Bool
-field_right pool class_flags f texts =
-    is_unqualified_name texts.name && (field_flags_right (has class_flags acc_interface) f.access_flags
-    && passes (λ type. value_right pool (value_of_type type) (static_value pool f)) (field_type_of texts.descriptor))
+abbrev pub field_keeps_rules : List Entry → ℕ → FieldInfo → NameAndDescriptor → Bool
+field_keeps_rules pool class_flags f texts =
+    is_unqualified_name texts.name && (field_flags_keep_rules (has class_flags acc_interface) f.access_flags
+    && passes (λ type. value_keeps_rules pool (value_of_type type) (static_value pool f)) (field_type_of texts.descriptor))
 
 abbrev pub field_keeps : List Entry → ℕ → FieldInfo → Bool
-field_keeps pool class_flags f = passes (field_right pool class_flags f) (named_at pool f.name_index f.descriptor_index)
+field_keeps pool class_flags f = passes (field_keeps_rules pool class_flags f) (named_at pool f.name_index f.descriptor_index)
 
-abbrev pub type_right : ℕ → MethodInfo → NameAndDescriptor → MethodDescriptor → Bool
-type_right class_flags m texts type =
-    init_right (has class_flags acc_interface) texts.name (is_none type.result) && slots_right m.access_flags (slots type)
+abbrev pub type_keeps_rules : ℕ → MethodInfo → NameAndDescriptor → MethodDescriptor → Bool
+type_keeps_rules class_flags m texts type =
+    init_keeps_rules (has class_flags acc_interface) texts.name (is_none type.result) && slots_keep_rules m.access_flags (slots type)
 
-abbrev pub method_right : ℕ → MethodInfo → NameAndDescriptor → Bool
-method_right class_flags m texts =
-    is_method_name texts.name && (method_flags_right (has class_flags acc_interface) texts.name m.access_flags
-    && (clinit_right texts.name texts.descriptor m.access_flags
-    && (code_there_right texts.name m.access_flags (has_code m) && passes (type_right class_flags m texts) (method_type_of texts.descriptor))))
+abbrev pub method_keeps_rules : ℕ → MethodInfo → NameAndDescriptor → Bool
+method_keeps_rules class_flags m texts =
+    is_method_name texts.name && (method_flags_keep_rules (has class_flags acc_interface) texts.name m.access_flags
+    && (clinit_keeps_rules texts.name texts.descriptor m.access_flags
+    && (code_presence_keeps_rules texts.name m.access_flags (has_code m) && passes (type_keeps_rules class_flags m texts) (method_type_of texts.descriptor))))
 
 abbrev pub method_keeps : List Entry → ℕ → MethodInfo → Bool
-method_keeps pool class_flags m = passes (method_right class_flags m) (named_at pool m.name_index m.descriptor_index)
+method_keeps pool class_flags m = passes (method_keeps_rules class_flags m) (named_at pool m.name_index m.descriptor_index)
 
-field_is_right : TypesAgree → (pool : List Entry) (class_flags : ℕ) (f : FieldInfo) (texts : NameAndDescriptor) → IsTrue (field_right pool class_flags f texts) → IsFieldRight pool class_flags f.access_flags (static_value pool f) texts
-field_is_right agree pool class_flags f texts h =
+field_is_kept : TypesAgree → (pool : List Entry) (class_flags : ℕ) (f : FieldInfo) (texts : NameAndDescriptor) → IsTrue (field_keeps_rules pool class_flags f texts) → KeepsRulesAsField pool class_flags f.access_flags (static_value pool f) texts
+field_is_kept agree pool class_flags f texts h =
     let parts = and_parts _ _ h in
     let rest = and_parts _ _ parts.1 in
     let type = found _ (field_type_of texts.descriptor) rest.1 in
-    record { named = parts.0; type = type.value; described = (agree.field texts.descriptor type.value).1 type.is; flags_right = rest.0; value_kind = type.passes }
+    record { named = parts.0; type = type.value; described = (agree.field texts.descriptor type.value).1 type.is; flags_keep_rules = rest.0; value_kind = type.passes }
 
-method_is_right : TypesAgree → (class_flags : ℕ) (m : MethodInfo) (texts : NameAndDescriptor) → IsTrue (method_right class_flags m texts) → IsMethodRight class_flags m.access_flags (has_code m) texts
-method_is_right agree class_flags m texts h =
+method_is_kept : TypesAgree → (class_flags : ℕ) (m : MethodInfo) (texts : NameAndDescriptor) → IsTrue (method_keeps_rules class_flags m texts) → KeepsRulesAsMethod class_flags m.access_flags (has_code m) texts
+method_is_kept agree class_flags m texts h =
     let parts = and_parts _ _ h in
     let rest = and_parts _ _ parts.1 in
     let more = and_parts _ _ rest.1 in
@@ -186,7 +186,7 @@ method_is_right agree class_flags m texts h =
       named = parts.0;
       type = type.value;
       described = (agree.method texts.descriptor type.value).1 type.is;
-      flags_right = rest.0;
+      flags_keep_rules = rest.0;
       init = ends.0;
       clinit = more.0;
       few_slots = ends.1;
@@ -226,15 +226,15 @@ no_two (a ∷ others) h = let parts = and_parts _ _ h in (unlike_each a others p
 
 -- ---- the whole
 
-abbrev pub members_right : ClassStructure → Bool
-members_right c =
+abbrev pub members_keep_rules : ClassStructure → Bool
+members_keep_rules c =
     (list_all (field_keeps c.constant_pool c.access_flags) c.fields && list_all (method_keeps c.constant_pool c.access_flags) c.methods)
     && (none_alike (map (field_texts c.constant_pool) c.fields) && none_alike (map (method_texts c.constant_pool) c.methods))
 
-abbrev pub numbers_right : ClassStructure → Bool
-numbers_right c = pool_fits c.constant_pool && (body_fits c && (attributes_right c && list_all (keeps_rules c.constant_pool) c.constant_pool))
+abbrev pub numbers_keep_rules : ClassStructure → Bool
+numbers_keep_rules c = pool_fits c.constant_pool && (body_fits c && (attributes_keep_rules c && list_all (keeps_rules c.constant_pool) c.constant_pool))
 
-pub class_rules_kept : TypesAgree → (c : ClassStructure) → IsTrue (itself_right c) → IsTrue (members_right c) → KeepsClassRules c
+pub class_rules_kept : TypesAgree → (c : ClassStructure) → IsTrue (itself_keeps_rules c) → IsTrue (members_keep_rules c) → KeepsClassRules c
 class_rules_kept agree c h k =
     let flags = and_parts _ _ h in
     let name = and_parts _ _ flags.1 in
@@ -245,18 +245,18 @@ class_rules_kept agree c h k =
     record {
       itself = record {
         flags = flags.0;
-        named = passed (name_right c.constant_pool c.super_class) _ (λ text t. let two = and_parts _ _ t in record { no_array = two.0; superclass = two.1 }) (class_name_at c.constant_pool c.this_class) name.0;
+        named = passed (name_keeps_rules c.constant_pool c.super_class) _ (λ text t. let two = and_parts _ _ t in record { no_array = two.0; superclass = two.1 }) (class_name_at c.constant_pool c.this_class) name.0;
         supers = record { interface_super = supers.0; interfaces = each (is_class_at c.constant_pool) _ (λ index t. t) c.interfaces supers.1 };
       };
       members = record {
-        fields = each (field_keeps c.constant_pool c.access_flags) _ (λ f t. passed (field_right c.constant_pool c.access_flags f) _ (field_is_right agree c.constant_pool c.access_flags f) (named_at c.constant_pool f.name_index f.descriptor_index) t) c.fields right.0;
-        methods = each (method_keeps c.constant_pool c.access_flags) _ (λ m t. passed (method_right c.access_flags m) _ (method_is_right agree c.access_flags m) (named_at c.constant_pool m.name_index m.descriptor_index) t) c.methods right.1;
+        fields = each (field_keeps c.constant_pool c.access_flags) _ (λ f t. passed (field_keeps_rules c.constant_pool c.access_flags f) _ (field_is_kept agree c.constant_pool c.access_flags f) (named_at c.constant_pool f.name_index f.descriptor_index) t) c.fields right.0;
+        methods = each (method_keeps c.constant_pool c.access_flags) _ (λ m t. passed (method_keeps_rules c.access_flags m) _ (method_is_kept agree c.access_flags m) (named_at c.constant_pool m.name_index m.descriptor_index) t) c.methods right.1;
       };
       unlike = record { fields = no_two _ apart.0; methods = no_two _ apart.1 };
     }
 
 abbrev pub can_be_read : ClassStructure → Bool
-can_be_read c = numbers_right c && (itself_right c && members_right c)
+can_be_read c = numbers_keep_rules c && (itself_keeps_rules c && members_keep_rules c)
 
 pub readable : TypesAgree → (c : ClassStructure) → is_52_0 c.minor_version c.major_version → IsTrue (can_be_read c) → CanBeRead c
 readable agree c version h =

@@ -4,6 +4,7 @@ use Rattle.std.specs.Prelude.{position, is_some}
 use Rattle.std.specs.HashMap.{HashMap, get_by}
 use Rattle.std.specs.List.{list_any, position_from}
 use Rattle.std.proofs.lemmas.Iterator.Adapters.{position_from-zero}
+use Rattle.jv_loader_tables.specs.Inside.Kept.{AreFirstPlaces}
 
 neither : (a b : Bool) → (a || b) ≡ false → (a ≡ false) × (b ≡ false)
 neither true b e = absurd cc
@@ -41,14 +42,11 @@ module _ {A : Type 0} (test : A → Bool) where
 -- ---- a map from keys to the first items that they find
 
 module _ {K A S : Type 0} (same : K → K → Bool) (finds : K → A → Bool) where
-  abbrev pub AreAt : List A → HashMap K ℕ S → Type 0
-  AreAt items places = (key : K) → get_by (same key) places ≡ position (finds key) items
-
   -- an item that joins behind the others, and has their count for its place
-  pub joined : (items : List A) (item : A) (key : K) (old new : HashMap K ℕ S) → AreAt items old
+  pub joined : (items : List A) (item : A) (key : K) (old new : HashMap K ℕ S) → AreFirstPlaces same finds items old
       → ((other : K) → get_by (same other) new ≡ cond (same key other) (Some (length items)) (get_by (same other) old))
       → ((other : K) → same key other ≡ true → (list_any (finds other) items ≡ false) × (finds other item ≡ true))
-      → ((other : K) → same key other ≡ false → finds other item ≡ false) → AreAt (items ++ item ∷ []) new
+      → ((other : K) → same key other ≡ false → finds other item ≡ false) → AreFirstPlaces same finds (items ++ item ∷ []) new
   joined items item key old new known told found unlike other = by_test (same key other) refl
     where
       by_test : (b : Bool) → same key other ≡ b → get_by (same other) new ≡ position (finds other) (items ++ item ∷ [])

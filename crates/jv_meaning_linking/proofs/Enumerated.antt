@@ -12,7 +12,7 @@ use Rattle.jv_loader_world.specs.Verdicts.{is_interface}
 use Rattle.jv_loader_world.specs.LookUps.{is_among}
 use Rattle.jv_loader_world.specs.Laws.{AboveByWays, AboveIsTransitive}
 use Rattle.jv_meaning_linking.specs.InitializationOrder.{interfaces_in, given_within, enumerated, declares_default, init_order}
-use Rattle.jv_meaning_linking.specs.Laws.{IsInterfaceWay, IsOwnSuperinterface, EachBehind, IsNext, behind_superclass, IsInitOrder, InitOrderIsRight}
+use Rattle.jv_meaning_linking.specs.Laws.{IsInterfaceWay, IsOwnSuperinterface, EachBehind, IsNext, behind_superclass, IsInitOrder, InitOrderIsByRule}
 use Rattle.jv_loader_world.proofs.Up.{none, single, first, later}
 use Rattle.jv_meaning_linking.proofs.Found.{split, in_filter, in_found, same_text}
 use Rattle.jv_meaning_linking.proofs.Searched.{AllOf, of_joined, of_fold, of_given, interfaces_above}
@@ -277,5 +277,5 @@ module _ (ways : AboveByWays) (above_above : AboveIsTransitive) (world : World) 
       one_by_one = those_that_pass (Follows world) (IsNext world) declares_default next [] (enumerated world l.class) done.0.0.each;
     }
 
-pub init_order_is_right : AboveByWays → AboveIsTransitive → InitOrderIsRight
-init_order_is_right ways above_above world l class straight = is_right ways above_above world l straight class
+pub init_order_is_by_rule : AboveByWays → AboveIsTransitive → InitOrderIsByRule
+init_order_is_by_rule ways above_above world l class straight = is_right ways above_above world l straight class

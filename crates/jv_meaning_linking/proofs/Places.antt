@@ -9,7 +9,7 @@ use Rattle.jv_loader_world.specs.LookUps.{DeclaredField}
 use Rattle.jv_loader_world.specs.Laws.{AboveByWays, AboveIsTransitive}
 use Rattle.jv_meaning_linking.specs.Selection.{upward}
 use Rattle.jv_meaning_linking.specs.Layout.{own_fields, instance_fields, field_words, object_words, Placed, laid_at, placed_from, layout, end_of, AreApart, EachTwoApart}
-use Rattle.jv_meaning_linking.specs.Laws.{LayoutIsRight, LayoutExtends}
+use Rattle.jv_meaning_linking.specs.Laws.{LayoutIsByRule, LayoutExtends}
 use Rattle.jv_meaning_linking.proofs.Chain.{chain_goes_on}
 
 fields_stay : (n : ℕ) (ds : List DeclaredField) → map (λ (p : Placed). p.field) (placed_from n ds) ≡ ds
@@ -35,8 +35,8 @@ apart : (n : ℕ) (ds : List DeclaredField) → EachTwoApart (placed_from n ds)
 apart n [] = tt
 apart n (d ∷ ds) = (weaker (λ p. n + field_words d ≤ p.place) (AreApart (laid_at d n)) (λ p h. inl h) (placed_from (n + field_words d) ds) (behind (n + field_words d) ds), apart (n + field_words d) ds)
 
-pub layout_is_right : LayoutIsRight
-layout_is_right world l = record { fields = fields_stay 0 (instance_fields world l); within = weaker (λ p. end_of p ≤ 0 + object_words world l) (λ p. end_of p ≤ object_words world l) (λ p h. omega (arith, h)) (layout world l) (within 0 (instance_fields world l)); apart = apart 0 (instance_fields world l) }
+pub layout_is_by_rule : LayoutIsByRule
+layout_is_by_rule world l = record { fields = fields_stay 0 (instance_fields world l); within = weaker (λ p. end_of p ≤ 0 + object_words world l) (λ p. end_of p ≤ object_words world l) (λ p h. omega (arith, h)) (layout world l) (within 0 (instance_fields world l)); apart = apart 0 (instance_fields world l) }
 
 pub placed_go_on : (n : ℕ) (ds es : List DeclaredField) → placed_from n (ds ++ es) ≡ placed_from n ds ++ placed_from (n + sum_by field_words ds) es
 placed_go_on n [] es = ap (λ k. placed_from k es) (let e : n ≡ n + 0 = omega arith in e)

@@ -23,7 +23,7 @@ use Rattle.jv_meaning_linking.specs.Access.{can_access}
 use Rattle.jv_meaning_linking.specs.Kind.{has_field_kind, can_use_final, has_method_kind}
 use Rattle.jv_meaning_linking.specs.FieldResolution.{found_field, field_from, resolved_field}
 use Rattle.jv_meaning_linking.specs.MethodResolution.{MethodTarget, target, names_its_kind, found_method, method_from, resolved_method, is_own_init}
-use Rattle.jv_meaning_linking.specs.Laws.{IsAtOrAbove, IsObject, FieldIsUsed, IsCalled, MethodIsCalled}
+use Rattle.jv_meaning_linking.specs.Laws.{IsAtOrAbove, IsRootClass, FieldIsUsed, IsCalled, MethodIsCalled}
 use Rattle.jv_meaning_linking.proofs.Found.{split, in_filter, in_only, in_else, in_first, in_found, passed, went_on, held, guarded, there, field_is_named, method_is_named}
 use Rattle.jv_meaning_linking.proofs.Searched.{searched_is_above, superclass_is_above}
 
@@ -128,7 +128,7 @@ module _ (ways : AboveByWays) (above_above : AboveIsTransitive) (world : World) 
       by_part (inr f) = itself_in all d f
 
   abbrev IsCalledPlace : Loaded → Loaded → Type 0
-  IsCalledPlace named c = IsAtOrAbove world named c ⊎ IsObject world c
+  IsCalledPlace named c = IsAtOrAbove world named c ⊎ IsRootClass world c
 
   wider : (named : Loaded) (name descriptor : List ℕ) (d : Declared) → IsFound (IsInterfaceAbove world named) name descriptor d → IsFound (IsCalledPlace named) name descriptor d
   wider named name descriptor d found = record { place = inl (inr found.place.1); declared = found.declared }
@@ -149,10 +149,10 @@ module _ (ways : AboveByWays) (above_above : AboveIsTransitive) (world : World) 
           is_found (IsCalledPlace named) name descriptor found.0 d (in_chain named found.0 found.1) found.2
       by_part (inr f) = wider named name descriptor d (of_superinterface named name descriptor d f)
 
-  pub in_object : (name descriptor : List ℕ) (d : Declared) → method_if_loaded name descriptor (class_named world (codes "java/lang/Object")) ≡ Some d → (root : Loaded) × IsObject world root × (method_in name descriptor root ≡ Some d)
+  pub in_object : (name descriptor : List ℕ) (d : Declared) → method_if_loaded name descriptor (class_named world (codes "java/lang/Object")) ≡ Some d → (root : Loaded) × IsRootClass world root × (method_in name descriptor root ≡ Some d)
   in_object name descriptor d e = by_class (class_named world (codes "java/lang/Object")) refl e
     where
-      by_class : (o : Option Loaded) → class_named world (codes "java/lang/Object") ≡ o → method_if_loaded name descriptor o ≡ Some d → (root : Loaded) × IsObject world root × (method_in name descriptor root ≡ Some d)
+      by_class : (o : Option Loaded) → class_named world (codes "java/lang/Object") ≡ o → method_if_loaded name descriptor o ≡ Some d → (root : Loaded) × IsRootClass world root × (method_in name descriptor root ≡ Some d)
       by_class None f e = absurd cc
       by_class (Some root) f e = (root, f, e)
 
@@ -179,7 +179,7 @@ module _ (ways : AboveByWays) (above_above : AboveIsTransitive) (world : World) 
 -- a method that was reached from the named class, as a target
 record IsReached (world : World) (current : Loaded) (reference : MemberReference) (named : Loaded) (t : MethodTarget) : Type 0 where
   named_is : t.named ≡ named
-  found : IsFound (λ c. IsAtOrAbove world named c ⊎ IsObject world c) reference.name reference.descriptor t.declared
+  found : IsFound (λ c. IsAtOrAbove world named c ⊎ IsRootClass world c) reference.name reference.descriptor t.declared
   access : IsTrue (can_access world current named t.declared.by t.declared.method.access_flags)
 
 reached : (ways : AboveByWays) (above_above : AboveIsTransitive) (world : World) (current : Loaded) (reference : MethodReference) (named : Loaded) (t : MethodTarget) → method_from world current reference named ≡ Ok t → IsReached world current reference.member named t
@@ -211,7 +211,7 @@ method_is_called ways above_above world site how reference t e =
         let texts = method_is_named t.declared.by.class reference.member.name reference.member.descriptor t.declared.method r.found.declared in
         record {
           named_so = subst (λ c. (resolve_text world site.by reference.member.class >>= (λ c. ok_or (member_class world c) NoSuchMethodError)) ≡ Ok c) (sym r.named_is) e;
-          place = subst (λ c. IsAtOrAbove world c t.declared.by ⊎ IsObject world t.declared.by) (sym r.named_is) r.found.place;
+          place = subst (λ c. IsAtOrAbove world c t.declared.by ⊎ IsRootClass world t.declared.by) (sym r.named_is) r.found.place;
           declared = r.found.declared;
           name = texts.0;
           descriptor = texts.1;

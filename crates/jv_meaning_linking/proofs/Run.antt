@@ -22,7 +22,7 @@ use Rattle.jv_meaning_linking.specs.LinkErrors.LinkError.{IncompatibleClassChang
 use Rattle.jv_meaning_linking.specs.Kind.{is_static_method}
 use Rattle.jv_meaning_linking.specs.MethodResolution.{MethodTarget, target}
 use Rattle.jv_meaning_linking.specs.Selection.{upward, overrides, overriding_in, first_overriding, first_alike, superinterface_default, not_abstract, found_or_default, select_virtual, implements, public_or_default, select_interface, interface_first, special_start, select_from, object_class, selected}
-use Rattle.jv_meaning_linking.specs.Laws.{IsObject, IsRun, SelectedIsRun, SpecialIsRun}
+use Rattle.jv_meaning_linking.specs.Laws.{IsRootClass, IsRun, SelectedIsRun, SpecialIsRun}
 use Rattle.jv_loader_world.proofs.Up.{first}
 use Rattle.jv_meaning_linking.proofs.Found.{in_filter, in_or, in_first, in_one, passed, went_on, held, method_is_named}
 use Rattle.jv_meaning_linking.proofs.Resolved.{method_in_is, candidate, in_object}
@@ -122,10 +122,10 @@ module _ (ways : AboveByWays) (above_above : AboveIsTransitive) (world : World) 
   interface_run called l d e = public_run l called d (first_alike world called.method l) (λ x f. alike_upward world called.method l x f) e
 
   abbrev SpecialRun : Loaded → Declared → Declared → Type 0
-  SpecialRun start called d = IsRun world start called d ⊎ ((root : Loaded) × IsTrue (is_interface start) × IsObject world root × IsRun world root called d)
+  SpecialRun start called d = IsRun world start called d ⊎ ((root : Loaded) × IsTrue (is_interface start) × IsRootClass world root × IsRun world root called d)
 
   -- a public instance method of java/lang/Object
-  root_run : (called x d : Declared) → method_if is_public_instance (method_if_loaded called.method.name called.method.descriptor (class_named world (codes "java/lang/Object"))) ≡ Some x → not_abstract x ≡ Ok d → (root : Loaded) × IsObject world root × IsRun world root called d
+  root_run : (called x d : Declared) → method_if is_public_instance (method_if_loaded called.method.name called.method.descriptor (class_named world (codes "java/lang/Object"))) ≡ Some x → not_abstract x ≡ Ok d → (root : Loaded) × IsRootClass world root × IsRun world root called d
   root_run called x d e f =
       let test = passed is_public_instance (method_if_loaded called.method.name called.method.descriptor (class_named world (codes "java/lang/Object"))) x e in
       let root = in_object ways above_above world called.method.name called.method.descriptor x test.0 in

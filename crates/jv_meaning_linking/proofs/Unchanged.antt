@@ -9,7 +9,7 @@ use Rattle.std.proofs.lemmas.Bool.{and_parts}
 use Rattle.std.proofs.lemmas.Bool.Decides.{Decides-eqb}
 use Rattle.std.proofs.lemmas.Nat.{and_assoc}
 use Rattle.jv_text.specs.Name.{is_init}
-use Rattle.jv_class_parts.specs.Flags.{has, acc_public, acc_private, acc_protected, visibility, visibility_right}
+use Rattle.jv_class_parts.specs.Flags.{has, acc_public, acc_private, acc_protected, visibility, visibility_keeps_rules}
 use Rattle.jv_class.specs.Class.{Method, method_named}
 use Rattle.jv_loader_world.specs.World.{Loaded, World, class_named, same_package}
 use Rattle.jv_loader_world.specs.Above.{superclass_in, superclasses}
@@ -142,7 +142,7 @@ only_is_run world site t l is single =
 pub narrowed : (flags v mask : ℕ) → bit_and flags 7 ≡ v → bit_and flags (bit_and 7 mask) ≡ bit_and v mask
 narrowed flags v mask e = sym (and_assoc mask flags 7) ∙ ap (λ n. bit_and n mask) e
 
-private_alone : (flags : ℕ) → IsTrue (visibility_right flags) → IsTrue (has flags acc_private) → visibility flags ≡ 2
+private_alone : (flags : ℕ) → IsTrue (visibility_keeps_rules flags) → IsTrue (has flags acc_private) → visibility flags ≡ 2
 private_alone flags right private = by_first (v == 0) refl right
   where
     v : ℕ
@@ -166,7 +166,7 @@ private_alone flags right private = by_first (v == 0) refl right
     by_first true e h = absurd (not_it 0 e refl)
     by_first false e h = by_second (v == 1) refl h
 
-private_stays : (e : Declared) → IsTrue (visibility_right e.method.access_flags) → IsTrue (has e.method.access_flags acc_private) → (d : Declared) → overrides_itself d e ≡ false
+private_stays : (e : Declared) → IsTrue (visibility_keeps_rules e.method.access_flags) → IsTrue (has e.method.access_flags acc_private) → (d : Declared) → overrides_itself d e ≡ false
 private_stays e right private d = ap (λ b. not (has d.method.access_flags acc_private) && b) (by_flags ∙ refl) ∙ and_false (not (has d.method.access_flags acc_private))
   where
     alone_is : bit_and e.method.access_flags 7 ≡ 2

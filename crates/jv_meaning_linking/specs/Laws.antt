@@ -4,7 +4,7 @@ use Rattle.std.specs.List.{Contains}
 use Rattle.std.specs.Option.{ok_or}
 use Rattle.jv_text.specs.Name.{is_init}
 use Rattle.jv_pool.specs.Constants.{MemberReference}
-use Rattle.jv_class_parts.specs.Flags.{has, acc_private, acc_final, visibility_right}
+use Rattle.jv_class_parts.specs.Flags.{has, acc_private, acc_final, visibility_keeps_rules}
 use Rattle.jv_class.specs.Class.{Class, field_named, method_named}
 use Rattle.jv_loader_world.specs.World.{Loaded, World, class_named}
 use Rattle.jv_loader_world.specs.Above.{above, is_circular, superclass_in, superclasses}
@@ -29,8 +29,8 @@ use Rattle.jv_meaning_linking.specs.Layout.{layout, IsLayout, Extends}
 abbrev pub IsAtOrAbove : World → Loaded → Loaded → Type 0
 IsAtOrAbove world l other = (other ≡ l) ⊎ Contains (above world l.class) other
 
-abbrev pub IsObject : World → Loaded → Type 0
-IsObject world l = class_named world (codes "java/lang/Object") ≡ Some l
+abbrev pub IsRootClass : World → Loaded → Type 0
+IsRootClass world l = class_named world (codes "java/lang/Object") ≡ Some l
 
 -- ---- resolution
 
@@ -66,7 +66,7 @@ FieldIsUsed =
 -- java/lang/Object declares, and which it can access and is of the kind to call
 pub record IsCalled (world : World) (site : Site) (how : Use) (reference : MethodReference) (t : MethodTarget) : Type 0 where
   pub named_so : IsNamed world site.by reference.member NoSuchMethodError t.named
-  pub place : IsAtOrAbove world t.named t.declared.by ⊎ IsObject world t.declared.by
+  pub place : IsAtOrAbove world t.named t.declared.by ⊎ IsRootClass world t.declared.by
   pub declared : method_named t.declared.by.class reference.member.name reference.member.descriptor ≡ Some t.declared.method
   pub name : t.declared.method.name ≡ reference.member.name
   pub descriptor : t.declared.method.descriptor ≡ reference.member.descriptor
@@ -108,7 +108,7 @@ SpecialIsRun =
     → IsTrue (not (is_init t.declared.method.name)) → select world site Invokespecial t object ≡ Ok s
     → (s.named ≡ t.named)
     × (IsRun world (special_start world site.by t.named) t.declared s.declared
-    ⊎ ((root : Loaded) × IsTrue (is_interface (special_start world site.by t.named)) × IsObject world root × IsRun world root t.declared s.declared))
+    ⊎ ((root : Loaded) × IsTrue (is_interface (special_start world site.by t.named)) × IsRootClass world root × IsRun world root t.declared s.declared))
 
 -- A law: `<init>` runs itself.
 abbrev pub InitIsRun : Type 0
@@ -137,7 +137,7 @@ pub record IsAboveObject (world : World) (l : Loaded) (d : Declared) : Type 0 wh
 abbrev pub PrivateIsRun : Type 0
 PrivateIsRun =
     (world : World) (site : Site) (t : MethodTarget) (l : Loaded) → IsAboveObject world l t.declared
-    → IsTrue (visibility_right t.declared.method.access_flags) → IsTrue (has t.declared.method.access_flags acc_private)
+    → IsTrue (visibility_keeps_rules t.declared.method.access_flags) → IsTrue (has t.declared.method.access_flags acc_private)
     → select world site Invokevirtual t (Some l) ≡ Ok t
 
 -- none of these classes has a method that overrides a final one of a superclass
@@ -162,8 +162,8 @@ NamedIsRun =
 -- ---- objects
 
 -- A law: the layout of a class is right.
-abbrev pub LayoutIsRight : Type 0
-LayoutIsRight = (world : World) (l : Loaded) → IsLayout world l (layout world l)
+abbrev pub LayoutIsByRule : Type 0
+LayoutIsByRule = (world : World) (l : Loaded) → IsLayout world l (layout world l)
 
 -- A law: it goes on where that of the superclass ends, unless a circle is above the class.
 abbrev pub LayoutExtends : Type 0
@@ -214,7 +214,7 @@ pub record IsInitOrder (world : World) (l : Loaded) (order : List Loaded) : Type
   pub one_by_one : EachBehind (IsNext world) [] interfaces
 
 -- A law: so is the order for a class with no circle above it.
-abbrev pub InitOrderIsRight : Type 0
-InitOrderIsRight =
+abbrev pub InitOrderIsByRule : Type 0
+InitOrderIsByRule =
     (world : World) (l : Loaded) → IsFalse (is_interface l) → ((c : Loaded) → Contains (above world l.class) c → IsFalse (is_circular world c.class))
     → IsInitOrder world l (init_order world l)

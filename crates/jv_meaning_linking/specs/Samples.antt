@@ -89,12 +89,12 @@ in_clinit class = in_method (codes "<clinit>") class
 
 -- ---- what a class resolves to, by its name or its descriptor
 
-abbrev pub text_of : ResolvedClass → List ℕ
-text_of (ClassOf l) = l.class.name
-text_of (ArrayOf type) = field_text type
+abbrev pub text_of_resolved : ResolvedClass → List ℕ
+text_of_resolved (ClassOf l) = l.class.name
+text_of_resolved (ArrayOf type) = field_text type
 
 abbrev pub class_from : List Class → Class → Option Use → List ℕ → OrError (List ℕ)
-class_from classes current how text = resolve_class (world_with classes) (in_m current) how text >>= (λ c. Ok (text_of c))
+class_from classes current how text = resolve_class (world_with classes) (in_m current) how text >>= (λ c. Ok (text_of_resolved c))
 
 -- ---- which class declares the field or the method that a site uses, by way of a class's name
 

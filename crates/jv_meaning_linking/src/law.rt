@@ -1,6 +1,6 @@
 //! Laws of linking.
 
-ghost use Rattle.jv_meaning_linking.specs.Laws.{LoadableResolves, FieldIsUsed, MethodIsCalled, SelectedIsRun, SpecialIsRun, InitIsRun, PrivateIsRun, FinalIsRun, NamedIsRun, NeverVerifyError, LayoutIsRight, LayoutExtends, InitOrderIsAbove, InitOrderIsRight};
+ghost use Rattle.jv_meaning_linking.specs.Laws.{LoadableResolves, FieldIsUsed, MethodIsCalled, SelectedIsRun, SpecialIsRun, InitIsRun, PrivateIsRun, FinalIsRun, NamedIsRun, NeverVerifyError, LayoutIsByRule, LayoutExtends, InitOrderIsAbove, InitOrderIsByRule};
 ghost use Rattle.jv_meaning_linking.specs.OverridingRule.{OverridingIsByRule};
 ghost use Rattle.jv_meaning_linking.specs.Inside.OneWalk.{OverridingInOneWalk};
 ghost use Rattle.jv_meaning_linking.specs.Inside.Upward.{OverridingUpward};
@@ -102,8 +102,8 @@ pub fn named_is_run()
 {}
 
 /// Each field of an object has words of its own, and the object has no others (own).
-pub fn layout_is_right()
-    ensures { LayoutIsRight }
+pub fn layout_is_by_rule()
+    ensures { LayoutIsByRule }
 {}
 
 /// An object has the fields of its class's superclass where an object of that has them (own).
@@ -124,8 +124,8 @@ pub fn init_order_is_above()
 
 /// Before a class its superclass is initialized, and then exactly the superinterfaces with a method that is neither abstract
 /// nor static, each once and behind its own superinterfaces (JVMS 5.5).
-pub fn init_order_is_right()
-    ensures { InitOrderIsRight }
+pub fn init_order_is_by_rule()
+    ensures { InitOrderIsByRule }
 {
     above_by_ways();
     above_is_transitive();

@@ -5,8 +5,8 @@
 mod law;
 
 pub use law::{
-    field_is_used, final_is_run, init_is_run, init_order_is_above, init_order_is_right,
-    layout_extends, layout_is_right, loadable_resolves, method_is_called, named_is_run,
+    field_is_used, final_is_run, init_is_run, init_order_is_above, init_order_is_by_rule,
+    layout_extends, layout_is_by_rule, loadable_resolves, method_is_called, named_is_run,
     never_verify_error, overriding_in_one_walk, overriding_is_by_rule, overriding_upward,
     private_is_run, selected_is_run, special_is_run, worked_rows,
 };

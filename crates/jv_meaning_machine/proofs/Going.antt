@@ -25,7 +25,7 @@ use Rattle.jv_meaning_machine.specs.Fields.{described, with_static, with_object,
 use Rattle.jv_meaning_machine.specs.Calls.{entered_on}
 use Rattle.jv_meaning_machine.specs.Instructions.{execute}
 use Rattle.jv_meaning_machine.specs.Literals.{constant_value}
-use Rattle.jv_meaning_machine.specs.Throws.{exception, Thrown, counted, thrown, handler_for, at_handler, caught, replacement_if, replacement, passed_initialization, passed_method, unwound, throw, raise}
+use Rattle.jv_meaning_machine.specs.Throws.{exception, Thrown, thrown_once_more, thrown, handler_for, at_handler, caught, replacement_if, replacement, passed_initialization, passed_method, unwound, throw, raise}
 use Rattle.jv_meaning_machine.specs.Entering.{method_frame, enter_within, enter, at_offset, resumed, leave_to}
 use Rattle.jv_meaning_machine.specs.Initialization.{begin_within, begin_if, begin_in, begin, is_verified, first_tasks, tasks_of, main_arguments, tasks_left, finish, finished, set_field, do_task, with_tasks, do_first}
 use Rattle.jv_meaning_machine.specs.Step.{waiting, act, moment, step_in, step}
@@ -94,7 +94,7 @@ module _ (G : ClassStates → ℕ → List Frame → Type 0) (kept : IsKept G) w
 
   thrown_goes : (control : Control) (frames : List Frame) (made : Memory × ℕ) → Going control frames → Leads Thrown (Passing frames) (thrown control made)
   thrown_goes control frames made h =
-      let known : (object : ℕ) (class : List ℕ) → Passing frames (record { object = object; class = class; memory = made.0; control = counted class control }) =
+      let known : (object : ℕ) (class : List ℕ) → Passing frames (record { object = object; class = class; memory = made.0; control = thrown_once_more class control }) =
       λ object class. record { running = h.running; holds = kept.throws control.states control.throws frames h.holds } in
       search (bound, leaf, known)
 

@@ -22,7 +22,7 @@ use Rattle.jv_meaning_machine.specs.Costs.{paid, method_words, initialization_wo
 use Rattle.jv_meaning_machine.specs.Effects.{out_of_memory}
 use Rattle.jv_meaning_machine.specs.Fields.{described}
 use Rattle.jv_meaning_machine.specs.Literals.{constant_value}
-use Rattle.jv_meaning_machine.specs.Throws.{exception_made, exception, Thrown, counted, thrown, handler_for, caught, replacement_if, replacement, passed_initialization, passed_method, unwound, throw, raise}
+use Rattle.jv_meaning_machine.specs.Throws.{exception_made, exception, Thrown, thrown_once_more, thrown, handler_for, caught, replacement_if, replacement, passed_initialization, passed_method, unwound, throw, raise}
 use Rattle.jv_meaning_machine.specs.Entering.{method_frame, enter_within, enter, at_offset, resumed, leave_to, leave}
 use Rattle.jv_meaning_machine.specs.Initialization.{begin_within, begin_if, begin_in, begin, is_verified, tasks_of, main_arguments, tasks_left, finish, finished, set_field, do_task, with_tasks, do_first, initialization_step}
 use Rattle.jv_meaning_machine.specs.Shapes.{frame_words}
@@ -73,7 +73,7 @@ module _ (from : Memory) (all_words : ℕ) (main : List ℕ) where
       (control : Control) (frames : List Frame) (made : Memory × ℕ) → Keeps from made.0 → HasWords control frames
       → Leads Thrown (ThrownFrom frames) (thrown control made)
   thrown_stays control frames made h w =
-      let known : (object : ℕ) (class : List ℕ) → ThrownFrom frames (record { object = object; class = class; memory = made.0; control = counted class control }) =
+      let known : (object : ℕ) (class : List ℕ) → ThrownFrom frames (record { object = object; class = class; memory = made.0; control = thrown_once_more class control }) =
       λ object class. record { memory = h; words = record { sum = w.sum; same_main = w.same_main } } in
       search (bound, leaf, known)
 

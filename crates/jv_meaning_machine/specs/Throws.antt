@@ -43,13 +43,13 @@ pub record Thrown : Type 0 where
   pub control : Control
 
 -- a throw more; their number stays at 2^64 - 1
-abbrev pub counted : List ℕ → Control → Control
-counted class control = record control { throws = min (control.throws + 1) (2 ^ 64 - 1); last = Some class }
+abbrev pub thrown_once_more : List ℕ → Control → Control
+thrown_once_more class control = record control { throws = min (control.throws + 1) (2 ^ 64 - 1); last = Some class }
 
 abbrev pub thrown : Control → Memory × ℕ → OrFault Thrown
 thrown control made =
     object_at made.0.objects made.1 >>= instance_in >>= λ instance.
-    Ok (record { object = made.1; class = instance.class; memory = made.0; control = counted instance.class control })
+    Ok (record { object = made.1; class = instance.class; memory = made.0; control = thrown_once_more instance.class control })
 
 abbrev pub with_control : Thrown → Control → Thrown
 with_control t control = record t { control = control }

@@ -24,7 +24,7 @@ use Rattle.jv_meaning_typing.specs.declared.verdict.VerifyRule.TheVariants as ru
 use Rattle.jv_meaning_typing.specs.declared.verdict.Verdict.TheVariants as verdicts
 use Rattle.jv_meaning_typing.specs.Environment.{Environment, IsEnvironment, instruction_at, offset_behind}
 use Rattle.jv_meaning_typing.specs.Named.{throwable_type}
-use Rattle.jv_meaning_typing.specs.Typing.{HandlersRight, AreFrames, FrameStands, Assignment, FallsInto, IsTypeSafe, IsTypingBelow, first_frame}
+use Rattle.jv_meaning_typing.specs.Typing.{HandlersKeepRules, AreFrames, FrameStands, Assignment, FallsInto, IsTypeSafe, IsTypingBelow, first_frame}
 use Rattle.jv_meaning_typing.specs.Samples.{frame, flagged}
 use Rattle.jv_meaning_typing.specs.VerdictRows.{coded, mapped, constructing, constructor, covered_code, covered_super, HasVerdict, broken, MapVerdictRows, SuperVerdictRows}
 use Rattle.jv_meaning_typing.proofs.Falling.{assigned, merged, below_one}
@@ -235,7 +235,7 @@ start_at_4 = (insns.Return, record { before = load_this ∷ call_super ∷ []; a
 start_at_5 : IsStart covered_code.code 5
 start_at_5 = (insns.Throw, record { before = load_this ∷ call_super ∷ insns.Return ∷ []; after = []; code = super_is.instructions; place = refl })
 
-super_handlers : HandlersRight super_env
+super_handlers : HandlersKeepRules super_env
 super_handlers = record {
   fit = All-cons (HandlerFits covered_code.code) (record { start_pc = 0; end_pc = 4; handler_pc = 5; catch_type = 0 }) []
       (record { covers = omega arith; start = start_at_0; end = inl start_at_4; target = start_at_5 }) (none_in _);

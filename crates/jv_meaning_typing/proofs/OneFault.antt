@@ -13,7 +13,7 @@ use Rattle.jv_meaning_linking.specs.Uses.{Site}
 use Rattle.jv_meaning_typing.specs.declared.verdict.VerifyRule.{VerifyRule}
 use Rattle.jv_meaning_typing.specs.declared.verdict.VerifyRule.TheVariants as rules
 use Rattle.jv_meaning_typing.specs.Environment.{Environment, IsEnvironment, current_class, instruction_at}
-use Rattle.jv_meaning_typing.specs.Typing.{HandlersRight, HasFrames, AreFrames, limits_of, entries_before, Assignment, IsTypingBelow, ends_code, IsTyping, HasTyping}
+use Rattle.jv_meaning_typing.specs.Typing.{HandlersKeepRules, HasFrames, AreFrames, limits_of, entries_before, Assignment, IsTypingBelow, ends_code, IsTyping, HasTyping}
 use Rattle.jv_meaning_typing.specs.Judgement.{BreaksAt, BreaksFirst, GoesOnBehind, IsCodeOf, BreaksRule}
 use Rattle.jv_meaning_typing.proofs.Starts.{start_within, last_there}
 use Rattle.jv_meaning_typing.proofs.Agreement.{agree, safe_not_broken, one_break}
@@ -55,9 +55,9 @@ data FaultInFrames (env : Environment) (maps : List PlacedFrame) (offset : ℕ) 
 
 -- in the handlers, in the stack map, or with both
 data FaultInCode (env : Environment) (offset : ℕ) (broken : VerifyRule) : Type 0 where
-  in_handlers : offset ≡ 0 → broken ≡ rules.HandlerTable → (HandlersRight env → ⊥) → FaultInCode env offset broken
-  in_map : offset ≡ 0 → broken ≡ rules.MapFrames → HandlersRight env → ((maps : List PlacedFrame) → AreFrames env maps → ⊥) → FaultInCode env offset broken
-  in_frames : HandlersRight env → (maps : List PlacedFrame) → AreFrames env maps → FaultInFrames env maps offset broken → FaultInCode env offset broken
+  in_handlers : offset ≡ 0 → broken ≡ rules.HandlerTable → (HandlersKeepRules env → ⊥) → FaultInCode env offset broken
+  in_map : offset ≡ 0 → broken ≡ rules.MapFrames → HandlersKeepRules env → ((maps : List PlacedFrame) → AreFrames env maps → ⊥) → FaultInCode env offset broken
+  in_frames : HandlersKeepRules env → (maps : List PlacedFrame) → AreFrames env maps → FaultInFrames env maps offset broken → FaultInCode env offset broken
 
 data Fault (world : World) (site : Site) (offset : ℕ) (broken : VerifyRule) : Type 0 where
   no_code : offset ≡ 0 → broken ≡ rules.Code → ((env : Environment) → env.world ≡ world → env.site ≡ site → IsCodeOf env → ⊥) → Fault world site offset broken

@@ -29,7 +29,7 @@ use Rattle.jv_meaning_typing.specs.declared.verdict.VerifyRule.TheVariants as ru
 use Rattle.jv_meaning_typing.specs.declared.verdict.Verdict.TheVariants as verdicts
 use Rattle.jv_meaning_typing.specs.Environment.{Environment, IsEnvironment, instruction_at, offset_behind}
 use Rattle.jv_meaning_typing.specs.Rule.{rule}
-use Rattle.jv_meaning_typing.specs.Typing.{argument_words, catches_throwable, HasFrames, FrameStands, HandlersRight, AreFrames, Assignment, FallsInto, Merges, HasTyping}
+use Rattle.jv_meaning_typing.specs.Typing.{argument_words, catches_throwable, HasFrames, FrameStands, HandlersKeepRules, AreFrames, Assignment, FallsInto, Merges, HasTyping}
 use Rattle.jv_meaning_typing.specs.Judgement.{AreTyped, WithFrames, BreaksFirst, IsCodeOf, BreaksRule, IsFirstFault}
 use Rattle.jv_meaning_typing.specs.MethodRows.{iconst}
 use Rattle.jv_meaning_typing.specs.Samples.{frame}
@@ -63,7 +63,7 @@ always pc = empty
 pub none_in : {X : Type 0} (P : X → Type 0) → All P []
 none_in P = λ k d lt. absurd (omega (arith, lt))
 
-pub no_handlers : (env : Environment) → env.code.exception_table ≡ [] → HandlersRight env
+pub no_handlers : (env : Environment) → env.code.exception_table ≡ [] → HandlersKeepRules env
 no_handlers env e = record {
   fit = subst (λ (hs : List Handler). HandlersFit env.code.code hs) (sym e) (none_in (HandlerFits env.code.code));
   catch = subst (λ (hs : List Handler). IsTrue (list_all (catches_throwable env) hs)) (sym e) refl;
@@ -187,7 +187,7 @@ module _ (lists : OneList) (stands : StandsInList) (apart : StartsApart) where
     },
   )
     where
-      none : HandlersRight (env_of (codes "()V") no_arguments (coded (handler 0 ∷ []) None (insns.Return ∷ [])) (insns.Return ∷ [])) → ⊥
+      none : HandlersKeepRules (env_of (codes "()V") no_arguments (coded (handler 0 ∷ []) None (insns.Return ∷ [])) (insns.Return ∷ [])) → ⊥
       none h = let covers : 0 < 0 = (h.fit 0 (handler 0) (omega arith)).covers in omega (arith, covers)
 
   map : HasVerdict (class_of (codes "()V") (coded [] (Some []) (insns.Return ∷ []))) (broken 0 rules.MapFrames)

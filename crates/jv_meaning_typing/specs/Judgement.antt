@@ -15,7 +15,7 @@ use Rattle.jv_meaning_typing.specs.declared.verdict.VerifyFault.{VerifyFault}
 use Rattle.jv_meaning_typing.specs.declared.verdict.Verdict.{Verdict}
 use Rattle.jv_meaning_typing.specs.declared.verdict.Verdict.TheVariants as verdicts
 use Rattle.jv_meaning_typing.specs.Environment.{Environment, IsEnvironment, instruction_at, offset_behind}
-use Rattle.jv_meaning_typing.specs.Typing.{argument_words, HandlersRight, AreFrames, frame_at, Assignment, IsAssignedBy, Merges, handlers_hold, instruction_holds, targets_hold, IsTypingBelow, ends_code, HasTyping}
+use Rattle.jv_meaning_typing.specs.Typing.{argument_words, HandlersKeepRules, AreFrames, frame_at, Assignment, IsAssignedBy, Merges, handlers_hold, instruction_holds, targets_hold, IsTypingBelow, ends_code, HasTyping}
 use Rattle.jv_frames.specs.Frames.{PlacedFrame}
 
 -- ---- the first rule that a method breaks, and where
@@ -70,7 +70,7 @@ pub record WithFrames (world : World) (site : Site) (P : Environment → List Pl
   pub world_is : env.world ≡ world
   pub site_is : env.site ≡ site
   pub code : IsCodeOf env
-  pub handlers : HandlersRight env
+  pub handlers : HandlersKeepRules env
   pub maps : List PlacedFrame
   pub frames : AreFrames env maps
   pub holds : P env maps
@@ -79,9 +79,9 @@ pub record WithFrames (world : World) (site : Site) (P : Environment → List Pl
 abbrev pub BreaksRule : World → Site → ℕ → VerifyRule → Type 0
 BreaksRule world site offset rules.Code =
     (offset ≡ 0) × ((env : Environment) → env.world ≡ world → env.site ≡ site → IsCodeOf env → ⊥)
-BreaksRule world site offset rules.HandlerTable = (offset ≡ 0) × InEnvironment world site (λ env. HandlersRight env → ⊥)
+BreaksRule world site offset rules.HandlerTable = (offset ≡ 0) × InEnvironment world site (λ env. HandlersKeepRules env → ⊥)
 BreaksRule world site offset rules.MapFrames =
-    (offset ≡ 0) × InEnvironment world site (λ env. HandlersRight env × ((maps : List PlacedFrame) → AreFrames env maps → ⊥))
+    (offset ≡ 0) × InEnvironment world site (λ env. HandlersKeepRules env × ((maps : List PlacedFrame) → AreFrames env maps → ⊥))
 BreaksRule world site offset rules.EndOfCode = WithFrames world site (λ env maps. GoesOnBehind env maps offset)
 BreaksRule world site offset rule = WithFrames world site (λ env maps. BreaksFirst env maps offset rule)
 

@@ -45,7 +45,7 @@ catch_type env index =
 abbrev pub catches_throwable : Environment → Handler → Bool
 catches_throwable env handler = unwrap_or (option_map (λ type. flows env.world type throwable_type) (catch_type env handler.catch_type)) false
 
-pub record HandlersRight (env : Environment) : Type 0 where
+pub record HandlersKeepRules (env : Environment) : Type 0 where
   pub fit : HandlersFit env.code.code env.code.exception_table
   pub catch : IsTrue (list_all (catches_throwable env) env.code.exception_table)
 
@@ -176,7 +176,7 @@ ends_code (Some insn) = not (falls_through insn)
 
 pub record IsTyping (env : Environment) (maps : List PlacedFrame) (frames : Assignment) : Type 0 where
   pub arguments : argument_words env ≤ env.code.max_locals
-  pub handlers : HandlersRight env
+  pub handlers : HandlersKeepRules env
   pub stack_map : AreFrames env maps
   pub below : IsTypingBelow env maps (length env.code.code) frames
   pub end : IsTrue (ends_code (last_instruction env))

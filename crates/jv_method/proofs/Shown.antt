@@ -23,7 +23,7 @@ use Rattle.jv_meaning_typing.specs.Judgement.{AreTyped, IsFirstFault, BreaksRule
 use Rattle.jv_meaning_typing.specs.Typing.{HasTyping}
 use Rattle.jv_method_check.specs.of_rules_class.Current.{CurrentClass}
 use Rattle.jv_method_check.specs.of_method_code.declared.fault.CodeFault.{CodeFault}
-use Rattle.jv_method_check.specs.Judged.{IsMethodOf, IsJudged}
+use Rattle.jv_method_check.specs.Judged.{IsMethodOf, IsVerdictOnMethod}
 use Rattle.jv_method.specs.Inside.Shown.{method_in, AreMethodsOf, IsMethodJudged}
 
 pub there : {A : Type 0} (o : Option A) → IsSome o → (a : A) × (o ≡ Some a)
@@ -66,7 +66,7 @@ has_body pool shown m e = by_texts (utf8_at pool shown.name_index) (utf8_at pool
         let same : named shown n d ≡ m = cc in
         ap (λ x. x.code) (sym same)
 
-pub judged_method : (world : World) (l : Loaded) (m : Method) (body : CodeSeen) → m.code ≡ Some body → (fault : Option CodeFault) → IsJudged world (declared_by l m) fault → IsMethodJudged world l m fault
+pub judged_method : (world : World) (l : Loaded) (m : Method) (body : CodeSeen) → m.code ≡ Some body → (fault : Option CodeFault) → IsVerdictOnMethod world (declared_by l m) fault → IsMethodJudged world l m fault
 judged_method world l m body is None h = λ has. h
 judged_method world l m body is (Some fault) h = (subst (λ (o : Option CodeSeen). IsSome o) (sym is) refl, h)
 

@@ -11,7 +11,7 @@ use Rattle.jv_method_code.specs.of_method_frames.Mapped.{EntryTypes, local_entry
 use Rattle.jv_method_code.specs.of_method_tables.Tables.{entry_types, HasHandlers, HasMap, MapsTo}
 use Rattle.jv_method_code.proofs.laws_of_method_tables.SameTypes.{same_types}
 use Rattle.jv_method_code.specs.Pass.{Pass, HasRoom, IsOfPass}
-use Rattle.jv_method_check.specs.Inside.Read.{ReadMethod, IsOfRead, HasFrames, HaveRoom, constants_of, types_of}
+use Rattle.jv_method_check.specs.Inside.Read.{ReadMethod, IsOfRead, HasReadFrames, HaveRoom, constants_of, types_of}
 
 pub same_constants : (method : ReadMethod) (constants : PoolTypes) → constants.types ≡ method.class.types → constants.pool ≡ method.class.by.class.constant_pool → constants ≡ constants_of method
 same_constants method constants e f = rw (← e, ← f) refl
@@ -84,7 +84,7 @@ types_in method types constants c i t p = sym (same_types types (constants_of me
 
 -- ---- its instructions
 
-pub of_pass : (method : ReadMethod) (frames : List ReadFrame) (pass : Pass) (env : Environment) → HasFrames method frames env → IsOfMethod pass.context env → pass.types ≡ types_of method
+pub of_pass : (method : ReadMethod) (frames : List ReadFrame) (pass : Pass) (env : Environment) → HasReadFrames method frames env → IsOfMethod pass.context env → pass.types ≡ types_of method
     → pass.max_locals ≡ method.body.max_locals → pass.handlers ≡ method.body.exception_table → pass.frames ≡ frames → IsOfPass pass env
 of_pass method frames pass env has context types locals handlers same = record {
   is = has.of.code.is;

@@ -18,6 +18,6 @@ pub record IsMethodOf (class : CurrentClass) (shown : MethodSeen) (body : CodeSe
   pub code : site.method.code ≡ Some body
 
 -- the first rule that it breaks, and where; none where its code has a typing
-abbrev pub IsJudged : World → Site → Option CodeFault → Type 0
-IsJudged world site None = HasTyping world site
-IsJudged world site (Some fault) = BreaksRule world site fault.offset fault.rule
+abbrev pub IsVerdictOnMethod : World → Site → Option CodeFault → Type 0
+IsVerdictOnMethod world site None = HasTyping world site
+IsVerdictOnMethod world site (Some fault) = BreaksRule world site fault.offset fault.rule

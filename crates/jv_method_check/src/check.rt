@@ -5,7 +5,7 @@ ghost use Rattle.jv_class_parts.specs.Seen.{seen_code, seen_method};
 ghost use Rattle.jv_meaning_linking.specs.Uses.{Site};
 ghost use Rattle.jv_meaning_typing.specs.Environment.{Environment};
 ghost use Rattle.jv_rules_constants.specs.PoolTypes.{typed_call};
-ghost use Rattle.jv_method_check.specs.Judged.{IsJudged, IsMethodOf};
+ghost use Rattle.jv_method_check.specs.Judged.{IsVerdictOnMethod, IsMethodOf};
 ghost use Rattle.jv_method_check.specs.Inside.Known.{IsEnvironmentOf, HasTypes};
 
 use crate::entries::{initial_items, words_within};
@@ -31,7 +31,7 @@ fn check_typed<'a>(
 ) -> Result<Option<CodeFault>, AllocError>
     requires code { code.now.bytes.now ≡ body.now.code.now }
     requires some { (env : Environment) × (IsEnvironmentOf class.now (seen_method method.now) (seen_code body.now) env × HasTypes (typed_call class.now.types.names types) (seen_code body.now) env) }
-    ensures { (env : Environment) → IsEnvironmentOf class.now (seen_method method.now) (seen_code body.now) env → HasTypes (typed_call class.now.types.names types.entry) (seen_code body.now) env → IfOk result (IsJudged class.now.types.world env.site) }
+    ensures { (env : Environment) → IsEnvironmentOf class.now (seen_method method.now) (seen_code body.now) env → HasTypes (typed_call class.now.types.names types.entry) (seen_code body.now) env → IfOk result (IsVerdictOnMethod class.now.types.world env.site) }
 {
     let is_init = is_named_init(class, method);
     let items = initial_items(alloc, class, is_static(method), is_init, types.arguments)?;
@@ -55,7 +55,7 @@ pub fn check_method<'a>(
     code: &MethodCode<'a>,
 ) -> Result<Option<CodeFault>, AllocError>
     requires { (site : Site) × IsMethodOf class.now (seen_method method.now) (seen_code code.now) site }
-    ensures { (site : Site) → IsMethodOf class.now (seen_method method.now) (seen_code code.now) site → IfOk result (IsJudged class.now.types.world site) }
+    ensures { (site : Site) → IsMethodOf class.now (seen_method method.now) (seen_code code.now) site → IfOk result (IsVerdictOnMethod class.now.types.world site) }
 {
     let Some(types) = known_types(class, method, code) else {
         return Ok(Some(broken(VerifyRule::Code)));

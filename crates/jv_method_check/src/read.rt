@@ -4,12 +4,12 @@ ghost use Rattle.std.specs.Prelude.{◌≡◌, ◌↔◌, ◌≤◌, ℕ, List, 
 ghost use Rattle.jv_class_parts.specs.Seen.{seen_code};
 ghost use Rattle.jv_frames.specs.Types.{words};
 ghost use Rattle.jv_meaning_typing.specs.Environment.{Environment};
-ghost use Rattle.jv_meaning_typing.specs.Typing.{HandlersRight};
+ghost use Rattle.jv_meaning_typing.specs.Typing.{HandlersKeepRules};
 ghost use Rattle.jv_rules_types.specs.Typed.{typed_all};
 ghost use Rattle.jv_method_code.specs.of_rules_uses.Method.{IsOfMethod};
 ghost use Rattle.jv_method_code.specs.of_method_tables.Tables.{MapsTo};
-ghost use Rattle.jv_method_check.specs.Judged.{IsJudged};
-ghost use Rattle.jv_method_check.specs.Inside.Read.{IsOfRead, HasFrames, HaveRoom, types_of};
+ghost use Rattle.jv_method_check.specs.Judged.{IsVerdictOnMethod};
+ghost use Rattle.jv_method_check.specs.Inside.Read.{IsOfRead, HasReadFrames, HaveRoom, types_of};
 
 use jv_class_parts::MethodCode;
 use jv_code::{Code, Starts};
@@ -101,9 +101,9 @@ impl<'m, 'e, 't, 'a> ReadMethod<'m, 'e, 't, 'a> {
     }
 
     /// Whether each handler covers instructions, begins at one, and catches a Throwable.
-    pub(crate) fn handlers_right(&self, starts: &Starts<'_>) -> bool
+    pub(crate) fn handlers_keep_rules(&self, starts: &Starts<'_>) -> bool
         requires { starts.now ≡ self.now.body.code }
-        ensures { (env : Environment) → IsOfRead self.now env → IsTrue result ↔ HandlersRight env }
+        ensures { (env : Environment) → IsOfRead self.now env → IsTrue result ↔ HandlersKeepRules env }
     {
         handlers_hold(self.class.constants(), starts, self.body.exception_table)
     }
@@ -167,8 +167,8 @@ impl<'m, 'e, 't, 'a> ReadMethod<'m, 'e, 't, 'a> {
     ) -> Result<Option<CodeFault>, AllocError>
         requires starts { starts.now ≡ self.now.body.code }
         requires room { HaveRoom self.now frames.now }
-        requires some { (env : Environment) × HasFrames self.now frames.now env }
-        ensures { (env : Environment) → HasFrames self.now frames.now env → IfOk result (IsJudged self.now.class.types.world env.site) }
+        requires some { (env : Environment) × HasReadFrames self.now frames.now env }
+        ensures { (env : Environment) → HasReadFrames self.now frames.now env → IfOk result (IsVerdictOnMethod self.now.class.types.world env.site) }
     {
         let context = self.context(starts);
         let types = self.entry_types();

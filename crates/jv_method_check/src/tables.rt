@@ -2,8 +2,8 @@
 
 ghost use Rattle.std.specs.Prelude.{◌≡◌, IfOk};
 ghost use Rattle.jv_meaning_typing.specs.Environment.{Environment};
-ghost use Rattle.jv_meaning_typing.specs.Typing.{HandlersRight};
-ghost use Rattle.jv_method_check.specs.Judged.{IsJudged};
+ghost use Rattle.jv_meaning_typing.specs.Typing.{HandlersKeepRules};
+ghost use Rattle.jv_method_check.specs.Judged.{IsVerdictOnMethod};
 ghost use Rattle.jv_method_check.specs.Inside.Read.{IsOfRead};
 
 use crate::read::ReadMethod;
@@ -27,8 +27,8 @@ fn check_frames<'a>(
     starts: &Starts<'a>,
 ) -> Result<Option<CodeFault>, AllocError>
     requires starts { starts.now ≡ method.now.body.code }
-    requires some { (env : Environment) × (IsOfRead method.now env × HandlersRight env) }
-    ensures { (env : Environment) → IsOfRead method.now env → HandlersRight env → IfOk result (IsJudged method.now.class.types.world env.site) }
+    requires some { (env : Environment) × (IsOfRead method.now env × HandlersKeepRules env) }
+    ensures { (env : Environment) → IsOfRead method.now env → HandlersKeepRules env → IfOk result (IsVerdictOnMethod method.now.class.types.world env.site) }
 {
     let Some(frames) = method.map_frames(alloc, starts)? else {
         return Ok(Some(broken(VerifyRule::MapFrames)));
@@ -42,10 +42,10 @@ pub(crate) fn check_tables(
     method: &ReadMethod<'_, '_, '_, '_>,
 ) -> Result<Option<CodeFault>, AllocError>
     requires { (env : Environment) × IsOfRead method.now env }
-    ensures { (env : Environment) → IsOfRead method.now env → IfOk result (IsJudged method.now.class.types.world env.site) }
+    ensures { (env : Environment) → IsOfRead method.now env → IfOk result (IsVerdictOnMethod method.now.class.types.world env.site) }
 {
     let starts = method.starts(alloc)?;
-    if method.handlers_right(&starts) {
+    if method.handlers_keep_rules(&starts) {
         check_frames(alloc, method, &starts)
     } else {
         Ok(Some(broken(VerifyRule::HandlerTable)))

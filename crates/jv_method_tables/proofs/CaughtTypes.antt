@@ -5,15 +5,15 @@ use Rattle.std.specs.List.{list_all}
 use Rattle.jv_format.specs.declared.handlers.Handler.{Handler}
 use Rattle.jv_code.specs.Handlers.{HandlersFit}
 use Rattle.jv_meaning_typing.specs.Environment.{Environment}
-use Rattle.jv_meaning_typing.specs.Typing.{catches_throwable, HandlersRight}
+use Rattle.jv_meaning_typing.specs.Typing.{catches_throwable, HandlersKeepRules}
 use Rattle.jv_rules_constants.specs.PoolTypes.{PoolTypes}
 use Rattle.jv_method_tables.specs.Tables.{HasHandlers}
 use Rattle.jv_method_tables.specs.Inside.Parts.{HasConstants}
 use Rattle.jv_method_tables.proofs.Tests.{both, joined}
 
-pub handlers_right : (constants : PoolTypes) (code : List ℕ) (table : List Handler) (fit all : Bool) (env : Environment) → HasHandlers constants code table env
-    → IsTrue fit ↔ HandlersFit code table → all ≡ list_all (catches_throwable env) table → IsTrue (fit && all) ↔ HandlersRight env
-handlers_right constants code table fit all env has fits same = (
+pub handlers_keep_rules : (constants : PoolTypes) (code : List ℕ) (table : List Handler) (fit all : Bool) (env : Environment) → HasHandlers constants code table env
+    → IsTrue fit ↔ HandlersFit code table → all ≡ list_all (catches_throwable env) table → IsTrue (fit && all) ↔ HandlersKeepRules env
+handlers_keep_rules constants code table fit all env has fits same = (
   λ h.
       let parts = both fit all h in
       record {

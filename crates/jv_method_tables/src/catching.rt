@@ -5,7 +5,7 @@ ghost use Rattle.std.specs.List.{list_all};
 ghost use Rattle.std.specs.Option.{option_map};
 ghost use Rattle.jv_format.specs.Handlers.{handlers_of};
 ghost use Rattle.jv_meaning_typing.specs.Environment.{Environment, current_class};
-ghost use Rattle.jv_meaning_typing.specs.Typing.{catch_type, catches_throwable, HandlersRight};
+ghost use Rattle.jv_meaning_typing.specs.Typing.{catch_type, catches_throwable, HandlersKeepRules};
 ghost use Rattle.jv_rules_types.specs.Typed.{typed};
 ghost use Rattle.jv_method_tables.specs.Tables.{HasHandlers};
 ghost use Rattle.jv_method_tables.specs.Inside.Parts.{HasConstants};
@@ -58,7 +58,7 @@ pub fn handlers_hold(
     starts: &Starts<'_>,
     handlers: ExceptionTable<'_>,
 ) -> bool
-    ensures { (env : Environment) → HasHandlers constants.now starts.now (handlers_of handlers.entry) env → IsTrue result ↔ HandlersRight env }
+    ensures { (env : Environment) → HasHandlers constants.now starts.now (handlers_of handlers.entry) env → IsTrue result ↔ HandlersKeepRules env }
 {
     starts.handlers_fit(handlers) && catch_throwables(constants, handlers)
 }

@@ -24,7 +24,7 @@ use Rattle.jv_pool.specs.declared.fault.PoolFault.{PoolFault}
 use Rattle.jv_pool.specs.declared.fault.PoolFault.TheVariants.{BadPool, Memory}
 use Rattle.jv_pool.specs.Constants.{Entry, constant_bytes, constant_fits, takes_two, table_of, pool_count, pool_bytes, pool_fits}
 use Rattle.jv_pool.specs.Rules.{KeepsRules, IsPool, OnePool}
-use Rattle.jv_pool.specs.Inside.Reading.{shape_of, utf8, of_quad, of_two_quads, of_half, of_two_halves, method_handle, shaped_read, contents_read, constant_read, entries_read, entries, counted, constants, Fails}
+use Rattle.jv_pool.specs.Inside.Reading.{shape_of, utf8, of_quad, of_two_quads, of_half, of_two_halves, method_handle, shaped_read, contents_read, constant_read, entries_read, entries, so_many_constants, constants, Fails}
 
 -- ---- the tag of a shape
 
@@ -207,17 +207,17 @@ entries_is n = record {
       ap (λ (k : ℕ). entries_read false k (flat_map constant_bytes cs ++ rest)) (sym (eqb-true _ _ parts.0)) ∙ entries_again cs rest parts.1;
 }
 
-counted_is : (n : ℕ) → IsFormat (counted n)
+counted_is : (n : ℕ) → IsFormat (so_many_constants n)
 counted_is n = choice_is _ _ _ never_is (entries_is (n - 1))
 
-own_count : (n : ℕ) (p : List Entry) → IsTrue ((counted n).fits p) → pool_count p ≡ n
+own_count : (n : ℕ) (p : List Entry) → IsTrue ((so_many_constants n).fits p) → pool_count p ≡ n
 own_count n p h = grind (arith, common_steps, nat_tests)
 
 pub constants_is : IsFormat constants
-constants_is = after_is half pool_count counted half_is counted_is own_count
+constants_is = after_is half pool_count so_many_constants half_is counted_is own_count
 
 -- there is a count
-counted_some : (p : List Entry) → counted (pool_count p) ≡ entries (length (table_of p) + 1 - 1)
+counted_some : (p : List Entry) → so_many_constants (pool_count p) ≡ entries (length (table_of p) + 1 - 1)
 counted_some p =
     let no : eqb (length (table_of p) + 1) 0 ≡ false = grind (arith, common_steps, nat_tests) in
     ap (λ (b : Bool). cond b never (entries (length (table_of p) + 1 - 1))) no
@@ -238,7 +238,7 @@ constants-fits p =
 pub constants_read : (bytes rest : List ℕ) (n : ℕ) → half.read bytes ≡ Some (n, rest) → 0 < n → constants.read bytes ≡ entries_read false (n - 1) rest
 constants_read bytes rest n h lt =
     let no : eqb n 0 ≡ false = grind (arith, common_steps, nat_tests) in
-    ap (λ (o : Option (ℕ × List ℕ)). o >>= then_read counted) h
+    ap (λ (o : Option (ℕ × List ℕ)). o >>= then_read so_many_constants) h
     ∙ ap (λ (b : Bool). (cond b never (entries (n - 1))).read rest) no
 
 -- constants that were read, and keep their rules, are the pool of the bytes that they took

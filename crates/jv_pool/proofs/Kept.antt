@@ -14,7 +14,7 @@ use Rattle.jv_pool.specs.declared.facts.MethodFacts.{MethodFacts}
 use Rattle.jv_pool.specs.Rules.{IsMethodMember, NamesMethod}
 use Rattle.jv_pool.specs.Facts.{AreMethodFacts}
 use Rattle.jv_pool.specs.Constants.{Entry, takes_two, entries_of, table_of, pool_count, usable, at_index, utf8_at, utf8_in, name_and_descriptor}
-use Rattle.jv_pool.specs.Inside.Known.{IsKnown, known_in, AllKnown, KnownBelow, MethodKnown, IsNamedFor, special_right, At}
+use Rattle.jv_pool.specs.Inside.Known.{IsKnown, known_in, AllKnown, KnownBelow, MethodKnown, IsNamedFor, special_keeps_rules, At}
 
 -- ---- lists
 
@@ -125,13 +125,13 @@ untrue b off on = cc
 named_for : (name text : List ℕ) (facts : MethodFacts) → AreMethodFacts text facts → IsNamedFor facts.void name → IsMethodMember name text
 named_for name text facts known h =
     let parts = and_parts _ _ h in
-    record { named = parts.0; type = known.type; described = known.described; special = ap (special_right name) (sym known.void) ∙ parts.1 }
+    record { named = parts.0; type = known.type; described = known.described; special = ap (special_keeps_rules name) (sym known.void) ∙ parts.1 }
 
 member_for : (name text : List ℕ) (facts : MethodFacts) → AreMethodFacts text facts → IsMethodMember name text → IsNamedFor facts.void name
 member_for name text facts known h =
     let same : h.type ≡ known.type = one_method text h.type known.type h.described known.described in
     let void : facts.void ≡ is_none h.type.result = known.void ∙ ap (λ (m : MethodDescriptor). is_none m.result) (sym same) in
-    and_from _ _ h.named (ap (special_right name) void ∙ h.special)
+    and_from _ _ h.named (ap (special_keeps_rules name) void ∙ h.special)
 
 pub method_named : (name text : Option (List ℕ)) (facts : MethodFacts) (b : Bool) → MethodKnown text (Some facts) → (IsTrue b ↔ IsSomeAnd name (IsNamedFor facts.void))
     → IsTrue b ↔ IsSomeAnd (name >>= λ n. text >>= λ d. Some (name_and_descriptor n d)) NamesMethod

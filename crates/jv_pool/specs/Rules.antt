@@ -39,15 +39,15 @@ abbrev pub NamesField : NameAndDescriptor → Type 0
 NamesField member = IsFieldDescriptor member.descriptor
 
 -- a name that begins with `<` (60) is `<init>`, whose result is void (4.4.2)
-abbrev pub special_name_right : List ℕ → Option (FieldTypeOf (List ℕ)) → Bool
-special_name_right name result = if begins_with 60 name then is_init name && is_none result else true
+abbrev pub special_name_keeps_rules : List ℕ → Option (FieldTypeOf (List ℕ)) → Bool
+special_name_keeps_rules name result = if begins_with 60 name then is_init name && is_none result else true
 
 -- what a Methodref constant names beside its class: a method name, and the descriptor of a method (4.4.2)
 pub record IsMethodMember (name descriptor : List ℕ) : Type 0 where
   pub named : IsTrue (is_method_name name)
   pub type : MethodDescriptor
   pub described : IsMethod descriptor type
-  pub special : IsTrue (special_name_right name type.result)
+  pub special : IsTrue (special_name_keeps_rules name type.result)
 
 abbrev pub NamesMethod : NameAndDescriptor → Type 0
 NamesMethod member = IsMethodMember member.name member.descriptor

@@ -35,8 +35,10 @@ impl<'a> Model for Known<'a> {
 fn known_at(table: &Table<'_>, index: u16) -> Option<TextFacts>
     ensures { IsKnown (utf8_at table.now index) result }
 {
-    let text = table.utf8(index)?;
-    Some(facts_of(text))
+    match table.utf8(index) {
+        Some(text) => Some(facts_of(text)),
+        None => None,
+    }
 }
 
 /// What is known of the text at each index. Each is examined once.
@@ -57,8 +59,10 @@ impl<'a> Known<'a> {
         ensures ok { IfOk result (λ known. known ≡ table.entry) }
         ensures err { IfErr result (λ e. e ≡ Memory) }
     {
-        let facts = all_known(alloc, &table)?;
-        Ok(Known { table, facts })
+        match all_known(alloc, &table) {
+            Ok(facts) => Ok(Known { table, facts }),
+            Err(fault) => Err(fault),
+        }
     }
 
     /// The table.

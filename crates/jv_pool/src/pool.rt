@@ -78,8 +78,10 @@ impl<'a> Pool<'a> {
         ensures ok { IfOk result (λ pool. pool ≡ known.entry) }
         ensures err { IfErr result (λ e. e ≡ Memory) }
     {
-        let alike = all_alike(alloc, known.table())?;
-        Ok(Pool { known, alike })
+        match all_alike(alloc, known.table()) {
+            Ok(alike) => Ok(Pool { known, alike }),
+            Err(fault) => Err(fault),
+        }
     }
 
     /// Each constant keeps the rules of its kind (4.4). The call does nothing: a holder of a pool
@@ -119,8 +121,10 @@ impl<'a> Pool<'a> {
         ensures names { IfSome result (λ i. IsSome (utf8_at self.now i.0)) }
         ensures none { IfNone result (utf8_at self.now index ≡ None) }
     {
-        let _found = self.known.table().utf8(index)?;
-        Some(Utf8Index(index))
+        match self.known.table().utf8(index) {
+            Some(_) => Some(Utf8Index(index)),
+            None => None,
+        }
     }
 
     /// The number as the index of an Integer constant (4.4.4); `None` where it names none.
@@ -129,8 +133,10 @@ impl<'a> Pool<'a> {
         ensures names { IfSome result (λ i. IsSome (integer_at self.now i.0)) }
         ensures none { IfNone result (integer_at self.now index ≡ None) }
     {
-        let _found = self.known.table().integer(index)?;
-        Some(IntegerIndex(index))
+        match self.known.table().integer(index) {
+            Some(_) => Some(IntegerIndex(index)),
+            None => None,
+        }
     }
 
     /// The number as the index of a Long constant (4.4.5); `None` where it names none.
@@ -139,8 +145,10 @@ impl<'a> Pool<'a> {
         ensures names { IfSome result (λ i. IsSome (long_at self.now i.0)) }
         ensures none { IfNone result (long_at self.now index ≡ None) }
     {
-        let _found = self.known.table().long(index)?;
-        Some(LongIndex(index))
+        match self.known.table().long(index) {
+            Some(_) => Some(LongIndex(index)),
+            None => None,
+        }
     }
 
     /// The number as the index of a Class constant (4.4.1); `None` where it names none.
@@ -149,8 +157,10 @@ impl<'a> Pool<'a> {
         ensures names { IfSome result (λ i. IsSome (class_name_at self.now i.0)) }
         ensures none { IfNone result (class_name_at self.now index ≡ None) }
     {
-        let _found = self.known.table().class_name(index)?;
-        Some(ClassIndex(index))
+        match self.known.table().class_name(index) {
+            Some(_) => Some(ClassIndex(index)),
+            None => None,
+        }
     }
 
     /// The number as the index of a String constant (4.4.3); `None` where it names none.
@@ -159,8 +169,10 @@ impl<'a> Pool<'a> {
         ensures names { IfSome result (λ i. IsSome (string_at self.now i.0)) }
         ensures none { IfNone result (string_at self.now index ≡ None) }
     {
-        let _found = self.known.table().string(index)?;
-        Some(StringIndex(index))
+        match self.known.table().string(index) {
+            Some(_) => Some(StringIndex(index)),
+            None => None,
+        }
     }
 
     /// The number as the index of a Fieldref constant (4.4.2); `None` where it names none.
@@ -169,8 +181,10 @@ impl<'a> Pool<'a> {
         ensures names { IfSome result (λ i. IsSome (field_reference_at self.now i.0)) }
         ensures none { IfNone result (field_reference_at self.now index ≡ None) }
     {
-        let _found = self.known.table().field_reference(index)?;
-        Some(FieldrefIndex(index))
+        match self.known.table().field_reference(index) {
+            Some(_) => Some(FieldrefIndex(index)),
+            None => None,
+        }
     }
 
     /// The number as the index of a Methodref constant (4.4.2); `None` where it names none.
@@ -179,8 +193,10 @@ impl<'a> Pool<'a> {
         ensures names { IfSome result (λ i. IsSome (method_reference_at self.now i.0)) }
         ensures none { IfNone result (method_reference_at self.now index ≡ None) }
     {
-        let _found = self.known.table().method_reference(index)?;
-        Some(MethodrefIndex(index))
+        match self.known.table().method_reference(index) {
+            Some(_) => Some(MethodrefIndex(index)),
+            None => None,
+        }
     }
 
     /// The number as the index of an InterfaceMethodref constant (4.4.2); `None` where it names none.
@@ -189,8 +205,10 @@ impl<'a> Pool<'a> {
         ensures names { IfSome result (λ i. IsSome (interface_method_reference_at self.now i.0)) }
         ensures none { IfNone result (interface_method_reference_at self.now index ≡ None) }
     {
-        let _found = self.known.table().interface_method_reference(index)?;
-        Some(InterfaceMethodrefIndex(index))
+        match self.known.table().interface_method_reference(index) {
+            Some(_) => Some(InterfaceMethodrefIndex(index)),
+            None => None,
+        }
     }
 
     /// The number as the index of a NameAndType constant (4.4.6); `None` where it names none.
@@ -199,8 +217,10 @@ impl<'a> Pool<'a> {
         ensures names { IfSome result (λ i. IsSome (name_and_type_at self.now i.0)) }
         ensures none { IfNone result (name_and_type_at self.now index ≡ None) }
     {
-        let _found = self.known.table().name_and_type(index)?;
-        Some(NameAndTypeIndex(index))
+        match self.known.table().name_and_type(index) {
+            Some(_) => Some(NameAndTypeIndex(index)),
+            None => None,
+        }
     }
 
     // ---- what typed indices name

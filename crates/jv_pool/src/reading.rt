@@ -58,45 +58,63 @@ fn of_two_halves(kind: TwoHalvesKind, first: u16, second: u16) -> Constant<&'sta
 fn text_constant(bytes: &[u8]) -> Option<(Constant<&[u8]>, &[u8])>
     ensures { Finds (shaped shapes.Text) bytes.now (λ x. (seen x.0, x.1.now)) result }
 {
-    let (text, rest) = text_at(bytes)?;
+    let Some((text, rest)) = text_at(bytes) else {
+        return None;
+    };
     Some((Constant::Utf8(text), rest))
 }
 
 fn quad_constant(kind: QuadKind, bytes: &[u8]) -> Option<(Constant<&[u8]>, &[u8])>
     ensures { Finds (shaped (shapes.Quad kind)) bytes.now (λ x. (seen x.0, x.1.now)) result }
 {
-    let (bits, rest) = quad_at(bytes)?;
+    let Some((bits, rest)) = quad_at(bytes) else {
+        return None;
+    };
     Some((of_quad(kind, bits), rest))
 }
 
 fn two_quads_constant(kind: TwoQuadsKind, bytes: &[u8]) -> Option<(Constant<&[u8]>, &[u8])>
     ensures { Finds (shaped (shapes.TwoQuads kind)) bytes.now (λ x. (seen x.0, x.1.now)) result }
 {
-    let (high, rest) = quad_at(bytes)?;
-    let (low, rest) = quad_at(rest)?;
+    let Some((high, rest)) = quad_at(bytes) else {
+        return None;
+    };
+    let Some((low, rest)) = quad_at(rest) else {
+        return None;
+    };
     Some((of_two_quads(kind, high, low), rest))
 }
 
 fn half_constant(kind: HalfKind, bytes: &[u8]) -> Option<(Constant<&[u8]>, &[u8])>
     ensures { Finds (shaped (shapes.Half kind)) bytes.now (λ x. (seen x.0, x.1.now)) result }
 {
-    let (index, rest) = half_at(bytes)?;
+    let Some((index, rest)) = half_at(bytes) else {
+        return None;
+    };
     Some((of_half(kind, index), rest))
 }
 
 fn two_halves_constant(kind: TwoHalvesKind, bytes: &[u8]) -> Option<(Constant<&[u8]>, &[u8])>
     ensures { Finds (shaped (shapes.TwoHalves kind)) bytes.now (λ x. (seen x.0, x.1.now)) result }
 {
-    let (first, rest) = half_at(bytes)?;
-    let (second, rest) = half_at(rest)?;
+    let Some((first, rest)) = half_at(bytes) else {
+        return None;
+    };
+    let Some((second, rest)) = half_at(rest) else {
+        return None;
+    };
     Some((of_two_halves(kind, first, second), rest))
 }
 
 fn handle_constant(bytes: &[u8]) -> Option<(Constant<&[u8]>, &[u8])>
     ensures { Finds (shaped shapes.ByteAndHalf) bytes.now (λ x. (seen x.0, x.1.now)) result }
 {
-    let (kind, rest) = byte_at(bytes)?;
-    let (index, rest) = half_at(rest)?;
+    let Some((kind, rest)) = byte_at(bytes) else {
+        return None;
+    };
+    let Some((index, rest)) = half_at(rest) else {
+        return None;
+    };
     Some((Constant::MethodHandle(kind, index), rest))
 }
 
@@ -118,14 +136,19 @@ fn shaped_at(shape: ConstantShape, bytes: &[u8]) -> Option<(Constant<&[u8]>, &[u
 fn contents_at(shape: Option<ConstantShape>, bytes: &[u8]) -> Option<(Constant<&[u8]>, &[u8])>
     ensures { option_map seen_found result ≡ contents_read shape bytes.now }
 {
-    shaped_at(shape?, bytes)
+    match shape {
+        Some(shape) => shaped_at(shape, bytes),
+        None => None,
+    }
 }
 
 /// The constant at the front, and what follows it.
 fn constant_at(bytes: &[u8]) -> Option<(Constant<&[u8]>, &[u8])>
     ensures { Finds constant bytes.now (λ x. (seen x.0, x.1.now)) result }
 {
-    let (tag, rest) = byte_at(bytes)?;
+    let Some((tag, rest)) = byte_at(bytes) else {
+        return None;
+    };
     contents_at(shape_of(tag), rest)
 }
 
@@ -143,7 +166,9 @@ fn entry_at(unusable: bool, bytes: &[u8]) -> Option<(Option<Constant<&[u8]>>, bo
     if unusable {
         return Some((None, false, bytes));
     }
-    let (constant, rest) = constant_at(bytes)?;
+    let Some((constant, rest)) = constant_at(bytes) else {
+        return None;
+    };
     Some((Some(constant), takes_two(constant), rest))
 }
 

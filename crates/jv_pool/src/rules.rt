@@ -8,7 +8,7 @@ ghost use Rattle.jv_text.specs.Name.{is_method_name};
 ghost use Rattle.jv_pool.specs.Rules.{IsUnqualified, IsFieldDescriptor, IsDescriptor, NamesField, NamesMethod, NamesInterfaceMethod, IsClassIn, IsMemberIn, IsNameAndTypeIn, KeepsRules};
 ghost use Rattle.jv_text.specs.Name.{begins_with};
 ghost use Rattle.jv_pool.specs.Seen.{seen};
-ghost use Rattle.jv_pool.specs.Inside.Known.{MethodKnown, special_right, IsNamedFor, IsPlainMethodName, pair_in, IsKept};
+ghost use Rattle.jv_pool.specs.Inside.Known.{MethodKnown, special_keeps_rules, IsNamedFor, IsPlainMethodName, pair_in, IsKept};
 
 use crate::constant::Constant;
 use crate::facts::MethodFacts;
@@ -74,8 +74,8 @@ fn method_at(known: &Known<'_>, descriptor: u16) -> Option<MethodFacts>
     }
 }
 
-fn is_special_name_right(name: &[u8], void: bool) -> bool
-    ensures { result ≡ special_right name.now void }
+fn special_name_keeps_rules(name: &[u8], void: bool) -> bool
+    ensures { result ≡ special_keeps_rules name.now void }
 {
     if begins_with(b'<', name) {
         is_init(name) && void
@@ -85,10 +85,10 @@ fn is_special_name_right(name: &[u8], void: bool) -> bool
 }
 
 fn is_special_at(known: &Known<'_>, name: u16, void: bool) -> bool
-    ensures { IsTrue result ↔ IsSomeAnd (utf8_at known.now name) (λ n. IsTrue (special_right n void)) }
+    ensures { IsTrue result ↔ IsSomeAnd (utf8_at known.now name) (λ n. IsTrue (special_keeps_rules n void)) }
 {
     match known.table().utf8(name) {
-        Some(name) => is_special_name_right(name, void),
+        Some(name) => special_name_keeps_rules(name, void),
         None => false,
     }
 }
@@ -130,8 +130,8 @@ fn is_plain_method_name_at(known: &Known<'_>, name: u16) -> bool
 fn pair_at(known: &Known<'_>, index: u16) -> Option<(u16, u16)>
     ensures { result ≡ pair_in (at_index known.now index) }
 {
-    match known.table().constant(index)? {
-        Constant::NameAndType(name, descriptor) => Some((name, descriptor)),
+    match known.table().constant(index) {
+        Some(Constant::NameAndType(name, descriptor)) => Some((name, descriptor)),
         _ => None,
     }
 }

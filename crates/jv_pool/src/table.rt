@@ -89,16 +89,18 @@ impl<'a> Table<'a> {
     pub(crate) fn kind(&self, index: u16) -> Option<Kind>
         ensures { result ≡ kind_at self.now index }
     {
-        let constant = self.constant(index)?;
-        Some(kind_among(constant))
+        match self.constant(index) {
+            Some(constant) => Some(kind_among(constant)),
+            None => None,
+        }
     }
 
     /// The text of the Utf8 constant at an index.
     pub(crate) fn utf8(&self, index: u16) -> Option<&'a [u8]>
         ensures { option_map seen_text result ≡ utf8_at self.now index }
     {
-        match self.constant(index)? {
-            Constant::Utf8(text) => Some(text),
+        match self.constant(index) {
+            Some(Constant::Utf8(text)) => Some(text),
             _ => None,
         }
     }
@@ -107,8 +109,8 @@ impl<'a> Table<'a> {
     pub(crate) fn integer(&self, index: u16) -> Option<u32>
         ensures { result ≡ integer_at self.now index }
     {
-        match self.constant(index)? {
-            Constant::Integer(bits) => Some(bits),
+        match self.constant(index) {
+            Some(Constant::Integer(bits)) => Some(bits),
             _ => None,
         }
     }
@@ -117,8 +119,8 @@ impl<'a> Table<'a> {
     pub(crate) fn long(&self, index: u16) -> Option<u64>
         ensures { result ≡ long_at self.now index }
     {
-        match self.constant(index)? {
-            Constant::Long(high, low) => Some(u64::from(high) * 4294967296 + u64::from(low)),
+        match self.constant(index) {
+            Some(Constant::Long(high, low)) => Some(u64::from(high) * 4294967296 + u64::from(low)),
             _ => None,
         }
     }
@@ -127,8 +129,8 @@ impl<'a> Table<'a> {
     pub(crate) fn class_name(&self, index: u16) -> Option<&'a [u8]>
         ensures { option_map seen_text result ≡ class_name_at self.now index }
     {
-        match self.constant(index)? {
-            Constant::Class(name) => self.utf8(name),
+        match self.constant(index) {
+            Some(Constant::Class(name)) => self.utf8(name),
             _ => None,
         }
     }
@@ -137,8 +139,8 @@ impl<'a> Table<'a> {
     pub(crate) fn string(&self, index: u16) -> Option<&'a [u8]>
         ensures { option_map seen_text result ≡ string_at self.now index }
     {
-        match self.constant(index)? {
-            Constant::String(text) => self.utf8(text),
+        match self.constant(index) {
+            Some(Constant::String(text)) => self.utf8(text),
             _ => None,
         }
     }
@@ -146,17 +148,18 @@ impl<'a> Table<'a> {
     fn named(&self, name: u16, descriptor: u16) -> Option<NameAndTypeTexts<'a>>
         ensures { option_map seen_name_and_type result ≡ named_at self.now name descriptor }
     {
-        let name = self.utf8(name)?;
-        let descriptor = self.utf8(descriptor)?;
-        Some(NameAndTypeTexts { name, descriptor })
+        match (self.utf8(name), self.utf8(descriptor)) {
+            (Some(name), Some(descriptor)) => Some(NameAndTypeTexts { name, descriptor }),
+            _ => None,
+        }
     }
 
     /// The texts that the NameAndType constant at an index names.
     pub(crate) fn name_and_type(&self, index: u16) -> Option<NameAndTypeTexts<'a>>
         ensures { option_map seen_name_and_type result ≡ name_and_type_at self.now index }
     {
-        match self.constant(index)? {
-            Constant::NameAndType(name, descriptor) => self.named(name, descriptor),
+        match self.constant(index) {
+            Some(Constant::NameAndType(name, descriptor)) => self.named(name, descriptor),
             _ => None,
         }
     }
@@ -164,21 +167,22 @@ impl<'a> Table<'a> {
     fn member(&self, class: u16, name_and_type: u16) -> Option<MemberName<'a>>
         ensures { option_map seen_member result ≡ member_at self.now class name_and_type }
     {
-        let class = self.class_name(class)?;
-        let member = self.name_and_type(name_and_type)?;
-        Some(MemberName {
-            class,
-            name: member.name,
-            descriptor: member.descriptor,
-        })
+        match (self.class_name(class), self.name_and_type(name_and_type)) {
+            (Some(class), Some(member)) => Some(MemberName {
+                class,
+                name: member.name,
+                descriptor: member.descriptor,
+            }),
+            _ => None,
+        }
     }
 
     /// The field that the Fieldref constant at an index names.
     pub(crate) fn field_reference(&self, index: u16) -> Option<MemberName<'a>>
         ensures { option_map seen_member result ≡ field_reference_at self.now index }
     {
-        match self.constant(index)? {
-            Constant::Fieldref(class, name_and_type) => self.member(class, name_and_type),
+        match self.constant(index) {
+            Some(Constant::Fieldref(class, name_and_type)) => self.member(class, name_and_type),
             _ => None,
         }
     }
@@ -187,8 +191,8 @@ impl<'a> Table<'a> {
     pub(crate) fn method_reference(&self, index: u16) -> Option<MemberName<'a>>
         ensures { option_map seen_member result ≡ method_reference_at self.now index }
     {
-        match self.constant(index)? {
-            Constant::Methodref(class, name_and_type) => self.member(class, name_and_type),
+        match self.constant(index) {
+            Some(Constant::Methodref(class, name_and_type)) => self.member(class, name_and_type),
             _ => None,
         }
     }
@@ -197,8 +201,11 @@ impl<'a> Table<'a> {
     pub(crate) fn interface_method_reference(&self, index: u16) -> Option<MemberName<'a>>
         ensures { option_map seen_member result ≡ interface_method_reference_at self.now index }
     {
-        match self.constant(index)? {
-            Constant::InterfaceMethodref(class, name_and_type) => self.member(class, name_and_type),
+        match self.constant(index) {
+            Some(Constant::InterfaceMethodref(class, name_and_type)) => self.member(
+                class,
+                name_and_type,
+            ),
             _ => None,
         }
     }

@@ -17,37 +17,37 @@ use Rattle.jv_loader_classes.specs.Numbers.{number_named, AreNoArrays}
 use Rattle.jv_loader_classes.proofs.Told.{stands_at}
 use Rattle.jv_assign.proofs.Names.{has_name}
 use Rattle.jv_rules_types.specs.Typed.{name_at}
-use Rattle.jv_rules_class.specs.Inside.Named.{class_in, class_of_constant, class_of_constant_at}
+use Rattle.jv_rules_class.specs.Inside.Named.{class_of_type, class_of_constant, class_of_constant_at}
 use Rattle.jv_rules_class.specs.Inside.Kept.{IsNoArray}
 
 -- ---- a text as the name of a class
 
-no_array_in : (name : List ℕ) (found : Option (FieldTypeOf (List ℕ))) → class_in (found >>= array_of) ≡ Some name → ⊥
+no_array_in : (name : List ℕ) (found : Option (FieldTypeOf (List ℕ))) → class_of_type (found >>= array_of) ≡ Some name → ⊥
 no_array_in name None e = cc
 no_array_in name (Some type) e = cc
 
-class_is : (text name : List ℕ) → class_in (reference_type text) ≡ Some name → name ≡ text
+class_is : (text name : List ℕ) → class_of_type (reference_type text) ≡ Some name → name ≡ text
 class_is text name e = by_array (is_array_name text) e
   where
     same : Some text ≡ Some name → name ≡ text
     same f = cc
 
-    by_class : (b : Bool) → class_in (cond b (Some (types.Class text)) None) ≡ Some name → name ≡ text
+    by_class : (b : Bool) → class_of_type (cond b (Some (types.Class text)) None) ≡ Some name → name ≡ text
     by_class true f = same f
     by_class false f = absurd cc
 
-    by_array : (b : Bool) → class_in (cond b (field_type_of text >>= array_of) (cond (is_class_name text) (Some (types.Class text)) None)) ≡ Some name → name ≡ text
+    by_array : (b : Bool) → class_of_type (cond b (field_type_of text >>= array_of) (cond (is_class_name text) (Some (types.Class text)) None)) ≡ Some name → name ≡ text
     by_array true f = absurd (no_array_in name (field_type_of text) f)
     by_array false f = by_class (is_class_name text) f
 
-class_known : (text : List ℕ) → NamesClass text → is_array_name text ≡ false → class_in (reference_type text) ≡ Some text
+class_known : (text : List ℕ) → NamesClass text → is_array_name text ≡ false → class_of_type (reference_type text) ≡ Some text
 class_known text (inl class) array = rw (array, class) refl
 class_known text (inr described) array = absurd (clash (sym array ∙ described.array))
   where
     clash : false ≡ true → ⊥
     clash e = cc
 
-is_array : (text : List ℕ) → NamesClass text → class_in (reference_type text) ≡ None → is_array_name text ≡ true
+is_array : (text : List ℕ) → NamesClass text → class_of_type (reference_type text) ≡ None → is_array_name text ≡ true
 is_array text kind none = by_array (is_array_name text) refl
   where
     clash : Some text ≡ None → ⊥
@@ -59,8 +59,8 @@ is_array text kind none = by_array (is_array_name text) refl
 
 -- ---- what an index names
 
-named_by_text : (pool : List Entry) (index : ℕ) (text : List ℕ) → class_name_at pool index ≡ Some text → class_of_constant pool index ≡ class_in (reference_type text)
-named_by_text pool index text e = ap (λ o. class_in (o >>= reference_type)) e
+named_by_text : (pool : List Entry) (index : ℕ) (text : List ℕ) → class_name_at pool index ≡ Some text → class_of_constant pool index ≡ class_of_type (reference_type text)
+named_by_text pool index text e = ap (λ o. class_of_type (o >>= reference_type)) e
 
 -- the number of the class of a text, by the number of its name
 pub class_numbered : (names : List (List ℕ)) (world : World) (pool : List Entry) (index number : ℕ) (found : Option ℕ)
@@ -97,31 +97,31 @@ named_class pool index kinds right = by_text (class_name_at pool index) refl rig
     by_test true h = absurd cc
     by_test false h = refl
 
-    by_text : (o : Option (List ℕ)) → class_name_at pool index ≡ o → IsTrue (some_and is_no_array_name o) → class_in (o >>= reference_type) ≡ o
+    by_text : (o : Option (List ℕ)) → class_name_at pool index ≡ o → IsTrue (some_and is_no_array_name o) → class_of_type (o >>= reference_type) ≡ o
     by_text None e h = refl
     by_text (Some text) e h = class_known text (kinds.class index text e) (by_test (is_array_name text) h)
 
 -- ---- no array is named
 
-text_no_array : (text : List ℕ) → IsNoArray (class_in (reference_type text))
+text_no_array : (text : List ℕ) → IsNoArray (class_of_type (reference_type text))
 text_no_array text = by_array (is_array_name text) refl
   where
-    of_array : (o : Option (FieldTypeOf (List ℕ))) → IsNoArray (class_in (o >>= array_of))
+    of_array : (o : Option (FieldTypeOf (List ℕ))) → IsNoArray (class_of_type (o >>= array_of))
     of_array None = tt
     of_array (Some type) = tt
 
-    by_class : (b : Bool) → is_array_name text ≡ false → IsNoArray (class_in (cond b (Some (types.Class text)) None))
+    by_class : (b : Bool) → is_array_name text ≡ false → IsNoArray (class_of_type (cond b (Some (types.Class text)) None))
     by_class true e = e
     by_class false e = tt
 
-    by_array : (b : Bool) → is_array_name text ≡ b → IsNoArray (class_in (cond b (field_type_of text >>= array_of) (cond (is_class_name text) (Some (types.Class text)) None)))
+    by_array : (b : Bool) → is_array_name text ≡ b → IsNoArray (class_of_type (cond b (field_type_of text >>= array_of) (cond (is_class_name text) (Some (types.Class text)) None)))
     by_array true e = of_array (field_type_of text)
     by_array false e = by_class (is_class_name text) e
 
 pub named_no_array : (pool : List Entry) (index : ℕ) → IsNoArray (class_of_constant pool index)
 named_no_array pool index = by_text (class_name_at pool index)
   where
-    by_text : (o : Option (List ℕ)) → IsNoArray (class_in (o >>= reference_type))
+    by_text : (o : Option (List ℕ)) → IsNoArray (class_of_type (o >>= reference_type))
     by_text None = tt
     by_text (Some text) = text_no_array text
 

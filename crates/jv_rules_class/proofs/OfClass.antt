@@ -12,7 +12,7 @@ use Rattle.jv_pool.specs.Constants.{Entry, class_name_at}
 use Rattle.jv_class_parts.specs.Attributes.{some_and}
 use Rattle.jv_class_parts.specs.Structure.{ClassStructure}
 use Rattle.jv_class.specs.ClassFile.{class_name, super_index, IsWellFormed}
-use Rattle.jv_class.specs.Rules.{is_object, is_no_array_name, is_class_at, IsClassAt, IsNameRight}
+use Rattle.jv_class.specs.Rules.{is_object, is_no_array_name, is_class_at, IsClassAt, KeepsRulesAsName}
 use Rattle.jv_class.specs.Class.{Class, all_found, field_of, method_of, super_of, class_of}
 use Rattle.jv_loader_world.specs.World.{Loaded}
 use Rattle.jv_meaning_typing.specs.MemberRules.{is_that_name}
@@ -49,13 +49,13 @@ parts c class e =
 
 -- ---- the rules on the names of a class and of its superclass, where both are
 
-name_right : (pool : List Entry) (super_class : ℕ) (o : Option (List ℕ)) → IsSomeAnd o (IsNameRight pool super_class) → IsTrue (some_and is_no_array_name o)
-name_right pool super_class None h = absurd h
-name_right pool super_class (Some name) h = h.no_array
+name_keeps_rules : (pool : List Entry) (super_class : ℕ) (o : Option (List ℕ)) → IsSomeAnd o (KeepsRulesAsName pool super_class) → IsTrue (some_and is_no_array_name o)
+name_keeps_rules pool super_class None h = absurd h
+name_keeps_rules pool super_class (Some name) h = h.no_array
 
-super_right : (pool : List Entry) (super_class : ℕ) (o : Option (List ℕ)) → IsSomeAnd o (IsNameRight pool super_class) → (super_class == 0) ≡ false → IsClassAt pool super_class
-super_right pool super_class None h other = absurd h
-super_right pool super_class (Some name) h other = by_object (is_object name) h.superclass
+super_keeps_rules : (pool : List Entry) (super_class : ℕ) (o : Option (List ℕ)) → IsSomeAnd o (KeepsRulesAsName pool super_class) → (super_class == 0) ≡ false → IsClassAt pool super_class
+super_keeps_rules pool super_class None h other = absurd h
+super_keeps_rules pool super_class (Some name) h other = by_object (is_object name) h.superclass
   where
     clash : false ≡ true → ⊥
     clash e = cc
@@ -68,7 +68,7 @@ module _ (c : ClassStructure) (kinds : NamesByKind c.constant_pool) (well : IsWe
   -- ---- the class itself
 
   pub itself_named : class_of_constant c.constant_pool c.this_class ≡ class_name c
-  itself_named = named_class c.constant_pool c.this_class kinds (name_right c.constant_pool c.super_class (class_name c) well.rules.itself.named)
+  itself_named = named_class c.constant_pool c.this_class kinds (name_keeps_rules c.constant_pool c.super_class (class_name c) well.rules.itself.named)
 
   -- ---- its superclass
 
@@ -86,7 +86,7 @@ module _ (c : ClassStructure) (kinds : NamesByKind c.constant_pool) (well : IsWe
           → class_of_constant_at c.constant_pool (cond b None (Some c.super_class)) ≡ super
       by_index true is f = none f
       by_index false is f =
-          named_class c.constant_pool c.super_class kinds (super_right c.constant_pool c.super_class (class_name c) well.rules.itself.named is) ∙ by_name (class_name_at c.constant_pool c.super_class) f
+          named_class c.constant_pool c.super_class kinds (super_keeps_rules c.constant_pool c.super_class (class_name c) well.rules.itself.named is) ∙ by_name (class_name_at c.constant_pool c.super_class) f
 
   -- ---- its direct superinterfaces
 

@@ -1,5 +1,5 @@
 -- What ends the program without a report.
-use Rattle.std.specs.Prelude.{ℕ, List, ◌∷◌, [], ◌++◌, codes}
+use Rattle.std.specs.Prelude.{◌≡◌, ℕ, ⊤, List, ◌∷◌, [], ◌++◌, codes}
 use Rattle.jv_host.specs.declared.fault.AdmitFault.{AdmitFault}
 use Rattle.jv_host.specs.declared.fault.AdmitFault.TheVariants as refusals
 use Rattle.jv_host.specs.Fault.{admit_fault_name}
@@ -33,3 +33,9 @@ failure_line failure = codes "jvhost: " ++ failure_reason failure ++ 10 ∷ []
 abbrev pub failure_of : AdmitFault → Failure
 failure_of refusals.HostMemory = HostMemory
 failure_of fault = Refused fault
+
+-- why the file of a name was not read: the failure holds its name, or the program's memory was refused
+abbrev pub IsUnread : List ℕ → Failure → Type 0
+IsUnread name (Unreadable unread) = unread.items ≡ name
+IsUnread name Memory = ⊤
+IsUnread name failure = ⊥

@@ -6,7 +6,7 @@ use Rattle.jv_meaning.specs.Guest.{Guest}
 use Rattle.jv_run.specs.declared.folder.NamedFile.{NamedFile}
 use Rattle.jv_run.specs.declared.folder.Folder.{Folder}
 use Rattle.jv_run.specs.MainName.{main_name_of}
-use Rattle.jv_run.specs.Names.{is_among, is_class_file}
+use Rattle.jv_run.specs.Names.{is_listed_name, is_class_file}
 
 abbrev pub file_name : NamedFile → List ℕ
 file_name file = file.name.items
@@ -35,4 +35,4 @@ pub record IsFolderOf (names : List (List ℕ)) (folder : Folder) : Type 0 where
   pub class_files : AreClassFilesOf names folder.class_files.items
   pub main : vec_len folder.main ≤ 4194304
   pub input : vec_len folder.input ≤ 16777217
-  pub no_input : is_among (codes "input") names ≡ false → folder.input.items ≡ []
+  pub no_input : is_listed_name (codes "input") names ≡ false → folder.input.items ≡ []

@@ -12,9 +12,9 @@ abbrev pub listing_parts : List ℕ → List (List ℕ)
 listing_parts listing = slice_split (λ byte. byte == 0) listing
 
 -- The names in a listing, in which a NUL ends each: its parts without the last, which nothing ends.
-abbrev pub names_of : List ℕ → List (List ℕ)
-names_of listing = take (length (listing_parts listing) - 1) (listing_parts listing)
+abbrev pub names_listed : List ℕ → List (List ℕ)
+names_listed listing = take (length (listing_parts listing) - 1) (listing_parts listing)
 
 -- a name is among some
-abbrev pub is_among : List ℕ → List (List ℕ) → Bool
-is_among wanted names = list_any (λ name. bytes_eq name wanted) names
+abbrev pub is_listed_name : List ℕ → List (List ℕ) → Bool
+is_listed_name wanted names = list_any (λ name. bytes_eq name wanted) names

@@ -49,7 +49,7 @@ IsGuestFailure g Memory = ⊤
 -- ---- a folder's
 
 -- the report is on the folder's guest, with the names of its class files
-pub record IsOutcome (word : List ℕ) (folder : Folder) (outcome : Outcome) : Type 0 where
+pub record IsRunOutcome (word : List ℕ) (folder : Folder) (outcome : Outcome) : Type 0 where
   pub names : List (Bor (List ℕ))
   pub named : map bytes_of names ≡ map file_name folder.class_files.items
   pub reported : IsReported word names (guest_in folder) outcome

@@ -1,13 +1,14 @@
 //! What a folder holds of a guest.
-ghost use Rattle.std.specs.Prelude.{◌≡◌, ◌≢◌, ◌≤◌, ◌+◌, ◌<◌, ◌^◌, [], ◌∷◌, ◌++◌, ℕ, All, IfOk, List, codes, false, map, vec_len};
+ghost use Rattle.std.specs.Prelude.{◌≡◌, ◌≢◌, ◌≤◌, ◌+◌, ◌<◌, ◌^◌, [], ◌∷◌, ◌++◌, ℕ, All, IfErr, IfOk, List, codes, false, map, vec_len};
 ghost use Rattle.std.specs.IoError.{error_kind};
 ghost use Rattle.jv_meaning.specs.Guest.{bytes_of};
+ghost use Rattle.jv_run.specs.Failure.{IsUnread};
 ghost use Rattle.jv_run.specs.Folder.{AreClassFilesOf, IsFolderOf, IsReadUpToLimit, file_name};
-ghost use Rattle.jv_run.specs.Names.{is_among, names_of};
+ghost use Rattle.jv_run.specs.Names.{is_listed_name, names_listed};
 
 use crate::failure::Failure;
 use crate::file::read_past_limit;
-use crate::names::{class_file_names, is_among, names_in};
+use crate::names::{class_file_names, is_listed_name, names_in};
 use std::alloc::{AllocError, Global};
 use std::io;
 use std::io::{Error, ErrorKind};
@@ -129,10 +130,14 @@ fn read_class_file<R: Files + AllocGlobal>(
     Ok(NamedFile { name, bytes })
 }
 
-/// The class file at a path, which failures name; one byte more than the limit where there are more
-/// than that.
+/// The class file at a path; one byte more than the limit where there are more than that.
+///
+/// # Errors
+///
+/// `Unreadable` with the path, or `Memory` where the program had none.
 pub fn read_class<R: Files + AllocGlobal>(rt: &R, path: &str) -> Result<Vec<u8>, Failure>
-    ensures { IfOk result (λ bytes. vec_len bytes ≤ 4194305) }
+    ensures most { IfOk result (λ bytes. vec_len bytes ≤ 4194305) }
+    ensures err { IfErr result (IsUnread path.now) }
 {
     match bytes_at(rt, path.as_bytes(), CLASS_FILE_LIMIT) {
         Ok(bytes) => Ok(bytes),
@@ -190,10 +195,10 @@ fn read_input<R: Files + AllocGlobal>(
     names: &[&[u8]],
 ) -> Result<Vec<u8>, Failure>
     ensures most { IfOk result (λ input. vec_len input ≤ 16777217) }
-    ensures absent { is_among (codes "input") (map bytes_of names.now) ≡ false
+    ensures absent { is_listed_name (codes "input") (map bytes_of names.now) ≡ false
         → IfOk result (λ input. input.items ≡ []) }
 {
-    if is_among(names, b"input") {
+    if is_listed_name(names, b"input") {
         read_file(rt, folder, b"input", INPUT_LIMIT)
     } else {
         Ok(Vec::new(rt.alloc()))
@@ -221,7 +226,7 @@ fn read_files<R: Files + AllocGlobal>(
 /// Reads a folder: its listing, its class files in byte order of their names, its file `main`, and
 /// its file `input` where there is one. What fails first is the failure.
 pub fn read_folder<R: Files + AllocGlobal>(rt: &R, folder: &str) -> Result<Folder, Failure>
-    ensures { IfOk result (λ found. (listing : List ℕ) × IsFolderOf (names_of listing) found) }
+    ensures { IfOk result (λ found. (listing : List ℕ) × IsFolderOf (names_listed listing) found) }
 {
     let listing = read_listing(rt, folder)?;
     let names = names_in(rt.alloc(), listing.as_slice())?;

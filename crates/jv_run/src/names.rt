@@ -5,7 +5,7 @@ ghost use Rattle.std.specs.Cmp.Lexicographic.{slice_cmp};
 ghost use Rattle.std.specs.List.{list_any};
 ghost use Rattle.std.specs.Str.{bytes_eq};
 ghost use Rattle.jv_meaning.specs.Guest.{bytes_of};
-ghost use Rattle.jv_run.specs.Names.{is_among, is_class_file, listing_parts, names_of};
+ghost use Rattle.jv_run.specs.Names.{is_listed_name, is_class_file, listing_parts, names_listed};
 
 use std::alloc::{AllocError, Global};
 
@@ -18,7 +18,7 @@ fn parts_of(alloc: Global, listing: &[u8]) -> Result<Vec<&[u8]>, AllocError>
 
 /// The names in a listing, in which each ends in a NUL.
 pub fn names_in(alloc: Global, listing: &[u8]) -> Result<Vec<&[u8]>, AllocError>
-    ensures { IfOk result (λ names. map bytes_of names.items ≡ names_of listing.now) }
+    ensures { IfOk result (λ names. map bytes_of names.items ≡ names_listed listing.now) }
 {
     let mut names = parts_of(alloc, listing)?;
     let _behind_the_last = names.pop();
@@ -56,8 +56,8 @@ fn any_is(names: &[&[u8]], wanted: &[u8]) -> bool
 }
 
 /// Whether a name is among the names.
-pub fn is_among(names: &[&[u8]], wanted: &[u8]) -> bool
-    ensures { result ≡ is_among wanted.now (map bytes_of names.now) }
+pub fn is_listed_name(names: &[&[u8]], wanted: &[u8]) -> bool
+    ensures { result ≡ is_listed_name wanted.now (map bytes_of names.now) }
 {
     any_is(names, wanted)
 }

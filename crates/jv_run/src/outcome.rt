@@ -2,7 +2,7 @@
 ghost use Rattle.std.specs.Prelude.{◌≡◌, [], IfErr, IfOk, IsSome, map, slice_get};
 ghost use Rattle.jv_meaning.specs.Guest.{bytes_of, guest_of};
 ghost use Rattle.jv_run.specs.Folder.{file_bytes, file_name, guest_in};
-ghost use Rattle.jv_run.specs.Outcome.{IsGuestFailure, IsOutcome, IsReported};
+ghost use Rattle.jv_run.specs.Outcome.{IsGuestFailure, IsRunOutcome, IsReported};
 ghost use Rattle.jv_run.specs.Report.{end_status};
 ghost use Rattle.jv_run.specs.Inside.Play.{IsReportOn, IsRunGuest};
 
@@ -113,7 +113,7 @@ fn run_guest(
 
 /// Runs a folder's guest, and reports it under the folder's word.
 pub fn run_folder(alloc: Global, word: &str, folder: &Folder) -> Result<Outcome, Failure>
-    ensures ok { IfOk result (λ outcome. IsOutcome word.now folder.now outcome) }
+    ensures ok { IfOk result (λ outcome. IsRunOutcome word.now folder.now outcome) }
     ensures err { IfErr result (λ failure. IsGuestFailure (guest_in folder.now) failure) }
 {
     let files = bytes_of_files(alloc, folder.class_files.as_slice())?;

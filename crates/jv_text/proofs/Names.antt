@@ -1,6 +1,6 @@
 -- No `;` stands in a class name.
-use Rattle.std.proofs.Common.{◌≡◌, ℕ, ◌+◌, ◌<◌, ◌≤◌, zero, suc, Bool, true, false, List, [], ◌∷◌, ◌++◌, length, take, drop, get_or, refl, sym, ap, ◌∙◌, arith, cond, Option, Some, None}
-use Rattle.std.specs.Prelude.{IsTrue, IfNone, not, ◌==◌, ◌&&◌}
+use Rattle.std.proofs.Common.{◌≡◌, ℕ, ◌+◌, ◌<◌, ◌≤◌, zero, suc, Bool, true, false, List, [], ◌∷◌, ◌++◌, length, take, drop, get_or, refl, sym, ap, ◌∙◌, arith, cond, Some, None}
+use Rattle.std.specs.Prelude.{IsTrue, not, ◌==◌, ◌&&◌}
 use Rattle.std.specs.List.{list_all, slice_split, onto_first, position, prefix_len}
 use Rattle.std.proofs.lemmas.Bool.{and_parts, and_from}
 use Rattle.std.proofs.lemmas.Grind.{common_steps}
@@ -97,8 +97,3 @@ pub no_end : (text : List ℕ) → position (λ byte. byte == 59) text ≡ None 
 no_end text none front rest e =
     let lt : prefix_len is_inside text < length text = rw e (some_end front rest) in
     grind (arith, common_steps, lt, none)
-
--- a fact for None
-pub when_none : {A : Type 0} (r : Option A) (P : Type 0) → P → IfNone r P
-when_none None P p = p
-when_none (Some x) P p = tt

@@ -2,7 +2,7 @@
 
 ghost use Rattle.std.specs.Prelude.{◌≡◌};
 
-use std::alloc::AllocFailed;
+use std::alloc::{AllocError, AllocFailed};
 use std::fmt;
 
 /// A primitive type.
@@ -20,19 +20,41 @@ pub enum Base {
 
 /// A type that is no array. `T` is a class's name: its bytes in the code, their list in
 /// definitions.
-#[derive(Clone, Copy)]
 pub enum Element<T> {
     Base(Base),
     Class(T),
 }
 
+impl<T: Copy> Clone for Element<T> {
+    ghost is_clone = { λ x y. y ≡ x };
+
+    ghost is_infallible = { λ _. Unit {0} };
+
+    fn clone(&self) -> Result<Self, AllocError> {
+        Ok(*self)
+    }
+}
+
+impl<T: Copy> Copy for Element<T> {}
+
 /// The type of a field, a parameter or a result: an array of so many dimensions, or its element
 /// itself where there are none.
-#[derive(Clone, Copy)]
 pub struct FieldTypeOf<T> {
     pub dimensions: u8,
     pub element: Element<T>,
 }
+
+impl<T: Copy> Clone for FieldTypeOf<T> {
+    ghost is_clone = { λ x y. y ≡ x };
+
+    ghost is_infallible = { λ _. Unit {0} };
+
+    fn clone(&self) -> Result<Self, AllocError> {
+        Ok(*self)
+    }
+}
+
+impl<T: Copy> Copy for FieldTypeOf<T> {}
 
 /// A type whose class name is a part of the descriptor that it was read from.
 pub type FieldType<'a> = FieldTypeOf<&'a [u8]>;

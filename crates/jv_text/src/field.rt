@@ -62,7 +62,9 @@ fn split_at_end(text: &[u8]) -> Option<(&[u8], &[u8])>
     ensures first { IfSome result (λ x. IsTrue (list_all (λ byte. not (byte == 59)) x.0.now)) }
     ensures none { IfNone result ((front rest : List ℕ) → text.now ≢ front ++ (59 ∷ rest)) }
 {
-    let length = end_of(text)?;
+    let Some(length) = end_of(text) else {
+        return None;
+    };
     let (front, end) = text.split_at(length);
     let (_semicolon, rest) = end.split_at(1);
     Some((front, rest))
@@ -75,7 +77,9 @@ fn class_at(text: &[u8]) -> Option<(&[u8], &[u8])>
     ensures none { IfNone result ((name rest : List ℕ) → IsTrue (is_class_name name)
         → text.now ≢ name ++ (59 ∷ rest)) }
 {
-    let (name, rest) = split_at_end(text)?;
+    let Some((name, rest)) = split_at_end(text) else {
+        return None;
+    };
     if is_class_name(name) {
         Some((name, rest))
     } else {
@@ -93,14 +97,14 @@ fn element_at(text: &[u8]) -> Option<(Element<&[u8]>, &[u8])>
         → text.now ≢ 76 ∷ (name ++ (59 ∷ rest))) }
 {
     match text {
-        [b'L', after @ ..] => {
-            let (name, rest) = class_at(after)?;
-            Some((Element::Class(name), rest))
-        }
-        [letter, rest @ ..] => {
-            let base = base_of(*letter)?;
-            Some((Element::Base(base), rest))
-        }
+        [b'L', after @ ..] => match class_at(after) {
+            Some((name, rest)) => Some((Element::Class(name), rest)),
+            None => None,
+        },
+        [letter, rest @ ..] => match base_of(*letter) {
+            Some(base) => Some((Element::Base(base), rest)),
+            None => None,
+        },
         [] => None,
     }
 }
@@ -112,8 +116,12 @@ pub(crate) fn field_at(text: &[u8]) -> Option<(FieldType<'_>, &[u8])>
     ensures none { IfNone result ((t : FieldTypeOf (List ℕ)) (rest : List ℕ)
         → IsTrue (is_field_type t) → text.now ≢ field_text t ++ rest) }
 {
-    let (dimensions, rest) = dimensions_at(text)?;
-    let (element, rest) = element_at(rest)?;
+    let Some((dimensions, rest)) = dimensions_at(text) else {
+        return None;
+    };
+    let Some((element, rest)) = element_at(rest) else {
+        return None;
+    };
     Some((
         FieldTypeOf {
             dimensions,

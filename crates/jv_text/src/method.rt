@@ -57,8 +57,12 @@ fn parameter_at(text: &[u8], slots: u8) -> Option<(FieldType<'_>, u8, &[u8])>
         → IsTrue (is_field_type t) → slots + field_slots t ≤ 255
         → text.now ≢ field_text t ++ rest) }
 {
-    let (t, rest) = field_at(text)?;
-    let total = slots.checked_add(slots_of(t))?;
+    let Some((t, rest)) = field_at(text) else {
+        return None;
+    };
+    let Some(total) = slots.checked_add(slots_of(t)) else {
+        return None;
+    };
     Some((t, total, rest))
 }
 

@@ -6,9 +6,9 @@ use Rattle.std.specs.List.{Contains}
 use Rattle.std.specs.Prelude.{IfErr, IsErrAnd, Result, Ok, Err}
 use Rattle.jv_meaning.specs.Guest.{bytes_of}
 use Rattle.jv_run.specs.declared.failure.Failure.{Failure}
+use Rattle.jv_run.specs.Failure.{IsUnread}
 use Rattle.jv_run.specs.declared.failure.Failure.TheVariants.{Unreadable, Refused, Stuck, HostMemory, SystemBroken, Memory}
 use Rattle.jvhost.specs.Check.{IsOneUnread}
-use Rattle.jvhost.specs.Inside.Unread.{IsUnread}
 
 -- an error that is handed on
 pub passed_on : {T E : Type 0} (result : Result T E) (x : E) (P : E → Type 0) → IsErrAnd result (λ e. e ≡ x) → P x → IfErr result P

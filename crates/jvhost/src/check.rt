@@ -4,7 +4,6 @@ ghost use Rattle.jv_meaning.specs.Guest.{bytes_of};
 ghost use Rattle.jv_check.specs.Check.{IsChecked, IsCheckFailure};
 ghost use Rattle.jv_run.specs.declared.failure.Failure.TheVariants.{HostMemory};
 ghost use Rattle.jvhost.specs.Check.{IsCheckedAs, IsNamedFailure, IsOneUnread, IsReadFailure};
-ghost use Rattle.jvhost.specs.Inside.Unread.{IsUnread};
 
 use jv_check::{check_files, first_file_refusal};
 use jv_run::{Failure, Outcome, read_class};
@@ -13,20 +12,6 @@ use std::hash::RandomState;
 use std::random::RandomSource;
 use std::rt::Files;
 
-/// The bytes of the file of this name, or the failure that has this name: `read_class` promises nothing of its failures.
-fn read_named<R: Files + AllocGlobal>(rt: &R, name: &str) -> Result<Vec<u8>, Failure>
-    ensures { IfErr result (IsUnread name.now) }
-{
-    match read_class(rt, name) {
-        Ok(bytes) => Ok(bytes),
-        Err(Failure::Unreadable(_)) => {
-            let name = Vec::from_slice(rt.alloc(), name.as_bytes())?;
-            Err(Failure::Unreadable(name))
-        }
-        Err(_) => Err(Failure::Memory),
-    }
-}
-
 /// The bytes of the files of these names.
 fn read_classes<R: Files + AllocGlobal>(rt: &R, names: &[&str]) -> Result<Vec<Vec<u8>>, Failure>
     ensures ok { IfOk result (λ files. length files.items ≡ length names.now) }
@@ -34,7 +19,7 @@ fn read_classes<R: Files + AllocGlobal>(rt: &R, names: &[&str]) -> Result<Vec<Ve
 {
     let mut files = Vec::new(rt.alloc());
     for name in names {
-        let bytes = read_named(rt, name)?;
+        let bytes = read_class(rt, name)?;
         files.push(bytes).map_err(AllocError::from)?;
     }
     Ok(files)

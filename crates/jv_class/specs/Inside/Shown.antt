@@ -5,7 +5,7 @@ use Rattle.std.specs.Option.{IsSomeAnd}
 use Rattle.jv_class_parts.specs.of_pool.Constants.{Entry, NameAndDescriptor, named_at}
 use Rattle.jv_class_parts.specs.Structure.{ClassStructure}
 use Rattle.jv_class_parts.specs.Parts.{FieldSeen, MethodSeen, fields_of, methods_of}
-use Rattle.jv_class.specs.Rules.{IsFieldRight, IsMethodRight, NoTwoAlike}
+use Rattle.jv_class.specs.Rules.{KeepsRulesAsField, KeepsRulesAsMethod, NoTwoAlike}
 use Rattle.jv_class.specs.Supported.{IsSupportedConstant, IsSupportedType, AreSupportedFlags}
 
 abbrev pub shown_field_texts : List Entry → FieldSeen → Option NameAndDescriptor
@@ -15,12 +15,12 @@ abbrev pub shown_method_texts : List Entry → MethodSeen → Option NameAndDesc
 shown_method_texts pool m = named_at pool m.name_index m.descriptor_index
 
 abbrev pub KeepsFieldShown : List Entry → ℕ → FieldSeen → Type 0
-KeepsFieldShown pool class_flags f = IsSomeAnd (shown_field_texts pool f) (IsFieldRight pool class_flags f.access_flags f.constant_value)
+KeepsFieldShown pool class_flags f = IsSomeAnd (shown_field_texts pool f) (KeepsRulesAsField pool class_flags f.access_flags f.constant_value)
 
 abbrev pub KeepsMethodShown : List Entry → ℕ → MethodSeen → Type 0
-KeepsMethodShown pool class_flags m = IsSomeAnd (shown_method_texts pool m) (IsMethodRight class_flags m.access_flags (is_some m.code))
+KeepsMethodShown pool class_flags m = IsSomeAnd (shown_method_texts pool m) (KeepsRulesAsMethod class_flags m.access_flags (is_some m.code))
 
-pub record AreShownRight (c : ClassStructure) : Type 0 where
+pub record ShownKeepRules (c : ClassStructure) : Type 0 where
   pub fields : All (KeepsFieldShown c.constant_pool c.access_flags) (fields_of c)
   pub methods : All (KeepsMethodShown c.constant_pool c.access_flags) (methods_of c)
 

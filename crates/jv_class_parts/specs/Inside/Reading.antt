@@ -14,7 +14,7 @@ use Rattle.jv_class_parts.specs.declared.fault.PartsFault.TheVariants.{Format as
 use Rattle.jv_class_parts.specs.Structure.{AttributeInfo, CodeAttribute, MethodAttribute, FieldInfo, MethodInfo, ClassStructure, table_bytes, attribute_bytes, code_bytes, method_attribute_bytes, field_bytes, method_bytes, table_fits, attribute_fits, code_fits, method_attribute_fits, field_fits, method_fits}
 use Rattle.jv_class_parts.specs.Structure.MethodAttribute.{Code, Other}
 use Rattle.jv_class_parts.specs.Flags.{has, acc_static}
-use Rattle.jv_class_parts.specs.Attributes.{is_text_at, has_attribute_name, at_most_one, has_utf8_name, value_index, code_length_right, field_attributes_right, code_right, method_attribute_right, method_attributes_right}
+use Rattle.jv_class_parts.specs.Attributes.{is_text_at, has_attribute_name, at_most_one, has_utf8_name, value_index, code_length_keeps_rules, field_attributes_keep_rules, code_keeps_rules, method_attribute_keeps_rules, method_attributes_keep_rules}
 use Rattle.jv_class_parts.specs.Parts.{FieldSeen, CodeSeen, MethodSeen, field_shown, code_shown, method_shown}
 
 -- ---- forms
@@ -105,15 +105,15 @@ field_attributes pool static = solely (value_of pool static) (field_attribute po
 abbrev pub is_static : Three → Bool
 is_static t = has t.0 acc_static
 
-abbrev pub field_of : Three × List AttributeInfo → FieldInfo
-field_of p = record { access_flags = p.0.0; name_index = p.0.1.0; descriptor_index = p.0.1.1; attributes = p.1 }
+abbrev pub field_of_parts : Three × List AttributeInfo → FieldInfo
+field_of_parts p = record { access_flags = p.0.0; name_index = p.0.1.0; descriptor_index = p.0.1.1; attributes = p.1 }
 
 abbrev pub attributes_behind : List Entry → Three → Format (List AttributeInfo)
 attributes_behind pool t = field_attributes pool (is_static t)
 
 abbrev pub field : List Entry → Format FieldInfo
 field pool =
-    shaped field_bytes (λ f. field_fits f && field_attributes_right pool f) field_of (paired three (attributes_behind pool))
+    shaped field_bytes (λ f. field_fits f && field_attributes_keep_rules pool f) field_of_parts (paired three (attributes_behind pool))
 
 -- ---- Code
 
@@ -130,7 +130,7 @@ abbrev pub code_attributes : List Entry → Format (List AttributeInfo)
 code_attributes pool = solely (stack_map_of pool) (attribute pool)
 
 abbrev pub code_text : Format (List ℕ)
-code_text = such_that code_length_right contents
+code_text = such_that code_length_keeps_rules contents
 
 abbrev pub CodeBody : Type 0
 CodeBody = (ℕ × ℕ) × (List ℕ × (List Handler × List AttributeInfo))
@@ -142,7 +142,7 @@ abbrev pub code_body : List Entry → Format CodeBody
 code_body pool = both (both half half) (both code_text (both (table exception) (code_attributes pool)))
 
 abbrev pub code : List Entry → Format CodeAttribute
-code pool = shaped code_bytes (λ c. code_fits c && code_right pool c) code_of (code_body pool)
+code pool = shaped code_bytes (λ c. code_fits c && code_keeps_rules pool c) code_of (code_body pool)
 
 -- ---- a method's attributes
 
@@ -182,7 +182,7 @@ method_attribute_of (name, inr info) = Other (attribute_of (name, info))
 
 abbrev pub method_attribute : List Entry → Format MethodAttribute
 method_attribute pool =
-    shaped method_attribute_bytes (λ a. method_attribute_fits a && method_attribute_right pool a) method_attribute_of
+    shaped method_attribute_bytes (λ a. method_attribute_fits a && method_attribute_keeps_rules pool a) method_attribute_of
     (paired half (held pool))
 
 abbrev pub code_inside : MethodAttribute → Option CodeAttribute
@@ -198,12 +198,12 @@ method_attributes pool = solely (code_shown_inside pool) (method_attribute pool)
 
 -- ---- methods
 
-abbrev pub method_of : Three × List MethodAttribute → MethodInfo
-method_of p = record { access_flags = p.0.0; name_index = p.0.1.0; descriptor_index = p.0.1.1; attributes = p.1 }
+abbrev pub method_of_parts : Three × List MethodAttribute → MethodInfo
+method_of_parts p = record { access_flags = p.0.0; name_index = p.0.1.0; descriptor_index = p.0.1.1; attributes = p.1 }
 
 abbrev pub method : List Entry → Format MethodInfo
 method pool =
-    shaped method_bytes (λ m. method_fits m && method_attributes_right pool m) method_of (both three (method_attributes pool))
+    shaped method_bytes (λ m. method_fits m && method_attributes_keep_rules pool m) method_of_parts (both three (method_attributes pool))
 
 -- ---- what stands behind the pool
 
@@ -244,20 +244,20 @@ abbrev pub values_kept : List Entry → Bool → Format (Option ℕ)
 values_kept pool static = gather (value_kept pool static)
 
 -- a number of attributes
-abbrev pub counted : {V : Type 0} → Format (Option V) → ℕ → Format (Option V)
-counted f n = record { spelling = λ _. []; fits = λ _. false; read = gathered f n None }
+abbrev pub so_many_kept : {V : Type 0} → Format (Option V) → ℕ → Format (Option V)
+so_many_kept f n = record { spelling = λ _. []; fits = λ _. false; read = gathered f n None }
 
 abbrev pub counted_values : List Entry → Bool → ℕ → Format (Option ℕ)
-counted_values pool static n = counted (value_kept pool static) n
+counted_values pool static n = so_many_kept (value_kept pool static) n
 
-abbrev pub field_seen : Three × Option ℕ → FieldSeen
-field_seen p = record { access_flags = p.0.0; name_index = p.0.1.0; descriptor_index = p.0.1.1; constant_value = p.1 }
+abbrev pub field_seen_of : Three × Option ℕ → FieldSeen
+field_seen_of p = record { access_flags = p.0.0; name_index = p.0.1.0; descriptor_index = p.0.1.1; constant_value = p.1 }
 
 abbrev pub values_behind : List Entry → Three → Format (Option ℕ)
 values_behind pool t = values_kept pool (is_static t)
 
 abbrev pub field_kept : List Entry → Format FieldSeen
-field_kept pool = kept field_seen (paired three (values_behind pool))
+field_kept pool = kept field_seen_of (paired three (values_behind pool))
 
 -- as many handlers as the number says, eight bytes each
 abbrev pub handlers_read : ℕ × List ℕ → Option (List Handler × List ℕ)
@@ -273,7 +273,7 @@ abbrev pub stack_maps_kept : List Entry → Format (Option (List ℕ))
 stack_maps_kept pool = gather (stack_map_kept pool)
 
 abbrev pub counted_stack_maps : List Entry → ℕ → Format (Option (List ℕ))
-counted_stack_maps pool n = counted (stack_map_kept pool) n
+counted_stack_maps pool n = so_many_kept (stack_map_kept pool) n
 
 abbrev pub code_seen : (ℕ × ℕ) × (List ℕ × (List Handler × Option (List ℕ))) → CodeSeen
 code_seen p = record { max_stack = p.0.0; max_locals = p.0.1; code = p.1.0; exception_table = p.1.1.0; stack_map_table = p.1.1.1 }
@@ -302,13 +302,13 @@ abbrev pub codes_kept : List Entry → Format (Option CodeSeen)
 codes_kept pool = gather (method_attribute_kept pool)
 
 abbrev pub counted_codes : List Entry → ℕ → Format (Option CodeSeen)
-counted_codes pool n = counted (method_attribute_kept pool) n
+counted_codes pool n = so_many_kept (method_attribute_kept pool) n
 
-abbrev pub method_seen : Three × Option CodeSeen → MethodSeen
-method_seen p = record { access_flags = p.0.0; name_index = p.0.1.0; descriptor_index = p.0.1.1; code = p.1 }
+abbrev pub method_seen_of : Three × Option CodeSeen → MethodSeen
+method_seen_of p = record { access_flags = p.0.0; name_index = p.0.1.0; descriptor_index = p.0.1.1; code = p.1 }
 
 abbrev pub method_kept : List Entry → Format MethodSeen
-method_kept pool = kept method_seen (both three (codes_kept pool))
+method_kept pool = kept method_seen_of (both three (codes_kept pool))
 
 -- attributes of which nothing is kept
 abbrev pub passed_over : List Entry → Format ℕ

@@ -3,7 +3,7 @@ use Rattle.std.specs.Prelude.{ℕ, ◌+◌, ◌-◌, ◌*◌, ◌/◌, ◌%◌, 
 use Rattle.jv_format.specs.Format.{Format, quad, front}
 use Rattle.jv_format.specs.Readers.{both, paired, after, such_that, bytes_of}
 use Rattle.jv_code.specs.Numbers.{signed32}
-use Rattle.jv_code.specs.Switches.{distances_fit, pairs_right}
+use Rattle.jv_code.specs.Switches.{distances_fit, pairs_keep_rules}
 
 abbrev pub padding : ℕ → Format (List ℕ)
 padding at = bytes_of (3 - at % 4)
@@ -30,7 +30,7 @@ abbrev pub pair_count : List ℕ → ℕ
 pair_count pairs = length pairs / 8
 
 abbrev pub pairs_of : ℕ → Format (List ℕ)
-pairs_of n = such_that (pairs_right n) (bytes_of (8 * n))
+pairs_of n = such_that (pairs_keep_rules n) (bytes_of (8 * n))
 
 abbrev pub pairs : Format (List ℕ)
 pairs = after quad pair_count pairs_of

@@ -37,12 +37,12 @@ abbrev pub item : Format Item
 item = record { spelling = item_bytes; fits = item_fits; read = item_read }
 
 -- so many items
-abbrev pub items_of : ℕ → Format (List Item)
-items_of count = list_of count item
+abbrev pub so_many_items : ℕ → Format (List Item)
+so_many_items count = list_of count item
 
 -- items behind their number
-abbrev pub counted : Format (List Item)
-counted = after half length items_of
+abbrev pub counted_items : Format (List Item)
+counted_items = after half length so_many_items
 
 -- ---- frames
 
@@ -79,11 +79,11 @@ short_contents tag rest =
 
 -- what follows a type from 252 to 254, by how many items
 abbrev pub append_contents : ℕ → List ℕ → Option (MapForm × List ℕ)
-append_contents count rest = (both half (items_of count)).read rest >>= found_as append
+append_contents count rest = (both half (so_many_items count)).read rest >>= found_as append
 
 -- what follows type 255
 abbrev pub full_contents : List ℕ → Option (MapForm × List ℕ)
-full_contents rest = (both half (both counted counted)).read rest >>= found_as full
+full_contents rest = (both half (both counted_items counted_items)).read rest >>= found_as full
 
 -- what follows a type
 abbrev pub form_contents : ℕ → List ℕ → Option (MapForm × List ℕ)

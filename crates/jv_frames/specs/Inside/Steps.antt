@@ -12,7 +12,7 @@ use Rattle.jv_frames.specs.declared.entry.FrameEntry.TheVariants as entries
 use Rattle.jv_frames.specs.Bytes.{MapForm}
 use Rattle.jv_frames.specs.Frames.{delta_of}
 use Rattle.jv_frames.specs.Entries.{ReadFrame, words_in}
-use Rattle.jv_frames.specs.Inside.Reading.{item, items_of, counted, short_contents, append_contents, full_contents, form_contents, form, forms_of, table}
+use Rattle.jv_frames.specs.Inside.Reading.{item, so_many_items, counted_items, short_contents, append_contents, full_contents, form_contents, form, forms_of, table}
 
 -- ---- entries of items
 
@@ -150,10 +150,10 @@ abbrev pub item_laid : List Entry → Built → List ℕ → Option (Built × Li
 item_laid pool b bytes = item.read bytes >>= stepped (laid_item pool) b
 
 abbrev pub items_laid : List Entry → ℕ → Built → List ℕ → Option (Built × List ℕ)
-items_laid pool count b bytes = (items_of count).read bytes >>= all_stepped (laid_item pool) b
+items_laid pool count b bytes = (so_many_items count).read bytes >>= all_stepped (laid_item pool) b
 
 abbrev pub counted_laid : List Entry → Built → List ℕ → Option (Built × List ℕ)
-counted_laid pool b bytes = counted.read bytes >>= all_stepped (laid_item pool) b
+counted_laid pool b bytes = counted_items.read bytes >>= all_stepped (laid_item pool) b
 
 abbrev pub short_begun : List Entry → ℕ → Built → List ℕ → Option ((ℕ × Built) × List ℕ)
 short_begun pool tag b bytes = short_contents tag bytes >>= begun pool b

@@ -16,8 +16,8 @@ Runs p zero old new = old ≡ new
 Runs p (suc k) old new = (before : State) × Runs p k old before × (end_of_activity before.activity ≡ Running) × (next p before ≡ Ok new)
 
 -- a verdict, and a class where that may run, are those of a file
-abbrev pub IsFound : List ℕ → Verdict → Option ClassStructure → Type 0
-IsFound bytes verdict class = (j : Judgement) × IsJudged bytes j × (verdict ≡ verdict_of j) × (class ≡ runnable_class_of j)
+abbrev pub IsFoundVerdict : List ℕ → Verdict → Option ClassStructure → Type 0
+IsFoundVerdict bytes verdict class = (j : Judgement) × IsJudged bytes j × (verdict ≡ verdict_of j) × (class ≡ runnable_class_of j)
 
 -- The file was judged, and what runs is in the state that the guest alone is in after as many steps.
 pub record IsAdmitted (g : Guest) (b : Budget) (verdicts : List Verdict) (running : GuestState) (steps : ℕ) : Type 0 where

@@ -1,7 +1,6 @@
 -- Files that join a world one by one.
-use Rattle.std.specs.Prelude.{◌≡◌, ℕ, ◌||◌, false, List, [], ◌∷◌, ◌++◌, length, map, Option, Some, Result, Ok, Err, IfOk, ◌<◌, is_some, slice_get, if◌then◌else◌}
+use Rattle.std.specs.Prelude.{◌≡◌, ℕ, ◌||◌, false, List, [], ◌∷◌, ◌++◌, length, Option, Some, Result, Ok, Err, IfOk, ◌<◌, is_some, slice_get, if◌then◌else◌}
 use Rattle.std.specs.Option.{option_and_then}
-use Rattle.std.specs.Borrow.{Bor}
 use Rattle.jv_loader_files.specs.FileContent.{FileContent, AreContents}
 use Rattle.jv_loader_files.specs.declared.content.Content.TheVariants.{OtherVersion, NoClassFile, MoreThanProfile, Holds}
 use Rattle.jv_loader_world.specs.declared.verdict.LoadVerdict.{LoadVerdict}
@@ -34,12 +33,6 @@ with_files world (file ∷ files) = with_files (with_file world file) files
 abbrev pub entries_from : World → List FileContent → List (Result ℕ LoadVerdict)
 entries_from world [] = []
 entries_from world (file ∷ files) = entry_of world file ∷ entries_from (with_file world file) files
-
-abbrev pub text_of : Bor (List ℕ) → List ℕ
-text_of file = file.now
-
-abbrev pub texts_of : List (Bor (List ℕ)) → List (List ℕ)
-texts_of files = map text_of files
 
 -- files that were put into a world
 pub record ArePut (files : List (List ℕ)) (before after : World) (entries : List (Result ℕ LoadVerdict)) : Type 0 where

@@ -11,8 +11,8 @@ abbrev pub member_with : ℕ → NameAndDescriptor → MemberSeen
 member_with access_flags texts = member_made access_flags texts.name texts.descriptor
 
 -- the member whose name and descriptor these indices name
-abbrev pub member_at : List Entry → ℕ → ℕ → ℕ → Option MemberSeen
-member_at pool access_flags name descriptor = option_map (member_with access_flags) (named_at pool name descriptor)
+abbrev pub member_seen_at : List Entry → ℕ → ℕ → ℕ → Option MemberSeen
+member_seen_at pool access_flags name descriptor = option_map (member_with access_flags) (named_at pool name descriptor)
 
 abbrev pub field_texts : List Entry → Field → Option NameAndDescriptor
 field_texts pool f = named_at pool f.name.0 f.descriptor.0

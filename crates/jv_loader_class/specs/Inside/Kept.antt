@@ -1,15 +1,12 @@
 -- What is kept of a class beside its file.
 use Rattle.std.specs.Prelude.{◌≡◌, ℕ, Bool, true, List, map, Option, Some, None, unwrap_or}
 use Rattle.std.specs.Option.{option_copied}
-use Rattle.std.specs.Borrow.{Bor}
 use Rattle.jv_loader_world.specs.of_class_parts.Structure.{ClassStructure}
 use Rattle.jv_loader_world.specs.of_class.Class.{Class, class_of}
 use Rattle.jv_loader_system.specs.Io.{io}
+use Rattle.jv_loader_tables.specs.Inside.Kept.{text_of}
 use Rattle.jv_loader_class.specs.declared.kept.Kept.{Kept}
 use Rattle.jv_loader_class.specs.Inside.Seen.{field_seen, method_seen}
-
-abbrev pub text_of : Bor (List ℕ) → List ℕ
-text_of text = text.now
 
 -- what is kept is what the class says
 pub record Keeps (class : Class) (kept : Kept) : Type 0 where
@@ -21,12 +18,12 @@ pub record Keeps (class : Class) (kept : Kept) : Type 0 where
   pub methods : kept.methods ≡ map method_seen class.methods
 
 -- the class of a file, and host/Io where there is none
-abbrev pub class_in : Option ClassStructure → Class
-class_in None = io
-class_in (Some file) = unwrap_or (class_of file) io
+abbrev pub class_of_file : Option ClassStructure → Class
+class_of_file None = io
+class_of_file (Some file) = unwrap_or (class_of file) io
 
 -- what holds of each class of a world as the code has it
 pub record IsLoaded (by_system : Bool) (file : Option ClassStructure) (kept : Kept) : Type 0 where
-  pub keeps : Keeps (class_in file) kept
-  pub known : (c : ClassStructure) → file ≡ Some c → class_of c ≡ Some (class_in file)
+  pub keeps : Keeps (class_of_file file) kept
+  pub known : (c : ClassStructure) → file ≡ Some c → class_of c ≡ Some (class_of_file file)
   pub built_in : file ≡ None → by_system ≡ true

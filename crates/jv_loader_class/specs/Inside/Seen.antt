@@ -1,8 +1,9 @@
 -- A field or a method as it is kept.
-use Rattle.std.specs.Prelude.{◌≡◌, ℕ, Bool, ◌&&◌, List, position}
+use Rattle.std.specs.Prelude.{ℕ, Bool, ◌&&◌, List}
 use Rattle.std.specs.Borrow.{Bor}
-use Rattle.std.specs.HashMap.{HashMap, get_by}
+use Rattle.std.specs.HashMap.{HashMap}
 use Rattle.std.specs.Str.{bytes_eq}
+use Rattle.jv_loader_tables.specs.Inside.Kept.{AreFirstPlaces}
 use Rattle.jv_loader_world.specs.of_class.Class.{Field, Method}
 use Rattle.jv_loader_class.specs.declared.member.Member.{Member}
 
@@ -37,4 +38,4 @@ has_texts wanted texts = bytes_eq wanted.0.now texts.0.now && bytes_eq wanted.1.
 
 -- each member is found at its place, by its name and its descriptor, and nothing else is found
 abbrev pub ArePlaces : {S : Type 0} → List MemberSeen → HashMap Texts ℕ S → Type 0
-ArePlaces members places = (texts : Texts) → get_by (has_texts texts) places ≡ position (declares texts.0.now texts.1.now) members
+ArePlaces members places = AreFirstPlaces has_texts (λ texts. declares texts.0.now texts.1.now) members places

@@ -29,6 +29,6 @@ is_found_if found None = false
 is_found_if found (Some flags) = is_overridden_if found flags && not (has flags acc_private)
 
 -- marked are the packages of these classes
-abbrev pub AreMarked : List Loaded → List ℕ → List Bool → List Loaded → Type 0
-AreMarked classes packages marks found =
+abbrev pub ArePackagesMarked : List Loaded → List ℕ → List Bool → List Loaded → Type 0
+ArePackagesMarked classes packages marks found =
     (place : ℕ) (l : Loaded) → slice_get classes place ≡ Some l → get_or marks (get_or packages place 0) false ≡ have_package found l

@@ -12,8 +12,8 @@ abbrev pub numbers_below : ℕ → List ℕ → NumbersBelow
 numbers_below size numbers = record { size = size; numbers = numbers }
 
 -- a number is marked exactly where it is there
-abbrev pub AreMarked : List Bool → List ℕ → Type 0
-AreMarked marks numbers = (k : ℕ) → get_or marks k false ≡ list_any (nat_eq k) numbers
+abbrev pub AreNumbersMarked : List Bool → List ℕ → Type 0
+AreNumbersMarked marks numbers = (k : ℕ) → get_or marks k false ≡ list_any (nat_eq k) numbers
 
 -- they are numbers of a world's classes
 pub record AreNumbersOf (world : World) (begun : NumbersBelow) : Type 0 where

@@ -7,7 +7,7 @@ use Rattle.jv_class_parts.specs.Parts.{CodeSeen}
 use Rattle.jv_frames.specs.Entries.{ReadFrame}
 use Rattle.jv_frames.specs.Types.{words}
 use Rattle.jv_meaning_typing.specs.Environment.{Environment}
-use Rattle.jv_meaning_typing.specs.Typing.{HandlersRight, entries_before}
+use Rattle.jv_meaning_typing.specs.Typing.{HandlersKeepRules, entries_before}
 use Rattle.jv_meaning_typing.specs.Judgement.{IsCodeOf}
 use Rattle.jv_rules_types.specs.Typed.{typed_all}
 use Rattle.jv_rules_frames.specs.Numbered.{Item}
@@ -49,9 +49,9 @@ abbrev pub types_of : ReadMethod → EntryTypes
 types_of method = entry_types (constants_of method) method.initial
 
 -- the environment, in which the handlers are right and these are the frames of the stack map
-pub record HasFrames (method : ReadMethod) (frames : List ReadFrame) (env : Environment) : Type 0 where
+pub record HasReadFrames (method : ReadMethod) (frames : List ReadFrame) (env : Environment) : Type 0 where
   pub of : IsOfRead method env
-  pub handlers : HandlersRight env
+  pub handlers : HandlersKeepRules env
   pub maps : MapsTo (types_of method) method.body.max_locals env (Some frames)
 
 -- each of these frames has room

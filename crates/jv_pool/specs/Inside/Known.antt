@@ -36,11 +36,11 @@ MethodKnown text (Some facts) = IsSomeAnd text (λ t. AreMethodFacts t facts)
 MethodKnown text None = IsSomeAnd text IsMethodDescriptor → ⊥
 
 -- a name that a method can have whose result is void, or not
-abbrev pub special_right : List ℕ → Bool → Bool
-special_right name void = if begins_with 60 name then is_init name && void else true
+abbrev pub special_keeps_rules : List ℕ → Bool → Bool
+special_keeps_rules name void = if begins_with 60 name then is_init name && void else true
 
 abbrev pub is_named_for : Bool → List ℕ → Bool
-is_named_for void name = is_method_name name && special_right name void
+is_named_for void name = is_method_name name && special_keeps_rules name void
 
 abbrev pub IsNamedFor : Bool → List ℕ → Type 0
 IsNamedFor void name = IsTrue (is_named_for void name)

@@ -106,12 +106,12 @@ abbrev pub entries : ℕ → Format (List Entry)
 entries n = record { spelling = flat_map constant_bytes; fits = λ p. length (table_of p) == n && list_all constant_fits p; read = entries_read false n }
 
 -- the constants behind a count, which is one more than the entries
-abbrev pub counted : ℕ → Format (List Entry)
-counted count = if count == 0 then never else entries (count - 1)
+abbrev pub so_many_constants : ℕ → Format (List Entry)
+so_many_constants count = if count == 0 then never else entries (count - 1)
 
 -- a list of constants that may break their rules
 abbrev pub constants : Format (List Entry)
-constants = after half pool_count counted
+constants = after half pool_count so_many_constants
 
 -- one entry, whether the next one belongs to it, and what follows
 abbrev pub step_read : Bool → List ℕ → Option (Option Entry × Bool × List ℕ)

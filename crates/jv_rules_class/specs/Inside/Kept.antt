@@ -6,7 +6,7 @@ use Rattle.jv_loader_world.specs.World.{Loaded, World}
 use Rattle.jv_pool.specs.Constants.{Entry}
 use Rattle.jv_rules_types.specs.Typed.{name_at}
 use Rattle.jv_rules_constants.specs.PoolTypes.{PoolTypes}
-use Rattle.jv_rules_class.specs.Inside.Marked.{AreMarked}
+use Rattle.jv_rules_class.specs.Inside.Marked.{AreNamesMarked}
 use Rattle.jv_rules_class.specs.Inside.Guarded.{IsGuard}
 
 -- all guarded members are marked, by the indices of the constants that name them
@@ -24,7 +24,7 @@ pub record IsKept (constants : PoolTypes) (class : Loaded) (name : ℕ) (supercl
   pub pool : constants.pool ≡ class.class.constant_pool
   pub named : name_at constants.types.names name ≡ class.class.name
   pub superclass_named : option_map (name_at constants.types.names) superclass ≡ class.class.super_class
-  pub interfaces : AreMarked constants.types.names class.class.interfaces direct
+  pub interfaces : AreNamesMarked constants.types.names class.class.interfaces direct
   pub guards : AreGuards constants.types.world class constants.pool guarded
   pub no_array : IsNoArray (Some class.class.name)
   pub no_array_above : IsNoArray class.class.super_class

@@ -17,6 +17,6 @@ pub record AreMarkedAt (names : List (List ℕ)) (pool : List Entry) (indices : 
   pub marked : (place : ℕ) → place < length names → get_or marks place false ≡ list_any (names_it pool (name_at names place)) indices
 
 -- those among some names are marked, and no others
-pub record AreMarked (names : List (List ℕ)) (marked : List (List ℕ)) (marks : List Bool) : Type 0 where
+pub record AreNamesMarked (names : List (List ℕ)) (marked : List (List ℕ)) (marks : List Bool) : Type 0 where
   pub size : length marks ≡ length names
   pub mark : (place : ℕ) → place < length names → get_or marks place false ≡ list_any (λ other. bytes_eq other (name_at names place)) marked

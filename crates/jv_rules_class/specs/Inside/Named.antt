@@ -7,13 +7,13 @@ use Rattle.jv_frames.specs.Types.{FrameType}
 use Rattle.jv_rules_constants.specs.PoolTypes.{class_type_at}
 
 -- the class that a type is an object of
-abbrev pub class_in : Option FrameType → Option (List ℕ)
-class_in (Some (types.Class name)) = Some name
-class_in _ = None
+abbrev pub class_of_type : Option FrameType → Option (List ℕ)
+class_of_type (Some (types.Class name)) = Some name
+class_of_type _ = None
 
 -- the class, and no array, that the Class constant at an index names (4.4.1)
 abbrev pub class_of_constant : List Entry → ℕ → Option (List ℕ)
-class_of_constant pool index = class_in (class_type_at pool index)
+class_of_constant pool index = class_of_type (class_type_at pool index)
 
 -- the same of an index that may be none
 abbrev pub class_of_constant_at : List Entry → Option ℕ → Option (List ℕ)

@@ -1,3 +1,4 @@
+use Rattle.std.proofs.lemmas.Grind.{common_steps}
 use Rattle.std.proofs.Common.{arith}
 use Rattle.jv_asm.proofs.Sizes.{size_next, size_over}
 use Rattle.jv_asm.proofs.code.items_size.Goals as goal
@@ -14,3 +15,6 @@ loop-item-preserved c = record {
       c.item_size-at.ensures.size c.if-at-gt65535.false;
   small = omega arith;
 }
+
+pub returns : goal.returns
+returns c = grind (arith, common_steps)

@@ -6,5 +6,5 @@ use Rattle.jv_class_parts.proofs.members.enclosed_code_at.Goals as goal
 
 pub returns-else-is_empty : goal.returns-else-is_empty
 returns-else-is_empty c =
-    not_enclosed (code_kept c.args.pool.now) c.args.bytes.now c.in_ok-inside.inside.now c.in_ok-inside.rest.now c.in_ok-code.after.now (seen_code c.in_ok-code.code)
-    c.in_ok-inside.ensures c.in_ok-code.ensures (sym c.is_empty.ensures ∙ c.if-is_empty.false)
+    not_enclosed (code_kept c.args.pool.now) c.args.bytes.now c.in-Some.inside.now c.in-Some.rest.now c.in-Some-code_at.after.now (seen_code c.in-Some-code_at.code)
+    c.in-Some.ensures c.in-Some-code_at.ensures (sym c.is_empty.ensures ∙ c.if-is_empty.false)

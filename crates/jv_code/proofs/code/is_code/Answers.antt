@@ -13,3 +13,9 @@ loop-rest-preserved c =
 
 pub returns : goal.returns
 returns c = grind (arith, common_steps)
+
+pub loop-rest-smaller : goal.loop-rest-smaller
+loop-rest-smaller c = grind (arith, common_steps)
+
+pub overflow_sub-bytes : goal.overflow_sub-bytes
+overflow_sub-bytes c = grind (arith, common_steps)

@@ -1,3 +1,4 @@
+use Rattle.std.proofs.lemmas.Grind.{elements}
 use Rattle.std.proofs.Common.{◌≡◌, None, subst, sym, ◌∙◌, arith}
 use Rattle.std.specs.Int.{w32}
 use Rattle.std.proofs.lemmas.Bool.{false≢true}
@@ -27,3 +28,6 @@ returns-else-is_above-clause-found c =
 pub returns-clause-none : goal.returns-clause-none
 returns-clause-none c =
     subst (λ (key : ℤ). distance_for key (pairs_in c.args.pairs.now) ≡ None) (to_z-of_z w32 c.args.key c.ranges.key) (Searched-none _ _ _ _ (omega arith) c.loop-low.invariant)
+
+pub unreachable-requires : goal.unreachable-requires
+unreachable-requires c = grind (arith, elements)

@@ -1,4 +1,5 @@
-use Rattle.std.proofs.Common.{◌≡◌, ◌<◌, length, List, Some, None, Err, subst, sym}
+use Rattle.std.proofs.lemmas.Grind.{common_steps}
+use Rattle.std.proofs.Common.{◌≡◌, ◌<◌, length, List, Some, None, Err, subst, sym, arith}
 use Rattle.std.proofs.lemmas.Result.{err_from_is_err_and}
 use Rattle.jv_frames.specs.Entries.{ReadFrame}
 use Rattle.jv_frames.specs.Inside.Steps.{frame_read}
@@ -24,3 +25,6 @@ pub returns : goal.returns
 returns c =
     read_done c.args.pool.now c.args.limits c.in-Some.tag c.in_ok-delta.delta c.args.table.now c.begin.new.table c.args.bytes.now c.in-Some.rest.now c.in_ok-delta.rest.now (Some c.finish.new.self) c.in-Some.ensures c.in_ok-delta.ensures
     c.in_ok-finish.ensures
+
+pub returns-in_err-delta : goal.returns-in_err-delta
+returns-in_err-delta c = grind (arith, common_steps)

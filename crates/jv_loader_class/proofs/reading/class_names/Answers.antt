@@ -1,7 +1,7 @@
 use Rattle.std.proofs.Common.{◌∙◌, ◌∷◌, [], ap, map}
 use Rattle.std.proofs.lemmas.List.{map-append}
 use Rattle.jv_loader_class.specs.Inside.Found.{interface_at}
-use Rattle.jv_loader_class.specs.Inside.Kept.{text_of}
+use Rattle.jv_loader_tables.specs.Inside.Kept.{text_of}
 use Rattle.jv_loader_class.proofs.AllFound.{next_found}
 use Rattle.jv_loader_class.proofs.reading.class_names.Goals as goal
 

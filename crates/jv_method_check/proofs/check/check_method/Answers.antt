@@ -7,7 +7,7 @@ use Rattle.jv_meaning_linking.specs.Uses.{Site}
 use Rattle.jv_meaning_typing.specs.declared.verdict.VerifyRule.TheVariants as rules
 use Rattle.jv_meaning_typing.specs.Typing.{argument_words}
 use Rattle.jv_rules_constants.specs.PoolTypes.{typed_call}
-use Rattle.jv_method_check.specs.Judged.{IsJudged}
+use Rattle.jv_method_check.specs.Judged.{IsVerdictOnMethod}
 use Rattle.jv_method_check.proofs.Environments.{environment, same_body}
 use Rattle.jv_method_check.proofs.Judging.{breaks_code, judged_at_start}
 use Rattle.jv_method_check.proofs.check.check_method.Goals as goal
@@ -24,7 +24,7 @@ returns-in-Ok c = λ site of.
     let found =
     environment c.args.class.now (seen_method c.args.method.now) (seen_code c.args.code.now) (typed_call c.args.class.now.types.names c.in-Some.types) site c.in-Ok.ensures.ok.0 of c.in-Some.ensures.said
     c.in-Ok.ensures.ok.1 in
-    subst (λ (s : Site). IfOk c.check_typed.result (IsJudged c.args.class.now.types.world s)) found.there
+    subst (λ (s : Site). IfOk c.check_typed.result (IsVerdictOnMethod c.args.class.now.types.world s)) found.there
     (c.check_typed.ensures found.env found.of (record { described = found.described; fit = c.in-Some.ensures.fit found.env found.of }))
 
 pub returns-in_default : goal.returns-in_default

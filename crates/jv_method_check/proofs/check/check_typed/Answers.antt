@@ -5,7 +5,7 @@ use Rattle.jv_frames.specs.Types.{words}
 use Rattle.jv_rules_types.specs.Typed.{typed_all}
 use Rattle.jv_rules_frames.specs.Numbered.{Item}
 use Rattle.jv_method_code.specs.of_rules_class.Current.{CurrentClass}
-use Rattle.jv_method_check.specs.Judged.{IsJudged}
+use Rattle.jv_method_check.specs.Judged.{IsVerdictOnMethod}
 use Rattle.jv_method_check.proofs.Environments.{has_room, of_read, read_in}
 use Rattle.jv_method_check.proofs.check.check_typed.Goals as goal
 
@@ -35,7 +35,7 @@ check_tables-requires c =
 
 pub returns : goal.returns
 returns c = λ env of has_types.
-    subst (λ (k : CurrentClass). IfOk c.check_tables.result (IsJudged k.types.world env.site)) c.new-read.ensures.class
+    subst (λ (k : CurrentClass). IfOk c.check_tables.result (IsVerdictOnMethod k.types.world env.site)) c.new-read.ensures.class
     (c.check_tables.ensures env
     (of_read c.new-read.result c.args.class.now (seen_method c.args.method.now) (seen_code c.args.body.now) c.args.types c.in_ok-items.items.items c.is_static.result c.is_named_init-is_init.result env
     c.new-read.ensures.class c.new-read.ensures.body (c.new-read.ensures.initial ∙ c.deref-2.ensures.value) c.new-read.ensures.is_init c.new-read.ensures.of of has_types c.is_static.ensures

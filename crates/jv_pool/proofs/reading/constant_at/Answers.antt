@@ -5,4 +5,4 @@ use Rattle.jv_pool.proofs.reading.constant_at.Goals as goal
 pub returns : goal.returns
 returns c =
     finds_constant c.args.bytes.now c.contents_at.result
-    (c.contents_at.ensures ∙ sym (constant_found c.args.bytes.now c.in_ok-tag.rest.now c.in_ok-tag.tag c.shape_of.result c.in_ok-tag.ensures (sym c.shape_of.ensures)))
+    (c.contents_at.ensures ∙ sym (constant_found c.args.bytes.now c.in-Some.rest.now c.in-Some.tag c.shape_of.result c.in-Some.ensures (sym c.shape_of.ensures)))

@@ -9,4 +9,4 @@ pub returns-in_err-bytes-clause-err : goal.returns-in_err-bytes-clause-err
 returns-in_err-bytes-clause-err g c =
     let names = c.args.names.now in
     passed_on c.from_residual.result c.in_err-bytes.field-0.0 (IsOneUnread (map bytes_of names)) c.from_residual.ensures.1
-    (one_unread names c.loop-name.name-index _ c.in_err-bytes.field-0.0 c.loop-name-test.true c.in_err-bytes.ensures)
+    (one_unread names c.loop-name.name-index _ c.in_err-bytes.field-0.0 c.loop-name-test.true c.in_err-bytes.ensures.err)

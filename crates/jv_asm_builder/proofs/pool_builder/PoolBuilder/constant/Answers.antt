@@ -11,7 +11,7 @@ use Rattle.jv_asm_builder.proofs.pool_builder.PoolBuilder.constant.Goals as goal
 pub returns-in_err-add-clause-too_large : goal.returns-in_err-add-clause-too_large
 returns-in_err-add-clause-too_large c =
     let new = subst (IsIndexFound c.args.self.now (seen c.args.constant)) c.in_default.is c.found.ensures in
-    let right : IsTrue (constant_fits (seen c.args.constant)) = sym c.constant_is_right.ensures ∙ c.if-not-constant_is_right.false in
+    let right : IsTrue (constant_fits (seen c.args.constant)) = sym c.constant_fits.ensures ∙ c.if-not-constant_fits.false in
     let room = room_at (map seen c.self.inside.constants.items) c.args.self.now (seen c.args.constant) c.self.inside.indices c.self.inside.count c.self.view_is c.self.invariant new right (omega arith) in
     (λ e. absurd (is_memory c.from_residual.result c.from_residual.ensures.1 e), λ none. absurd (none room))
 
@@ -23,7 +23,7 @@ returns-clause-ok c =
 pub returns-clause-too_large : goal.returns-clause-too_large
 returns-clause-too_large c =
     let new = subst (IsIndexFound c.args.self.now (seen c.args.constant)) c.in_default.is c.found.ensures in
-    let right : IsTrue (constant_fits (seen c.args.constant)) = sym c.constant_is_right.ensures ∙ c.if-not-constant_is_right.false in
+    let right : IsTrue (constant_fits (seen c.args.constant)) = sym c.constant_fits.ensures ∙ c.if-not-constant_fits.false in
     let room = room_at (map seen c.self.inside.constants.items) c.args.self.now (seen c.args.constant) c.self.inside.indices c.self.inside.count c.self.view_is c.self.invariant new right (omega arith) in
     (λ e. absurd cc, λ none. absurd (none room))
 

@@ -1,3 +1,4 @@
+use Rattle.std.proofs.lemmas.Grind.{common_steps}
 use Rattle.std.proofs.Common.{sym, arith}
 use Rattle.jv_code.specs.Insns.{instruction_of}
 use Rattle.jv_code.proofs.Sizes.{some_bytes}
@@ -29,3 +30,6 @@ pub returns-clause-rises : goal.returns-clause-rises
 returns-clause-rises c =
     let read = known_is _ _ c.args.pc c.requires.0 _ _ c.requires.1 (sym c.split_at.ensures.back) c.in-Some.ensures in
     omega (arith, ends_there _ _ _ _ read.0 read.1, some_bytes (instruction_of c.in-Some.insn))
+
+pub split_at-requires : goal.split_at-requires
+split_at-requires c = grind (arith, common_steps)

@@ -42,3 +42,15 @@ returns-else-self-rest c =
       λ t. absurd (c.if-self-rest.false (eqb-true _ _ t)),
       λ h. absurd (c.if-self-rest.false (s.1 h.0 h.1).0),
     )
+
+pub loop-rest-smaller : goal.loop-rest-smaller
+loop-rest-smaller c = grind (arith, common_steps)
+
+pub overflow_sub-self-2 : goal.overflow_sub-self-2
+overflow_sub-self-2 c = grind (arith, common_steps)
+
+pub overflow_sub-self-in-loop-rest : goal.overflow_sub-self-in-loop-rest
+overflow_sub-self-in-loop-rest c = grind (arith, common_steps)
+
+pub overflow_sub-self : goal.overflow_sub-self
+overflow_sub-self c = grind (arith, common_steps)

@@ -1,3 +1,4 @@
+use Rattle.std.proofs.lemmas.Grind.{elements}
 use Rattle.std.proofs.Common.{List, refl, sym, subst, ◌∙◌, arith}
 use Rattle.std.specs.List.{All}
 use Rattle.std.proofs.lemmas.Bool.{false≢true}
@@ -24,3 +25,6 @@ returns c = (
   λ yes. subst (λ (handlers : List Handler). All (HandlerFits c.args.self.now) handlers) (take_all c.loop-place.place (handlers_of c.args.table) (omega (arith, c.len-place-end.ensures))) c.loop-place.invariant,
   λ all. refl,
 )
+
+pub unreachable-requires : goal.unreachable-requires
+unreachable-requires c = grind (arith, elements)

@@ -3,7 +3,7 @@ use Rattle.std.specs.Prelude.{◌&&◌, position, slice_get, IfSome}
 use Rattle.std.specs.Option.{option_and_then}
 use Rattle.std.specs.Str.{bytes_eq}
 use Rattle.jv_loader_world.specs.of_class.Class.{Field}
-use Rattle.jv_loader_class.specs.Inside.Kept.{class_in}
+use Rattle.jv_loader_class.specs.Inside.Kept.{class_of_file}
 use Rattle.jv_loader_class.specs.Inside.Seen.{field_seen, declares}
 use Rattle.jv_loader_class.proofs.Places.{place_seen, found_there, place_within}
 use Rattle.jv_loader_class.proofs.loaded_class.LoadedClass.field_named.Goals as goal
@@ -15,7 +15,7 @@ returns c =
     let place : c.place_of.result ≡ position test fields =
     c.place_of.ensures
     ∙ (ap (position (declares c.args.name.now c.args.descriptor.now)) c.self.invariant.keeps.fields
-    ∙ (sym (place_seen (declares c.args.name.now c.args.descriptor.now) test field_seen (λ m. refl) (class_in c.self.inside.file).fields)
+    ∙ (sym (place_seen (declares c.args.name.now c.args.descriptor.now) test field_seen (λ m. refl) (class_of_file c.self.inside.file).fields)
     ∙ ap (λ l. position test l.class.fields) c.self.view_is)) in
     record {
       place = place;

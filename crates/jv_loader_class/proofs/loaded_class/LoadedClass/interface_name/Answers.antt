@@ -2,7 +2,7 @@ use Rattle.std.proofs.Common.{◌≡◌, ◌∙◌, sym, ap, length, slice_get, 
 use Rattle.std.specs.Option.{option_map}
 use Rattle.std.proofs.lemmas.List.{length-map}
 use Rattle.std.proofs.lemmas.Option.{slice_get-map, slice_get_read}
-use Rattle.jv_loader_class.specs.Inside.Kept.{text_of}
+use Rattle.jv_loader_tables.specs.Inside.Kept.{text_of}
 use Rattle.jv_loader_class.proofs.loaded_class.LoadedClass.interface_name.Goals as goal
 
 pub returns : goal.returns

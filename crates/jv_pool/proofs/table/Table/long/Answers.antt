@@ -1,5 +1,5 @@
 use Rattle.std.proofs.Common.{rules}
 use Rattle.jv_pool.proofs.table.Table.long.Goals as goal
 
-pub returns-in-Long : goal.returns-in-Long
-returns-in-Long c = search rules
+pub returns-in-Some-Long : goal.returns-in-Some-Long
+returns-in-Some-Long c = search rules

@@ -1,5 +1,0 @@
-use Rattle.std.proofs.Common.{rules}
-use Rattle.jv_class.proofs.class_file.class_of.Goals as goal
-
-pub returns-then-not-is_supported-clause-format : goal.returns-then-not-is_supported-clause-format
-returns-then-not-is_supported-clause-format c = search rules

@@ -1,5 +1,0 @@
-use Rattle.std.proofs.Common.{rules}
-use Rattle.jv_class.proofs.method_rules.slots_are_right.Goals as goal
-
-pub returns-else-intersects : goal.returns-else-intersects
-returns-else-intersects c = search rules
