@@ -9,7 +9,7 @@ use Rattle.jv_meaning.specs.declared.observation.End.TheVariants.{Running}
 use Rattle.jv_meaning.specs.declared.observation.Verdict.{Verdict}
 use Rattle.jv_meaning.specs.Guest.{Guest, Observed, bytes_of}
 use Rattle.jv_meaning.specs.Thin.Machine.{State, Fault, Program, ◌>>=◌, program_of, next, start, state_after, end_of_activity}
-use Rattle.jv_meaning.specs.Thin.Alone.{runnable_class_of, alone, observation, Shows, IsRunningAfter, IsOverAfter, FaultsWithin}
+use Rattle.jv_meaning.specs.Thin.Alone.{runnable_class_of, thin_alone, observation, Shows, IsRunningAfter, IsOverAfter, FaultsWithin}
 use Rattle.jv_interp.specs.Thin.GuestState.{GuestState}
 use Rattle.jv_host.specs.Inside.Admission.{Runs, IsAdmitted, IsFoundVerdict}
 use Rattle.jv_class_parts.specs.Structure.{ClassStructure}
@@ -31,13 +31,13 @@ module _ (g : Guest) (b : Budget) (verdicts : List Verdict) (first : GuestState)
   p = program_of g.main (runnable_class_of is.judgement)
 
   -- the guest alone is in the state that steps lead to
-  pub alone_after : (k : ℕ) (new : State) → Runs first.program k first.state new → alone is.judgement g b (steps + k) ≡ Ok new
+  pub alone_after : (k : ℕ) (new : State) → Runs first.program k first.state new → thin_alone is.judgement g b (steps + k) ≡ Ok new
   alone_after zero new e =
       let place : steps + zero ≡ steps = omega arith in
-      ap (λ n. alone is.judgement g b n) place ∙ is.ran ∙ ap just_ok e
+      ap (λ n. thin_alone is.judgement g b n) place ∙ is.ran ∙ ap just_ok e
   alone_after (suc k) new r =
       let place : steps + suc k ≡ suc (steps + k) = omega arith in
-      ap (λ n. alone is.judgement g b n) place ∙ ok_of (state_after p b.output (steps + k)) r.0 p (alone_after k r.0 r.1)
+      ap (λ n. thin_alone is.judgement g b n) place ∙ ok_of (state_after p b.output (steps + k)) r.0 p (alone_after k r.0 r.1)
       ∙ ap (λ q. next q r.0) (sym is.program) ∙ r.3
 
   -- what it shows there
@@ -75,7 +75,7 @@ module _ (g : Guest) (b : Budget) (verdicts : List Verdict) (first : GuestState)
   pub faults_after : (k : ℕ) (new : State) → Runs first.program k first.state new → IsErr (next first.program new) → FaultsWithin g b (steps + k + 1)
   faults_after k new r e =
       let place : steps + k + 1 ≡ suc (steps + k) = omega arith in
-      let same = ap (λ n. alone is.judgement g b n) place ∙ ok_of (state_after p b.output (steps + k)) new p (alone_after k new r) ∙ ap (λ q. next q new) (sym is.program) in
+      let same = ap (λ n. thin_alone is.judgement g b n) place ∙ ok_of (state_after p b.output (steps + k)) new p (alone_after k new r) ∙ ap (λ q. next q new) (sym is.program) in
       record { file = is.file; judgement = is.judgement; one_file = is.one_file; judged = is.judged; fault = subst IsErr (sym same) e }
 
   -- the guest stands for itself alone after these steps too

@@ -3,7 +3,7 @@ use Rattle.std.proofs.Common.{◌≡◌, ℕ, ◌+◌, ◌-◌, ◌<◌, List, [
 use Rattle.jv_pool.specs.Constants.{Entry}
 use Rattle.jv_meaning.specs.declared.thin.insn.ThinInsn.{ThinInsn}
 use Rattle.jv_meaning.specs.Thin.Instructions.{first_insn}
-use Rattle.jv_meaning.specs.Thin.Machine.{State, Fault, Program, Effect, ◌>>=◌, insn_or_fault, fetch, execute, act, step, step_at, next}
+use Rattle.jv_meaning.specs.Thin.Machine.{State, Fault, Program, Effect, ◌>>=◌, insn_or_fault, fetch, execute, thin_act, thin_step, step_at, next}
 use Rattle.jv_meaning.specs.Thin.Machine.Activity.{Method as InMethod}
 use Rattle.jv_meaning.specs.Thin.Machine.Fault.{Offset}
 use Rattle.jv_interp.specs.declared.thin.machine.Machine.{Machine}
@@ -19,7 +19,7 @@ module _ (p : Option Program) (q : Program) (is : p ≡ Some q) (m : Machine) wh
   abbrev state : State
   state = state_of (locals_in p) m
 
-  steps : next p state ≡ step q state
+  steps : next p state ≡ thin_step q state
   steps = ap (λ o. next o state) is
 
   -- the end of the initialization
@@ -29,34 +29,34 @@ module _ (p : Option Program) (q : Program) (is : p ≡ Some q) (m : Machine) wh
       ∙ ap (λ o. Ok (record (state_of (locals_in p) m) { activity = InMethod 0 (locals_in o) [] })) (sym is) ∙ ap Ok (sym e)
 
   -- what a step does at an offset
-  at_offset : (offset : ℕ) → m.stage ≡ stages.Method offset → next p state ≡ (fetch q.code offset >>= λ i. execute q.constant_pool i.0 (words m.stack.items) >>= λ effect. act q.code (offset + i.1) (locals_in p) state effect)
+  at_offset : (offset : ℕ) → m.stage ≡ stages.Method offset → next p state ≡ (fetch q.code offset >>= λ i. execute q.constant_pool i.0 (words m.stack.items) >>= λ effect. thin_act q.code (offset + i.1) (locals_in p) state effect)
   at_offset offset at = steps ∙ ap (step_at q state) (ap (activity_of (locals_in p) m.stack.items) at)
 
   -- no instruction stands there
   pub no_insn : (offset : ℕ) → m.stage ≡ stages.Method offset → first_insn (drop offset q.code.code) ≡ None → next p (state_of (locals_in p) m) ≡ Err Offset
   no_insn offset at e =
       at_offset offset at
-      ∙ ap (λ o. insn_or_fault o >>= λ i. execute q.constant_pool i.0 (words m.stack.items) >>= λ effect. act q.code (offset + i.1) (locals_in p) state effect) e
+      ∙ ap (λ o. insn_or_fault o >>= λ i. execute q.constant_pool i.0 (words m.stack.items) >>= λ effect. thin_act q.code (offset + i.1) (locals_in p) state effect) e
 
   -- an instruction stands there
   pub insn_executes : (offset after : ℕ) (insn : ThinInsn) → m.stage ≡ stages.Method offset → offset < after → first_insn (drop offset q.code.code) ≡ Some (insn, after - offset)
-      → next p (state_of (locals_in p) m) ≡ (execute q.constant_pool insn (words m.stack.items) >>= λ effect. act q.code after (locals_in p) (state_of (locals_in p) m) effect)
+      → next p (state_of (locals_in p) m) ≡ (execute q.constant_pool insn (words m.stack.items) >>= λ effect. thin_act q.code after (locals_in p) (state_of (locals_in p) m) effect)
   insn_executes offset after insn at lt e =
       let place : offset + (after - offset) ≡ after = omega arith in
       at_offset offset at
-      ∙ ap (λ o. insn_or_fault o >>= λ i. execute q.constant_pool i.0 (words m.stack.items) >>= λ effect. act q.code (offset + i.1) (locals_in p) state effect) e
-      ∙ ap (λ k. execute q.constant_pool insn (words m.stack.items) >>= λ effect. act q.code k (locals_in p) state effect) place
+      ∙ ap (λ o. insn_or_fault o >>= λ i. execute q.constant_pool i.0 (words m.stack.items) >>= λ effect. thin_act q.code (offset + i.1) (locals_in p) state effect) e
+      ∙ ap (λ k. execute q.constant_pool insn (words m.stack.items) >>= λ effect. thin_act q.code k (locals_in p) state effect) place
 
   -- it does what its effect does
   pub insn_acts : (offset after : ℕ) (insn : ThinInsn) (effect : Effect) → m.stage ≡ stages.Method offset → offset < after → first_insn (drop offset q.code.code) ≡ Some (insn, after - offset)
-      → execute q.constant_pool insn (words m.stack.items) ≡ Ok effect → next p (state_of (locals_in p) m) ≡ act q.code after (locals_in p) (state_of (locals_in p) m) effect
+      → execute q.constant_pool insn (words m.stack.items) ≡ Ok effect → next p (state_of (locals_in p) m) ≡ thin_act q.code after (locals_in p) (state_of (locals_in p) m) effect
   insn_acts offset after insn effect at lt e done =
-      insn_executes offset after insn at lt e ∙ ap (λ r. r >>= λ effect. act q.code after (locals_in p) state effect) done
+      insn_executes offset after insn at lt e ∙ ap (λ r. r >>= λ effect. thin_act q.code after (locals_in p) state effect) done
 
   -- the same, as the code has it: the offset is what the stage holds, and the pool and the stack are lent
   pub insn_steps : (raw offset after : ℕ) (insn : ThinInsn) (change : Change) (pool : List Entry) (stack : List ℕ) → raw ≡ offset → m.stage ≡ stages.Method offset → raw < after
       → first_insn (drop raw q.code.code) ≡ Some (insn, after - raw) → pool ≡ q.constant_pool → stack ≡ m.stack.items → execute pool insn (words stack) ≡ Ok (effect_of (words stack) change)
-      → next p (state_of (locals_in p) m) ≡ act q.code after (locals_in p) (state_of (locals_in p) m) (effect_of (words m.stack.items) change)
+      → next p (state_of (locals_in p) m) ≡ thin_act q.code after (locals_in p) (state_of (locals_in p) m) (effect_of (words m.stack.items) change)
   insn_steps raw offset after insn change pool stack same at lt e pools stacks done =
       let at_raw : m.stage ≡ stages.Method raw = at ∙ ap stages.Method (sym same) in
       let executes : execute q.constant_pool insn (words m.stack.items) ≡ Ok (effect_of (words m.stack.items) change) =

@@ -5,7 +5,7 @@ use Rattle.jv_class.specs.ClassFile.{OneStructure}
 use Rattle.jv_meaning.specs.declared.guest.Budget.{Budget}
 use Rattle.jv_meaning.specs.Guest.{Guest, Observed}
 use Rattle.jv_meaning.specs.Thin.Machine.{State, Fault}
-use Rattle.jv_meaning.specs.Thin.Alone.{Judgement, MayRun, IsJudged, alone, observation, Shows}
+use Rattle.jv_meaning.specs.Thin.Alone.{Judgement, MayRun, IsJudged, thin_alone, observation, Shows}
 use Rattle.jv_meaning.specs.Thin.Alone.Judgement.{Version, Format, Unsupported, Accepted}
 
 same_class : (c d : ClassStructure) → c ≡ d → MayRun c → MayRun d
@@ -40,6 +40,6 @@ shows_one_thing one g b n o p x y =
     let files : x.file ≡ y.file = first_same x.file y.file (sym x.one_file ∙ y.one_file) in
     let judged : IsJudged x.file y.judgement = subst (λ (f : List ℕ). IsJudged f y.judgement) (sym files) y.judged in
     let judgements : x.judgement ≡ y.judgement = judged_once one x.file x.judgement y.judgement x.judged judged in
-    let ran : alone x.judgement g b n ≡ Ok y.state = ap (λ j. alone j g b n) judgements ∙ y.ran in
-    let states : x.state ≡ y.state = ok_same x.state y.state (alone x.judgement g b n) x.ran ran in
+    let ran : thin_alone x.judgement g b n ≡ Ok y.state = ap (λ j. thin_alone j g b n) judgements ∙ y.ran in
+    let states : x.state ≡ y.state = ok_same x.state y.state (thin_alone x.judgement g b n) x.ran ran in
     x.shown ∙ ap (λ j. observation j n x.state) judgements ∙ ap (λ s. observation y.judgement n s) states ∙ sym y.shown

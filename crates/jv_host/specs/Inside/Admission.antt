@@ -6,7 +6,7 @@ use Rattle.jv_meaning.specs.declared.observation.End.TheVariants.{Running}
 use Rattle.jv_meaning.specs.declared.observation.Verdict.{Verdict}
 use Rattle.jv_meaning.specs.Guest.{Guest}
 use Rattle.jv_meaning.specs.Thin.Machine.{State, Program, program_of, next, end_of_activity}
-use Rattle.jv_meaning.specs.Thin.Alone.{Judgement, IsJudged, verdict_of, runnable_class_of, alone}
+use Rattle.jv_meaning.specs.Thin.Alone.{Judgement, IsJudged, verdict_of, runnable_class_of, thin_alone}
 use Rattle.jv_interp.specs.Thin.GuestState.{GuestState}
 use Rattle.jv_host.specs.Host.{Admission}
 
@@ -27,7 +27,7 @@ pub record IsAdmitted (g : Guest) (b : Budget) (verdicts : List Verdict) (runnin
   pub judged : IsJudged file judgement
   pub verdict : verdicts ≡ verdict_of judgement ∷ []
   pub program : running.program ≡ program_of g.main (runnable_class_of judgement)
-  pub ran : alone judgement g b steps ≡ Ok running.state
+  pub ran : thin_alone judgement g b steps ≡ Ok running.state
 
 -- a host holds one guest, or none
 abbrev pub guests_in : Option Admission → List Admission

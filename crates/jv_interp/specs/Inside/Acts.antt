@@ -1,7 +1,7 @@
 -- What the code's functions on a machine do, in the terms of the definitions.
 use Rattle.std.specs.Prelude.{◌≡◌, ℕ, List, Ok, IsErr}
 use Rattle.jv_class_parts.specs.Parts.{CodeSeen}
-use Rattle.jv_meaning.specs.Thin.Machine.{Word, act}
+use Rattle.jv_meaning.specs.Thin.Machine.{Word, thin_act}
 use Rattle.jv_interp.specs.declared.thin.machine.Machine.{Machine}
 use Rattle.jv_interp.specs.declared.thin.execute.Change.{Change}
 use Rattle.jv_interp.specs.Inside.Words.{words, effect_of}
@@ -11,13 +11,13 @@ use Rattle.jv_interp.specs.Inside.Machine.{state_of}
 abbrev pub Acts : (max_stack next : ℕ) → Change → Machine → Machine → Type 0
 Acts max_stack next change old new =
     (code : CodeSeen) (locals : List Word) → code.max_stack ≡ max_stack
-    → act code next locals (state_of locals old) (effect_of (words old.stack.items) change) ≡ Ok (state_of locals new)
+    → thin_act code next locals (state_of locals old) (effect_of (words old.stack.items) change) ≡ Ok (state_of locals new)
 
 -- a change of the stack is a fault
 abbrev pub IsStuck : (max_stack next : ℕ) → Change → Machine → Type 0
 IsStuck max_stack next change old =
     (code : CodeSeen) (locals : List Word) → code.max_stack ≡ max_stack
-    → IsErr (act code next locals (state_of locals old) (effect_of (words old.stack.items) change))
+    → IsErr (thin_act code next locals (state_of locals old) (effect_of (words old.stack.items) change))
 
 -- both stand for one state
 abbrev pub IsSame : Machine → Machine → Type 0

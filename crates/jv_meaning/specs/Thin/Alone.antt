@@ -43,8 +43,8 @@ runnable_class_of (Unsupported class) = None
 runnable_class_of (Accepted class) = Some class
 
 -- the state of a guest whose file was judged, after so many of its own steps
-abbrev pub alone : Judgement → Guest → Budget → ℕ → Result State Fault
-alone j g b n = state_after (program_of g.main (runnable_class_of j)) b.output n
+abbrev pub thin_alone : Judgement → Guest → Budget → ℕ → Result State Fault
+thin_alone j g b n = state_after (program_of g.main (runnable_class_of j)) b.output n
 
 -- what a state shows
 abbrev pub observation : Judgement → ℕ → State → Observed
@@ -64,7 +64,7 @@ pub record Shows (g : Guest) (b : Budget) (n : ℕ) (o : Observed) : Type 0 wher
   pub state : State
   pub one_file : g.files ≡ file ∷ []
   pub judged : IsJudged file judgement
-  pub ran : alone judgement g b n ≡ Ok state
+  pub ran : thin_alone judgement g b n ≡ Ok state
   pub shown : o ≡ observation judgement n state
 
 -- after n of its own steps the guest is still running, or it is over
@@ -80,7 +80,7 @@ pub record FaultsWithin (g : Guest) (b : Budget) (n : ℕ) : Type 0 where
   pub judgement : Judgement
   pub one_file : g.files ≡ file ∷ []
   pub judged : IsJudged file judgement
-  pub fault : IsErr (alone judgement g b n)
+  pub fault : IsErr (thin_alone judgement g b n)
 
 -- A guest shows one thing alone, whoever else is there.
 abbrev pub ShowsOneThing : Type 0

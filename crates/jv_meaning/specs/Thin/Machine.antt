@@ -158,10 +158,10 @@ abbrev pub test_stack : CodeSeen → List Word → Result (List Word) Fault
 test_stack code stack = if nat_le (length stack) code.max_stack then Ok stack else Err Stack
 
 -- what an instruction's effect makes of the state, where the next one has an offset
-abbrev pub act : CodeSeen → ℕ → List Word → State → Effect → Result State Fault
-act code next locals s (Goes stack) = test_stack code stack >>= λ stack. Ok (record s { activity = Method next locals stack })
-act code next locals s (Writes value stack) = Ok (after_write value (Method next locals stack) s)
-act code next locals s Leaves = Ok (record s { activity = Returned })
+abbrev pub thin_act : CodeSeen → ℕ → List Word → State → Effect → Result State Fault
+thin_act code next locals s (Goes stack) = test_stack code stack >>= λ stack. Ok (record s { activity = Method next locals stack })
+thin_act code next locals s (Writes value stack) = Ok (after_write value (Method next locals stack) s)
+thin_act code next locals s Leaves = Ok (record s { activity = Returned })
 
 -- the instruction at an offset
 abbrev pub insn_or_fault : Option (ThinInsn × ℕ) → Result (ThinInsn × ℕ) Fault
@@ -175,13 +175,13 @@ fetch code offset = insn_or_fault (first_insn (drop offset code.code))
 abbrev pub step_at : Program → State → Activity → Result State Fault
 step_at p s Initialization = Ok (record s { activity = Method 0 (main_locals p.code) [] })
 step_at p s (Method offset locals stack) =
-    fetch p.code offset >>= λ i. execute p.constant_pool i.0 stack >>= λ effect. act p.code (offset + i.1) locals s effect
+    fetch p.code offset >>= λ i. execute p.constant_pool i.0 stack >>= λ effect. thin_act p.code (offset + i.1) locals s effect
 step_at p s Returned = Ok s
 step_at p s (Threw class) = Ok s
 step_at p s NoMain = Ok s
 
-abbrev pub step : Program → State → Result State Fault
-step p s = step_at p s s.activity
+abbrev pub thin_step : Program → State → Result State Fault
+thin_step p s = step_at p s s.activity
 
 -- ---- runs
 
@@ -197,7 +197,7 @@ start (Some p) output = state_at Initialization output
 -- a step of what runs; nothing goes on where nothing runs
 abbrev pub next : Option Program → State → Result State Fault
 next None s = Ok s
-next (Some p) s = step p s
+next (Some p) s = thin_step p s
 
 -- the state after so many steps from the start
 abbrev pub state_after : Option Program → ℕ → ℕ → Result State Fault
