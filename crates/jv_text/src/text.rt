@@ -1,6 +1,6 @@
 //! Modified UTF-8 (JVMS 4.4.7).
 
-ghost use Rattle.std.specs.Prelude.{◌≡◌, ◌≢◌, ◌<◌, ◌^◌, ◌++◌, ◌↔◌, ℕ, List, IfSome, IfNone, IfOk, IsTrue, Err};
+ghost use Rattle.std.specs.Prelude.{◌≡◌, ◌≢◌, ◌<◌, ◌≤◌, ◌+◌, ◌^◌, ◌++◌, ◌∷◌, [], ◌↔◌, ℕ, List, IfSome, IfNone, IfOk, IsTrue, Err};
 ghost use Rattle.jv_text.specs.Text.{unit_bytes, Spells, IsText};
 ghost use Rattle.jv_text.specs.declared.text.TextFault.TheVariants.{Memory, BadText};
 
@@ -33,6 +33,60 @@ impl<T: Drop> From<AllocFailed<T>> for TextFault {
     }
 }
 
+/// The place of a byte among those from one to before another.
+fn place_of(byte: u8, from: u8, to: u8) -> Option<u16>
+    ensures found { IfSome result (λ place. from + place ≡ byte) }
+    ensures below { IfSome result (λ place. from + place < to) }
+    ensures none { IfNone result (from ≤ byte → to ≤ byte) }
+{
+    if from <= byte && byte < to {
+        Some(u16::from(byte - from))
+    } else {
+        None
+    }
+}
+
+/// The unit that two bytes spell, where it has no shorter form.
+fn two_byte_unit(a: u8, b: u8) -> Option<u16>
+    ensures fits { IfSome result (λ unit. unit < 2 ^ 16) }
+    ensures found { IfSome result (λ unit. unit_bytes unit ≡ a ∷ b ∷ []) }
+    ensures none { IfNone result ((unit : ℕ) → unit < 2 ^ 16 → unit_bytes unit ≢ a ∷ b ∷ []) }
+{
+    let Some(high) = place_of(a, 192, 224) else {
+        return None;
+    };
+    let Some(low) = place_of(b, 128, 192) else {
+        return None;
+    };
+    let unit = high * 64 + low;
+    if 0 < unit && unit < 128 {
+        return None;
+    }
+    Some(unit)
+}
+
+/// The unit that three bytes spell, where it has no shorter form.
+fn three_byte_unit(a: u8, b: u8, c: u8) -> Option<u16>
+    ensures fits { IfSome result (λ unit. unit < 2 ^ 16) }
+    ensures found { IfSome result (λ unit. unit_bytes unit ≡ a ∷ b ∷ c ∷ []) }
+    ensures none { IfNone result ((unit : ℕ) → unit < 2 ^ 16 → unit_bytes unit ≢ a ∷ b ∷ c ∷ []) }
+{
+    let Some(high) = place_of(a, 224, 240) else {
+        return None;
+    };
+    let Some(middle) = place_of(b, 128, 192) else {
+        return None;
+    };
+    let Some(low) = place_of(c, 128, 192) else {
+        return None;
+    };
+    let unit = high * 4096 + middle * 64 + low;
+    if unit < 2048 {
+        return None;
+    }
+    Some(unit)
+}
+
 /// Reads the unit at the front, in its shortest form alone, and gives what follows it.
 fn unit_at(bytes: &[u8]) -> Option<(u16, &[u8])>
     ensures fits { IfSome result (λ x. x.0 < 2 ^ 16) }
@@ -42,21 +96,14 @@ fn unit_at(bytes: &[u8]) -> Option<(u16, &[u8])>
 {
     match bytes {
         [a, rest @ ..] if 0 < *a && *a < 128 => Some((u16::from(*a), rest)),
-        [a, b, rest @ ..] if 192 <= *a && *a < 224 && 128 <= *b && *b < 192 => {
-            let unit = u16::from(*a - 192) * 64 + u16::from(*b - 128);
-            if 0 < unit && unit < 128 {
-                return None;
-            }
-            Some((unit, rest))
-        }
-        [a, b, c, rest @ ..]
-            if 224 <= *a && *a < 240 && 128 <= *b && *b < 192 && 128 <= *c && *c < 192 => {
-            let unit = u16::from(*a - 224) * 4096 + u16::from(*b - 128) * 64 + u16::from(*c - 128);
-            if unit < 2048 {
-                return None;
-            }
-            Some((unit, rest))
-        }
+        [a, b, rest @ ..] if *a < 224 => match two_byte_unit(*a, *b) {
+            Some(unit) => Some((unit, rest)),
+            None => None,
+        },
+        [a, b, c, rest @ ..] => match three_byte_unit(*a, *b, *c) {
+            Some(unit) => Some((unit, rest)),
+            None => None,
+        },
         _ => None,
     }
 }

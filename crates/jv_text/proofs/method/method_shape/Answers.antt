@@ -29,3 +29,9 @@ pub returns-in-None-clause-bad : goal.returns-in-None-clause-bad
 returns-in-None-clause-bad c =
     let end = c.is_at_end.ensures.0 (grind (arith, common_steps)) in
     Front-no_result _ _ _ _ c.loop-rest.invariant.1 end.0 end.1 c.in-None.ensures.none
+
+pub loop-rest-smaller : goal.loop-rest-smaller
+loop-rest-smaller c = grind (arith, common_steps)
+
+pub loop-rest-init : goal.loop-rest-init
+loop-rest-init c = grind (arith, common_steps)

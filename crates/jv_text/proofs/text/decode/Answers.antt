@@ -1,4 +1,5 @@
 use Rattle.std.proofs.Common.{arith}
+use Rattle.std.proofs.lemmas.Grind.{common_steps}
 use Rattle.jv_text.proofs.Texts.{Front-push, Front-all, Front-none}
 use Rattle.jv_text.proofs.text.decode.Goals as goal
 
@@ -10,3 +11,6 @@ loop-rest-preserved c = rw c.in_ok-push.ensures.items (Front-push _ _ _ c.in-Som
 
 pub returns-clause-ok : goal.returns-clause-ok
 returns-clause-ok c = Front-all _ _ _ (grind arith) c.loop-rest.invariant
+
+pub loop-rest-smaller : goal.loop-rest-smaller
+loop-rest-smaller c = grind (arith, common_steps)

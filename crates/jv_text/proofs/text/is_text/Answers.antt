@@ -1,4 +1,5 @@
 use Rattle.std.proofs.Common.{arith, ◌++◌, ◌∷◌, [], refl}
+use Rattle.std.proofs.lemmas.Grind.{common_steps}
 use Rattle.jv_text.proofs.Texts.{Front-push, Front-all, Front-none}
 use Rattle.jv_text.proofs.text.is_text.Goals as goal
 
@@ -10,3 +11,6 @@ loop-rest-preserved c = (c.loop-rest.invariant.0 ++ c.in-Some._unit ∷ [], Fron
 
 pub returns : goal.returns
 returns c = (λ _. (c.loop-rest.invariant.0, Front-all _ _ _ (grind arith) c.loop-rest.invariant.1), λ _. refl)
+
+pub loop-rest-smaller : goal.loop-rest-smaller
+loop-rest-smaller c = grind (arith, common_steps)
