@@ -5,16 +5,17 @@
 //! of them. The word `rules` names a table of files for the rules of the format.
 #![tactic(auto)]
 
-mod bytes;
 mod facts;
+mod line;
 mod prefixes;
 mod rules;
 
 use jv_class::{ClassFault, read_class};
-use std::alloc::Global;
+use line::{Cell, write_line};
+use std::alloc::AllocError;
 use std::process::ExitCode;
 use std::rt::{Env, Files};
-use std::{env, fmt};
+use std::{env, fs, str};
 
 /// The name of what a file was refused for.
 pub(crate) fn fault_name(fault: ClassFault) -> &'static str {
@@ -27,34 +28,50 @@ pub(crate) fn fault_name(fault: ClassFault) -> &'static str {
 }
 
 /// Writes the facts of a file.
-fn write_file<W: fmt::Write>(out: &mut W, alloc: Global, name: &str, bytes: &[u8]) -> fmt::Result {
+fn write_file(out: &mut String, name: &str, bytes: &[u8]) -> Result<(), AllocError> {
+    let alloc = *out.allocator();
     match read_class(alloc, bytes) {
-        Ok(class) => facts::write_class(out, alloc, name, &class)?,
-        Err(fault) => {
-            let fault = fault_name(fault);
-            write!(out, "{name}\t{fault}\n")?;
-        }
+        Ok(class) => facts::write_class(out, name, &class)?,
+        Err(fault) => write_line(out, name, &[Cell::Word(fault_name(fault))])?,
     }
     let refused = prefixes::refused(alloc, bytes);
     let longer = prefixes::longer_is_refused(alloc, bytes);
-    write!(out, "{name}\trefused\t{refused}\t{longer}\n")
+    let cells = [
+        Cell::Word("refused"),
+        Cell::Number(refused),
+        Cell::Word(if longer { "true" } else { "false" }),
+    ];
+    write_line(out, name, &cells)
+}
+
+/// Writes the facts of the file at a path, or what a table of files comes to.
+fn write_path<R: Files + AllocGlobal>(
+    rt: &R,
+    out: &mut String,
+    name: &str,
+) -> Result<(), AllocError> {
+    let Ok(bytes) = fs::read(rt, name) else {
+        return write_line(out, name, &[Cell::Word("cannot be read")]);
+    };
+    if name != "rules" {
+        return write_file(out, name, &bytes);
+    }
+    match str::from_utf8(&bytes) {
+        Ok(table) => rules::write_table(out, name, table),
+        Err(_) => write_line(out, name, &[Cell::Word("is no text")]),
+    }
 }
 
 /// Writes the facts of the files that the words behind the first name.
-fn show<R: Files + Env + AllocGlobal>(rt: &R, out: &mut String) -> fmt::Result {
+fn show<R: Files + Env + AllocGlobal>(rt: &R, out: &mut String) -> Result<(), AllocError> {
     let Ok(words) = env::args(rt) else {
-        return Err(fmt::Error);
+        return Err(AllocError);
     };
     let Ok(words) = words.collect::<Vec<String>>(rt.alloc()) else {
-        return Err(fmt::Error);
+        return Err(AllocError);
     };
     for place in 1..words.len() {
-        let name = words[place].as_str();
-        match bytes::bytes_at(rt, name) {
-            Ok(bytes) if name == "rules" => rules::write_table(out, rt.alloc(), name, &bytes)?,
-            Ok(bytes) => write_file(out, rt.alloc(), name, &bytes)?,
-            Err(_) => write!(out, "{name}\tcannot be read\n")?,
-        }
+        write_path(rt, out, words[place].as_str())?;
     }
     Ok(())
 }

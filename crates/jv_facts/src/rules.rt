@@ -6,8 +6,7 @@
 
 use crate::fault_name;
 use jv_class::read_class;
-use std::alloc::Global;
-use std::fmt;
+use std::alloc::{AllocError, Global};
 
 /// The magic number and the version.
 const FRONT: &[u8] = b"\xca\xfe\xba\xbe\x00\x00\x00\x34";
@@ -27,122 +26,48 @@ a/lang/String;\x01\x00\x0dStackMapTable\x01\x00\x0aSourceFile\x01\x00\x02[I\x07\
 /// An interface `A`.
 const INTERFACE: &[u8] = b"\x06\x00\x00\x02\x00\x04\x00\x00";
 
-/// The parts of a class file behind its version: the constants' count, those behind the thirty, flags,
-/// class, superclass and interfaces, and so on.
-#[derive(Clone, Copy)]
-struct Parts<'a> {
-    count: &'a [u8],
-    constants: &'a [u8],
-    head: &'a [u8],
-    fields: &'a [u8],
-    methods: &'a [u8],
-    attributes: &'a [u8],
-}
+/// The flags, the class, the superclass and the interfaces of a class `A` below java/lang/Object.
+const CLASS: &[u8] = b"\x00\x21\x00\x02\x00\x04\x00\x00";
 
-/// A class `A` below java/lang/Object, without anything.
-const PLAIN: Parts<'static> = Parts {
-    count: b"\x00\x1f",
-    constants: b"",
-    head: b"\x00\x21\x00\x02\x00\x04\x00\x00",
-    fields: b"\x00\x00",
-    methods: b"\x00\x00",
-    attributes: b"\x00\x00",
-};
+/// No fields, no methods, or no attributes.
+const NONE: &[u8] = b"\x00\x00";
 
-/// What stands before a byte and what stands behind it; all and nothing where there is none.
-fn cut(bytes: &[u8], at: u8) -> (&[u8], &[u8]) {
-    for place in 0..bytes.len() {
-        if bytes[place] == at {
-            let (front, rest) = bytes.split_at(place);
-            return (front, rest.split_at(1).1);
-        }
-    }
-    (bytes, b"".as_slice())
-}
-
-fn digit(byte: u8) -> Option<u8> {
-    match byte {
-        b'0'..=b'9' => Some(byte - b'0'),
-        b'a'..=b'f' => Some(byte - b'a' + 10),
+/// Whether a part is one of an interface, and its place among the pieces of a file.
+fn place_of(part: &str) -> Option<(bool, usize)> {
+    match part {
+        "constants" => Some((false, 1)),
+        "head" => Some((false, 4)),
+        "fields" => Some((false, 5)),
+        "interface-fields" => Some((true, 5)),
+        "methods" => Some((false, 6)),
+        "interface-methods" => Some((true, 6)),
+        "attributes" => Some((false, 7)),
         _ => None,
     }
 }
 
-fn byte_of(high: u8, low: u8) -> Option<u8> {
-    let high = digit(high)?;
-    let low = digit(low)?;
-    Some(high.wrapping_mul(16).wrapping_add(low))
-}
-
-/// The bytes of a text in hexadecimal; none where it is no such text.
-fn unhex(alloc: Global, text: &[u8]) -> Option<Vec<u8>> {
-    let mut bytes = Vec::new(alloc);
-    for place in 0..text.len() / 2 {
-        let byte = byte_of(text[place * 2], text[place * 2 + 1])?;
-        bytes.push(byte).ok()?;
-    }
-    Some(bytes)
-}
-
-/// The plain file with other bytes in one part.
-fn parts_with<'a>(part: &[u8], first: &'a [u8], second: &'a [u8]) -> Option<Parts<'a>> {
-    let plain: Parts<'a> = PLAIN;
-    if part == b"constants".as_slice() {
-        Some(Parts {
-            count: first,
-            constants: second,
-            ..plain
-        })
-    } else if part == b"head".as_slice() {
-        Some(Parts {
-            head: first,
-            ..plain
-        })
-    } else if part == b"fields".as_slice() {
-        Some(Parts {
-            fields: first,
-            ..plain
-        })
-    } else if part == b"interface-fields".as_slice() {
-        Some(Parts {
-            head: INTERFACE,
-            fields: first,
-            ..plain
-        })
-    } else if part == b"methods".as_slice() {
-        Some(Parts {
-            methods: first,
-            ..plain
-        })
-    } else if part == b"interface-methods".as_slice() {
-        Some(Parts {
-            head: INTERFACE,
-            methods: first,
-            ..plain
-        })
-    } else if part == b"attributes".as_slice() {
-        Some(Parts {
-            attributes: first,
-            ..plain
-        })
-    } else {
-        None
-    }
-}
-
-fn file_of(alloc: Global, parts: Parts<'_>) -> Option<Vec<u8>> {
-    let mut bytes = Vec::new(alloc);
-    for piece in [
+/// The plain file with other bytes in one part, and `second` behind its constants.
+fn file_of<'a>(alloc: Global, part: &str, first: &'a [u8], second: &'a [u8]) -> Option<Vec<u8>> {
+    let Some((is_interface, place)) = place_of(part) else {
+        return None;
+    };
+    let head: &'a [u8] = if is_interface { INTERFACE } else { CLASS };
+    let pieces: [&'a [u8]; 8] = [
         FRONT,
-        parts.count,
+        b"\x00\x1f",
         CONSTANTS,
-        parts.constants,
-        parts.head,
-        parts.fields,
-        parts.methods,
-        parts.attributes,
-    ] {
-        bytes.extend_from_slice(piece).ok()?;
+        second,
+        head,
+        NONE,
+        NONE,
+        NONE,
+    ];
+    let mut bytes = Vec::new(alloc);
+    for at in 0..pieces.len() {
+        let piece: &'a [u8] = if at == place { first } else { pieces[at] };
+        if bytes.extend_from_slice(piece).is_err() {
+            return None;
+        }
     }
     Some(bytes)
 }
@@ -155,41 +80,40 @@ fn answer_to(alloc: Global, bytes: &[u8]) -> &'static str {
 }
 
 /// The answer to the file that a line's last two parts make of the plain one.
-fn answer_of(alloc: Global, part: &[u8], text: &[u8]) -> Option<&'static str> {
-    let (first, second) = cut(text, b'\t');
-    let first = unhex(alloc, first)?;
-    let second = unhex(alloc, second)?;
-    let file = file_of(alloc, parts_with(part, &first, &second)?)?;
-    Some(answer_to(alloc, &file))
-}
-
-/// Whether the reader answers what a line says.
-fn is_right(alloc: Global, line: &[u8]) -> bool {
-    let (part, rest) = cut(line, b'\t');
-    let (wanted, rest) = cut(rest, b'\t');
-    let (_case, rest) = cut(rest, b'\t');
-    match answer_of(alloc, part, rest) {
-        Some(answer) => answer.as_bytes() == wanted,
-        None => false,
+fn answer_of(alloc: Global, part: &str, text: &str) -> &'static str {
+    let (first, second) = match text.split_once('\t') {
+        Some(both) => both,
+        None => (text, ""),
+    };
+    let (Ok(first), Ok(second)) = (hex::decode(alloc, first), hex::decode(alloc, second)) else {
+        return "no hexadecimal";
+    };
+    match file_of(alloc, part, &first, &second) {
+        Some(file) => answer_to(alloc, &file),
+        None => "no file",
     }
 }
 
+/// Whether the reader answers what a line says.
+fn is_right(alloc: Global, line: &str) -> bool {
+    let Some((part, rest)) = line.split_once('\t') else {
+        return false;
+    };
+    let Some((wanted, rest)) = rest.split_once('\t') else {
+        return false;
+    };
+    let Some((_case, rest)) = rest.split_once('\t') else {
+        return false;
+    };
+    answer_of(alloc, part, rest) == wanted
+}
+
 /// Writes each line that the reader answers otherwise, and how many it answers as they say.
-pub(crate) fn write_table<W: fmt::Write>(
-    out: &mut W,
-    alloc: Global,
-    name: &str,
-    table: &[u8],
-) -> fmt::Result {
-    let mut rest = table;
+pub(crate) fn write_table(out: &mut String, name: &str, table: &str) -> Result<(), AllocError> {
+    let alloc = *out.allocator();
     let mut lines: usize = 0;
     let mut right: usize = 0;
-    for _ in 0..table.len() {
-        if rest.is_empty() {
-            break;
-        }
-        let (line, after) = cut(rest, b'\n');
-        rest = after;
+    for line in table.lines() {
         lines = lines.saturating_add(1);
         if is_right(alloc, line) {
             right = right.saturating_add(1);
