@@ -2,7 +2,7 @@
 use Rattle.std.proofs.Common.{◌≡◌, ℕ, Bool, List, sym, ap, ◌∙◌}
 use Rattle.std.specs.Prelude.{IsTrue, not, ◌&&◌}
 use Rattle.std.proofs.lemmas.Bool.{and_parts, and_from}
-use Rattle.jv_class_parts.specs.of_text.Descriptor.{MethodDescriptor, is_floating_method}
+use Rattle.jv_class_parts.specs.of_text.Descriptor.{MethodDescriptor, is_floating, is_floating_method}
 use Rattle.jv_class_parts.proofs.laws_of_text.Fields.{one_field}
 use Rattle.jv_class_parts.proofs.laws_of_text.Methods.{one_method}
 use Rattle.jv_class_parts.specs.of_pool.declared.facts.FieldFacts.{FieldFacts}
@@ -16,11 +16,17 @@ use Rattle.jv_class_parts.specs.of_text.Descriptor.{slots}
 use Rattle.jv_class_parts.specs.Flags.{has, acc_interface}
 use Rattle.jv_class_parts.specs.Parts.{FieldSeen, MethodSeen}
 use Rattle.jv_class.specs.Rules.{field_flags_keep_rules, value_keeps_rules, KeepsRulesAsField, method_flags_keep_rules, init_keeps_rules, clinit_keeps_rules, slots_keep_rules, code_presence_keeps_rules, KeepsRulesAsMethod}
-use Rattle.jv_class.specs.Supported.{HasNoFloatingMethod}
+use Rattle.jv_class.specs.Supported.{HasNoFloatingField, HasNoFloatingMethod}
 
 pub no_floating_method : (text : List ℕ) (facts : MethodFacts) → AreMethodFacts text facts → (IsTrue (not facts.floating) → HasNoFloatingMethod text) × (HasNoFloatingMethod text → IsTrue (not facts.floating))
 no_floating_method text facts h = (
   (λ t type described. ap not (ap is_floating_method (one_method text type h.type described h.described) ∙ sym h.floating) ∙ t),
+  (λ none. ap not h.floating ∙ none h.type h.described),
+)
+
+pub no_floating_field : (text : List ℕ) (facts : FieldFacts) → AreFieldFacts text facts → (IsTrue (not facts.floating) → HasNoFloatingField text) × (HasNoFloatingField text → IsTrue (not facts.floating))
+no_floating_field text facts h = (
+  (λ t type described. ap not (ap is_floating (one_field text type h.type described h.described) ∙ sym h.floating) ∙ t),
   (λ none. ap not h.floating ∙ none h.type h.described),
 )
 

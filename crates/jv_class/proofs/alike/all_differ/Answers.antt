@@ -29,3 +29,6 @@ loop-key-preserved c = (
       subst (IsDistinct nat_eq) (sym (take_more c.args.keys.now c.loop-key.key-index 0 c.loop-key-test.true))
       (IsDistinct-push nat_eq_equiv (take c.loop-key.key-index c.args.keys.now) (get_or c.args.keys.now c.loop-key.key-index 0) c.loop-key.invariant.1 (grind (arith, common_steps))),
 )
+
+pub returns-clause-ok : goal.returns-clause-ok
+returns-clause-ok c = grind (arith, common_steps)
