@@ -12,7 +12,7 @@ use Rattle.jv_text.proofs.Methods.{one_method}
 use Rattle.jv_pool.specs.declared.facts.TextFacts.{TextFacts}
 use Rattle.jv_pool.specs.declared.facts.MethodFacts.{MethodFacts}
 use Rattle.jv_pool.specs.Rules.{IsMethodMember, NamesMethod}
-use Rattle.jv_pool.specs.Facts.{AreMethodFacts}
+use Rattle.jv_pool.specs.Facts.{AreFacts, AreMethodFacts}
 use Rattle.jv_pool.specs.Constants.{Entry, takes_two, entries_of, table_of, pool_count, usable, at_index, utf8_at, utf8_in, name_and_descriptor}
 use Rattle.jv_pool.specs.Inside.Known.{IsKnown, known_in, AllKnown, KnownBelow, MethodKnown, IsNamedFor, special_keeps_rules, At}
 
@@ -119,6 +119,27 @@ every_at P pool count le each =
 
 pub untrue : (b : Bool) → b ≡ false → IsTrue b → ⊥
 untrue b off on = cc
+
+-- ---- tests
+
+pub same_test : (a b : Bool) → a ≡ b → IsTrue a ↔ IsTrue b
+same_test a b e = (λ on. sym e ∙ on, λ on. e ∙ on)
+
+-- a test of two parts, of which the first holds, or fails
+pub first_holds : {A B R : Type 0} (b : Bool) → A → (IsTrue b ↔ B) → (A → B → R) → (R → B) → IsTrue b ↔ R
+first_holds b here h make part = (λ on. make here (h.0 on), λ r. h.1 (part r))
+
+pub first_fails : {A R : Type 0} (b : Bool) → b ≡ false → (IsTrue b ↔ A) → (R → A) → IsTrue b ↔ R
+first_fails b off h part = (λ on. absurd (untrue b off on), λ r. absurd (untrue b off (h.1 (part r))))
+
+-- a test of what is known of a text, and of what isn't a text
+pub if_known : (P : List ℕ → Type 0) (text : Option (List ℕ)) (facts : TextFacts) (b : Bool) → IsKnown text (Some facts) → ((t : List ℕ) → AreFacts t facts → IsTrue b ↔ P t) → IsTrue b ↔ IsSomeAnd text P
+if_known P None facts b known h = absurd known
+if_known P (Some t) facts b known h = h t known
+
+pub if_unknown : (P : List ℕ → Type 0) (text : Option (List ℕ)) → IsKnown text None → IsTrue false ↔ IsSomeAnd text P
+if_unknown P None known = (λ on. absurd (untrue false refl on), λ r. absurd r)
+if_unknown P (Some t) known = absurd known
 
 -- ---- a method's name and descriptor
 

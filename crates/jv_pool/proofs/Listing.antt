@@ -84,6 +84,15 @@ pub record Listed (count i : ℕ) (flag : Bool) (table : List (Option (Constant 
   pub read : with_front (constants_in table) (entries_read flag (count - i) rest) ≡ entries_read false count bytes
   pub entries : table_of (constants_in table) ≡ map (option_map seen) table ++ pending flag
 
+nothing_before : {A : Type 0} (o : Option (List A × List ℕ)) → with_front [] o ≡ o
+nothing_before None = refl
+nothing_before (Some x) = refl
+
+pub Listed-start : (count : ℕ) (bytes : List ℕ) → Listed count 0 false [] bytes bytes
+Listed-start count bytes =
+    let all : count - 0 ≡ count = omega arith in
+    record { long = refl; read = rw all (nothing_before (entries_read false count bytes)); entries = refl }
+
 pub Listed-push : (count i : ℕ) (flag : Bool) (table : List (Option (Constant (Bor (List ℕ))))) (rest bytes : List ℕ) (entry : Option (Constant (Bor (List ℕ)))) (more : Bool) (after : List ℕ) → i < count
     → step_read flag rest ≡ Some (option_map seen entry, more, after) → Listed count i flag table rest bytes → Listed count (i + 1) more (table ++ entry ∷ []) after bytes
 Listed-push count i flag table rest bytes entry more after lt e so_far =

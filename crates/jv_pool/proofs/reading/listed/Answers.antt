@@ -1,7 +1,7 @@
 use Rattle.std.proofs.Common.{◌∙◌, ap, sym, List}
 use Rattle.jv_format.proofs.Laws.{just}
 use Rattle.jv_pool.specs.Constants.{Entry}
-use Rattle.jv_pool.proofs.Listing.{Listed-push, Listed-ends, Listed-cut, Listed-done}
+use Rattle.jv_pool.proofs.Listing.{Listed-start, Listed-push, Listed-ends, Listed-cut, Listed-done}
 use Rattle.jv_pool.proofs.reading.listed.Goals as goal
 
 pub returns-in_default : goal.returns-in_default
@@ -20,3 +20,6 @@ pub returns : goal.returns
 returns c =
     Listed-done c.args.length c.loop.counter c.loop.unusable c.loop.entries.items c.loop.rest.now c.args.bytes.now c.loop-test.false c.if-unusable.false c.loop.invariant
     ∙ ap (λ (xs : List Entry). just (xs, c.loop.rest.now)) (sym c.new.ensures)
+
+pub loop-init : goal.loop-init
+loop-init c = rw c.new-entries.ensures.items (Listed-start c.args.length c.args.bytes.now)
