@@ -1,5 +1,5 @@
 -- What joins a pool in several steps: that nothing else changes, that it is one thing, and that it fits.
-use Rattle.std.proofs.Common.{◌≡◌, ℕ, Bool, true, false, inl, inr, Ok, Err, List, [], ◌∷◌, ◌++◌, refl, sym, ap, subst, ◌∙◌, append_assoc, arith}
+use Rattle.std.proofs.Common.{◌≡◌, ℕ, Bool, true, false, inl, inr, Some, Ok, Err, codes, List, [], ◌∷◌, ◌++◌, refl, sym, ap, subst, ◌∙◌, append_assoc, arith}
 use Rattle.std.specs.Prelude.{◌⊎◌, IsTrue, nat_lt, Result, IfOk, OnErr, IsErrAnd}
 use Rattle.std.proofs.lemmas.List.{append-nil}
 use Rattle.std.specs.List.{list_all}
@@ -9,7 +9,7 @@ use Rattle.jv_pool.specs.declared.constant.Constant.TheVariants.{Utf8, Class, Na
 use Rattle.jv_pool.specs.Constants.{Entry, pool_count, at_index, constant_fits, pool_fits}
 use Rattle.jv_class_parts.specs.Structure.{ClassStructure}
 use Rattle.jv_asm_builder.specs.Added.{IsIndexOf, IsNew, IsAdded, IsNamedAdded, AreClassesAdded, AreTextsAdded, IsNameAndTypeAdded, IsMemberNamed, IsMemberAdded, HasRoom, HasRoomForTwo, IsGrownPool}
-use Rattle.jv_asm_builder.specs.Built.{with_pool, IsGrown}
+use Rattle.jv_asm_builder.specs.Built.{with_pool, IsGrown, HasStackMapRoom}
 use Rattle.jv_asm_builder.proofs.Pooled.{count_more}
 
 -- ---- growth
@@ -108,6 +108,12 @@ member_none_last k old c s t mid i j named none (new, index, h, fits) =
       fits,
     )
 
+pub named_none_last : (k : ℕ → Entry) (old : List Entry) (t : List ℕ) (mid : List Entry) (i : ℕ) → IsAdded old (Utf8 t) mid i
+    → (HasRoom (IsAdded mid (k i)) → ⊥) → HasRoom (IsNamedAdded k old t) → ⊥
+named_none_last k old t mid i named none (new, index, h, fits) =
+    let same = added_once old (Utf8 t) h.between mid h.name_index i h.name_added named in
+    none (new, index, subst (λ x. IsAdded mid (k x) new index) same.1 (subst (λ p. IsAdded p (k h.name_index) new index) same.0 h.added), fits)
+
 pub named_none_first : (k : ℕ → Entry) (old : List Entry) (t : List ℕ) → (HasRoom (IsAdded old (Utf8 t)) → ⊥) → HasRoom (IsNamedAdded k old t) → ⊥
 named_none_first k old t none (new, index, h, fits) = none (h.between, h.name_index, h.name_added, added_fits h.between (k h.name_index) new index h.added fits)
 
@@ -168,3 +174,7 @@ member_ok (Err e) k old c s t mid new i j named h = tt
 pub types_none_first : (old : List Entry) (s t : List ℕ) → (HasRoomForTwo (AreTextsAdded old s t) → ⊥) → HasRoom (IsNameAndTypeAdded old s t) → ⊥
 types_none_first old s t none (new, index, h, fits) =
     none (h.between, h.name_index, h.descriptor_index, h.texts_added, added_fits h.between (NameAndType h.name_index h.descriptor_index) new index h.added fits)
+
+-- no room for a StackMapTable where there is none for its name
+pub stack_map_none : (old : List Entry) (contents : List ℕ) → (HasRoom (IsAdded old (Utf8 (codes "StackMapTable"))) → ⊥) → HasStackMapRoom old (Some contents) → ⊥
+stack_map_none old contents none room = none (room.0, room.2.0, room.2.1, room.3)

@@ -1,4 +1,5 @@
-use Rattle.std.proofs.Common.{◌+◌, map, drop, sym, ap, ◌∙◌}
+use Rattle.std.proofs.lemmas.Grind.{common_steps}
+use Rattle.std.proofs.Common.{◌+◌, map, drop, sym, ap, ◌∙◌, arith}
 use Rattle.jv_asm_builder.specs.Inside.Behind.{frame_behind, frames_behind}
 use Rattle.jv_asm_builder.specs.Inside.Kept.{frame_kept}
 use Rattle.jv_asm_builder.proofs.Answers.{fault_answer}
@@ -20,3 +21,6 @@ loop-frame-preserved c =
     ∙ frame_next frame_kept c.args.frames.now c.loop-frame.frame-index c.frame-item.result c.loop-frame-test.true c.frame-item.is c.loop-frame.out.items c.loop-frame.base
     c.put_frame.new.out.items (c.in_ok-put_frame.ensures {u = tt})
     ∙ c.loop-frame.invariant
+
+pub returns : goal.returns
+returns c = grind (arith, common_steps)

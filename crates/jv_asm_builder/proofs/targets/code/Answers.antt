@@ -1,4 +1,5 @@
-use Rattle.std.proofs.Common.{map, sym, ◌∙◌}
+use Rattle.std.proofs.lemmas.Grind.{common_steps}
+use Rattle.std.proofs.Common.{map, sym, ◌∙◌, arith}
 use Rattle.jv_asm_builder.specs.Assembly.{code_in}
 use Rattle.jv_asm_builder.specs.Inside.Behind.{step_behind}
 use Rattle.jv_asm_builder.specs.Inside.Kept.{step_kept}
@@ -25,3 +26,6 @@ loop-step-preserved c =
     let next = step_next step_kept c.args.steps.now c.loop-step.step-index c.step-item.result c.loop-step-test.true c.step-item.is c.args.places.now c.loop-step.out.items
     c.put_step.new.out.items (c.in_ok-put_step.ensures {u = tt}) in
     record { bytes = next.0 ∙ c.loop-step.invariant.bytes; size = next.1 ∙ c.loop-step.invariant.size }
+
+pub returns : goal.returns
+returns c = grind (arith, common_steps)

@@ -11,3 +11,6 @@ returns-in_err-index-clause-too_large c = λ e.
 
 pub returns-clause-ok : goal.returns-clause-ok
 returns-clause-ok c = search rules
+
+pub returns-in_err-class-clause-too_large : goal.returns-in_err-class-clause-too_large
+returns-in_err-class-clause-too_large c = search rules

@@ -32,3 +32,6 @@ returns-then-count-gt65535-clause-too_large c = grind (arith, common_steps)
 
 pub add-requires-clause-count : goal.add-requires-clause-count
 add-requires-clause-count c = search rules
+
+pub returns-clause-fits : goal.returns-clause-fits
+returns-clause-fits c = grind (arith, common_steps)
