@@ -8,3 +8,7 @@ use Rattle.jv_asm.specs.declared.fault.AsmFault.TheVariants.{TooLarge, Memory}
 pub is_memory : {T : Type 0} (result : Result T AsmFault) → IsErrAnd result (λ e. e ≡ Memory) → result ≡ Err TooLarge → ⊥
 is_memory (Ok t) h e = h
 is_memory (Err f) h e = absurd cc
+
+-- what was found is no refusal
+pub is_no_fault : {T E : Type 0} (x : T) (fault : E) → Ok x ≡ Err fault → ⊥
+is_no_fault x fault e = absurd cc

@@ -108,6 +108,18 @@ member_none_last k old c s t mid i j named none (new, index, h, fits) =
       fits,
     )
 
+pub types_none_last : (old : List Entry) (s t : List ℕ) (mid : List Entry) (i j : ℕ) → AreTextsAdded old s t mid i j
+    → (HasRoom (IsAdded mid (NameAndType i j)) → ⊥) → HasRoom (IsNameAndTypeAdded old s t) → ⊥
+types_none_last old s t mid i j named none (new, index, h, fits) =
+    let same = texts_once old s t h.between mid h.name_index h.descriptor_index i j h.texts_added named in
+    none (
+      new,
+      index,
+      subst (λ x. IsAdded mid (NameAndType i x) new index) same.2 (subst (λ x. IsAdded mid (NameAndType x h.descriptor_index) new index) same.1
+          (subst (λ p. IsAdded p (NameAndType h.name_index h.descriptor_index) new index) same.0 h.added)),
+      fits,
+    )
+
 pub named_none_last : (k : ℕ → Entry) (old : List Entry) (t : List ℕ) (mid : List Entry) (i : ℕ) → IsAdded old (Utf8 t) mid i
     → (HasRoom (IsAdded mid (k i)) → ⊥) → HasRoom (IsNamedAdded k old t) → ⊥
 named_none_last k old t mid i named none (new, index, h, fits) =
@@ -178,3 +190,8 @@ types_none_first old s t none (new, index, h, fits) =
 -- no room for a StackMapTable where there is none for its name
 pub stack_map_none : (old : List Entry) (contents : List ℕ) → (HasRoom (IsAdded old (Utf8 (codes "StackMapTable"))) → ⊥) → HasStackMapRoom old (Some contents) → ⊥
 stack_map_none old contents none room = none (room.0, room.2.0, room.2.1, room.3)
+
+pub types_ok : {E : Type 0} (result : Result ℕ E) (old : List Entry) (s t : List ℕ) (mid new : List Entry) (i j : ℕ) → AreTextsAdded old s t mid i j
+    → IfOk result (λ index. IsAdded mid (NameAndType i j) new index) → IfOk result (λ index. IsNameAndTypeAdded old s t new index)
+types_ok (Ok index) old s t mid new i j named added = record { between = mid; name_index = i; descriptor_index = j; texts_added = named; added = added }
+types_ok (Err fault) old s t mid new i j named added = tt

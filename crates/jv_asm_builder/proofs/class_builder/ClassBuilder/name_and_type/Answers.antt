@@ -1,6 +1,6 @@
-use Rattle.std.proofs.Common.{ap, Err, rules}
+use Rattle.std.proofs.Common.{ap, Err}
 use Rattle.jv_asm.specs.declared.fault.AsmFault.TheVariants.{TooLarge}
-use Rattle.jv_asm_builder.proofs.Joined.{grown_both, types_none_first, same_error}
+use Rattle.jv_asm_builder.proofs.Joined.{grown_both, types_none_first, types_none_last, types_ok, same_error}
 use Rattle.jv_asm_builder.proofs.class_builder.ClassBuilder.name_and_type.Goals as goal
 
 pub returns-clause-grown : goal.returns-clause-grown
@@ -12,7 +12,11 @@ returns-in_err-name-clause-too_large c = λ e.
     ((c.in_err-name.ensures {u = tt}).too_large (ap (λ f. Err f) (same_error c.from_residual.result c.in_err-name.field-0.0 TooLarge c.from_residual.ensures.1 e)))
 
 pub returns-clause-ok : goal.returns-clause-ok
-returns-clause-ok c = search rules
+returns-clause-ok c =
+    types_ok c.constant.result c.args.self.now.constant_pool c.args.name.now c.args.descriptor.now c.texts.new.self.constant_pool c.constant.new.self.constant_pool c.in_ok-name.name
+    c.in_ok-name.descriptor (c.in_ok-name.ensures {u = tt}).ok c.constant.ensures.ok
 
 pub returns-clause-too_large : goal.returns-clause-too_large
-returns-clause-too_large c = search rules
+returns-clause-too_large c = λ e.
+    types_none_last c.args.self.now.constant_pool c.args.name.now c.args.descriptor.now c.texts.new.self.constant_pool c.in_ok-name.name c.in_ok-name.descriptor
+    (c.in_ok-name.ensures {u = tt}).ok (c.constant.ensures.too_large.0 e)

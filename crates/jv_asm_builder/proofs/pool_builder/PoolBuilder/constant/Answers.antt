@@ -4,7 +4,7 @@ use Rattle.std.specs.Prelude.{IsTrue, map}
 use Rattle.jv_pool.specs.Constants.{constant_fits}
 use Rattle.jv_pool.specs.Seen.{seen}
 use Rattle.jv_asm_builder.specs.Inside.Pooled.{IsIndexFound}
-use Rattle.jv_asm_builder.proofs.Faults.{is_memory}
+use Rattle.jv_asm_builder.proofs.Faults.{is_memory, is_no_fault}
 use Rattle.jv_asm_builder.proofs.Pooled.{added_at, room_at}
 use Rattle.jv_asm_builder.proofs.pool_builder.PoolBuilder.constant.Goals as goal
 
@@ -25,7 +25,7 @@ returns-clause-too_large c =
     let new = subst (IsIndexFound c.args.self.now (seen c.args.constant)) c.in_default.is c.found.ensures in
     let right : IsTrue (constant_fits (seen c.args.constant)) = sym c.constant_fits.ensures ∙ c.if-not-constant_fits.false in
     let room = room_at (map seen c.self.inside.constants.items) c.args.self.now (seen c.args.constant) c.self.inside.indices c.self.inside.count c.self.view_is c.self.invariant new right (omega arith) in
-    (λ e. absurd cc, λ none. absurd (none room))
+    (λ e. absurd (is_no_fault _ _ e), λ none. absurd (none room))
 
 pub returns-then-count-gt65535-clause-too_large : goal.returns-then-count-gt65535-clause-too_large
 returns-then-count-gt65535-clause-too_large c = grind (arith, common_steps)
