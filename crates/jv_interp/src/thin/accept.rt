@@ -162,10 +162,8 @@ fn is_main_line(pool: &Pool<'_>, method: Method<'_>) -> bool
 fn has_main_line(class: &ClassFile<'_>) -> bool
     ensures { IsTrue result ↔ HasMainLine class.now }
 {
-    match class.methods() {
-        [method] => is_main_line(class.pool(), *method),
-        _ => false,
-    }
+    let methods = class.methods();
+    methods.len() == 1 && is_main_line(class.pool(), methods[0])
 }
 
 fn has_object_above(class: &ClassFile<'_>) -> bool

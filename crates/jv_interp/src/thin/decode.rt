@@ -61,6 +61,8 @@ pub(crate) fn insn_at(code: &[u8], offset: usize) -> Option<(ThinInsn, usize)>
     if offset > code.len() {
         return None;
     }
-    let (insn, size) = first_insn(&code[offset..])?;
+    let Some((insn, size)) = first_insn(&code[offset..]) else {
+        return None;
+    };
     Some((insn, offset + size))
 }

@@ -75,25 +75,31 @@ pub(crate) fn change_of(pool: &Pool<'_>, insn: ThinInsn, stack: &[u32]) -> Optio
 {
     match insn {
         ThinInsn::Constant(value) => Some(Change::Replace(0, value.cast_unsigned())),
-        ThinInsn::Pop => {
-            let (_top, _below) = top_of(stack)?;
-            Some(Change::Discard)
-        }
-        ThinInsn::Negate => {
-            let (top, _below) = top_of(stack)?;
-            Some(Change::Replace(1, negate(top)))
-        }
+        ThinInsn::Pop => match top_of(stack) {
+            Some(_) => Some(Change::Discard),
+            None => None,
+        },
+        ThinInsn::Negate => match top_of(stack) {
+            Some((top, _below)) => Some(Change::Replace(1, negate(top))),
+            None => None,
+        },
         ThinInsn::Binary(operator) => {
-            let (second, below) = top_of(stack)?;
-            let (first, _below) = top_of(below)?;
+            let Some((second, below)) = top_of(stack) else {
+                return None;
+            };
+            let Some((first, _below)) = top_of(below) else {
+                return None;
+            };
             Some(Change::Replace(2, compute(operator, first, second)))
         }
         ThinInsn::Invokestatic(index) => {
             if !names_write(pool, index) {
                 return None;
             }
-            let (top, _below) = top_of(stack)?;
-            Some(Change::Write(top))
+            match top_of(stack) {
+                Some((top, _below)) => Some(Change::Write(top)),
+                None => None,
+            }
         }
         ThinInsn::Return => Some(Change::Leave),
     }

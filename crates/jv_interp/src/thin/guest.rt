@@ -84,7 +84,9 @@ fn program_of<'a>(class: ClassFile<'a>, main: &[u8]) -> Option<(ClassFile<'a>, M
     if class.name() != main {
         return None;
     }
-    let code = main_code(class.pool(), class.methods())?;
+    let Some(code) = main_code(class.pool(), class.methods()) else {
+        return None;
+    };
     Some((class, code))
 }
 

@@ -1,3 +1,4 @@
+use Rattle.std.proofs.lemmas.Grind.{common_steps}
 use Rattle.std.proofs.Common.{◌≡◌, ℕ, ◌-◌, List, length, arith, ◌∙◌, ap}
 use Rattle.std.specs.Prelude.{slice_set}
 use Rattle.jv_interp.proofs.Stacks.{replaced}
@@ -10,3 +11,6 @@ returns-clause-ok c =
     let len : c.len.result ≡ length c.args.stack.now.items = c.len.ensures ∙ c.args.stack.now.ok.0 in
     ap (λ (xs : List ℕ). words (slice_set xs top c.args.word)) c.truncate.ensures.items
     ∙ replaced c.args.stack.now.items c.args.taken c.args.word top (ap (λ (n : ℕ). n - c.args.taken) len) (omega (arith, c.if-taken-eq0.false)) c.requires
+
+pub returns-then-taken-eq0-clause-ok : goal.returns-then-taken-eq0-clause-ok
+returns-then-taken-eq0-clause-ok c = grind (arith, common_steps)
