@@ -144,11 +144,9 @@ impl fmt::Display for Report<'_> {
         };
         let output = Output(self.seen.output);
         let end = Ending(self.seen.end);
-        write!(f, "guest 1 {folder}\n")?;
-        write!(f, "{lines}")?;
-        write!(f, "  steps {steps}\n")?;
-        write!(f, "  throws {throws}\n")?;
-        write!(f, "  output {output}\n")?;
-        write!(f, "  end {end}\n")
+        write!(
+            f,
+            "guest 1 {folder}\n{lines}  steps {steps}\n  throws {throws}\n  output {output}\n  end {end}\n"
+        )
     }
 }

@@ -4,6 +4,3 @@ use Rattle.jv_run.proofs.report.ReportDisplay.fmt.Goals as goal
 
 pub returns-clause-writes : goal.returns-clause-writes
 returns-clause-writes g c = grind (arith, common_steps)
-
-pub returns-in_err-write-5-clause-writes : goal.returns-in_err-write-5-clause-writes
-returns-in_err-write-5-clause-writes g c = grind (arith, common_steps)
