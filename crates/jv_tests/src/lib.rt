@@ -8,4 +8,6 @@ mod class;
 #[cfg(test)]
 mod files;
 #[cfg(test)]
+mod pool;
+#[cfg(test)]
 mod thin;
