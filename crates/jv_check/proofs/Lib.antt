@@ -1,4 +1,5 @@
 pub mod Files
 pub mod InLines
+pub mod NotRead
 pub mod Taken
 pub mod Told

@@ -1,4 +1,5 @@
 pub mod Check
 pub mod Inside
 pub mod Limits
+pub mod Named
 pub mod Text

@@ -3,7 +3,9 @@
 
 mod checking;
 mod limits;
+mod named;
 mod report;
 
 pub use checking::check_files;
 pub use limits::first_file_refusal;
+pub use named::check_named;

@@ -3,13 +3,12 @@
 
 ghost use Rattle.jvhost.specs.Stop.{IsStatusOf};
 
-mod check;
 mod command_line;
 mod stop;
 
-use crate::check::check_named;
 use crate::command_line::{Task, task_of, words};
 use crate::stop::Stop;
+use jv_check::check_named;
 use jv_run::{Failure, Outcome, read_folder, run_folder};
 use std::process::ExitCode;
 use std::random::RandomSource;

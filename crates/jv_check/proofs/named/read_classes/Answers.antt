@@ -1,8 +1,8 @@
 use Rattle.std.proofs.Common.{map}
 use Rattle.jv_meaning.specs.Guest.{bytes_of}
-use Rattle.jvhost.specs.Check.{IsOneUnread}
-use Rattle.jvhost.proofs.NotRead.{one_unread, passed_on}
-use Rattle.jvhost.proofs.check.read_classes.Goals as goal
+use Rattle.jv_check.specs.Named.{IsOneUnread}
+use Rattle.jv_check.proofs.NotRead.{one_unread, passed_on}
+use Rattle.jv_check.proofs.named.read_classes.Goals as goal
 
 -- the file of the name at this place was not read
 pub returns-in_err-bytes-clause-err : goal.returns-in_err-bytes-clause-err

@@ -1,11 +1,12 @@
-//! Files that are checked, and not run.
+//! Files that are named, read, and checked.
 ghost use Rattle.std.specs.Prelude.{◌≡◌, IfErr, IfOk, length, map};
 ghost use Rattle.jv_meaning.specs.Guest.{bytes_of};
 ghost use Rattle.jv_check.specs.Check.{IsChecked, IsCheckFailure};
 ghost use Rattle.jv_run.specs.declared.failure.Failure.TheVariants.{HostMemory};
-ghost use Rattle.jvhost.specs.Check.{IsCheckedAs, IsNamedFailure, IsOneUnread, IsReadFailure};
+ghost use Rattle.jv_check.specs.Named.{IsCheckedAs, IsNamedFailure, IsOneUnread, IsReadFailure};
 
-use jv_check::{check_files, first_file_refusal};
+use crate::checking::check_files;
+use crate::limits::first_file_refusal;
 use jv_run::{Failure, Outcome, read_class};
 use std::alloc::{AllocError, Global};
 use std::hash::RandomState;

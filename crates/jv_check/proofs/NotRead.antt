@@ -8,7 +8,7 @@ use Rattle.jv_meaning.specs.Guest.{bytes_of}
 use Rattle.jv_run.specs.declared.failure.Failure.{Failure}
 use Rattle.jv_run.specs.Failure.{IsUnread}
 use Rattle.jv_run.specs.declared.failure.Failure.TheVariants.{Unreadable, Refused, Stuck, HostMemory, SystemBroken, Memory}
-use Rattle.jvhost.specs.Check.{IsOneUnread}
+use Rattle.jv_check.specs.Named.{IsOneUnread}
 
 -- an error that is handed on
 pub passed_on : {T E : Type 0} (result : Result T E) (x : E) (P : E → Type 0) → IsErrAnd result (λ e. e ≡ x) → P x → IfErr result P

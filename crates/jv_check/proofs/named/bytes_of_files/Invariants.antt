@@ -1,6 +1,6 @@
 use Rattle.std.proofs.Common.{◌≡◌, map, take}
 use Rattle.jv_meaning.specs.Guest.{bytes_of}
-use Rattle.jvhost.proofs.check.bytes_of_files.Given as goal
+use Rattle.jv_check.proofs.named.bytes_of_files.Given as goal
 
 abbrev pub invariant-loop-file : goal.invariant-loop-file
 invariant-loop-file l = map bytes_of l.found.items ≡ map (λ file. file.items) (take l.file-index l.files)
