@@ -1,4 +1,4 @@
--- What the program says of the files that the words name.
+-- What is said of files that are read by their names.
 use Rattle.std.specs.Prelude.{◌≡◌, ◌⊎◌, ℕ, ⊤, List, length}
 use Rattle.std.specs.List.{Contains}
 use Rattle.jv_check.specs.Check.{IsChecked, IsCheckFailure}

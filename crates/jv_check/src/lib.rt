@@ -1,4 +1,4 @@
-//! A private part of the program `jvhost`: what `check` says of the files of a guest.
+//! A private part of the program `jvhost`: what `check` says of the files of a guest, and of those of some names.
 #![tactic(auto)]
 
 mod checking;
