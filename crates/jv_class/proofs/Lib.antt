@@ -1,5 +1,6 @@
 pub mod Facts
 pub mod Kept
+pub mod Each
 pub mod ShownOf
 pub mod Keys
 pub mod Whole
