@@ -11,7 +11,7 @@ use Rattle.jv_format.proofs.Laws.{is_some, bind_some, IsFormat, Took, half_is, b
 use Rattle.jv_frames.specs.declared.item.Item.{Item}
 use Rattle.jv_frames.specs.declared.form.Form.TheVariants.{Same, SameItem, SameItemExtended, Chop, SameExtended, Append, Full}
 use Rattle.jv_frames.specs.Bytes.{MapForm, form_bytes, form_fits, item_bytes, item_fits, counted_fits, is_few}
-use Rattle.jv_frames.specs.Inside.Reading.{same_item, same_item_extended, chop, same_extended, append, full, item, so_many_items, counted_items, short_contents, form_contents, form_read, form, forms_of, table}
+use Rattle.jv_frames.specs.Inside.Reading.{same_item, same_item_extended, chop, same_extended, append, full, item, so_many_items, counted_items, short_contents, form_contents, form_read, form, forms_of, counted_forms}
 use Rattle.jv_frames.proofs.Items.{item_is, items_are, counted_is}
 
 -- a test went one way
@@ -168,8 +168,8 @@ form_is = record { takes = form_takes; again = form_again }
 forms_are : (n : ℕ) → IsFormat (forms_of n)
 forms_are n = list_is n form form_is
 
-pub table_is : IsFormat table
-table_is = after_is half length forms_of half_is forms_are (λ n list h. eqb-true _ _ (and_parts _ _ h).0)
+pub counted_forms_is : IsFormat counted_forms
+counted_forms_is = after_is half length forms_of half_is forms_are (λ n list h. eqb-true _ _ (and_parts _ _ h).0)
 
 pub form_read_as : (bytes rest : List ℕ) (tag : ℕ) → byte.read bytes ≡ Some (tag, rest) → form_contents tag rest ≡ form_read bytes
 form_read_as [] rest tag e = absurd cc

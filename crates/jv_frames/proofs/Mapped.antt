@@ -15,7 +15,7 @@ use Rattle.jv_frames.specs.Types.{FrameType}
 use Rattle.jv_frames.specs.Bytes.{MapForm}
 use Rattle.jv_frames.specs.Frames.{MapFrame, PlacedFrame, placed_frame, type_of, is_within, frames_behind, Maps, OneMaps}
 use Rattle.jv_frames.specs.Entries.{ReadFrame, entry_type, frame_placed, frames_placed, HaveWidths, HoldsKnown, HasItsWords}
-use Rattle.jv_frames.specs.Inside.Reading.{table, all_of, whole, whole_table}
+use Rattle.jv_frames.specs.Inside.Reading.{counted_forms, all_of, whole, whole_table}
 use Rattle.jv_frames.specs.Inside.Steps.{Built, entry_of, initial_down, started, all_steps, all_stepped, beside, form_done, ended, table_read}
 use Rattle.jv_frames.proofs.Tables.{IsWholeTable, table_taken, table_again}
 use Rattle.jv_frames.proofs.Naming.{mapped, frames_named}
@@ -54,7 +54,7 @@ whole_as step b None = refl
 whole_as step b (Some p) = whole_by step b p.0 p.1
 
 read_as : (pool : List Entry) (limits : Limits) (b : Built) (bytes : List ℕ) → table_read pool limits b bytes ≡ (whole_table bytes >>= all_steps (form_done pool limits) b)
-read_as pool limits b bytes = whole_as (form_done pool limits) b (table.read bytes)
+read_as pool limits b bytes = whole_as (form_done pool limits) b (counted_forms.read bytes)
 
 -- the frames of entries that forms have behind initial entries
 abbrev entry_frames : List Entry → Limits → List Width → List MapForm → Option (List (MapFrame FrameEntry))

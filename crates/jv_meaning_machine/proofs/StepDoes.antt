@@ -3,7 +3,7 @@ use Rattle.std.proofs.Common.{◌≡◌, ◌+◌, nat_le, Bool, true, false, Lis
 use Rattle.jv_code.specs.Insns.{Instruction}
 use Rattle.jv_meaning_machine.specs.Faults.{OrFault, found, tested, ◌>>=◌}
 use Rattle.jv_meaning_machine.specs.Faults.Fault.{OffsetFault, StackFault}
-use Rattle.jv_meaning_machine.specs.Values.{words}
+use Rattle.jv_meaning_machine.specs.Values.{words_of_values}
 use Rattle.jv_meaning_machine.specs.Frames.{Frame}
 use Rattle.jv_meaning_machine.specs.Frames.Frame.{Runs}
 use Rattle.jv_meaning_machine.specs.State.{Memory, state_of, with_frames}
@@ -28,15 +28,15 @@ step_acts program s memory effect h =
 
 pub step_goes_on : StepGoesOn
 step_goes_on program s next memory offset locals stack h e =
-    by_test (nat_le (words stack) h.frame.method.code.max_stack) refl (sym (step_acts program s memory (Goes offset locals stack) h) ∙ e)
+    by_test (nat_le (words_of_values stack) h.frame.method.code.max_stack) refl (sym (step_acts program s memory (Goes offset locals stack) h) ∙ e)
   where
     by_test :
-        (test : Bool) → nat_le (words stack) h.frame.method.code.max_stack ≡ test
+        (test : Bool) → nat_le (words_of_values stack) h.frame.method.code.max_stack ≡ test
         → (tested StackFault test h.frame
         >>= (λ frame. Ok (record frame { offset = offset; locals = locals; stack = stack }))
         >>= (λ frame. Ok (state_of memory (with_frames s.control (Runs frame ∷ h.below)))))
         ≡ Ok next
-        → (nat_le (words stack) h.frame.method.code.max_stack ≡ true)
+        → (nat_le (words_of_values stack) h.frame.method.code.max_stack ≡ true)
         × (next ≡ state_of memory (with_frames s.control (Runs (record h.frame { offset = offset; locals = locals; stack = stack }) ∷ h.below)))
     by_test true f k = (f, cc)
     by_test false f k = absurd cc

@@ -6,7 +6,7 @@ use Rattle.jv_loader_world.specs.Overriding.{Declared}
 use Rattle.jv_meaning_typing.specs.Environment.{Environment, instruction_at, offset_behind}
 use Rattle.jv_meaning_machine.specs.Faults.{OrFault, found, tested, ◌>>=◌}
 use Rattle.jv_meaning_machine.specs.Faults.Fault.{OffsetFault, StackFault}
-use Rattle.jv_meaning_machine.specs.Values.{Value, words}
+use Rattle.jv_meaning_machine.specs.Values.{Value, words_of_values}
 use Rattle.jv_meaning_machine.specs.Values.Value.{Reference}
 use Rattle.jv_meaning_machine.specs.Frames.{local_words, filled, MethodFrame, Frame}
 use Rattle.jv_meaning_machine.specs.Frames.Frame.{Runs, Initializes}
@@ -52,7 +52,7 @@ enter program before after control d receiver arguments =
 -- a frame goes on at an offset, with a stack within max_stack
 abbrev pub at_offset : MethodFrame → ℕ → List Value → List Value → OrFault MethodFrame
 at_offset frame offset locals stack =
-    tested StackFault (nat_le (words stack) frame.method.code.max_stack) frame >>= λ frame.
+    tested StackFault (nat_le (words_of_values stack) frame.method.code.max_stack) frame >>= λ frame.
     Ok (record frame { offset = offset; locals = locals; stack = stack })
 
 -- the caller goes on behind its call, with the result, if there is one

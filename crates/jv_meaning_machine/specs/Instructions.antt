@@ -31,7 +31,7 @@ use Rattle.jv_meaning_typing.specs.StackForms.{taken_words, passed_words, rearra
 use Rattle.jv_meaning_typing.specs.ValueRules.{value_kind}
 use Rattle.jv_meaning_machine.specs.Faults.{OrFault, found, tested, ◌>>=◌}
 use Rattle.jv_meaning_machine.specs.Faults.Fault.{OffsetFault, StackFault, LocalFault, TagFault, ReferenceFault, ReturnFault}
-use Rattle.jv_meaning_machine.specs.Values.{Value, value_width, words, has_kind}
+use Rattle.jv_meaning_machine.specs.Values.{Value, value_width, words_of_values, has_kind}
 use Rattle.jv_meaning_machine.specs.Values.Value.{Int, Null, Reference}
 use Rattle.jv_meaning_machine.specs.Objects.{new_object, is_instance_of}
 use Rattle.jv_meaning_machine.specs.Frames.{local_words, local_at, stored}
@@ -126,7 +126,7 @@ increment m index by =
 
 -- the words that a form takes and passes are there
 abbrev pub has_words : StackForm → List Value → Bool
-has_words form stack = nat_le (taken_words form + passed_words form) (words stack)
+has_words form stack = nat_le (taken_words form + passed_words form) (words_of_values stack)
 
 abbrev pub move_words : Moment → StackForm → Done
 move_words m form =

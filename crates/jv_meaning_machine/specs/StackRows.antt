@@ -181,8 +181,8 @@ pub record BranchRows : Type 0 where
 -- ---- switches
 
 -- from -1 to 1, with a distance of its own for each, and 100 for the others
-abbrev pub table : Value → OrFault Effect
-table number =
+abbrev pub table_switched : Value → OrFault Effect
+table_switched number =
     effect (on_stack (a ∷ number ∷ []))
     (insns.TableSwitch (0 ∷ 0 ∷ 0 ∷ []) (pos 100) (negsuc 0) (pos 1)
     (flat_map signed32.spelling (pos 40 ∷ pos 50 ∷ negsuc 9 ∷ [])))
@@ -205,12 +205,12 @@ abbrev pub at : ℕ → OrFault Effect
 at offset = Ok (Goes offset [] (a ∷ []))
 
 pub record SwitchRows : Type 0 where
-  pub below : table (int_minus 2) ≡ at 120
-  pub lowest : table (int_minus 1) ≡ at 60
-  pub within : table (int 0) ≡ at 70
-  pub highest : table (int 1) ≡ at 10
-  pub above : table (int 2) ≡ at 120
-  pub least : table (int_minus 2147483648) ≡ at 120
+  pub below : table_switched (int_minus 2) ≡ at 120
+  pub lowest : table_switched (int_minus 1) ≡ at 60
+  pub within : table_switched (int 0) ≡ at 70
+  pub highest : table_switched (int 1) ≡ at 10
+  pub above : table_switched (int 2) ≡ at 120
+  pub least : table_switched (int_minus 2147483648) ≡ at 120
   pub greatest : greatest_alone (int 2147483647) ≡ at 60
   pub not_greatest : greatest_alone (int_minus 2147483648) ≡ at 120
   pub first_key : look_up (int_minus 7) ≡ at 60

@@ -2,7 +2,7 @@
 use Rattle.std.specs.Prelude.{◌≡◌, ℕ, true, List, ◌∷◌, Some, Ok, nat_le}
 use Rattle.jv_code.specs.Insns.{Instruction}
 use Rattle.jv_meaning_typing.specs.Environment.{instruction_at}
-use Rattle.jv_meaning_machine.specs.Values.{Value, words}
+use Rattle.jv_meaning_machine.specs.Values.{Value, words_of_values}
 use Rattle.jv_meaning_machine.specs.Frames.{MethodFrame, Frame}
 use Rattle.jv_meaning_machine.specs.Frames.Frame.{Runs}
 use Rattle.jv_meaning_machine.specs.State.{Program, Memory, State, state_of, with_frames}
@@ -33,7 +33,7 @@ abbrev pub StepGoesOn : Type 0
 StepGoesOn =
     (program : Program) (s next : State) (memory : Memory) (offset : ℕ) (locals stack : List Value)
     → (h : Executes program s memory (Goes offset locals stack)) → step program s ≡ Ok next
-    → (nat_le (words stack) h.frame.method.code.max_stack ≡ true)
+    → (nat_le (words_of_values stack) h.frame.method.code.max_stack ≡ true)
     × (next ≡ state_of memory (with_frames s.control (Runs (record h.frame { offset = offset; locals = locals; stack = stack }) ∷ h.below)))
 
 -- Whatever the effect is, what `Keeps` names stays from that memory to the next state's: output, shapes and budgets, not values.

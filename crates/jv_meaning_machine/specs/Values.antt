@@ -43,8 +43,8 @@ abbrev pub value_words : Value → ℕ
 value_words (Long value) = 2
 value_words _ = 1
 
-abbrev pub words : List Value → ℕ
-words values = sum_by value_words values
+abbrev pub words_of_values : List Value → ℕ
+words_of_values values = sum_by value_words values
 
 -- ---- kinds
 

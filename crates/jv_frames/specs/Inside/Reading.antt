@@ -104,8 +104,8 @@ abbrev pub forms_of : ℕ → Format (List MapForm)
 forms_of count = list_of count form
 
 -- the frames behind their number
-abbrev pub table : Format (List MapForm)
-table = after half length forms_of
+abbrev pub counted_forms : Format (List MapForm)
+counted_forms = after half length forms_of
 
 -- frames that nothing follows
 abbrev pub all_of : List MapForm → List ℕ → Option (List MapForm)
@@ -117,7 +117,7 @@ whole p = all_of p.0 p.1
 
 -- the frames of a whole table
 abbrev pub whole_table : List ℕ → Option (List MapForm)
-whole_table bytes = table.read bytes >>= whole
+whole_table bytes = counted_forms.read bytes >>= whole
 
 -- ---- what functions give
 

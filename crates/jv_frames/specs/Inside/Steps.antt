@@ -12,7 +12,7 @@ use Rattle.jv_frames.specs.declared.entry.FrameEntry.TheVariants as entries
 use Rattle.jv_frames.specs.Bytes.{MapForm}
 use Rattle.jv_frames.specs.Frames.{delta_of}
 use Rattle.jv_frames.specs.Entries.{ReadFrame, words_in}
-use Rattle.jv_frames.specs.Inside.Reading.{item, so_many_items, counted_items, short_contents, append_contents, full_contents, form_contents, form, forms_of, table}
+use Rattle.jv_frames.specs.Inside.Reading.{item, so_many_items, counted_items, short_contents, append_contents, full_contents, form_contents, form, forms_of, counted_forms}
 
 -- ---- entries of items
 
@@ -183,4 +183,4 @@ ended x = ended_by x.0 x.1
 
 -- a whole table
 abbrev pub table_read : List Entry → Limits → Built → List ℕ → Option Built
-table_read pool limits b bytes = table.read bytes >>= all_stepped (form_done pool limits) b >>= ended
+table_read pool limits b bytes = counted_forms.read bytes >>= all_stepped (form_done pool limits) b >>= ended

@@ -9,12 +9,12 @@ use Rattle.jv_meaning.specs.Thin.Machine.Activity.{Initialization, Method, Retur
 use Rattle.jv_interp.specs.declared.thin.machine.Machine.{Machine}
 use Rattle.jv_interp.specs.declared.thin.machine.Stage.{Stage}
 use Rattle.jv_interp.specs.declared.thin.machine.Stage.TheVariants as stages
-use Rattle.jv_interp.specs.Inside.Words.{words}
+use Rattle.jv_interp.specs.Inside.Words.{words_from_top}
 
 -- The locals are not kept: no instruction of the thin machine looks at one.
 abbrev pub activity_of : List Word → List ℕ → Stage → Activity
 activity_of locals stack stages.Initialization = Initialization
-activity_of locals stack (stages.Method offset) = Method offset locals (words stack)
+activity_of locals stack (stages.Method offset) = Method offset locals (words_from_top stack)
 activity_of locals stack stages.Returned = Returned
 activity_of locals stack (stages.Threw class) = Threw class.now
 activity_of locals stack stages.NoMain = NoMain

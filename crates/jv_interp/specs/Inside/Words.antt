@@ -12,8 +12,8 @@ abbrev pub int_of : ℕ → Word
 int_of word = Int (cast_signed w32 word)
 
 -- the stack of the code, whose top is last
-abbrev pub words : List ℕ → List Word
-words items = map int_of (reverse items)
+abbrev pub words_from_top : List ℕ → List Word
+words_from_top items = map int_of (reverse items)
 
 -- the effect that a change of the stack stands for
 abbrev pub effect_of : List Word → Change → Effect

@@ -5,7 +5,7 @@ ghost use Rattle.std.specs.Int.{w32, cast_signed, cast_unsigned, int_wrapping_ne
 ghost use Rattle.jv_meaning.specs.Thin.Machine.{compute, execute, names_write};
 ghost use Rattle.jv_pool.specs.Constants.{method_reference_at};
 ghost use Rattle.jv_pool.specs.Seen.{seen_member};
-ghost use Rattle.jv_interp.specs.Inside.Words.{words, effect_of, taken_by};
+ghost use Rattle.jv_interp.specs.Inside.Words.{words_from_top, effect_of, taken_by};
 
 use crate::thin::stack::top_of;
 use jv_meaning::thin::{Operator, ThinInsn};
@@ -69,9 +69,9 @@ pub(crate) fn names_write(pool: &Pool<'_>, index: u16) -> bool
 /// What an instruction does to a stack, or `None` where it doesn't fit the stack or its constant is
 /// of another kind.
 pub(crate) fn change_of(pool: &Pool<'_>, insn: ThinInsn, stack: &[u32]) -> Option<Change>
-    ensures some { IfSome result (λ c. execute pool.now insn (words stack.now) ≡ Ok (effect_of (words stack.now) c)) }
+    ensures some { IfSome result (λ c. execute pool.now insn (words_from_top stack.now) ≡ Ok (effect_of (words_from_top stack.now) c)) }
     ensures taken { IfSome result (λ c. taken_by c ≤ length stack.now) }
-    ensures none { IfNone result (IsErr (execute pool.now insn (words stack.now))) }
+    ensures none { IfNone result (IsErr (execute pool.now insn (words_from_top stack.now))) }
 {
     match insn {
         ThinInsn::Constant(value) => Some(Change::Replace(0, value.cast_unsigned())),
