@@ -45,10 +45,10 @@ impl fmt::Display for Failure {
                 write!(f, "jvhost: {name}: cannot be read\n")
             }
             Failure::Refused(fault) => write!(f, "jvhost: {fault}\n"),
-            Failure::Stuck => write!(f, "jvhost: Stuck\n"),
-            Failure::HostMemory => write!(f, "jvhost: HostMemory\n"),
-            Failure::SystemBroken => write!(f, "jvhost: SystemBroken\n"),
-            Failure::Memory => write!(f, "jvhost: Memory\n"),
+            Failure::Stuck => f.write_str("jvhost: Stuck\n"),
+            Failure::HostMemory => f.write_str("jvhost: HostMemory\n"),
+            Failure::SystemBroken => f.write_str("jvhost: SystemBroken\n"),
+            Failure::Memory => f.write_str("jvhost: Memory\n"),
         }
     }
 }

@@ -105,7 +105,7 @@ impl fmt::Display for Output<'_> {
         let bytes = self.0;
         let len = bytes.len();
         if len == 0 {
-            return write!(f, "0:");
+            return f.write_str("0:");
         }
         let bytes = Escaped(bytes);
         write!(f, "{len}: {bytes}")
@@ -117,13 +117,13 @@ impl fmt::Display for Ending<'_> {
 
     fn fmt<W: fmt::Write>(&self, f: &mut fmt::Formatter<W>) -> fmt::Result {
         match self.0 {
-            End::Running => write!(f, "Running"),
-            End::Returned => write!(f, "Returned"),
+            End::Running => f.write_str("Running"),
+            End::Returned => f.write_str("Returned"),
             End::Threw(name) => {
                 let name = Escaped(name);
                 write!(f, "Threw {name}")
             }
-            End::NoMain => write!(f, "NoMain"),
+            End::NoMain => f.write_str("NoMain"),
         }
     }
 }
