@@ -4,24 +4,17 @@ ghost use Rattle.std.specs.Prelude.{◌≡◌};
 ghost use Rattle.jv_asm.specs.declared.fault.AsmFault.TheVariants.{Memory};
 
 use std::alloc::{AllocError, AllocFailed};
-use std::fmt;
+use thiserror::Error;
 
 /// Why nothing was written, the first that applies.
-#[derive(Clone, Copy, Debug)]
+#[derive(Clone, Copy, Debug, Error)]
 pub enum AsmFault {
     /// A count or a length does not fit its field.
+    #[error("too large")]
     TooLarge,
     /// The host's memory was refused.
+    #[error("out of memory")]
     Memory,
-}
-
-impl fmt::Display for AsmFault {
-    fn fmt<W: fmt::Write>(&self, f: &mut fmt::Formatter<W>) -> fmt::Result {
-        f.write_str(match self {
-            AsmFault::TooLarge => "too large",
-            AsmFault::Memory => "out of memory",
-        })
-    }
 }
 
 impl From<AllocError> for AsmFault {

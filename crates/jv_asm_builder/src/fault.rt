@@ -6,30 +6,23 @@ ghost use Rattle.jv_asm_builder.specs.Faults.{fault_of};
 
 use jv_asm::AsmFault;
 use std::alloc::{AllocError, AllocFailed};
-use std::fmt;
+use thiserror::Error;
 
 /// Why code was not assembled, the first that applies.
-#[derive(Clone, Copy, Debug)]
+#[derive(Clone, Copy, Debug, Error)]
 pub enum BuilderFault {
     /// An instruction or a handler has a label that was not placed.
+    #[error("a label was not placed")]
     Unplaced,
     /// The distance of a branch, a count or a length does not fit its field.
+    #[error("too large")]
     TooLarge,
     /// A frame stands where another one does.
+    #[error("two frames at one place")]
     TwoFrames,
     /// The host's memory was refused.
+    #[error("out of memory")]
     Memory,
-}
-
-impl fmt::Display for BuilderFault {
-    fn fmt<W: fmt::Write>(&self, f: &mut fmt::Formatter<W>) -> fmt::Result {
-        f.write_str(match self {
-            BuilderFault::Unplaced => "a label was not placed",
-            BuilderFault::TooLarge => "too large",
-            BuilderFault::TwoFrames => "two frames at one place",
-            BuilderFault::Memory => "out of memory",
-        })
-    }
 }
 
 impl From<AsmFault> for BuilderFault {

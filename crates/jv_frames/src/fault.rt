@@ -4,24 +4,17 @@ ghost use Rattle.std.specs.Prelude.{◌≡◌};
 ghost use Rattle.jv_frames.specs.declared.fault.FrameFault.TheVariants.{Memory};
 
 use std::alloc::{AllocError, AllocFailed};
-use std::fmt;
+use thiserror::Error;
 
 /// Why there are no frames.
-#[derive(Clone, Copy, Debug)]
+#[derive(Clone, Copy, Debug, Error)]
 pub enum FrameFault {
     /// The bytes have no frames within the limits.
+    #[error("no stack map frames")]
     BadFrames,
     /// The host had no memory for the frames.
+    #[error("out of memory")]
     Memory,
-}
-
-impl fmt::Display for FrameFault {
-    fn fmt<W: fmt::Write>(&self, f: &mut fmt::Formatter<W>) -> fmt::Result {
-        f.write_str(match self {
-            FrameFault::BadFrames => "no stack map frames",
-            FrameFault::Memory => "out of memory",
-        })
-    }
 }
 
 impl<T: Drop> From<AllocFailed<T>> for FrameFault {

@@ -3,7 +3,7 @@
 ghost use Rattle.std.specs.Prelude.{◌≡◌};
 
 use std::alloc::{AllocError, AllocFailed};
-use std::fmt;
+use thiserror::Error;
 
 /// A primitive type.
 #[derive(Clone, Copy, PartialEq, Eq)]
@@ -77,31 +77,19 @@ pub struct MethodShape<'a> {
 }
 
 /// The bytes are no descriptor of the kind that was asked for.
-#[derive(Clone, Copy, Debug)]
+#[derive(Clone, Copy, Debug, Error)]
+#[error("no descriptor")]
 pub struct BadDescriptor;
 
-impl fmt::Display for BadDescriptor {
-    fn fmt<W: fmt::Write>(&self, f: &mut fmt::Formatter<W>) -> fmt::Result {
-        f.write_str("no descriptor")
-    }
-}
-
 /// Why there is no method type.
-#[derive(Clone, Copy, Debug)]
+#[derive(Clone, Copy, Debug, Error)]
 pub enum DescFault {
     /// The bytes are no method descriptor.
+    #[error("no method descriptor")]
     BadDescriptor,
     /// No memory was left for the parameters.
+    #[error("out of memory")]
     Memory,
-}
-
-impl fmt::Display for DescFault {
-    fn fmt<W: fmt::Write>(&self, f: &mut fmt::Formatter<W>) -> fmt::Result {
-        f.write_str(match self {
-            DescFault::BadDescriptor => "no method descriptor",
-            DescFault::Memory => "out of memory",
-        })
-    }
 }
 
 impl<T: Drop> From<AllocFailed<T>> for DescFault {

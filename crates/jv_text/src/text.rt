@@ -5,24 +5,17 @@ ghost use Rattle.jv_text.specs.Text.{unit_bytes, Spells, IsText};
 ghost use Rattle.jv_text.specs.declared.text.TextFault.TheVariants.{Memory, BadText};
 
 use std::alloc::{AllocFailed, Global};
-use std::fmt;
+use thiserror::Error;
 
 /// Why there are no units.
-#[derive(Clone, Copy, Debug)]
+#[derive(Clone, Copy, Debug, Error)]
 pub enum TextFault {
     /// The bytes spell no units.
+    #[error("no text")]
     BadText,
     /// No memory was left for the units.
+    #[error("out of memory")]
     Memory,
-}
-
-impl fmt::Display for TextFault {
-    fn fmt<W: fmt::Write>(&self, f: &mut fmt::Formatter<W>) -> fmt::Result {
-        f.write_str(match self {
-            TextFault::BadText => "no text",
-            TextFault::Memory => "out of memory",
-        })
-    }
 }
 
 impl<T: Drop> From<AllocFailed<T>> for TextFault {

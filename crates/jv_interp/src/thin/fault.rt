@@ -4,24 +4,17 @@ ghost use Rattle.std.specs.Prelude.{◌≡◌};
 ghost use Rattle.jv_interp.specs.declared.thin.fault.StepFault.TheVariants.{HostMemory};
 
 use std::alloc::AllocFailed;
-use std::fmt;
+use thiserror::Error;
 
 /// Why a step was not taken.
-#[derive(Clone, Copy)]
+#[derive(Clone, Copy, Debug, Error)]
 pub enum StepFault {
     /// The defensive machine meets a fault.
+    #[error("stuck")]
     Stuck,
     /// The host's memory was refused.
+    #[error("out of memory")]
     HostMemory,
-}
-
-impl fmt::Display for StepFault {
-    fn fmt<W: fmt::Write>(&self, f: &mut fmt::Formatter<W>) -> fmt::Result {
-        f.write_str(match self {
-            StepFault::Stuck => "stuck",
-            StepFault::HostMemory => "out of memory",
-        })
-    }
 }
 
 impl<T: Drop> From<AllocFailed<T>> for StepFault {
