@@ -105,6 +105,22 @@ impl Part for MethodAttributeDescription<'_> {
     }
 }
 
+/// A field or a method: its flags, its name and its descriptor, and its attributes.
+fn put_member<A: Part>(
+    out: &mut Vec<u8>,
+    access_flags: u16,
+    name_index: u16,
+    descriptor_index: u16,
+    attributes: &[A],
+) -> Result<(), AllocError>
+    requires { IsTrue (table_fits A.fits (map A.view attributes.now)) }
+    ensures { OnOk result (out.new.items ≡ out.old.items
+        ++ (half.spelling access_flags ++ half.spelling name_index ++ half.spelling descriptor_index ++ table_bytes A.bytes (map A.view attributes.now))) }
+{
+    put_three(out, access_flags, name_index, descriptor_index)?;
+    put_table(out, attributes)
+}
+
 impl Part for FieldDescription<'_> {
     ghost Value = { FieldInfo };
 
@@ -115,13 +131,13 @@ impl Part for FieldDescription<'_> {
     ghost fits = { field_fits };
 
     fn put(&self, out: &mut Vec<u8>) -> Result<(), AllocError> {
-        put_three(
+        put_member(
             out,
             self.access_flags,
             self.name_index,
             self.descriptor_index,
-        )?;
-        put_table(out, self.attributes)
+            self.attributes,
+        )
     }
 
     fn fits_fields(&self) -> bool {
@@ -150,13 +166,13 @@ impl Method for MethodDescription<'_> {
     ghost method = { described_method };
 
     fn put(&self, out: &mut Vec<u8>) -> Result<(), AllocError> {
-        put_three(
+        put_member(
             out,
             self.access_flags,
             self.name_index,
             self.descriptor_index,
-        )?;
-        put_table(out, self.attributes)
+            self.attributes,
+        )
     }
 
     fn fits_fields(&self) -> bool {

@@ -1,6 +1,6 @@
 use Rattle.std.proofs.lemmas.Grind.{common_steps}
 use Rattle.std.proofs.Common.{arith}
-use Rattle.jv_asm.proofs.member.MethodDescriptionMethod.put.Goals as goal
+use Rattle.jv_asm.proofs.member.put_member.Goals as goal
 
 pub returns : goal.returns
 returns c = grind (arith, common_steps)
