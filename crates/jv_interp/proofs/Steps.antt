@@ -1,6 +1,9 @@
 -- A step of the code's machine is a step of the thin machine.
 use Rattle.std.proofs.Common.{◌≡◌, ℕ, ◌+◌, ◌-◌, ◌<◌, List, [], ◌∷◌, drop, Option, Some, None, Result, Ok, Err, sym, ap, ◌∙◌, arith}
+use Rattle.std.specs.Option.{option_map}
 use Rattle.jv_pool.specs.Constants.{Entry}
+use Rattle.jv_class_parts.specs.Structure.{ClassStructure}
+use Rattle.jv_class_parts.specs.declared.member.MethodCode.{MethodCode}
 use Rattle.jv_meaning.specs.declared.thin.insn.ThinInsn.{ThinInsn}
 use Rattle.jv_meaning.specs.Thin.Instructions.{first_insn}
 use Rattle.jv_meaning.specs.Thin.Machine.{State, Fault, Program, Effect, ◌>>=◌, insn_or_fault, fetch, execute, thin_act, thin_step, step_at, next}
@@ -10,7 +13,7 @@ use Rattle.jv_interp.specs.declared.thin.machine.Machine.{Machine}
 use Rattle.jv_interp.specs.declared.thin.machine.Stage.TheVariants as stages
 use Rattle.jv_interp.specs.declared.thin.execute.Change.{Change}
 use Rattle.jv_interp.specs.Inside.Words.{words_from_top, effect_of}
-use Rattle.jv_interp.specs.Inside.Machine.{state_of, activity_of, locals_in}
+use Rattle.jv_interp.specs.Inside.Machine.{state_of, activity_of, locals_in, program_with}
 
 abbrev ok_effect : Effect → Result Effect Fault
 ok_effect effect = Ok effect
@@ -62,3 +65,12 @@ module _ (p : Option Program) (q : Program) (is : p ≡ Some q) (m : Machine) wh
       let executes : execute q.constant_pool insn (words_from_top m.stack.items) ≡ Ok (effect_of (words_from_top m.stack.items) change) =
       ap (λ (ps : List Entry). execute ps insn (words_from_top m.stack.items)) (sym pools) ∙ ap (λ (xs : List ℕ). execute pool insn (words_from_top xs)) (sym stacks) ∙ done ∙ ap (λ (xs : List ℕ). ok_effect (effect_of (words_from_top xs) change)) stacks in
       insn_acts raw after insn (effect_of (words_from_top m.stack.items) change) at_raw lt e executes
+
+-- the same, where the program is a class and the code of its main method
+pub program_steps : (program : Option (ClassStructure × MethodCode)) (one : ClassStructure × MethodCode) → program ≡ Some one → (m : Machine)
+    → (raw offset after : ℕ) (insn : ThinInsn) (change : Change) (pool : List Entry) (stack : List ℕ) → raw ≡ offset → m.stage ≡ stages.Method offset → raw < after
+    → first_insn (drop raw (program_with one).code.code) ≡ Some (insn, after - raw) → pool ≡ (program_with one).constant_pool → stack ≡ m.stack.items
+    → execute pool insn (words_from_top stack) ≡ Ok (effect_of (words_from_top stack) change)
+    → next (option_map program_with program) (state_of (locals_in (option_map program_with program)) m)
+      ≡ thin_act (program_with one).code after (locals_in (option_map program_with program)) (state_of (locals_in (option_map program_with program)) m) (effect_of (words_from_top m.stack.items) change)
+program_steps program one is = insn_steps (option_map program_with program) (program_with one) (ap (option_map program_with) is)

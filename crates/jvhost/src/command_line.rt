@@ -2,13 +2,13 @@
 ghost use Rattle.std.specs.Prelude.{◌≡◌, ◌≢◌, IfOk};
 ghost use Rattle.clap.specs.Values.{kind_of};
 ghost use Rattle.jv_run.specs.declared.failure.Failure.TheVariants.{Memory};
-ghost use Rattle.jvhost.specs.Stop.{HasStatus};
-ghost use Rattle.jvhost.specs.declared.stop.Stop.TheVariants.{CommandLine, Run};
+ghost use Rattle.jv_status.specs.Status.{HasStatus};
+ghost use Rattle.jv_status.specs.declared.stop.Stop.TheVariants.{CommandLine, Run};
 
-use crate::stop::Stop;
 use clap::error::ErrorKind;
 use clap::{Arg, ArgMatches, Command};
 use jv_run::Failure;
+use jv_status::Stop;
 use std::alloc::{AllocError, Global};
 use std::rt::Env;
 use std::{env, io};

@@ -1,15 +1,12 @@
 //! Checks class files, or runs those of a folder as one guest, and reports what was found.
 #![tactic(auto)]
 
-ghost use Rattle.jvhost.specs.Stop.{IsStatusOf};
-
 mod command_line;
-mod stop;
 
 use crate::command_line::{Task, task_of, words};
-use crate::stop::Stop;
 use jv_check::check_named;
 use jv_run::{Failure, Outcome, read_folder, run_folder};
+use jv_status::{Stop, status_of};
 use std::process::ExitCode;
 use std::random::RandomSource;
 use std::rt::{Env, Files};
@@ -45,16 +42,6 @@ fn print_end<R: Print + Eprint>(rt: &R, end: &Result<Outcome, Stop>) {
             let _ = rt.print(outcome.report.as_str());
         }
         Err(stop) => print_stop(rt, stop),
-    }
-}
-
-/// The status to end with.
-fn status_of(end: &Result<Outcome, Stop>) -> u8
-    ensures { IsStatusOf end.now result }
-{
-    match end {
-        Ok(outcome) => outcome.status,
-        Err(stop) => stop.status(),
     }
 }
 

@@ -5,8 +5,8 @@ use Rattle.clap.specs.declared.error.kind.ErrorKind.{ErrorKind}
 use Rattle.clap.specs.declared.error.kind.ErrorKind.TheVariants as kinds
 use Rattle.jv_run.specs.Failure.{failure_status}
 use Rattle.jv_run.specs.declared.outcome.Outcome.{Outcome}
-use Rattle.jvhost.specs.declared.stop.Stop.{Stop}
-use Rattle.jvhost.specs.declared.stop.Stop.TheVariants.{CommandLine, Run}
+use Rattle.jv_status.specs.declared.stop.Stop.{Stop}
+use Rattle.jv_status.specs.declared.stop.Stop.TheVariants.{CommandLine, Run}
 
 -- words that ask for help or the version have the status 0, and those of a wrong command line 2
 pub record HasWordStatus (kind : ErrorKind) (status : ℕ) : Type 0 where

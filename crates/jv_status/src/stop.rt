@@ -1,9 +1,10 @@
-//! What ends the program without a report.
+//! How the program ends.
 ghost use Rattle.std.specs.Prelude.{◌≡◌};
+ghost use Rattle.jv_status.specs.Status.{IsStatusOf};
 ghost use Rattle.jv_run.specs.declared.failure.Failure.TheVariants.{Memory};
-ghost use Rattle.jvhost.specs.declared.stop.Stop.TheVariants.{Run};
+ghost use Rattle.jv_status.specs.declared.stop.Stop.TheVariants.{Run};
 
-use jv_run::Failure;
+use jv_run::{Failure, Outcome};
 use std::alloc::AllocError;
 
 /// What ends the program without a report.
@@ -16,7 +17,7 @@ pub enum Stop {
 }
 
 impl Stop {
-    ghost use Rattle.jvhost.specs.Stop.{HasStatus};
+    ghost use Rattle.jv_status.specs.Status.{HasStatus};
 
     /// The status that the program ends with.
     pub fn status(&self) -> u8
@@ -42,5 +43,15 @@ impl From<Failure> for Stop {
 
     fn from(failure: Failure) -> Stop {
         Stop::Run(failure)
+    }
+}
+
+/// The status that the program ends with, where it has a report, or this in its place.
+pub fn status_of(end: &Result<Outcome, Stop>) -> u8
+    ensures { IsStatusOf end.now result }
+{
+    match end {
+        Ok(outcome) => outcome.status,
+        Err(stop) => stop.status(),
     }
 }

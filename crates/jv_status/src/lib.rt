@@ -1,0 +1,7 @@
+//! The status that the program ends with: that of its report, or of what there is in its place. A
+//! private part of the program.
+#![tactic(auto)]
+
+mod stop;
+
+pub use stop::{Stop, status_of};
