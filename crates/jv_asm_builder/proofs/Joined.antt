@@ -8,6 +8,8 @@ use Rattle.std.proofs.lemmas.Bool.{and_parts, and_from, ltb-true, lt-ltb}
 use Rattle.jv_pool.specs.declared.constant.Constant.TheVariants.{Utf8, Class, NameAndType}
 use Rattle.jv_pool.specs.Constants.{Entry, pool_count, at_index, constant_fits, pool_fits}
 use Rattle.jv_class_parts.specs.Structure.{ClassStructure}
+use Rattle.jv_asm.specs.declared.fault.AsmFault.{AsmFault}
+use Rattle.jv_asm.specs.declared.fault.AsmFault.TheVariants.{TooLarge}
 use Rattle.jv_asm_builder.specs.Added.{IsIndexOf, IsNew, IsAdded, IsNamedAdded, AreClassesAdded, AreTextsAdded, IsNameAndTypeAdded, IsMemberNamed, IsMemberAdded, HasRoom, HasRoomForTwo, IsGrownPool}
 use Rattle.jv_asm_builder.specs.Built.{with_pool, IsGrown, HasStackMapRoom}
 use Rattle.jv_asm_builder.proofs.Pooled.{count_more}
@@ -144,10 +146,13 @@ pub pool_grows : {E : Type 0} (result : Result ℕ E) (old : List Entry) (c : En
 pool_grows (Ok index) old c new h e = grown_pool old c new index h
 pool_grows (Err f) old c new h e = ([], e ∙ sym (append-nil old))
 
--- an error that is passed on is the same
-pub same_error : {T E : Type 0} (result : Result T E) (x y : E) → IsErrAnd result (λ e. e ≡ x) → result ≡ Err y → x ≡ y
-same_error (Ok t) x y h e = absurd h
-same_error (Err f) x y h e = sym h ∙ cc
+abbrev refused : {S : Type 0} → AsmFault → Result S AsmFault
+refused fault = Err fault
+
+-- a call whose fault was passed on found the same too large
+pub too_large_before : {S T : Type 0} (result : Result T AsmFault) (fault : AsmFault) → IsErrAnd result (λ e. e ≡ fault) → result ≡ Err TooLarge → refused {S = S} fault ≡ Err TooLarge
+too_large_before (Ok t) fault h e = absurd h
+too_large_before (Err f) fault h e = ap refused (sym h ∙ cc)
 
 pub classes_none_last : (old : List Entry) (s t : List ℕ) (mid : List Entry) (i : ℕ) → IsNamedAdded Class old s mid i
     → (HasRoom (IsNamedAdded Class mid t) → ⊥) → HasRoomForTwo (AreClassesAdded old s t) → ⊥

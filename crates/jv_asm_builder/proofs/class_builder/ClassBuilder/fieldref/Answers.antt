@@ -1,7 +1,5 @@
-use Rattle.std.proofs.Common.{ap, Err}
 use Rattle.jv_pool.specs.declared.constant.Constant.TheVariants as constants
-use Rattle.jv_asm.specs.declared.fault.AsmFault.TheVariants.{TooLarge}
-use Rattle.jv_asm_builder.proofs.Joined.{grown_both, member_none_first, member_none_last, member_ok, same_error}
+use Rattle.jv_asm_builder.proofs.Joined.{grown_both, member_none_first, member_none_last, member_ok, too_large_before}
 use Rattle.jv_asm_builder.proofs.class_builder.ClassBuilder.fieldref.Goals as goal
 
 pub returns-clause-too_large : goal.returns-clause-too_large
@@ -12,7 +10,7 @@ returns-clause-too_large c = λ e.
 pub returns-in_err-class-clause-too_large : goal.returns-in_err-class-clause-too_large
 returns-in_err-class-clause-too_large c = λ e.
     member_none_first (λ x y. constants.Fieldref x y) c.args.self.now.constant_pool c.args.class.now c.args.name.now c.args.descriptor.now
-    ((c.in_err-class.ensures {u = tt}).too_large (ap (λ f. Err f) (same_error c.from_residual.result c.in_err-class.field-0.0 TooLarge c.from_residual.ensures.1 e)))
+    ((c.in_err-class.ensures {u = tt}).too_large (too_large_before c.from_residual.result c.in_err-class.field-0.0 c.from_residual.ensures.1 e))
 
 pub returns-clause-ok : goal.returns-clause-ok
 returns-clause-ok c =

@@ -1,6 +1,4 @@
-use Rattle.std.proofs.Common.{ap, Err}
-use Rattle.jv_asm.specs.declared.fault.AsmFault.TheVariants.{TooLarge}
-use Rattle.jv_asm_builder.proofs.Joined.{grown_both, types_none_first, types_none_last, types_ok, same_error}
+use Rattle.jv_asm_builder.proofs.Joined.{grown_both, types_none_first, types_none_last, types_ok, too_large_before}
 use Rattle.jv_asm_builder.proofs.class_builder.ClassBuilder.name_and_type.Goals as goal
 
 pub returns-clause-grown : goal.returns-clause-grown
@@ -9,7 +7,7 @@ returns-clause-grown c = grown_both c.args.self.now c.texts.new.self c.constant.
 pub returns-in_err-name-clause-too_large : goal.returns-in_err-name-clause-too_large
 returns-in_err-name-clause-too_large c = λ e.
     types_none_first c.args.self.now.constant_pool c.args.name.now c.args.descriptor.now
-    ((c.in_err-name.ensures {u = tt}).too_large (ap (λ f. Err f) (same_error c.from_residual.result c.in_err-name.field-0.0 TooLarge c.from_residual.ensures.1 e)))
+    ((c.in_err-name.ensures {u = tt}).too_large (too_large_before c.from_residual.result c.in_err-name.field-0.0 c.from_residual.ensures.1 e))
 
 pub returns-clause-ok : goal.returns-clause-ok
 returns-clause-ok c =

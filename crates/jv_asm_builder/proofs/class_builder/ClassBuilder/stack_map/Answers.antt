@@ -1,11 +1,10 @@
-use Rattle.std.proofs.Common.{ap, Err, Some, sym, subst, refl}
+use Rattle.std.proofs.Common.{Some, sym, subst, refl}
 use Rattle.jv_pool.specs.declared.constant.Constant.TheVariants.{Utf8}
 use Rattle.jv_asm_builder.specs.Added.{IsAdded, HasRoom}
 use Rattle.jv_asm_builder.specs.Built.{IsStackMapAdded, HasStackMapRoom}
 use Rattle.jv_asm_builder.specs.Inside.Kept.{contents_kept}
 use Rattle.jv_asm_builder.specs.Inside.Methods.{built_maps}
-use Rattle.jv_asm.specs.declared.fault.AsmFault.TheVariants.{TooLarge}
-use Rattle.jv_asm_builder.proofs.Joined.{stack_map_none, same_error}
+use Rattle.jv_asm_builder.proofs.Joined.{stack_map_none, too_large_before}
 use Rattle.jv_asm_builder.proofs.class_builder.ClassBuilder.stack_map.Goals as goal
 
 pub returns-clause-ok : goal.returns-clause-ok
@@ -23,4 +22,4 @@ returns-in_err-name_index-clause-too_large c = λ e.
     subst (λ contents. HasStackMapRoom pool (contents_kept contents) → ⊥) (sym c.in-Some.is)
     (stack_map_none pool _
     (subst (λ t. HasRoom (IsAdded pool (Utf8 t)) → ⊥) c.as_slice.ensures
-    ((c.in_err-name_index.ensures {u = tt}).too_large.0 (ap (λ f. Err f) (same_error c.from_residual.result c.in_err-name_index.field-0.0 TooLarge c.from_residual.ensures.1 e)))))
+    ((c.in_err-name_index.ensures {u = tt}).too_large.0 (too_large_before c.from_residual.result c.in_err-name_index.field-0.0 c.from_residual.ensures.1 e))))

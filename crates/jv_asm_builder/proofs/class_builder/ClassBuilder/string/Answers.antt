@@ -1,13 +1,11 @@
-use Rattle.std.proofs.Common.{ap, Err}
 use Rattle.jv_pool.specs.declared.constant.Constant.TheVariants as constants
-use Rattle.jv_asm.specs.declared.fault.AsmFault.TheVariants.{TooLarge}
-use Rattle.jv_asm_builder.proofs.Joined.{grown_both, named_none_first, named_ok, same_error, named_none_last}
+use Rattle.jv_asm_builder.proofs.Joined.{grown_both, named_none_first, named_ok, too_large_before, named_none_last}
 use Rattle.jv_asm_builder.proofs.class_builder.ClassBuilder.string.Goals as goal
 
 pub returns-in_err-text-clause-too_large : goal.returns-in_err-text-clause-too_large
 returns-in_err-text-clause-too_large c = λ e.
     named_none_first (λ x. constants.String x) c.args.self.now.constant_pool c.args.text.now
-    ((c.in_err-text.ensures {u = tt}).too_large.0 (ap (λ f. Err f) (same_error c.from_residual.result c.in_err-text.field-0.0 TooLarge c.from_residual.ensures.1 e)))
+    ((c.in_err-text.ensures {u = tt}).too_large.0 (too_large_before c.from_residual.result c.in_err-text.field-0.0 c.from_residual.ensures.1 e))
 
 pub returns-clause-ok : goal.returns-clause-ok
 returns-clause-ok c =
