@@ -62,24 +62,31 @@ fn size(alloc: Global, description: &Description<'_>) -> Option<usize> {
     }
 }
 
-/// The size of a file with so many of a constant.
-fn size_with_constants(alloc: Global, constant: Constant<&[u8]>, count: usize) -> Option<usize> {
-    let Ok(constants) = vec![in alloc; constant; count] else {
-        return None;
-    };
-    let description = Description {
+/// These constants and methods, and nothing else.
+fn described<'d>(
+    constant_pool: &'d [Constant<&'d [u8]>],
+    methods: &'d [MethodDescription<'d>],
+) -> Description<'d> {
+    Description {
         minor_version: 0,
         major_version: 52,
-        constant_pool: &constants,
+        constant_pool,
         access_flags: 0,
         this_class: 0,
         super_class: 0,
         interfaces: &[],
         fields: &[],
-        methods: &[],
+        methods,
         attributes: &[],
+    }
+}
+
+/// The size of a file with so many of a constant.
+fn size_with_constants(alloc: Global, constant: Constant<&[u8]>, count: usize) -> Option<usize> {
+    let Ok(constants) = vec![in alloc; constant; count] else {
+        return None;
     };
-    size(alloc, &description)
+    size(alloc, &described(&constants, &[]))
 }
 
 /// The size of a file with a text of so many bytes.
@@ -147,19 +154,7 @@ fn size_with_code(alloc: Global, code: CodeDescription<'_>) -> Option<usize> {
         descriptor_index: 1,
         attributes: &attributes,
     }];
-    let description = Description {
-        minor_version: 0,
-        major_version: 52,
-        constant_pool: &[],
-        access_flags: 0,
-        this_class: 0,
-        super_class: 0,
-        interfaces: &[],
-        fields: &[],
-        methods: &methods,
-        attributes: &[],
-    };
-    size(alloc, &description)
+    size(alloc, &described(&[], &methods))
 }
 
 /// The size of a file with one method that has so many handlers.
