@@ -1,6 +1,6 @@
 -- Items that are tested one by one: `all` answers true exactly where each item keeps P.
-use Rattle.std.proofs.Common.{◌≡◌, Bool, true, false, List, length, Option, ℕ, ◌<◌}
-use Rattle.std.specs.Prelude.{◌↔◌, IsTrue, MatchBool}
+use Rattle.std.proofs.Common.{◌≡◌, Bool, true, false, List, Option}
+use Rattle.std.specs.Prelude.{◌↔◌, IsTrue}
 use Rattle.std.specs.List.{All, FoldsTo}
 use Rattle.std.specs.Iterator.{YieldsThen}
 use Rattle.std.specs.Fn.{Called}
@@ -17,6 +17,6 @@ module _ {S A B F : Type 0} {steps : S → Option A → S → Type 0} {v : A →
       → ((x : A) (q : F) → Called g f (x, tt) true q → (q ≡ f) × P (v x)) → ((x : A) (q : F) → Called g f (x, tt) false q → P (v x) → ⊥)
       → IsTrue answer ↔ All P items
   decided run yields passed failed = let cases = cases_from_all u f answer P (λ x. P x → ⊥) run yields passed failed in (
-      λ on. All-from_all_within P items (MatchBool-at_true _ _ on cases),
-      λ all. true_from_All P (λ x. P x → ⊥) answer items (λ x keeps breaks. breaks keeps) cases all,
-    )
+    λ on. All-from_all_within P items (MatchBool-at_true _ _ on cases),
+    λ all. true_from_All P (λ x. P x → ⊥) answer items (λ x keeps breaks. breaks keeps) cases all,
+  )

@@ -72,5 +72,5 @@ pub program_steps : (program : Option (ClassStructure × MethodCode)) (one : Cla
     → first_insn (drop raw (program_with one).code.code) ≡ Some (insn, after - raw) → pool ≡ (program_with one).constant_pool → stack ≡ m.stack.items
     → execute pool insn (words_from_top stack) ≡ Ok (effect_of (words_from_top stack) change)
     → next (option_map program_with program) (state_of (locals_in (option_map program_with program)) m)
-      ≡ thin_act (program_with one).code after (locals_in (option_map program_with program)) (state_of (locals_in (option_map program_with program)) m) (effect_of (words_from_top m.stack.items) change)
+    ≡ thin_act (program_with one).code after (locals_in (option_map program_with program)) (state_of (locals_in (option_map program_with program)) m) (effect_of (words_from_top m.stack.items) change)
 program_steps program one is = insn_steps (option_map program_with program) (program_with one) (ap (option_map program_with) is)
