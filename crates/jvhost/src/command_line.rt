@@ -15,7 +15,7 @@ use std::{env, io};
 
 /// What the words of a command line ask for.
 #[derive(Drop)]
-pub enum Task<'a> {
+pub(crate) enum Task<'a> {
     /// To run the guest in the folder of this name.
     Run(&'a str),
     /// To check the files of these names.
@@ -65,7 +65,7 @@ fn not_text(alloc: Global) -> Result<Stop, AllocError>
 }
 
 /// The words of the command line, of which the first is the program's name.
-pub fn words<R: Env + AllocGlobal>(rt: &R) -> Result<Vec<String>, Stop> {
+pub(crate) fn words<R: Env + AllocGlobal>(rt: &R) -> Result<Vec<String>, Stop> {
     match env::args(rt) {
         Ok(words) => Ok(words.collect(rt.alloc())?),
         Err(error) if error.kind() == io::ErrorKind::OutOfMemory => Err(Stop::Run(Failure::Memory)),
@@ -100,7 +100,7 @@ fn task_in<'a>(alloc: Global, name: &str, found: &ArgMatches<'a>) -> Result<Task
 }
 
 /// What the words ask for.
-pub fn task_of<'a>(alloc: Global, words: &'a [String]) -> Result<Task<'a>, Stop> {
+pub(crate) fn task_of<'a>(alloc: Global, words: &'a [String]) -> Result<Task<'a>, Stop> {
     let command = command(alloc)?;
     let matches = match command.try_get_matches_from(words) {
         Ok(matches) => matches,
