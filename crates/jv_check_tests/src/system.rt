@@ -1,9 +1,9 @@
-//! The system's classes, and what the program prints of one file.
+//! The system's classes, what the program prints of one file, and the verdict on one class by its number.
 
 use crate::class::class_file;
 use jv_check::check_files;
-use jv_loader::{Classes, system_files};
-use jv_method::verify;
+use jv_loader::{Classes, LoadVerdict, system_files};
+use jv_method::{Verdict, VerifyFault, VerifyRule, check_class, verify};
 use std::alloc::Global;
 use std::hash::RandomState;
 
@@ -54,6 +54,48 @@ fn is_told(alloc: Global, state: RandomState) -> bool {
 fn one_file(rt: HostRuntime) {
     match RandomState::new(&rt) {
         Ok(state) => assert!(rt; is_told(rt.alloc(), state)),
+        Err(_) => assert!(rt; false),
+    }
+}
+
+/// The verdict on the class `C` of one file, found by its name; without one, where memory is short.
+fn verdict_on_c(alloc: Global, state: RandomState, file: &[u8]) -> Option<Verdict> {
+    let system = system_files(alloc).ok()?;
+    let files = [file];
+    let classes = Classes::load(alloc, state, &system, &files).ok()?;
+    let class = classes.table().find(b"C")?;
+    check_class(alloc, state, &classes, class).ok()
+}
+
+fn is_int_as_object(verdict: Option<Verdict>) -> bool {
+    matches!(
+        verdict,
+        Some(Verdict::Verify(VerifyFault {
+            method: 0,
+            offset: 1,
+            rule: VerifyRule::Instruction,
+        }))
+    )
+}
+
+fn is_final_broken(verdict: Option<Verdict>) -> bool {
+    matches!(verdict, Some(Verdict::Refused(LoadVerdict::FinalBroken)))
+}
+
+fn verdict_on(alloc: Global, state: RandomState, class: &str) -> Option<Verdict> {
+    match class_file(alloc, class) {
+        Some(file) => verdict_on_c(alloc, state, &file),
+        None => None,
+    }
+}
+
+#[test]
+fn one_class_by_its_number(rt: HostRuntime) {
+    match RandomState::new(&rt) {
+        Ok(state) => {
+            assert!(rt; is_int_as_object(verdict_on(rt.alloc(), state, INT_AS_OBJECT)));
+            assert!(rt; is_final_broken(verdict_on(rt.alloc(), state, "C:String")));
+        }
         Err(_) => assert!(rt; false),
     }
 }
