@@ -3,7 +3,7 @@ use Rattle.std.proofs.Common.{zero, suc, refl, ap, ◌∙◌}
 use Rattle.jv_meaning_machine.specs.Faults.{OrFault, ◌>>=◌}
 use Rattle.jv_meaning_machine.specs.State.{State}
 use Rattle.jv_meaning_machine.specs.Step.{step, step_in}
-use Rattle.jv_meaning_machine.specs.Laws.{EndedStays, EndedStaysOver}
+use Rattle.jv_meaning_machine.specs.Laws.Ends.{EndedStays, EndedStaysOver}
 
 pub ended_stays : EndedStays
 ended_stays program s e = ap (λ frames. step_in program s frames) e

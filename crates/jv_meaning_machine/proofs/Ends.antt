@@ -11,7 +11,7 @@ use Rattle.jv_meaning_machine.specs.State.End.{Running, NoMain}
 use Rattle.jv_meaning_machine.specs.Initialization.{main_method, begin_in, is_verified}
 use Rattle.jv_meaning_machine.specs.Start.{Budget, start_memory, start_control, start_with, start}
 use Rattle.jv_meaning_machine.specs.Alone.{Guest, Judged, IsJudged, after_steps, alone}
-use Rattle.jv_meaning_machine.specs.Laws.{EndFitsBehind, EndFitsAlone, EndedGuestStays}
+use Rattle.jv_meaning_machine.specs.Laws.Ends.{EndFitsBehind, EndFitsAlone, EndedGuestStays}
 use Rattle.jv_meaning_machine.proofs.Leading.{Leads, leaf, bound, chained}
 use Rattle.jv_meaning_machine.proofs.KeptAlone.{alone_goes_on}
 use Rattle.jv_meaning_machine.proofs.Ended.{ended_stays_over}

@@ -8,7 +8,7 @@ use Rattle.jv_meaning_machine.specs.State.{State, ClassState, ClassStates, state
 use Rattle.jv_meaning_machine.specs.State.ClassState.{Untouched, Begun, Initialized, Erroneous}
 use Rattle.jv_meaning_machine.specs.Start.{Budget}
 use Rattle.jv_meaning_machine.specs.Alone.{Guest, Judged}
-use Rattle.jv_meaning_machine.specs.ForwardLaws.{IsLater, InitializedStays, ErroneousStays, ThrowsNeverFall, ConstructedStays}
+use Rattle.jv_meaning_machine.specs.Laws.Forward.{IsLater, InitializedStays, ErroneousStays, ThrowsNeverFall, ConstructedStays}
 use Rattle.jv_meaning_machine.proofs.KeptSteps.{after_kept}
 use Rattle.jv_meaning_machine.proofs.KeptAlone.{alone_goes_on}
 use Rattle.jv_meaning_machine.proofs.Going.{IsKept, Went, after_goes}

@@ -30,7 +30,7 @@ use Rattle.jv_meaning_machine.specs.Entering.{method_frame, enter_within, enter,
 use Rattle.jv_meaning_machine.specs.Initialization.{begin_within, begin_if, begin_in, begin, is_verified, first_tasks, tasks_of, main_arguments, tasks_left, finish, finished, set_field, do_task, with_tasks, do_first}
 use Rattle.jv_meaning_machine.specs.Step.{waiting, act, moment, step_in, step}
 use Rattle.jv_meaning_machine.specs.Alone.{after_steps}
-use Rattle.jv_meaning_machine.specs.Laws.{EndFits}
+use Rattle.jv_meaning_machine.specs.Laws.Ends.{EndFits}
 use Rattle.jv_meaning_machine.proofs.Leading.{Leads, leaf, bound, bound_tested, chained}
 
 -- Of the classes' states, the count of throws and the frames: each change that the machine makes keeps it.

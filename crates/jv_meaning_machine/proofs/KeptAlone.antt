@@ -18,9 +18,9 @@ use Rattle.jv_meaning_machine.specs.Initialization.{main_method, begin}
 use Rattle.jv_meaning_machine.specs.Start.{Budget, start_cells, start_memory, start_control, start_with, start}
 use Rattle.jv_meaning_machine.specs.Step.{step}
 use Rattle.jv_meaning_machine.specs.Alone.{Guest, Judged, after_steps, alone}
-use Rattle.jv_meaning_machine.specs.Shapes.{Shape, shape_of, shapes, shape_cells, used_cells, used_words, first_cells}
-use Rattle.jv_meaning_machine.specs.Kept.{BeginsWith, Keeps, KeepsState}
-use Rattle.jv_meaning_machine.specs.RunLaws.{OutputGrows, ObjectsStay, ObjectsAreNeverFewer, AloneGoesOn, OutputIsBudgeted, WordsAreBudgeted, CellsAreBudgeted, FirstObjectsCost}
+use Rattle.jv_meaning_machine.specs.Laws.Shapes.{Shape, shape_of, shapes, shape_cells, used_cells, used_words, first_cells}
+use Rattle.jv_meaning_machine.specs.Laws.Kept.{BeginsWith, Keeps, KeepsState}
+use Rattle.jv_meaning_machine.specs.Laws.Runs.{OutputGrows, ObjectsStay, ObjectsAreNeverFewer, AloneGoesOn, OutputIsBudgeted, WordsAreBudgeted, CellsAreBudgeted, FirstObjectsCost}
 use Rattle.jv_meaning_machine.proofs.Leading.{Leads, leaf, bound, chained, found_gave}
 use Rattle.jv_meaning_machine.proofs.KeptMemory.{keeps_same, keeps_over, in_longer}
 use Rattle.jv_meaning_machine.proofs.KeptDone.{cost_of_object, cost_of_one}

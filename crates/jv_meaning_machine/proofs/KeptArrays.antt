@@ -19,9 +19,9 @@ use Rattle.jv_meaning_machine.specs.Costs.{array_cells, arrays_cells, paid, next
 use Rattle.jv_meaning_machine.specs.Operands.{object_at}
 use Rattle.jv_meaning_machine.specs.Effects.{Moment}
 use Rattle.jv_meaning_machine.specs.Arrays.{Components, array_in, at_place, place_for, holds_numbers, holds_references, load_at, load_from, load_component, with_component_stored, store_at, store_number, store_component, can_stand, store_reference_if, store_reference_at, store_reference, length_of, array_length, arrays_in, inner_numbers, reference_to, arrays_made, push_arrays, make_array, new_reference_array, make_arrays_if, make_arrays, new_multi_array, is_negative_count, count_of}
-use Rattle.jv_meaning_machine.specs.Shapes.{Shape, shape_of, shape_cells}
-use Rattle.jv_meaning_machine.specs.Shapes.Shape.{ArrayShape}
-use Rattle.jv_meaning_machine.specs.Kept.{Keeps}
+use Rattle.jv_meaning_machine.specs.Laws.Shapes.{Shape, shape_of, shape_cells}
+use Rattle.jv_meaning_machine.specs.Laws.Shapes.Shape.{ArrayShape}
+use Rattle.jv_meaning_machine.specs.Laws.Kept.{Keeps}
 use Rattle.jv_meaning_machine.proofs.Leading.{failing, bound, bound_tested, bound_gave}
 use Rattle.jv_meaning_machine.proofs.KeptMemory.{keeps_object, keeps_joined, by_payment}
 use Rattle.jv_meaning_machine.proofs.KeptDone.{Stored, made_stored, same_stored, Kept, made_kept, same_kept, unless_kept, object_stands, cost_of_one}

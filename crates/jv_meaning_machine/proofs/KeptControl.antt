@@ -25,8 +25,8 @@ use Rattle.jv_meaning_machine.specs.Literals.{constant_value}
 use Rattle.jv_meaning_machine.specs.Throws.{exception_made, exception, Thrown, thrown_once_more, thrown, handler_for, caught, replacement_if, replacement, passed_initialization, passed_method, unwound, throw, raise}
 use Rattle.jv_meaning_machine.specs.Entering.{method_frame, enter_within, enter, at_offset, resumed, leave_to, leave}
 use Rattle.jv_meaning_machine.specs.Initialization.{begin_within, begin_if, begin_in, begin, is_verified, tasks_of, main_arguments, tasks_left, finish, finished, set_field, do_task, with_tasks, do_first, initialization_step}
-use Rattle.jv_meaning_machine.specs.Shapes.{frame_words}
-use Rattle.jv_meaning_machine.specs.Kept.{Keeps}
+use Rattle.jv_meaning_machine.specs.Laws.Shapes.{frame_words}
+use Rattle.jv_meaning_machine.specs.Laws.Kept.{Keeps}
 use Rattle.jv_meaning_machine.proofs.Leading.{Leads, leaf, bound, bound_tested, chained}
 use Rattle.jv_meaning_machine.proofs.KeptMemory.{keeps_over, keeps_joined, keeps_static, by_payment}
 use Rattle.jv_meaning_machine.proofs.KeptDone.{IsKeptIf, constant_value_kept, cost_of_object, cost_of_one}

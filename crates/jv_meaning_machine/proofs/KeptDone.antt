@@ -30,10 +30,10 @@ use Rattle.jv_meaning_machine.specs.Effects.Effect.{Goes, Enters, Constructs, Le
 use Rattle.jv_meaning_machine.specs.Arrays.{base_components}
 use Rattle.jv_meaning_machine.specs.Literals.{string_value, chars_of, char_of, string_with, literal_in, literal_made, literal_cells, literal_or_new, literal, string_loaded, constant_value, push_value, push_constant, push_long_constant}
 use Rattle.jv_meaning_machine.specs.Fields.{use_for, get_static, put_static, instance_in, get_field_of, get_field, can_be_set, with_field_value, with_object, put_field_of, put_field, access_field, use_field}
-use Rattle.jv_meaning_machine.specs.Shapes.{shape_of, shape_cells, field_cells, keys_in}
-use Rattle.jv_meaning_machine.specs.Shapes.Shape.{ObjectShape}
-use Rattle.jv_meaning_machine.specs.Kept.{Keeps, LeavesAll}
-use Rattle.jv_meaning_machine.specs.StoreLaws.{stores_field}
+use Rattle.jv_meaning_machine.specs.Laws.Shapes.{shape_of, shape_cells, field_cells, keys_in}
+use Rattle.jv_meaning_machine.specs.Laws.Shapes.Shape.{ObjectShape}
+use Rattle.jv_meaning_machine.specs.Laws.Kept.{Keeps, LeavesAll}
+use Rattle.jv_meaning_machine.specs.Laws.Stores.{stores_field}
 use Rattle.jv_meaning_machine.proofs.Leading.{Leads, leaf, failing, bound, bound_tested, chained, bound_gave, found_gave}
 use Rattle.jv_meaning_machine.proofs.KeptMemory.{begins_same, keeps_same, keeps_over, same_keys, keeps_static, keeps_object, keeps_joined, by_payment, with_literal_at, keeps_literal}
 

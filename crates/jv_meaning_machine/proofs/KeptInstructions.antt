@@ -22,10 +22,10 @@ use Rattle.jv_meaning_machine.specs.Values.{Value}
 use Rattle.jv_meaning_machine.specs.Values.Value.{Int, Long, Null, Reference, Half, Unset}
 use Rattle.jv_meaning_machine.specs.Objects.{Content, Object, value_at, new_object}
 use Rattle.jv_meaning_machine.specs.Operands.{taken}
-use Rattle.jv_meaning_machine.specs.Locations.{Location, field_of_object, component_in, held_at}
-use Rattle.jv_meaning_machine.specs.Locations.Location.{FieldOf, ComponentOf, StaticField}
-use Rattle.jv_meaning_machine.specs.Kept.{LeavesAll}
-use Rattle.jv_meaning_machine.specs.StoreLaws.{is_store, OthersLeaveAll, OthersStoreNothing}
+use Rattle.jv_meaning_machine.specs.Laws.Locations.{Location, field_of_object, component_in, held_at}
+use Rattle.jv_meaning_machine.specs.Laws.Locations.Location.{FieldOf, ComponentOf, StaticField}
+use Rattle.jv_meaning_machine.specs.Laws.Kept.{LeavesAll}
+use Rattle.jv_meaning_machine.specs.Laws.Stores.{is_store, OthersLeaveAll, OthersStoreNothing}
 use Rattle.jv_meaning_machine.specs.State.{Memory}
 use Rattle.jv_meaning_machine.specs.Costs.{paid}
 use Rattle.jv_meaning_machine.specs.Effects.{Effect, Moment, Done, world_at, method_of_moment}

@@ -14,8 +14,8 @@ use Rattle.jv_meaning_machine.specs.Costs.{paid, with_objects}
 use Rattle.jv_meaning_machine.specs.Literals.{literal_in}
 use Rattle.jv_meaning_machine.specs.Fields.{with_static, with_object}
 use Rattle.jv_meaning_machine.specs.Calls.{with_byte_written}
-use Rattle.jv_meaning_machine.specs.Shapes.{Shape, shape_of, shapes, shape_cells, keys_in}
-use Rattle.jv_meaning_machine.specs.Kept.{BeginsWith, EndsWith, Keeps}
+use Rattle.jv_meaning_machine.specs.Laws.Shapes.{Shape, shape_of, shapes, shape_cells, keys_in}
+use Rattle.jv_meaning_machine.specs.Laws.Kept.{BeginsWith, EndsWith, Keeps}
 
 -- ---- lists
 

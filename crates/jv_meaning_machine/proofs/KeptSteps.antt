@@ -18,8 +18,8 @@ use Rattle.jv_meaning_machine.specs.Instructions.{execute}
 use Rattle.jv_meaning_machine.specs.Entering.{at_offset, enter}
 use Rattle.jv_meaning_machine.specs.Step.{waiting, act, moment, step_in, step}
 use Rattle.jv_meaning_machine.specs.Alone.{after_steps}
-use Rattle.jv_meaning_machine.specs.Shapes.{used_words}
-use Rattle.jv_meaning_machine.specs.Kept.{Keeps, KeepsState}
+use Rattle.jv_meaning_machine.specs.Laws.Shapes.{used_words}
+use Rattle.jv_meaning_machine.specs.Laws.Kept.{Keeps, KeepsState}
 use Rattle.jv_meaning_machine.proofs.Leading.{Leads, leaf, bound, chained}
 use Rattle.jv_meaning_machine.proofs.KeptMemory.{keeps_same, keeps_over, keeps_object}
 use Rattle.jv_meaning_machine.proofs.KeptDone.{IsStored, MayConstruct, instance_stands}

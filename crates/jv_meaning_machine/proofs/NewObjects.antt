@@ -34,7 +34,7 @@ use Rattle.jv_meaning_machine.specs.Literals.{string_name, literal_in, literal_m
 use Rattle.jv_meaning_machine.specs.Arrays.{arrays_made, push_arrays, make_array, base_of, base_components, components_of, is_negative_count, count_of, make_arrays_if, make_arrays, array_resolved}
 use Rattle.jv_meaning_machine.specs.Initialization.{is_under_way}
 use Rattle.jv_meaning_machine.specs.Instructions.{push_object, create}
-use Rattle.jv_meaning_machine.specs.NewLaws.{LacksCells, MakesIf, NamesClass, ThrowsClassError, BeginsClass, MakesObject, NewMakes, CountsBelowZero, MakesArray, NewArrayMakes, NewReferenceArrayMakes, CountsOneBelowZero, MakesArrays, TakesCounts, NewMultiArrayMakes, PushesLiteral, MakesLiteral, LacksLiteral, PushesNumber, ConstantPushes}
+use Rattle.jv_meaning_machine.specs.Laws.NewObjects.{LacksCells, MakesIf, NamesClass, ThrowsClassError, BeginsClass, MakesObject, NewMakes, CountsBelowZero, MakesArray, NewArrayMakes, NewReferenceArrayMakes, CountsOneBelowZero, MakesArrays, TakesCounts, NewMultiArrayMakes, PushesLiteral, MakesLiteral, LacksLiteral, PushesNumber, ConstantPushes}
 use Rattle.jv_meaning_machine.proofs.Leading.{also, Leads, leaf, failing, bound, bound_tested, chained}
 use Rattle.jv_meaning_machine.proofs.KeptMemory.{less}
 use Rattle.jv_meaning_machine.proofs.TakenItems.{taken_gave, int_gave, IsOne, one_taken, taken_count}

@@ -19,9 +19,9 @@ use Rattle.jv_meaning_machine.specs.Start.{Budget, start_memory, start_control, 
 use Rattle.jv_meaning_machine.specs.Step.{step}
 use Rattle.jv_meaning_machine.specs.Alone.{Guest, Judged, IsJudged, accepted_names, after_steps, alone}
 use Rattle.jv_meaning_machine.specs.Observation.{Observed, Shows, FaultsWithin, observation}
-use Rattle.jv_meaning_machine.specs.Kept.{BeginsWith}
-use Rattle.jv_meaning_machine.specs.ForwardLaws.{IsLater}
-use Rattle.jv_meaning_machine.specs.ShowLaws.{OneJudged, JudgedByVerdicts, ShowsNoMain, ShowsOneThing, FaultsShowNothing, EndedShowsTheSame, FaultsStay, ShowedBefore, ShowsMore}
+use Rattle.jv_meaning_machine.specs.Laws.Kept.{BeginsWith}
+use Rattle.jv_meaning_machine.specs.Laws.Forward.{IsLater}
+use Rattle.jv_meaning_machine.specs.Laws.Shown.{OneJudged, JudgedByVerdicts, ShowsNoMain, ShowsOneThing, FaultsShowNothing, EndedShowsTheSame, FaultsStay, ShowedBefore, ShowsMore}
 use Rattle.jv_meaning_machine.proofs.Ends.{ended_guest_stays}
 use Rattle.jv_meaning_machine.proofs.KeptAlone.{output_grows, alone_goes_on}
 use Rattle.jv_meaning_machine.proofs.Forward.{throws_never_fall}

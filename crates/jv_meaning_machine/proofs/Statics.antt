@@ -12,8 +12,8 @@ use Rattle.jv_meaning_linking.specs.Kind.{is_static_field}
 use Rattle.jv_meaning_machine.specs.Values.{Value}
 use Rattle.jv_meaning_machine.specs.Objects.{FieldKey, Content, key_of, same_key, value_at, first_entry}
 use Rattle.jv_meaning_machine.specs.Start.{static_entries}
-use Rattle.jv_meaning_machine.specs.Shapes.{key_in, keys_in}
-use Rattle.jv_meaning_machine.specs.RunLaws.{StaticsAreThere}
+use Rattle.jv_meaning_machine.specs.Laws.Shapes.{key_in, keys_in}
+use Rattle.jv_meaning_machine.specs.Laws.Runs.{StaticsAreThere}
 use Rattle.jv_meaning_machine.proofs.KeptAlone.{IsFromStart, alone_leads}
 
 -- whether a field holds something is told by the keys alone

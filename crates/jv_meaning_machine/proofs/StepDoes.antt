@@ -11,8 +11,8 @@ use Rattle.jv_meaning_machine.specs.Effects.{Effect}
 use Rattle.jv_meaning_machine.specs.Effects.Effect.{Goes}
 use Rattle.jv_meaning_machine.specs.Instructions.{execute}
 use Rattle.jv_meaning_machine.specs.Step.{act, moment, step_in}
-use Rattle.jv_meaning_machine.specs.Shapes.{used_words}
-use Rattle.jv_meaning_machine.specs.StepLaws.{StepActs, StepGoesOn, DoneStays}
+use Rattle.jv_meaning_machine.specs.Laws.Shapes.{used_words}
+use Rattle.jv_meaning_machine.specs.Laws.Steps.{StepActs, StepGoesOn, DoneStays}
 use Rattle.jv_meaning_machine.proofs.KeptMemory.{keeps_same}
 use Rattle.jv_meaning_machine.proofs.KeptInstructions.{execute_stored}
 use Rattle.jv_meaning_machine.proofs.KeptSteps.{act_stays}

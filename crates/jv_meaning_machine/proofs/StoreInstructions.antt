@@ -33,8 +33,8 @@ use Rattle.jv_meaning_machine.specs.Fields.{use_for, described, with_static, put
 use Rattle.jv_meaning_machine.specs.Instructions.{store_in_array}
 use Rattle.jv_meaning_machine.specs.Arrays.{Components, array_in, at_place, place_for, holds_numbers, holds_references, with_component_stored, store_at, store_number, store_component, can_stand, store_reference_if, store_reference_at, store_reference}
 use Rattle.jv_meaning_machine.specs.Initialization.{is_under_way}
-use Rattle.jv_meaning_machine.specs.Locations.{field_of_object, component_in}
-use Rattle.jv_meaning_machine.specs.StoreLaws.{NamesField, ThrowsLinkError, BeginsFirst, PutsToNull, StoresToNull, StoresOutside, StoresStranger, PutsStatic, PutsField, PutsComponent, PutstaticStores, PutfieldStores, ArrayStoreStores, ReferenceArrayStoreStores}
+use Rattle.jv_meaning_machine.specs.Laws.Locations.{field_of_object, component_in}
+use Rattle.jv_meaning_machine.specs.Laws.Stores.{NamesField, ThrowsLinkError, BeginsFirst, PutsToNull, StoresToNull, StoresOutside, StoresStranger, PutsStatic, PutsField, PutsComponent, PutstaticStores, PutfieldStores, ArrayStoreStores, ReferenceArrayStoreStores}
 use Rattle.jv_meaning_machine.proofs.Leading.{Leads, leaf, failing, bound, bound_tested, chained, found_gave}
 use Rattle.jv_meaning_machine.proofs.KeptDone.{instance_stands}
 use Rattle.jv_meaning_machine.proofs.KeptArrays.{array_stands}

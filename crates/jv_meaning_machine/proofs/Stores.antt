@@ -8,11 +8,11 @@ use Rattle.jv_meaning_machine.specs.Objects.Object.{InstanceOf, ArrayWith}
 use Rattle.jv_meaning_machine.specs.State.{Memory}
 use Rattle.jv_meaning_machine.specs.Fields.{with_static, with_object, with_field_value}
 use Rattle.jv_meaning_machine.specs.Arrays.{Components, with_component_stored}
-use Rattle.jv_meaning_machine.specs.Shapes.{shape_of}
-use Rattle.jv_meaning_machine.specs.Shapes.Shape.{ObjectShape, ArrayShape}
-use Rattle.jv_meaning_machine.specs.Locations.{Location, field_of_object, component_in, held_at, bare, StoresAt}
-use Rattle.jv_meaning_machine.specs.Locations.Location.{FieldOf, ComponentOf, StaticField}
-use Rattle.jv_meaning_machine.specs.StoreLaws.{OtherFieldsStay}
+use Rattle.jv_meaning_machine.specs.Laws.Shapes.{shape_of}
+use Rattle.jv_meaning_machine.specs.Laws.Shapes.Shape.{ObjectShape, ArrayShape}
+use Rattle.jv_meaning_machine.specs.Laws.Locations.{Location, field_of_object, component_in, held_at, bare, StoresAt}
+use Rattle.jv_meaning_machine.specs.Laws.Locations.Location.{FieldOf, ComponentOf, StaticField}
+use Rattle.jv_meaning_machine.specs.Laws.Stores.{OtherFieldsStay}
 use Rattle.jv_meaning_machine.proofs.Contents.{stored_is_there}
 use Rattle.jv_meaning_machine.proofs.KeptMemory.{same_keys, same_of_all, set_there, set_elsewhere}
 

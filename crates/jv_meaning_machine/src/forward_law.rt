@@ -1,6 +1,6 @@
 //! Laws of a guest alone that goes forward: what can't be taken back.
 
-ghost use Rattle.jv_meaning_machine.specs.ForwardLaws.{ConstructedStays, ErroneousStays, InitializedStays, ThrowsNeverFall};
+ghost use Rattle.jv_meaning_machine.specs.Laws.Forward.{ConstructedStays, ErroneousStays, InitializedStays, ThrowsNeverFall};
 
 /// A class that is initialized stays so.
 pub fn initialized_stays()

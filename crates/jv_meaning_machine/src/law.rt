@@ -1,16 +1,16 @@
 //! Worked rows and laws of the machine.
 
-ghost use Rattle.jv_meaning_machine.specs.MachineRows.{OutputRows, ObjectRows, ArrayRows};
-ghost use Rattle.jv_meaning_machine.specs.InitializationRows.{InitializationRows};
-ghost use Rattle.jv_meaning_machine.specs.ArithmeticRows.{IntRows, LongRows, ShiftRows, ConversionRows};
-ghost use Rattle.jv_meaning_machine.specs.ArrayInstructionRows.{ArrayLoadRows, ArrayStoreRows, NewArrayRows};
-ghost use Rattle.jv_meaning_machine.specs.CastRows.{CastRows, InstanceOfRows};
-ghost use Rattle.jv_meaning_machine.specs.LinkRows.{LinkErrorRows, LinkOrderRows};
-ghost use Rattle.jv_meaning_machine.specs.ThrowRows.{HandlerRows, PassedRows, ConstructionRows};
-ghost use Rattle.jv_meaning_machine.specs.MemberRows.{ConstantRows, FieldRows, CallRows};
-ghost use Rattle.jv_meaning_machine.specs.StackRows.{FormRows, LocalRows, BranchRows, SwitchRows};
-ghost use Rattle.jv_meaning_machine.specs.FaultRows.{FaultRows};
-ghost use Rattle.jv_meaning_machine.specs.Laws.{EndedGuestStays, EndedStays, EndedStaysOver, EndFitsAlone, EndFitsBehind, MainIsItsOwn, NoMainWithoutFiles, StoredIsThere};
+ghost use Rattle.jv_meaning_machine.specs.Rows.Machine.{OutputRows, ObjectRows, ArrayRows};
+ghost use Rattle.jv_meaning_machine.specs.Rows.Initialization.{InitializationRows};
+ghost use Rattle.jv_meaning_machine.specs.Rows.Arithmetic.{IntRows, LongRows, ShiftRows, ConversionRows};
+ghost use Rattle.jv_meaning_machine.specs.Rows.Arrays.{ArrayLoadRows, ArrayStoreRows, NewArrayRows};
+ghost use Rattle.jv_meaning_machine.specs.Rows.Casts.{CastRows, InstanceOfRows};
+ghost use Rattle.jv_meaning_machine.specs.Rows.Links.{LinkErrorRows, LinkOrderRows};
+ghost use Rattle.jv_meaning_machine.specs.Rows.Throws.{HandlerRows, PassedRows, ConstructionRows};
+ghost use Rattle.jv_meaning_machine.specs.Rows.Members.{ConstantRows, FieldRows, CallRows};
+ghost use Rattle.jv_meaning_machine.specs.Rows.Stack.{FormRows, LocalRows, BranchRows, SwitchRows};
+ghost use Rattle.jv_meaning_machine.specs.Rows.Faults.{FaultRows};
+ghost use Rattle.jv_meaning_machine.specs.Laws.Ends.{EndedGuestStays, EndedStays, EndedStaysOver, EndFitsAlone, EndFitsBehind, MainIsItsOwn, NoMainWithoutFiles, StoredIsThere};
 
 /// Worked rows: output, input and the ends, computed.
 pub fn output_rows()

@@ -1,7 +1,7 @@
 //! Laws of new objects: those that an instruction makes stand behind all that there were, and the first of
 //! them has their count as its number.
 
-ghost use Rattle.jv_meaning_machine.specs.NewLaws.{ConstantPushes, NewArrayMakes, NewMakes, NewMultiArrayMakes, NewReferenceArrayMakes};
+ghost use Rattle.jv_meaning_machine.specs.Laws.NewObjects.{ConstantPushes, NewArrayMakes, NewMakes, NewMultiArrayMakes, NewReferenceArrayMakes};
 
 /// `new` throws or begins an initialization and leaves the memory as it is, or an object joins all that there
 /// were, and a reference to it is pushed, whose number is their count.

@@ -1,6 +1,6 @@
 //! Laws of the machine's runs: what stays, and what a guest keeps of its budget.
 
-ghost use Rattle.jv_meaning_machine.specs.RunLaws.{AloneGoesOn, CellsAreBudgeted, FirstObjectsCost, ObjectsAreNeverFewer, ObjectsStay, OutputGrows, OutputIsBudgeted, RunKeeps, StaticsAreThere, StepKeeps, WordsAreBudgeted};
+ghost use Rattle.jv_meaning_machine.specs.Laws.Runs.{AloneGoesOn, CellsAreBudgeted, FirstObjectsCost, ObjectsAreNeverFewer, ObjectsStay, OutputGrows, OutputIsBudgeted, RunKeeps, StaticsAreThere, StepKeeps, WordsAreBudgeted};
 
 /// What a state has stays over a step: what was written, the objects and their shapes, the objects of
 /// literals, and the sums of what is used and what is left.

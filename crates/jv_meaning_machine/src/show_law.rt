@@ -1,6 +1,6 @@
 //! Laws of what a guest shows.
 
-ghost use Rattle.jv_meaning_machine.specs.ShowLaws.{EndedShowsTheSame, FaultsShowNothing, FaultsStay, JudgedByVerdicts, OneJudged, ShowsMore, ShowsNoMain, ShowsOneThing};
+ghost use Rattle.jv_meaning_machine.specs.Laws.Shown.{EndedShowsTheSame, FaultsShowNothing, FaultsStay, JudgedByVerdicts, OneJudged, ShowsMore, ShowsNoMain, ShowsOneThing};
 
 use jv_loader_files::one_content;
 use jv_meaning_typing::one_judgement_of_file;

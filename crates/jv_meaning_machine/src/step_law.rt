@@ -1,6 +1,6 @@
 //! Laws of a step that executes an instruction: what becomes of what it did to the memory, and of its effect.
 
-ghost use Rattle.jv_meaning_machine.specs.StepLaws.{DoneStays, StepActs, StepGoesOn};
+ghost use Rattle.jv_meaning_machine.specs.Laws.Steps.{DoneStays, StepActs, StepGoesOn};
 
 /// The step is what the machine does with what the instruction left and with its effect.
 pub fn step_acts()

@@ -15,7 +15,7 @@ use Rattle.jv_meaning_machine.specs.State.{Memory, ClassStates}
 use Rattle.jv_meaning_machine.specs.Effects.{Effect, Moment, Done}
 use Rattle.jv_meaning_machine.specs.Effects.Effect.{Goes, Raises}
 use Rattle.jv_meaning_machine.specs.Instructions.{execute}
-use Rattle.jv_meaning_machine.specs.Samples.{java_lang, world_with, program_of, code, main, main_name}
+use Rattle.jv_meaning_machine.specs.Rows.Samples.{java_lang, world_with, program_of, code, main, main_name}
 
 -- the guest's classes beside Main, their states, Main's constants, the objects, what static fields hold, and the frame's
 -- local variables and stack, whose top is last here; 20 cells are left

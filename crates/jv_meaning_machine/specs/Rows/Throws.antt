@@ -16,9 +16,9 @@ use Rattle.jv_meaning_machine.specs.Faults.Fault.{ConstructionFault}
 use Rattle.jv_meaning_machine.specs.State.{Program}
 use Rattle.jv_meaning_machine.specs.State.End.{Running, Returned, Threw}
 use Rattle.jv_meaning_machine.specs.Observation.{Observed}
-use Rattle.jv_meaning_machine.specs.Samples.{java_lang, program_of, run_with, shown, invokestatic, getstatic, new, ldc, dup, pop, idiv, iushr, new_ints, code, method, class_with, static_int, main_name, main, only_main, run, run_text}
-use Rattle.jv_meaning_machine.specs.MachineRows.{returned, threw, calls_f}
-use Rattle.jv_meaning_machine.specs.InitializationRows.{clinit, divides_by_zero, E, construct_P, make_S}
+use Rattle.jv_meaning_machine.specs.Rows.Samples.{java_lang, program_of, run_with, shown, invokestatic, getstatic, new, ldc, dup, pop, idiv, iushr, new_ints, code, method, class_with, static_int, main_name, main, only_main, run, run_text}
+use Rattle.jv_meaning_machine.specs.Rows.Machine.{returned, threw, calls_f}
+use Rattle.jv_meaning_machine.specs.Rows.Initialization.{clinit, divides_by_zero, E, construct_P, make_S}
 
 -- so many throws, the last of an object of a class of java/lang
 abbrev pub ended : ℕ → List ℕ → ℕ → List ℕ → OrFault Observed

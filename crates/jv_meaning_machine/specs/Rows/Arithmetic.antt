@@ -16,7 +16,7 @@ use Rattle.jv_meaning_machine.specs.Faults.{OrFault}
 use Rattle.jv_meaning_machine.specs.Faults.Fault.{StackFault, TagFault}
 use Rattle.jv_meaning_machine.specs.Values.{Value}
 use Rattle.jv_meaning_machine.specs.Effects.{Effect}
-use Rattle.jv_meaning_machine.specs.InstructionSamples.{effect, follows, raised, on_stack, int, int_minus, long, long_minus}
+use Rattle.jv_meaning_machine.specs.Rows.InstructionSamples.{effect, follows, raised, on_stack, int, int_minus, long, long_minus}
 
 -- ---- the operands, the last of them on top of the stack, and the result; what stands below them stays
 

@@ -22,7 +22,7 @@ use Rattle.jv_meaning_machine.specs.Values.{Value}
 use Rattle.jv_meaning_machine.specs.Values.Value.{Null, Reference, Half, Unset}
 use Rattle.jv_meaning_machine.specs.Effects.{Effect}
 use Rattle.jv_meaning_machine.specs.Effects.Effect.{Goes}
-use Rattle.jv_meaning_machine.specs.InstructionSamples.{effect, follows, on_stack, with_locals, int, int_minus, long}
+use Rattle.jv_meaning_machine.specs.Rows.InstructionSamples.{effect, follows, on_stack, with_locals, int, int_minus, long}
 
 -- ---- forms of the stack, whose top is last here; what stands below stays
 

@@ -15,8 +15,8 @@ use Rattle.jv_meaning_machine.specs.Start.{start}
 use Rattle.jv_meaning_machine.specs.Initialization.{begin}
 use Rattle.jv_meaning_machine.specs.State.End.{Threw}
 use Rattle.jv_meaning_machine.specs.Observation.{Observed}
-use Rattle.jv_meaning_machine.specs.Samples.{program_of, budget, run_with, shown, invokestatic, invokevirtual, getstatic, putstatic, new, ldc, dup, pop, idiv, code, method, class_with, static_int, main_name, main, only_main}
-use Rattle.jv_meaning_machine.specs.MachineRows.{returned, threw}
+use Rattle.jv_meaning_machine.specs.Rows.Samples.{program_of, budget, run_with, shown, invokestatic, invokevirtual, getstatic, putstatic, new, ldc, dup, pop, idiv, code, method, class_with, static_int, main_name, main, only_main}
+use Rattle.jv_meaning_machine.specs.Rows.Machine.{returned, threw}
 
 -- ---- a constant of the main class
 

@@ -3,7 +3,7 @@ use Rattle.std.specs.Prelude.{◌≡◌, ℕ, ◌+◌, true, List, ◌++◌, len
 use Rattle.jv_meaning_machine.specs.Objects.{Object, is_constructed}
 use Rattle.jv_meaning_machine.specs.State.{Memory, State}
 use Rattle.jv_meaning_machine.specs.Literals.{literal_in}
-use Rattle.jv_meaning_machine.specs.Shapes.{keys_in, shapes, used_cells, used_words}
+use Rattle.jv_meaning_machine.specs.Laws.Shapes.{keys_in, shapes, used_cells, used_words}
 
 -- a list begins with another one
 abbrev pub BeginsWith : {A : Type 0} → List A → List A → Type 0

@@ -7,14 +7,14 @@ use Rattle.jv_loader_world.specs.of_class.Class.{Field}
 use Rattle.jv_loader_world.specs.LookUps.{field_by}
 use Rattle.jv_meaning_linking.specs.Kind.{is_static_field}
 use Rattle.jv_meaning_machine.specs.Objects.{Object, key_of}
-use Rattle.jv_meaning_machine.specs.Locations.{held_at}
-use Rattle.jv_meaning_machine.specs.Locations.Location.{StaticField}
+use Rattle.jv_meaning_machine.specs.Laws.Locations.{held_at}
+use Rattle.jv_meaning_machine.specs.Laws.Locations.Location.{StaticField}
 use Rattle.jv_meaning_machine.specs.State.{Program, State}
 use Rattle.jv_meaning_machine.specs.Start.{Budget, start_cells}
 use Rattle.jv_meaning_machine.specs.Step.{step}
 use Rattle.jv_meaning_machine.specs.Alone.{Guest, Judged, IsJudged, after_steps, alone}
-use Rattle.jv_meaning_machine.specs.Shapes.{shape_of, used_cells, used_words, first_cells}
-use Rattle.jv_meaning_machine.specs.Kept.{BeginsWith, KeepsState}
+use Rattle.jv_meaning_machine.specs.Laws.Shapes.{shape_of, used_cells, used_words, first_cells}
+use Rattle.jv_meaning_machine.specs.Laws.Kept.{BeginsWith, KeepsState}
 
 -- ---- from a state to a later one
 

@@ -10,7 +10,7 @@ use Rattle.jv_meaning_machine.specs.Faults.{OrFault}
 use Rattle.jv_meaning_machine.specs.State.{Program}
 use Rattle.jv_meaning_machine.specs.State.End.{Running, Returned, Threw, NoMain}
 use Rattle.jv_meaning_machine.specs.Observation.{Observed}
-use Rattle.jv_meaning_machine.specs.Samples.{java_lang, program_of, run_with, shown, iconst_m1, invokestatic, new, ldc, dup, pop, idiv, iushr, new_ints, code, method, class_with, main_name, main, only_main, run, run_text}
+use Rattle.jv_meaning_machine.specs.Rows.Samples.{java_lang, program_of, run_with, shown, iconst_m1, invokestatic, new, ldc, dup, pop, idiv, iushr, new_ints, code, method, class_with, main_name, main, only_main, run, run_text}
 
 -- it ended in the throw of an object of a class of java/lang, the only throw, without output
 abbrev pub threw : ℕ → List ℕ → OrFault Observed

@@ -26,10 +26,10 @@ use Rattle.jv_meaning_machine.specs.State.ClassState.{Initialized}
 use Rattle.jv_meaning_machine.specs.Effects.{Effect}
 use Rattle.jv_meaning_machine.specs.Effects.Effect.{Leaves}
 use Rattle.jv_meaning_machine.specs.Observation.{Observed}
-use Rattle.jv_meaning_machine.specs.Samples.{program_of, run_with, invokestatic, code, method, class_with, main, main_name}
-use Rattle.jv_meaning_machine.specs.MachineRows.{returned}
-use Rattle.jv_meaning_machine.specs.InstructionSamples.{Setting, effect, objects_behind, statics_behind, follows, on_stack, int, int_minus, long, long_minus}
-use Rattle.jv_meaning_machine.specs.CastRows.{of, instance}
+use Rattle.jv_meaning_machine.specs.Rows.Samples.{program_of, run_with, invokestatic, code, method, class_with, main, main_name}
+use Rattle.jv_meaning_machine.specs.Rows.Machine.{returned}
+use Rattle.jv_meaning_machine.specs.Rows.InstructionSamples.{Setting, effect, objects_behind, statics_behind, follows, on_stack, int, int_minus, long, long_minus}
+use Rattle.jv_meaning_machine.specs.Rows.Casts.{of, instance}
 
 -- ---- constants that are pushed
 

@@ -25,9 +25,9 @@ use Rattle.jv_meaning_machine.specs.Fields.{use_for, can_be_set}
 use Rattle.jv_meaning_machine.specs.Arrays.{at_place, holds_numbers, holds_references, can_stand}
 use Rattle.jv_meaning_machine.specs.Initialization.{is_under_way}
 use Rattle.jv_meaning_machine.specs.Instructions.{execute}
-use Rattle.jv_meaning_machine.specs.Kept.{LeavesAll}
-use Rattle.jv_meaning_machine.specs.Locations.{Location, held_at, StoresAt}
-use Rattle.jv_meaning_machine.specs.Locations.Location.{FieldOf, ComponentOf, StaticField}
+use Rattle.jv_meaning_machine.specs.Laws.Kept.{LeavesAll}
+use Rattle.jv_meaning_machine.specs.Laws.Locations.{Location, held_at, StoresAt}
+use Rattle.jv_meaning_machine.specs.Laws.Locations.Location.{FieldOf, ComponentOf, StaticField}
 
 -- ---- one field among others
 

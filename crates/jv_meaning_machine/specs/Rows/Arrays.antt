@@ -21,7 +21,7 @@ use Rattle.jv_meaning_machine.specs.Objects.Object.{ArrayWith}
 use Rattle.jv_meaning_machine.specs.Effects.{Effect}
 use Rattle.jv_meaning_machine.specs.Effects.Effect.{Throws}
 use Rattle.jv_meaning_machine.specs.Literals.{string_name}
-use Rattle.jv_meaning_machine.specs.InstructionSamples.{Setting, effect, objects_behind, follows, raised, with_objects, int, int_minus, long, long_minus}
+use Rattle.jv_meaning_machine.specs.Rows.InstructionSamples.{Setting, effect, objects_behind, follows, raised, with_objects, int, int_minus, long, long_minus}
 
 -- ---- arrays; the one that an instruction is on is object 0
 

@@ -8,7 +8,7 @@ use Rattle.jv_meaning_machine.specs.State.End.{Running, NoMain}
 use Rattle.jv_meaning_machine.specs.Start.{Budget}
 use Rattle.jv_meaning_machine.specs.Alone.{Guest, Judged, IsJudged}
 use Rattle.jv_meaning_machine.specs.Observation.{Observed, Shows, FaultsWithin}
-use Rattle.jv_meaning_machine.specs.Kept.{BeginsWith}
+use Rattle.jv_meaning_machine.specs.Laws.Kept.{BeginsWith}
 
 -- What is to be found of files is one thing: their classes, the verdict on each, the instructions of code and the units of texts.
 abbrev pub OneJudged : Type 0

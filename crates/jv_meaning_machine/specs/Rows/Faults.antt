@@ -10,9 +10,9 @@ use Rattle.jv_loader_system.specs.Mnemonics.{iconst, iload, aload, invokespecial
 use Rattle.jv_meaning_machine.specs.Faults.{OrFault}
 use Rattle.jv_meaning_machine.specs.Faults.Fault.{OffsetFault, StackFault, LocalFault, TagFault, ReferenceFault, ConstructionFault, UnverifiedFault, ReturnFault}
 use Rattle.jv_meaning_machine.specs.State.{Program}
-use Rattle.jv_meaning_machine.specs.Samples.{program_of, run_with, invokevirtual, new, ldc, pop, code, method, main_name, only_main, run}
+use Rattle.jv_meaning_machine.specs.Rows.Samples.{program_of, run_with, invokevirtual, new, ldc, pop, code, method, main_name, only_main, run}
 use Rattle.jv_meaning_machine.specs.Observation.{Observed}
-use Rattle.jv_meaning_machine.specs.MachineRows.{I, abstract_m}
+use Rattle.jv_meaning_machine.specs.Rows.Machine.{I, abstract_m}
 
 -- a method of an interface that was not accepted is called on an array, which counts as one of an interface
 abbrev pub calls_default : List Instruction

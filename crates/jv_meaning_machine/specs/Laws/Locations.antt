@@ -4,7 +4,7 @@ use Rattle.jv_meaning_machine.specs.Values.{Value}
 use Rattle.jv_meaning_machine.specs.Objects.{FieldKey, Object, value_at}
 use Rattle.jv_meaning_machine.specs.Objects.Object.{InstanceOf, ArrayWith}
 use Rattle.jv_meaning_machine.specs.State.{Memory}
-use Rattle.jv_meaning_machine.specs.Shapes.{shapes}
+use Rattle.jv_meaning_machine.specs.Laws.Shapes.{shapes}
 
 pub data Location : Type 0 where
   FieldOf : (object : ℕ) → (key : FieldKey) → Location

@@ -5,7 +5,7 @@ use Rattle.jv_meaning_machine.specs.State.{Program, State, class_state}
 use Rattle.jv_meaning_machine.specs.State.ClassState.{Initialized, Erroneous}
 use Rattle.jv_meaning_machine.specs.Start.{Budget}
 use Rattle.jv_meaning_machine.specs.Alone.{Guest, Judged, IsJudged, after_steps, alone}
-use Rattle.jv_meaning_machine.specs.Kept.{StayConstructed}
+use Rattle.jv_meaning_machine.specs.Laws.Kept.{StayConstructed}
 
 -- a state of a guest alone, and a later one
 pub record IsLater (judged : Judged) (g : Guest) (b : Budget) (before later : State) : Type 0 where

@@ -10,7 +10,7 @@ use Rattle.jv_meaning_machine.specs.Effects.{Effect}
 use Rattle.jv_meaning_machine.specs.Effects.Effect.{Goes}
 use Rattle.jv_meaning_machine.specs.Instructions.{execute}
 use Rattle.jv_meaning_machine.specs.Step.{moment, act, step}
-use Rattle.jv_meaning_machine.specs.Kept.{Keeps}
+use Rattle.jv_meaning_machine.specs.Laws.Kept.{Keeps}
 
 -- In a state an instruction of the current method is next, and executed it does this to the memory, with an effect.
 pub record Executes (program : Program) (s : State) (memory : Memory) (effect : Effect) : Type 0 where

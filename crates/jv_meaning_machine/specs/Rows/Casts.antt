@@ -14,7 +14,7 @@ use Rattle.jv_meaning_machine.specs.Values.Value.{Null, Reference}
 use Rattle.jv_meaning_machine.specs.Objects.{Object}
 use Rattle.jv_meaning_machine.specs.Objects.Object.{InstanceOf, ArrayWith}
 use Rattle.jv_meaning_machine.specs.Effects.{Effect}
-use Rattle.jv_meaning_machine.specs.InstructionSamples.{Setting, effect, follows, raised, with_objects, int}
+use Rattle.jv_meaning_machine.specs.Rows.InstructionSamples.{Setting, effect, follows, raised, with_objects, int}
 
 -- ---- a class A implements I, whose superinterface is J, and B is below A; p/Hidden is not public
 

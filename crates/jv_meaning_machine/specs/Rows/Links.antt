@@ -20,9 +20,9 @@ use Rattle.jv_meaning_machine.specs.State.{ClassState}
 use Rattle.jv_meaning_machine.specs.State.ClassState.{Begun, Initialized, Erroneous}
 use Rattle.jv_meaning_machine.specs.Effects.{Effect}
 use Rattle.jv_meaning_machine.specs.Effects.Effect.{Enters, Begins}
-use Rattle.jv_meaning_machine.specs.Samples.{code}
-use Rattle.jv_meaning_machine.specs.InstructionSamples.{Setting, effect, raised, on_stack, int}
-use Rattle.jv_meaning_machine.specs.CastRows.{of, instance, array_of}
+use Rattle.jv_meaning_machine.specs.Rows.Samples.{code}
+use Rattle.jv_meaning_machine.specs.Rows.InstructionSamples.{Setting, effect, raised, on_stack, int}
+use Rattle.jv_meaning_machine.specs.Rows.Casts.{of, instance, array_of}
 
 -- ---- classes: A is abstract, B below it declares nothing, and I is an interface
 

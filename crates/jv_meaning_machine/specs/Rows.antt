@@ -1,0 +1,12 @@
+pub mod Samples
+pub mod InstructionSamples
+pub mod Arithmetic
+pub mod Stack
+pub mod Machine
+pub mod Initialization
+pub mod Arrays
+pub mod Casts
+pub mod Links
+pub mod Throws
+pub mod Members
+pub mod Faults
