@@ -7,7 +7,7 @@ use Rattle.jv_code.specs.declared.kinds.FieldAccess.TheVariants as access
 use Rattle.jv_code.specs.declared.kinds.Invocation.TheVariants as invocations
 use Rattle.jv_meaning_typing.specs.Rule.{handler_frame}
 use Rattle.jv_meaning_typing.specs.Named.{throwable_type}
-use Rattle.jv_meaning_typing.specs.Samples.{b, c, object, of_class, numbers, in_m, in_init, on_stack, on_stack_in, behind, frame, flagged}
+use Rattle.jv_meaning_typing.specs.Samples.{b, c, object, of_class, numbers, in_m, in_init, below_own_package, on_stack, on_stack_in, behind, frame, flagged}
 
 -- ---- objects
 
@@ -71,6 +71,11 @@ pub record FieldRows : Type 0 where
   pub guarded : on_stack (insns.Field access.GetField 19) (b ∷ []) ≡ None
   pub guarded_on_current : on_stack (insns.Field access.GetField 19) (c ∷ []) ≡ Some (types.Int ∷ [])
   pub static_is_not_guarded : on_stack (insns.Field access.GetField 23) (b ∷ []) ≡ Some (types.Int ∷ [])
+  -- nor is one that isn't there: the error comes when it is resolved
+  pub missing_is_not_guarded : on_stack (insns.Field access.GetField 57) (b ∷ []) ≡ Some (types.Int ∷ [])
+  -- nor one that a class of the same package declares, by way of a class of another one
+  pub own_package_is_not_guarded : on_stack_in below_own_package (insns.Field access.GetField 60) (b ∷ []) ≡ Some (types.Int ∷ [])
+  pub guarded_above : on_stack_in below_own_package (insns.Field access.GetField 19) (b ∷ []) ≡ None
 
 pub record PutFieldRows : Type 0 where
   pub putfield : on_stack (insns.Field access.PutField 18) (types.Int ∷ c ∷ []) ≡ Some []

@@ -69,12 +69,14 @@ constructor_constants =
     ∷ constants.Utf8 (codes "(I)V") ∷ constants.NameAndType 35 41 ∷ constants.Methodref 2 42 ∷ []
 
 -- 44 an int, 45 a string, 46 a long, which takes 47 too; 49 and 51 arrays of 254 and of 255 dimensions; 53 and 54 the
--- methods I.m and J.m as those of classes; 55 java/lang/Throwable
+-- methods I.m and J.m as those of classes; 55 java/lang/Throwable; 57 a field m of p/B, which isn't there; 60 p/B.a
 abbrev pub other_constants : List Entry
 other_constants =
     constants.Integer 7 ∷ constants.String 15 ∷ constants.Long 0 1
     ∷ constants.Utf8 (replicate 254 91 ++ codes "I") ∷ constants.Class 48 ∷ constants.Utf8 (replicate 255 91 ++ codes "I") ∷ constants.Class 50
-    ∷ constants.Utf8 (codes "java/lang/Throwable") ∷ constants.Methodref 8 26 ∷ constants.Methodref 10 26 ∷ constants.Class 52 ∷ []
+    ∷ constants.Utf8 (codes "java/lang/Throwable") ∷ constants.Methodref 8 26 ∷ constants.Methodref 10 26 ∷ constants.Class 52
+    ∷ constants.NameAndType 24 16 ∷ constants.Fieldref 4 56 ∷ constants.Utf8 (codes "a") ∷ constants.NameAndType 58 16
+    ∷ constants.Fieldref 4 59 ∷ []
 
 abbrev pub current : Class
 current = record (class_with 1 (codes "C") (Some (codes "p/B")) (codes "I" ∷ []) []) {
@@ -145,6 +147,16 @@ in_m = method_of_c (codes "m") None
 
 abbrev pub in_init : Environment
 in_init = method_of_c (codes "<init>") None
+
+-- the same where p/B is below a class A of C's own package, which has a protected field a
+abbrev pub below_own_package : Environment
+below_own_package =
+    record in_m {
+      world =
+          world_of (class (codes "java/lang/Throwable") object_name [] ∷ system)
+          (Holds (record superclass { super_class = Some (codes "A") }) ∷ Holds (record (class (codes "A") object_name []) { fields = field 4 (codes "a") ∷ [] })
+          ∷ Holds (interface (codes "I") [] []) ∷ Holds (interface (codes "J") [] []) ∷ Holds current ∷ []);
+    }
 
 -- ---- what is left behind an instruction at 9
 

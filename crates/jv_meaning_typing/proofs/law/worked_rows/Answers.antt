@@ -237,6 +237,9 @@ returns c = record {
     guarded = refl;
     guarded_on_current = refl;
     static_is_not_guarded = refl;
+    missing_is_not_guarded = refl;
+    own_package_is_not_guarded = refl;
+    guarded_above = refl;
   };
   put_fields = record {
     putfield = refl;
