@@ -2,7 +2,7 @@
 use Rattle.std.proofs.Common.{◌≡◌, Bool, true, false, cond, [], ◌∷◌, Some, refl, sym, ap, ◌∙◌, true≢false}
 use Rattle.std.specs.Prelude.{IsSome}
 use Rattle.jv_meaning_machine.specs.Objects.{same_key, value_at, with_value}
-use Rattle.jv_meaning_machine.specs.Laws.Ends.{StoredIsThere}
+use Rattle.jv_meaning_machine.specs.Laws.Stores.{StoredIsThere}
 
 pub stored_is_there : StoredIsThere
 stored_is_there key value [] h = absurd (true≢false (sym h))

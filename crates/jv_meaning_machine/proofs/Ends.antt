@@ -1,22 +1,25 @@
 -- A guest has no frame exactly where it has ended.
-use Rattle.std.proofs.Common.{◌≡◌, ℕ, false, List, [], Option, Some, None, Ok, refl, sym, ap, subst, ◌∙◌, codes, if◌then◌else◌}
+use Rattle.std.proofs.Common.{◌≡◌, ℕ, zero, suc, ◌+◌, add-zero, add-suc, false, List, [], Option, Some, None, Ok, refl, sym, ap, subst, ◌∙◌, codes, if◌then◌else◌}
 use Rattle.jv_loader_world.specs.World.{World, class_named}
 use Rattle.jv_loader_world.specs.Overriding.{Declared}
-use Rattle.jv_meaning_machine.specs.Faults.{found}
+use Rattle.jv_meaning_machine.specs.Faults.{OrFault, found, ◌>>=◌}
 use Rattle.jv_meaning_machine.specs.Faults.Fault.{ReferenceFault}
 use Rattle.jv_meaning_machine.specs.Frames.{Frame}
 use Rattle.jv_meaning_machine.specs.State.{Program, Memory, State, state_of, ClassState, ClassStates, class_state}
 use Rattle.jv_meaning_machine.specs.State.ClassState.{Untouched, Initialized}
 use Rattle.jv_meaning_machine.specs.State.End.{Running, NoMain}
-use Rattle.jv_meaning_machine.specs.Initialization.{main_method, begin_in, is_verified}
+use Rattle.jv_meaning_machine.specs.Initialization.{main_method, is_verified}
 use Rattle.jv_meaning_machine.specs.Start.{Budget, start_memory, start_control, start_with, start}
-use Rattle.jv_meaning_machine.specs.Alone.{Guest, Judged, IsJudged, after_steps, alone}
+use Rattle.jv_meaning_machine.specs.Alone.{GuestFiles, Judged, IsJudged, Feed, came_at, fed, alone}
+use Rattle.jv_meaning_machine.specs.Step.{step}
+use Rattle.jv_meaning_machine.specs.Laws.Feeds.{came_behind}
 use Rattle.jv_meaning_machine.specs.Laws.Ends.{EndFitsBehind, EndFitsAlone, EndedGuestStays}
-use Rattle.jv_meaning_machine.proofs.Leading.{Leads, leaf, bound, chained}
-use Rattle.jv_meaning_machine.proofs.KeptAlone.{alone_goes_on}
-use Rattle.jv_meaning_machine.proofs.Ended.{ended_stays_over}
+use Rattle.jv_meaning_machine.proofs.Leading.{Leads, leaf, bound}
+use Rattle.jv_meaning_machine.proofs.Fed.{alone_keeps, fed_nothing, fed_both}
+use Rattle.jv_meaning_machine.proofs.KeptControl.{begun_in}
+use Rattle.jv_meaning_machine.proofs.Ended.{ended_stays}
 use Rattle.jv_meaning_machine.proofs.Mains.{main_is_its_own}
-use Rattle.jv_meaning_machine.proofs.Going.{IsKept, Went, ends, begin_if_goes, step_goes, after_goes}
+use Rattle.jv_meaning_machine.proofs.Going.{IsKept, Went, ends, begin_first_goes, step_goes}
 
 -- ---- the start, where what is kept holds before anything is done
 
@@ -29,12 +32,12 @@ module _ (G : ClassStates → ℕ → List Frame → Type 0) (kept : IsKept G) (
       (program : Program) (main : List ℕ) (b : Budget) (memory : Memory) (o : Option Declared) → ((d : Declared) → o ≡ Some d → d.by.by_system ≡ false)
       → Leads State (Went G kept) (start_with program main b memory o)
   start_with_goes program main b memory None own =
-      leaf (Went G kept) (state_of memory (start_control main b NoMain))
+      leaf (Went G kept) (state_of memory [] (start_control main b NoMain))
       (ends G kept memory (start_control main b Running) NoMain (λ e. absurd cc) (record { running = refl; holds = first }))
   start_with_goes program main b memory (Some d) own =
       let untouched : class_state [] d.by ≡ Untouched = ap (λ by_system. if by_system then Initialized else Untouched) (own d refl) in
-      subst (λ (state : ClassState). Leads State (Went G kept) (begin_in program memory (start_control main b Running) d.by state)) (sym untouched)
-      (begin_if_goes G kept program memory (start_control main b Running) d.by (is_verified program d.by) untouched
+      subst (λ (state : ClassState). Leads State (Went G kept) (begun_in program memory [] (start_control main b Running) d.by state)) (sym untouched)
+      (begin_first_goes G kept program memory [] (start_control main b Running) d.by (is_verified program d.by) untouched
       (record { running = refl; holds = first }))
 
   start_goes :
@@ -45,10 +48,11 @@ module _ (G : ClassStates → ℕ → List Frame → Type 0) (kept : IsKept G) (
       (λ error e. start_with_goes program main b (start_memory program.world input b error) (main_method program.world main) own)
 
   pub alone_goes :
-      (judged : Judged) (g : Guest) (b : Budget) (n : ℕ) (s : State) → IsJudged g.files judged → alone judged g b n ≡ Ok s → Went G kept s
-  alone_goes judged g b n s right e =
-      (chained (Went G kept) (Went G kept) (start judged.program g.main g.input b) (after_steps judged.program n)
-      (start_goes judged.program g.main g.input b own) (λ t h. record { at = λ u f. after_goes G kept judged.program n t u h f })).at
+      (judged : Judged) (g : GuestFiles) (b : Budget) (feeds : List Feed) (n : ℕ) (s : State) → IsJudged g.files judged
+      → alone judged g b feeds n ≡ Ok s → Went G kept s
+  alone_goes judged g b feeds n s right e =
+      (alone_keeps judged g b feeds (Went G kept) (λ s t h f. step_goes G kept judged.program s t h f) (λ bytes s h. h)
+      (start_goes judged.program g.main g.input b own) n).at
       s e
     where
       own : MainIsOwn judged.program.world g.main
@@ -74,8 +78,25 @@ pub end_fits_behind : EndFitsBehind
 end_fits_behind program before later h e = (step_goes Nothing nothing_kept program before later (h, tt) e).0
 
 pub end_fits_alone : EndFitsAlone
-end_fits_alone judged g b n s right e = (alone_goes Nothing nothing_kept tt judged g b n s right e).0
+end_fits_alone judged g b feeds n s right e = (alone_goes Nothing nothing_kept tt judged g b feeds n s right e).0
+
+abbrev given : State → OrFault State
+given s = Ok s
+
+-- an ended state is fed, and stays but for that
+pub stays_fed :
+    (judged : Judged) (g : GuestFiles) (b : Budget) (feeds : List Feed) (n more : ℕ) (s : State) → alone judged g b feeds n ≡ Ok s
+    → s.frames ≡ [] → alone judged g b feeds (n + more) ≡ Ok (fed (came_behind n more feeds) s)
+stays_fed judged g b feeds n zero s e empty =
+    ap (λ (k : ℕ). alone judged g b feeds k) (add-zero n) ∙ e ∙ ap (λ (t : State). given t) (sym (fed_nothing s))
+stays_fed judged g b feeds n (suc more) s e empty =
+    ap (λ (k : ℕ). alone judged g b feeds k) (add-suc n more)
+    ∙ ap (λ (o : OrFault State). o >>= step judged.program >>= λ t. Ok (fed (came_at (suc (n + more)) feeds) t))
+    (stays_fed judged g b feeds n more s e empty)
+    ∙ ap (λ (o : OrFault State). o >>= λ t. Ok (fed (came_at (suc (n + more)) feeds) t))
+    (ended_stays judged.program (fed (came_behind n more feeds) s) empty)
+    ∙ ap (λ (t : State). given t) (fed_both (came_behind n more feeds) (came_at (suc (n + more)) feeds) s)
 
 pub ended_guest_stays : EndedGuestStays
-ended_guest_stays judged g b n more s right e ended =
-    alone_goes_on judged g b n more s e ∙ ended_stays_over judged.program more s ((end_fits_alone judged g b n s right e).1 ended)
+ended_guest_stays judged g b feeds n more s right e ended =
+    stays_fed judged g b feeds n more s e ((end_fits_alone judged g b feeds n s right e).1 ended)

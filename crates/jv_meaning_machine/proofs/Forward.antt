@@ -7,11 +7,11 @@ use Rattle.jv_meaning_machine.specs.Frames.Frame.{Runs, Initializes}
 use Rattle.jv_meaning_machine.specs.State.{State, ClassState, ClassStates, state_named, class_state}
 use Rattle.jv_meaning_machine.specs.State.ClassState.{Untouched, Begun, Initialized, Erroneous}
 use Rattle.jv_meaning_machine.specs.Start.{Budget}
-use Rattle.jv_meaning_machine.specs.Alone.{Guest, Judged}
+use Rattle.jv_meaning_machine.specs.Alone.{GuestFiles, Judged, Feed}
 use Rattle.jv_meaning_machine.specs.Laws.Forward.{IsLater, InitializedStays, ErroneousStays, ThrowsNeverFall, ConstructedStays}
 use Rattle.jv_meaning_machine.proofs.KeptSteps.{after_kept}
-use Rattle.jv_meaning_machine.proofs.KeptAlone.{alone_goes_on}
-use Rattle.jv_meaning_machine.proofs.Going.{IsKept, Went, after_goes}
+use Rattle.jv_meaning_machine.proofs.Fed.{later_keeps}
+use Rattle.jv_meaning_machine.proofs.Going.{IsKept, Went, step_goes}
 use Rattle.jv_meaning_machine.proofs.Ends.{alone_goes}
 
 -- ---- the classes that are being initialized
@@ -143,36 +143,39 @@ from_start : Forward [] 0 [] 0 []
 from_start = record { begun = tt; done = λ name state d e. e; more = omega arith; few = omega arith }
 
 later_forward :
-    (judged : Judged) (g : Guest) (b : Budget) (before later : State) → IsLater judged g b before later
-    → Forward before.control.states before.control.throws later.control.states later.control.throws later.control.frames
-later_forward judged g b before later h =
+    (judged : Judged) (g : GuestFiles) (b : Budget) (feeds : List Feed) (before later : State) → IsLater judged g b feeds before later
+    → Forward before.control.states before.control.throws later.control.states later.control.throws later.frames
+later_forward judged g b feeds before later h =
     let first : Went (Forward [] 0) (forward_kept [] 0) before =
-    alone_goes (Forward [] 0) (forward_kept [] 0) from_start judged g b h.n before h.right h.ran in
-    let here : Forward before.control.states before.control.throws before.control.states before.control.throws before.control.frames =
+    alone_goes (Forward [] 0) (forward_kept [] 0) from_start judged g b feeds h.n before h.right h.ran in
+    let here : Forward before.control.states before.control.throws before.control.states before.control.throws before.frames =
     record { begun = first.1.begun; done = λ name state d e. e; more = omega arith; few = first.1.few } in
-    (after_goes (Forward before.control.states before.control.throws) (forward_kept before.control.states before.control.throws) judged.program h.more before
-    later (first.0, here) (sym (alone_goes_on judged g b h.n h.more before h.ran) ∙ h.ran_on)).1
+    ((later_keeps judged g b feeds (Went (Forward before.control.states before.control.throws) (forward_kept before.control.states before.control.throws))
+    (λ s t k f.
+    step_goes (Forward before.control.states before.control.throws) (forward_kept before.control.states before.control.throws) judged.program s t k f)
+    (λ bytes s k. k) h.n h.more before h.ran (first.0, here)).at
+    later h.ran_on).1
 
 stays_done :
-    (judged : Judged) (g : Guest) (b : Budget) (before later : State) (l : Loaded) (state : ClassState) → IsLater judged g b before later
+    (judged : Judged) (g : GuestFiles) (b : Budget) (feeds : List Feed) (before later : State) (l : Loaded) (state : ClassState) → IsLater judged g b feeds before later
     → is_done state ≡ true → class_state before.control.states l ≡ state → class_state later.control.states l ≡ state
-stays_done judged g b before later l state h done e = by_loader l.by_system e
+stays_done judged g b feeds before later l state h done e = by_loader l.by_system e
   where
     by_loader :
         (by_system : Bool) → (if by_system then Initialized else state_named l.class.name before.control.states) ≡ state
         → (if by_system then Initialized else state_named l.class.name later.control.states) ≡ state
     by_loader true f = f
-    by_loader false f = (later_forward judged g b before later h).done l.class.name state done f
+    by_loader false f = (later_forward judged g b feeds before later h).done l.class.name state done f
 
 pub initialized_stays : InitializedStays
-initialized_stays judged g b before later l h e = stays_done judged g b before later l Initialized h refl e
+initialized_stays judged g b feeds before later l h e = stays_done judged g b feeds before later l Initialized h refl e
 
 pub erroneous_stays : ErroneousStays
-erroneous_stays judged g b before later l h e = stays_done judged g b before later l Erroneous h refl e
+erroneous_stays judged g b feeds before later l h e = stays_done judged g b feeds before later l Erroneous h refl e
 
 pub throws_never_fall : ThrowsNeverFall
-throws_never_fall judged g b before later h =
-    ((later_forward judged g b before later h).more, (later_forward judged g b before later h).few)
+throws_never_fall judged g b feeds before later h =
+    ((later_forward judged g b feeds before later h).more, (later_forward judged g b feeds before later h).few)
 
 -- ---- objects
 

@@ -1,5 +1,5 @@
 -- What a guest alone keeps of its budget.
-use Rattle.std.proofs.Common.{◌≡◌, ℕ, zero, suc, ◌+◌, ◌-◌, true, List, [], ◌∷◌, length, Option, Some, None, Ok, Err, refl, sym, ap, ◌∙◌, arith, slice_get, length-append, add-zero, add-suc, codes}
+use Rattle.std.proofs.Common.{◌≡◌, ℕ, zero, suc, ◌+◌, ◌-◌, true, List, [], ◌∷◌, map, length, Option, Some, None, refl, sym, ap, subst, ◌∙◌, arith, slice_get, length-append, append-nil, codes}
 use Rattle.std.specs.Option.{option_map}
 use Rattle.std.proofs.lemmas.List.{length-map}
 use Rattle.std.proofs.lemmas.Option.{slice_get-map}
@@ -8,24 +8,25 @@ use Rattle.jv_loader_system.specs.SystemClasses.{system_classes}
 use Rattle.jv_loader_world.specs.World.{Loaded, World, class_named, world_of}
 use Rattle.jv_loader_world.specs.Overriding.{Declared}
 use Rattle.jv_meaning_typing.specs.Named.{class_components}
-use Rattle.jv_meaning_machine.specs.Faults.{OrFault, found, ◌>>=◌}
+use Rattle.jv_meaning_machine.specs.Faults.{found}
 use Rattle.jv_meaning_machine.specs.Faults.Fault.{ReferenceFault}
 use Rattle.jv_meaning_machine.specs.Objects.{Object, made_object, new_array}
+use Rattle.jv_meaning_machine.specs.Objects.Object.{InstanceOf}
 use Rattle.jv_meaning_machine.specs.State.{Program, Memory, Control, State, state_of}
 use Rattle.jv_meaning_machine.specs.State.End.{Running, NoMain}
 use Rattle.jv_meaning_machine.specs.Literals.{string_name}
 use Rattle.jv_meaning_machine.specs.Initialization.{main_method, begin}
 use Rattle.jv_meaning_machine.specs.Start.{Budget, start_cells, start_memory, start_control, start_with, start}
-use Rattle.jv_meaning_machine.specs.Step.{step}
-use Rattle.jv_meaning_machine.specs.Alone.{Guest, Judged, after_steps, alone}
-use Rattle.jv_meaning_machine.specs.Laws.Shapes.{Shape, shape_of, shapes, shape_cells, used_cells, used_words, first_cells}
+use Rattle.jv_meaning_machine.specs.Alone.{GuestFiles, Judged, Feed, alone}
+use Rattle.jv_meaning_machine.specs.Laws.Shapes.{Shape, shape_of, shapes, IsOfClass, AreOfClasses, shape_cells, used_cells, used_words, first_cells}
 use Rattle.jv_meaning_machine.specs.Laws.Kept.{BeginsWith, Keeps, KeepsState}
-use Rattle.jv_meaning_machine.specs.Laws.Runs.{OutputGrows, ObjectsStay, ObjectsAreNeverFewer, AloneGoesOn, OutputIsBudgeted, WordsAreBudgeted, CellsAreBudgeted, FirstObjectsCost}
-use Rattle.jv_meaning_machine.proofs.Leading.{Leads, leaf, bound, chained, found_gave}
-use Rattle.jv_meaning_machine.proofs.KeptMemory.{keeps_same, keeps_over, in_longer}
-use Rattle.jv_meaning_machine.proofs.KeptDone.{cost_of_object, cost_of_one}
+use Rattle.jv_meaning_machine.specs.Laws.Runs.{OutputGrows, ObjectsStay, ObjectsAreNeverFewer, OutputIsBudgeted, WordsAreBudgeted, CellsAreBudgeted, ObjectsHaveFields, FirstObjectsCost}
+use Rattle.jv_meaning_machine.proofs.Leading.{Leads, leaf, bound, found_gave}
+use Rattle.jv_meaning_machine.proofs.KeptMemory.{keeps_same, keeps_over, in_longer, with_input, named_itself, new_is_of_class}
+use Rattle.jv_meaning_machine.proofs.KeptOutcomes.{cost_of_object, cost_of_one}
 use Rattle.jv_meaning_machine.proofs.KeptControl.{Stays, begin_stays}
-use Rattle.jv_meaning_machine.proofs.KeptSteps.{after_kept}
+use Rattle.jv_meaning_machine.proofs.KeptSteps.{step_kept, after_kept}
+use Rattle.jv_meaning_machine.proofs.Fed.{alone_keeps}
 
 -- ---- from a state to a later one
 
@@ -54,27 +55,55 @@ objects_stay program n before later e number object here =
 
 -- ---- the start
 
--- what a state has kept of a memory of the start, and all words
-pub record IsFrom (b : Budget) (memory : Memory) (s : State) : Type 0 where
-  pub memory_kept : Keeps memory s.memory
-  pub words : used_words s.control + s.control.words ≡ b.words
+-- what a state has kept of a memory of the start, but for the input, and all words
+pub record IsFrom (world : World) (b : Budget) (memory : Memory) (s : State) : Type 0 where
+  pub memory_kept : Keeps world memory (with_input [] s.memory)
+  pub words : used_words s.frames + s.control.words ≡ b.words
+
+-- what stays whatever the input is
+unread : {world : World} (before after : Memory) → Keeps world before after → Keeps world before (with_input [] after)
+unread before after h = record {
+  output = h.output;
+  output_budget = h.output_budget;
+  objects = h.objects;
+  fields = h.fields;
+  constructed = h.constructed;
+  cells_budget = h.cells_budget;
+  statics = h.statics;
+  literals = h.literals;
+  input = (before.input, sym (append-nil before.input));
+}
+
+both_unread : {world : World} (before after : Memory) → Keeps world before after → Keeps world (with_input [] before) (with_input [] after)
+both_unread before after h = record {
+  output = h.output;
+  output_budget = h.output_budget;
+  objects = h.objects;
+  fields = h.fields;
+  constructed = h.constructed;
+  cells_budget = h.cells_budget;
+  statics = h.statics;
+  literals = h.literals;
+  input = ([], refl);
+}
 
 start_with_leads :
     (program : Program) (main : List ℕ) (b : Budget) (memory : Memory) (d : Option Declared)
-    → Leads State (IsFrom b memory) (start_with program main b memory d)
+    → Leads State (IsFrom program.world b memory) (start_with program main b memory d)
 start_with_leads program main b memory None =
-    leaf (IsFrom b memory) (state_of memory (start_control main b NoMain)) (record { memory_kept = keeps_same memory; words = omega arith })
+    leaf (IsFrom program.world b memory) (state_of memory [] (start_control main b NoMain))
+    (record { memory_kept = unread memory memory (keeps_same memory); words = omega arith })
 start_with_leads program main b memory (Some d) =
     let control : Control = start_control main b Running in
-    let begun : Leads State (Stays memory b.words main) (begin program memory control d.by) =
-    begin_stays memory b.words main program memory control d.by (keeps_same memory) (record { sum = omega arith; same_main = refl }) in
-    record { at = λ s e. record { memory_kept = (begun.at s e).0; words = (begun.at s e).1.sum } }
+    let begun : Leads State (Stays program memory b.words main) (begin program memory [] control d.by) =
+    begin_stays program memory b.words main memory [] control d.by (keeps_same memory) (record { sum = omega arith; same_main = refl }) in
+    record { at = λ s e. record { memory_kept = unread memory s.memory (begun.at s e).0; words = (begun.at s e).1.sum } }
 
 -- from the memory with which a guest starts
 pub record IsFromStart (program : Program) (input : List ℕ) (b : Budget) (s : State) : Type 0 where
   pub error : Loaded
   pub named : class_named program.world (codes "java/lang/OutOfMemoryError") ≡ Some error
-  pub from : IsFrom b (start_memory program.world input b error) s
+  pub from : IsFrom program.world b (start_memory program.world input b error) s
 
 start_leads : (program : Program) (main input : List ℕ) (b : Budget) → Leads State (IsFromStart program input b) (start program main input b)
 start_leads program main input b =
@@ -89,42 +118,57 @@ start_leads program main input b =
       };
     })
 
-from_over : (b : Budget) (memory : Memory) (s t : State) → IsFrom b memory s → KeepsState s t → IsFrom b memory t
-from_over b memory s t h k =
-    record { memory_kept = keeps_over memory s.memory t.memory h.memory_kept k.memory; words = k.words_budget ∙ h.words }
+from_over : (world : World) (b : Budget) (memory : Memory) (s t : State) → IsFrom world b memory s → KeepsState world s t → IsFrom world b memory t
+from_over world b memory s t h k = record {
+  memory_kept =
+      keeps_over memory (with_input [] s.memory) (with_input [] t.memory) h.memory_kept (both_unread s.memory t.memory k.memory);
+  words = k.words_budget ∙ h.words;
+}
 
-pub alone_leads : (judged : Judged) (g : Guest) (b : Budget) (n : ℕ) → Leads State (IsFromStart judged.program g.input b) (alone judged g b n)
-alone_leads judged g b n =
-    chained (IsFromStart judged.program g.input b) (IsFromStart judged.program g.input b) (start judged.program g.main g.input b)
-    (after_steps judged.program n) (start_leads judged.program g.main g.input b)
-    (λ s h.
+pub alone_leads :
+    (judged : Judged) (g : GuestFiles) (b : Budget) (feeds : List Feed) (n : ℕ)
+    → Leads State (IsFromStart judged.program g.input b) (alone judged g b feeds n)
+alone_leads judged g b feeds n =
+    alone_keeps judged g b feeds (IsFromStart judged.program g.input b)
+    (λ s t h e.
     record {
-      at = λ t e. record {
-        error = h.error;
-        named = h.named;
-        from = from_over b (start_memory judged.program.world g.input b h.error) s t h.from (after_kept judged.program n s t e);
-      };
+      error = h.error;
+      named = h.named;
+      from = from_over judged.program.world b (start_memory judged.program.world g.input b h.error) s t h.from (step_kept judged.program s t e);
     })
+    (λ bytes s h.
+    record {
+      error = h.error;
+      named = h.named;
+      from = record { memory_kept = h.from.memory_kept; words = h.from.words };
+    })
+    (start_leads judged.program g.main g.input b) n
 
 -- ---- a guest alone
 
-after_later : (program : Program) (n more : ℕ) (s t : State) → after_steps program n s ≡ Ok t → after_steps program (n + more) s ≡ after_steps program more t
-after_later program n zero s t e = ap (λ (k : ℕ). after_steps program k s) (add-zero n) ∙ e
-after_later program n (suc more) s t e =
-    ap (λ (k : ℕ). after_steps program k s) (add-suc n more) ∙ ap (λ (o : OrFault State). o >>= step program) (after_later program n more s t e)
-
-pub alone_goes_on : AloneGoesOn
-alone_goes_on judged g b n more s e = by_start (start judged.program g.main g.input b) e
-  where
-    by_start : (o : OrFault State) → (o >>= after_steps judged.program n) ≡ Ok s → (o >>= after_steps judged.program (n + more)) ≡ after_steps judged.program more s
-    by_start (Ok first) f = after_later judged.program n more first s f
-    by_start (Err fault) f = absurd cc
-
 pub output_is_budgeted : OutputIsBudgeted
-output_is_budgeted judged g b n s e = omega (arith, ((alone_leads judged g b n).at s e).from.memory_kept.output_budget)
+output_is_budgeted judged g b feeds n s e = omega (arith, ((alone_leads judged g b feeds n).at s e).from.memory_kept.output_budget)
 
 pub words_are_budgeted : WordsAreBudgeted
-words_are_budgeted judged g b n s e = ((alone_leads judged g b n).at s e).from.words
+words_are_budgeted judged g b feeds n s e = ((alone_leads judged g b feeds n).at s e).from.words
+
+one_of_classes :
+    (world : World) (objects : List Object) (number : ℕ) (object : Object) → slice_get objects number ≡ Some object
+    → AreOfClasses world (map shape_of objects) → IsOfClass world (shape_of object)
+one_of_classes world [] number object e h = absurd cc
+one_of_classes world (first ∷ more) zero object e h =
+    let same : first ≡ object = cc in
+    subst (λ (o : Object). IsOfClass world (shape_of o)) same h.0
+one_of_classes world (first ∷ more) (suc number) object e h = one_of_classes world more number object e h.1
+
+pub objects_have_fields : ObjectsHaveFields
+objects_have_fields judged g b feeds n s e number instance there =
+    let known : IsFromStart judged.program g.input b s = (alone_leads judged g b feeds n).at s e in
+    let first : IsOfClass judged.program.world (shape_of (made_object judged.program.world known.error)) =
+    new_is_of_class judged.program.world true known.error
+    (named_itself judged.program.world (codes "java/lang/OutOfMemoryError") known.error known.named) in
+    let all : AreOfClasses judged.program.world (shapes s.memory) = known.from.memory_kept.fields (first, (tt, tt)) in
+    one_of_classes judged.program.world s.memory.objects number (InstanceOf instance) there all
 
 start_cells_used :
     (world : World) (input : List ℕ) (b : Budget) (error : Loaded) → used_cells (start_memory world input b error) ≡ start_cells world error
@@ -142,8 +186,8 @@ unfolding cost_in
 first_objects_cost contents error e = sym (ap (cost_in (world_of system_classes contents)) e)
 
 pub cells_are_budgeted : CellsAreBudgeted
-cells_are_budgeted judged g b n s right room e =
-    let known : IsFromStart judged.program g.input b s = (alone_leads judged g b n).at s e in
+cells_are_budgeted judged g b feeds n s right room e =
+    let known : IsFromStart judged.program g.input b s = (alone_leads judged g b feeds n).at s e in
     let named : class_named (world_of system_classes right.contents) (codes "java/lang/OutOfMemoryError") ≡ Some known.error =
     ap (λ (w : World). class_named w (codes "java/lang/OutOfMemoryError")) (sym right.world) ∙ known.named in
     let cost : start_cells judged.program.world known.error ≡ first_cells =

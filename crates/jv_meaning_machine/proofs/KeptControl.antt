@@ -1,76 +1,145 @@
 -- What stays over throws, calls, returns and initializations: the memory of an earlier state, and the sum of all words.
-use Rattle.std.proofs.Common.{◌≡◌, ℕ, ◌+◌, ◌-◌, ◌≤◌, nat_le, Bool, true, false, List, [], ◌∷◌, Option, Some, None, Ok, refl, ◌∙◌, arith, sum_by, codes, if◌then◌else◌}
+use Rattle.std.proofs.Common.{◌≡◌, ℕ, ◌+◌, ◌-◌, ◌≤◌, nat_le, Bool, true, false, List, [], ◌∷◌, Option, Some, None, Ok, Err, refl, sym, ap, ◌∙◌, arith, sum_by, codes, slice_get, true≢false, if◌then◌else◌}
+use Rattle.std.specs.List.{flat_map}
 use Rattle.std.proofs.lemmas.Bool.{leb-true}
 use Rattle.std.proofs.lemmas.List.Sums.{sum_by-cons}
 use Rattle.jv_format.specs.declared.handlers.Handler.{Handler}
 use Rattle.jv_text.specs.declared.descriptor.FieldTypeOf.{FieldTypeOf}
-use Rattle.jv_loader_world.specs.World.{Loaded, World}
+use Rattle.jv_loader_world.specs.of_class_parts.Parts.{CodeSeen}
+use Rattle.jv_loader_world.specs.World.{Loaded, class_named}
 use Rattle.jv_loader_world.specs.Overriding.{Declared}
 use Rattle.jv_loader_world.specs.LookUps.{DeclaredField}
 use Rattle.jv_meaning_linking.specs.Layout.{object_cells}
-use Rattle.jv_meaning_machine.specs.Faults.{◌>>=◌}
+use Rattle.jv_text.specs.Types.{method_type_of}
+use Rattle.jv_meaning_linking.specs.LinkErrors.{error_class}
+use Rattle.jv_meaning_linking.specs.LinkErrors.LinkError.{NoClassDefFoundError, VerifyError}
+use Rattle.jv_meaning_typing.specs.Environment.{Environment}
+use Rattle.jv_meaning_machine.specs.Faults.{OrFault, found, tested, ◌>>=◌}
+use Rattle.jv_meaning_machine.specs.Faults.Fault.{OffsetFault, UnverifiedFault, ReferenceFault}
 use Rattle.jv_meaning_machine.specs.Values.{Value}
 use Rattle.jv_meaning_machine.specs.Values.Value.{Reference}
-use Rattle.jv_meaning_machine.specs.Objects.{made_object, is_class_of}
-use Rattle.jv_meaning_machine.specs.Frames.{MethodFrame, InitializationFrame, Task, Frame}
+use Rattle.jv_meaning_machine.specs.Objects.{Instance, made_object, is_at_or_below}
+use Rattle.jv_meaning_machine.specs.Objects.Object.{InstanceOf}
+use Rattle.jv_meaning_machine.specs.Frames.{local_words, filled, MethodFrame, InitializationFrame, Task, Frame}
 use Rattle.jv_meaning_machine.specs.Frames.Frame.{Runs, Initializes}
 use Rattle.jv_meaning_machine.specs.Frames.Task.{SetsField, InitializesFirst, RunsInitializer}
-use Rattle.jv_meaning_machine.specs.State.{Program, Memory, Control, State, state_of, with_frames, ClassState, class_state}
+use Rattle.jv_meaning_machine.specs.State.{Program, is_class_accepted, entered_method, Memory, Control, State, state_of, with_state, ClassState, class_state}
 use Rattle.jv_meaning_machine.specs.State.ClassState.{Untouched, Begun, Initialized, Erroneous}
 use Rattle.jv_meaning_machine.specs.State.End.{Threw, Returned}
-use Rattle.jv_meaning_machine.specs.Costs.{paid, method_words, initialization_words, given_words, with_words_back}
+use Rattle.jv_meaning_machine.specs.Costs.{paid, code_words, method_words, initialization_words, with_words_back}
 use Rattle.jv_meaning_machine.specs.Effects.{out_of_memory}
-use Rattle.jv_meaning_machine.specs.Fields.{described}
+use Rattle.jv_meaning_machine.specs.Fields.{described, with_object}
 use Rattle.jv_meaning_machine.specs.Literals.{constant_value}
 use Rattle.jv_meaning_machine.specs.Throws.{exception_made, exception, Thrown, thrown_once_more, thrown, handler_for, caught, replacement_if, replacement, passed_initialization, passed_method, unwound, throw, raise}
-use Rattle.jv_meaning_machine.specs.Entering.{method_frame, enter_within, enter, at_offset, resumed, leave_to, leave}
-use Rattle.jv_meaning_machine.specs.Initialization.{begin_within, begin_if, begin_in, begin, is_verified, tasks_of, main_arguments, tasks_left, finish, finished, set_field, do_task, with_tasks, do_first, initialization_step}
+use Rattle.jv_meaning_machine.specs.Entering.{within_words, passed_values, method_frame, entered_above, enter, entered_on, enter_init, at_offset, resumed, leave_to, leave}
+use Rattle.jv_meaning_machine.specs.Initialization.{begin, initialization_of, is_verified, main_arguments, tasks_left, finish, finished, set_field, do_task, with_tasks, do_first, initialization_step}
 use Rattle.jv_meaning_machine.specs.Laws.Shapes.{frame_words}
 use Rattle.jv_meaning_machine.specs.Laws.Kept.{Keeps}
-use Rattle.jv_meaning_machine.proofs.Leading.{Leads, leaf, bound, bound_tested, chained}
-use Rattle.jv_meaning_machine.proofs.KeptMemory.{keeps_over, keeps_joined, keeps_static, by_payment}
-use Rattle.jv_meaning_machine.proofs.KeptDone.{IsKeptIf, constant_value_kept, cost_of_object, cost_of_one}
+use Rattle.jv_meaning_machine.proofs.Leading.{Leads, leaf, bound, bound_tested, chained, bound_gave, found_gave, tested_gave}
+use Rattle.jv_meaning_machine.proofs.KeptMemory.{keeps_over, keeps_joined, keeps_static, keeps_object, by_payment, named_itself, new_is_of_class}
+use Rattle.jv_meaning_machine.proofs.KeptOutcomes.{IsKeptIf, constant_value_kept, cost_of_object, cost_of_one}
 
 -- What a frame's words are does not change while it is in the method.
 frames_words : (frame : Frame) (below : List Frame) → sum_by frame_words (frame ∷ below) ≡ frame_words frame + sum_by frame_words below
 frames_words frame below = sum_by-cons frame_words frame below
 
--- from a memory and a sum of words on
-module _ (from : Memory) (all_words : ℕ) (main : List ℕ) where
-  -- a control has the words of these frames and the rest
+-- ---- the code of a method that is entered is that of its frame
+
+abbrev code_in : CodeSeen → OrFault Environment → Option CodeSeen
+code_in code (Ok known) = Some known.code
+code_in code (Err fault) = Some code
+
+abbrev words_in : CodeSeen → OrFault MethodFrame → ℕ
+words_in code (Ok known) = method_words known
+words_in code (Err fault) = code_words code
+
+abbrev words_of : CodeSeen → Option CodeSeen → ℕ
+words_of code (Some known) = code_words known
+words_of code None = code_words code
+
+environment_code : (program : Program) (d : Declared) (method : Environment) → entered_method program d ≡ Ok method → d.method.code ≡ Some method.code
+environment_code program d method e =
+    let first = bound_gave (tested UnverifiedFault (is_class_accepted program d.by) d) _ method e in
+    let same : d ≡ first.0 = (tested_gave UnverifiedFault (is_class_accepted program d.by) d first.0 first.1).1 in
+    let second = bound_gave (found OffsetFault first.0.method.code) _ method first.2 in
+    let third = bound_gave (found OffsetFault (method_type_of first.0.method.descriptor)) _ method second.2 in
+    let fourth = bound_gave (found OffsetFault (program.instructions second.0.code)) _ method third.2 in
+    ap (λ (x : Declared). x.method.code) same
+    ∙ found_gave OffsetFault first.0.method.code second.0 second.1
+    ∙ ap (λ (o : OrFault Environment). code_in second.0 o) fourth.2
+
+-- what a frame's words are
+frame_code :
+    (program : Program) (d : Declared) (receiver : Option ℕ) (arguments : List Value) (frame : MethodFrame) (code : CodeSeen)
+    → method_frame program d receiver arguments ≡ Ok frame → found OffsetFault d.method.code ≡ Ok code → method_words frame ≡ code_words code
+frame_code program d receiver arguments frame code e f =
+    let first = bound_gave (entered_method program d) _ frame e in
+    let second = bound_gave (filled first.0.code.max_locals (flat_map local_words (passed_values receiver arguments))) _ frame first.2 in
+    let known : Some code ≡ Some first.0.code =
+    sym (found_gave OffsetFault d.method.code code f) ∙ environment_code program d first.0 first.1 in
+    ap (λ (o : OrFault MethodFrame). words_in code o) (sym second.2)
+    ∙ ap (λ (o : Option CodeSeen). words_of code o) (sym known)
+
+-- ---- beginning, by the class's state, and of a class that is untouched by whether it is verified
+
+abbrev pub begun_if : Program → Memory → List Frame → Control → Loaded → Bool → OrFault State
+begun_if program memory frames control l verified = elim verified [
+  | false ↦ raise program.world memory frames control (error_class VerifyError)
+  | true ↦ within_words program.world memory frames control initialization_words (λ given.
+      Ok (state_of memory (Initializes (initialization_of program.world l) ∷ frames) (with_state Begun l given)))
+]
+
+abbrev pub begun_in : Program → Memory → List Frame → Control → Loaded → ClassState → OrFault State
+begun_in program memory frames control l state = elim state [
+  | Begun ↦ Ok (state_of memory frames control)
+  | Initialized ↦ Ok (state_of memory frames control)
+  | Erroneous ↦ raise program.world memory frames control (error_class NoClassDefFoundError)
+  | Untouched ↦ begun_if program memory frames control l (is_verified program l)
+]
+
+-- of a program, from a memory and a sum of words on
+module _ (program : Program) (from : Memory) (all_words : ℕ) (main : List ℕ) where
+  -- these frames have the words and a control has the rest
   pub record HasWords (control : Control) (frames : List Frame) : Type 0 where
     pub sum : sum_by frame_words frames + control.words ≡ all_words
     pub same_main : control.main ≡ main
 
+  abbrev pub KeepsFrom : Memory → Type 0
+  KeepsFrom memory = Keeps program.world from memory
+
   abbrev pub Stays : State → Type 0
-  Stays s = Keeps from s.memory × HasWords s.control s.control.frames
+  Stays s = KeepsFrom s.memory × HasWords s.control s.frames
 
   -- ---- exceptions
 
   abbrev HasMemory : Memory × ℕ → Type 0
-  HasMemory made = Keeps from made.0
+  HasMemory made = KeepsFrom made.0
 
-  made_stays : (world : World) (l : Loaded) (memory : Memory) → Keeps from memory → HasMemory (exception_made world l memory (paid (object_cells world l) memory))
-  made_stays world l memory h =
-      by_payment (λ (o : Option Memory). HasMemory (exception_made world l memory o)) (object_cells world l) memory h
+  made_stays :
+      (l : Loaded) (memory : Memory) → class_named program.world l.class.name ≡ Some l → KeepsFrom memory
+      → HasMemory (exception_made program.world l memory (paid (object_cells program.world l) memory))
+  made_stays l memory named h =
+      by_payment (λ (o : Option Memory). HasMemory (exception_made program.world l memory o)) (object_cells program.world l) memory h
       (λ within.
       keeps_over from memory _ h
-      (keeps_joined (object_cells world l) (made_object world l ∷ []) memory within
-      (cost_of_one (made_object world l) ∙ cost_of_object world true l)))
+      (keeps_joined (object_cells program.world l) (made_object program.world l ∷ []) memory within
+      (cost_of_one (made_object program.world l) ∙ cost_of_object program.world true l) (new_is_of_class program.world true l named, tt)))
 
-  exception_stays : (world : World) (name : List ℕ) (memory : Memory) → Keeps from memory → Leads (Memory × ℕ) HasMemory (exception world name memory)
-  exception_stays world name memory h =
-      let made : (l : Loaded) → HasMemory (exception_made world l memory (paid (object_cells world l) memory)) = λ l. made_stays world l memory h in
-      search (bound, leaf, made)
+  exception_stays : (name : List ℕ) (memory : Memory) → KeepsFrom memory → Leads (Memory × ℕ) HasMemory (exception program.world name memory)
+  exception_stays name memory h =
+      bound (found ReferenceFault (class_named program.world name)) _
+      (λ l e.
+      leaf HasMemory _
+      (made_stays l memory (named_itself program.world name l (found_gave ReferenceFault (class_named program.world name) l e)) h))
 
   -- ---- throws
 
   pub record ThrownFrom (frames : List Frame) (t : Thrown) : Type 0 where
-    pub memory : Keeps from t.memory
+    pub memory : KeepsFrom t.memory
     pub words : HasWords t.control frames
 
   thrown_stays :
-      (control : Control) (frames : List Frame) (made : Memory × ℕ) → Keeps from made.0 → HasWords control frames
+      (control : Control) (frames : List Frame) (made : Memory × ℕ) → KeepsFrom made.0 → HasWords control frames
       → Leads Thrown (ThrownFrom frames) (thrown control made)
   thrown_stays control frames made h w =
       let known : (object : ℕ) (class : List ℕ) → ThrownFrom frames (record { object = object; class = class; memory = made.0; control = thrown_once_more class control }) =
@@ -81,7 +150,7 @@ module _ (from : Memory) (all_words : ℕ) (main : List ℕ) where
       (t : Thrown) (frame : MethodFrame) (below : List Frame) (handler : Handler) → ThrownFrom (Runs frame ∷ below) t
       → Leads State Stays (caught t frame below handler)
   caught_stays t frame below handler h =
-      let after : Stays (state_of t.memory (with_frames t.control (Runs (record frame { offset = handler.handler_pc; stack = Reference t.object ∷ [] }) ∷ below))) =
+      let after : Stays (state_of t.memory (Runs (record frame { offset = handler.handler_pc; stack = Reference t.object ∷ [] }) ∷ below) t.control) =
       (h.memory, record { sum = h.words.sum; same_main = h.words.same_main }) in
       search (bound_tested, leaf, after)
 
@@ -100,86 +169,120 @@ module _ (from : Memory) (all_words : ℕ) (main : List ℕ) where
       record { memory = h.memory; words = record { sum = sum; same_main = h.words.same_main } }
 
   replaced_if_stays :
-      (world : World) (t : Thrown) (frames : List Frame) (error : Bool) → ThrownFrom frames t
-      → Leads Thrown (ThrownFrom frames) (replacement_if world t error)
-  replaced_if_stays world t frames true h = leaf (ThrownFrom frames) t h
-  replaced_if_stays world t frames false h =
-      chained HasMemory (ThrownFrom frames) (exception world (codes "java/lang/ExceptionInInitializerError") t.memory) (thrown t.control)
-      (exception_stays world (codes "java/lang/ExceptionInInitializerError") t.memory h.memory) (λ made k. thrown_stays t.control frames made k h.words)
+      (t : Thrown) (frames : List Frame) (error : Bool) → ThrownFrom frames t
+      → Leads Thrown (ThrownFrom frames) (replacement_if program.world t error)
+  replaced_if_stays t frames true h = leaf (ThrownFrom frames) t h
+  replaced_if_stays t frames false h =
+      chained HasMemory (ThrownFrom frames) (exception program.world (codes "java/lang/ExceptionInInitializerError") t.memory) (thrown t.control)
+      (exception_stays (codes "java/lang/ExceptionInInitializerError") t.memory h.memory) (λ made k. thrown_stays t.control frames made k h.words)
 
   replaced_stays :
-      (world : World) (t : Thrown) (frames : List Frame) → ThrownFrom frames t → Leads Thrown (ThrownFrom frames) (replacement world t)
-  replaced_stays world t frames h = replaced_if_stays world t frames (is_class_of world t.class (codes "java/lang/Error")) h
+      (t : Thrown) (frames : List Frame) → ThrownFrom frames t → Leads Thrown (ThrownFrom frames) (replacement program.world t)
+  replaced_stays t frames h = replaced_if_stays t frames (is_at_or_below program.world t.class (codes "java/lang/Error")) h
 
-  pub unwound_stays : (world : World) (frames : List Frame) (t : Thrown) → ThrownFrom frames t → Leads State Stays (unwound world t frames)
-  unwound_stays world [] t h =
-      leaf Stays (state_of t.memory (record t.control { frames = []; end = Threw t.class }))
+  pub unwound_stays : (frames : List Frame) (t : Thrown) → ThrownFrom frames t → Leads State Stays (unwound program.world t frames)
+  unwound_stays [] t h =
+      leaf Stays (state_of t.memory [] (record t.control { end = Threw t.class }))
       (h.memory, record { sum = h.words.sum; same_main = h.words.same_main })
-  unwound_stays world (Runs frame ∷ below) t h =
-      by_handler (handler_for world t.class frame) (unwound_stays world below (passed_method frame t) (method_passed t frame below h))
+  unwound_stays (Runs frame ∷ below) t h =
+      by_handler (handler_for program.world t.class frame) (unwound_stays below (passed_method frame t) (method_passed t frame below h))
     where
       by_handler :
-          (handler : Option Handler) → Leads State Stays (unwound world (passed_method frame t) below)
+          (handler : Option Handler) → Leads State Stays (unwound program.world (passed_method frame t) below)
           → Leads State Stays (elim handler [
-            | None ↦ unwound world (passed_method frame t) below
+            | None ↦ unwound program.world (passed_method frame t) below
             | Some handler ↦ caught t frame below handler
           ])
       by_handler None up = up
       by_handler (Some handler) up = caught_stays t frame below handler h
-  unwound_stays world (Initializes frame ∷ below) t h =
-      chained (ThrownFrom below) Stays (replacement world (passed_initialization frame.class t)) (λ t. unwound world t below)
-      (replaced_stays world (passed_initialization frame.class t) below (initialization_passed t frame below h))
-      (λ t k. unwound_stays world below t k)
+  unwound_stays (Initializes frame ∷ below) t h =
+      chained (ThrownFrom below) Stays (replacement program.world (passed_initialization frame.class t)) (λ t. unwound program.world t below)
+      (replaced_stays (passed_initialization frame.class t) below (initialization_passed t frame below h))
+      (λ t k. unwound_stays below t k)
 
   pub throw_stays :
-      (world : World) (memory : Memory) (control : Control) (object : ℕ) → Keeps from memory → HasWords control control.frames
-      → Leads State Stays (throw world memory control object)
-  throw_stays world memory control object h w =
-      chained (ThrownFrom control.frames) Stays (thrown control (memory, object)) (λ t. unwound world t control.frames)
-      (thrown_stays control control.frames (memory, object) h w) (λ t k. unwound_stays world control.frames t k)
+      (memory : Memory) (frames : List Frame) (control : Control) (object : ℕ) → KeepsFrom memory → HasWords control frames
+      → Leads State Stays (throw program.world memory frames control object)
+  throw_stays memory frames control object h w =
+      chained (ThrownFrom frames) Stays (thrown control (memory, object)) (λ t. unwound program.world t frames)
+      (thrown_stays control frames (memory, object) h w) (λ t k. unwound_stays frames t k)
 
   pub raise_stays :
-      (world : World) (memory : Memory) (control : Control) (name : List ℕ) → Keeps from memory → HasWords control control.frames
-      → Leads State Stays (raise world memory control name)
-  raise_stays world memory control name h w =
-      chained (ThrownFrom control.frames) Stays (exception world name memory >>= thrown control) (λ t. unwound world t control.frames)
-      (chained HasMemory (ThrownFrom control.frames) (exception world name memory) (thrown control) (exception_stays world name memory h)
-      (λ made k. thrown_stays control control.frames made k w))
-      (λ t k. unwound_stays world control.frames t k)
+      (memory : Memory) (frames : List Frame) (control : Control) (name : List ℕ) → KeepsFrom memory → HasWords control frames
+      → Leads State Stays (raise program.world memory frames control name)
+  raise_stays memory frames control name h w =
+      chained (ThrownFrom frames) Stays (exception program.world name memory >>= thrown control) (λ t. unwound program.world t frames)
+      (chained HasMemory (ThrownFrom frames) (exception program.world name memory) (thrown control) (exception_stays name memory h)
+      (λ made k. thrown_stays control frames made k w))
+      (λ t k. unwound_stays frames t k)
 
   -- ---- words that are given
 
-  -- what holds where the words are not left and where they were given holds of words that are asked for
-  by_gift :
-      (P : Option Control → Type 0) (words : ℕ) (control : Control) → P None
-      → (words ≤ control.words → P (Some (record control { words = control.words - words }))) → P (given_words words control)
-  by_gift P words control none some = by_test (nat_le words control.words) refl
+  within_stays :
+      (memory : Memory) (frames : List Frame) (control : Control) (words : ℕ) (next : Control → OrFault State) → KeepsFrom memory
+      → HasWords control frames
+      → (words ≤ control.words → Leads State Stays (next (record control { words = control.words - words })))
+      → Leads State Stays (within_words program.world memory frames control words next)
+  within_stays memory frames control words next h w given = by_test (nat_le words control.words) refl
     where
-      by_test : (test : Bool) → nat_le words control.words ≡ test → P (if test then Some (record control { words = control.words - words }) else None)
-      by_test true e = some (leb-true words control.words e)
-      by_test false e = none
+      by_test :
+          (test : Bool) → nat_le words control.words ≡ test
+          → Leads State Stays (elim (if test then Some (record control { words = control.words - words }) else None) [
+            | None ↦ raise program.world memory frames control (codes "java/lang/StackOverflowError")
+            | Some given ↦ next given
+          ])
+      by_test true e = given (leb-true words control.words e)
+      by_test false e = raise_stays memory frames control (codes "java/lang/StackOverflowError") h w
 
   -- ---- calls
 
-  enter_within_stays :
-      (world : World) (before after : Memory) (control : Control) (frame : MethodFrame) → Keeps from before → Keeps from after
-      → HasWords control control.frames → Leads State Stays (enter_within world before after control frame (given_words (method_words frame) control))
-  enter_within_stays world before after control frame h k w =
-      by_gift (λ (o : Option Control). Leads State Stays (enter_within world before after control frame o)) (method_words frame) control
-      (raise_stays world before control _ h w)
-      (λ within.
-      let sum : sum_by frame_words (Runs frame ∷ control.frames) + (control.words - method_words frame) ≡ all_words =
-      omega (arith, frames_words (Runs frame) control.frames, w.sum, within) in
-      leaf Stays (state_of after (with_frames (record control { words = control.words - method_words frame }) (Runs frame ∷ control.frames)))
-      (k, record { sum = sum; same_main = w.same_main }))
+  entered_stays :
+      (frames : List Frame) (d : Declared) (receiver : Option ℕ) (arguments : List Value) (memory : Memory) (control : Control) (code : CodeSeen)
+      → found OffsetFault d.method.code ≡ Ok code → KeepsFrom memory → HasWords control frames → code_words code ≤ control.words
+      → Leads State Stays
+      (entered_above program frames d receiver arguments memory (record control { words = control.words - code_words code }))
+  entered_stays frames d receiver arguments memory control code e h w within =
+      bound (method_frame program d receiver arguments)
+      (λ frame. Ok (state_of memory (Runs frame ∷ frames) (record control { words = control.words - code_words code })))
+      (λ frame f.
+      let its : method_words frame ≡ code_words code = frame_code program d receiver arguments frame code f e in
+      let sum : sum_by frame_words (Runs frame ∷ frames) + (control.words - code_words code) ≡ all_words =
+      omega (arith, frames_words (Runs frame) frames, w.sum, within, its) in
+      leaf Stays _ (h, record { sum = sum; same_main = w.same_main }))
 
   pub enter_stays :
-      (program : Program) (before after : Memory) (control : Control) (d : Declared) (receiver : Option ℕ) (arguments : List Value)
-      → Keeps from before → Keeps from after → HasWords control control.frames
-      → Leads State Stays (enter program before after control d receiver arguments)
-  enter_stays program before after control d receiver arguments h k w =
-      bound (method_frame program d receiver arguments) (λ frame. enter_within program.world before after control frame (given_words (method_words frame) control))
-      (λ frame e. enter_within_stays program.world before after control frame h k w)
+      (memory : Memory) (frames : List Frame) (control : Control) (d : Declared) (receiver : Option ℕ) (arguments : List Value)
+      → KeepsFrom memory → HasWords control frames → Leads State Stays (enter program memory frames control d receiver arguments)
+  enter_stays memory frames control d receiver arguments h w =
+      bound (found OffsetFault d.method.code)
+      (λ code.
+      within_words program.world memory frames control (code_words code) (entered_above program frames d receiver arguments memory))
+      (λ code e.
+      within_stays memory frames control (code_words code) (entered_above program frames d receiver arguments memory) h w
+      (λ within. entered_stays frames d receiver arguments memory control code e h w within))
+
+  -- entering an `<init>` changes no shape
+  entered_keeps :
+      (d : Declared) (object : ℕ) (instance : Instance) (memory : Memory) → slice_get memory.objects object ≡ Some (InstanceOf instance)
+      → instance.constructed ≡ false → Keeps program.world memory (with_object object (entered_on d instance) memory)
+  entered_keeps d object instance memory e raw =
+      keeps_object object (InstanceOf instance) (entered_on d instance) memory e refl (λ constructed. absurd (true≢false (sym constructed ∙ raw)))
+
+  pub enter_init_stays :
+      (memory : Memory) (frames : List Frame) (control : Control) (d : Declared) (object : ℕ) (instance : Instance) (arguments : List Value)
+      → slice_get memory.objects object ≡ Some (InstanceOf instance) → instance.constructed ≡ false → KeepsFrom memory
+      → HasWords control frames → Leads State Stays (enter_init program memory frames control d object instance arguments)
+  enter_init_stays memory frames control d object instance arguments there raw h w =
+      bound (found OffsetFault d.method.code)
+      (λ code.
+      within_words program.world memory frames control (code_words code)
+      (entered_above program frames d (Some object) arguments (with_object object (entered_on d instance) memory)))
+      (λ code e.
+      within_stays memory frames control (code_words code)
+      (entered_above program frames d (Some object) arguments (with_object object (entered_on d instance) memory)) h w
+      (λ within.
+      entered_stays frames d (Some object) arguments (with_object object (entered_on d instance) memory) control code e
+      (keeps_over from memory _ h (entered_keeps d object instance memory there raw)) w within))
 
   -- ---- returns
 
@@ -198,105 +301,99 @@ module _ (from : Memory) (all_words : ℕ) (main : List ℕ) where
 
   -- a frame in place of one in the same method
   pub goes_on_stays :
-      (memory : Memory) (control : Control) (frame next : MethodFrame) (below : List Frame) → Keeps from memory
-      → HasWords control (Runs frame ∷ below) → IsOf frame next → Stays (state_of memory (with_frames control (Runs next ∷ below)))
+      (memory : Memory) (control : Control) (frame next : MethodFrame) (below : List Frame) → KeepsFrom memory
+      → HasWords control (Runs frame ∷ below) → IsOf frame next → Stays (state_of memory (Runs next ∷ below) control)
   goes_on_stays memory control frame next below h w same =
       let sum : sum_by frame_words (Runs next ∷ below) + control.words ≡ all_words =
       omega (arith, frames_words (Runs frame) below, frames_words (Runs next) below, same, w.sum) in
       (h, record { sum = sum; same_main = w.same_main })
 
   leave_to_stays :
-      (memory : Memory) (control : Control) (result : List Value) (frames : List Frame) → Keeps from memory → HasWords control frames
-      → Leads State Stays (leave_to memory control result frames)
-  leave_to_stays memory control result [] h w =
-      leaf Stays (state_of memory (record control { frames = []; end = Returned })) (h, record { sum = w.sum; same_main = w.same_main })
-  leave_to_stays memory control result (Runs caller ∷ below) h w =
-      chained (IsOf caller) Stays (resumed caller result) (λ next. Ok (state_of memory (with_frames control (Runs next ∷ below))))
+      (memory : Memory) (frames : List Frame) (control : Control) (result : List Value) → KeepsFrom memory → HasWords control frames
+      → Leads State Stays (leave_to memory frames control result)
+  leave_to_stays memory [] control result h w =
+      leaf Stays (state_of memory [] (record control { end = Returned })) (h, record { sum = w.sum; same_main = w.same_main })
+  leave_to_stays memory (Runs caller ∷ below) control result h w =
+      chained (IsOf caller) Stays (resumed caller result) (λ next. Ok (state_of memory (Runs next ∷ below) control))
       (resumed_is_of caller result) (λ next same. leaf Stays _ (goes_on_stays memory control caller next below h w same))
-  leave_to_stays memory control result (Initializes frame ∷ below) h w =
-      leaf Stays (state_of memory (with_frames control (Initializes frame ∷ below))) (h, record { sum = w.sum; same_main = w.same_main })
+  leave_to_stays memory (Initializes frame ∷ below) control result h w =
+      leaf Stays (state_of memory (Initializes frame ∷ below) control) (h, record { sum = w.sum; same_main = w.same_main })
 
   pub leave_stays :
-      (memory : Memory) (control : Control) (frame : MethodFrame) (result : List Value) (below : List Frame) → Keeps from memory
-      → HasWords control (Runs frame ∷ below) → Leads State Stays (leave memory control frame result below)
-  leave_stays memory control frame result below h w =
+      (memory : Memory) (frame : MethodFrame) (below : List Frame) (control : Control) (result : List Value) → KeepsFrom memory
+      → HasWords control (Runs frame ∷ below) → Leads State Stays (leave memory frame below control result)
+  leave_stays memory frame below control result h w =
       let sum : sum_by frame_words below + (control.words + method_words frame) ≡ all_words = omega (arith, frames_words (Runs frame) below, w.sum) in
-      leave_to_stays memory (with_words_back (method_words frame) control) result below h (record { sum = sum; same_main = w.same_main })
+      leave_to_stays memory below (with_words_back (method_words frame) control) result h (record { sum = sum; same_main = w.same_main })
 
   -- ---- initializations
 
-  begin_within_stays :
-      (program : Program) (memory : Memory) (control : Control) (l : Loaded) → Keeps from memory → HasWords control control.frames
-      → Leads State Stays (begin_within program memory control l (given_words initialization_words control))
-  begin_within_stays program memory control l h w =
-      by_gift (λ (o : Option Control). Leads State Stays (begin_within program memory control l o)) initialization_words control
-      (raise_stays program.world memory control _ h w)
+  begun_stays :
+      (memory : Memory) (frames : List Frame) (control : Control) (l : Loaded) (verified : Bool) → KeepsFrom memory
+      → HasWords control frames → Leads State Stays (begun_if program memory frames control l verified)
+  begun_stays memory frames control l false h w = raise_stays memory frames control (error_class VerifyError) h w
+  begun_stays memory frames control l true h w =
+      within_stays memory frames control initialization_words
+      (λ given. Ok (state_of memory (Initializes (initialization_of program.world l) ∷ frames) (with_state Begun l given))) h w
       (λ within.
-      let frame : InitializationFrame = record { class = l; tasks = tasks_of program.world l } in
-      let sum : sum_by frame_words (Initializes frame ∷ control.frames) + (control.words - initialization_words) ≡ all_words =
-      omega (arith, frames_words (Initializes frame) control.frames, w.sum, within) in
+      let frame : InitializationFrame = initialization_of program.world l in
+      let sum : sum_by frame_words (Initializes frame ∷ frames) + (control.words - initialization_words) ≡ all_words =
+      omega (arith, frames_words (Initializes frame) frames, w.sum, within) in
       leaf Stays _ (h, record { sum = sum; same_main = w.same_main }))
 
-  begin_if_stays :
-      (program : Program) (memory : Memory) (control : Control) (l : Loaded) (verified : Bool) → Keeps from memory → HasWords control control.frames
-      → Leads State Stays (begin_if program memory control l verified)
-  begin_if_stays program memory control l true h w = begin_within_stays program memory control l h w
-  begin_if_stays program memory control l false h w = raise_stays program.world memory control _ h w
-
-  begin_in_stays :
-      (program : Program) (memory : Memory) (control : Control) (l : Loaded) (state : ClassState) → Keeps from memory
-      → HasWords control control.frames → Leads State Stays (begin_in program memory control l state)
-  begin_in_stays program memory control l Untouched h w = begin_if_stays program memory control l (is_verified program l) h w
-  begin_in_stays program memory control l Begun h w = leaf Stays (state_of memory control) (h, w)
-  begin_in_stays program memory control l Initialized h w = leaf Stays (state_of memory control) (h, w)
-  begin_in_stays program memory control l Erroneous h w = raise_stays program.world memory control _ h w
-
   pub begin_stays :
-      (program : Program) (memory : Memory) (control : Control) (l : Loaded) → Keeps from memory → HasWords control control.frames
-      → Leads State Stays (begin program memory control l)
-  begin_stays program memory control l h w = begin_in_stays program memory control l (class_state control.states l) h w
+      (memory : Memory) (frames : List Frame) (control : Control) (l : Loaded) → KeepsFrom memory → HasWords control frames
+      → Leads State Stays (begin program memory frames control l)
+  begin_stays memory frames control l h w = by_state (class_state control.states l)
+    where
+      by_state : (state : ClassState) → Leads State Stays (begun_in program memory frames control l state)
+      by_state Begun = leaf Stays (state_of memory frames control) (h, w)
+      by_state Initialized = leaf Stays (state_of memory frames control) (h, w)
+      by_state Erroneous = raise_stays memory frames control (error_class NoClassDefFoundError) h w
+      by_state Untouched = begun_stays memory frames control l (is_verified program l) h w
 
   set_field_stays :
-      (world : World) (control : Control) (d : DeclaredField) (type : FieldTypeOf (List ℕ)) (memory : Memory) (made : Option (Memory × Value))
-      → Keeps from memory → IsKeptIf memory made → HasWords control control.frames
-      → Leads State Stays (set_field world control d type memory made)
-  set_field_stays world control d type memory None h k w = throw_stays world memory control out_of_memory h w
-  set_field_stays world control d type memory (Some made) h k w =
+      (frames : List Frame) (control : Control) (d : DeclaredField) (type : FieldTypeOf (List ℕ)) (memory : Memory)
+      (made : Option (Memory × Value)) → KeepsFrom memory → IsKeptIf program.world memory made → HasWords control frames
+      → Leads State Stays (set_field program.world frames control d type memory made)
+  set_field_stays frames control d type memory None h k w = throw_stays memory frames control out_of_memory h w
+  set_field_stays frames control d type memory (Some made) h k w =
       leaf Stays _ (keeps_over from made.0 _ (keeps_over from memory made.0 h k.0) (keeps_static _ _ made.0), record { sum = w.sum; same_main = w.same_main })
 
   do_task_stays :
-      (program : Program) (memory : Memory) (control : Control) (task : Task) → Keeps from memory → HasWords control control.frames
-      → Leads State Stays (do_task program memory control task)
-  do_task_stays program memory control (SetsField d constant) h w =
-      bound (described d.field.descriptor) (λ type. constant_value program constant memory >>= set_field program.world control d type memory)
+      (memory : Memory) (frames : List Frame) (control : Control) (task : Task) → KeepsFrom memory → HasWords control frames
+      → Leads State Stays (do_task program memory frames control task)
+  do_task_stays memory frames control (SetsField d constant) h w =
+      bound (described d.field.descriptor)
+      (λ type. constant_value program constant memory >>= set_field program.world frames control d type memory)
       (λ type e.
-      chained (IsKeptIf {A = Value} memory) Stays (constant_value program constant memory) (set_field program.world control d type memory)
-      (constant_value_kept program constant memory) (λ made k. set_field_stays program.world control d type memory made h k w))
-  do_task_stays program memory control (InitializesFirst l) h w = begin_stays program memory control l h w
-  do_task_stays program memory control (RunsInitializer d) h w = enter_stays program memory memory control d None [] h h w
+      chained (IsKeptIf {A = Value} program.world memory) Stays (constant_value program constant memory)
+      (set_field program.world frames control d type memory) (constant_value_kept program constant memory)
+      (λ made k. set_field_stays frames control d type memory made h k w))
+  do_task_stays memory frames control (InitializesFirst l) h w = begin_stays memory frames control l h w
+  do_task_stays memory frames control (RunsInitializer d) h w = enter_stays memory frames control d None [] h w
 
   finish_stays :
-      (program : Program) (memory : Memory) (control : Control) (frames : List Frame) → Keeps from memory → HasWords control control.frames
-      → Leads State Stays (finish program memory control frames)
-  finish_stays program memory control [] h w =
-      let entered : (d : Declared) → Leads State Stays (enter program memory memory control d None (Reference main_arguments ∷ [])) =
-      λ d. enter_stays program memory memory control d None (Reference main_arguments ∷ []) h h w in
+      (memory : Memory) (frames : List Frame) (control : Control) → KeepsFrom memory → HasWords control frames
+      → Leads State Stays (finish program memory frames control)
+  finish_stays memory [] control h w =
+      let entered : (d : Declared) → Leads State Stays (enter program memory [] control d None (Reference main_arguments ∷ [])) =
+      λ d. enter_stays memory [] control d None (Reference main_arguments ∷ []) h w in
       search (bound, entered)
-  finish_stays program memory control (frame ∷ below) h w = leaf Stays (state_of memory control) (h, w)
+  finish_stays memory (frame ∷ below) control h w = leaf Stays (state_of memory (frame ∷ below) control) (h, w)
 
   do_first_stays :
-      (program : Program) (memory : Memory) (control : Control) (frame : InitializationFrame) (below : List Frame) (tasks : List Task)
-      → Keeps from memory → HasWords control (Initializes frame ∷ below)
-      → Leads State Stays (do_first program memory control frame below tasks)
-  do_first_stays program memory control frame below [] h w =
+      (memory : Memory) (frame : InitializationFrame) (below : List Frame) (control : Control) (tasks : List Task) → KeepsFrom memory
+      → HasWords control (Initializes frame ∷ below) → Leads State Stays (do_first program memory frame below control tasks)
+  do_first_stays memory frame below control [] h w =
       let sum : sum_by frame_words below + (control.words + initialization_words) ≡ all_words =
       omega (arith, frames_words (Initializes frame) below, w.sum) in
-      finish_stays program memory (finished frame.class control below) below h (record { sum = sum; same_main = w.same_main })
-  do_first_stays program memory control frame below (task ∷ more) h w =
-      do_task_stays program memory (with_frames control (with_tasks frame more ∷ below)) task h (record { sum = w.sum; same_main = w.same_main })
+      finish_stays memory below (finished frame.class control) h (record { sum = sum; same_main = w.same_main })
+  do_first_stays memory frame below control (task ∷ more) h w =
+      do_task_stays memory (with_tasks frame more ∷ below) control task h (record { sum = w.sum; same_main = w.same_main })
 
   pub initialization_step_stays :
-      (program : Program) (memory : Memory) (control : Control) (frame : InitializationFrame) (below : List Frame) → Keeps from memory
-      → HasWords control (Initializes frame ∷ below) → Leads State Stays (initialization_step program memory control frame below)
-  initialization_step_stays program memory control frame below h w =
-      do_first_stays program memory control frame below (tasks_left control.states frame.tasks) h w
+      (memory : Memory) (frame : InitializationFrame) (below : List Frame) (control : Control) → KeepsFrom memory
+      → HasWords control (Initializes frame ∷ below) → Leads State Stays (initialization_step program memory frame below control)
+  initialization_step_stays memory frame below control h w =
+      do_first_stays memory frame below control (tasks_left control.states frame.tasks) h w

@@ -1,5 +1,5 @@
 -- What stays in memory over the changes that instructions make to it.
-use Rattle.std.proofs.Common.{◌≡◌, ℕ, ℤ, ◌%◌, ◌==◌, zero, suc, ◌+◌, ◌-◌, ◌≤◌, nat_le, Bool, true, false, List, [], ◌∷◌, ◌++◌, map, Option, Some, None, refl, sym, ap, ◌∙◌, ◌⊎◌, inl, inr, arith, append_assoc, append-nil, slice_get, slice_set, sum_by, length-append, true≢false, if◌then◌else◌, bytes_eq}
+use Rattle.std.proofs.Common.{◌≡◌, ℕ, ℤ, ◌%◌, ◌==◌, zero, suc, ◌+◌, ◌-◌, ◌≤◌, nat_le, Bool, true, false, List, [], ◌∷◌, ◌++◌, map, Option, Some, None, refl, sym, ap, subst, ◌∙◌, ◌⊎◌, inl, inr, arith, append_assoc, append-nil, slice_get, slice_set, sum_by, length-append, true≢false, if◌then◌else◌, bytes_eq}
 use Rattle.std.specs.Int.{w32, cast_unsigned}
 use Rattle.std.proofs.lemmas.Bool.{leb-true, cases_eq}
 use Rattle.std.proofs.lemmas.List.{map-append}
@@ -7,14 +7,19 @@ use Rattle.std.proofs.lemmas.List.Sums.{sum_by-append}
 use Rattle.std.proofs.lemmas.Slice.Eq.{bytes_eq-Decides}
 use Rattle.std.proofs.lemmas.Option.{get_or_from_slice_get}
 use Rattle.std.proofs.Math.Seq.{map-set_same}
+use Rattle.jv_loader_world.specs.World.{Loaded, World, class_named}
+use Rattle.jv_loader_world.specs.LookUps.{DeclaredField}
+use Rattle.jv_meaning_linking.specs.Layout.{instance_fields}
+use Rattle.jv_meaning_linking.proofs.Chain.{found_is_named}
 use Rattle.jv_meaning_machine.specs.Values.{Value}
-use Rattle.jv_meaning_machine.specs.Objects.{FieldKey, Content, Object, is_constructed, same_key, with_value}
+use Rattle.jv_meaning_machine.specs.Objects.{FieldKey, key_of, Content, default_entry, new_instance, Object, is_constructed, same_key, with_value}
+use Rattle.jv_meaning_machine.specs.Objects.Object.{InstanceOf}
 use Rattle.jv_meaning_machine.specs.State.{Memory}
 use Rattle.jv_meaning_machine.specs.Costs.{paid, with_objects}
 use Rattle.jv_meaning_machine.specs.Literals.{literal_in}
 use Rattle.jv_meaning_machine.specs.Fields.{with_static, with_object}
 use Rattle.jv_meaning_machine.specs.Calls.{with_byte_written}
-use Rattle.jv_meaning_machine.specs.Laws.Shapes.{Shape, shape_of, shapes, shape_cells, keys_in}
+use Rattle.jv_meaning_machine.specs.Laws.Shapes.{Shape, shape_of, shapes, IsOfClass, AreOfClasses, shape_cells, keys_in}
 use Rattle.jv_meaning_machine.specs.Laws.Kept.{BeginsWith, EndsWith, Keeps}
 
 -- ---- lists
@@ -51,11 +56,12 @@ set_elsewhere (b ∷ all) (suc n) (suc k) a other = set_elsewhere all n k a (λ 
 
 -- ---- nothing, and one change after the other
 
-pub keeps_same : (memory : Memory) → Keeps memory memory
+pub keeps_same : {world : World} (memory : Memory) → Keeps world memory memory
 keeps_same memory = record {
   output = begins_same memory.output;
   output_budget = refl;
   objects = begins_same (shapes memory);
+  fields = λ h. h;
   constructed = λ number object e constructed. (object, e, constructed);
   cells_budget = refl;
   statics = refl;
@@ -63,11 +69,12 @@ keeps_same memory = record {
   input = ends_same memory.input;
 }
 
-pub keeps_over : (a b c : Memory) → Keeps a b → Keeps b c → Keeps a c
+pub keeps_over : {world : World} (a b c : Memory) → Keeps world a b → Keeps world b c → Keeps world a c
 keeps_over a b c h k = record {
   output = begins_over a.output b.output c.output h.output k.output;
   output_budget = k.output_budget ∙ h.output_budget;
   objects = begins_over (shapes a) (shapes b) (shapes c) h.objects k.objects;
+  fields = λ f. k.fields (h.fields f);
   constructed = λ number object e constructed.
       let between = h.constructed number object e constructed in
       k.constructed number between.0 between.1 between.2;
@@ -90,17 +97,33 @@ same_keys key value (entry ∷ more) = by_test (same_key key entry.0) (same_keys
     by_test true e = refl
     by_test false e = ap (λ (keys : List FieldKey). entry.0 ∷ keys) e
 
-pub keeps_static : (key : FieldKey) (value : Value) (memory : Memory) → Keeps memory (with_static key value memory)
+pub keeps_static : {world : World} (key : FieldKey) (value : Value) (memory : Memory) → Keeps world memory (with_static key value memory)
 keeps_static key value memory = record {
   output = begins_same memory.output;
   output_budget = refl;
   objects = begins_same (shapes memory);
+  fields = λ h. h;
   constructed = λ number object e constructed. (object, e, constructed);
   cells_budget = refl;
   statics = same_keys key value memory.statics;
   literals = λ text object e. e;
   input = ends_same memory.input;
 }
+
+-- ---- new objects have the fields of their classes
+
+new_keys : (fields : List DeclaredField) → keys_in (map default_entry fields) ≡ map key_of fields
+new_keys [] = refl
+new_keys (d ∷ more) = ap (λ (keys : List FieldKey). key_of d ∷ keys) (new_keys more)
+
+-- a class that was found by a name is found by its own
+pub named_itself : (world : World) (name : List ℕ) (l : Loaded) → class_named world name ≡ Some l → class_named world l.class.name ≡ Some l
+named_itself world name l e = ap (λ (n : List ℕ). class_named world n) (found_is_named world name l e) ∙ e
+
+pub new_is_of_class :
+    (world : World) (constructed : Bool) (l : Loaded) → class_named world l.class.name ≡ Some l
+    → IsOfClass world (shape_of (InstanceOf (new_instance world constructed l)))
+new_is_of_class world constructed l named = (l, named, new_keys (instance_fields world l))
 
 -- ---- objects
 
@@ -112,14 +135,15 @@ same_of_all f id old object objects e same =
     map-set_same f objects id object old (same ∙ ap f (sym (get_or_from_slice_get objects id old old e)))
 
 pub keeps_object :
-    (id : ℕ) (old object : Object) (memory : Memory) → slice_get memory.objects id ≡ Some old → shape_of object ≡ shape_of old
-    → (is_constructed old ≡ true → is_constructed object ≡ true) → Keeps memory (with_object id object memory)
-keeps_object id old object memory e same stays =
+    {world : World} (id : ℕ) (old object : Object) (memory : Memory) → slice_get memory.objects id ≡ Some old → shape_of object ≡ shape_of old
+    → (is_constructed old ≡ true → is_constructed object ≡ true) → Keeps world memory (with_object id object memory)
+keeps_object {world = world} id old object memory e same stays =
     let shapes_same : map shape_of (slice_set memory.objects id object) ≡ shapes memory = same_of_all shape_of id old object memory.objects e same in
     record {
       output = begins_same memory.output;
       output_budget = refl;
       objects = ([], shapes_same ∙ sym (append-nil (shapes memory)));
+      fields = λ h. subst (λ (all : List Shape). AreOfClasses world all) (sym shapes_same) h;
       constructed = λ number other f constructed. by_number number other f constructed (cases_eq number id);
       cells_budget = ap (λ (l : List Shape). sum_by shape_cells l + memory.cells) shapes_same;
       statics = refl;
@@ -145,11 +169,16 @@ keeps_object id old object memory e same stays =
 abbrev pub less : ℕ → Memory → Memory
 less cells memory = record memory { cells = memory.cells - cells }
 
+all_of_both : (world : World) (a b : List Shape) → AreOfClasses world a → AreOfClasses world b → AreOfClasses world (a ++ b)
+all_of_both world [] b h k = k
+all_of_both world (shape ∷ a) b h k = (h.0, all_of_both world a b h.1 k)
+
 -- objects join whose cells were paid
 pub keeps_joined :
-    (cells : ℕ) (objects : List Object) (memory : Memory) → cells ≤ memory.cells → sum_by shape_cells (map shape_of objects) ≡ cells
-    → Keeps memory (with_objects objects (less cells memory))
-keeps_joined cells objects memory within cost =
+    {world : World} (cells : ℕ) (objects : List Object) (memory : Memory) → cells ≤ memory.cells
+    → sum_by shape_cells (map shape_of objects) ≡ cells → AreOfClasses world (map shape_of objects)
+    → Keeps world memory (with_objects objects (less cells memory))
+keeps_joined {world = world} cells objects memory within cost of_classes =
     let joined : map shape_of (memory.objects ++ objects) ≡ shapes memory ++ map shape_of objects = map-append shape_of memory.objects objects in
     let sum : sum_by shape_cells (map shape_of (memory.objects ++ objects)) ≡ sum_by shape_cells (shapes memory) + sum_by shape_cells (map shape_of objects) =
     ap (λ (l : List Shape). sum_by shape_cells l) joined ∙ sum_by-append shape_cells (shapes memory) (map shape_of objects) in
@@ -157,6 +186,10 @@ keeps_joined cells objects memory within cost =
       output = begins_same memory.output;
       output_budget = refl;
       objects = (map shape_of objects, joined);
+      fields =
+          λ h.
+          subst (λ (all : List Shape). AreOfClasses world all) (sym joined)
+          (all_of_both world (shapes memory) (map shape_of objects) h of_classes);
       constructed = λ number object e constructed. (object, in_longer memory.objects objects number object e, constructed);
       cells_budget = omega arith;
       statics = refl;
@@ -181,11 +214,13 @@ with_literal_at text object memory = record memory { literals = (text, object) �
 
 -- a text that had no object gets one
 pub keeps_literal :
-    (text : List ℕ) (object : ℕ) (memory : Memory) → literal_in text memory.literals ≡ None → Keeps memory (with_literal_at text object memory)
+    {world : World} (text : List ℕ) (object : ℕ) (memory : Memory) → literal_in text memory.literals ≡ None
+    → Keeps world memory (with_literal_at text object memory)
 keeps_literal text object memory none = record {
   output = begins_same memory.output;
   output_budget = refl;
   objects = begins_same (shapes memory);
+  fields = λ h. h;
   constructed = λ number object e constructed. (object, e, constructed);
   cells_budget = refl;
   statics = refl;
@@ -208,11 +243,13 @@ not_none : (n : ℕ) → (n == 0) ≡ false → 1 ≤ n
 not_none zero e = absurd (true≢false e)
 not_none (suc n) e = omega arith
 
-pub keeps_written : (number : ℤ) (memory : Memory) → (memory.output_left == 0) ≡ false → Keeps memory (with_byte_written number memory)
+pub keeps_written :
+    {world : World} (number : ℤ) (memory : Memory) → (memory.output_left == 0) ≡ false → Keeps world memory (with_byte_written number memory)
 keeps_written number memory e = record {
   output = ((cast_unsigned w32 number % 256) ∷ [], refl);
   output_budget = omega (arith, length-append memory.output ((cast_unsigned w32 number % 256) ∷ []), not_none memory.output_left e);
   objects = begins_same (shapes memory);
+  fields = λ h. h;
   constructed = λ number object e constructed. (object, e, constructed);
   cells_budget = refl;
   statics = refl;
@@ -223,11 +260,13 @@ keeps_written number memory e = record {
 abbrev pub with_input : List ℕ → Memory → Memory
 with_input input memory = record memory { input = input }
 
-pub keeps_read : (byte : ℕ) (more : List ℕ) (memory : Memory) → memory.input ≡ byte ∷ more → Keeps memory (with_input more memory)
+pub keeps_read :
+    {world : World} (byte : ℕ) (more : List ℕ) (memory : Memory) → memory.input ≡ byte ∷ more → Keeps world memory (with_input more memory)
 keeps_read byte more memory e = record {
   output = begins_same memory.output;
   output_budget = refl;
   objects = begins_same (shapes memory);
+  fields = λ h. h;
   constructed = λ number object e constructed. (object, e, constructed);
   cells_budget = refl;
   statics = refl;

@@ -6,7 +6,7 @@ use Rattle.jv_meaning_machine.specs.Faults.{Fault, OrFault, found, tested, ◌>>
 pub record Leads (A : Type 0) (P : A → Type 0) (o : OrFault A) : Type 0 where
   pub at : (a : A) → o ≡ Ok a → P a
 
-same_given : {A : Type 0} (a b : A) (o : OrFault A) → o ≡ Ok a → o ≡ Ok b → a ≡ b
+pub same_given : {A : Type 0} (a b : A) (o : OrFault A) → o ≡ Ok a → o ≡ Ok b → a ≡ b
 same_given a b o e f = cc
 
 pub leaf : {A : Type 0} (P : A → Type 0) (a : A) → P a → Leads A P (Ok a)

@@ -1,21 +1,22 @@
-mod Ended
+pub mod Ended
 mod Contents
 mod Mains
-mod Leading
-mod KeptMemory
-mod KeptDone
+pub mod Leading
+pub mod KeptMemory
+mod KeptOutcomes
 mod KeptArrays
 mod KeptCalls
 mod KeptInstructions
 mod KeptControl
 mod KeptSteps
+mod Fed
 mod KeptAlone
 mod Statics
 mod Going
 mod Ends
 mod Forward
 mod Stores
-mod TakenItems
+pub mod TakenItems
 mod StoreInstructions
 mod NewObjects
 mod StepDoes

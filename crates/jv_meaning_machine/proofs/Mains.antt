@@ -13,7 +13,7 @@ use Rattle.jv_loader_world.specs.Overriding.{Declared}
 use Rattle.jv_loader_world.specs.Verdicts.{declared_by, is_loadable}
 use Rattle.jv_loader_world.specs.LookUps.{method_in, method_if}
 use Rattle.jv_meaning_machine.specs.Initialization.{is_main, main_in}
-use Rattle.jv_meaning_machine.specs.Laws.Ends.{NoMainWithoutFiles, MainIsItsOwn}
+use Rattle.jv_meaning_machine.specs.Laws.Mains.{NoMainWithoutFiles, MainIsItsOwn}
 
 -- nothing is found where each element has nothing
 module _ {A B : Type 0} (look : A → Option B) (test : A → Bool) where

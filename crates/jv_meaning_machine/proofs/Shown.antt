@@ -12,21 +12,23 @@ use Rattle.jv_meaning_typing.specs.Judgement.{IsVerdictOfFile}
 use Rattle.jv_meaning_typing.specs.Laws.{OneJudgementOfFile}
 use Rattle.jv_meaning_machine.specs.Faults.{Fault, OrFault, found, ◌>>=◌}
 use Rattle.jv_meaning_machine.specs.Faults.Fault.{ReferenceFault}
-use Rattle.jv_meaning_machine.specs.State.{Program, State, state_of}
+use Rattle.jv_meaning_machine.specs.State.{State, state_of}
 use Rattle.jv_meaning_machine.specs.State.End.{NoMain}
 use Rattle.jv_meaning_machine.specs.Initialization.{main_method}
 use Rattle.jv_meaning_machine.specs.Start.{Budget, start_memory, start_control, start_with, start}
 use Rattle.jv_meaning_machine.specs.Step.{step}
-use Rattle.jv_meaning_machine.specs.Alone.{Guest, Judged, IsJudged, accepted_names, after_steps, alone}
+use Rattle.jv_meaning_machine.specs.Alone.{GuestFiles, Judged, IsJudged, Feed, came_at, fed, accepted_names, alone}
+use Rattle.jv_meaning_machine.specs.Laws.Feeds.{came_behind}
 use Rattle.jv_meaning_machine.specs.Observation.{Observed, Shows, FaultsWithin, observation}
 use Rattle.jv_meaning_machine.specs.Laws.Kept.{BeginsWith}
 use Rattle.jv_meaning_machine.specs.Laws.Forward.{IsLater}
 use Rattle.jv_meaning_machine.specs.Laws.Shown.{OneJudged, JudgedByVerdicts, ShowsNoMain, ShowsOneThing, FaultsShowNothing, EndedShowsTheSame, FaultsStay, ShowedBefore, ShowsMore}
-use Rattle.jv_meaning_machine.proofs.Ends.{ended_guest_stays}
-use Rattle.jv_meaning_machine.proofs.KeptAlone.{output_grows, alone_goes_on}
+use Rattle.jv_meaning_machine.proofs.Ends.{stays_fed, ended_guest_stays}
+use Rattle.jv_meaning_machine.proofs.KeptMemory.{begins_same, begins_over}
+use Rattle.jv_meaning_machine.proofs.KeptSteps.{step_kept}
+use Rattle.jv_meaning_machine.proofs.Fed.{later_keeps}
 use Rattle.jv_meaning_machine.proofs.Forward.{throws_never_fall}
 use Rattle.jv_meaning_machine.proofs.Decoding.{instructions_in, are_instructions, units_in, are_units}
-use Rattle.jv_meaning_machine.proofs.Ended.{ended_stays_over}
 use Rattle.jv_meaning_machine.proofs.Mains.{no_main_without_files}
 
 -- ---- what files hold, and the verdicts on them
@@ -103,10 +105,10 @@ same_state r s t h k =
     cc
 
 pub shows_one_thing : OneJudged → ShowsOneThing
-shows_one_thing law g b n one other h k =
+shows_one_thing law g b feeds n one other h k =
     h.shown
     ∙ (ap (λ (j : Judged). observation j.verdicts n h.state) same
-    ∙ (ap (observation k.judged.verdicts n) (same_state (alone k.judged g b n) h.state k.state (subst (λ (j : Judged). alone j g b n ≡ Ok h.state) same h.ran) k.ran) ∙ sym k.shown))
+    ∙ (ap (observation k.judged.verdicts n) (same_state (alone k.judged g b feeds n) h.state k.state (subst (λ (j : Judged). alone j g b feeds n ≡ Ok h.state) same h.ran) k.ran) ∙ sym k.shown))
   where
     same : h.judged ≡ k.judged
     same = law g.files h.judged k.judged h.right k.right
@@ -116,16 +118,16 @@ no_fault (Ok t) s e f = absurd cc
 no_fault (Err fault) s e f = absurd cc
 
 pub faults_show_nothing : OneJudged → FaultsShowNothing
-faults_show_nothing law g b n o f h =
-    no_fault (alone f.judged g b n) h.state (subst (λ (j : Judged). alone j g b n ≡ Ok h.state) (law g.files h.judged f.judged h.right f.right) h.ran) f.fault
+faults_show_nothing law g b feeds n o f h =
+    no_fault (alone f.judged g b feeds n) h.state (subst (λ (j : Judged). alone j g b feeds n ≡ Ok h.state) (law g.files h.judged f.judged h.right f.right) h.ran) f.fault
 
 pub ended_shows_the_same : EndedShowsTheSame
-ended_shows_the_same g b n more o h ended = record {
+ended_shows_the_same g b feeds n more o h ended = record {
   judged = h.judged;
   right = h.right;
-  state = h.state;
+  state = fed (came_behind n more feeds) h.state;
   ran =
-      ended_guest_stays h.judged g b n more h.state h.right h.ran (λ running. ended (ap (λ (x : Observed). x.end) h.shown ∙ running));
+      ended_guest_stays h.judged g b feeds n more h.state h.right h.ran (λ running. ended (ap (λ (x : Observed). x.end) h.shown ∙ running));
   shown = ap (λ (x : Observed). record x { steps = n + more }) h.shown;
 }
 
@@ -155,6 +157,12 @@ judged_by_verdicts files contents verdicts held count right = (
   refl,
 )
 
+from_zero :
+    (judged : Judged) (g : GuestFiles) (b : Budget) (feeds : List Feed) (n : ℕ) → alone judged g b feeds n ≡ alone judged g b feeds (zero + n)
+from_zero judged g b feeds n =
+    let same : n ≡ zero + n = omega arith in
+    ap (λ (k : ℕ). alone judged g b feeds k) same
+
 no_verdict : (place : ℕ) (verdict : Verdict) → slice_get [] place ≡ Some verdict → IsVerdictOfFile system_classes [] place verdict
 no_verdict zero verdict e = absurd cc
 no_verdict (suc place) verdict e = absurd cc
@@ -163,67 +171,78 @@ abbrev found_none : (judged : Judged) × IsJudged [] judged × (judged.verdicts 
 found_none = judged_by_verdicts [] [] [] tt refl no_verdict
 
 pub shows_no_main : ShowsNoMain
-shows_no_main main input b n = by_class (class_named (world_of system_classes []) (codes "java/lang/OutOfMemoryError")) refl
+shows_no_main main input b feeds n = by_class (class_named (world_of system_classes []) (codes "java/lang/OutOfMemoryError")) refl
   where
     by_class :
         (o : Option Loaded) → class_named (world_of system_classes []) (codes "java/lang/OutOfMemoryError") ≡ o
-        → Shows (record { files = []; main = main; input = input }) b n
+        → Shows (record { files = []; main = main; input = input }) b feeds n
         (record { verdicts = []; steps = n; output = []; throws = 0; last = None; end = NoMain })
     by_class None e = absurd (true≢false (ap (λ (o : Option Loaded). is_some o) e))
-    by_class (Some error) e = record {
-      judged = found_none.0;
-      right = found_none.1;
-      state = state_of (start_memory (world_of system_classes []) input b error) (start_control main b NoMain);
-      ran =
-          ap (λ (o : OrFault State). o >>= after_steps found_none.0.program n)
-          (ap
-          (λ (o : Option Loaded).
-          found ReferenceFault o >>= λ l.
-          start_with found_none.0.program main b (start_memory (world_of system_classes []) input b l)
-          (main_method (world_of system_classes []) main))
-          e
-          ∙ ap (λ (d : Option Declared). start_with found_none.0.program main b (start_memory (world_of system_classes []) input b error) d)
-          (no_main_without_files main))
-          ∙ ended_stays_over found_none.0.program n
-          (state_of (start_memory (world_of system_classes []) input b error) (start_control main b NoMain)) refl;
-      shown = refl;
-    }
+    by_class (Some error) e =
+        let first : State = state_of (start_memory (world_of system_classes []) input b error) [] (start_control main b NoMain) in
+        let started :
+        start found_none.0.program main input b
+        ≡ Ok (state_of (start_memory (world_of system_classes []) input b error) [] (start_control main b NoMain)) =
+        ap
+        (λ (o : Option Loaded).
+        found ReferenceFault o >>= λ l.
+        start_with found_none.0.program main b (start_memory (world_of system_classes []) input b l)
+        (main_method (world_of system_classes []) main))
+        e
+        ∙ ap (λ (d : Option Declared). start_with found_none.0.program main b (start_memory (world_of system_classes []) input b error) d)
+        (no_main_without_files main) in
+        record {
+          judged = found_none.0;
+          right = found_none.1;
+          state = fed (came_behind zero n feeds) (fed (came_at zero feeds) first);
+          ran =
+              from_zero found_none.0 (record { files = []; main = main; input = input }) b feeds n
+              ∙ stays_fed found_none.0 (record { files = []; main = main; input = input }) b feeds zero n (fed (came_at zero feeds) first)
+              (ap (λ (o : OrFault State). o >>= λ s. Ok (fed (came_at zero feeds) s)) started) refl;
+          shown = refl;
+        }
 
 -- ---- faults stay, and what is shown grows
 
-fault_over : (program : Program) (n more : ℕ) (s : State) (fault : Fault) → after_steps program n s ≡ Err fault → after_steps program (n + more) s ≡ Err fault
-fault_over program n zero s fault e = ap (λ (k : ℕ). after_steps program k s) (add-zero n) ∙ e
-fault_over program n (suc more) s fault e =
-    ap (λ (k : ℕ). after_steps program k s) (add-suc n more) ∙ ap (λ (o : OrFault State). o >>= step program) (fault_over program n more s fault e)
-
-alone_fault_over :
-    (judged : Judged) (g : Guest) (b : Budget) (n more : ℕ) (fault : Fault) → alone judged g b n ≡ Err fault → alone judged g b (n + more) ≡ Err fault
-alone_fault_over judged g b n more fault e = by_start (start judged.program g.main g.input b) e
-  where
-    by_start : (o : OrFault State) → (o >>= after_steps judged.program n) ≡ Err fault → (o >>= after_steps judged.program (n + more)) ≡ Err fault
-    by_start (Ok first) f = fault_over judged.program n more first fault f
-    by_start (Err other) f = f
+fault_over :
+    (judged : Judged) (g : GuestFiles) (b : Budget) (feeds : List Feed) (n more : ℕ) (fault : Fault) → alone judged g b feeds n ≡ Err fault
+    → alone judged g b feeds (n + more) ≡ Err fault
+fault_over judged g b feeds n zero fault e = ap (λ (k : ℕ). alone judged g b feeds k) (add-zero n) ∙ e
+fault_over judged g b feeds n (suc more) fault e =
+    ap (λ (k : ℕ). alone judged g b feeds k) (add-suc n more)
+    ∙ ap (λ (o : OrFault State). o >>= step judged.program >>= λ s. Ok (fed (came_at (suc (n + more)) feeds) s))
+    (fault_over judged g b feeds n more fault e)
 
 pub faults_stay : FaultsStay
-faults_stay g b n more h = by_result (alone h.judged g b n) refl h.fault
+faults_stay g b feeds n more h = by_result (alone h.judged g b feeds n) refl h.fault
   where
-    by_result : (r : OrFault State) → alone h.judged g b n ≡ r → IsErr r → FaultsWithin g b (n + more)
+    by_result : (r : OrFault State) → alone h.judged g b feeds n ≡ r → IsErr r → FaultsWithin g b feeds (n + more)
     by_result (Ok s) e fails = absurd (no_fault (Ok s) s refl fails)
     by_result (Err fault) e fails = record {
       judged = h.judged;
       right = h.right;
-      fault = subst (λ (r : OrFault State). IsErr r) (sym (alone_fault_over h.judged g b n more fault e)) fails;
+      fault = subst (λ (r : OrFault State). IsErr r) (sym (fault_over h.judged g b feeds n more fault e)) fails;
     }
 
+-- what was written before is in front of what is written later
+written_more :
+    (judged : Judged) (g : GuestFiles) (b : Budget) (feeds : List Feed) (n more : ℕ) (s t : State) → alone judged g b feeds n ≡ Ok s
+    → alone judged g b feeds (n + more) ≡ Ok t → BeginsWith t.memory.output s.memory.output
+written_more judged g b feeds n more s t e f =
+    (later_keeps judged g b feeds (λ (u : State). BeginsWith u.memory.output s.memory.output)
+    (λ u v h k. begins_over s.memory.output u.memory.output v.memory.output h (step_kept judged.program u v k).memory.output) (λ bytes u h. h) n more s e
+    (begins_same s.memory.output)).at
+    t f
+
 pub shows_more : ShowsMore
-shows_more g b n more o h = by_result (alone h.judged g b n) refl
+shows_more g b feeds n more o h = by_result (alone h.judged g b feeds n) refl
   where
-    by_result : (r : OrFault State) → alone h.judged g b n ≡ r → ShowedBefore g b n o
+    by_result : (r : OrFault State) → alone h.judged g b feeds n ≡ r → ShowedBefore g b feeds n o
     by_result (Err fault) e =
-        let fails : alone h.judged g b (n + more) ≡ Err fault = alone_fault_over h.judged g b n more fault e in
+        let fails : alone h.judged g b feeds (n + more) ≡ Err fault = fault_over h.judged g b feeds n more fault e in
         absurd cc
     by_result (Ok s) e =
-        let later : IsLater h.judged g b s h.state =
+        let later : IsLater h.judged g b feeds s h.state =
         record { right = h.right; n = n; more = more; ran = e; ran_on = h.ran } in
         record {
           earlier = observation h.judged.verdicts n s;
@@ -231,7 +250,7 @@ shows_more g b n more o h = by_result (alone h.judged g b n) refl
           verdicts = ap (λ (x : Observed). x.verdicts) h.shown;
           output =
               subst (λ (x : Observed). BeginsWith x.output s.memory.output) (sym h.shown)
-              (output_grows h.judged.program more s h.state (sym (alone_goes_on h.judged g b n more s e) ∙ h.ran));
+              (written_more h.judged g b feeds n more s h.state e h.ran);
           throws =
-              subst (λ (x : Observed). s.control.throws ≤ x.throws) (sym h.shown) (throws_never_fall h.judged g b s h.state later).0;
+              subst (λ (x : Observed). s.control.throws ≤ x.throws) (sym h.shown) (throws_never_fall h.judged g b feeds s h.state later).0;
         }

@@ -10,7 +10,7 @@ use Rattle.jv_loader_world.specs.World.{Loaded, World}
 use Rattle.jv_loader_world.specs.LookUps.{field_by}
 use Rattle.jv_meaning_linking.specs.Kind.{is_static_field}
 use Rattle.jv_meaning_machine.specs.Values.{Value}
-use Rattle.jv_meaning_machine.specs.Objects.{FieldKey, Content, key_of, same_key, value_at, first_entry}
+use Rattle.jv_meaning_machine.specs.Objects.{FieldKey, Content, key_of, same_key, value_at, default_entry}
 use Rattle.jv_meaning_machine.specs.Start.{static_entries}
 use Rattle.jv_meaning_machine.specs.Laws.Shapes.{key_in, keys_in}
 use Rattle.jv_meaning_machine.specs.Laws.Runs.{StaticsAreThere}
@@ -35,7 +35,7 @@ same_key_itself key =
     ((bytes_eq-Decides key.descriptor key.descriptor).1 refl)
 
 abbrev entry_of : Loaded → Field → FieldKey × Value
-entry_of l f = first_entry (field_by l f)
+entry_of l f = default_entry (field_by l f)
 
 or_left : (a b : Bool) → a ≡ true → (a || b) ≡ true
 or_left true b e = refl
@@ -93,8 +93,8 @@ in_world test (x ∷ world) (suc place) l e h =
     ∙ or_right _ _ (in_world test world place l e h)
 
 pub statics_are_there : StaticsAreThere
-statics_are_there judged g b n s e place l here field f there static =
-    let known : IsFromStart judged.program g.input b s = (alone_leads judged g b n).at s e in
+statics_are_there judged g b feeds n s e place l here field f there static =
+    let known : IsFromStart judged.program g.input b s = (alone_leads judged g b feeds n).at s e in
     let same : keys_in s.memory.statics ≡ keys_in (flat_map static_entries judged.program.world) = known.from.memory_kept.statics in
     held_by_keys (key_of (field_by l f)) s.memory.statics
     ∙ ap (list_any (same_key (key_of (field_by l f)))) same

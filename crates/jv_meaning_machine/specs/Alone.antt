@@ -1,5 +1,6 @@
--- A guest alone: what its own files, main class name, input and budget give on the machine, after some number of steps.
-use Rattle.std.specs.Prelude.{◌≡◌, ◌↔◌, ℕ, zero, suc, List, [], ◌∷◌, ◌++◌, length, Option, Some, Ok, slice_get}
+-- A guest alone (own): what its own files, main class name, input, feeds and budget give on the machine, after some number of
+-- steps; and what of its files is found before that (JVMS 4.10, 5.3).
+use Rattle.std.specs.Prelude.{◌≡◌, ◌↔◌, ℕ, zero, suc, ◌==◌, if◌then◌else◌, List, [], ◌∷◌, ◌++◌, length, Option, Some, Ok, slice_get}
 use Rattle.jv_text.specs.Text.{Spells}
 use Rattle.jv_code.specs.Insns.{Instruction}
 use Rattle.jv_code.specs.Places.{IsCode}
@@ -15,8 +16,8 @@ use Rattle.jv_meaning_machine.specs.State.{Program, State}
 use Rattle.jv_meaning_machine.specs.Start.{Budget, start}
 use Rattle.jv_meaning_machine.specs.Step.{step}
 
--- a guest's class files, the name of its main class and its input
-pub record Guest : Type 0 where
+-- a guest's class files, the name of its main class, and its input before anything is fed
+pub record GuestFiles : Type 0 where
   pub files : List (List ℕ)
   pub main : List ℕ
   pub input : List ℕ
@@ -57,13 +58,31 @@ pub record IsJudged (files : List (List ℕ)) (judged : Judged) : Type 0 where
   pub instructions : FindsInstructions judged.program.instructions
   pub units : AreUnits judged.program.units
 
+-- ---- feeds: what comes to a guest's input while it runs
+
+-- these bytes came after so many of its own steps
+pub record Feed : Type 0 where
+  pub own_step : ℕ
+  pub bytes : List ℕ
+
+-- the bytes that came after so many steps, of feeds in order of coming
+abbrev pub came_at : ℕ → List Feed → List ℕ
+came_at n [] = []
+came_at n (feed ∷ more) = if feed.own_step == n then feed.bytes ++ came_at n more else came_at n more
+
+-- bytes join behind the input that waits
+abbrev pub fed : List ℕ → State → State
+fed bytes s = record s { memory = record s.memory { input = s.memory.input ++ bytes } }
+
 -- ---- the run
 
--- so many steps from a state, the last one outermost
+-- so many steps from a state, the last one outermost, while nothing comes
 abbrev pub after_steps : Program → ℕ → State → OrFault State
 after_steps program zero s = Ok s
 after_steps program (suc n) s = after_steps program n s >>= step program
 
--- the state of a guest whose files were judged, after so many of its own steps
-abbrev pub alone : Judged → Guest → Budget → ℕ → OrFault State
-alone judged g b n = start judged.program g.main g.input b >>= after_steps judged.program n
+-- The state of a guest whose files were judged, after so many of its own steps, and after what came then: it waits for the next
+-- step. What comes before the first step joins at the start.
+abbrev pub alone : Judged → GuestFiles → Budget → List Feed → ℕ → OrFault State
+alone judged g b feeds zero = start judged.program g.main g.input b >>= λ s. Ok (fed (came_at zero feeds) s)
+alone judged g b feeds (suc n) = alone judged g b feeds n >>= step judged.program >>= λ s. Ok (fed (came_at (suc n) feeds) s)

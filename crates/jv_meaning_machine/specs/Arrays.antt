@@ -13,14 +13,11 @@ use Rattle.jv_code.specs.declared.kinds.ElementType.{ElementType}
 use Rattle.jv_code.specs.declared.kinds.ElementType.TheVariants as element_types
 use Rattle.jv_code.specs.declared.kinds.NumberElement.{NumberElement}
 use Rattle.jv_code.specs.declared.kinds.NumberElement.TheVariants as numbers
-use Rattle.jv_meaning_linking.specs.Operands.{class_operand}
 use Rattle.jv_meaning_linking.specs.ClassResolution.{ResolvedClass, resolve_class}
 use Rattle.jv_meaning_linking.specs.ClassResolution.ResolvedClass.{ClassOf, ArrayOf}
-use Rattle.jv_meaning_typing.specs.Environment.{current_class}
 use Rattle.jv_meaning_typing.specs.FrameChanges.{is_reference}
-use Rattle.jv_meaning_typing.specs.Named.{class_components}
 use Rattle.jv_meaning_typing.specs.NumberRules.{element_number}
-use Rattle.jv_meaning_machine.specs.Faults.{OrFault, found, tested, ◌>>=◌}
+use Rattle.jv_meaning_machine.specs.Faults.{OrFault, tested, ◌>>=◌}
 use Rattle.jv_meaning_machine.specs.Faults.Fault.{OffsetFault, TagFault, ReferenceFault}
 use Rattle.jv_meaning_machine.specs.Values.{Value, narrowed}
 use Rattle.jv_meaning_machine.specs.Values.Value.{Int, Null, Reference}
@@ -29,7 +26,7 @@ use Rattle.jv_meaning_machine.specs.Objects.Object.{InstanceOf, ArrayWith}
 use Rattle.jv_meaning_machine.specs.State.{Memory}
 use Rattle.jv_meaning_machine.specs.Costs.{array_cells, arrays_cells, paid, with_objects, next_object}
 use Rattle.jv_meaning_machine.specs.Operands.{object_at, taken, taken_as, taken_reference}
-use Rattle.jv_meaning_machine.specs.Effects.{Moment, Done, world_at, method_of_moment, site_at, goes_on, goes_on_with, raises, unless_error, lacks_memory, null_pointer, array_index, array_store, negative_size}
+use Rattle.jv_meaning_machine.specs.Effects.{Context, Outcome, world_at, site_at, goes_on, goes_on_with, raises, unless_error, class_constant, resolved_type, lacks_memory, null_pointer, array_index, array_store, negative_size}
 use Rattle.jv_meaning_machine.specs.Arithmetic.{as_int}
 use Rattle.jv_meaning_machine.specs.Fields.{with_object}
 
@@ -74,21 +71,21 @@ holds_references components = is_reference (value_type components)
 -- ---- loads
 
 -- what stands at an index of an array whose components pass a test
-abbrev pub load_at : Moment → List Value → Option Value → Done
-load_at m below None = raises m array_index
-load_at m below (Some value) = goes_on m (value ∷ below)
+abbrev pub load_at : Context → List Value → Option Value → Outcome
+load_at c below None = raises c array_index
+load_at c below (Some value) = goes_on c (value ∷ below)
 
-abbrev pub load_from : Moment → (FieldTypeOf (List ℕ) → Bool) → ℤ → Value → List Value → Done
-load_from m test index Null below = raises m null_pointer
-load_from m test index (Reference id) below =
-    object_at m.memory.objects id >>= array_in >>= λ array. tested ReferenceFault (test array.0) array >>= λ array.
-    load_at m below (at_place index array.1)
-load_from m test index _ below = Err TagFault
+abbrev pub load_from : Context → (FieldTypeOf (List ℕ) → Bool) → ℤ → Value → List Value → Outcome
+load_from c test index Null below = raises c null_pointer
+load_from c test index (Reference id) below =
+    object_at c.memory.objects id >>= array_in >>= λ array. tested ReferenceFault (test array.0) array >>= λ array.
+    load_at c below (at_place index array.1)
+load_from c test index _ below = Err TagFault
 
-abbrev pub load_component : Moment → (FieldTypeOf (List ℕ) → Bool) → Done
-load_component m test =
-    taken_as m.memory.objects types.Int m.frame.stack >>= λ top. as_int top.0 >>= λ index.
-    taken_reference m.memory.objects top.1 >>= λ under. load_from m test index under.0 under.1
+abbrev pub load_component : Context → (FieldTypeOf (List ℕ) → Bool) → Outcome
+load_component c test =
+    taken_as c.memory.objects types.Int c.frame.stack >>= λ top. as_int top.0 >>= λ index.
+    taken_reference c.memory.objects top.1 >>= λ under. load_from c test index under.0 under.1
 
 -- ---- stores
 
@@ -96,59 +93,59 @@ abbrev pub with_component_stored : ℕ → Components → ℕ → Value → Memo
 with_component_stored id array place value memory =
     with_object id (ArrayWith array.0 (slice_set array.1 place (narrowed array.0 value))) memory
 
-abbrev pub store_at : Moment → ℕ → Components → ℤ → Value → List Value → Option Value → Done
-store_at m id array index value below None = raises m array_index
-store_at m id array index value below (Some old) =
-    goes_on_with m (with_component_stored id array (place_for index) value m.memory) below
+abbrev pub store_at : Context → ℕ → Components → ℤ → Value → List Value → Option Value → Outcome
+store_at c id array index value below None = raises c array_index
+store_at c id array index value below (Some old) =
+    goes_on_with c (with_component_stored id array (place_for index) value c.memory) below
 
-abbrev pub store_number : Moment → NumberElement → ℤ → Value → Value → List Value → Done
-store_number m kind index value Null below = raises m null_pointer
-store_number m kind index value (Reference id) below =
-    object_at m.memory.objects id >>= array_in >>= λ array. tested ReferenceFault (holds_numbers kind array.0) array >>= λ array.
-    store_at m id array index value below (at_place index array.1)
-store_number m kind index value _ below = Err TagFault
+abbrev pub store_number : Context → NumberElement → ℤ → Value → Value → List Value → Outcome
+store_number c kind index value Null below = raises c null_pointer
+store_number c kind index value (Reference id) below =
+    object_at c.memory.objects id >>= array_in >>= λ array. tested ReferenceFault (holds_numbers kind array.0) array >>= λ array.
+    store_at c id array index value below (at_place index array.1)
+store_number c kind index value _ below = Err TagFault
 
-abbrev pub store_component : Moment → NumberElement → Done
-store_component m kind =
-    taken_as m.memory.objects (element_number kind) m.frame.stack >>= λ top.
-    taken_as m.memory.objects types.Int top.1 >>= λ second. as_int second.0 >>= λ index.
-    taken_reference m.memory.objects second.1 >>= λ under. store_number m kind index top.0 under.0 under.1
+abbrev pub store_component : Context → NumberElement → Outcome
+store_component c kind =
+    taken_as c.memory.objects (element_number kind) c.frame.stack >>= λ top.
+    taken_as c.memory.objects types.Int top.1 >>= λ second. as_int second.0 >>= λ index.
+    taken_reference c.memory.objects second.1 >>= λ under. store_number c kind index top.0 under.0 under.1
 
 -- a reference can stand in an array: null, or an object of a class that its components are above
-abbrev pub can_stand : Moment → FieldTypeOf (List ℕ) → Value → OrFault Bool
-can_stand m components Null = Ok true
-can_stand m components (Reference id) =
-    object_at m.memory.objects id >>= λ object. Ok (is_instance_of (world_at m) object components)
-can_stand m components _ = Err TagFault
+abbrev pub can_stand : Context → FieldTypeOf (List ℕ) → Value → OrFault Bool
+can_stand c components Null = Ok true
+can_stand c components (Reference id) =
+    object_at c.memory.objects id >>= λ object. Ok (is_instance_of (world_at c) object components)
+can_stand c components _ = Err TagFault
 
-abbrev pub store_reference_if : Moment → ℕ → Components → ℤ → Value → List Value → Bool → Done
-store_reference_if m id array index value below true =
-    goes_on_with m (with_component_stored id array (place_for index) value m.memory) below
-store_reference_if m id array index value below false = raises m array_store
+abbrev pub store_reference_if : Context → ℕ → Components → ℤ → Value → List Value → Bool → Outcome
+store_reference_if c id array index value below true =
+    goes_on_with c (with_component_stored id array (place_for index) value c.memory) below
+store_reference_if c id array index value below false = raises c array_store
 
-abbrev pub store_reference_at : Moment → ℕ → Components → ℤ → Value → List Value → Option Value → Done
-store_reference_at m id array index value below None = raises m array_index
-store_reference_at m id array index value below (Some old) =
-    can_stand m array.0 value >>= store_reference_if m id array index value below
+abbrev pub store_reference_at : Context → ℕ → Components → ℤ → Value → List Value → Option Value → Outcome
+store_reference_at c id array index value below None = raises c array_index
+store_reference_at c id array index value below (Some old) =
+    can_stand c array.0 value >>= store_reference_if c id array index value below
 
 -- the array, the index and the reference are taken already
-abbrev pub store_reference : Moment → Value → ℤ → Value → List Value → Done
-store_reference m Null index value below = raises m null_pointer
-store_reference m (Reference id) index value below =
-    object_at m.memory.objects id >>= array_in >>= λ array. tested ReferenceFault (holds_references array.0) array >>= λ array.
-    store_reference_at m id array index value below (at_place index array.1)
-store_reference m _ index value below = Err TagFault
+abbrev pub store_reference : Context → Value → ℤ → Value → List Value → Outcome
+store_reference c Null index value below = raises c null_pointer
+store_reference c (Reference id) index value below =
+    object_at c.memory.objects id >>= array_in >>= λ array. tested ReferenceFault (holds_references array.0) array >>= λ array.
+    store_reference_at c id array index value below (at_place index array.1)
+store_reference c _ index value below = Err TagFault
 
 -- ---- arraylength
 
-abbrev pub length_of : Moment → Value → List Value → Done
-length_of m Null below = raises m null_pointer
-length_of m (Reference id) below =
-    object_at m.memory.objects id >>= array_in >>= λ array. goes_on m (Int (pos (length array.1)) ∷ below)
-length_of m _ below = Err TagFault
+abbrev pub length_of : Context → Value → List Value → Outcome
+length_of c Null below = raises c null_pointer
+length_of c (Reference id) below =
+    object_at c.memory.objects id >>= array_in >>= λ array. goes_on c (Int (pos (length array.1)) ∷ below)
+length_of c _ below = Err TagFault
 
-abbrev pub array_length : Moment → Done
-array_length m = taken_reference m.memory.objects m.frame.stack >>= λ top. length_of m top.0 top.1
+abbrev pub array_length : Context → Outcome
+array_length c = taken_reference c.memory.objects c.frame.stack >>= λ top. length_of c top.0 top.1
 
 -- ---- new arrays
 
@@ -176,16 +173,16 @@ arrays_made components (count ∷ more) number =
 
 -- Where the cells were paid, the arrays that counts make join the objects, and the outer one is pushed. The innermost that are
 -- made have components of their first value.
-abbrev pub push_arrays : Moment → FieldTypeOf (List ℕ) → List ℕ → List Value → Option Memory → Done
-push_arrays m components counts below None = lacks_memory m
-push_arrays m components counts below (Some memory) =
-    goes_on_with m (with_objects (arrays_made components counts (next_object memory)) memory)
+abbrev pub push_arrays : Context → FieldTypeOf (List ℕ) → List ℕ → List Value → Option Memory → Outcome
+push_arrays c components counts below None = lacks_memory c
+push_arrays c components counts below (Some memory) =
+    goes_on_with c (with_objects (arrays_made components counts (next_object memory)) memory)
     (Reference (next_object memory) ∷ below)
 
-abbrev pub make_array : Moment → FieldTypeOf (List ℕ) → ℤ → List Value → Done
-make_array m components (negsuc n) below = raises m negative_size
-make_array m components (pos count) below =
-    push_arrays m components (count ∷ []) below (paid (array_cells components count) m.memory)
+abbrev pub make_array : Context → FieldTypeOf (List ℕ) → ℤ → List Value → Outcome
+make_array c components (negsuc n) below = raises c negative_size
+make_array c components (pos count) below =
+    push_arrays c components (count ∷ []) below (paid (array_cells components count) c.memory)
 
 abbrev pub base_of : ElementType → Base
 base_of element_types.Boolean = bases.Boolean
@@ -198,17 +195,12 @@ base_of element_types.Long = bases.Long
 abbrev pub base_components : Base → FieldTypeOf (List ℕ)
 base_components base = record { dimensions = 0; element = elements.Base base }
 
--- the components of an array of what was resolved
-abbrev pub components_of : ResolvedClass → FieldTypeOf (List ℕ)
-components_of (ClassOf l) = class_components l.class.name
-components_of (ArrayOf type) = type
-
-abbrev pub new_reference_array : Moment → ℕ → Done
-new_reference_array m index =
-    found OffsetFault (class_operand (current_class (method_of_moment m)) index) >>= λ text.
-    unless_error m (resolve_class (world_at m) (site_at m) None text) (λ resolved.
-    taken_as m.memory.objects types.Int m.frame.stack >>= λ top. as_int top.0 >>= λ count.
-    make_array m (components_of resolved) count top.1)
+abbrev pub new_reference_array : Context → ℕ → Outcome
+new_reference_array c index =
+    class_constant c index >>= λ text.
+    unless_error c (resolve_class (world_at c) (site_at c) None text) (λ resolved.
+    taken_as c.memory.objects types.Int c.frame.stack >>= λ top. as_int top.0 >>= λ count.
+    make_array c (resolved_type resolved) count top.1)
 
 -- ---- arrays of arrays (multianewarray)
 
@@ -221,23 +213,23 @@ count_of (Int (pos n)) = n
 count_of _ = 0
 
 -- every count is tested for a negative number first, and all arrays are paid at once
-abbrev pub make_arrays_if : Moment → FieldTypeOf (List ℕ) → List Value → List Value → Bool → Done
-make_arrays_if m components counts below true = raises m negative_size
-make_arrays_if m components counts below false =
-    push_arrays m components (map count_of counts) below (paid (arrays_cells components (map count_of counts)) m.memory)
+abbrev pub make_arrays_if : Context → FieldTypeOf (List ℕ) → List Value → List Value → Bool → Outcome
+make_arrays_if c components counts below true = raises c negative_size
+make_arrays_if c components counts below false =
+    push_arrays c components (map count_of counts) below (paid (arrays_cells components (map count_of counts)) c.memory)
 
-abbrev pub make_arrays : Moment → FieldTypeOf (List ℕ) → List Value → List Value → Done
-make_arrays m components counts below = make_arrays_if m components counts below (list_any is_negative_count counts)
+abbrev pub make_arrays : Context → FieldTypeOf (List ℕ) → List Value → List Value → Outcome
+make_arrays c components counts below = make_arrays_if c components counts below (list_any is_negative_count counts)
 
 -- the type that is resolved has at least as many dimensions as there are counts
 abbrev pub array_resolved : ℕ → ResolvedClass → OrFault (FieldTypeOf (List ℕ))
 array_resolved dimensions (ClassOf l) = Err OffsetFault
 array_resolved dimensions (ArrayOf type) = tested OffsetFault (not (nat_lt type.dimensions dimensions)) type
 
-abbrev pub new_multi_array : Moment → ℕ → ℕ → Done
-new_multi_array m index dimensions =
-    found OffsetFault (class_operand (current_class (method_of_moment m)) index) >>= λ text.
-    unless_error m (resolve_class (world_at m) (site_at m) None text) (λ resolved.
+abbrev pub new_multi_array : Context → ℕ → ℕ → Outcome
+new_multi_array c index dimensions =
+    class_constant c index >>= λ text.
+    unless_error c (resolve_class (world_at c) (site_at c) None text) (λ resolved.
     array_resolved dimensions resolved >>= λ type.
-    taken m.memory.objects (replicate dimensions types.Int) m.frame.stack >>= λ counts.
-    make_arrays m (component type) counts.0 counts.1)
+    taken c.memory.objects (replicate dimensions types.Int) c.frame.stack >>= λ counts.
+    make_arrays c (component type) counts.0 counts.1)

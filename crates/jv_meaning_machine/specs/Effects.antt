@@ -1,23 +1,29 @@
--- What instructions do beside what they do to memory, while they know nothing of other frames.
-use Rattle.std.specs.Prelude.{ℕ, List, Option, Ok, Err, codes}
+-- What instructions do beside what they do to memory, while they know nothing of other frames (JVMS 2.11, 6.5).
+use Rattle.std.specs.Prelude.{ℕ, List, Option, Ok, Err, codes, if◌then◌else◌}
+use Rattle.jv_text.specs.declared.descriptor.FieldTypeOf.{FieldTypeOf}
 use Rattle.jv_loader_world.specs.World.{Loaded, World}
 use Rattle.jv_loader_world.specs.Overriding.{Declared}
 use Rattle.jv_meaning_linking.specs.Uses.{Site}
 use Rattle.jv_meaning_linking.specs.LinkErrors.{OrError, error_class}
-use Rattle.jv_meaning_typing.specs.Environment.{Environment}
-use Rattle.jv_meaning_machine.specs.Faults.{OrFault}
+use Rattle.jv_meaning_linking.specs.Operands.{class_operand}
+use Rattle.jv_meaning_linking.specs.ClassResolution.{ResolvedClass}
+use Rattle.jv_meaning_linking.specs.ClassResolution.ResolvedClass.{ClassOf, ArrayOf}
+use Rattle.jv_meaning_typing.specs.Environment.{Environment, current_class}
+use Rattle.jv_meaning_typing.specs.Named.{class_components}
+use Rattle.jv_meaning_machine.specs.Faults.{OrFault, found}
+use Rattle.jv_meaning_machine.specs.Faults.Fault.{OffsetFault}
 use Rattle.jv_meaning_machine.specs.Values.{Value}
+use Rattle.jv_meaning_machine.specs.Objects.{Instance}
 use Rattle.jv_meaning_machine.specs.Frames.{MethodFrame}
-use Rattle.jv_meaning_machine.specs.State.{Program, Memory, ClassStates, ClassState, class_state}
-use Rattle.jv_meaning_machine.specs.State.ClassState.{Untouched, Begun, Initialized, Erroneous}
+use Rattle.jv_meaning_machine.specs.State.{Program, Memory, ClassStates, class_state, is_ready}
 
 pub data Effect : Type 0 where
   -- control goes to an offset of the method, with these local variables and this stack
   Goes : (offset : ℕ) → (locals stack : List Value) → Effect
   -- a method is entered with its receiver, if it has one, and its arguments, and this stack is left below them
   Enters : (method : Declared) → (receiver : Option ℕ) → (arguments stack : List Value) → Effect
-  -- so is an `<init>`, on an object
-  Constructs : (method : Declared) → (object : ℕ) → (arguments stack : List Value) → Effect
+  -- so is an `<init>`, on an object, which is this one so far
+  Constructs : (method : Declared) → (object : ℕ) → (instance : Instance) → (arguments stack : List Value) → Effect
   -- the method returns, with its result, if it has one
   Leaves : (result : List Value) → Effect
   -- an object is thrown
@@ -29,51 +35,57 @@ pub data Effect : Type 0 where
 
 -- what an instruction is executed with: what is known of the classes, their states, the memory, the frame, and the offset of
 -- the next instruction
-pub record Moment : Type 0 where
+pub record Context : Type 0 where
   pub program : Program
   pub states : ClassStates
   pub memory : Memory
   pub frame : MethodFrame
   pub next : ℕ
 
-abbrev pub Done : Type 0
-Done = OrFault (Memory × Effect)
+-- what it does to the memory, and its effect, or a fault
+abbrev pub Outcome : Type 0
+Outcome = OrFault (Memory × Effect)
 
-abbrev pub world_at : Moment → World
-world_at m = m.program.world
+abbrev pub world_at : Context → World
+world_at c = c.program.world
 
-abbrev pub method_of_moment : Moment → Environment
-method_of_moment m = m.frame.method
+abbrev pub method_at : Context → Environment
+method_at c = c.frame.method
 
-abbrev pub site_at : Moment → Site
-site_at m = m.frame.method.site
+abbrev pub site_at : Context → Site
+site_at c = c.frame.method.site
 
 -- ---- ways on
 
 -- the next instruction follows, with this stack
-abbrev pub goes_on : Moment → List Value → Done
-goes_on m stack = Ok (m.memory, Goes m.next m.frame.locals stack)
+abbrev pub goes_on : Context → List Value → Outcome
+goes_on c stack = Ok (c.memory, Goes c.next c.frame.locals stack)
 
-abbrev pub goes_on_with : Moment → Memory → List Value → Done
-goes_on_with m memory stack = Ok (memory, Goes m.next m.frame.locals stack)
+abbrev pub goes_on_with : Context → Memory → List Value → Outcome
+goes_on_with c memory stack = Ok (memory, Goes c.next c.frame.locals stack)
 
-abbrev pub raises : Moment → List ℕ → Done
-raises m class = Ok (m.memory, Raises class)
+abbrev pub raises : Context → List ℕ → Outcome
+raises c class = Ok (c.memory, Raises class)
 
 -- what is resolved goes on, and an error of linking is thrown
-abbrev pub unless_error : {A : Type 0} → Moment → OrError A → (A → Done) → Done
-unless_error m (Ok a) next = next a
-unless_error m (Err error) next = raises m (error_class error)
+abbrev pub unless_error : {A : Type 0} → Context → OrError A → (A → Outcome) → Outcome
+unless_error c (Ok a) next = next a
+unless_error c (Err error) next = raises c (error_class error)
 
--- the class has been initialized or is being initialized, and else that is begun
-abbrev pub in_state : Moment → Loaded → ClassState → Done → Done
-in_state m l Untouched done = Ok (m.memory, Begins l)
-in_state m l Erroneous done = Ok (m.memory, Begins l)
-in_state m l Begun done = done
-in_state m l Initialized done = done
+-- the class has been initialized or is being initialized, and else that is begun (5.5)
+abbrev pub once_initialized : Context → Loaded → Outcome → Outcome
+once_initialized c l outcome = if is_ready (class_state c.states l) then outcome else Ok (c.memory, Begins l)
 
-abbrev pub once_initialized : Moment → Loaded → Done → Done
-once_initialized m l done = in_state m l (class_state m.states l) done
+-- ---- what an index names
+
+-- the text of a Class constant
+abbrev pub class_constant : Context → ℕ → OrFault (List ℕ)
+class_constant c index = found OffsetFault (class_operand (current_class (method_at c)) index)
+
+-- the type of what it was resolved to
+abbrev pub resolved_type : ResolvedClass → FieldTypeOf (List ℕ)
+resolved_type (ClassOf l) = class_components l.class.name
+resolved_type (ArrayOf type) = type
 
 -- ---- what the machine throws (6.5)
 
@@ -99,5 +111,5 @@ division_by_zero = codes "java/lang/ArithmeticException"
 abbrev pub out_of_memory : ℕ
 out_of_memory = 0
 
-abbrev pub lacks_memory : Moment → Done
-lacks_memory m = Ok (m.memory, Throws out_of_memory)
+abbrev pub lacks_memory : Context → Outcome
+lacks_memory c = Ok (c.memory, Throws out_of_memory)

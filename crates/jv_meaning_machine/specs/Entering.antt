@@ -1,6 +1,7 @@
 -- Entering and leaving methods (JVMS 2.6, 6.5): the words of a frame are given, and given back.
 use Rattle.std.specs.Prelude.{ℕ, nat_le, List, [], ◌∷◌, ◌++◌, Option, Some, None, Ok, codes}
 use Rattle.std.specs.List.{flat_map}
+use Rattle.std.specs.Str.{bytes_eq}
 use Rattle.jv_loader_world.specs.World.{World}
 use Rattle.jv_loader_world.specs.Overriding.{Declared}
 use Rattle.jv_meaning_typing.specs.Environment.{Environment, instruction_at, offset_behind}
@@ -8,17 +9,26 @@ use Rattle.jv_meaning_machine.specs.Faults.{OrFault, found, tested, ◌>>=◌}
 use Rattle.jv_meaning_machine.specs.Faults.Fault.{OffsetFault, StackFault}
 use Rattle.jv_meaning_machine.specs.Values.{Value, words_of_values}
 use Rattle.jv_meaning_machine.specs.Values.Value.{Reference}
+use Rattle.jv_meaning_machine.specs.Objects.{Instance, Object}
+use Rattle.jv_meaning_machine.specs.Objects.Object.{InstanceOf}
 use Rattle.jv_meaning_machine.specs.Frames.{local_words, filled, MethodFrame, Frame}
 use Rattle.jv_meaning_machine.specs.Frames.Frame.{Runs, Initializes}
-use Rattle.jv_meaning_machine.specs.State.{Program, entered_method, Memory, Control, State, state_of, with_frames}
+use Rattle.jv_meaning_machine.specs.State.{Program, entered_method, Memory, Control, State, state_of}
 use Rattle.jv_meaning_machine.specs.State.End.{Returned}
-use Rattle.jv_meaning_machine.specs.Costs.{method_words, given_words, with_words_back}
+use Rattle.jv_meaning_machine.specs.Costs.{code_words, method_words, given_words, with_words_back}
+use Rattle.jv_meaning_machine.specs.Fields.{with_object}
 use Rattle.jv_meaning_machine.specs.Throws.{raise}
 
-abbrev pub stack_overflow : List ℕ
-stack_overflow = codes "java/lang/StackOverflowError"
+-- ---- words: where so many are left they are given, and else a StackOverflowError is thrown, and nothing else has changed
+-- (2.5.2)
 
--- ---- entering
+abbrev pub within_words : World → Memory → List Frame → Control → ℕ → (Control → OrFault State) → OrFault State
+within_words world memory frames control words next = elim (given_words words control) [
+  | None ↦ raise world memory frames control (codes "java/lang/StackOverflowError")
+  | Some given ↦ next given
+]
+
+-- ---- entering: first the frame's words are asked for, then the verdict on the method's class, and then its local variables
 
 -- the receiver and the arguments, as they are passed
 abbrev pub passed_values : Option ℕ → List Value → List Value
@@ -35,17 +45,29 @@ method_frame program d receiver arguments =
     filled method.code.max_locals (flat_map local_words (passed_values receiver arguments)) >>= λ locals.
     Ok (entered_frame method receiver locals [])
 
--- where the frame's words are not left, nothing changes but by the throw
-abbrev pub enter_within : World → Memory → Memory → Control → MethodFrame → Option Control → OrFault State
-enter_within world before after control frame None = raise world before control stack_overflow
-enter_within world before after control frame (Some given) =
-    Ok (state_of after (with_frames given (Runs frame ∷ control.frames)))
+-- the method's frame stands above the others
+abbrev pub entered_above : Program → List Frame → Declared → Option ℕ → List Value → Memory → Control → OrFault State
+entered_above program frames d receiver arguments memory given =
+    method_frame program d receiver arguments >>= λ frame. Ok (state_of memory (Runs frame ∷ frames) given)
 
--- a method is entered above the frames, with another memory than before where that is an `<init>`
-abbrev pub enter : Program → Memory → Memory → Control → Declared → Option ℕ → List Value → OrFault State
-enter program before after control d receiver arguments =
-    method_frame program d receiver arguments >>= λ frame.
-    enter_within program.world before after control frame (given_words (method_words frame) control)
+abbrev pub enter : Program → Memory → List Frame → Control → Declared → Option ℕ → List Value → OrFault State
+enter program memory frames control d receiver arguments =
+    found OffsetFault d.method.code >>= λ code.
+    within_words program.world memory frames control (code_words code) (entered_above program frames d receiver arguments memory)
+
+-- what entering an `<init>` makes of its object: java/lang/Object's makes it constructed (2.9)
+abbrev pub entered_on : Declared → Instance → Object
+entered_on d instance =
+    InstanceOf (record instance {
+      entered = Some d.by.class.name;
+      constructed = bytes_eq d.by.class.name (codes "java/lang/Object");
+    })
+
+abbrev pub enter_init : Program → Memory → List Frame → Control → Declared → ℕ → Instance → List Value → OrFault State
+enter_init program memory frames control d object instance arguments =
+    found OffsetFault d.method.code >>= λ code.
+    within_words program.world memory frames control (code_words code)
+    (entered_above program frames d (Some object) arguments (with_object object (entered_on d instance) memory))
 
 -- ---- leaving
 
@@ -61,12 +83,12 @@ resumed caller result =
     found OffsetFault (instruction_at caller.method caller.offset) >>= λ insn.
     at_offset caller (offset_behind caller.offset insn) caller.locals (result ++ caller.stack)
 
-abbrev pub leave_to : Memory → Control → List Value → List Frame → OrFault State
-leave_to memory control result [] = Ok (state_of memory (record control { frames = []; end = Returned }))
-leave_to memory control result (Runs caller ∷ below) =
-    resumed caller result >>= λ caller. Ok (state_of memory (with_frames control (Runs caller ∷ below)))
-leave_to memory control result (Initializes frame ∷ below) =
-    Ok (state_of memory (with_frames control (Initializes frame ∷ below)))
+-- the frames below are left to go on; where there are none the guest has ended
+abbrev pub leave_to : Memory → List Frame → Control → List Value → OrFault State
+leave_to memory [] control result = Ok (state_of memory [] (record control { end = Returned }))
+leave_to memory (Runs caller ∷ below) control result =
+    resumed caller result >>= λ caller. Ok (state_of memory (Runs caller ∷ below) control)
+leave_to memory (Initializes frame ∷ below) control result = Ok (state_of memory (Initializes frame ∷ below) control)
 
-abbrev pub leave : Memory → Control → MethodFrame → List Value → List Frame → OrFault State
-leave memory control frame result below = leave_to memory (with_words_back (method_words frame) control) result below
+abbrev pub leave : Memory → MethodFrame → List Frame → Control → List Value → OrFault State
+leave memory frame below control result = leave_to memory below (with_words_back (method_words frame) control) result

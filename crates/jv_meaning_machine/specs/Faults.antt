@@ -1,8 +1,10 @@
--- What the machine refuses to do (own), and what verified code is never to ask for. And steps that can end so.
+-- What the machine refuses to do, and what verified code is never to ask for (JVMS 4.9.2, 4.10; own), and steps that can end so.
 use Rattle.std.specs.Prelude.{Bool, true, false, Option, Some, None, Result, Ok, Err}
 
 pub data Fault : Type 0 where
-  -- no instruction starts at the offset, or its constant is of another kind
+  -- no instruction starts at the offset, or a jump leads below 0; or an instruction's constant is of another kind: that of
+  -- multianewarray names a class, or an array of fewer dimensions than there are counts, and invokevirtual's or
+  -- invokeinterface's an `<init>`; or a method without code is entered
   OffsetFault : Fault
   -- the stack is below empty, or above max_stack words
   StackFault : Fault

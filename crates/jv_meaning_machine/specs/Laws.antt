@@ -1,7 +1,9 @@
 pub mod Shapes
 pub mod Kept
 pub mod Locations
+pub mod Feeds
 pub mod Ends
+pub mod Mains
 pub mod Runs
 pub mod Shown
 pub mod Stores

@@ -19,7 +19,7 @@ use Rattle.jv_meaning_machine.specs.Objects.{FieldKey, Object, new_instance, wit
 use Rattle.jv_meaning_machine.specs.Objects.Object.{InstanceOf, ArrayWith}
 use Rattle.jv_meaning_machine.specs.State.{Program, Memory}
 use Rattle.jv_meaning_machine.specs.Costs.{array_cells, paid, with_objects, next_object}
-use Rattle.jv_meaning_machine.specs.Effects.{Moment, Done, method_of_moment, goes_on, goes_on_with, lacks_memory}
+use Rattle.jv_meaning_machine.specs.Effects.{Context, Outcome, method_at, goes_on, goes_on_with, lacks_memory}
 use Rattle.jv_meaning_machine.specs.Arrays.{base_components}
 
 -- ---- string literals
@@ -93,18 +93,18 @@ pushed_constant pool (Some (constants.Integer bits)) = Ok (IntValue (cast_signed
 pushed_constant pool (Some (constants.String text)) = found OffsetFault (utf8_at pool text) >>= λ bytes. Ok (StringValue bytes)
 pushed_constant pool _ = Err OffsetFault
 
-abbrev pub push_value : Moment → Option (Memory × Value) → Done
-push_value m None = lacks_memory m
-push_value m (Some made) = goes_on_with m made.0 (made.1 ∷ m.frame.stack)
+abbrev pub push_value : Context → Option (Memory × Value) → Outcome
+push_value c None = lacks_memory c
+push_value c (Some made) = goes_on_with c made.0 (made.1 ∷ c.frame.stack)
 
-abbrev pub pool_at : Moment → List Entry
-pool_at m = (current_class (method_of_moment m)).constant_pool
+abbrev pub pool_at : Context → List Entry
+pool_at c = (current_class (method_at c)).constant_pool
 
-abbrev pub push_constant : Moment → ℕ → Done
-push_constant m index =
-    pushed_constant (pool_at m) (at_index (pool_at m) index) >>= λ constant.
-    constant_value m.program constant m.memory >>= push_value m
+abbrev pub push_constant : Context → ℕ → Outcome
+push_constant c index =
+    pushed_constant (pool_at c) (at_index (pool_at c) index) >>= λ constant.
+    constant_value c.program constant c.memory >>= push_value c
 
-abbrev pub push_long_constant : Moment → ℕ → Done
-push_long_constant m index =
-    found OffsetFault (long_at (pool_at m) index) >>= λ bits. goes_on m (Long (cast_signed w64 bits) ∷ m.frame.stack)
+abbrev pub push_long_constant : Context → ℕ → Outcome
+push_long_constant c index =
+    found OffsetFault (long_at (pool_at c) index) >>= λ bits. goes_on c (Long (cast_signed w64 bits) ∷ c.frame.stack)

@@ -12,7 +12,7 @@ use Rattle.jv_loader_world.specs.LookUps.{DeclaredField}
 use Rattle.jv_meaning_linking.specs.Layout.{instance_fields}
 use Rattle.jv_meaning_typing.specs.of_assign.Flow.{is_above_arrays, same_base}
 use Rattle.jv_meaning_typing.specs.Named.{class_components}
-use Rattle.jv_meaning_machine.specs.Values.{Value, first_of, first_of_type}
+use Rattle.jv_meaning_machine.specs.Values.{Value, default_of, default_of_type}
 
 -- ---- what fields hold: a field is known by the class that declares it, its name and its descriptor
 
@@ -39,8 +39,8 @@ with_value key value [] = []
 with_value key value (entry ∷ more) =
     if same_key key entry.0 then (entry.0, value) ∷ more else entry ∷ with_value key value more
 
-abbrev pub first_entry : DeclaredField → FieldKey × Value
-first_entry d = (key_of d, first_of d.field.descriptor)
+abbrev pub default_entry : DeclaredField → FieldKey × Value
+default_entry d = (key_of d, default_of d.field.descriptor)
 
 -- ---- objects
 
@@ -66,7 +66,7 @@ new_instance world constructed l = record {
   class = l.class.name;
   entered = None;
   constructed = constructed;
-  fields = map first_entry (instance_fields world l);
+  fields = map default_entry (instance_fields world l);
 }
 
 -- what `new` makes, and what the machine makes itself (own)
@@ -78,7 +78,7 @@ made_object world l = InstanceOf (new_instance world true l)
 
 -- an array with this many components, each zero or null
 abbrev pub new_array : FieldTypeOf (List ℕ) → ℕ → Object
-new_array components count = ArrayWith components (replicate count (first_of_type components))
+new_array components count = ArrayWith components (replicate count (default_of_type components))
 
 -- ---- the class of an object, and what it is an instance of (6.5, instanceof): superclasses and superinterfaces alike
 
@@ -86,17 +86,17 @@ abbrev pub type_of_object : Object → FieldTypeOf (List ℕ)
 type_of_object (InstanceOf instance) = class_components instance.class
 type_of_object (ArrayWith components values) = record { dimensions = suc components.dimensions; element = components.element }
 
-abbrev pub is_class_below : World → Option Loaded → List ℕ → Bool
-is_class_below world None name = false
-is_class_below world (Some l) name = is_above world name l.class
+abbrev pub is_below : World → Option Loaded → List ℕ → Bool
+is_below world None name = false
+is_below world (Some l) name = is_above world name l.class
 
 -- a class is another one, or below it
-abbrev pub is_class_of : World → List ℕ → List ℕ → Bool
-is_class_of world name other = bytes_eq name other || is_class_below world (class_named world name) other
+abbrev pub is_at_or_below : World → List ℕ → List ℕ → Bool
+is_at_or_below world name other = bytes_eq name other || is_below world (class_named world name) other
 
 -- by dimensions and elements: an array is one of its component's supers' arrays, and an object of the classes above arrays
 abbrev pub is_type_of : World → ℕ → Element (List ℕ) → ℕ → Element (List ℕ) → Bool
-is_type_of world zero (elements.Class name) zero (elements.Class other) = is_class_of world name other
+is_type_of world zero (elements.Class name) zero (elements.Class other) = is_at_or_below world name other
 is_type_of world zero (elements.Base base) zero (elements.Base other) = same_base base other
 is_type_of world (suc n) element zero (elements.Class other) = is_above_arrays other
 is_type_of world (suc n) element (suc m) other = is_type_of world n element m other

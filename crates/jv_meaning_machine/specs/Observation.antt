@@ -1,9 +1,9 @@
--- What a guest shows after some number of its own steps.
+-- What a guest shows after some number of its own steps (own).
 use Rattle.std.specs.Prelude.{◌≡◌, ℕ, List, Option, Ok, IsErr}
 use Rattle.jv_meaning_typing.specs.declared.verdict.Verdict.{Verdict}
 use Rattle.jv_meaning_machine.specs.State.{State, End}
 use Rattle.jv_meaning_machine.specs.Start.{Budget}
-use Rattle.jv_meaning_machine.specs.Alone.{Guest, Judged, IsJudged, alone}
+use Rattle.jv_meaning_machine.specs.Alone.{GuestFiles, Judged, IsJudged, Feed, alone}
 
 -- the verdicts on its files, its steps, what it wrote, how many throws there were and the class of the last one, and how it ended
 pub record Observed : Type 0 where
@@ -24,16 +24,16 @@ observation verdicts n s = record {
   end = s.control.end;
 }
 
--- A guest shows this after n of its own steps, alone.
-pub record Shows (g : Guest) (b : Budget) (n : ℕ) (o : Observed) : Type 0 where
+-- A guest that is fed so shows this after n of its own steps, alone.
+pub record Shows (g : GuestFiles) (b : Budget) (feeds : List Feed) (n : ℕ) (o : Observed) : Type 0 where
   pub judged : Judged
   pub right : IsJudged g.files judged
   pub state : State
-  pub ran : alone judged g b n ≡ Ok state
+  pub ran : alone judged g b feeds n ≡ Ok state
   pub shown : o ≡ observation judged.verdicts n state
 
 -- The machine meets a fault within n of the guest's own steps.
-pub record FaultsWithin (g : Guest) (b : Budget) (n : ℕ) : Type 0 where
+pub record FaultsWithin (g : GuestFiles) (b : Budget) (feeds : List Feed) (n : ℕ) : Type 0 where
   pub judged : Judged
   pub right : IsJudged g.files judged
-  pub fault : IsErr (alone judged g b n)
+  pub fault : IsErr (alone judged g b feeds n)

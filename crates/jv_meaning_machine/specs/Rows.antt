@@ -10,3 +10,4 @@ pub mod Links
 pub mod Throws
 pub mod Members
 pub mod Faults
+pub mod Feeds

@@ -1,4 +1,4 @@
--- The start (own): one OutOfMemoryError object and an empty array of Strings for main are made, static fields are zero or null,
+-- The start (JVMS 5.2; own): one OutOfMemoryError object and an empty array of Strings for main are made, static fields are zero or null,
 -- and the main class's initialization is begun.
 use Rattle.std.specs.Prelude.{ℕ, ◌+◌, ◌-◌, List, [], ◌∷◌, filter, map, Option, Some, None, Ok, codes}
 use Rattle.std.specs.List.{flat_map}
@@ -10,7 +10,7 @@ use Rattle.jv_meaning_linking.specs.Layout.{object_cells}
 use Rattle.jv_meaning_typing.specs.Named.{class_components}
 use Rattle.jv_meaning_machine.specs.Faults.{OrFault, found, ◌>>=◌}
 use Rattle.jv_meaning_machine.specs.Faults.Fault.{ReferenceFault}
-use Rattle.jv_meaning_machine.specs.Objects.{Content, first_entry, made_object, new_array}
+use Rattle.jv_meaning_machine.specs.Objects.{Content, default_entry, made_object, new_array}
 use Rattle.jv_meaning_machine.specs.State.{Program, Memory, Control, End, State, state_of}
 use Rattle.jv_meaning_machine.specs.State.End.{Running, NoMain}
 use Rattle.jv_meaning_machine.specs.Costs.{array_cells}
@@ -26,7 +26,7 @@ pub record Budget : Type 0 where
 -- ---- memory
 
 abbrev pub static_entries : Loaded → Content
-static_entries l = map (λ f. first_entry (field_by l f)) (filter is_static_field l.class.fields)
+static_entries l = map (λ f. default_entry (field_by l f)) (filter is_static_field l.class.fields)
 
 abbrev pub start_cells : World → Loaded → ℕ
 start_cells world error = object_cells world error + array_cells (class_components string_name) 0
@@ -46,12 +46,12 @@ start_memory world input budget error = record {
 
 abbrev pub start_control : List ℕ → Budget → End → Control
 start_control main budget end =
-    record { frames = []; main = main; states = []; words = budget.words; throws = 0; last = None; end = end }
+    record { main = main; states = []; words = budget.words; throws = 0; last = None; end = end }
 
 -- where there is no main method the guest has ended
 abbrev pub start_with : Program → List ℕ → Budget → Memory → Option Declared → OrFault State
-start_with program main budget memory None = Ok (state_of memory (start_control main budget NoMain))
-start_with program main budget memory (Some d) = begin program memory (start_control main budget Running) d.by
+start_with program main budget memory None = Ok (state_of memory [] (start_control main budget NoMain))
+start_with program main budget memory (Some d) = begin program memory [] (start_control main budget Running) d.by
 
 abbrev pub start : Program → List ℕ → List ℕ → Budget → OrFault State
 start program main input budget =

@@ -1,5 +1,5 @@
--- What the machine knows of a guest's classes, and its state.
-use Rattle.std.specs.Prelude.{ℕ, Bool, ◌||◌, List, [], ◌∷◌, Option, Ok, if◌then◌else◌}
+-- What the machine knows of a guest's classes, and its state (JVMS 2.5, 5.5).
+use Rattle.std.specs.Prelude.{ℕ, Bool, true, false, ◌||◌, List, [], ◌∷◌, Option, Ok, if◌then◌else◌}
 use Rattle.std.specs.List.{list_any}
 use Rattle.std.specs.Str.{bytes_eq}
 use Rattle.jv_text.specs.Types.{method_type_of}
@@ -37,7 +37,7 @@ entered_method program d =
 -- ---- what instructions change
 
 -- the objects, what static fields hold, the objects of string literals by their texts, the cells and the bytes of output
--- that are left, what was written, and the input that was not read
+-- that are left, what was written, and the input that waits: that came and was not read
 pub record Memory : Type 0 where
   pub objects : List Object
   pub statics : Content
@@ -47,7 +47,7 @@ pub record Memory : Type 0 where
   pub output : List ℕ
   pub input : List ℕ
 
--- ---- what calls, throws and initializations change
+-- ---- what calls, throws and initializations change, beside the frames
 
 -- a class: not yet to be initialized, being initialized, initialized, or one whose initialization ended in a throw (5.5)
 pub data ClassState : Type 0 where
@@ -68,6 +68,14 @@ state_named name (entry ∷ more) = if bytes_eq name entry.0 then entry.1 else s
 abbrev pub class_state : ClassStates → Loaded → ClassState
 class_state states l = if l.by_system then Initialized else state_named l.class.name states
 
+-- an instruction that needs the class's initialization goes on: it is initialized, or being initialized by the guest's one
+-- thread (5.5)
+abbrev pub is_ready : ClassState → Bool
+is_ready Untouched = false
+is_ready Begun = true
+is_ready Initialized = true
+is_ready Erroneous = false
+
 -- how a guest ended, if it did: main returned, an object of a class was thrown and not caught, or there was no main method
 pub data End : Type 0 where
   Running : End
@@ -75,10 +83,9 @@ pub data End : Type 0 where
   Threw : (class : List ℕ) → End
   NoMain : End
 
--- the frames, the current one first, none where the guest has ended; the main class's name; the states of classes; the words
--- that are left for frames; how many throws there were, up to 2^64 - 1, and the class of the last one
+-- the main class's name; the states of classes; the words that are left for frames; how many throws there were, up to
+-- 2^64 - 1, and the class of the last one
 pub record Control : Type 0 where
-  pub frames : List Frame
   pub main : List ℕ
   pub states : ClassStates
   pub words : ℕ
@@ -86,15 +93,14 @@ pub record Control : Type 0 where
   pub last : Option (List ℕ)
   pub end : End
 
+-- the frames, the current one first (2.5.2, 2.6), none where the guest has ended
 pub record State : Type 0 where
   pub memory : Memory
+  pub frames : List Frame
   pub control : Control
 
-abbrev pub state_of : Memory → Control → State
-state_of memory control = record { memory = memory; control = control }
-
-abbrev pub with_frames : Control → List Frame → Control
-with_frames control frames = record control { frames = frames }
+abbrev pub state_of : Memory → List Frame → Control → State
+state_of memory frames control = record { memory = memory; frames = frames; control = control }
 
 abbrev pub with_state : ClassState → Loaded → Control → Control
 with_state state l control = record control { states = (l.class.name, state) ∷ control.states }

@@ -1,5 +1,5 @@
--- A step (own): one instruction of the current method, or one task of an initialization. A state that has ended stays.
-use Rattle.std.specs.Prelude.{List, [], ◌∷◌, Some, Ok}
+-- A step (JVMS 2.11; own): one instruction of the current method, or one task of an initialization. A state that has ended stays.
+use Rattle.std.specs.Prelude.{List, [], ◌∷◌, Ok}
 use Rattle.jv_code.specs.Insns.{Instruction}
 use Rattle.jv_meaning_typing.specs.Environment.{instruction_at, offset_behind}
 use Rattle.jv_meaning_machine.specs.Faults.{OrFault, found, ◌>>=◌}
@@ -7,54 +7,49 @@ use Rattle.jv_meaning_machine.specs.Faults.Fault.{OffsetFault}
 use Rattle.jv_meaning_machine.specs.Values.{Value}
 use Rattle.jv_meaning_machine.specs.Frames.{MethodFrame, Frame}
 use Rattle.jv_meaning_machine.specs.Frames.Frame.{Runs, Initializes}
-use Rattle.jv_meaning_machine.specs.State.{Program, Memory, Control, State, state_of, with_frames}
-use Rattle.jv_meaning_machine.specs.Operands.{object_at}
-use Rattle.jv_meaning_machine.specs.Effects.{Effect, Moment}
+use Rattle.jv_meaning_machine.specs.State.{Program, Memory, Control, State, state_of}
+use Rattle.jv_meaning_machine.specs.Effects.{Effect, Context}
 use Rattle.jv_meaning_machine.specs.Effects.Effect.{Goes, Enters, Constructs, Leaves, Throws, Raises, Begins}
-use Rattle.jv_meaning_machine.specs.Fields.{with_object, instance_in}
-use Rattle.jv_meaning_machine.specs.Calls.{entered_on}
 use Rattle.jv_meaning_machine.specs.Instructions.{execute}
 use Rattle.jv_meaning_machine.specs.Throws.{throw, raise}
-use Rattle.jv_meaning_machine.specs.Entering.{at_offset, enter, leave}
+use Rattle.jv_meaning_machine.specs.Entering.{at_offset, enter, enter_init, leave}
 use Rattle.jv_meaning_machine.specs.Initialization.{begin, initialization_step}
 
 -- the caller waits at its call, with what is left of its stack
-abbrev pub waiting : Control → MethodFrame → List Value → List Frame → Control
-waiting control frame stack below = with_frames control (Runs (record frame { stack = stack }) ∷ below)
+abbrev pub waiting : MethodFrame → List Value → Frame
+waiting frame stack = Runs (record frame { stack = stack })
 
--- what an instruction's effect makes of the frames, of which the current one and those below it are given
-abbrev pub act : Program → Control → MethodFrame → List Frame → Memory × Effect → OrFault State
-act program control frame below (memory, Goes offset locals stack) =
-    at_offset frame offset locals stack >>= λ frame. Ok (state_of memory (with_frames control (Runs frame ∷ below)))
-act program control frame below (memory, Enters d receiver arguments stack) =
-    enter program memory memory (waiting control frame stack below) d receiver arguments
-act program control frame below (memory, Constructs d object arguments stack) =
-    object_at memory.objects object >>= instance_in >>= λ instance.
-    enter program memory (with_object object (entered_on d instance) memory) (waiting control frame stack below) d
-    (Some object) arguments
-act program control frame below (memory, Leaves result) = leave memory control frame result below
-act program control frame below (memory, Throws object) = throw program.world memory control object
-act program control frame below (memory, Raises class) = raise program.world memory control class
-act program control frame below (memory, Begins l) = begin program memory control l
+-- what an instruction's effect makes of the current frame and those below it
+abbrev pub act : Program → MethodFrame → List Frame → Control → Memory × Effect → OrFault State
+act program frame below control (memory, Goes offset locals stack) =
+    at_offset frame offset locals stack >>= λ frame. Ok (state_of memory (Runs frame ∷ below) control)
+act program frame below control (memory, Enters d receiver arguments stack) =
+    enter program memory (waiting frame stack ∷ below) control d receiver arguments
+act program frame below control (memory, Constructs d object instance arguments stack) =
+    enter_init program memory (waiting frame stack ∷ below) control d object instance arguments
+act program frame below control (memory, Leaves result) = leave memory frame below control result
+act program frame below control (memory, Throws object) = throw program.world memory (Runs frame ∷ below) control object
+act program frame below control (memory, Raises class) = raise program.world memory (Runs frame ∷ below) control class
+act program frame below control (memory, Begins l) = begin program memory (Runs frame ∷ below) control l
 
-abbrev pub moment : Program → State → MethodFrame → Instruction → Moment
-moment program s frame insn = record {
+abbrev pub context : Program → Memory → Control → MethodFrame → Instruction → Context
+context program memory control frame insn = record {
   program = program;
-  states = s.control.states;
-  memory = s.memory;
+  states = control.states;
+  memory = memory;
   frame = frame;
   next = offset_behind frame.offset insn;
 }
 
-abbrev pub instruction_step : Program → State → MethodFrame → List Frame → OrFault State
-instruction_step program s frame below =
+abbrev pub instruction_step : Program → Memory → MethodFrame → List Frame → Control → OrFault State
+instruction_step program memory frame below control =
     found OffsetFault (instruction_at frame.method frame.offset) >>= λ insn.
-    execute (moment program s frame insn) insn >>= act program s.control frame below
+    execute (context program memory control frame insn) insn >>= act program frame below control
 
-abbrev pub step_in : Program → State → List Frame → OrFault State
-step_in program s [] = Ok s
-step_in program s (Runs frame ∷ below) = instruction_step program s frame below
-step_in program s (Initializes frame ∷ below) = initialization_step program s.memory s.control frame below
+abbrev pub step_in : Program → Memory → List Frame → Control → OrFault State
+step_in program memory [] control = Ok (state_of memory [] control)
+step_in program memory (Runs frame ∷ below) control = instruction_step program memory frame below control
+step_in program memory (Initializes frame ∷ below) control = initialization_step program memory frame below control
 
 abbrev pub step : Program → State → OrFault State
-step program s = step_in program s s.control.frames
+step program s = step_in program s.memory s.frames s.control

@@ -11,10 +11,10 @@ use Rattle.jv_meaning_typing.specs.Typing.{covers}
 use Rattle.jv_meaning_machine.specs.Faults.{OrFault, found, tested, ◌>>=◌}
 use Rattle.jv_meaning_machine.specs.Faults.Fault.{StackFault, ReferenceFault}
 use Rattle.jv_meaning_machine.specs.Values.Value.{Reference}
-use Rattle.jv_meaning_machine.specs.Objects.{made_object, is_class_of}
+use Rattle.jv_meaning_machine.specs.Objects.{made_object, is_at_or_below}
 use Rattle.jv_meaning_machine.specs.Frames.{MethodFrame, Frame}
 use Rattle.jv_meaning_machine.specs.Frames.Frame.{Runs, Initializes}
-use Rattle.jv_meaning_machine.specs.State.{Memory, Control, State, state_of, with_frames, with_state}
+use Rattle.jv_meaning_machine.specs.State.{Memory, Control, State, state_of, with_state}
 use Rattle.jv_meaning_machine.specs.State.ClassState.{Erroneous}
 use Rattle.jv_meaning_machine.specs.State.End.{Threw}
 use Rattle.jv_meaning_machine.specs.Costs.{paid, with_objects, next_object, method_words, initialization_words, with_words_back}
@@ -59,7 +59,7 @@ with_control t control = record t { control = control }
 
 abbrev pub is_caught_as : World → List ℕ → Option (List ℕ) → Bool
 is_caught_as world class None = false
-is_caught_as world class (Some name) = is_class_of world class name
+is_caught_as world class (Some name) = is_at_or_below world class name
 
 abbrev pub catches : World → List Entry → List ℕ → Handler → Bool
 catches world pool class handler =
@@ -77,7 +77,7 @@ at_handler frame offset object = Runs (record frame { offset = offset; stack = R
 abbrev pub caught : Thrown → MethodFrame → List Frame → Handler → OrFault State
 caught t frame below handler =
     tested StackFault (nat_le 1 frame.method.code.max_stack) frame >>= λ frame.
-    Ok (state_of t.memory (with_frames t.control (at_handler frame handler.handler_pc t.object ∷ below)))
+    Ok (state_of t.memory (at_handler frame handler.handler_pc t.object ∷ below) t.control)
 
 -- ---- initializations that a throw passes: an ExceptionInInitializerError is thrown in place of what is no java/lang/Error
 
@@ -86,7 +86,7 @@ replacement_if world t true = Ok t
 replacement_if world t false = exception world (codes "java/lang/ExceptionInInitializerError") t.memory >>= thrown t.control
 
 abbrev pub replacement : World → Thrown → OrFault Thrown
-replacement world t = replacement_if world t (is_class_of world t.class (codes "java/lang/Error"))
+replacement world t = replacement_if world t (is_at_or_below world t.class (codes "java/lang/Error"))
 
 -- the class becomes erroneous
 abbrev pub passed_initialization : Loaded → Thrown → Thrown
@@ -98,7 +98,7 @@ passed_method frame t = with_control t (with_words_back (method_words frame) t.c
 -- ---- up the frames: where none is left the guest has ended
 
 abbrev pub unwound : World → Thrown → List Frame → OrFault State
-unwound world t [] = Ok (state_of t.memory (record t.control { frames = []; end = Threw t.class }))
+unwound world t [] = Ok (state_of t.memory [] (record t.control { end = Threw t.class }))
 unwound world t (Runs frame ∷ below) = elim (handler_for world t.class frame) [
   | None ↦ unwound world (passed_method frame t) below
   | Some handler ↦ caught t frame below handler
@@ -106,10 +106,9 @@ unwound world t (Runs frame ∷ below) = elim (handler_for world t.class frame) 
 unwound world t (Initializes frame ∷ below) =
     replacement world (passed_initialization frame.class t) >>= λ t. unwound world t below
 
--- an object is thrown in the current frame; and so is an exception of a class that the machine makes
-abbrev pub throw : World → Memory → Control → ℕ → OrFault State
-throw world memory control object = thrown control (memory, object) >>= λ t. unwound world t control.frames
+-- an object is thrown in the first of these frames; and so is an exception of a class that the machine makes
+abbrev pub throw : World → Memory → List Frame → Control → ℕ → OrFault State
+throw world memory frames control object = thrown control (memory, object) >>= λ t. unwound world t frames
 
-abbrev pub raise : World → Memory → Control → List ℕ → OrFault State
-raise world memory control name =
-    exception world name memory >>= thrown control >>= λ t. unwound world t control.frames
+abbrev pub raise : World → Memory → List Frame → Control → List ℕ → OrFault State
+raise world memory frames control name = exception world name memory >>= thrown control >>= λ t. unwound world t frames

@@ -39,9 +39,12 @@ value_width (Reference object) = Some One
 value_width Half = None
 value_width Unset = None
 
+abbrev pub words_of_width : Option Width → ℕ
+words_of_width (Some Two) = 2
+words_of_width _ = 1
+
 abbrev pub value_words : Value → ℕ
-value_words (Long value) = 2
-value_words _ = 1
+value_words value = words_of_width (value_width value)
 
 abbrev pub words_of_values : List Value → ℕ
 words_of_values values = sum_by value_words values
@@ -68,23 +71,23 @@ has_type (types.Class name) value = is_reference_value value
 has_type (types.Array components) value = is_reference_value value
 has_type _ value = false
 
--- ---- what a field or an element begins with (2.3, 2.4)
+-- ---- default values, with which fields and elements begin (2.3, 2.4)
 
-abbrev pub first_value : FrameType → Value
-first_value types.Int = Int (pos 0)
-first_value types.Long = Long (pos 0)
-first_value _ = Null
+abbrev pub default_value : FrameType → Value
+default_value types.Int = Int (pos 0)
+default_value types.Long = Long (pos 0)
+default_value _ = Null
 
-abbrev pub first_of_type : FieldTypeOf (List ℕ) → Value
-first_of_type type = first_value (value_type type)
+abbrev pub default_of_type : FieldTypeOf (List ℕ) → Value
+default_of_type type = default_value (value_type type)
 
 -- by its descriptor
-abbrev pub first_described : Option (FieldTypeOf (List ℕ)) → Value
-first_described None = Null
-first_described (Some type) = first_of_type type
+abbrev pub default_described : Option (FieldTypeOf (List ℕ)) → Value
+default_described None = Null
+default_described (Some type) = default_of_type type
 
-abbrev pub first_of : List ℕ → Value
-first_of descriptor = first_described (field_type_of descriptor)
+abbrev pub default_of : List ℕ → Value
+default_of descriptor = default_described (field_type_of descriptor)
 
 -- ---- stores narrow an int to the field's or the element's type (6.5, bastore and its kin; own for fields): 8 or 16 signed
 -- bits, 16 unsigned ones, or 1

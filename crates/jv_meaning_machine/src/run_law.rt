@@ -1,6 +1,6 @@
 //! Laws of the machine's runs: what stays, and what a guest keeps of its budget.
 
-ghost use Rattle.jv_meaning_machine.specs.Laws.Runs.{AloneGoesOn, CellsAreBudgeted, FirstObjectsCost, ObjectsAreNeverFewer, ObjectsStay, OutputGrows, OutputIsBudgeted, RunKeeps, StaticsAreThere, StepKeeps, WordsAreBudgeted};
+ghost use Rattle.jv_meaning_machine.specs.Laws.Runs.{AloneGoesOn, AloneStepsOn, CellsAreBudgeted, FirstObjectsCost, ObjectsAreNeverFewer, ObjectsHaveFields, ObjectsStay, OutputGrows, OutputIsBudgeted, RunKeeps, StaticsAreThere, StepKeeps, WordsAreBudgeted};
 
 /// What a state has stays over a step: what was written, the objects and their shapes, the objects of
 /// literals, and the sums of what is used and what is left.
@@ -31,6 +31,16 @@ pub fn objects_are_never_fewer()
 /// What a guest does alone goes on from each state that it was in.
 pub fn alone_goes_on()
     ensures { AloneGoesOn }
+{}
+
+/// While nothing comes to its input a guest takes steps, and does nothing else.
+pub fn alone_steps_on()
+    ensures { AloneStepsOn }
+{}
+
+/// An object has the fields of its class's layout, which is one of its guest's world, always.
+pub fn objects_have_fields()
+    ensures { ObjectsHaveFields }
 {}
 
 /// What a guest wrote alone and what it may still write are its budget's output together.

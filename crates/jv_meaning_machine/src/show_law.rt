@@ -37,7 +37,7 @@ pub fn faults_show_nothing()
     one_judged();
 }
 
-/// Once a guest shows an end, it shows the same after any more steps, but for their number.
+/// Once a guest shows an end, it shows the same after any more steps, but for their number, whatever it is fed.
 pub fn ended_shows_the_same()
     ensures { EndedShowsTheSame }
 {}

@@ -1,6 +1,11 @@
 //! Laws of the machine's stores: what an instruction that stores doesn't name stays as it is.
 
-ghost use Rattle.jv_meaning_machine.specs.Laws.Stores.{ArrayStoreStores, OtherFieldsStay, OthersLeaveAll, OthersStoreNothing, PutfieldStores, PutstaticStores, ReferenceArrayStoreStores};
+ghost use Rattle.jv_meaning_machine.specs.Laws.Stores.{ArrayStoreStores, OtherFieldsStay, OthersLeaveAll, OthersStoreNothing, PutfieldStores, PutstaticStores, ReferenceArrayStoreStores, StoredIsThere};
+
+/// What was stored in a field is there.
+pub fn stored_is_there()
+    ensures { StoredIsThere }
+{}
 
 /// Where one field gets another value, the others hold what they held.
 pub fn other_fields_stay()

@@ -1,14 +1,17 @@
--- What of an object never changes, its shape, and what stands against the guest's budget: the cells that objects have, and the
--- words that frames have (own).
-use Rattle.std.specs.Prelude.{ℕ, ◌+◌, List, map, length, sum_by, codes, if◌then◌else◌}
+-- What of an object never changes, its shape (JVMS 2.4, 2.7), and what stands against the guest's budget: the cells that objects
+-- have, and the words that frames have (own).
+use Rattle.std.specs.Prelude.{◌≡◌, ℕ, ◌+◌, ⊤, List, map, length, sum_by, Some, codes, if◌then◌else◌}
+use Rattle.std.specs.List.{AllByRecursion}
 use Rattle.std.specs.Str.{bytes_eq}
 use Rattle.jv_text.specs.declared.descriptor.FieldTypeOf.{FieldTypeOf}
+use Rattle.jv_loader_world.specs.World.{Loaded, World, class_named}
+use Rattle.jv_meaning_linking.specs.Layout.{instance_fields}
 use Rattle.jv_meaning_machine.specs.Values.{Value}
-use Rattle.jv_meaning_machine.specs.Objects.{FieldKey, Content, Object}
+use Rattle.jv_meaning_machine.specs.Objects.{FieldKey, key_of, Content, Object}
 use Rattle.jv_meaning_machine.specs.Objects.Object.{InstanceOf, ArrayWith}
 use Rattle.jv_meaning_machine.specs.Frames.{Frame}
 use Rattle.jv_meaning_machine.specs.Frames.Frame.{Runs, Initializes}
-use Rattle.jv_meaning_machine.specs.State.{Memory, Control}
+use Rattle.jv_meaning_machine.specs.State.{Memory}
 use Rattle.jv_meaning_machine.specs.Costs.{array_cells, method_words, initialization_words}
 
 -- ---- shapes
@@ -32,6 +35,15 @@ shape_of (ArrayWith components values) = ArrayShape components (length values)
 
 abbrev pub shapes : Memory → List Shape
 shapes memory = map shape_of memory.objects
+
+-- the shape of an object of a class of the world, with the fields that its layout has; an array has none
+abbrev pub IsOfClass : World → Shape → Type 0
+IsOfClass world (ObjectShape class fields) =
+    (l : Loaded) × (class_named world class ≡ Some l) × (fields ≡ map key_of (instance_fields world l))
+IsOfClass world (ArrayShape components count) = ⊤
+
+abbrev pub AreOfClasses : World → List Shape → Type 0
+AreOfClasses world all = AllByRecursion (IsOfClass world) all
 
 -- ---- cells
 
@@ -59,5 +71,5 @@ frame_words (Runs frame) = method_words frame
 frame_words (Initializes frame) = initialization_words
 
 -- the words that all frames have
-abbrev pub used_words : Control → ℕ
-used_words control = sum_by frame_words control.frames
+abbrev pub used_words : List Frame → ℕ
+used_words frames = sum_by frame_words frames

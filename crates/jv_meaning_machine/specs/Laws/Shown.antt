@@ -1,4 +1,4 @@
--- Laws of what a guest shows: it is one thing.
+-- Laws of what a guest shows (own): it is one thing.
 use Rattle.std.specs.Prelude.{◌≡◌, ℕ, ◌+◌, ◌≤◌, List, [], length, Some, None, slice_get}
 use Rattle.jv_loader_system.specs.SystemClasses.{system_classes}
 use Rattle.jv_loader_world.specs.of_loader_files.FileContent.{FileContent, AreContents}
@@ -6,7 +6,7 @@ use Rattle.jv_meaning_typing.specs.declared.verdict.Verdict.{Verdict}
 use Rattle.jv_meaning_typing.specs.Judgement.{IsVerdictOfFile}
 use Rattle.jv_meaning_machine.specs.State.End.{Running, NoMain}
 use Rattle.jv_meaning_machine.specs.Start.{Budget}
-use Rattle.jv_meaning_machine.specs.Alone.{Guest, Judged, IsJudged}
+use Rattle.jv_meaning_machine.specs.Alone.{GuestFiles, Judged, IsJudged, Feed}
 use Rattle.jv_meaning_machine.specs.Observation.{Observed, Shows, FaultsWithin}
 use Rattle.jv_meaning_machine.specs.Laws.Kept.{BeginsWith}
 
@@ -25,35 +25,42 @@ JudgedByVerdicts =
 -- What a guest without files shows: there is no main method.
 abbrev pub ShowsNoMain : Type 0
 ShowsNoMain =
-    (main input : List ℕ) (b : Budget) (n : ℕ)
-    → Shows (record { files = []; main = main; input = input }) b n
+    (main input : List ℕ) (b : Budget) (feeds : List Feed) (n : ℕ)
+    → Shows (record { files = []; main = main; input = input }) b feeds n
     (record { verdicts = []; steps = n; output = []; throws = 0; last = None; end = NoMain })
 
 -- What a guest shows alone after so many of its own steps is one thing.
 abbrev pub ShowsOneThing : Type 0
-ShowsOneThing = (g : Guest) (b : Budget) (n : ℕ) (one other : Observed) → Shows g b n one → Shows g b n other → one ≡ other
+ShowsOneThing =
+    (g : GuestFiles) (b : Budget) (feeds : List Feed) (n : ℕ) (one other : Observed) → Shows g b feeds n one → Shows g b feeds n other
+    → one ≡ other
 
 -- Where its machine meets a fault within these steps, it shows nothing.
 abbrev pub FaultsShowNothing : Type 0
-FaultsShowNothing = (g : Guest) (b : Budget) (n : ℕ) (o : Observed) → FaultsWithin g b n → Shows g b n o → ⊥
+FaultsShowNothing =
+    (g : GuestFiles) (b : Budget) (feeds : List Feed) (n : ℕ) (o : Observed) → FaultsWithin g b feeds n → Shows g b feeds n o → ⊥
 
--- Once it shows an end, it shows the same after any more steps, but for their number.
+-- Once it shows an end, it shows the same after any more steps, but for their number, whatever it is fed.
 abbrev pub EndedShowsTheSame : Type 0
 EndedShowsTheSame =
-    (g : Guest) (b : Budget) (n more : ℕ) (o : Observed) → Shows g b n o → (o.end ≡ Running → ⊥) → Shows g b (n + more) (record o { steps = n + more })
+    (g : GuestFiles) (b : Budget) (feeds : List Feed) (n more : ℕ) (o : Observed) → Shows g b feeds n o → (o.end ≡ Running → ⊥)
+    → Shows g b feeds (n + more) (record o { steps = n + more })
 
 -- A fault within some number of steps is one within any greater number.
 abbrev pub FaultsStay : Type 0
-FaultsStay = (g : Guest) (b : Budget) (n more : ℕ) → FaultsWithin g b n → FaultsWithin g b (n + more)
+FaultsStay =
+    (g : GuestFiles) (b : Budget) (feeds : List Feed) (n more : ℕ) → FaultsWithin g b feeds n → FaultsWithin g b feeds (n + more)
 
 -- What it shows later it has shown the front of: it showed something after fewer steps, what it wrote stands at the front of
 -- what it wrote later, and it threw no more.
-pub record ShowedBefore (g : Guest) (b : Budget) (n : ℕ) (later : Observed) : Type 0 where
+pub record ShowedBefore (g : GuestFiles) (b : Budget) (feeds : List Feed) (n : ℕ) (later : Observed) : Type 0 where
   pub earlier : Observed
-  pub shows : Shows g b n earlier
+  pub shows : Shows g b feeds n earlier
   pub verdicts : later.verdicts ≡ earlier.verdicts
   pub output : BeginsWith later.output earlier.output
   pub throws : earlier.throws ≤ later.throws
 
 abbrev pub ShowsMore : Type 0
-ShowsMore = (g : Guest) (b : Budget) (n more : ℕ) (o : Observed) → Shows g b (n + more) o → ShowedBefore g b n o
+ShowsMore =
+    (g : GuestFiles) (b : Budget) (feeds : List Feed) (n more : ℕ) (o : Observed) → Shows g b feeds (n + more) o
+    → ShowedBefore g b feeds n o

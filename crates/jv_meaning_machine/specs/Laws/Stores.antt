@@ -18,18 +18,23 @@ use Rattle.jv_meaning_machine.specs.Values.{Value, narrowed}
 use Rattle.jv_meaning_machine.specs.Values.Value.{Int, Null, Reference}
 use Rattle.jv_meaning_machine.specs.Objects.{FieldKey, Content, Instance, key_of, value_at, with_value}
 use Rattle.jv_meaning_machine.specs.Objects.Object.{InstanceOf, ArrayWith}
-use Rattle.jv_meaning_machine.specs.State.{Memory, class_state}
-use Rattle.jv_meaning_machine.specs.Effects.{Effect, Moment, world_at, method_of_moment, site_at, null_pointer, array_index, array_store}
+use Rattle.jv_meaning_machine.specs.State.{Memory, class_state, is_ready}
+use Rattle.jv_meaning_machine.specs.Effects.{Effect, Context, world_at, method_at, site_at, null_pointer, array_index, array_store}
 use Rattle.jv_meaning_machine.specs.Effects.Effect.{Goes, Raises, Begins}
 use Rattle.jv_meaning_machine.specs.Fields.{use_for, can_be_set}
 use Rattle.jv_meaning_machine.specs.Arrays.{at_place, holds_numbers, holds_references, can_stand}
-use Rattle.jv_meaning_machine.specs.Initialization.{is_under_way}
 use Rattle.jv_meaning_machine.specs.Instructions.{execute}
 use Rattle.jv_meaning_machine.specs.Laws.Kept.{LeavesAll}
 use Rattle.jv_meaning_machine.specs.Laws.Locations.{Location, held_at, StoresAt}
 use Rattle.jv_meaning_machine.specs.Laws.Locations.Location.{FieldOf, ComponentOf, StaticField}
 
 -- ---- one field among others
+
+-- What was stored in a field is there.
+abbrev pub StoredIsThere : Type 0
+StoredIsThere =
+    (key : FieldKey) (value : Value) (content : Content) → IsSome (value_at key content)
+    → value_at key (with_value key value content) ≡ Some value
 
 -- The other fields hold what they held.
 abbrev pub OtherFieldsStay : Type 0
@@ -40,112 +45,113 @@ OtherFieldsStay =
 -- ---- what the instructions name
 
 -- the field to which the index of an instruction resolves
-pub record NamesField (m : Moment) (how : FieldAccess) (index : ℕ) (d : DeclaredField) : Type 0 where
+pub record NamesField (c : Context) (how : FieldAccess) (index : ℕ) (d : DeclaredField) : Type 0 where
   pub reference : MemberReference
-  pub operand : field_operand (current_class (method_of_moment m)) index ≡ Some reference
-  pub resolved : resolve_field (world_at m) (site_at m) (use_for how) reference ≡ Ok d
+  pub operand : field_operand (current_class (method_at c)) index ≡ Some reference
+  pub resolved : resolve_field (world_at c) (site_at c) (use_for how) reference ≡ Ok d
 
 -- ---- what comes before a store to a field, and leaves the memory as it is
 
 -- the index resolves to no field, and the error is thrown
-pub record ThrowsLinkError (m : Moment) (how : FieldAccess) (index : ℕ) (effect : Effect) : Type 0 where
+pub record ThrowsLinkError (c : Context) (how : FieldAccess) (index : ℕ) (effect : Effect) : Type 0 where
   pub reference : MemberReference
-  pub operand : field_operand (current_class (method_of_moment m)) index ≡ Some reference
+  pub operand : field_operand (current_class (method_at c)) index ≡ Some reference
   pub error : LinkError
-  pub unresolved : resolve_field (world_at m) (site_at m) (use_for how) reference ≡ Err error
+  pub unresolved : resolve_field (world_at c) (site_at c) (use_for how) reference ≡ Err error
   pub throws : effect ≡ Raises (error_class error)
 
 -- the field's class is neither initialized nor being initialized, and that is begun
-pub record BeginsFirst (m : Moment) (d : DeclaredField) (effect : Effect) : Type 0 where
-  pub not_under_way : is_under_way (class_state m.states d.by) ≡ false
+pub record BeginsFirst (c : Context) (d : DeclaredField) (effect : Effect) : Type 0 where
+  pub not_ready : is_ready (class_state c.states d.by) ≡ false
   pub begins : effect ≡ Begins d.by
 
 -- there is null where the object is to be
-pub record PutsToNull (m : Moment) (effect : Effect) : Type 0 where
+pub record PutsToNull (c : Context) (effect : Effect) : Type 0 where
   pub value : Value
   pub below : List Value
-  pub stack : m.frame.stack ≡ value ∷ Null ∷ below
+  pub stack : c.frame.stack ≡ value ∷ Null ∷ below
   pub throws : effect ≡ Raises null_pointer
 
 -- ---- what comes before a store to an array, and leaves the memory as it is
 
 -- there is null where the array is to be
-pub record StoresToNull (m : Moment) (effect : Effect) : Type 0 where
+pub record StoresToNull (c : Context) (effect : Effect) : Type 0 where
   pub value : Value
   pub index : ℤ
   pub below : List Value
-  pub stack : m.frame.stack ≡ value ∷ Int index ∷ Null ∷ below
+  pub stack : c.frame.stack ≡ value ∷ Int index ∷ Null ∷ below
   pub throws : effect ≡ Raises null_pointer
 
 -- the array has no component at the index
-pub record StoresOutside (m : Moment) (effect : Effect) : Type 0 where
+pub record StoresOutside (c : Context) (effect : Effect) : Type 0 where
   pub value : Value
   pub index : ℤ
   pub array : ℕ
   pub below : List Value
-  pub stack : m.frame.stack ≡ value ∷ Int index ∷ Reference array ∷ below
+  pub stack : c.frame.stack ≡ value ∷ Int index ∷ Reference array ∷ below
   pub components : FieldTypeOf (List ℕ)
   pub values : List Value
-  pub array_is : slice_get m.memory.objects array ≡ Some (ArrayWith components values)
+  pub array_is : slice_get c.memory.objects array ≡ Some (ArrayWith components values)
   pub outside : at_place index values ≡ None
   pub throws : effect ≡ Raises array_index
 
 -- it has one, but the reference can't stand in the array
-pub record StoresStranger (m : Moment) (effect : Effect) : Type 0 where
+pub record StoresStranger (c : Context) (effect : Effect) : Type 0 where
   pub value : Value
   pub place : ℕ
   pub array : ℕ
   pub below : List Value
-  pub stack : m.frame.stack ≡ value ∷ Int (pos place) ∷ Reference array ∷ below
+  pub stack : c.frame.stack ≡ value ∷ Int (pos place) ∷ Reference array ∷ below
   pub components : FieldTypeOf (List ℕ)
   pub values : List Value
-  pub array_is : slice_get m.memory.objects array ≡ Some (ArrayWith components values)
+  pub array_is : slice_get c.memory.objects array ≡ Some (ArrayWith components values)
   pub within : IsSome (slice_get values place)
-  pub stranger : can_stand m components value ≡ Ok false
+  pub stranger : can_stand c components value ≡ Ok false
   pub throws : effect ≡ Raises array_store
 
 -- ---- stores, behind which the next instruction follows, with what is left of the stack
 
--- The value on top of the stack, narrowed to the field's type, is stored in a static field.
-pub record PutsStatic (m : Moment) (d : DeclaredField) (after : Memory) (effect : Effect) : Type 0 where
-  pub under_way : is_under_way (class_state m.states d.by) ≡ true
+-- The value on top of the stack, narrowed to the field's type, is stored in a static field, which is there.
+pub record PutsStatic (c : Context) (d : DeclaredField) (after : Memory) (effect : Effect) : Type 0 where
+  pub ready : is_ready (class_state c.states d.by) ≡ true
   pub value : Value
   pub below : List Value
-  pub stack : m.frame.stack ≡ value ∷ below
+  pub stack : c.frame.stack ≡ value ∷ below
   pub type : FieldTypeOf (List ℕ)
   pub described : field_type_of d.field.descriptor ≡ Some type
-  pub stores : StoresAt m.memory after (StaticField (key_of d)) (narrowed type value)
-  pub goes : effect ≡ Goes m.next m.frame.locals below
+  pub there : IsSome (held_at c.memory (StaticField (key_of d)))
+  pub stores : StoresAt c.memory after (StaticField (key_of d)) (narrowed type value)
+  pub goes : effect ≡ Goes c.next c.frame.locals below
 
 -- Or in the field of the object below it, which can be stored to.
-pub record PutsField (m : Moment) (reference : MemberReference) (d : DeclaredField) (after : Memory) (effect : Effect) : Type 0 where
+pub record PutsField (c : Context) (reference : MemberReference) (d : DeclaredField) (after : Memory) (effect : Effect) : Type 0 where
   pub value : Value
   pub object : ℕ
   pub below : List Value
-  pub stack : m.frame.stack ≡ value ∷ Reference object ∷ below
+  pub stack : c.frame.stack ≡ value ∷ Reference object ∷ below
   pub instance : Instance
-  pub object_is : slice_get m.memory.objects object ≡ Some (InstanceOf instance)
-  pub can_be : can_be_set m reference object instance ≡ true
+  pub object_is : slice_get c.memory.objects object ≡ Some (InstanceOf instance)
+  pub can_be : can_be_set c reference object instance ≡ true
   pub type : FieldTypeOf (List ℕ)
   pub described : field_type_of d.field.descriptor ≡ Some type
-  pub there : IsSome (held_at m.memory (FieldOf object (key_of d)))
-  pub stores : StoresAt m.memory after (FieldOf object (key_of d)) (narrowed type value)
-  pub goes : effect ≡ Goes m.next m.frame.locals below
+  pub there : IsSome (held_at c.memory (FieldOf object (key_of d)))
+  pub stores : StoresAt c.memory after (FieldOf object (key_of d)) (narrowed type value)
+  pub goes : effect ≡ Goes c.next c.frame.locals below
 
 -- Or in a component of the array below the index, narrowed to the type of that array's components, which pass a test.
-pub record PutsComponent (m : Moment) (test : FieldTypeOf (List ℕ) → Bool) (after : Memory) (effect : Effect) : Type 0 where
+pub record PutsComponent (c : Context) (test : FieldTypeOf (List ℕ) → Bool) (after : Memory) (effect : Effect) : Type 0 where
   pub value : Value
   pub place : ℕ
   pub array : ℕ
   pub below : List Value
-  pub stack : m.frame.stack ≡ value ∷ Int (pos place) ∷ Reference array ∷ below
+  pub stack : c.frame.stack ≡ value ∷ Int (pos place) ∷ Reference array ∷ below
   pub components : FieldTypeOf (List ℕ)
   pub values : List Value
-  pub array_is : slice_get m.memory.objects array ≡ Some (ArrayWith components values)
+  pub array_is : slice_get c.memory.objects array ≡ Some (ArrayWith components values)
   pub passes : test components ≡ true
-  pub there : IsSome (held_at m.memory (ComponentOf array place))
-  pub stores : StoresAt m.memory after (ComponentOf array place) (narrowed components value)
-  pub goes : effect ≡ Goes m.next m.frame.locals below
+  pub there : IsSome (held_at c.memory (ComponentOf array place))
+  pub stores : StoresAt c.memory after (ComponentOf array place) (narrowed components value)
+  pub goes : effect ≡ Goes c.next c.frame.locals below
 
 -- ---- the instructions: for a reason that is named they throw or begin an initialization and leave the memory as it is, or
 -- they store and go on
@@ -153,31 +159,31 @@ pub record PutsComponent (m : Moment) (test : FieldTypeOf (List ℕ) → Bool) (
 -- putstatic
 abbrev pub PutstaticStores : Type 0
 PutstaticStores =
-    (m : Moment) (index : ℕ) (after : Memory) (effect : Effect) → execute m (insns.Field access.PutStatic index) ≡ Ok (after, effect)
-    → ((after ≡ m.memory) × ThrowsLinkError m access.PutStatic index effect)
-    ⊎ (d : DeclaredField) × NamesField m access.PutStatic index d
-    × (((after ≡ m.memory) × BeginsFirst m d effect) ⊎ PutsStatic m d after effect)
+    (c : Context) (index : ℕ) (after : Memory) (effect : Effect) → execute c (insns.Field access.PutStatic index) ≡ Ok (after, effect)
+    → ((after ≡ c.memory) × ThrowsLinkError c access.PutStatic index effect)
+    ⊎ (d : DeclaredField) × NamesField c access.PutStatic index d
+    × (((after ≡ c.memory) × BeginsFirst c d effect) ⊎ PutsStatic c d after effect)
 
 -- putfield
 abbrev pub PutfieldStores : Type 0
 PutfieldStores =
-    (m : Moment) (index : ℕ) (after : Memory) (effect : Effect) → execute m (insns.Field access.PutField index) ≡ Ok (after, effect)
-    → ((after ≡ m.memory) × ThrowsLinkError m access.PutField index effect)
-    ⊎ (d : DeclaredField) × (names : NamesField m access.PutField index d)
-    × (((after ≡ m.memory) × PutsToNull m effect) ⊎ PutsField m names.reference d after effect)
+    (c : Context) (index : ℕ) (after : Memory) (effect : Effect) → execute c (insns.Field access.PutField index) ≡ Ok (after, effect)
+    → ((after ≡ c.memory) × ThrowsLinkError c access.PutField index effect)
+    ⊎ (d : DeclaredField) × (names : NamesField c access.PutField index d)
+    × (((after ≡ c.memory) × PutsToNull c effect) ⊎ PutsField c names.reference d after effect)
 
 -- iastore and its kin
 abbrev pub ArrayStoreStores : Type 0
 ArrayStoreStores =
-    (m : Moment) (kind : NumberElement) (after : Memory) (effect : Effect) → execute m (insns.ArrayStore kind) ≡ Ok (after, effect)
-    → ((after ≡ m.memory) × (StoresToNull m effect ⊎ StoresOutside m effect)) ⊎ PutsComponent m (holds_numbers kind) after effect
+    (c : Context) (kind : NumberElement) (after : Memory) (effect : Effect) → execute c (insns.ArrayStore kind) ≡ Ok (after, effect)
+    → ((after ≡ c.memory) × (StoresToNull c effect ⊎ StoresOutside c effect)) ⊎ PutsComponent c (holds_numbers kind) after effect
 
 -- aastore, of null, or of an object of a class that the array's components are above
 abbrev pub ReferenceArrayStoreStores : Type 0
 ReferenceArrayStoreStores =
-    (m : Moment) (after : Memory) (effect : Effect) → execute m insns.ReferenceArrayStore ≡ Ok (after, effect)
-    → ((after ≡ m.memory) × (StoresToNull m effect ⊎ StoresOutside m effect ⊎ StoresStranger m effect))
-    ⊎ (put : PutsComponent m holds_references after effect) × (can_stand m put.components put.value ≡ Ok true)
+    (c : Context) (after : Memory) (effect : Effect) → execute c insns.ReferenceArrayStore ≡ Ok (after, effect)
+    → ((after ≡ c.memory) × (StoresToNull c effect ⊎ StoresOutside c effect ⊎ StoresStranger c effect))
+    ⊎ (put : PutsComponent c holds_references after effect) × (can_stand c put.components put.value ≡ Ok true)
 
 -- ---- all others
 
@@ -197,11 +203,11 @@ is_store _ = false
 -- Any other instruction leaves each object and each static field as it is; new objects stand behind the others.
 abbrev pub OthersLeaveAll : Type 0
 OthersLeaveAll =
-    (m : Moment) (insn : Instruction) (after : Memory) (effect : Effect) → is_store insn ≡ false → execute m insn ≡ Ok (after, effect)
-    → LeavesAll m.memory after
+    (c : Context) (insn : Instruction) (after : Memory) (effect : Effect) → is_store insn ≡ false → execute c insn ≡ Ok (after, effect)
+    → LeavesAll c.memory after
 
 -- So it changes no location that there is.
 abbrev pub OthersStoreNothing : Type 0
 OthersStoreNothing =
-    (m : Moment) (insn : Instruction) (after : Memory) (effect : Effect) → is_store insn ≡ false → execute m insn ≡ Ok (after, effect)
-    → (location : Location) → IsSome (held_at m.memory location) → held_at after location ≡ held_at m.memory location
+    (c : Context) (insn : Instruction) (after : Memory) (effect : Effect) → is_store insn ≡ false → execute c insn ≡ Ok (after, effect)
+    → (location : Location) → IsSome (held_at c.memory location) → held_at after location ≡ held_at c.memory location

@@ -167,6 +167,7 @@ pub record ConversionRows : Type 0 where
   pub to_long : convert conversions.IntToLong min_int ≡ gives (long_minus 2147483648)
   pub to_int : convert conversions.LongToInt (long 4294967301) ≡ gives (int 5)
   pub to_int_minus : convert conversions.LongToInt (long 2147483648) ≡ gives min_int
+  pub to_int_below_ints : convert conversions.LongToInt (long_minus 4294967301) ≡ gives (int_minus 5)
   pub to_int_of_least : convert conversions.LongToInt min_long ≡ gives (int 0)
   pub to_byte : convert conversions.IntToByte (int 127) ≡ gives (int 127)
   pub to_byte_minus : convert conversions.IntToByte (int 128) ≡ gives (int_minus 128)
@@ -178,6 +179,7 @@ pub record ConversionRows : Type 0 where
   pub to_short_minus : convert conversions.IntToShort (int 32768) ≡ gives (int_minus 32768)
   pub to_short_of_minus : convert conversions.IntToShort (int_minus 65535) ≡ gives (int 1)
   -- constants
+  pub zero : computes (insns.Compute (compute.LongConstant longs.Zero)) [] ≡ gives (long 0)
   pub one : computes (insns.Compute (compute.LongConstant longs.One)) [] ≡ gives (long 1)
   -- operands of another kind, and too few
   pub int_and_long : ints operators.Add (int 1) (long 1) ≡ Err TagFault

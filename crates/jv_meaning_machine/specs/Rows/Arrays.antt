@@ -79,6 +79,7 @@ pub record ArrayLoadRows : Type 0 where
   -- arrays of another kind
   pub ints_as_bytes : loads numbers.ByteOrBoolean (array bases.Int (int 7 ∷ [])) (int 0) ≡ Err ReferenceFault
   pub ints_as_references : loads_reference (array bases.Int (int 7 ∷ [])) (int 0) ≡ Err ReferenceFault
+  pub references_as_ints : loads numbers.Int (array_of string_name (Null ∷ [])) (int 0) ≡ Err ReferenceFault
   pub no_object : effect (with_objects [] (Reference 0 ∷ int 0 ∷ [])) (insns.ArrayLoad numbers.Int) ≡ Err ReferenceFault
   pub length :
       effect (with_objects (array bases.Int (int 7 ∷ int 8 ∷ []) ∷ []) (Reference 0 ∷ [])) insns.ArrayLength ≡ loaded (int 2)
@@ -116,6 +117,16 @@ pub record ArrayStoreRows : Type 0 where
   pub null_reference :
       objects_behind (strings (int 0) Null) insns.ReferenceArrayStore
       ≡ Ok (array_of string_name (Null ∷ []) ∷ array bases.Int [] ∷ [])
+  -- what stands below the operands stays, and null can be stored
+  pub number_goes_on :
+      effect (with_objects (array bases.Int (int 0 ∷ []) ∷ []) (int 7 ∷ Reference 0 ∷ int 0 ∷ int 1 ∷ [])) (insns.ArrayStore numbers.Int)
+      ≡ follows 1 [] (int 7 ∷ [])
+  pub null_goes_on :
+      effect (with_objects (array_of string_name (Reference 0 ∷ []) ∷ []) (int 7 ∷ Reference 0 ∷ int 0 ∷ Null ∷ [])) insns.ReferenceArrayStore
+      ≡ follows 1 [] (int 7 ∷ [])
+  pub null_over_reference :
+      objects_behind (with_objects (array_of object_name (Reference 0 ∷ []) ∷ []) (Reference 0 ∷ int 0 ∷ Null ∷ [])) insns.ReferenceArrayStore
+      ≡ Ok (array_of object_name (Null ∷ []) ∷ [])
   -- null, then the index, then what is stored
   pub null : on_null (insns.ArrayStore numbers.Int) (int_minus 1 ∷ int 0 ∷ []) ≡ null_pointer
   pub reference_into_null : on_null insns.ReferenceArrayStore (int_minus 1 ∷ Null ∷ []) ≡ null_pointer

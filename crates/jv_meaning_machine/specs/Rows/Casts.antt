@@ -8,7 +8,7 @@ use Rattle.jv_loader_world.specs.of_pool.declared.constant.Constant.TheVariants 
 use Rattle.jv_loader_world.specs.of_class.Class.{Class}
 use Rattle.jv_loader_world.specs.Rows.{object_name, class_with, interface, package_class, public_class}
 use Rattle.jv_meaning_machine.specs.Faults.{OrFault}
-use Rattle.jv_meaning_machine.specs.Faults.Fault.{TagFault, ConstructionFault}
+use Rattle.jv_meaning_machine.specs.Faults.Fault.{OffsetFault, TagFault, ConstructionFault}
 use Rattle.jv_meaning_machine.specs.Values.{Value}
 use Rattle.jv_meaning_machine.specs.Values.Value.{Null, Reference}
 use Rattle.jv_meaning_machine.specs.Objects.{Object}
@@ -87,6 +87,8 @@ pub record CastRows : Type 0 where
   pub object_to_array : casts (codes "[I") (of object_name) ≡ class_cast
   -- null passes, and nothing is resolved for it
   pub null : effect (setting (codes "Gone") (of object_name) Null) (insns.CheckCast 2) ≡ follows 3 [] (Null ∷ [])
+  -- but its constant is looked at
+  pub null_of_text : effect (setting (codes "A") (of object_name) Null) (insns.CheckCast 1) ≡ Err OffsetFault
   pub not_there : casts (codes "Gone") (of object_name) ≡ raised (codes "NoClassDefFoundError")
   pub array_not_there : casts (codes "[LGone;") (of object_name) ≡ raised (codes "NoClassDefFoundError")
   pub hidden : casts (codes "p/Hidden") (of object_name) ≡ raised (codes "IllegalAccessError")
@@ -107,5 +109,6 @@ pub record InstanceOfRows : Type 0 where
   pub same_base : tests (codes "[[I") (array 1 bases.Int) ≡ yes
   pub other_base : tests (codes "[[I") (array 1 bases.Char) ≡ no
   pub null : effect (setting (codes "Gone") (of object_name) Null) (insns.InstanceOf 2) ≡ no
+  pub null_of_text : effect (setting (codes "A") (of object_name) Null) (insns.InstanceOf 1) ≡ Err OffsetFault
   pub not_there : tests (codes "Gone") (of object_name) ≡ raised (codes "NoClassDefFoundError")
   pub hidden : tests (codes "[Lp/Hidden;") (of object_name) ≡ raised (codes "IllegalAccessError")

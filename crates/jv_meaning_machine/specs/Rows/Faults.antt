@@ -1,5 +1,5 @@
 -- Worked rows: for each fault the smallest programs that meet it, none of which can be verified.
-use Rattle.std.specs.Prelude.{◌≡◌, List, [], ◌∷◌, Err, codes}
+use Rattle.std.specs.Prelude.{◌≡◌, ℕ, List, [], ◌∷◌, Err, codes}
 use Rattle.jv_code.specs.declared.insn.Insn.TheVariants as insns
 use Rattle.jv_code.specs.declared.kinds.Computation.TheVariants as compute
 use Rattle.jv_code.specs.declared.kinds.LongValue.TheVariants as longs
@@ -10,9 +10,9 @@ use Rattle.jv_loader_system.specs.Mnemonics.{iconst, iload, aload, invokespecial
 use Rattle.jv_meaning_machine.specs.Faults.{OrFault}
 use Rattle.jv_meaning_machine.specs.Faults.Fault.{OffsetFault, StackFault, LocalFault, TagFault, ReferenceFault, ConstructionFault, UnverifiedFault, ReturnFault}
 use Rattle.jv_meaning_machine.specs.State.{Program}
-use Rattle.jv_meaning_machine.specs.Rows.Samples.{program_of, run_with, invokevirtual, new, ldc, pop, code, method, main_name, only_main, run}
+use Rattle.jv_meaning_machine.specs.Rows.Samples.{program_of, run_with, invokestatic, invokevirtual, new, ldc, pop, code, method, main_name, only_main, run}
 use Rattle.jv_meaning_machine.specs.Observation.{Observed}
-use Rattle.jv_meaning_machine.specs.Rows.Machine.{I, abstract_m}
+use Rattle.jv_meaning_machine.specs.Rows.Machine.{I, abstract_m, threw}
 
 -- a method of an interface that was not accepted is called on an array, which counts as one of an interface
 abbrev pub calls_default : List Instruction
@@ -21,9 +21,9 @@ calls_default = aload 0 ∷ invokespecial 35 ∷ return ∷ []
 abbrev pub default_m : Method
 default_m = method 1 (codes "m") (codes "()V") (code 0 1 [] (return ∷ []))
 
-abbrev pub with_unaccepted : Program
-with_unaccepted =
-    record (program_of (only_main [] 1 [] calls_default ∷ I (default_m ∷ []) ∷ []) (calls_default ∷ (return ∷ []) ∷ [])) {
+abbrev pub with_unaccepted : ℕ → Program
+with_unaccepted max_stack =
+    record (program_of (only_main [] max_stack [] calls_default ∷ I (default_m ∷ []) ∷ []) (calls_default ∷ (return ∷ []) ∷ [])) {
       accepted = main_name ∷ [];
     }
 
@@ -42,6 +42,9 @@ pub record FaultRows : Type 0 where
   -- invokevirtual of a method of an interface, and invokeinterface of one of a class
   pub virtual_of_interface : run_interface (invokevirtual 35) ≡ Err OffsetFault
   pub interface_of_class : run_interface (insns.InvokeInterface 27 1) ≡ Err OffsetFault
+  -- invokespecial alone calls an `<init>`
+  pub virtual_of_init : run_interface (invokevirtual 16) ≡ Err OffsetFault
+  pub static_of_init : run_interface (invokestatic 16) ≡ threw 3 (codes "IncompatibleClassChangeError")
   pub below_empty : run 0 (pop ∷ []) 2 ≡ Err StackFault
   pub above_max_stack : run 0 (iconst 0 ∷ []) 2 ≡ Err StackFault
   pub outside_locals : run 1 (iload 1 ∷ []) 2 ≡ Err LocalFault
@@ -50,6 +53,9 @@ pub record FaultRows : Type 0 where
   pub cut_long : run 2 (insns.Compute (compute.LongConstant longs.Zero) ∷ pop ∷ []) 3 ≡ Err TagFault
   -- the array of main's arguments is thrown
   pub no_throwable : run 1 (aload 0 ∷ insns.Throw ∷ []) 3 ≡ Err ReferenceFault
+  pub string_thrown : run 1 (ldc 22 ∷ insns.Throw ∷ []) 3 ≡ Err ReferenceFault
   pub not_constructed : run 1 (new 12 ∷ insns.Throw ∷ []) 3 ≡ Err ConstructionFault
-  pub not_accepted : run_with with_unaccepted main_name [] 64 3 ≡ Err UnverifiedFault
+  pub not_accepted : run_with (with_unaccepted 1) main_name [] 64 3 ≡ Err UnverifiedFault
+  -- words are asked for first: 5 for the method, of which 4 are left
+  pub no_words_for_it : run_with (with_unaccepted 55) main_name [] 64 3 ≡ threw 3 (codes "StackOverflowError")
   pub other_return : run 1 (iconst 0 ∷ insns.ReturnValue kinds.Int ∷ []) 3 ≡ Err ReturnFault

@@ -93,7 +93,7 @@ begun = start with_main_constant main_name [] (budget 64)
 abbrev pub begun_again : OrFault State
 begun_again =
     begun >>= λ s. found ReferenceFault (class_named with_main_constant.world main_name) >>=
-    begin with_main_constant s.memory s.control
+    begin with_main_constant s.memory s.frames s.control
 
 pub record InitializationRows : Type 0 where
   -- nothing is done for a class that is being initialized

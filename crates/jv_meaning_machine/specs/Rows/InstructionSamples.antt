@@ -12,7 +12,7 @@ use Rattle.jv_meaning_machine.specs.Values.Value.{Int, Long}
 use Rattle.jv_meaning_machine.specs.Objects.{Object, Content}
 use Rattle.jv_meaning_machine.specs.Frames.{MethodFrame}
 use Rattle.jv_meaning_machine.specs.State.{Memory, ClassStates}
-use Rattle.jv_meaning_machine.specs.Effects.{Effect, Moment, Done}
+use Rattle.jv_meaning_machine.specs.Effects.{Effect, Context, Outcome}
 use Rattle.jv_meaning_machine.specs.Effects.Effect.{Goes, Raises}
 use Rattle.jv_meaning_machine.specs.Instructions.{execute}
 use Rattle.jv_meaning_machine.specs.Rows.Samples.{java_lang, world_with, program_of, code, main, main_name}
@@ -28,7 +28,7 @@ pub record Setting : Type 0 where
   pub locals : List Value
   pub stack : List Value
 
--- ---- the moment of an instruction
+-- ---- the context of an instruction
 
 abbrev pub current : Setting → Class
 current setting = record {
@@ -70,8 +70,8 @@ memory_in setting = record {
   input = [];
 }
 
-abbrev pub moment_in : Setting → Instruction → Moment
-moment_in setting insn = record {
+abbrev pub context_in : Setting → Instruction → Context
+context_in setting insn = record {
   program = program_of (current setting ∷ setting.classes) [];
   states = setting.states;
   memory = memory_in setting;
@@ -79,8 +79,8 @@ moment_in setting insn = record {
   next = offset_behind 20 insn;
 }
 
-abbrev pub done : Setting → Instruction → Done
-done setting insn = execute (moment_in setting insn) insn
+abbrev pub done : Setting → Instruction → Outcome
+done setting insn = execute (context_in setting insn) insn
 
 -- ---- what it does, and what it makes of the objects
 

@@ -1,10 +1,12 @@
 -- Worked rows: what small classes do, computed.
 use Rattle.std.specs.Prelude.{◌≡◌, ℕ, List, [], ◌∷◌, Some, None, codes}
 use Rattle.jv_code.specs.declared.insn.Insn.TheVariants as insns
+use Rattle.jv_code.specs.declared.kinds.LocalForm.TheVariants as local
+use Rattle.jv_code.specs.declared.kinds.WordKind.TheVariants as word_kinds
 use Rattle.jv_code.specs.Insns.{Instruction}
 use Rattle.jv_loader_world.specs.of_class.Class.{Class, Method}
 use Rattle.jv_loader_world.specs.Rows.{object_name, class_with as bare_class}
-use Rattle.jv_loader_system.specs.Mnemonics.{iconst, bipush, invokespecial, return}
+use Rattle.jv_loader_system.specs.Mnemonics.{iconst, iload, bipush, invokespecial, return}
 use Rattle.jv_format.specs.Handlers.{handler}
 use Rattle.jv_meaning_machine.specs.Faults.{OrFault}
 use Rattle.jv_meaning_machine.specs.State.{Program}
@@ -44,6 +46,12 @@ pub record OutputRows : Type 0 where
       ≡ shown 5 (codes "H") 1 (Some (codes "java/lang/OutOfMemoryError")) (Threw (codes "java/lang/OutOfMemoryError"))
   -- -1 where the input has ended
   pub input_ends : run_main main_name (codes "A") 64 reads 6 ≡ returned 6 (65 ∷ 255 ∷ [])
+  -- what stands below the operands stays
+  pub read_goes_on : run 2 (bipush 72 ∷ invokestatic 10 ∷ pop ∷ invokestatic 6 ∷ return ∷ []) 6 ≡ returned 6 (codes "H")
+  pub write_goes_on : run 2 (bipush 72 ∷ bipush 105 ∷ invokestatic 6 ∷ invokestatic 6 ∷ return ∷ []) 6 ≡ returned 6 (codes "iH")
+  -- a local variable is there in the next steps, and null is one word
+  pub stored : run 1 (bipush 72 ∷ insns.Store word_kinds.Int 0 local.Opcode ∷ iload 0 ∷ invokestatic 6 ∷ return ∷ []) 6 ≡ returned 6 (codes "H")
+  pub null_is_one_word : run 1 (insns.NullConstant ∷ pop ∷ return ∷ []) 4 ≡ returned 4 []
   pub no_main : run_main (codes "Ho") [] 64 hi 0 ≡ shown 0 [] 0 None NoMain
   pub unverified_main : run_with unverified main_name [] 64 0 ≡ threw 0 (codes "VerifyError")
 

@@ -1,5 +1,6 @@
 -- Worked rows: constants that are pushed, what fields hold, and how values are passed and returned, computed.
 use Rattle.std.specs.Prelude.{◌≡◌, ℕ, true, false, List, [], ◌∷◌, None, Ok, Err, pos, codes}
+use Rattle.jv_text.specs.declared.descriptor.Base.TheVariants as bases
 use Rattle.jv_code.specs.declared.insn.Insn.TheVariants as insns
 use Rattle.jv_code.specs.declared.kinds.ArithmeticOperator.TheVariants as operators
 use Rattle.jv_code.specs.declared.kinds.Computation.TheVariants as compute
@@ -17,11 +18,11 @@ use Rattle.jv_loader_world.specs.of_class.Class.{Class, Field}
 use Rattle.jv_loader_world.specs.Rows.{object_name, public_class}
 use Rattle.jv_loader_system.specs.Mnemonics.{iload, return}
 use Rattle.jv_meaning_machine.specs.Faults.{OrFault}
-use Rattle.jv_meaning_machine.specs.Faults.Fault.{OffsetFault, TagFault, ReferenceFault, ConstructionFault, ReturnFault}
+use Rattle.jv_meaning_machine.specs.Faults.Fault.{OffsetFault, LocalFault, TagFault, ReferenceFault, ConstructionFault, ReturnFault}
 use Rattle.jv_meaning_machine.specs.Values.{Value}
 use Rattle.jv_meaning_machine.specs.Values.Value.{Null, Reference}
 use Rattle.jv_meaning_machine.specs.Objects.{Content, FieldKey, Object}
-use Rattle.jv_meaning_machine.specs.Objects.Object.{InstanceOf}
+use Rattle.jv_meaning_machine.specs.Objects.Object.{InstanceOf, ArrayWith}
 use Rattle.jv_meaning_machine.specs.State.ClassState.{Initialized}
 use Rattle.jv_meaning_machine.specs.Effects.{Effect}
 use Rattle.jv_meaning_machine.specs.Effects.Effect.{Leaves}
@@ -30,6 +31,8 @@ use Rattle.jv_meaning_machine.specs.Rows.Samples.{program_of, run_with, invokest
 use Rattle.jv_meaning_machine.specs.Rows.Machine.{returned}
 use Rattle.jv_meaning_machine.specs.Rows.InstructionSamples.{Setting, effect, objects_behind, statics_behind, follows, on_stack, int, int_minus, long, long_minus}
 use Rattle.jv_meaning_machine.specs.Rows.Casts.{of, instance}
+use Rattle.jv_meaning_machine.specs.Literals.{string_name, string_value}
+use Rattle.jv_meaning_machine.specs.Arrays.{base_components}
 
 -- ---- constants that are pushed
 
@@ -40,10 +43,26 @@ pushes constants insn = effect (record (on_stack (Null ∷ [])) { constants = co
 abbrev pub numbers_pool : List Entry
 numbers_pool = constants.Integer 2147483648 ∷ constants.Long 4294967295 4294967294 ∷ constants.Integer 5 ∷ []
 
+-- 2 a string
+abbrev pub text_pool : List Entry
+text_pool = constants.Utf8 (codes "ab") ∷ constants.String 1 ∷ []
+
 pub record ConstantRows : Type 0 where
   pub int_pushed : pushes numbers_pool (insns.PoolConstant 1 index.Byte) ≡ follows 2 [] (Null ∷ int_minus 2147483648 ∷ [])
   pub wide_int_pushed : pushes numbers_pool (insns.PoolConstant 4 index.Half) ≡ follows 3 [] (Null ∷ int 5 ∷ [])
   pub long_pushed : pushes numbers_pool (insns.PoolLongConstant 2) ≡ follows 3 [] (Null ∷ long_minus 2 ∷ [])
+  -- a literal is a String, with an array of its chars behind it
+  pub literal_pushed : pushes text_pool (insns.PoolConstant 2 index.Byte) ≡ follows 2 [] (Null ∷ Reference 0 ∷ [])
+  pub literal_made :
+      objects_behind (record (on_stack []) { constants = text_pool }) (insns.PoolConstant 2 index.Byte)
+      ≡ Ok
+      (InstanceOf (record {
+        class = string_name;
+        entered = None;
+        constructed = true;
+        fields = (string_value, Reference 1) ∷ [];
+      })
+      ∷ ArrayWith (base_components bases.Char) (int 97 ∷ int 98 ∷ []) ∷ [])
   -- constants of another kind, and the second index of a long
   pub long_as_word : pushes numbers_pool (insns.PoolConstant 2 index.Byte) ≡ Err OffsetFault
   pub int_as_long : pushes numbers_pool (insns.PoolLongConstant 1) ≡ Err OffsetFault
@@ -139,6 +158,17 @@ pub record FieldRows : Type 0 where
   pub static_of_B : gets_static (codes "B") ≡ follows 3 [] (long 2 ∷ [])
   pub put_static : puts_static (codes "I") (int 5) ≡ Ok (statics (codes "I") (int 1) (int 5))
   pub put_static_byte : puts_static (codes "B") (int 255) ≡ Ok (statics (codes "B") (int 1) (int_minus 1))
+  -- what stands below the operands stays
+  pub put_goes_on :
+      effect (setting 1 (codes "A") (codes "I") (B (int 1) (codes "I") (int 2) ∷ []) [] (int 7 ∷ Reference 0 ∷ int 5 ∷ []))
+      (insns.Field access.PutField 6)
+      ≡ follows 3 [] (int 7 ∷ [])
+  pub put_static_goes_on :
+      effect (setting 9 (codes "B") (codes "I") [] (statics (codes "I") (int 1) (int 2)) (int 7 ∷ int 5 ∷ [])) (insns.Field access.PutStatic 6)
+      ≡ follows 3 [] (int 7 ∷ [])
+  -- static fields that aren't there
+  pub get_no_static : effect (setting 9 (codes "B") (codes "I") [] [] []) (insns.Field access.GetStatic 6) ≡ Err OffsetFault
+  pub put_no_static : effect (setting 9 (codes "B") (codes "I") [] [] (int 5 ∷ [])) (insns.Field access.PutStatic 6) ≡ Err OffsetFault
   -- what is stored has to be constructed
   pub not_constructed :
       statics_behind
@@ -164,17 +194,19 @@ gives_byte = iload 2 ∷ insns.ReturnValue kinds.Int ∷ []
 abbrev pub gives_long : List Instruction
 gives_long = insns.Load kinds.Long 0 local.Opcode ∷ insns.ReturnValue kinds.Long ∷ []
 
-abbrev pub call_f : List Instruction → ℕ → OrFault Observed
-call_f body n =
+-- in so many local variables
+abbrev pub call_f : ℕ → List Instruction → ℕ → OrFault Observed
+call_f max_locals body n =
     run_with
     (program_of
     (class_with main_name object_name [] []
-    (main 3 [] calls_f ∷ method 9 (codes "f") (codes "(JB)B") (code 2 3 [] body) ∷ []) ∷ [])
+    (main 3 [] calls_f ∷ method 9 (codes "f") (codes "(JB)B") (code 2 max_locals [] body) ∷ []) ∷ [])
     (calls_f ∷ body ∷ []))
     main_name [] 64 n
 
 pub record CallRows : Type 0 where
   -- 456 less 401 is the code of 7
-  pub passed : call_f gives_byte 10 ≡ returned 10 (codes "7")
-  pub other_result : call_f gives_long 10 ≡ Err ReturnFault
+  pub passed : call_f 3 gives_byte 10 ≡ returned 10 (codes "7")
+  pub other_result : call_f 3 gives_long 10 ≡ Err ReturnFault
+  pub too_many_arguments : call_f 2 gives_byte 10 ≡ Err LocalFault
   pub nothing_returned : effect (on_stack (int 1 ∷ [])) insns.Return ≡ Ok (Leaves [])

@@ -1,5 +1,5 @@
--- Classes, programs and runs for worked rows, beside the system's classes.
-use Rattle.std.specs.Prelude.{ℕ, negsuc, true, false, ◌++◌, List, [], ◌∷◌, map, Option, Some, None, codes}
+-- Classes, programs and runs for worked rows (JVMS 4.1, 4.4), beside the system's classes.
+use Rattle.std.specs.Prelude.{ℕ, negsuc, true, false, ◌++◌, List, [], ◌∷◌, map, Option, Some, None, Ok, codes}
 use Rattle.std.specs.List.{find, flat_map}
 use Rattle.std.specs.Str.{bytes_eq}
 use Rattle.jv_format.specs.declared.handlers.Handler.{Handler}
@@ -24,10 +24,9 @@ use Rattle.jv_loader_world.specs.Rows.{object_name}
 use Rattle.jv_loader_system.specs.Mnemonics.{return}
 use Rattle.jv_loader_system.specs.SystemClasses.{system_classes}
 use Rattle.jv_meaning_machine.specs.Faults.{OrFault, ◌>>=◌}
-use Rattle.std.specs.Prelude.{Ok}
 use Rattle.jv_meaning_machine.specs.State.{Program, End}
-use Rattle.jv_meaning_machine.specs.Start.{Budget, start}
-use Rattle.jv_meaning_machine.specs.Alone.{after_steps}
+use Rattle.jv_meaning_machine.specs.Start.{Budget}
+use Rattle.jv_meaning_machine.specs.Alone.{Feed, alone}
 use Rattle.jv_meaning_machine.specs.Observation.{Observed, observation}
 
 -- ---- the system's classes
@@ -60,9 +59,14 @@ budget output = record { cells = 64; words = 64; output = output }
 
 -- ---- what is shown, beside the verdicts
 
+-- of a guest with an input, which is fed
+abbrev pub run_fed : Program → List ℕ → List ℕ → List Feed → ℕ → ℕ → OrFault Observed
+run_fed program main input feeds output n =
+    alone (record { program = program; verdicts = [] }) (record { files = []; main = main; input = input }) (budget output) feeds n
+    >>= λ s. Ok (observation [] n s)
+
 abbrev pub run_with : Program → List ℕ → List ℕ → ℕ → ℕ → OrFault Observed
-run_with program main input output n =
-    start program main input (budget output) >>= after_steps program n >>= λ s. Ok (observation [] n s)
+run_with program main input output n = run_fed program main input [] output n
 
 abbrev pub shown : ℕ → List ℕ → ℕ → Option (List ℕ) → End → OrFault Observed
 shown n output throws last end =
@@ -147,8 +151,14 @@ fourth_constants =
     ∷ constants.Fieldref 66 49 ∷ constants.Utf8 (codes "B") ∷ constants.NameAndType 43 68 ∷ constants.Fieldref 37 69
     ∷ constants.Methodref 26 15 ∷ constants.Utf8 (codes "(JB)B") ∷ constants.NameAndType 38 72 ∷ constants.Methodref 37 73 ∷ []
 
+-- 75 P.x, 78 Main.K as a long, 79 Main's constructor
+abbrev pub fifth_constants : List Entry
+fifth_constants =
+    constants.Fieldref 54 49 ∷ constants.Utf8 (codes "J") ∷ constants.NameAndType 43 76 ∷ constants.Fieldref 37 77
+    ∷ constants.Methodref 37 15 ∷ []
+
 abbrev pub all_constants : List ℕ → List Entry
-all_constants text = first_constants text ++ (second_constants ++ (third_constants ++ fourth_constants))
+all_constants text = first_constants text ++ (second_constants ++ (third_constants ++ (fourth_constants ++ fifth_constants)))
 
 -- ---- classes and members
 

@@ -54,6 +54,10 @@ k = long 6
 pub record FormRows : Type 0 where
   pub pop : moves forms.Pop (a ∷ b ∷ []) ≡ to (a ∷ [])
   pub pop2 : moves forms.Pop2 (a ∷ b ∷ c ∷ []) ≡ to (a ∷ [])
+  pub pop_null : moves forms.Pop (a ∷ Null ∷ []) ≡ to (a ∷ [])
+  pub pop2_nulls : moves forms.Pop2 (Null ∷ Null ∷ []) ≡ to []
+  pub pop_of_one : effect (on_stack (a ∷ [])) (insns.Stack forms.Pop) ≡ follows 1 [] []
+  pub pop2_of_two : effect (on_stack (a ∷ b ∷ [])) (insns.Stack forms.Pop2) ≡ follows 1 [] []
   pub pop2_long : moves forms.Pop2 (a ∷ j ∷ []) ≡ to (a ∷ [])
   pub dup : moves forms.Dup (a ∷ b ∷ []) ≡ to (a ∷ b ∷ b ∷ [])
   pub dup_x1 : moves forms.DupX1 (a ∷ b ∷ []) ≡ to (b ∷ a ∷ b ∷ [])
@@ -114,6 +118,8 @@ pub record LocalRows : Type 0 where
   pub over_second : stores_int 1 (k ∷ Half ∷ c ∷ []) ≡ follows 1 (Unset ∷ a ∷ c ∷ []) []
   pub over_two : stores_long 1 (k ∷ Half ∷ k ∷ Half ∷ []) ≡ follows 1 (Unset ∷ j ∷ Half ∷ Unset ∷ []) []
   pub over_same : stores_long 0 (k ∷ Half ∷ c ∷ []) ≡ follows 1 (j ∷ Half ∷ c ∷ []) []
+  pub int_as_reference : effect (with_locals (Null ∷ []) (a ∷ [])) (insns.Store word_kinds.Reference 0 local.Opcode) ≡ Err TagFault
+  pub null_as_int : effect (with_locals (Null ∷ []) (Null ∷ [])) (insns.Store word_kinds.Int 0 local.Opcode) ≡ Err TagFault
   pub no_room : stores_long 1 (Null ∷ Null ∷ []) ≡ Err LocalFault
   -- behind wide
   pub wide_load :
@@ -167,6 +173,9 @@ pub record BranchRows : Type 0 where
   pub if_acmpeq_not : branches (tests.IfReferences equalities.Same) (Reference 3 ∷ Reference 4 ∷ []) ≡ not_taken
   pub if_acmpeq_nulls : branches (tests.IfReferences equalities.Same) (Null ∷ Null ∷ []) ≡ taken
   pub if_acmpne : branches (tests.IfReferences equalities.Different) (Reference 3 ∷ Null ∷ []) ≡ taken
+  pub if_acmpeq_null : branches (tests.IfReferences equalities.Same) (Null ∷ Reference 3 ∷ []) ≡ not_taken
+  pub if_acmpeq_of_null : branches (tests.IfReferences equalities.Same) (Reference 3 ∷ Null ∷ []) ≡ not_taken
+  pub if_acmpne_null : branches (tests.IfReferences equalities.Different) (Null ∷ Reference 3 ∷ []) ≡ taken
   pub ifnull : branches (tests.IfNull equalities.Same) (Null ∷ []) ≡ taken
   pub ifnull_not : branches (tests.IfNull equalities.Same) (Reference 0 ∷ []) ≡ not_taken
   pub ifnonnull : branches (tests.IfNull equalities.Different) (Reference 0 ∷ []) ≡ taken

@@ -1,11 +1,15 @@
 -- Worked rows: handlers, throws that pass calls and initializations, and what is constructed in which order, computed.
-use Rattle.std.specs.Prelude.{◌≡◌, ℕ, List, [], ◌∷◌, replicate, Some, None, Err, pos, codes}
+use Rattle.std.specs.Prelude.{◌≡◌, ℕ, ◌-◌, ◌^◌, List, [], ◌∷◌, replicate, Some, None, Err, pos, codes}
 use Rattle.jv_format.specs.declared.handlers.Handler.{Handler}
 use Rattle.jv_code.specs.declared.insn.Insn.TheVariants as insns
+use Rattle.jv_code.specs.declared.kinds.Computation.TheVariants as compute
+use Rattle.jv_code.specs.declared.kinds.Conversion.TheVariants as conversions
 use Rattle.jv_code.specs.declared.kinds.FieldAccess.TheVariants as access
+use Rattle.jv_code.specs.declared.kinds.NumberKind.TheVariants as numbers
+use Rattle.jv_code.specs.declared.kinds.ShiftOperator.TheVariants as shifts
 use Rattle.jv_code.specs.Insns.{Instruction}
 use Rattle.jv_loader_world.specs.of_class.Class.{Class, Field, InitialValue, Method}
-use Rattle.jv_loader_world.specs.of_class.Class.InitialValue.{IntValue, StringValue}
+use Rattle.jv_loader_world.specs.of_class.Class.InitialValue.{IntValue, LongValue, StringValue}
 use Rattle.jv_loader_world.specs.Rows.{object_name}
 use Rattle.jv_loader_system.specs.Mnemonics.{iconst, bipush, aload, invokespecial, return}
 use Rattle.jv_loader_system.specs.Throwable.{init_body as throwable_init}
@@ -15,6 +19,7 @@ use Rattle.jv_meaning_machine.specs.Faults.{OrFault}
 use Rattle.jv_meaning_machine.specs.Faults.Fault.{ConstructionFault}
 use Rattle.jv_meaning_machine.specs.State.{Program}
 use Rattle.jv_meaning_machine.specs.State.End.{Running, Returned, Threw}
+use Rattle.jv_meaning_machine.specs.Throws.{thrown_once_more}
 use Rattle.jv_meaning_machine.specs.Observation.{Observed}
 use Rattle.jv_meaning_machine.specs.Rows.Samples.{java_lang, program_of, run_with, shown, invokestatic, getstatic, new, ldc, dup, pop, idiv, iushr, new_ints, code, method, class_with, static_int, main_name, main, only_main, run, run_text}
 use Rattle.jv_meaning_machine.specs.Rows.Machine.{returned, threw, calls_f}
@@ -69,6 +74,11 @@ throw_null = insns.NullConstant ∷ insns.Throw ∷ []
 abbrev pub after_array : ℕ → List Instruction
 after_array count = bipush count ∷ new_ints ∷ pop ∷ throw_null
 
+-- how many throws there are behind one more
+abbrev pub count_behind : ℕ → ℕ
+count_behind throws =
+    (thrown_once_more [] (record { main = []; states = []; words = 0; throws = throws; last = None; end = Running })).throws
+
 pub record HandlerRows : Type 0 where
   pub any : handled (handler 0 3 5 0 ∷ []) ≡ writes (codes "A")
   pub first_in_table : handled (handler 0 3 5 61 ∷ handler 0 3 12 29 ∷ []) ≡ writes (codes "A")
@@ -86,6 +96,9 @@ pub record HandlerRows : Type 0 where
   pub again_and_again :
       run_text [] 2 (handler 0 6 5 0 ∷ []) throws_again 9
       ≡ shown 9 [] 6 (Some (java_lang (codes "ArithmeticException"))) Running
+  -- their number stays at the greatest of 64 bits
+  pub last_count : count_behind (2 ^ 64 - 2) ≡ 2 ^ 64 - 1
+  pub same_count : count_behind (2 ^ 64 - 1) ≡ 2 ^ 64 - 1
   pub null : run 1 throw_null 3 ≡ threw 3 (codes "NullPointerException")
   -- the machine's exception costs two cells, of which two are left, or one
   pub last_cells : run 1 (after_array 56) 6 ≡ threw 6 (codes "NullPointerException")
@@ -175,6 +188,12 @@ field_K descriptor initial =
 abbrev pub string_K : ℕ → Field
 string_K count = field_K (codes "Ljava/lang/String;") (StringValue (replicate count 97))
 
+-- the upper half of a long
+abbrev pub writes_upper : List Instruction
+writes_upper =
+    getstatic 78 ∷ bipush 32 ∷ insns.Compute (compute.Shift numbers.Long shifts.UnsignedRight)
+    ∷ insns.Compute (compute.Convert conversions.LongToInt) ∷ invokestatic 6 ∷ return ∷ []
+
 -- the high byte of a byte
 abbrev pub writes_high : List Instruction
 writes_high = getstatic 70 ∷ bipush 24 ∷ iushr ∷ invokestatic 6 ∷ return ∷ []
@@ -187,14 +206,21 @@ pub record PassedRows : Type 0 where
   -- both the class and its superclass are erroneous
   pub superclass : use_both 1 67 50 9 ≡ thrown 9 3 (codes "NoClassDefFoundError")
   pub class : use_both 1 67 67 9 ≡ thrown 9 3 (codes "NoClassDefFoundError")
+  -- a superclass that is erroneous is begun, in vain
+  pub erroneous_superclass : use_both 1 50 67 9 ≡ thrown 9 3 (codes "NoClassDefFoundError")
   -- a beginning in vain changes no class: it is in vain again
   pub unaccepted : run_with with_unaccepted main_name [] 64 4 ≡ thrown 4 2 (codes "VerifyError")
   pub no_words : use_both 57 50 50 4 ≡ thrown 4 2 (codes "StackOverflowError")
+  -- an initialization takes 4 words, of which 4 are left, or 3
+  pub last_words : use_both 55 50 50 5 ≡ thrown 5 2 (codes "NoClassDefFoundError")
+  pub no_last_word : use_both 56 50 50 4 ≡ thrown 4 2 (codes "StackOverflowError")
   -- where `<clinit>` finds no words, the class is erroneous
   pub no_words_for_clinit : use_both 51 50 50 5 ≡ thrown 5 2 (codes "NoClassDefFoundError")
   pub interfaces : run_with with_interfaces main_name [] 64 22 ≡ returned 22 (codes "DQE")
   -- a constant is narrowed to its field's type, and a string is the literal of its text
   pub narrowed : with_field (field_K (codes "B") (IntValue (pos 200))) 2 [] writes_high 7 ≡ returned 7 (255 ∷ [])
+  -- a long has all its bits
+  pub long : with_field (field_K (codes "J") (LongValue (pos 309237645312))) 3 [] writes_upper 8 ≡ returned 8 (codes "H")
   pub literal : with_field (string_K 56) 1 (replicate 56 97) (ldc 22 ∷ pop ∷ return ∷ []) 5 ≡ returned 5 []
   pub no_cells : with_field (string_K 57) 1 [] (return ∷ []) 1 ≡ threw 1 (codes "OutOfMemoryError")
 
@@ -208,9 +234,9 @@ constructs_S init n =
     run_with
     (program_of
     (only_main [] 2 [] make_S
-    ∷ class_with (codes "S") (codes "P") [] (record { access_flags = 1; name = codes "x"; descriptor = codes "I"; initial = None } ∷ [])
+    ∷ class_with (codes "S") (codes "P") [] (instance_int (codes "x") ∷ [])
     (method 1 (codes "<init>") (codes "()V") (code 2 1 [] init) ∷ [])
-    ∷ class_with (codes "P") object_name [] [] (method 1 (codes "<init>") (codes "()V") (code 1 1 [] construct_P) ∷ []) ∷ [])
+    ∷ class_with (codes "P") object_name [] (instance_int (codes "x") ∷ []) (method 1 (codes "<init>") (codes "()V") (code 1 1 [] construct_P) ∷ []) ∷ [])
     (make_S ∷ init ∷ construct_P ∷ (return ∷ []) ∷ []))
     main_name [] 64 n
 
@@ -221,10 +247,29 @@ stores_first = aload 0 ∷ iconst 5 ∷ insns.Field access.PutField 59 ∷ aload
 abbrev pub reads_first : List Instruction
 reads_first = aload 0 ∷ insns.Field access.GetField 59 ∷ pop ∷ return ∷ []
 
+-- another object than the receiver, and the receiver by way of its superclass
+abbrev pub stores_to_other : List Instruction
+stores_to_other = new 57 ∷ iconst 5 ∷ insns.Field access.PutField 59 ∷ return ∷ []
+
+abbrev pub stores_by_superclass : List Instruction
+stores_by_superclass = aload 0 ∷ iconst 5 ∷ insns.Field access.PutField 75 ∷ return ∷ []
+
+-- in a method that is no constructor
+abbrev pub stores_in_main : List Instruction
+stores_in_main = new 37 ∷ iconst 5 ∷ insns.Field access.PutField 45 ∷ return ∷ []
+
 pub record ConstructionRows : Type 0 where
   -- a field of the object can be stored to before its superclass's constructor is called, and not read
   pub stores : constructs_S stores_first 20 ≡ returned 20 []
   pub reads : constructs_S reads_first 20 ≡ Err ConstructionFault
+  pub stores_other : constructs_S stores_to_other 20 ≡ Err ConstructionFault
+  pub stores_super : constructs_S stores_by_superclass 20 ≡ Err ConstructionFault
+  pub stores_elsewhere :
+      run_with
+      (program_of
+      (class_with main_name object_name [] (instance_int (codes "K") ∷ []) (main 2 [] stores_in_main ∷ []) ∷ [])
+      (stores_in_main ∷ [])) main_name [] 64 4
+      ≡ Err ConstructionFault
   pub skips_superclass : constructs_S (aload 0 ∷ invokespecial 16 ∷ return ∷ []) 20 ≡ Err ConstructionFault
   pub twice : constructs_S (aload 0 ∷ dup ∷ invokespecial 55 ∷ invokespecial 55 ∷ return ∷ []) 20 ≡ Err ConstructionFault
   -- the first constructor is not that of the object's class

@@ -1,4 +1,4 @@
-use Rattle.jv_meaning_machine.proofs.KeptAlone.{alone_goes_on}
+use Rattle.jv_meaning_machine.proofs.Fed.{alone_goes_on}
 use Rattle.jv_meaning_machine.proofs.run_law.alone_goes_on.Goals as goal
 
 pub returns : goal.returns

@@ -1,0 +1,5 @@
+use Rattle.jv_meaning_machine.proofs.Ends.{end_fits_behind}
+use Rattle.jv_meaning_machine.proofs.end_law.end_fits_behind.Goals as goal
+
+pub returns : goal.returns
+returns c = end_fits_behind

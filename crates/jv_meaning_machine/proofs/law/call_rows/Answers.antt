@@ -1,9 +1,0 @@
-use Rattle.std.proofs.Common.{refl}
-use Rattle.jv_meaning_machine.proofs.law.call_rows.Goals as goal
-
-pub returns : goal.returns
-returns c = record {
-  passed = refl;
-  other_result = refl;
-  nothing_returned = refl;
-}

@@ -1,5 +1,0 @@
-use Rattle.jv_meaning_machine.proofs.Ends.{end_fits_behind}
-use Rattle.jv_meaning_machine.proofs.law.end_fits_behind.Goals as goal
-
-pub returns : goal.returns
-returns c = end_fits_behind

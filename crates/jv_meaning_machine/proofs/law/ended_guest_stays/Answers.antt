@@ -1,5 +1,0 @@
-use Rattle.jv_meaning_machine.proofs.Ends.{ended_guest_stays}
-use Rattle.jv_meaning_machine.proofs.law.ended_guest_stays.Goals as goal
-
-pub returns : goal.returns
-returns c = ended_guest_stays

@@ -1,5 +1,0 @@
-use Rattle.jv_meaning_machine.proofs.Ended.{ended_stays}
-use Rattle.jv_meaning_machine.proofs.law.ended_stays.Goals as goal
-
-pub returns : goal.returns
-returns c = ended_stays

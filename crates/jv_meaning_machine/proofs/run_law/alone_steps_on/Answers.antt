@@ -1,0 +1,5 @@
+use Rattle.jv_meaning_machine.proofs.Fed.{alone_steps_on}
+use Rattle.jv_meaning_machine.proofs.run_law.alone_steps_on.Goals as goal
+
+pub returns : goal.returns
+returns c = alone_steps_on
