@@ -65,7 +65,8 @@ instructions_in bytes =
 tested_code : (bytes : List ℕ) (all : List Instruction) → is_code_of bytes all ≡ true → IsCode bytes all
 unfolding is_code_of
 tested_code bytes all h =
-    let first = and_parts (bytes_eq bytes (flat_map insn_bytes all)) (all_fit 0 all && (nat_le 1 (length bytes) && nat_le (length bytes) 65535)) h in
+    let first =
+    and_parts (bytes_eq bytes (flat_map insn_bytes all)) (all_fit 0 all && (nat_le 1 (length bytes) && nat_le (length bytes) 65535)) h in
     let second = and_parts (all_fit 0 all) (nat_le 1 (length bytes) && nat_le (length bytes) 65535) first.1 in
     let third = and_parts (nat_le 1 (length bytes)) (nat_le (length bytes) 65535) second.1 in
     record {
@@ -118,9 +119,12 @@ first_is u rest h = grind (arith, common_steps)
 units_read : ℕ → List ℕ → List ℕ
 units_read zero bytes = []
 units_read (suc k) [] = []
-units_read (suc k) (byte ∷ more) = first_unit (byte ∷ more) ∷ units_read k (drop (length (unit_bytes (first_unit (byte ∷ more)))) (byte ∷ more))
+units_read (suc k) (byte ∷ more) =
+    first_unit (byte ∷ more) ∷ units_read k (drop (length (unit_bytes (first_unit (byte ∷ more)))) (byte ∷ more))
 
-one_read : (k : ℕ) (bytes : List ℕ) → 0 < length bytes → units_read (suc k) bytes ≡ first_unit bytes ∷ units_read k (drop (length (unit_bytes (first_unit bytes))) bytes)
+one_read :
+    (k : ℕ) (bytes : List ℕ) → 0 < length bytes
+    → units_read (suc k) bytes ≡ first_unit bytes ∷ units_read k (drop (length (unit_bytes (first_unit bytes))) bytes)
 unfolding units_read
 one_read k [] h = absurd (omega (arith, h))
 one_read k (byte ∷ more) h = refl

@@ -29,19 +29,23 @@ MainIsOwn world main = (d : Declared) → main_method world main ≡ Some d → 
 
 module _ (G : ClassStates → ℕ → List Frame → Type 0) (kept : IsKept G) (first : G [] 0 []) where
   start_with_goes :
-      (program : Program) (main : List ℕ) (b : Budget) (memory : Memory) (o : Option Declared) → ((d : Declared) → o ≡ Some d → d.by.by_system ≡ false)
+      (program :
+      Program) (main : List ℕ) (b : Budget) (memory : Memory) (o : Option Declared) → ((d : Declared) → o ≡ Some d
+      → d.by.by_system ≡ false)
       → Leads State (Went G kept) (start_with program main b memory o)
   start_with_goes program main b memory None own =
       leaf (Went G kept) (state_of memory [] (start_control main b NoMain))
       (ends G kept memory (start_control main b Running) NoMain (λ e. absurd cc) (record { running = refl; holds = first }))
   start_with_goes program main b memory (Some d) own =
       let untouched : class_state [] d.by ≡ Untouched = ap (λ by_system. if by_system then Initialized else Untouched) (own d refl) in
-      subst (λ (state : ClassState). Leads State (Went G kept) (begun_in program memory [] (start_control main b Running) d.by state)) (sym untouched)
+      subst (λ (state : ClassState). Leads State (Went G kept) (begun_in program memory [] (start_control main b Running) d.by state))
+      (sym untouched)
       (begin_first_goes G kept program memory [] (start_control main b Running) d.by (is_verified program d.by) untouched
       (record { running = refl; holds = first }))
 
   start_goes :
-      (program : Program) (main input : List ℕ) (b : Budget) → MainIsOwn program.world main → Leads State (Went G kept) (start program main input b)
+      (program : Program) (main input : List ℕ) (b : Budget) → MainIsOwn program.world main
+      → Leads State (Went G kept) (start program main input b)
   start_goes program main input b own =
       bound (found ReferenceFault (class_named program.world (codes "java/lang/OutOfMemoryError")))
       (λ error. start_with program main b (start_memory program.world input b error) (main_method program.world main))

@@ -5,8 +5,8 @@ use Rattle.std.proofs.lemmas.Bool.{eqb-true}
 use Rattle.jv_meaning_machine.specs.Faults.{OrFault, ◌>>=◌}
 use Rattle.jv_meaning_machine.specs.State.{State}
 use Rattle.jv_meaning_machine.specs.Start.{Budget, start}
-use Rattle.jv_meaning_machine.specs.Step.{step}
-use Rattle.jv_meaning_machine.specs.Alone.{GuestFiles, Judged, Feed, came_at, fed, after_steps, alone}
+use Rattle.jv_meaning_machine.specs.Step.{step, after_steps}
+use Rattle.jv_meaning_machine.specs.Alone.{GuestFiles, Judged, Feed, came_at, fed, alone}
 use Rattle.jv_meaning_machine.specs.Observation.{Shows, observation}
 use Rattle.jv_meaning_machine.specs.Laws.Feeds.{SameBytesDoTheSame, FeedJoins, SameBytesShowTheSame, SameBytesFaultTheSame, FeedShowsLater}
 use Rattle.jv_meaning_machine.specs.Laws.Runs.{AloneGoesOn, AloneStepsOn}
@@ -31,7 +31,8 @@ fed_in bytes o = o >>= λ s. Ok (fed bytes s)
 -- ---- what steps and feeds keep
 
 module _ (judged : Judged) (g : GuestFiles) (b : Budget) (feeds : List Feed) where
-  module _ (P : State → Type 0) (steps : (s t : State) → P s → step judged.program s ≡ Ok t → P t) (feds : (bytes : List ℕ) (s : State) → P s → P (fed bytes s)) where
+  module _ (P : State → Type 0) (steps : (s t : State) → P s → step judged.program s ≡ Ok t → P t)
+      (feds : (bytes : List ℕ) (s : State) → P s → P (fed bytes s)) where
     feed_keeps : (bytes : List ℕ) (o : OrFault State) → Leads State P o → Leads State P (fed_in bytes o)
     feed_keeps bytes o h = chained P P o (λ s. Ok (fed bytes s)) h (λ t k. leaf P (fed bytes t) (feds bytes t k))
 
@@ -60,7 +61,8 @@ pub alone_goes_on : AloneGoesOn
 alone_goes_on judged g b feeds n zero s e = ap (λ (k : ℕ). alone judged g b feeds k) (add-zero n) ∙ e
 alone_goes_on judged g b feeds n (suc more) s e =
     ap (λ (k : ℕ). alone judged g b feeds k) (add-suc n more)
-    ∙ ap (λ (o : OrFault State). fed_in (came_at (suc (n + more)) feeds) (o >>= step judged.program)) (alone_goes_on judged g b feeds n more s e)
+    ∙ ap (λ (o : OrFault State). fed_in (came_at (suc (n + more)) feeds) (o >>= step judged.program))
+    (alone_goes_on judged g b feeds n more s e)
 
 nothing_fed : (bytes : List ℕ) (o : OrFault State) → bytes ≡ [] → fed_in bytes o ≡ o
 nothing_fed bytes (Err fault) e = refl
@@ -82,7 +84,9 @@ reached : Judged → GuestFiles → Budget → List Feed → ℕ → OrFault Sta
 reached judged g b feeds zero = start judged.program g.main g.input b
 reached judged g b feeds (suc n) = alone judged g b feeds n >>= step judged.program
 
-then_fed : (judged : Judged) (g : GuestFiles) (b : Budget) (feeds : List Feed) (n : ℕ) → alone judged g b feeds n ≡ fed_in (came_at n feeds) (reached judged g b feeds n)
+then_fed :
+    (judged : Judged) (g : GuestFiles) (b : Budget) (feeds : List Feed) (n : ℕ)
+    → alone judged g b feeds n ≡ fed_in (came_at n feeds) (reached judged g b feeds n)
 unfolding reached
 then_fed judged g b feeds zero = refl
 then_fed judged g b feeds (suc n) = refl

@@ -30,7 +30,9 @@ AreBegun states (Initializes frame ∷ below) =
     (state_named frame.class.class.name states ≡ Begun) × IsApart frame.class.class.name below × AreBegun states below
 
 -- another state of a class that isn't among them changes nothing
-others_begun : (name : List ℕ) (state : ClassState) (states : ClassStates) (frames : List Frame) → IsApart name frames → AreBegun states frames → AreBegun ((name, state) ∷ states) frames
+others_begun :
+    (name : List ℕ) (state : ClassState) (states : ClassStates) (frames : List Frame) → IsApart name frames → AreBegun states frames
+    → AreBegun ((name, state) ∷ states) frames
 others_begun name state states [] apart h = tt
 others_begun name state states (Runs frame ∷ below) apart h = others_begun name state states below apart h
 others_begun name state states (Initializes frame ∷ below) apart h = (
@@ -40,10 +42,13 @@ others_begun name state states (Initializes frame ∷ below) apart h = (
 )
 
 -- a class that is untouched isn't among them
-untouched_apart : (name : List ℕ) (states : ClassStates) (frames : List Frame) → state_named name states ≡ Untouched → AreBegun states frames → IsApart name frames
+untouched_apart :
+    (name : List ℕ) (states : ClassStates) (frames : List Frame) → state_named name states ≡ Untouched → AreBegun states frames
+    → IsApart name frames
 untouched_apart name states [] e h = tt
 untouched_apart name states (Runs frame ∷ below) e h = untouched_apart name states below e h
-untouched_apart name states (Initializes frame ∷ below) e h = (by_test (bytes_eq frame.class.class.name name) refl, untouched_apart name states below e h.2)
+untouched_apart name states (Initializes frame ∷ below) e h =
+    (by_test (bytes_eq frame.class.class.name name) refl, untouched_apart name states below e h.2)
   where
     by_test : (test : Bool) → bytes_eq frame.class.class.name name ≡ test → test ≡ false
     by_test false f = refl
@@ -55,7 +60,9 @@ untouched_apart name states (Initializes frame ∷ below) e h = (by_test (bytes_
 untouched_named : (l : Loaded) (states : ClassStates) → class_state states l ≡ Untouched → state_named l.class.name states ≡ Untouched
 untouched_named l states e = by_loader l.by_system e
   where
-    by_loader : (by_system : Bool) → (if by_system then Initialized else state_named l.class.name states) ≡ Untouched → state_named l.class.name states ≡ Untouched
+    by_loader :
+        (by_system : Bool) → (if by_system then Initialized else state_named l.class.name states) ≡ Untouched
+        → state_named l.class.name states ≡ Untouched
     by_loader true f = absurd cc
     by_loader false f = f
 
@@ -93,7 +100,8 @@ module _ (from : ClassStates) (fewest : ℕ) where
   -- a class that is done with by the frame on top
   over :
       (states : ClassStates) (throws : ℕ) (below : List Frame) (frame : InitializationFrame) (next : ClassState)
-      → Forward from fewest states throws (Initializes frame ∷ below) → Forward from fewest ((frame.class.class.name, next) ∷ states) throws below
+      → Forward from fewest states throws (Initializes frame ∷ below)
+      → Forward from fewest ((frame.class.class.name, next) ∷ states) throws below
   over states throws below frame next h = record {
     begun = others_begun frame.class.class.name next states below h.begun.1 h.begun.2;
     done = λ name state d e. done_stays name frame.class.class.name state next Begun states d (h.done name state d e) h.begun.0 refl;
@@ -152,12 +160,14 @@ later_forward judged g b feeds before later h =
     record { begun = first.1.begun; done = λ name state d e. e; more = omega arith; few = first.1.few } in
     ((later_keeps judged g b feeds (Went (Forward before.control.states before.control.throws) (forward_kept before.control.states before.control.throws))
     (λ s t k f.
-    step_goes (Forward before.control.states before.control.throws) (forward_kept before.control.states before.control.throws) judged.program s t k f)
+    step_goes (Forward before.control.states before.control.throws) (forward_kept before.control.states before.control.throws)
+    judged.program s t k f)
     (λ bytes s k. k) h.n h.more before h.ran (first.0, here)).at
     later h.ran_on).1
 
 stays_done :
-    (judged : Judged) (g : GuestFiles) (b : Budget) (feeds : List Feed) (before later : State) (l : Loaded) (state : ClassState) → IsLater judged g b feeds before later
+    (judged : Judged) (g : GuestFiles) (b : Budget) (feeds : List Feed) (before later : State) (l : Loaded) (state : ClassState)
+    → IsLater judged g b feeds before later
     → is_done state ≡ true → class_state before.control.states l ≡ state → class_state later.control.states l ≡ state
 stays_done judged g b feeds before later l state h done e = by_loader l.by_system e
   where

@@ -29,17 +29,21 @@ use Rattle.jv_meaning_machine.specs.Literals.{constant_value}
 use Rattle.jv_meaning_machine.specs.Throws.{exception, Thrown, thrown_once_more, thrown, handler_for, at_handler, caught, replacement_if, replacement, passed_initialization, passed_method, unwound, throw, raise}
 use Rattle.jv_meaning_machine.specs.Entering.{within_words, method_frame, entered_above, enter, entered_on, enter_init, at_offset, resumed, leave_to}
 use Rattle.jv_meaning_machine.specs.Initialization.{begin, initialization_of, is_verified, main_arguments, tasks_left, finish, finished, set_field, do_task, with_tasks, do_first}
-use Rattle.jv_meaning_machine.specs.Step.{waiting, act, context, step_in, step}
-use Rattle.jv_meaning_machine.specs.Alone.{after_steps}
+use Rattle.jv_meaning_machine.specs.Step.{waiting, act, context, step_in, step, after_steps}
 use Rattle.jv_meaning_machine.specs.Laws.Ends.{EndFits}
 use Rattle.jv_meaning_machine.proofs.Leading.{Leads, leaf, bound, bound_tested, chained}
 use Rattle.jv_meaning_machine.proofs.KeptControl.{begun_if, begun_in}
 
 -- Of the classes' states, the count of throws and the frames: each change that the machine makes keeps it.
 pub record IsKept (G : ClassStates → ℕ → List Frame → Type 0) : Type 0 where
-  pub throws : (states : ClassStates) (throws : ℕ) (frames : List Frame) → G states throws frames → G states (min (throws + 1) (2 ^ 64 - 1)) frames
-  pub enters : (states : ClassStates) (throws : ℕ) (frames : List Frame) (frame : MethodFrame) → G states throws frames → G states throws (Runs frame ∷ frames)
-  pub leaves : (states : ClassStates) (throws : ℕ) (frames : List Frame) (frame : MethodFrame) → G states throws (Runs frame ∷ frames) → G states throws frames
+  pub throws :
+      (states : ClassStates) (throws : ℕ) (frames : List Frame) → G states throws frames → G states (min (throws + 1) (2 ^ 64 - 1)) frames
+  pub enters :
+      (states : ClassStates) (throws : ℕ) (frames : List Frame) (frame : MethodFrame) → G states throws frames
+      → G states throws (Runs frame ∷ frames)
+  pub leaves :
+      (states : ClassStates) (throws : ℕ) (frames : List Frame) (frame : MethodFrame) → G states throws (Runs frame ∷ frames)
+      → G states throws frames
   pub begins :
       (states : ClassStates) (throws : ℕ) (frames : List Frame) (l : Loaded) (tasks : List Task) → class_state states l ≡ Untouched
       → G states throws frames → G ((l.class.name, Begun) ∷ states) throws (Initializes (record { class = l; tasks = tasks }) ∷ frames)
@@ -63,20 +67,28 @@ module _ (G : ClassStates → ℕ → List Frame → Type 0) (kept : IsKept G) w
   abbrev pub Went : State → Type 0
   Went s = EndFits s × G s.control.states s.control.throws s.frames
 
-  on : (memory : Memory) (frame : Frame) (below : List Frame) (control : Control) → Going control (frame ∷ below) → Went (state_of memory (frame ∷ below) control)
+  on :
+      (memory : Memory) (frame : Frame) (below : List Frame) (control : Control) → Going control (frame ∷ below)
+      → Went (state_of memory (frame ∷ below) control)
   on memory frame below control h = ((λ e. absurd cc, λ ended. absurd (ended h.running)), h.holds)
 
-  pub ends : (memory : Memory) (control : Control) (end : End) → (end ≡ Running → ⊥) → Going control [] → Went (state_of memory [] (record control { end = end }))
+  pub ends :
+      (memory : Memory) (control : Control) (end : End) → (end ≡ Running → ⊥) → Going control []
+      → Went (state_of memory [] (record control { end = end }))
   ends memory control end other h = ((λ e. other, λ ended. refl), h.holds)
 
   -- a frame in place of another one
-  in_place : (control : Control) (frame next : MethodFrame) (below : List Frame) → Going control (Runs frame ∷ below) → Going control (Runs next ∷ below)
+  in_place :
+      (control : Control) (frame next : MethodFrame) (below : List Frame) → Going control (Runs frame ∷ below)
+      → Going control (Runs next ∷ below)
   in_place control frame next below h = record {
     running = h.running;
     holds = kept.enters control.states control.throws below next (kept.leaves control.states control.throws below frame h.holds);
   }
 
-  left : (control : Control) (frame : MethodFrame) (below : List Frame) → Going control (Runs frame ∷ below) → Going (with_words_back (method_words frame) control) below
+  left :
+      (control : Control) (frame : MethodFrame) (below : List Frame) → Going control (Runs frame ∷ below)
+      → Going (with_words_back (method_words frame) control) below
   left control frame below h = record { running = h.running; holds = kept.leaves control.states control.throws below frame h.holds }
 
   -- ---- throws
@@ -84,9 +96,12 @@ module _ (G : ClassStates → ℕ → List Frame → Type 0) (kept : IsKept G) w
   abbrev Passing : List Frame → Thrown → Type 0
   Passing frames t = Going t.control frames
 
-  thrown_goes : (control : Control) (frames : List Frame) (made : Memory × ℕ) → Going control frames → Leads Thrown (Passing frames) (thrown control made)
+  thrown_goes :
+      (control : Control) (frames : List Frame) (made : Memory × ℕ) → Going control frames
+      → Leads Thrown (Passing frames) (thrown control made)
   thrown_goes control frames made h =
-      let known : (object : ℕ) (class : List ℕ) → Passing frames (record { object = object; class = class; memory = made.0; control = thrown_once_more class control }) =
+      let known : (object : ℕ) (class : List ℕ)
+      → Passing frames (record { object = object; class = class; memory = made.0; control = thrown_once_more class control }) =
       λ object class. record { running = h.running; holds = kept.throws control.states control.throws frames h.holds } in
       search (bound, leaf, known)
 
@@ -99,15 +114,21 @@ module _ (G : ClassStates → ℕ → List Frame → Type 0) (kept : IsKept G) w
       (in_place t.control frame (record frame { offset = handler.handler_pc; stack = Reference t.object ∷ [] }) below h) in
       search (bound_tested, leaf, caught)
 
-  replaced_if_goes : (world : World) (t : Thrown) (frames : List Frame) (error : Bool) → Passing frames t → Leads Thrown (Passing frames) (replacement_if world t error)
+  replaced_if_goes :
+      (world : World) (t : Thrown) (frames : List Frame) (error : Bool) → Passing frames t
+      → Leads Thrown (Passing frames) (replacement_if world t error)
   replaced_if_goes world t frames true h = leaf (Passing frames) t h
   replaced_if_goes world t frames false h =
-      bound (exception world (codes "java/lang/ExceptionInInitializerError") t.memory) (thrown t.control) (λ made e. thrown_goes t.control frames made h)
+      bound (exception world (codes "java/lang/ExceptionInInitializerError") t.memory) (thrown t.control)
+      (λ made e. thrown_goes t.control frames made h)
 
-  replaced_goes : (world : World) (t : Thrown) (frames : List Frame) → Passing frames t → Leads Thrown (Passing frames) (replacement world t)
+  replaced_goes :
+      (world : World) (t : Thrown) (frames : List Frame) → Passing frames t → Leads Thrown (Passing frames) (replacement world t)
   replaced_goes world t frames h = replaced_if_goes world t frames (is_at_or_below world t.class (codes "java/lang/Error")) h
 
-  passed : (t : Thrown) (frame : InitializationFrame) (below : List Frame) → Passing (Initializes frame ∷ below) t → Passing below (passed_initialization frame.class t)
+  passed :
+      (t : Thrown) (frame : InitializationFrame) (below : List Frame) → Passing (Initializes frame ∷ below) t
+      → Passing below (passed_initialization frame.class t)
   passed t frame below h = record { running = h.running; holds = kept.fails t.control.states t.control.throws below frame h.holds }
 
   not_running : (class : List ℕ) → Threw class ≡ Running → ⊥
@@ -115,7 +136,8 @@ module _ (G : ClassStates → ℕ → List Frame → Type 0) (kept : IsKept G) w
 
   pub unwound_goes : (world : World) (frames : List Frame) (t : Thrown) → Passing frames t → Leads State Went (unwound world t frames)
   unwound_goes world [] t h =
-      leaf Went (state_of t.memory [] (record t.control { end = Threw t.class })) (ends t.memory t.control (Threw t.class) (not_running t.class) h)
+      leaf Went (state_of t.memory [] (record t.control { end = Threw t.class }))
+      (ends t.memory t.control (Threw t.class) (not_running t.class) h)
   unwound_goes world (Runs frame ∷ below) t h =
       by_handler (handler_for world t.class frame) (unwound_goes world below (passed_method frame t) (left t.control frame below h))
     where
@@ -167,7 +189,8 @@ module _ (G : ClassStates → ℕ → List Frame → Type 0) (kept : IsKept G) w
   -- ---- calls and returns
 
   entered_goes :
-      (program : Program) (frames : List Frame) (d : Declared) (receiver : Option ℕ) (arguments : List Value) (memory : Memory) (control : Control)
+      (program :
+      Program) (frames : List Frame) (d : Declared) (receiver : Option ℕ) (arguments : List Value) (memory : Memory) (control : Control)
       → Going control frames → Leads State Went (entered_above program frames d receiver arguments memory control)
   entered_goes program frames d receiver arguments memory control h =
       bound (method_frame program d receiver arguments) (λ frame. Ok (state_of memory (Runs frame ∷ frames) control))
@@ -180,7 +203,8 @@ module _ (G : ClassStates → ℕ → List Frame → Type 0) (kept : IsKept G) w
   fewer control frames words h = record { running = h.running; holds = h.holds }
 
   pub enter_goes :
-      (program : Program) (memory : Memory) (frames : List Frame) (control : Control) (d : Declared) (receiver : Option ℕ) (arguments : List Value)
+      (program :
+      Program) (memory : Memory) (frames : List Frame) (control : Control) (d : Declared) (receiver : Option ℕ) (arguments : List Value)
       → Going control frames → Leads State Went (enter program memory frames control d receiver arguments)
   enter_goes program memory frames control d receiver arguments h =
       bound (found OffsetFault d.method.code)
@@ -193,7 +217,8 @@ module _ (G : ClassStates → ℕ → List Frame → Type 0) (kept : IsKept G) w
 
   enter_init_goes :
       (program : Program) (memory : Memory) (frames : List Frame) (control : Control) (d : Declared) (object : ℕ) (instance : Instance)
-      (arguments : List Value) → Going control frames → Leads State Went (enter_init program memory frames control d object instance arguments)
+      (arguments :
+      List Value) → Going control frames → Leads State Went (enter_init program memory frames control d object instance arguments)
   enter_init_goes program memory frames control d object instance arguments h =
       bound (found OffsetFault d.method.code)
       (λ code.
@@ -249,7 +274,8 @@ module _ (G : ClassStates → ℕ → List Frame → Type 0) (kept : IsKept G) w
       by_state Untouched e = begin_first_goes program memory (frame ∷ below) control l (is_verified program l) e h
 
   set_field_goes :
-      (world : World) (frame : Frame) (below : List Frame) (control : Control) (d : DeclaredField) (type : FieldTypeOf (List ℕ)) (memory : Memory)
+      (world : World) (frame : Frame) (below : List Frame) (control : Control) (d : DeclaredField) (type : FieldTypeOf (List ℕ))
+      (memory : Memory)
       (made : Option (Memory × Value)) → Going control (frame ∷ below)
       → Leads State Went (set_field world (frame ∷ below) control d type memory made)
   set_field_goes world frame below control d type memory None h = throw_goes world memory (frame ∷ below) control out_of_memory h
@@ -275,7 +301,8 @@ module _ (G : ClassStates → ℕ → List Frame → Type 0) (kept : IsKept G) w
       let entered : (d : Declared) → Leads State Went (enter program memory [] control d None (Reference main_arguments ∷ [])) =
       λ d. enter_goes program memory [] control d None (Reference main_arguments ∷ []) h in
       search (bound, entered)
-  finish_goes program memory (frame ∷ below) control h = leaf Went (state_of memory (frame ∷ below) control) (on memory frame below control h)
+  finish_goes program memory (frame ∷ below) control h =
+      leaf Went (state_of memory (frame ∷ below) control) (on memory frame below control h)
 
   do_first_goes :
       (program : Program) (memory : Memory) (frame : InitializationFrame) (below : List Frame) (control : Control) (tasks : List Task)
@@ -334,7 +361,8 @@ module _ (G : ClassStates → ℕ → List Frame → Type 0) (kept : IsKept G) w
   step_in_goes program memory (Runs frame ∷ below) control h =
       let now : Going control (Runs frame ∷ below) = running memory (Runs frame) below control h in
       let known :
-      (insn : Instruction) → Leads State Went (execute (context program memory control frame insn) insn >>= act program frame below control) =
+      (insn :
+      Instruction) → Leads State Went (execute (context program memory control frame insn) insn >>= act program frame below control) =
       λ insn.
       bound (execute (context program memory control frame insn) insn) (act program frame below control)
       (λ made f. act_goes program frame below control made.0 made.1 now) in
@@ -349,7 +377,8 @@ module _ (G : ClassStates → ℕ → List Frame → Type 0) (kept : IsKept G) w
   after_leads : (program : Program) (n : ℕ) (s : State) → Went s → Leads State Went (after_steps program n s)
   after_leads program zero s h = leaf Went s h
   after_leads program (suc n) s h =
-      chained Went Went (after_steps program n s) (step program) (after_leads program n s h) (λ t k. record { at = λ u e. step_goes program t u k e })
+      chained Went Went (after_steps program n s) (step program) (after_leads program n s h)
+      (λ t k. record { at = λ u e. step_goes program t u k e })
 
   pub after_goes : (program : Program) (n : ℕ) (s t : State) → Went s → after_steps program n s ≡ Ok t → Went t
   after_goes program n s t h e = (after_leads program n s h).at t e

@@ -51,7 +51,8 @@ objects_stay program n before later e number object here =
     slice_get-map shape_of before.memory.objects number ∙ ap (λ (o : Option Object). option_map shape_of o) here in
     let then : slice_get (shapes later.memory) number ≡ Some (shape_of object) =
     ap (λ (l : List Shape). slice_get l number) more.1 ∙ in_longer (shapes before.memory) more.0 number (shape_of object) there in
-    mapped_gave shape_of (slice_get later.memory.objects number) (shape_of object) (sym (slice_get-map shape_of later.memory.objects number) ∙ then)
+    mapped_gave shape_of (slice_get later.memory.objects number) (shape_of object)
+    (sym (slice_get-map shape_of later.memory.objects number) ∙ then)
 
 -- ---- the start
 
@@ -105,7 +106,8 @@ pub record IsFromStart (program : Program) (input : List ℕ) (b : Budget) (s : 
   pub named : class_named program.world (codes "java/lang/OutOfMemoryError") ≡ Some error
   pub from : IsFrom program.world b (start_memory program.world input b error) s
 
-start_leads : (program : Program) (main input : List ℕ) (b : Budget) → Leads State (IsFromStart program input b) (start program main input b)
+start_leads :
+    (program : Program) (main input : List ℕ) (b : Budget) → Leads State (IsFromStart program input b) (start program main input b)
 start_leads program main input b =
     bound (found ReferenceFault (class_named program.world (codes "java/lang/OutOfMemoryError")))
     (λ error. start_with program main b (start_memory program.world input b error) (main_method program.world main))
@@ -118,7 +120,8 @@ start_leads program main input b =
       };
     })
 
-from_over : (world : World) (b : Budget) (memory : Memory) (s t : State) → IsFrom world b memory s → KeepsState world s t → IsFrom world b memory t
+from_over :
+    (world : World) (b : Budget) (memory : Memory) (s t : State) → IsFrom world b memory s → KeepsState world s t → IsFrom world b memory t
 from_over world b memory s t h k = record {
   memory_kept =
       keeps_over memory (with_input [] s.memory) (with_input [] t.memory) h.memory_kept (both_unread s.memory t.memory k.memory);
@@ -134,7 +137,9 @@ alone_leads judged g b feeds n =
     record {
       error = h.error;
       named = h.named;
-      from = from_over judged.program.world b (start_memory judged.program.world g.input b h.error) s t h.from (step_kept judged.program s t e);
+      from =
+          from_over judged.program.world b (start_memory judged.program.world g.input b h.error) s t h.from
+          (step_kept judged.program s t e);
     })
     (λ bytes s h.
     record {

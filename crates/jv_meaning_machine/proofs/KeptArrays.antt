@@ -50,7 +50,9 @@ load_at_kept c below None = same_kept c _ refl
 load_at_kept c below (Some value) = same_kept c _ refl
 
 load_from_kept :
-    (c : Context) (test : FieldTypeOf (List ℕ) → Bool) (index : ℤ) (value : Value) (below : List Value) → Kept c (load_from c test index value below)
+    (c :
+    Context) (test : FieldTypeOf (List ℕ)
+    → Bool) (index : ℤ) (value : Value) (below : List Value) → Kept c (load_from c test index value below)
 load_from_kept c test index (Int number) below = failing TagFault
 load_from_kept c test index (Long number) below = failing TagFault
 load_from_kept c test index Null below = same_kept c _ refl
@@ -65,7 +67,8 @@ load_component_kept c test = search (bound, load_from_kept)
 
 keeps_component :
     {world : World} (memory : Memory) (id : ℕ) (array : Components) (place : ℕ) (value : Value)
-    → slice_get memory.objects id ≡ Some (ArrayWith array.0 array.1) → Keeps world memory (with_component_stored id array place value memory)
+    → slice_get memory.objects id ≡ Some (ArrayWith array.0 array.1)
+    → Keeps world memory (with_component_stored id array place value memory)
 keeps_component memory id array place value e =
     keeps_object id (ArrayWith array.0 array.1) (ArrayWith array.0 (slice_set array.1 place (narrowed array.0 value))) memory e
     (ap (λ (n : ℕ). ArrayShape array.0 n) (length-set array.1 place (narrowed array.0 value))) (λ constructed. refl)
@@ -77,10 +80,12 @@ store_at_stored :
     (c : Context) (id : ℕ) (array : Components) (index : ℤ) (value : Value) (below : List Value) (o : Option Value) → Stands c id array
     → Stored c (store_at c id array index value below o)
 store_at_stored c id array index value below None e = same_stored c _ refl
-store_at_stored c id array index value below (Some old) e = made_stored c _ _ refl (keeps_component c.memory id array (place_for index) value e)
+store_at_stored c id array index value below (Some old) e =
+    made_stored c _ _ refl (keeps_component c.memory id array (place_for index) value e)
 
 store_number_stored :
-    (c : Context) (kind : NumberElement) (index : ℤ) (value under : Value) (below : List Value) → Stored c (store_number c kind index value under below)
+    (c : Context) (kind : NumberElement) (index : ℤ) (value under : Value) (below : List Value)
+    → Stored c (store_number c kind index value under below)
 store_number_stored c kind index value (Int number) below = failing TagFault
 store_number_stored c kind index value (Long number) below = failing TagFault
 store_number_stored c kind index value Null below = same_stored c _ refl
@@ -92,7 +97,8 @@ store_number_stored c kind index value (Reference id) below =
         → Stored c
         (tested ReferenceFault (holds_numbers kind array.0) array >>= λ array. store_at c id array index value below (at_place index array.1))
     at_array array e =
-        let h : Stored c (store_at c id array index value below (at_place index array.1)) = store_at_stored c id array index value below (at_place index array.1) e in
+        let h : Stored c (store_at c id array index value below (at_place index array.1)) =
+        store_at_stored c id array index value below (at_place index array.1) e in
         search (bound_tested, h)
 store_number_stored c kind index value Half below = failing TagFault
 store_number_stored c kind index value Unset below = failing TagFault
@@ -111,9 +117,11 @@ store_reference_at_stored :
     → Stored c (store_reference_at c id array index value below o)
 store_reference_at_stored c id array index value below None e = same_stored c _ refl
 store_reference_at_stored c id array index value below (Some old) e =
-    bound (can_stand c array.0 value) (store_reference_if c id array index value below) (λ test f. store_if_stored c id array index value below test e)
+    bound (can_stand c array.0 value) (store_reference_if c id array index value below)
+    (λ test f. store_if_stored c id array index value below test e)
 
-pub store_reference_stored : (c : Context) (under : Value) (index : ℤ) (value : Value) (below : List Value) → Stored c (store_reference c under index value below)
+pub store_reference_stored :
+    (c : Context) (under : Value) (index : ℤ) (value : Value) (below : List Value) → Stored c (store_reference c under index value below)
 store_reference_stored c (Int number) index value below = failing TagFault
 store_reference_stored c (Long number) index value below = failing TagFault
 store_reference_stored c Null index value below = same_stored c _ refl
@@ -150,10 +158,13 @@ abbrev cost : List Object → ℕ
 cost objects = sum_by shape_cells (map shape_of objects)
 
 cost_of_both : (a b : List Object) → cost (a ++ b) ≡ cost a + cost b
-cost_of_both a b = ap (λ (l : List Shape). sum_by shape_cells l) (map-append shape_of a b) ∙ sum_by-append shape_cells (map shape_of a) (map shape_of b)
+cost_of_both a b =
+    ap (λ (l : List Shape). sum_by shape_cells l) (map-append shape_of a b) ∙ sum_by-append shape_cells (map shape_of a) (map shape_of b)
 
 -- what each number makes costs the same
-cost_of_each : (made : ℕ → List Object) (each : ℕ) → ((n : ℕ) → cost (made n) ≡ each) → (numbers : List ℕ) → cost (flat_map made numbers) ≡ length numbers * each
+cost_of_each :
+    (made : ℕ → List Object) (each : ℕ) → ((n : ℕ) → cost (made n) ≡ each) → (numbers : List ℕ)
+    → cost (flat_map made numbers) ≡ length numbers * each
 cost_of_each made each h [] = omega arith
 cost_of_each made each h (n ∷ more) =
     let both : cost (flat_map made (n ∷ more)) ≡ cost (made n) + cost (flat_map made more) =
@@ -163,14 +174,17 @@ cost_of_each made each h (n ∷ more) =
     let product : suc (length more) * each ≡ length more * each + each = suc-mul (length more) each in
     omega arith
 
-cost_of_array : (components : FieldTypeOf (List ℕ)) (values : List Value) → cost (ArrayWith components values ∷ []) ≡ array_cells components (length values)
+cost_of_array :
+    (components : FieldTypeOf (List ℕ)) (values : List Value)
+    → cost (ArrayWith components values ∷ []) ≡ array_cells components (length values)
 cost_of_array components values = cost_of_one (ArrayWith components values)
 
 inner_count : (count : ℕ) (more : List ℕ) (number : ℕ) → length (inner_numbers count more number) ≡ count
 inner_count count more number = length-map-range_with_len (λ k. number + 1 + k * arrays_in more) 0 count
 
 pub cost_of_arrays :
-    (components : FieldTypeOf (List ℕ)) (counts : List ℕ) (number : ℕ) → cost (arrays_made components counts number) ≡ arrays_cells components counts
+    (components :
+    FieldTypeOf (List ℕ)) (counts : List ℕ) (number : ℕ) → cost (arrays_made components counts number) ≡ arrays_cells components counts
 cost_of_arrays components [] number = refl
 cost_of_arrays components (count ∷ []) number =
     cost_of_array components (replicate count (default_of_type components))
@@ -179,7 +193,8 @@ cost_of_arrays components (count ∷ next ∷ more) number =
     let inner : List ℕ = inner_numbers count (next ∷ more) number in
     let made : ℕ → List Object = λ n. arrays_made (component components) (next ∷ more) n in
     let outer : Object = ArrayWith components (map reference_to (inner_numbers count (next ∷ more) number)) in
-    let both : cost (outer ∷ flat_map made inner) ≡ cost (outer ∷ []) + cost (flat_map made inner) = cost_of_both (outer ∷ []) (flat_map made inner) in
+    let both : cost (outer ∷ flat_map made inner) ≡ cost (outer ∷ []) + cost (flat_map made inner) =
+    cost_of_both (outer ∷ []) (flat_map made inner) in
     let first : cost (outer ∷ []) ≡ array_cells components count =
     cost_of_array components (map reference_to inner)
     ∙ ap (λ (n : ℕ). array_cells components n) (length-map inner reference_to ∙ inner_count count (next ∷ more) number) in
@@ -190,7 +205,9 @@ cost_of_arrays components (count ∷ next ∷ more) number =
 
 -- ---- new arrays, which are no objects of a class
 
-of_classes_over : (world : World) (a b : List Object) → AreOfClasses world (map shape_of a) → AreOfClasses world (map shape_of b) → AreOfClasses world (map shape_of (a ++ b))
+of_classes_over :
+    (world : World) (a b : List Object) → AreOfClasses world (map shape_of a) → AreOfClasses world (map shape_of b)
+    → AreOfClasses world (map shape_of (a ++ b))
 of_classes_over world [] b h k = k
 of_classes_over world (object ∷ a) b h k = (h.0, of_classes_over world a b h.1 k)
 
@@ -217,14 +234,16 @@ push_arrays_kept :
     (c : Context) (components : FieldTypeOf (List ℕ)) (counts : List ℕ) (below : List Value)
     → Kept c (push_arrays c components counts below (paid (arrays_cells components counts) c.memory))
 push_arrays_kept c components counts below =
-    by_payment (λ (o : Option Memory). Kept c (push_arrays c components counts below o)) (arrays_cells components counts) c.memory (same_kept c _ refl)
+    by_payment (λ (o : Option Memory). Kept c (push_arrays c components counts below o)) (arrays_cells components counts) c.memory
+    (same_kept c _ refl)
     (λ within.
     made_kept c _ _ refl
     (keeps_joined (arrays_cells components counts) (arrays_made components counts (next_object c.memory)) c.memory within
     (cost_of_arrays components counts (next_object c.memory)) (arrays_of_classes (world_at c) components counts (next_object c.memory)))
     (record { statics = refl; objects = (arrays_made components counts (next_object c.memory), refl) }))
 
-pub make_array_kept : (c : Context) (components : FieldTypeOf (List ℕ)) (count : ℤ) (below : List Value) → Kept c (make_array c components count below)
+pub make_array_kept :
+    (c : Context) (components : FieldTypeOf (List ℕ)) (count : ℤ) (below : List Value) → Kept c (make_array c components count below)
 make_array_kept c components (pos count) below = push_arrays_kept c components (count ∷ []) below
 make_array_kept c components (negsuc n) below = same_kept c _ refl
 
@@ -237,7 +256,8 @@ make_arrays_if_kept :
 make_arrays_if_kept c components counts below true = same_kept c _ refl
 make_arrays_if_kept c components counts below false = push_arrays_kept c components (map count_of counts) below
 
-make_arrays_kept : (c : Context) (components : FieldTypeOf (List ℕ)) (counts below : List Value) → Kept c (make_arrays c components counts below)
+make_arrays_kept :
+    (c : Context) (components : FieldTypeOf (List ℕ)) (counts below : List Value) → Kept c (make_arrays c components counts below)
 make_arrays_kept c components counts below = make_arrays_if_kept c components counts below (list_any is_negative_count counts)
 
 pub new_multi_array_kept : (c : Context) (index dimensions : ℕ) → Kept c (new_multi_array c index dimensions)

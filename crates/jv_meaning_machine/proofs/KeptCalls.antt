@@ -27,11 +27,14 @@ write_kept c number below = by_test (c.memory.output_left == 0) refl
         (test : Bool) → (c.memory.output_left == 0) ≡ test
         → Kept c (if test then lacks_memory c else goes_on_with c (with_byte_written number c.memory) below)
     by_test true e = same_kept c _ refl
-    by_test false e = made_kept c _ _ refl (keeps_written number c.memory e) (record { statics = refl; objects = begins_same c.memory.objects })
+    by_test false e =
+        made_kept c _ _ refl (keeps_written number c.memory e) (record { statics = refl; objects = begins_same c.memory.objects })
 
 read_kept : (c : Context) (below : List Value) (input : List ℕ) → c.memory.input ≡ input → Kept c (read c below input)
 read_kept c below [] e = same_kept c _ refl
-read_kept c below (byte ∷ more) e = made_kept c (with_input more c.memory) _ refl (keeps_read byte more c.memory e) (record { statics = refl; objects = begins_same c.memory.objects })
+read_kept c below (byte ∷ more) e =
+    made_kept c (with_input more c.memory) _ refl (keeps_read byte more c.memory e)
+    (record { statics = refl; objects = begins_same c.memory.objects })
 
 run_built_in_kept : (c : Context) (writes : Bool) (arguments below : List Value) → Kept c (run_built_in c writes arguments below)
 run_built_in_kept c true arguments below = search (bound, write_kept)
@@ -52,7 +55,8 @@ call_static_kept c descriptor t = search (bound, run_static_kept)
 -- ---- methods of an object
 
 run_on_kept :
-    (c : Context) (id : ℕ) (object : Object) (arguments below : List Value) (t : MethodTarget) → Kept c (run_on c id object arguments below t)
+    (c : Context) (id : ℕ) (object : Object) (arguments below : List Value) (t : MethodTarget)
+    → Kept c (run_on c id object arguments below t)
 run_on_kept c id object arguments below t = search (bound_tested, same_kept)
 
 call_on_kept :
@@ -103,7 +107,8 @@ call_with_kept :
 call_with_kept c Invokespecial t arguments receiver below = call_special_kept c t arguments receiver below _
 call_with_kept c how t arguments receiver below = call_on_kept c how t arguments receiver below
 
-call_instance_kept : (c : Context) (how : Use) (descriptor : MethodDescriptor) (t : MethodTarget) → Kept c (call_instance c how descriptor t)
+call_instance_kept :
+    (c : Context) (how : Use) (descriptor : MethodDescriptor) (t : MethodTarget) → Kept c (call_instance c how descriptor t)
 call_instance_kept c how descriptor t = search (bound, call_with_kept)
 
 -- ---- all of them

@@ -57,7 +57,8 @@ abbrev words_of : CodeSeen → Option CodeSeen → ℕ
 words_of code (Some known) = code_words known
 words_of code None = code_words code
 
-environment_code : (program : Program) (d : Declared) (method : Environment) → entered_method program d ≡ Ok method → d.method.code ≡ Some method.code
+environment_code :
+    (program : Program) (d : Declared) (method : Environment) → entered_method program d ≡ Ok method → d.method.code ≡ Some method.code
 environment_code program d method e =
     let first = bound_gave (tested UnverifiedFault (is_class_accepted program d.by) d) _ method e in
     let same : d ≡ first.0 = (tested_gave UnverifiedFault (is_class_accepted program d.by) d first.0 first.1).1 in
@@ -71,7 +72,8 @@ environment_code program d method e =
 -- what a frame's words are
 frame_code :
     (program : Program) (d : Declared) (receiver : Option ℕ) (arguments : List Value) (frame : MethodFrame) (code : CodeSeen)
-    → method_frame program d receiver arguments ≡ Ok frame → found OffsetFault d.method.code ≡ Ok code → method_words frame ≡ code_words code
+    → method_frame program d receiver arguments ≡ Ok frame → found OffsetFault d.method.code ≡ Ok code
+    → method_words frame ≡ code_words code
 frame_code program d receiver arguments frame code e f =
     let first = bound_gave (entered_method program d) _ frame e in
     let second = bound_gave (filled first.0.code.max_locals (flat_map local_words (passed_values receiver arguments))) _ frame first.2 in
@@ -125,7 +127,8 @@ module _ (program : Program) (from : Memory) (all_words : ℕ) (main : List ℕ)
       (keeps_joined (object_cells program.world l) (made_object program.world l ∷ []) memory within
       (cost_of_one (made_object program.world l) ∙ cost_of_object program.world true l) (new_is_of_class program.world true l named, tt)))
 
-  exception_stays : (name : List ℕ) (memory : Memory) → KeepsFrom memory → Leads (Memory × ℕ) HasMemory (exception program.world name memory)
+  exception_stays :
+      (name : List ℕ) (memory : Memory) → KeepsFrom memory → Leads (Memory × ℕ) HasMemory (exception program.world name memory)
   exception_stays name memory h =
       bound (found ReferenceFault (class_named program.world name)) _
       (λ l e.
@@ -142,7 +145,8 @@ module _ (program : Program) (from : Memory) (all_words : ℕ) (main : List ℕ)
       (control : Control) (frames : List Frame) (made : Memory × ℕ) → KeepsFrom made.0 → HasWords control frames
       → Leads Thrown (ThrownFrom frames) (thrown control made)
   thrown_stays control frames made h w =
-      let known : (object : ℕ) (class : List ℕ) → ThrownFrom frames (record { object = object; class = class; memory = made.0; control = thrown_once_more class control }) =
+      let known : (object : ℕ) (class : List ℕ)
+      → ThrownFrom frames (record { object = object; class = class; memory = made.0; control = thrown_once_more class control }) =
       λ object class. record { memory = h; words = record { sum = w.sum; same_main = w.same_main } } in
       search (bound, leaf, known)
 
@@ -155,9 +159,11 @@ module _ (program : Program) (from : Memory) (all_words : ℕ) (main : List ℕ)
       search (bound_tested, leaf, after)
 
   -- a frame that is left gives its words back
-  method_passed : (t : Thrown) (frame : MethodFrame) (below : List Frame) → ThrownFrom (Runs frame ∷ below) t → ThrownFrom below (passed_method frame t)
+  method_passed :
+      (t : Thrown) (frame : MethodFrame) (below : List Frame) → ThrownFrom (Runs frame ∷ below) t → ThrownFrom below (passed_method frame t)
   method_passed t frame below h =
-      let sum : sum_by frame_words below + (t.control.words + method_words frame) ≡ all_words = omega (arith, frames_words (Runs frame) below, h.words.sum) in
+      let sum : sum_by frame_words below + (t.control.words + method_words frame) ≡ all_words =
+      omega (arith, frames_words (Runs frame) below, h.words.sum) in
       record { memory = h.memory; words = record { sum = sum; same_main = h.words.same_main } }
 
   initialization_passed :
@@ -173,8 +179,10 @@ module _ (program : Program) (from : Memory) (all_words : ℕ) (main : List ℕ)
       → Leads Thrown (ThrownFrom frames) (replacement_if program.world t error)
   replaced_if_stays t frames true h = leaf (ThrownFrom frames) t h
   replaced_if_stays t frames false h =
-      chained HasMemory (ThrownFrom frames) (exception program.world (codes "java/lang/ExceptionInInitializerError") t.memory) (thrown t.control)
-      (exception_stays (codes "java/lang/ExceptionInInitializerError") t.memory h.memory) (λ made k. thrown_stays t.control frames made k h.words)
+      chained HasMemory (ThrownFrom frames) (exception program.world (codes "java/lang/ExceptionInInitializerError") t.memory)
+      (thrown t.control)
+      (exception_stays (codes "java/lang/ExceptionInInitializerError") t.memory h.memory)
+      (λ made k. thrown_stays t.control frames made k h.words)
 
   replaced_stays :
       (t : Thrown) (frames : List Frame) → ThrownFrom frames t → Leads Thrown (ThrownFrom frames) (replacement program.world t)
@@ -196,7 +204,8 @@ module _ (program : Program) (from : Memory) (all_words : ℕ) (main : List ℕ)
       by_handler None up = up
       by_handler (Some handler) up = caught_stays t frame below handler h
   unwound_stays (Initializes frame ∷ below) t h =
-      chained (ThrownFrom below) Stays (replacement program.world (passed_initialization frame.class t)) (λ t. unwound program.world t below)
+      chained (ThrownFrom below) Stays (replacement program.world (passed_initialization frame.class t))
+      (λ t. unwound program.world t below)
       (replaced_stays (passed_initialization frame.class t) below (initialization_passed t frame below h))
       (λ t k. unwound_stays below t k)
 
@@ -237,7 +246,8 @@ module _ (program : Program) (from : Memory) (all_words : ℕ) (main : List ℕ)
   -- ---- calls
 
   entered_stays :
-      (frames : List Frame) (d : Declared) (receiver : Option ℕ) (arguments : List Value) (memory : Memory) (control : Control) (code : CodeSeen)
+      (frames :
+      List Frame) (d : Declared) (receiver : Option ℕ) (arguments : List Value) (memory : Memory) (control : Control) (code : CodeSeen)
       → found OffsetFault d.method.code ≡ Ok code → KeepsFrom memory → HasWords control frames → code_words code ≤ control.words
       → Leads State Stays
       (entered_above program frames d receiver arguments memory (record control { words = control.words - code_words code }))
@@ -266,7 +276,8 @@ module _ (program : Program) (from : Memory) (all_words : ℕ) (main : List ℕ)
       (d : Declared) (object : ℕ) (instance : Instance) (memory : Memory) → slice_get memory.objects object ≡ Some (InstanceOf instance)
       → instance.constructed ≡ false → Keeps program.world memory (with_object object (entered_on d instance) memory)
   entered_keeps d object instance memory e raw =
-      keeps_object object (InstanceOf instance) (entered_on d instance) memory e refl (λ constructed. absurd (true≢false (sym constructed ∙ raw)))
+      keeps_object object (InstanceOf instance) (entered_on d instance) memory e refl
+      (λ constructed. absurd (true≢false (sym constructed ∙ raw)))
 
   pub enter_init_stays :
       (memory : Memory) (frames : List Frame) (control : Control) (d : Declared) (object : ℕ) (instance : Instance) (arguments : List Value)
@@ -323,7 +334,8 @@ module _ (program : Program) (from : Memory) (all_words : ℕ) (main : List ℕ)
       (memory : Memory) (frame : MethodFrame) (below : List Frame) (control : Control) (result : List Value) → KeepsFrom memory
       → HasWords control (Runs frame ∷ below) → Leads State Stays (leave memory frame below control result)
   leave_stays memory frame below control result h w =
-      let sum : sum_by frame_words below + (control.words + method_words frame) ≡ all_words = omega (arith, frames_words (Runs frame) below, w.sum) in
+      let sum : sum_by frame_words below + (control.words + method_words frame) ≡ all_words =
+      omega (arith, frames_words (Runs frame) below, w.sum) in
       leave_to_stays memory below (with_words_back (method_words frame) control) result h (record { sum = sum; same_main = w.same_main })
 
   -- ---- initializations

@@ -61,10 +61,13 @@ divide_kept :
 divide_kept c kind operator a b below true = same_kept c _ refl
 divide_kept c kind operator a b below false = same_kept c _ refl
 
-division_kept : (c : Context) (kind : NumberKind) (operator : DivisionOperator) (values below : List Value) → Kept c (division c kind operator values below)
+division_kept :
+    (c : Context) (kind : NumberKind) (operator : DivisionOperator) (values below : List Value)
+    → Kept c (division c kind operator values below)
 division_kept c kind operator values below = search (bound, divide_kept)
 
-branch_on_ints_kept : (c : Context) (test : Test) (distance : ℤ) (values below : List Value) → Kept c (branch_on_ints c test distance values below)
+branch_on_ints_kept :
+    (c : Context) (test : Test) (distance : ℤ) (values below : List Value) → Kept c (branch_on_ints c test distance values below)
 branch_on_ints_kept c (tests.IfInt condition) distance values below = search (bound, jumps_if_kept)
 branch_on_ints_kept c (tests.IfInts condition) distance values below = search (bound, jumps_if_kept)
 branch_on_ints_kept c _ distance values below = failing TagFault
@@ -81,7 +84,8 @@ throw_value_kept c (Reference id) = search (bound, bound_tested, same_kept)
 throw_value_kept c Half = failing TagFault
 throw_value_kept c Unset = failing TagFault
 
-with_operands_does : (c : Context) (insn : Instruction) (values below : List Value) → Does (is_store insn) c (with_operands c insn values below)
+with_operands_does :
+    (c : Context) (insn : Instruction) (values below : List Value) → Does (is_store insn) c (with_operands c insn values below)
 with_operands_does c insns.Nop values below = search (bound, same_kept)
 with_operands_does c insns.NullConstant values below = search (bound, same_kept)
 with_operands_does c (insns.Compute what) values below = search (bound, same_kept)
@@ -142,7 +146,8 @@ provided_gave : {A : Type 0} (test : Bool) (error : LinkError) (a b : A) → pro
 provided_gave true error a b e = cc
 provided_gave false error a b e = absurd cc
 
-name_is_named : (world : World) (current l : Loaded) (name : List ℕ) → resolve_name world current name ≡ Ok l → class_named world l.class.name ≡ Some l
+name_is_named :
+    (world : World) (current l : Loaded) (name : List ℕ) → resolve_name world current name ≡ Ok l → class_named world l.class.name ≡ Some l
 name_is_named world current l name e = by_class (class_named world name) refl e
   where
     by_error :
@@ -163,7 +168,8 @@ name_is_named world current l name e = by_class (class_named world name) refl e
         named_itself world name l (f ∙ ap (λ (m : Loaded). Some m) same)
 
 text_is_named :
-    (world : World) (current l : Loaded) (text : List ℕ) → resolve_text world current text ≡ Ok (ClassOf l) → class_named world l.class.name ≡ Some l
+    (world : World) (current l : Loaded) (text : List ℕ) → resolve_text world current text ≡ Ok (ClassOf l)
+    → class_named world l.class.name ≡ Some l
 text_is_named world current l text e = by_array (is_array_name text) e
   where
     by_element :
@@ -180,7 +186,9 @@ text_is_named world current l text e = by_array (is_array_name text) e
     by_type None f = absurd cc
     by_type (Some type) f = by_element type type.element f
 
-    by_name : (o : OrError Loaded) → resolve_name world current text ≡ o → (o >>= (λ m. Ok (ClassOf m))) ≡ Ok (ClassOf l) → class_named world l.class.name ≡ Some l
+    by_name :
+        (o : OrError Loaded) → resolve_name world current text ≡ o → (o >>= (λ m. Ok (ClassOf m))) ≡ Ok (ClassOf l)
+        → class_named world l.class.name ≡ Some l
     by_name (Ok k) f g =
         let same : k ≡ l = cc in
         name_is_named world current l text (f ∙ ap (λ (m : Loaded). Ok m) same)
@@ -226,7 +234,9 @@ new_kept c index =
 -- ---- casts and instanceof
 
 when_tested_kept :
-    (c : Context) (text : List ℕ) (id : ℕ) (next : Bool → Outcome) → ((test : Bool) → Kept c (next test)) → Kept c (when_tested c text id next)
+    (c :
+    Context) (text : List ℕ) (id : ℕ) (next : Bool → Outcome) → ((test : Bool)
+    → Kept c (next test)) → Kept c (when_tested c text id next)
 when_tested_kept c text id next h = search (bound, unless_kept, h)
 
 cast_if_kept : (c : Context) (test : Bool) → Kept c (cast_if c test)

@@ -129,16 +129,19 @@ new_is_of_class world constructed l named = (l, named, new_keys (instance_fields
 
 -- what is the same of an object and of the one that takes its place is the same of all
 pub same_of_all :
-    {B : Type 0} (f : Object → B) (id : ℕ) (old object : Object) (objects : List Object) → slice_get objects id ≡ Some old → f object ≡ f old
+    {B :
+    Type 0} (f : Object → B) (id : ℕ) (old object : Object) (objects : List Object) → slice_get objects id ≡ Some old → f object ≡ f old
     → map f (slice_set objects id object) ≡ map f objects
 same_of_all f id old object objects e same =
     map-set_same f objects id object old (same ∙ ap f (sym (get_or_from_slice_get objects id old old e)))
 
 pub keeps_object :
-    {world : World} (id : ℕ) (old object : Object) (memory : Memory) → slice_get memory.objects id ≡ Some old → shape_of object ≡ shape_of old
+    {world :
+    World} (id : ℕ) (old object : Object) (memory : Memory) → slice_get memory.objects id ≡ Some old → shape_of object ≡ shape_of old
     → (is_constructed old ≡ true → is_constructed object ≡ true) → Keeps world memory (with_object id object memory)
 keeps_object {world = world} id old object memory e same stays =
-    let shapes_same : map shape_of (slice_set memory.objects id object) ≡ shapes memory = same_of_all shape_of id old object memory.objects e same in
+    let shapes_same : map shape_of (slice_set memory.objects id object) ≡ shapes memory =
+    same_of_all shape_of id old object memory.objects e same in
     record {
       output = begins_same memory.output;
       output_budget = refl;
@@ -179,8 +182,10 @@ pub keeps_joined :
     → sum_by shape_cells (map shape_of objects) ≡ cells → AreOfClasses world (map shape_of objects)
     → Keeps world memory (with_objects objects (less cells memory))
 keeps_joined {world = world} cells objects memory within cost of_classes =
-    let joined : map shape_of (memory.objects ++ objects) ≡ shapes memory ++ map shape_of objects = map-append shape_of memory.objects objects in
-    let sum : sum_by shape_cells (map shape_of (memory.objects ++ objects)) ≡ sum_by shape_cells (shapes memory) + sum_by shape_cells (map shape_of objects) =
+    let joined : map shape_of (memory.objects ++ objects) ≡ shapes memory ++ map shape_of objects =
+    map-append shape_of memory.objects objects in
+    let sum : sum_by shape_cells (map shape_of (memory.objects ++ objects)) ≡ sum_by shape_cells (shapes memory) + sum_by shape_cells
+    (map shape_of objects) =
     ap (λ (l : List Shape). sum_by shape_cells l) joined ∙ sum_by-append shape_cells (shapes memory) (map shape_of objects) in
     record {
       output = begins_same memory.output;
@@ -244,7 +249,8 @@ not_none zero e = absurd (true≢false e)
 not_none (suc n) e = omega arith
 
 pub keeps_written :
-    {world : World} (number : ℤ) (memory : Memory) → (memory.output_left == 0) ≡ false → Keeps world memory (with_byte_written number memory)
+    {world :
+    World} (number : ℤ) (memory : Memory) → (memory.output_left == 0) ≡ false → Keeps world memory (with_byte_written number memory)
 keeps_written number memory e = record {
   output = ((cast_unsigned w32 number % 256) ∷ [], refl);
   output_budget = omega (arith, length-append memory.output ((cast_unsigned w32 number % 256) ∷ []), not_none memory.output_left e);

@@ -82,14 +82,17 @@ IsDone false = IsKept
 abbrev pub Does : Bool → Context → Outcome → Type 0
 Does stores c done = Leads (Memory × Effect) (IsDone stores c) done
 
-pub made_stored : (c : Context) (memory : Memory) (effect : Effect) → is_plain effect ≡ true → Keeps (world_at c) c.memory memory → Stored c (Ok (memory, effect))
+pub made_stored :
+    (c : Context) (memory : Memory) (effect : Effect) → is_plain effect ≡ true → Keeps (world_at c) c.memory memory
+    → Stored c (Ok (memory, effect))
 made_stored c memory effect plain h = leaf (IsStored c) (memory, effect) (record { keeps = h; may = plain_may memory.objects effect plain })
 
 pub same_stored : (c : Context) (effect : Effect) → is_plain effect ≡ true → Stored c (Ok (c.memory, effect))
 same_stored c effect plain = made_stored c c.memory effect plain (keeps_same c.memory)
 
 pub made_kept :
-    (c : Context) (memory : Memory) (effect : Effect) → is_plain effect ≡ true → Keeps (world_at c) c.memory memory → LeavesAll c.memory memory
+    (c : Context) (memory : Memory) (effect : Effect) → is_plain effect ≡ true → Keeps (world_at c) c.memory memory
+    → LeavesAll c.memory memory
     → Kept c (Ok (memory, effect))
 made_kept c memory effect plain h leaves =
     leaf (IsKept c) (memory, effect) (record { keeps = h; may = plain_may memory.objects effect plain; leaves = leaves })
@@ -100,13 +103,15 @@ leaves_same memory = record { statics = refl; objects = begins_same memory.objec
 pub same_kept : (c : Context) (effect : Effect) → is_plain effect ≡ true → Kept c (Ok (c.memory, effect))
 same_kept c effect plain = made_kept c c.memory effect plain (keeps_same c.memory) (leaves_same c.memory)
 
-pub unless_kept : {A : Type 0} (c : Context) (o : OrError A) (next : A → Outcome) → ((a : A) → Kept c (next a)) → Kept c (unless_error c o next)
+pub unless_kept :
+    {A : Type 0} (c : Context) (o : OrError A) (next : A → Outcome) → ((a : A) → Kept c (next a)) → Kept c (unless_error c o next)
 unless_kept c (Ok a) next h = h a
 unless_kept c (Err error) next h = same_kept c _ refl
 
 -- the same, with what was resolved to
 pub unless_kept_as :
-    {A : Type 0} (c : Context) (o : OrError A) (next : A → Outcome) → ((a : A) → o ≡ Ok a → Kept c (next a)) → Kept c (unless_error c o next)
+    {A :
+    Type 0} (c : Context) (o : OrError A) (next : A → Outcome) → ((a : A) → o ≡ Ok a → Kept c (next a)) → Kept c (unless_error c o next)
 unless_kept_as c (Ok a) next h = h a refl
 unless_kept_as c (Err error) next h = same_kept c _ refl
 
@@ -126,7 +131,8 @@ once_stored c l outcome h = by_state (is_ready (class_state c.states l))
 
 -- ---- what is known of an object
 
-pub object_stands : (objects : List Object) (id : ℕ) (object : Object) → object_at objects id ≡ Ok object → slice_get objects id ≡ Some object
+pub object_stands :
+    (objects : List Object) (id : ℕ) (object : Object) → object_at objects id ≡ Ok object → slice_get objects id ≡ Some object
 object_stands objects id object e = found_gave ReferenceFault (slice_get objects id) object e
 
 pub instance_is : (object : Object) (instance : Instance) → instance_in object ≡ Ok instance → object ≡ InstanceOf instance
@@ -162,7 +168,8 @@ get_field_kept : (c : Context) (d : DeclaredField) → Kept c (get_field c d)
 get_field_kept c d = search (bound, get_field_of_kept)
 
 keeps_field :
-    {world : World} (memory : Memory) (id : ℕ) (instance : Instance) (key : FieldKey) (value : Value) → slice_get memory.objects id ≡ Some (InstanceOf instance)
+    {world : World} (memory : Memory) (id : ℕ) (instance : Instance) (key : FieldKey) (value : Value)
+    → slice_get memory.objects id ≡ Some (InstanceOf instance)
     → Keeps world memory (with_object id (with_field_value key value instance) memory)
 keeps_field memory id instance key value e =
     keeps_object id (InstanceOf instance) (with_field_value key value instance) memory e
@@ -175,7 +182,8 @@ put_field_of_stored c reference d (Int number) value below = failing TagFault
 put_field_of_stored c reference d (Long number) value below = failing TagFault
 put_field_of_stored c reference d Null value below = same_stored c _ refl
 put_field_of_stored c reference d (Reference id) value below =
-    bound (object_at c.memory.objects id >>= instance_in) _ (λ instance e. at_instance instance (instance_stands c.memory.objects id instance e))
+    bound (object_at c.memory.objects id >>= instance_in) _
+    (λ instance e. at_instance instance (instance_stands c.memory.objects id instance e))
   where
     at_instance :
         (instance : Instance) → slice_get c.memory.objects id ≡ Some (InstanceOf instance)
@@ -184,7 +192,8 @@ put_field_of_stored c reference d (Reference id) value below =
         tested ReferenceFault (is_some (value_at (key_of d) instance.fields)) instance >>= λ instance.
         goes_on_with c (with_object id (with_field_value (key_of d) value instance) c.memory) below)
     at_instance instance e =
-        let h : Keeps (world_at c) c.memory (with_object id (with_field_value (key_of d) value instance) c.memory) = keeps_field c.memory id instance (key_of d) value e in
+        let h : Keeps (world_at c) c.memory (with_object id (with_field_value (key_of d) value instance) c.memory) =
+        keeps_field c.memory id instance (key_of d) value e in
         search (bound_tested, made_stored, h)
 put_field_of_stored c reference d Half value below = failing TagFault
 put_field_of_stored c reference d Unset value below = failing TagFault
@@ -193,7 +202,8 @@ put_field_stored : (c : Context) (reference : MemberReference) (d : DeclaredFiel
 put_field_stored c reference d = search (bound, put_field_of_stored)
 
 access_does :
-    (c : Context) (how : FieldAccess) (reference : MemberReference) (d : DeclaredField) → Does (stores_field how) c (access_field c how reference d)
+    (c : Context) (how : FieldAccess) (reference : MemberReference) (d : DeclaredField)
+    → Does (stores_field how) c (access_field c how reference d)
 access_does c accesses.GetStatic reference d = once_kept c d.by _ (get_static_kept c d)
 access_does c accesses.PutStatic reference d = once_stored c d.by _ (put_static_stored c d)
 access_does c accesses.GetField reference d = get_field_kept c d
@@ -204,10 +214,12 @@ same_done true c class = record { keeps = keeps_same c.memory; may = tt }
 same_done false c class = record { keeps = keeps_same c.memory; may = tt; leaves = leaves_same c.memory }
 
 unless_does :
-    (stores : Bool) (c : Context) (o : OrError DeclaredField) (next : DeclaredField → Outcome) → ((d : DeclaredField) → Does stores c (next d))
+    (stores :
+    Bool) (c : Context) (o : OrError DeclaredField) (next : DeclaredField → Outcome) → ((d : DeclaredField) → Does stores c (next d))
     → Does stores c (unless_error c o next)
 unless_does stores c (Ok d) next h = h d
-unless_does stores c (Err error) next h = leaf (IsDone stores c) (c.memory, Raises (error_class error)) (same_done stores c (error_class error))
+unless_does stores c (Err error) next h =
+    leaf (IsDone stores c) (c.memory, Raises (error_class error)) (same_done stores c (error_class error))
 
 pub use_field_does : (c : Context) (how : FieldAccess) (index : ℕ) → Does (stores_field how) c (use_field c how index)
 use_field_does c how index =
@@ -227,7 +239,8 @@ field_cells_are (d ∷ more) =
 
 -- an object that the machine makes costs the cells of its class
 pub cost_of_object :
-    (world : World) (constructed : Bool) (l : Loaded) → shape_cells (shape_of (InstanceOf (new_instance world constructed l))) ≡ object_cells world l
+    (world : World) (constructed : Bool) (l : Loaded)
+    → shape_cells (shape_of (InstanceOf (new_instance world constructed l))) ≡ object_cells world l
 cost_of_object world constructed l = ap (λ (n : ℕ). 1 + n) (field_cells_are (instance_fields world l))
 
 -- one object, whose shape is that of a new one
@@ -265,7 +278,8 @@ literal_made_kept :
     → literal_in text memory.literals ≡ None
     → IsKeptIf program.world memory (literal_made program l text units (paid (literal_cells program l units) memory))
 literal_made_kept program l text units memory named none =
-    by_payment (λ (o : Option Memory). IsKeptIf program.world memory (literal_made program l text units o)) (literal_cells program l units) memory tt
+    by_payment (λ (o : Option Memory). IsKeptIf program.world memory (literal_made program l text units o)) (literal_cells program l units)
+    memory tt
     (λ within. (
       keeps_over memory (with_literal_at text (next_object memory) memory) _ (keeps_literal text (next_object memory) memory none)
           (keeps_joined (literal_cells program l units) (string_with program l (next_object memory + 1) ∷ chars_of units ∷ [])
@@ -289,20 +303,25 @@ literal_or_new_kept program text memory None e =
     (named_itself program.world string_name l (found_gave ReferenceFault (class_named program.world string_name) l f)) e)))
 
 literal_kept :
-    (program : Program) (text : List ℕ) (memory : Memory) → Leads (Option (Memory × ℕ)) (IsKeptIf program.world memory) (literal program text memory)
+    (program : Program) (text : List ℕ) (memory : Memory)
+    → Leads (Option (Memory × ℕ)) (IsKeptIf program.world memory) (literal program text memory)
 literal_kept program text memory = literal_or_new_kept program text memory (literal_in text memory.literals) refl
 
-loaded_kept : (world : World) (memory : Memory) (made : Option (Memory × ℕ)) → IsKeptIf world memory made → IsKeptIf world memory (string_loaded made)
+loaded_kept :
+    (world : World) (memory : Memory) (made : Option (Memory × ℕ)) → IsKeptIf world memory made → IsKeptIf world memory (string_loaded made)
 loaded_kept world memory None h = tt
 loaded_kept world memory (Some made) h = h
 
 pub constant_value_kept :
     (program : Program) (value : InitialValue) (memory : Memory)
     → Leads (Option (Memory × Value)) (IsKeptIf program.world memory) (constant_value program value memory)
-constant_value_kept program (IntValue number) memory = leaf (IsKeptIf {A = Value} program.world memory) (Some (memory, Int number)) (keeps_same memory, leaves_same memory)
-constant_value_kept program (LongValue number) memory = leaf (IsKeptIf {A = Value} program.world memory) (Some (memory, Long number)) (keeps_same memory, leaves_same memory)
+constant_value_kept program (IntValue number) memory =
+    leaf (IsKeptIf {A = Value} program.world memory) (Some (memory, Int number)) (keeps_same memory, leaves_same memory)
+constant_value_kept program (LongValue number) memory =
+    leaf (IsKeptIf {A = Value} program.world memory) (Some (memory, Long number)) (keeps_same memory, leaves_same memory)
 constant_value_kept program (StringValue text) memory =
-    chained (IsKeptIf {A = ℕ} program.world memory) (IsKeptIf {A = Value} program.world memory) (literal program text memory) (λ made. Ok (string_loaded made)) (literal_kept program text memory)
+    chained (IsKeptIf {A = ℕ} program.world memory) (IsKeptIf {A = Value} program.world memory) (literal program text memory)
+    (λ made. Ok (string_loaded made)) (literal_kept program text memory)
     (λ made h. leaf (IsKeptIf {A = Value} program.world memory) (string_loaded made) (loaded_kept program.world memory made h))
 
 push_value_kept : (c : Context) (made : Option (Memory × Value)) → IsKeptIf (world_at c) c.memory made → Kept c (push_value c made)

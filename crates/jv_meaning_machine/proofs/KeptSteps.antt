@@ -11,8 +11,7 @@ use Rattle.jv_meaning_machine.specs.Effects.{Effect}
 use Rattle.jv_meaning_machine.specs.Effects.Effect.{Goes, Enters, Constructs, Leaves, Throws, Raises, Begins}
 use Rattle.jv_meaning_machine.specs.Instructions.{execute}
 use Rattle.jv_meaning_machine.specs.Entering.{at_offset}
-use Rattle.jv_meaning_machine.specs.Step.{waiting, act, context, step_in, step}
-use Rattle.jv_meaning_machine.specs.Alone.{after_steps}
+use Rattle.jv_meaning_machine.specs.Step.{waiting, act, context, step_in, step, after_steps}
 use Rattle.jv_meaning_machine.specs.Laws.Shapes.{used_words}
 use Rattle.jv_meaning_machine.specs.Laws.Kept.{Keeps, KeepsState}
 use Rattle.jv_meaning_machine.proofs.Leading.{Leads, leaf, bound, chained}
@@ -39,7 +38,8 @@ module _ (program : Program) (from : Memory) (all_words : ℕ) (main : List ℕ)
       (λ next. Ok (state_of memory (Runs next ∷ below) control)) (at_offset_is_of program from all_words main frame offset locals stack)
       (λ next same. leaf (Stays program from all_words main) _ (goes_on_stays program from all_words main memory control frame next below h w same))
   act_stays frame below control memory (Enters d receiver arguments stack) h may w =
-      enter_stays program from all_words main memory (waiting frame stack ∷ below) control d receiver arguments h (waits control frame stack below w)
+      enter_stays program from all_words main memory (waiting frame stack ∷ below) control d receiver arguments h
+      (waits control frame stack below w)
   act_stays frame below control memory (Constructs d object instance arguments stack) h may w =
       enter_init_stays program from all_words main memory (waiting frame stack ∷ below) control d object instance arguments may.0 may.1 h
       (waits control frame stack below w)
@@ -87,7 +87,8 @@ step_in_stays program memory (Runs frame ∷ below) control =
     λ insn. acted program memory frame below control insn in
     search (bound, known)
 step_in_stays program memory (Initializes frame ∷ below) control =
-    initialization_step_stays program memory (used_words (Initializes frame ∷ below) + control.words) control.main memory frame below control
+    initialization_step_stays program memory (used_words (Initializes frame ∷ below) + control.words) control.main memory frame below
+    control
     (keeps_same memory) (its_words program memory (Initializes frame ∷ below) control)
 
 state_kept : (program : Program) (s t : State) → StaysAs program s.memory s.frames s.control t → KeepsState program.world s t

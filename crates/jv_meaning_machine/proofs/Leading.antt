@@ -20,7 +20,9 @@ pub failing : {A : Type 0} {P : A → Type 0} (fault : Fault) → Leads A P (Err
 failing fault = record { at = λ b e. absurd cc }
 
 -- a step, and the next one with what it gave
-pub bound : {A B : Type 0} {P : B → Type 0} (o : OrFault A) (next : A → OrFault B) → ((a : A) → o ≡ Ok a → Leads B P (next a)) → Leads B P (o >>= next)
+pub bound :
+    {A B : Type 0} {P : B → Type 0} (o : OrFault A) (next : A → OrFault B) → ((a : A) → o ≡ Ok a → Leads B P (next a))
+    → Leads B P (o >>= next)
 bound (Ok a) next h = h a refl
 bound (Err fault) next h = failing fault
 

@@ -63,7 +63,8 @@ all_plain contents =
     ∙ guests_plain (classes_in contents)
 
 -- what is found among classes passes what they all pass
-found_passes : (test passes : Loaded → Bool) (all : World) (l : Loaded) → list_all passes all ≡ true → find test all ≡ Some l → passes l ≡ true
+found_passes :
+    (test passes : Loaded → Bool) (all : World) (l : Loaded) → list_all passes all ≡ true → find test all ≡ Some l → passes l ≡ true
 found_passes test passes [] l h e = absurd cc
 found_passes test passes (a ∷ more) l h e =
     let parts : (passes a ≡ true) × (list_all passes more ≡ true) = both_true (passes a) (list_all passes more) h in
@@ -73,12 +74,16 @@ found_passes test passes (a ∷ more) l h e =
     both_true true b f = (refl, f)
     both_true false b f = absurd (true≢false (sym f))
 
-    by_test : (b : Bool) → cond b (Some a) (find test more) ≡ Some l → passes a ≡ true → (find test more ≡ Some l → passes l ≡ true) → passes l ≡ true
+    by_test :
+        (b : Bool) → cond b (Some a) (find test more) ≡ Some l → passes a ≡ true → (find test more ≡ Some l → passes l ≡ true)
+        → passes l ≡ true
     by_test true f here behind = let same : a ≡ l = cc in subst (λ (x : Loaded). passes x ≡ true) same here
     by_test false f here behind = behind f
 
 -- a plain class with such a method is none of the system's
-own : (l : Loaded) (m : Method) (by_system : Bool) → l.by_system ≡ by_system → method_named l.class (codes "main") (codes "([Ljava/lang/String;)V") ≡ Some m → plain l ≡ true → by_system ≡ false
+own :
+    (l : Loaded) (m : Method) (by_system : Bool) → l.by_system ≡ by_system
+    → method_named l.class (codes "main") (codes "([Ljava/lang/String;)V") ≡ Some m → plain l ≡ true → by_system ≡ false
 unfolding plain
 own l m false e f h = refl
 own l m true e f h =
@@ -90,7 +95,8 @@ own l m true e f h =
 pub main_is_its_own : MainIsItsOwn
 main_is_its_own contents name d e = by_class (class_named (world_of system_classes contents) name) refl e
   where
-    by_test : (l : Loaded) (m : Method) (b : Bool) → cond b (Some (declared_by l m)) None ≡ Some d → l.by_system ≡ false → d.by.by_system ≡ false
+    by_test :
+        (l : Loaded) (m : Method) (b : Bool) → cond b (Some (declared_by l m)) None ≡ Some d → l.by_system ≡ false → d.by.by_system ≡ false
     by_test l m true f its = ap (λ (o : Option Declared). (unwrap_or o d).by.by_system) (sym f) ∙ its
     by_test l m false f its = absurd cc
 
@@ -104,6 +110,10 @@ main_is_its_own contents name d e = by_class (class_named (world_of system_class
     by_loadable l true h k = by_method l (method_named l.class (codes "main") (codes "([Ljava/lang/String;)V")) refl h k
     by_loadable l false h k = absurd cc
 
-    by_class : (o : Option Loaded) → class_named (world_of system_classes contents) name ≡ o → option_and_then (main_in (world_of system_classes contents)) o ≡ Some d → d.by.by_system ≡ false
+    by_class :
+        (o : Option Loaded) → class_named (world_of system_classes contents) name ≡ o
+        → option_and_then (main_in (world_of system_classes contents)) o ≡ Some d → d.by.by_system ≡ false
     by_class None f k = absurd cc
-    by_class (Some l) f k = by_loadable l (is_loadable (world_of system_classes contents) l) (found_passes (λ l. bytes_eq l.class.name name) plain (world_of system_classes contents) l (all_plain contents) f) k
+    by_class (Some l) f k =
+        by_loadable l (is_loadable (world_of system_classes contents) l)
+        (found_passes (λ l. bytes_eq l.class.name name) plain (world_of system_classes contents) l (all_plain contents) f) k

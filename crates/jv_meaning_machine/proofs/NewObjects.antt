@@ -41,7 +41,9 @@ use Rattle.jv_meaning_machine.proofs.TakenItems.{taken_gave, int_gave, IsOne, on
 
 -- a payment, by whether the cells are left
 by_cells :
-    (P : Option Memory → Type 0) (cells : ℕ) (memory : Memory) → (memory.cells < cells → P None) → (cells ≤ memory.cells → P (Some (less cells memory)))
+    (P :
+    Option Memory → Type 0) (cells : ℕ) (memory : Memory) → (memory.cells < cells → P None) → (cells ≤ memory.cells
+    → P (Some (less cells memory)))
     → P (paid cells memory)
 by_cells P cells memory none some = by_test (nat_le cells memory.cells) refl
   where
@@ -56,7 +58,8 @@ abbrev MakesOf : Context → ℕ → List Object → List Value → Memory × Ef
 MakesOf c cells objects below made = MakesIf c cells objects below made.0 made.1
 
 push_arrays_makes :
-    (c : Context) (components : FieldTypeOf (List ℕ)) (counts : List ℕ) (cells : ℕ) (first : Object) (others : List Object) (below : List Value)
+    (c : Context) (components : FieldTypeOf (List ℕ)) (counts : List ℕ) (cells : ℕ) (first : Object) (others : List Object)
+    (below : List Value)
     → arrays_made components counts (next_object c.memory) ≡ first ∷ others
     → Leads (Memory × Effect) (MakesOf c cells (arrays_made components counts (next_object c.memory)) below)
     (push_arrays c components counts below (paid cells c.memory))
@@ -88,7 +91,8 @@ module _ (c : Context) (P : Memory × Effect → Type 0) (how : Option Use) (ind
 
       by_operand :
           (o : Option (List ℕ)) → class_operand (current_class (method_at c)) index ≡ o
-          → Leads (Memory × Effect) P (found OffsetFault o >>= λ text. unless_error c (resolve_class (world_at c) (site_at c) how text) next)
+          → Leads (Memory × Effect) P
+          (found OffsetFault o >>= λ text. unless_error c (resolve_class (world_at c) (site_at c) how text) next)
       by_operand None e = failing OffsetFault
       by_operand (Some text) e = by_resolution text e (resolve_class (world_at c) (site_at c) how text) refl
 
@@ -127,7 +131,9 @@ abbrev NewOf : Context → ℕ → Memory × Effect → Type 0
 NewOf c index made =
     ThrowsClassError c (Some New) index made.0 made.1 ⊎ (l : Loaded) × NamesClass c (Some New) index (ClassOf l) × ObjectOf c l made
 
-create_makes : (c : Context) (index : ℕ) (resolved : ResolvedClass) → NamesClass c (Some New) index resolved → Leads (Memory × Effect) (NewOf c index) (create c resolved)
+create_makes :
+    (c : Context) (index : ℕ) (resolved : ResolvedClass) → NamesClass c (Some New) index resolved
+    → Leads (Memory × Effect) (NewOf c index) (create c resolved)
 create_makes c index (ClassOf l) names =
     also (NewOf c index) (create c (ClassOf l)) (λ made h. inr (l, names, h)) (once_makes c l)
 create_makes c index (ArrayOf type) names = failing OffsetFault
@@ -248,7 +254,8 @@ resolved_leads c index dimensions some (ArrayOf type) names =
     bound_tested OffsetFault _ type
     (λ type. taken c.memory.objects (replicate dimensions types.Int) c.frame.stack >>= λ counts. make_arrays c (component type) counts.0 counts.1)
     (λ passed.
-    bound (taken c.memory.objects (replicate dimensions types.Int) c.frame.stack) (λ counts. make_arrays c (component type) counts.0 counts.1)
+    bound (taken c.memory.objects (replicate dimensions types.Int) c.frame.stack)
+    (λ counts. make_arrays c (component type) counts.0 counts.1)
     (multi_leads c index dimensions type names some))
 
 pub new_multi_array_makes : NewMultiArrayMakes

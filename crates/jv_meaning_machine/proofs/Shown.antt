@@ -43,7 +43,9 @@ module _ (one_content : OneContent) (one_verdict : OneJudgementOfFile) where
   one_list (bytes ∷ files) (x ∷ a) (y ∷ b) h k =
       ap (λ (f : FileContent). f ∷ a) (one_content bytes x y h.0 k.0) ∙ ap (λ (fs : List FileContent). y ∷ fs) (one_list files a b h.1 k.1)
 
-  same_items : (v w : List Verdict) → length v ≡ length w → ((k : ℕ) (a b : Verdict) → slice_get v k ≡ Some a → slice_get w k ≡ Some b → a ≡ b) → v ≡ w
+  same_items :
+      (v w : List Verdict) → length v ≡ length w → ((k : ℕ) (a b : Verdict) → slice_get v k ≡ Some a → slice_get w k ≡ Some b → a ≡ b)
+      → v ≡ w
   same_items [] [] e h = refl
   same_items [] (y ∷ w) e h = absurd (omega (arith, e))
   same_items (x ∷ v) [] e h = absurd (omega (arith, e))
@@ -58,7 +60,8 @@ module _ (one_content : OneContent) (one_verdict : OneJudgementOfFile) where
   same_option None (Some b) h k = k b refl
   same_option (Some a) p h k = sym (h a refl)
 
-  same_function : {A : Type 0} (R : List ℕ → A → Type 0) (f g : List ℕ → Option A) → ((bytes : List ℕ) (a : A) → (f bytes ≡ Some a) ↔ R bytes a)
+  same_function :
+      {A : Type 0} (R : List ℕ → A → Type 0) (f g : List ℕ → Option A) → ((bytes : List ℕ) (a : A) → (f bytes ≡ Some a) ↔ R bytes a)
       → ((bytes : List ℕ) (a : A) → (g bytes ≡ Some a) ↔ R bytes a) → f ≡ g
   same_function R f g h k =
       fun_ext (λ bytes. same_option (f bytes) (g bytes) (λ a e. (k bytes a).1 ((h bytes a).0 e)) (λ a e. (h bytes a).1 ((k bytes a).0 e)))
@@ -75,7 +78,8 @@ module _ (one_content : OneContent) (one_verdict : OneJudgementOfFile) where
       ∙ (ap (λ (n : List (List ℕ)). made other.program.world n one.program.instructions one.program.units one.verdicts) accepted
       ∙ (ap (λ (f : List ℕ → Option (List Instruction)). made other.program.world other.program.accepted f one.program.units one.verdicts) instructions
       ∙ (ap (λ (f : List ℕ → Option (List ℕ)). made other.program.world other.program.accepted other.program.instructions f one.verdicts) units
-      ∙ ap (λ (v : List Verdict). made other.program.world other.program.accepted other.program.instructions other.program.units v) verdicts)))
+      ∙ ap (λ (v : List Verdict). made other.program.world other.program.accepted other.program.instructions other.program.units v)
+      verdicts)))
     where
       contents : h.contents ≡ k.contents
       contents = one_list files h.contents k.contents h.held k.held
@@ -89,7 +93,8 @@ module _ (one_content : OneContent) (one_verdict : OneJudgementOfFile) where
           (subst (λ (c : List FileContent). IsVerdictOfFile system_classes c place b) (sym contents) (k.verdict place b there)))
 
       accepted : one.program.accepted ≡ other.program.accepted
-      accepted = h.accepted ∙ (ap (λ (c : List FileContent). accepted_names c one.verdicts) contents ∙ (ap (accepted_names k.contents) verdicts ∙ sym k.accepted))
+      accepted =
+          h.accepted ∙ (ap (λ (c : List FileContent). accepted_names c one.verdicts) contents ∙ (ap (accepted_names k.contents) verdicts ∙ sym k.accepted))
 
       instructions : one.program.instructions ≡ other.program.instructions
       instructions = same_function _ one.program.instructions other.program.instructions h.instructions k.instructions
@@ -119,7 +124,8 @@ no_fault (Err fault) s e f = absurd cc
 
 pub faults_show_nothing : OneJudged → FaultsShowNothing
 faults_show_nothing law g b feeds n o f h =
-    no_fault (alone f.judged g b feeds n) h.state (subst (λ (j : Judged). alone j g b feeds n ≡ Ok h.state) (law g.files h.judged f.judged h.right f.right) h.ran) f.fault
+    no_fault (alone f.judged g b feeds n) h.state
+    (subst (λ (j : Judged). alone j g b feeds n ≡ Ok h.state) (law g.files h.judged f.judged h.right f.right) h.ran) f.fault
 
 pub ended_shows_the_same : EndedShowsTheSame
 ended_shows_the_same g b feeds n more o h ended = record {
@@ -158,7 +164,8 @@ judged_by_verdicts files contents verdicts held count right = (
 )
 
 from_zero :
-    (judged : Judged) (g : GuestFiles) (b : Budget) (feeds : List Feed) (n : ℕ) → alone judged g b feeds n ≡ alone judged g b feeds (zero + n)
+    (judged :
+    Judged) (g : GuestFiles) (b : Budget) (feeds : List Feed) (n : ℕ) → alone judged g b feeds n ≡ alone judged g b feeds (zero + n)
 from_zero judged g b feeds n =
     let same : n ≡ zero + n = omega arith in
     ap (λ (k : ℕ). alone judged g b feeds k) same
@@ -230,7 +237,8 @@ written_more :
     → alone judged g b feeds (n + more) ≡ Ok t → BeginsWith t.memory.output s.memory.output
 written_more judged g b feeds n more s t e f =
     (later_keeps judged g b feeds (λ (u : State). BeginsWith u.memory.output s.memory.output)
-    (λ u v h k. begins_over s.memory.output u.memory.output v.memory.output h (step_kept judged.program u v k).memory.output) (λ bytes u h. h) n more s e
+    (λ u v h k. begins_over s.memory.output u.memory.output v.memory.output h (step_kept judged.program u v k).memory.output)
+    (λ bytes u h. h) n more s e
     (begins_same s.memory.output)).at
     t f
 

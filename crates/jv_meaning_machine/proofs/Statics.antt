@@ -58,7 +58,8 @@ in_class l (x ∷ fields) zero f e static =
   where
     by_test :
         (test : Bool) → test ≡ true → same_key (key_of (field_by l f)) (key_of (field_by l x)) ≡ true
-        → list_any (same_key (key_of (field_by l f))) (keys_in (map (entry_of l) (if test then x ∷ filter is_static_field fields else filter is_static_field fields)))
+        → list_any (same_key (key_of (field_by l f)))
+        (keys_in (map (entry_of l) (if test then x ∷ filter is_static_field fields else filter is_static_field fields)))
         ≡ true
     by_test true g h = or_left (same_key (key_of (field_by l f)) (key_of (field_by l x))) _ h
     by_test false g h = absurd (true≢false (sym g))
@@ -67,7 +68,8 @@ in_class l (x ∷ fields) (suc place) f e static = by_test (is_static_field x) (
     by_test :
         (test : Bool)
         → list_any (same_key (key_of (field_by l f))) (keys_in (map (entry_of l) (filter is_static_field fields))) ≡ true
-        → list_any (same_key (key_of (field_by l f))) (keys_in (map (entry_of l) (if test then x ∷ filter is_static_field fields else filter is_static_field fields)))
+        → list_any (same_key (key_of (field_by l f)))
+        (keys_in (map (entry_of l) (if test then x ∷ filter is_static_field fields else filter is_static_field fields)))
         ≡ true
     by_test true h = or_right (same_key (key_of (field_by l f)) (key_of (field_by l x))) _ h
     by_test false h = h

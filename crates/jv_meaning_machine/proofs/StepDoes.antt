@@ -22,13 +22,15 @@ step_acts program s memory effect h =
     ap (λ (frames : List Frame). step_in program s.memory frames s.control) h.frames
     ∙ ap
     (λ (o : Option Instruction).
-    found OffsetFault o >>= λ insn. execute (context program s.memory s.control h.frame insn) insn >>= act program h.frame h.below s.control)
+    found OffsetFault o >>= λ insn. execute (context program s.memory s.control h.frame insn) insn
+    >>= act program h.frame h.below s.control)
     h.stands
     ∙ ap (λ (o : OrFault (Memory × Effect)). o >>= act program h.frame h.below s.control) h.does
 
 pub step_goes_on : StepGoesOn
 step_goes_on program s next memory offset locals stack h e =
-    by_test (nat_le (words_of_values stack) h.frame.method.code.max_stack) refl (sym (step_acts program s memory (Goes offset locals stack) h) ∙ e)
+    by_test (nat_le (words_of_values stack) h.frame.method.code.max_stack) refl
+    (sym (step_acts program s memory (Goes offset locals stack) h) ∙ e)
   where
     by_test :
         (test : Bool) → nat_le (words_of_values stack) h.frame.method.code.max_stack ≡ test

@@ -48,7 +48,8 @@ module _ (c : Context) (P : Memory × Effect → Type 0) where
   once_leads l done begins h = by_state (is_ready (class_state c.states l)) refl
     where
       by_state :
-          (ready : Bool) → is_ready (class_state c.states l) ≡ ready → Leads (Memory × Effect) P (if ready then done else Ok (c.memory, Begins l))
+          (ready : Bool) → is_ready (class_state c.states l) ≡ ready
+          → Leads (Memory × Effect) P (if ready then done else Ok (c.memory, Begins l))
       by_state true e = h e
       by_state false e = leaf P _ (begins e)
 
@@ -163,7 +164,8 @@ put_on c reference d type e Half value below s = failing TagFault
 put_on c reference d type e Unset value below s = failing TagFault
 
 put_field_leads :
-    (c : Context) (reference : MemberReference) (d : DeclaredField) → Leads (Memory × Effect) (FieldPutOf c reference d) (put_field c reference d)
+    (c : Context) (reference : MemberReference) (d : DeclaredField)
+    → Leads (Memory × Effect) (FieldPutOf c reference d) (put_field c reference d)
 put_field_leads c reference d =
     let stored :
     (type : FieldTypeOf (List ℕ)) (top under : Value × List Value) → described d.field.descriptor ≡ Ok type
@@ -191,7 +193,9 @@ putfield_stores c index after effect e =
 abbrev NothingStored : Context → Memory × Effect → Type 0
 NothingStored c made = (made.0 ≡ c.memory) × (StoresToNull c made.1 ⊎ StoresOutside c made.1)
 
-abbrev to_null : (c : Context) (value : Value) (index : ℤ) (below : List Value) → c.frame.stack ≡ value ∷ Int index ∷ Null ∷ below → StoresToNull c (Raises null_pointer)
+abbrev to_null :
+    (c : Context) (value : Value) (index : ℤ) (below : List Value) → c.frame.stack ≡ value ∷ Int index ∷ Null ∷ below
+    → StoresToNull c (Raises null_pointer)
 to_null c value index below s = record { value = value; index = index; below = below; stack = s; throws = refl }
 
 -- an array that was taken, and the operands above it
@@ -256,7 +260,8 @@ store_at_leads c kind value index id below array (Some old) h passes f =
     leaf (NumberPut c kind) _ (inr (put_at c (holds_numbers kind) value old index id below array h passes f).0)
 
 store_number_leads :
-    (c : Context) (kind : NumberElement) (index : ℤ) (value under : Value) (below : List Value) → c.frame.stack ≡ value ∷ Int index ∷ under ∷ below
+    (c : Context) (kind : NumberElement) (index : ℤ) (value under : Value) (below : List Value)
+    → c.frame.stack ≡ value ∷ Int index ∷ under ∷ below
     → Leads (Memory × Effect) (NumberPut c kind) (store_number c kind index value under below)
 store_number_leads c kind index value (Int number) below s = failing TagFault
 store_number_leads c kind index value (Long number) below s = failing TagFault
@@ -266,7 +271,8 @@ store_number_leads c kind index value (Reference id) below s =
     (array : Components) → (object_at c.memory.objects id >>= array_in) ≡ Ok array → holds_numbers kind array.0 ≡ true
     → Leads (Memory × Effect) (NumberPut c kind) (store_at c id array index value below (at_place index array.1)) =
     λ array e passes.
-    store_at_leads c kind value index id below array (at_place index array.1) (record { stack = s; is = array_stands c.memory.objects id array e })
+    store_at_leads c kind value index id below array (at_place index array.1)
+    (record { stack = s; is = array_stands c.memory.objects id array e })
     passes refl in
     search (bound, bound_tested, stored)
 store_number_leads c kind index value Half below s = failing TagFault
@@ -299,7 +305,8 @@ ReferencePut c made =
     ⊎ (put : PutsComponent c holds_references made.0 made.1) × (can_stand c put.components put.value ≡ Ok true)
 
 stranger :
-    (c : Context) (value old : Value) (index : ℤ) (id : ℕ) (below : List Value) (array : Components) → ArrayTaken c value index id below array
+    (c : Context) (value old : Value) (index : ℤ) (id : ℕ) (below : List Value) (array : Components)
+    → ArrayTaken c value index id below array
     → at_place index array.1 ≡ Some old → can_stand c array.0 value ≡ Ok false → StoresStranger c (Raises array_store)
 stranger c value old (pos place) id below array h f g = record {
   value = value;

@@ -51,7 +51,8 @@ other_fields_stay key other value (entry ∷ more) differ =
 
 -- ---- a static field
 
-pub static_stores : (key : FieldKey) (value : Value) (memory : Memory) → StoresAt memory (with_static key value memory) (StaticField key) value
+pub static_stores :
+    (key : FieldKey) (value : Value) (memory : Memory) → StoresAt memory (with_static key value memory) (StaticField key) value
 static_stores key value memory = record {
   there = λ h. stored_is_there key value memory.statics h;
   others = elsewhere;
@@ -69,7 +70,9 @@ static_stores key value memory = record {
 
 -- what is seen of each object is as before, where that is so of the one that changed
 seen_of_each :
-    (f : Option Object → Option Value) (objects : List Object) (id : ℕ) (old object : Object) → slice_get objects id ≡ Some old → (number : ℕ)
+    (f :
+    Option Object
+    → Option Value) (objects : List Object) (id : ℕ) (old object : Object) → slice_get objects id ≡ Some old → (number : ℕ)
     → (number ≡ id → f (Some object) ≡ f (Some old)) → f (slice_get (slice_set objects id object) number) ≡ f (slice_get objects number)
 seen_of_each f objects id old object e number same = by_number (cases_eq number id)
   where
@@ -85,7 +88,8 @@ seen_of_each f objects id old object e number same = by_number (cases_eq number 
 -- ---- a field of an object
 
 pub field_stores :
-    (memory : Memory) (id : ℕ) (instance : Instance) (key : FieldKey) (value : Value) → slice_get memory.objects id ≡ Some (InstanceOf instance)
+    (memory :
+    Memory) (id : ℕ) (instance : Instance) (key : FieldKey) (value : Value) → slice_get memory.objects id ≡ Some (InstanceOf instance)
     → StoresAt memory (with_object id (with_field_value key value instance) memory) (FieldOf id key) value
 field_stores memory id instance key value e = record {
   there = λ h.
@@ -100,7 +104,9 @@ field_stores memory id instance key value e = record {
 }
   where
     elsewhere :
-        (other : Location) → (other ≡ FieldOf id key → ⊥) → held_at (with_object id (with_field_value key value instance) memory) other ≡ held_at memory other
+        (other :
+        Location) → (other ≡ FieldOf id key
+        → ⊥) → held_at (with_object id (with_field_value key value instance) memory) other ≡ held_at memory other
     elsewhere (FieldOf object other) differ =
         seen_of_each (field_of_object other) memory.objects id (InstanceOf instance) (with_field_value key value instance) e object
         (λ is. other_fields_stay key other value instance.fields (λ f. differ (ap (λ (n : ℕ). FieldOf n other) is ∙ ap (λ (k : FieldKey). FieldOf id k) f)))
@@ -114,7 +120,8 @@ abbrev array_with : Components → ℕ → Value → Object
 array_with array place value = ArrayWith array.0 (slice_set array.1 place (narrowed array.0 value))
 
 pub component_stores :
-    (memory : Memory) (id : ℕ) (array : Components) (place : ℕ) (value old : Value) → slice_get memory.objects id ≡ Some (ArrayWith array.0 array.1)
+    (memory : Memory) (id : ℕ) (array : Components) (place : ℕ) (value old : Value)
+    → slice_get memory.objects id ≡ Some (ArrayWith array.0 array.1)
     → slice_get array.1 place ≡ Some old
     → StoresAt memory (with_component_stored id array place value memory) (ComponentOf id place) (narrowed array.0 value)
 component_stores memory id array place value old e here = record {
@@ -130,9 +137,12 @@ component_stores memory id array place value old e here = record {
 }
   where
     elsewhere :
-        (other : Location) → (other ≡ ComponentOf id place → ⊥) → held_at (with_component_stored id array place value memory) other ≡ held_at memory other
+        (other :
+        Location) → (other ≡ ComponentOf id place
+        → ⊥) → held_at (with_component_stored id array place value memory) other ≡ held_at memory other
     elsewhere (FieldOf object key) differ =
-        seen_of_each (field_of_object key) memory.objects id (ArrayWith array.0 array.1) (array_with array place value) e object (λ is. refl)
+        seen_of_each (field_of_object key) memory.objects id (ArrayWith array.0 array.1) (array_with array place value) e object
+        (λ is. refl)
     elsewhere (ComponentOf number other) differ =
         seen_of_each (component_in other) memory.objects id (ArrayWith array.0 array.1) (array_with array place value) e number
         (λ is.

@@ -20,17 +20,20 @@ popped_gave : (stack : List Value) (top : Value × List Value) → popped stack 
 popped_gave [] top e = absurd cc
 popped_gave (value ∷ below) top e = same_items (value, below) top (Ok (value, below)) refl e
 
-pub popped_as_gave : (type : FrameType) (stack : List Value) (top : Value × List Value) → popped_as type stack ≡ Ok top → stack ≡ top.0 ∷ top.1
+pub popped_as_gave :
+    (type : FrameType) (stack : List Value) (top : Value × List Value) → popped_as type stack ≡ Ok top → stack ≡ top.0 ∷ top.1
 popped_as_gave type stack top e =
     let parts = bound_gave (popped stack) (λ (p : Value × List Value). tested TagFault (has_type type p.0) p) top e in
-    popped_gave stack parts.0 parts.1 ∙ ap (λ (p : Value × List Value). p.0 ∷ p.1) (tested_gave TagFault (has_type type parts.0.0) parts.0 top parts.2).1
+    popped_gave stack parts.0 parts.1
+    ∙ ap (λ (p : Value × List Value). p.0 ∷ p.1) (tested_gave TagFault (has_type type parts.0.0) parts.0 top parts.2).1
 
 usable_gave : (objects : List Object) (value same : Value) → usable_value objects value ≡ Ok same → value ≡ same
 usable_gave objects (Int number) same e = cc
 usable_gave objects (Long number) same e = cc
 usable_gave objects Null same e = cc
 usable_gave objects (Reference id) same e =
-    let parts = bound_gave (object_at objects id) (λ (object : Object). tested ConstructionFault (is_constructed object) (Reference id)) same e in
+    let parts =
+    bound_gave (object_at objects id) (λ (object : Object). tested ConstructionFault (is_constructed object) (Reference id)) same e in
     (tested_gave ConstructionFault (is_constructed parts.0) (Reference id) same parts.2).1
 usable_gave objects Half same e = cc
 usable_gave objects Unset same e = cc
@@ -62,7 +65,8 @@ pub record IsOne (stack : List Value) (operands : List Value × List Value) : Ty
   pub stood : stack ≡ first ∷ operands.1
 
 pub one_taken :
-    (objects : List Object) (type : FrameType) (stack : List Value) → Leads (List Value × List Value) (IsOne stack) (taken objects (type ∷ []) stack)
+    (objects : List Object) (type : FrameType) (stack : List Value)
+    → Leads (List Value × List Value) (IsOne stack) (taken objects (type ∷ []) stack)
 one_taken objects type stack =
     bound (taken_as objects type stack) (λ top. Ok (top.0 ∷ [], top.1))
     (λ top e. leaf (IsOne stack) (top.0 ∷ [], top.1) (record { first = top.0; is = refl; stood = taken_gave objects type stack top e }))
@@ -79,12 +83,15 @@ count_before objects values [] stack operands e =
 count_before objects values (type ∷ more) stack operands e =
     let parts =
     bound_gave (taken_as objects type stack) (λ (top : Value × List Value). taken_before objects (top.0 ∷ values) more top.1) operands e in
-    let rest : length operands.0 ≡ length (parts.0.0 ∷ values) + length more = count_before objects (parts.0.0 ∷ values) more parts.0.1 operands parts.2 in
+    let rest : length operands.0 ≡ length (parts.0.0 ∷ values) + length more =
+    count_before objects (parts.0.0 ∷ values) more parts.0.1 operands parts.2 in
     omega (arith, rest)
 
 pub taken_count :
-    (objects : List Object) (types : List FrameType) (stack : List Value) (operands : List Value × List Value) → taken objects types stack ≡ Ok operands
+    (objects : List Object) (types : List FrameType) (stack : List Value) (operands : List Value × List Value)
+    → taken objects types stack ≡ Ok operands
     → length operands.0 ≡ length types
 taken_count objects types stack operands e =
-    let known : length operands.0 ≡ length {A = Value} [] + length (reverse types) = count_before objects [] (reverse types) stack operands e in
+    let known : length operands.0 ≡ length {A = Value} [] + length (reverse types) =
+    count_before objects [] (reverse types) stack operands e in
     omega (arith, known, length-reverse {A = FrameType})

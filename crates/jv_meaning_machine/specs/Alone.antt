@@ -76,11 +76,6 @@ fed bytes s = record s { memory = record s.memory { input = s.memory.input ++ by
 
 -- ---- the run
 
--- so many steps from a state, the last one outermost, while nothing comes
-abbrev pub after_steps : Program → ℕ → State → OrFault State
-after_steps program zero s = Ok s
-after_steps program (suc n) s = after_steps program n s >>= step program
-
 -- The state of a guest whose files were judged, after so many of its own steps, and after what came then: it waits for the next
 -- step. What comes before the first step joins at the start.
 abbrev pub alone : Judged → GuestFiles → Budget → List Feed → ℕ → OrFault State

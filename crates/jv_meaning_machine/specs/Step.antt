@@ -1,5 +1,5 @@
 -- A step (JVMS 2.11; own): one instruction of the current method, or one task of an initialization. A state that has ended stays.
-use Rattle.std.specs.Prelude.{List, [], ◌∷◌, Ok}
+use Rattle.std.specs.Prelude.{ℕ, zero, suc, List, [], ◌∷◌, Ok}
 use Rattle.jv_code.specs.Insns.{Instruction}
 use Rattle.jv_meaning_typing.specs.Environment.{instruction_at, offset_behind}
 use Rattle.jv_meaning_machine.specs.Faults.{OrFault, found, ◌>>=◌}
@@ -53,3 +53,8 @@ step_in program memory (Initializes frame ∷ below) control = initialization_st
 
 abbrev pub step : Program → State → OrFault State
 step program s = step_in program s.memory s.frames s.control
+
+-- so many steps from a state, the last one outermost
+abbrev pub after_steps : Program → ℕ → State → OrFault State
+after_steps program zero s = Ok s
+after_steps program (suc n) s = after_steps program n s >>= step program

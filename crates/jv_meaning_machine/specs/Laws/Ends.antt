@@ -2,9 +2,9 @@
 use Rattle.std.specs.Prelude.{◌≡◌, ◌↔◌, ℕ, ◌+◌, List, [], Ok}
 use Rattle.jv_meaning_machine.specs.State.{Program, State}
 use Rattle.jv_meaning_machine.specs.State.End.{Running}
-use Rattle.jv_meaning_machine.specs.Step.{step}
+use Rattle.jv_meaning_machine.specs.Step.{step, after_steps}
 use Rattle.jv_meaning_machine.specs.Start.{Budget}
-use Rattle.jv_meaning_machine.specs.Alone.{GuestFiles, Judged, IsJudged, Feed, fed, after_steps, alone}
+use Rattle.jv_meaning_machine.specs.Alone.{GuestFiles, Judged, IsJudged, Feed, fed, alone}
 use Rattle.jv_meaning_machine.specs.Laws.Feeds.{came_behind}
 
 -- A state without frames, in which a guest has ended, stays.

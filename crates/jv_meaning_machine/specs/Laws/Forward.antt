@@ -4,7 +4,8 @@ use Rattle.jv_loader_world.specs.World.{Loaded}
 use Rattle.jv_meaning_machine.specs.State.{Program, State, class_state}
 use Rattle.jv_meaning_machine.specs.State.ClassState.{Initialized, Erroneous}
 use Rattle.jv_meaning_machine.specs.Start.{Budget}
-use Rattle.jv_meaning_machine.specs.Alone.{GuestFiles, Judged, IsJudged, Feed, after_steps, alone}
+use Rattle.jv_meaning_machine.specs.Step.{after_steps}
+use Rattle.jv_meaning_machine.specs.Alone.{GuestFiles, Judged, IsJudged, Feed, alone}
 use Rattle.jv_meaning_machine.specs.Laws.Kept.{StayConstructed}
 
 -- a state of a guest alone, and a later one
@@ -18,14 +19,16 @@ pub record IsLater (judged : Judged) (g : GuestFiles) (b : Budget) (feeds : List
 -- A class that is initialized stays so (JVMS 5.5).
 abbrev pub InitializedStays : Type 0
 InitializedStays =
-    (judged : Judged) (g : GuestFiles) (b : Budget) (feeds : List Feed) (before later : State) (l : Loaded) → IsLater judged g b feeds before later
-    → class_state before.control.states l ≡ Initialized → class_state later.control.states l ≡ Initialized
+    (judged : Judged) (g : GuestFiles) (b : Budget) (feeds : List Feed) (before later : State) (l : Loaded)
+    → IsLater judged g b feeds before later → class_state before.control.states l ≡ Initialized
+    → class_state later.control.states l ≡ Initialized
 
 -- And one that is erroneous stays so.
 abbrev pub ErroneousStays : Type 0
 ErroneousStays =
-    (judged : Judged) (g : GuestFiles) (b : Budget) (feeds : List Feed) (before later : State) (l : Loaded) → IsLater judged g b feeds before later
-    → class_state before.control.states l ≡ Erroneous → class_state later.control.states l ≡ Erroneous
+    (judged : Judged) (g : GuestFiles) (b : Budget) (feeds : List Feed) (before later : State) (l : Loaded)
+    → IsLater judged g b feeds before later → class_state before.control.states l ≡ Erroneous
+    → class_state later.control.states l ≡ Erroneous
 
 -- Throws are never fewer, and their count stays within 64 bits.
 abbrev pub ThrowsNeverFall : Type 0

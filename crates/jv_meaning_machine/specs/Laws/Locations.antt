@@ -1,4 +1,5 @@
--- Where values are held (JVMS 2.5.3, 2.7): fields of objects, components of arrays and static fields; and what a store to one of them changes.
+-- Where values are held (JVMS 2.5.3, 2.7): fields of objects, components of arrays and static fields; and what a store to one
+-- of them changes.
 use Rattle.std.specs.Prelude.{◌≡◌, ℕ, [], map, Option, Some, None, IsSome, slice_get}
 use Rattle.jv_meaning_machine.specs.Values.{Value}
 use Rattle.jv_meaning_machine.specs.Objects.{FieldKey, Object, value_at}

@@ -121,11 +121,12 @@ pub record CountsOneBelowZero (c : Context) (counts : List Value) (after : Memor
   pub same : after ≡ c.memory
   pub throws : effect ≡ Raises negative_size
 
-pub record MakesArrays (c : Context) (components : FieldTypeOf (List ℕ)) (counts below : List Value) (after : Memory) (effect : Effect) : Type 0 where
+pub record MakesArrays
+    (c : Context) (components : FieldTypeOf (List ℕ)) (counts below : List Value) (after : Memory) (effect : Effect) : Type 0 where
   pub not_negative : list_any is_negative_count counts ≡ false
   pub makes :
-      MakesIf c (arrays_cells components (map count_of counts)) (arrays_made components (map count_of counts) (length c.memory.objects)) below after
-      effect
+      MakesIf c (arrays_cells components (map count_of counts))
+      (arrays_made components (map count_of counts) (length c.memory.objects)) below after effect
 
 pub record TakesCounts (c : Context) (dimensions : ℕ) (counts below : List Value) : Type 0 where
   pub takes : taken c.memory.objects (replicate dimensions types.Int) c.frame.stack ≡ Ok (counts, below)
@@ -184,7 +185,8 @@ pub record PushesNumber (c : Context) (constant : InitialValue) (after : Memory)
 
 abbrev pub ConstantPushes : Type 0
 ConstantPushes =
-    (c : Context) (index : ℕ) (form : IndexForm) (after : Memory) (effect : Effect) → execute c (insns.PoolConstant index form) ≡ Ok (after, effect)
+    (c : Context) (index : ℕ) (form : IndexForm) (after : Memory) (effect : Effect)
+    → execute c (insns.PoolConstant index form) ≡ Ok (after, effect)
     → (constant : InitialValue) × (pushed_constant (pool_at c) (at_index (pool_at c) index) ≡ Ok constant)
     × (PushesNumber c constant after effect
     ⊎ (text : List ℕ) × (constant ≡ StringValue text)

@@ -14,8 +14,8 @@ use Rattle.jv_meaning_machine.specs.Laws.Locations.{held_at}
 use Rattle.jv_meaning_machine.specs.Laws.Locations.Location.{StaticField}
 use Rattle.jv_meaning_machine.specs.State.{Program, State}
 use Rattle.jv_meaning_machine.specs.Start.{Budget, start_cells}
-use Rattle.jv_meaning_machine.specs.Step.{step}
-use Rattle.jv_meaning_machine.specs.Alone.{GuestFiles, Judged, IsJudged, Feed, came_at, fed, after_steps, alone}
+use Rattle.jv_meaning_machine.specs.Step.{step, after_steps}
+use Rattle.jv_meaning_machine.specs.Alone.{GuestFiles, Judged, IsJudged, Feed, came_at, fed, alone}
 use Rattle.jv_meaning_machine.specs.Laws.Shapes.{keys_in, shape_of, used_cells, used_words, first_cells}
 use Rattle.jv_meaning_machine.specs.Laws.Feeds.{NothingComes}
 use Rattle.jv_meaning_machine.specs.Laws.Kept.{BeginsWith, KeepsState}
@@ -28,12 +28,15 @@ StepKeeps = (program : Program) (before later : State) → step program before �
 
 -- And over any number of steps.
 abbrev pub RunKeeps : Type 0
-RunKeeps = (program : Program) (n : ℕ) (before later : State) → after_steps program n before ≡ Ok later → KeepsState program.world before later
+RunKeeps =
+    (program : Program) (n : ℕ) (before later : State) → after_steps program n before ≡ Ok later
+    → KeepsState program.world before later
 
 -- What was written stands at the front of all that is written later.
 abbrev pub OutputGrows : Type 0
 OutputGrows =
-    (program : Program) (n : ℕ) (before later : State) → after_steps program n before ≡ Ok later → BeginsWith later.memory.output before.memory.output
+    (program : Program) (n : ℕ) (before later : State) → after_steps program n before ≡ Ok later
+    → BeginsWith later.memory.output before.memory.output
 
 -- An object keeps its number, its class and which fields it has, an array the type of its components and their count.
 abbrev pub ObjectsStay : Type 0
@@ -89,8 +92,9 @@ CellsAreBudgeted =
 -- Each static field of each class of its world is there, always.
 abbrev pub StaticsAreThere : Type 0
 StaticsAreThere =
-    (judged : Judged) (g : GuestFiles) (b : Budget) (feeds : List Feed) (n : ℕ) (s : State) → alone judged g b feeds n ≡ Ok s → (place : ℕ) (l : Loaded)
-    → slice_get judged.program.world place ≡ Some l → (field : ℕ) (f : Field) → slice_get l.class.fields field ≡ Some f
+    (judged : Judged) (g : GuestFiles) (b : Budget) (feeds : List Feed) (n : ℕ) (s : State) → alone judged g b feeds n ≡ Ok s
+    → (place : ℕ) (l : Loaded) → slice_get judged.program.world place ≡ Some l → (field : ℕ) (f : Field)
+    → slice_get l.class.fields field ≡ Some f
     → is_static_field f ≡ true → IsSome (held_at s.memory (StaticField (key_of (field_by l f))))
 
 -- An object has the fields of its class's layout, which is one of its world, always.

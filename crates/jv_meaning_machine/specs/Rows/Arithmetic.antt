@@ -1,4 +1,4 @@
--- Worked rows: each instruction that computes, with the operands at which it can go wrong, computed.
+-- Worked rows (JVMS 6.5, iadd to lcmp): each instruction that computes, with the operands at which it can go wrong, computed.
 use Rattle.std.specs.Prelude.{◌≡◌, List, [], ◌∷◌, ◌++◌, Err, codes}
 use Rattle.jv_code.specs.declared.insn.Insn.TheVariants as insns
 use Rattle.jv_code.specs.declared.kinds.ArithmeticOperator.{ArithmeticOperator}

@@ -1,4 +1,4 @@
--- Worked rows: each instruction on arrays, with what it throws and in which order, computed.
+-- Worked rows (JVMS 6.5, iaload to multianewarray): each instruction on arrays, with what it throws and in which order, computed.
 use Rattle.std.specs.Prelude.{◌≡◌, ℕ, List, [], ◌∷◌, Ok, Err, codes}
 use Rattle.jv_text.specs.declared.descriptor.Base.{Base}
 use Rattle.jv_text.specs.declared.descriptor.Base.TheVariants as bases
@@ -122,10 +122,12 @@ pub record ArrayStoreRows : Type 0 where
       effect (with_objects (array bases.Int (int 0 ∷ []) ∷ []) (int 7 ∷ Reference 0 ∷ int 0 ∷ int 1 ∷ [])) (insns.ArrayStore numbers.Int)
       ≡ follows 1 [] (int 7 ∷ [])
   pub null_goes_on :
-      effect (with_objects (array_of string_name (Reference 0 ∷ []) ∷ []) (int 7 ∷ Reference 0 ∷ int 0 ∷ Null ∷ [])) insns.ReferenceArrayStore
+      effect (with_objects (array_of string_name (Reference 0 ∷ []) ∷ []) (int 7 ∷ Reference 0 ∷ int 0 ∷ Null ∷ []))
+      insns.ReferenceArrayStore
       ≡ follows 1 [] (int 7 ∷ [])
   pub null_over_reference :
-      objects_behind (with_objects (array_of object_name (Reference 0 ∷ []) ∷ []) (Reference 0 ∷ int 0 ∷ Null ∷ [])) insns.ReferenceArrayStore
+      objects_behind (with_objects (array_of object_name (Reference 0 ∷ []) ∷ []) (Reference 0 ∷ int 0 ∷ Null ∷ []))
+      insns.ReferenceArrayStore
       ≡ Ok (array_of object_name (Null ∷ []) ∷ [])
   -- null, then the index, then what is stored
   pub null : on_null (insns.ArrayStore numbers.Int) (int_minus 1 ∷ int 0 ∷ []) ≡ null_pointer

@@ -1,4 +1,4 @@
--- Worked rows: checkcast and instanceof, over classes, interfaces and arrays, computed.
+-- Worked rows (JVMS 6.5): checkcast and instanceof, over classes, interfaces and arrays, computed.
 use Rattle.std.specs.Prelude.{◌≡◌, ℕ, Bool, true, false, List, [], ◌∷◌, Some, None, Err, codes}
 use Rattle.jv_text.specs.declared.descriptor.Base.{Base}
 use Rattle.jv_text.specs.declared.descriptor.Base.TheVariants as bases

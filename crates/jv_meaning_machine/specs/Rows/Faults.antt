@@ -1,4 +1,4 @@
--- Worked rows: for each fault the smallest programs that meet it, none of which can be verified.
+-- Worked rows (JVMS 4.9.2): for each fault the smallest programs that meet it, none of which can be verified.
 use Rattle.std.specs.Prelude.{◌≡◌, ℕ, List, [], ◌∷◌, Err, codes}
 use Rattle.jv_code.specs.declared.insn.Insn.TheVariants as insns
 use Rattle.jv_code.specs.declared.kinds.Computation.TheVariants as compute

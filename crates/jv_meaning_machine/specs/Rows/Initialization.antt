@@ -1,4 +1,4 @@
--- Worked rows: initialization of classes, and string literals, computed.
+-- Worked rows (JVMS 5.1, 5.5): initialization of classes, and string literals, computed.
 use Rattle.std.specs.Prelude.{◌≡◌, ℕ, List, [], ◌∷◌, replicate, Some, None, pos, codes}
 use Rattle.jv_code.specs.Insns.{Instruction}
 use Rattle.jv_loader_world.specs.of_class.Class.{Class, Method}

@@ -1,4 +1,4 @@
--- One instruction alone, for worked rows: what it does in a frame of a class Main, at offset 20 of its method.
+-- One instruction alone, for worked rows (JVMS 6.5): what it does in a frame of a class Main, at offset 20 of its method.
 use Rattle.std.specs.Prelude.{ℕ, ◌+◌, ◌-ℤ◌, pos, false, List, [], ◌∷◌, reverse, Some, None, Ok}
 use Rattle.jv_code.specs.Insns.{Instruction}
 use Rattle.jv_loader_world.specs.of_pool.Constants.{Entry}

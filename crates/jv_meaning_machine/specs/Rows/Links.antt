@@ -1,4 +1,4 @@
--- Worked rows: each error of linking by the instruction that meets it, and what comes before what, computed.
+-- Worked rows (JVMS 5.4, 6.5): each error of linking by the instruction that meets it, and what comes before what, computed.
 use Rattle.std.specs.Prelude.{◌≡◌, ℕ, false, List, [], ◌∷◌, Option, Some, None, Ok, Err, codes}
 use Rattle.jv_code.specs.declared.insn.Insn.TheVariants as insns
 use Rattle.jv_code.specs.declared.kinds.FieldAccess.{FieldAccess}

@@ -1,4 +1,4 @@
--- Worked rows: what small classes do, computed.
+-- Worked rows (JVMS 2, 6.5): what small classes do, computed.
 use Rattle.std.specs.Prelude.{◌≡◌, ℕ, List, [], ◌∷◌, Some, None, codes}
 use Rattle.jv_code.specs.declared.insn.Insn.TheVariants as insns
 use Rattle.jv_code.specs.declared.kinds.LocalForm.TheVariants as local
@@ -50,7 +50,9 @@ pub record OutputRows : Type 0 where
   pub read_goes_on : run 2 (bipush 72 ∷ invokestatic 10 ∷ pop ∷ invokestatic 6 ∷ return ∷ []) 6 ≡ returned 6 (codes "H")
   pub write_goes_on : run 2 (bipush 72 ∷ bipush 105 ∷ invokestatic 6 ∷ invokestatic 6 ∷ return ∷ []) 6 ≡ returned 6 (codes "iH")
   -- a local variable is there in the next steps, and null is one word
-  pub stored : run 1 (bipush 72 ∷ insns.Store word_kinds.Int 0 local.Opcode ∷ iload 0 ∷ invokestatic 6 ∷ return ∷ []) 6 ≡ returned 6 (codes "H")
+  pub stored :
+      run 1 (bipush 72 ∷ insns.Store word_kinds.Int 0 local.Opcode ∷ iload 0 ∷ invokestatic 6 ∷ return ∷ []) 6
+      ≡ returned 6 (codes "H")
   pub null_is_one_word : run 1 (insns.NullConstant ∷ pop ∷ return ∷ []) 4 ≡ returned 4 []
   pub no_main : run_main (codes "Ho") [] 64 hi 0 ≡ shown 0 [] 0 None NoMain
   pub unverified_main : run_with unverified main_name [] 64 0 ≡ threw 0 (codes "VerifyError")

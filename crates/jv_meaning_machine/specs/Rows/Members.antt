@@ -1,4 +1,4 @@
--- Worked rows: constants that are pushed, what fields hold, and how values are passed and returned, computed.
+-- Worked rows (JVMS 2.6, 6.5): constants that are pushed, what fields hold, and how values are passed and returned, computed.
 use Rattle.std.specs.Prelude.{◌≡◌, ℕ, true, false, List, [], ◌∷◌, None, Ok, Err, pos, codes}
 use Rattle.jv_text.specs.declared.descriptor.Base.TheVariants as bases
 use Rattle.jv_code.specs.declared.insn.Insn.TheVariants as insns
@@ -164,7 +164,8 @@ pub record FieldRows : Type 0 where
       (insns.Field access.PutField 6)
       ≡ follows 3 [] (int 7 ∷ [])
   pub put_static_goes_on :
-      effect (setting 9 (codes "B") (codes "I") [] (statics (codes "I") (int 1) (int 2)) (int 7 ∷ int 5 ∷ [])) (insns.Field access.PutStatic 6)
+      effect (setting 9 (codes "B") (codes "I") [] (statics (codes "I") (int 1) (int 2)) (int 7 ∷ int 5 ∷ []))
+      (insns.Field access.PutStatic 6)
       ≡ follows 3 [] (int 7 ∷ [])
   -- static fields that aren't there
   pub get_no_static : effect (setting 9 (codes "B") (codes "I") [] [] []) (insns.Field access.GetStatic 6) ≡ Err OffsetFault

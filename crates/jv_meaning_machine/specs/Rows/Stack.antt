@@ -1,4 +1,4 @@
--- Worked rows: forms of the stack, local variables, branches and switches, computed.
+-- Worked rows (JVMS 2.6, 6.5): forms of the stack, local variables, branches and switches, computed.
 use Rattle.std.specs.Prelude.{◌≡◌, ℕ, ℤ, pos, negsuc, List, [], ◌∷◌, Ok, Err}
 use Rattle.std.specs.List.{flat_map}
 use Rattle.jv_code.specs.declared.insn.Insn.TheVariants as insns

@@ -1,4 +1,5 @@
--- Worked rows: handlers, throws that pass calls and initializations, and what is constructed in which order, computed.
+-- Worked rows (JVMS 2.9, 2.10, 5.5): handlers, throws that pass calls and initializations, and what is constructed in which
+-- order, computed.
 use Rattle.std.specs.Prelude.{◌≡◌, ℕ, ◌-◌, ◌^◌, List, [], ◌∷◌, replicate, Some, None, Err, pos, codes}
 use Rattle.jv_format.specs.declared.handlers.Handler.{Handler}
 use Rattle.jv_code.specs.declared.insn.Insn.TheVariants as insns
@@ -236,7 +237,8 @@ constructs_S init n =
     (only_main [] 2 [] make_S
     ∷ class_with (codes "S") (codes "P") [] (instance_int (codes "x") ∷ [])
     (method 1 (codes "<init>") (codes "()V") (code 2 1 [] init) ∷ [])
-    ∷ class_with (codes "P") object_name [] (instance_int (codes "x") ∷ []) (method 1 (codes "<init>") (codes "()V") (code 1 1 [] construct_P) ∷ []) ∷ [])
+    ∷ class_with (codes "P") object_name [] (instance_int (codes "x") ∷ [])
+    (method 1 (codes "<init>") (codes "()V") (code 1 1 [] construct_P) ∷ []) ∷ [])
     (make_S ∷ init ∷ construct_P ∷ (return ∷ []) ∷ []))
     main_name [] 64 n
 
