@@ -33,6 +33,10 @@ run_main name input output instructions n =
 abbrev pub reads : List Instruction
 reads = invokestatic 10 ∷ invokestatic 6 ∷ invokestatic 10 ∷ invokestatic 6 ∷ return ∷ []
 
+-- a byte is read above another one, which is written
+abbrev pub reads_over : List Instruction
+reads_over = bipush 72 ∷ invokestatic 10 ∷ pop ∷ invokestatic 6 ∷ return ∷ []
+
 abbrev pub unverified : Program
 unverified = record (program_of (only_main (codes "ab") 1 [] hi ∷ []) (hi ∷ [])) { accepted = [] }
 
@@ -47,7 +51,9 @@ pub record OutputRows : Type 0 where
   -- -1 where the input has ended
   pub input_ends : run_main main_name (codes "A") 64 reads 6 ≡ returned 6 (65 ∷ 255 ∷ [])
   -- what stands below the operands stays
-  pub read_goes_on : run 2 (bipush 72 ∷ invokestatic 10 ∷ pop ∷ invokestatic 6 ∷ return ∷ []) 6 ≡ returned 6 (codes "H")
+  pub read_goes_on : run 2 reads_over 6 ≡ returned 6 (codes "H")
+  pub byte_goes_on :
+      run_with (program_of (only_main [] 2 [] reads_over ∷ []) (reads_over ∷ [])) main_name (codes "A") 64 6 ≡ returned 6 (codes "H")
   pub write_goes_on : run 2 (bipush 72 ∷ bipush 105 ∷ invokestatic 6 ∷ invokestatic 6 ∷ return ∷ []) 6 ≡ returned 6 (codes "iH")
   -- a local variable is there in the next steps, and null is one word
   pub stored :
