@@ -9,7 +9,7 @@ mod KeptCalls
 mod KeptInstructions
 mod KeptControl
 mod KeptSteps
-mod Fed
+pub mod Fed
 mod KeptAlone
 mod Statics
 mod Going

@@ -34,7 +34,7 @@ use Rattle.jv_meaning_machine.specs.Arithmetic.{one, none, as_int}
 use Rattle.jv_meaning_machine.specs.Fields.{instance_in}
 
 -- ---- host/Io, whose methods are built in (own): `write(int)` appends the low eight bits, `read()` gives the next byte of the
--- input, or -1 where none is left
+-- input that waits, or -1 where none waits
 
 abbrev pub is_built_in : Declared → Bool
 is_built_in d = d.by.by_system && bytes_eq d.by.class.name (codes "host/Io")

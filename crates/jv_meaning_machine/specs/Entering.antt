@@ -19,9 +19,9 @@ use Rattle.jv_meaning_machine.specs.Costs.{code_words, method_words, given_words
 use Rattle.jv_meaning_machine.specs.Fields.{with_object}
 use Rattle.jv_meaning_machine.specs.Throws.{raise}
 
--- ---- words: where so many are left they are given, and else a StackOverflowError is thrown, and nothing else has changed
--- (2.5.2)
+-- ---- words (2.5.2)
 
+-- where so many are left they are given, and else a StackOverflowError is thrown, and nothing else has changed
 abbrev pub within_words : World → Memory → List Frame → Control → ℕ → (Control → OrFault State) → OrFault State
 within_words world memory frames control words next = elim (given_words words control) [
   | None ↦ raise world memory frames control (codes "java/lang/StackOverflowError")
@@ -35,10 +35,12 @@ abbrev pub passed_values : Option ℕ → List Value → List Value
 passed_values None arguments = arguments
 passed_values (Some receiver) arguments = Reference receiver ∷ arguments
 
+-- at its first instruction, with these local variables and this stack
 abbrev pub entered_frame : Environment → Option ℕ → List Value → List Value → MethodFrame
 entered_frame method receiver locals stack =
     record { method = method; receiver = receiver; offset = 0; locals = locals; stack = stack }
 
+-- the arguments stand in the first local variables
 abbrev pub method_frame : Program → Declared → Option ℕ → List Value → OrFault MethodFrame
 method_frame program d receiver arguments =
     entered_method program d >>= λ method.
@@ -50,6 +52,7 @@ abbrev pub entered_above : Program → List Frame → Declared → Option ℕ �
 entered_above program frames d receiver arguments memory given =
     method_frame program d receiver arguments >>= λ frame. Ok (state_of memory (Runs frame ∷ frames) given)
 
+-- a method is entered above the frames, on its receiver, if it has one
 abbrev pub enter : Program → Memory → List Frame → Control → Declared → Option ℕ → List Value → OrFault State
 enter program memory frames control d receiver arguments =
     found OffsetFault d.method.code >>= λ code.
@@ -63,6 +66,7 @@ entered_on d instance =
       constructed = bytes_eq d.by.class.name (codes "java/lang/Object");
     })
 
+-- an `<init>` is, on an object, which is this one so far
 abbrev pub enter_init : Program → Memory → List Frame → Control → Declared → ℕ → Instance → List Value → OrFault State
 enter_init program memory frames control d object instance arguments =
     found OffsetFault d.method.code >>= λ code.

@@ -51,9 +51,9 @@ is_verified program l = is_class_accepted program l && list_all (is_class_accept
 abbrev pub initialization_of : World → Loaded → InitializationFrame
 initialization_of world l = record { class = l; tasks = tasks_of world l }
 
--- Nothing is done for a class that is being initialized, by the guest's one thread, or is initialized; one that is erroneous
--- can't be found any more. Any other one is verified first (5.4), and then marked, and its tasks stand above the frames. What is
--- thrown here changes no class.
+-- By the class's state (5.5, steps 3 to 6): where it is being initialized, by the guest's one thread, or is initialized, nothing
+-- is done, and where it is erroneous a NoClassDefFoundError is thrown. Else it is verified (5.4.1), and then marked, and its tasks
+-- stand above the frames. What is thrown here changes no class.
 abbrev pub begin : Program → Memory → List Frame → Control → Loaded → OrFault State
 begin program memory frames control l = elim (class_state control.states l) [
   | Begun ↦ Ok (state_of memory frames control)
