@@ -1,6 +1,6 @@
 -- What holds over throws, calls, returns and initializations: frames go exactly where the guest ends, and whatever each change
 -- of the frames, of the classes' states and of the count of throws keeps.
-use Rattle.std.proofs.Common.{◌≡◌, ℕ, zero, suc, ◌+◌, ◌-◌, ◌^◌, min, nat_le, Bool, true, false, List, [], ◌∷◌, Option, Some, None, Ok, refl, codes, if◌then◌else◌}
+use Rattle.std.proofs.Common.{◌≡◌, ℕ, ◌+◌, ◌-◌, ◌^◌, min, nat_le, Bool, true, false, List, [], ◌∷◌, Option, Some, None, Ok, refl, codes, if◌then◌else◌}
 use Rattle.jv_format.specs.declared.handlers.Handler.{Handler}
 use Rattle.jv_text.specs.declared.descriptor.FieldTypeOf.{FieldTypeOf}
 use Rattle.jv_code.specs.Insns.{Instruction}
@@ -29,7 +29,7 @@ use Rattle.jv_meaning_machine.specs.Literals.{constant_value}
 use Rattle.jv_meaning_machine.specs.Throws.{exception, Thrown, thrown_once_more, thrown, handler_for, at_handler, caught, replacement_if, replacement, passed_initialization, passed_method, unwound, throw, raise}
 use Rattle.jv_meaning_machine.specs.Entering.{within_words, method_frame, entered_above, enter, entered_on, enter_init, at_offset, resumed, leave_to}
 use Rattle.jv_meaning_machine.specs.Initialization.{begin, initialization_of, is_verified, main_arguments, tasks_left, finish, finished, set_field, do_task, with_tasks, do_first}
-use Rattle.jv_meaning_machine.specs.Step.{waiting, act, context, step_in, step, after_steps}
+use Rattle.jv_meaning_machine.specs.Step.{waiting, act, context, step_in, step}
 use Rattle.jv_meaning_machine.specs.Laws.Ends.{EndFits}
 use Rattle.jv_meaning_machine.proofs.Leading.{Leads, leaf, bound, bound_tested, chained}
 use Rattle.jv_meaning_machine.proofs.KeptControl.{begun_if, begun_in}
@@ -337,7 +337,7 @@ module _ (G : ClassStates → ℕ → List Frame → Type 0) (kept : IsKept G) w
   act_goes program frame below control memory (Raises class) h = raise_goes program.world memory (Runs frame ∷ below) control class h
   act_goes program frame below control memory (Begins l) h = begin_goes program memory (Runs frame) below control l h
 
-  -- ---- a step, and any number of them
+  -- ---- a step
 
   -- where there is a frame the guest runs
   running :
@@ -373,12 +373,3 @@ module _ (G : ClassStates → ℕ → List Frame → Type 0) (kept : IsKept G) w
 
   pub step_goes : (program : Program) (s t : State) → Went s → step program s ≡ Ok t → Went t
   step_goes program s t h e = (step_in_goes program s.memory s.frames s.control h).at t e
-
-  after_leads : (program : Program) (n : ℕ) (s : State) → Went s → Leads State Went (after_steps program n s)
-  after_leads program zero s h = leaf Went s h
-  after_leads program (suc n) s h =
-      chained Went Went (after_steps program n s) (step program) (after_leads program n s h)
-      (λ t k. record { at = λ u e. step_goes program t u k e })
-
-  pub after_goes : (program : Program) (n : ℕ) (s t : State) → Went s → after_steps program n s ≡ Ok t → Went t
-  after_goes program n s t h e = (after_leads program n s h).at t e
