@@ -38,17 +38,21 @@ is_above_arrays name =
 abbrev pub same_base : Base → Base → Bool
 same_base a b = base_letter a == base_letter b
 
--- Components by their dimensions and elements: a primitive type flows to itself alone, a class as a class does, and an array
--- to an array as its component does, and to a class above arrays.
+-- Types by their dimensions and elements, by what holds of classes: a primitive type goes with itself alone, a class as classes
+-- do, and an array with an array as its component does, and with a class above arrays.
+abbrev pub extended : (List ℕ → List ℕ → Bool) → ℕ → Element (List ℕ) → ℕ → Element (List ℕ) → Bool
+extended classes zero (elements.Base a) zero (elements.Base b) = same_base a b
+extended classes zero (elements.Class x) zero (elements.Class y) = classes x y
+extended classes zero (elements.Base a) zero (elements.Class y) = false
+extended classes zero (elements.Class x) zero (elements.Base b) = false
+extended classes zero e (suc n) f = false
+extended classes (suc m) e zero (elements.Class y) = is_above_arrays y
+extended classes (suc m) e zero (elements.Base b) = false
+extended classes (suc m) e (suc n) f = extended classes m e n f
+
+-- components flow as their classes do
 abbrev pub component_flows : World → ℕ → Element (List ℕ) → ℕ → Element (List ℕ) → Bool
-component_flows world zero (elements.Base a) zero (elements.Base b) = same_base a b
-component_flows world zero (elements.Class x) zero (elements.Class y) = class_flows world x y
-component_flows world zero (elements.Base a) zero (elements.Class y) = false
-component_flows world zero (elements.Class x) zero (elements.Base b) = false
-component_flows world zero e (suc n) f = false
-component_flows world (suc m) e zero (elements.Class y) = is_above_arrays y
-component_flows world (suc m) e zero (elements.Base b) = false
-component_flows world (suc m) e (suc n) f = component_flows world m e n f
+component_flows world m e n f = extended (class_flows world) m e n f
 
 -- ---- all types
 

@@ -1,16 +1,14 @@
 -- Objects and arrays (JVMS 2.4, 2.7): an object is known by its place in a list, in which the newest stands last. What fields
 -- hold is kept by their names.
-use Rattle.std.specs.Prelude.{ℕ, zero, suc, Bool, true, false, ◌&&◌, ◌||◌, List, [], ◌∷◌, map, replicate, Option, Some, None, if◌then◌else◌}
+use Rattle.std.specs.Prelude.{ℕ, suc, Bool, true, false, ◌&&◌, ◌||◌, List, [], ◌∷◌, map, replicate, Option, Some, None, if◌then◌else◌}
 use Rattle.std.specs.Str.{bytes_eq}
-use Rattle.jv_text.specs.declared.descriptor.Element.{Element}
-use Rattle.jv_text.specs.declared.descriptor.Element.TheVariants as elements
 use Rattle.jv_text.specs.declared.descriptor.FieldTypeOf.{FieldTypeOf}
 use Rattle.jv_loader_world.specs.of_pool.Constants.{MemberReference, member_of, name_and_descriptor}
 use Rattle.jv_loader_world.specs.World.{Loaded, World, class_named}
 use Rattle.jv_loader_world.specs.Above.{is_above}
 use Rattle.jv_loader_world.specs.LookUps.{DeclaredField}
 use Rattle.jv_meaning_linking.specs.Layout.{instance_fields}
-use Rattle.jv_meaning_typing.specs.of_assign.Flow.{is_above_arrays, same_base}
+use Rattle.jv_meaning_typing.specs.of_assign.Flow.{extended}
 use Rattle.jv_meaning_typing.specs.Named.{class_components}
 use Rattle.jv_meaning_machine.specs.Values.{Value, default_of, default_of_type}
 
@@ -94,16 +92,9 @@ is_below world (Some l) name = is_above world name l.class
 abbrev pub is_at_or_below : World → List ℕ → List ℕ → Bool
 is_at_or_below world name other = bytes_eq name other || is_below world (class_named world name) other
 
--- by dimensions and elements: an array is one of its component's supers' arrays, and an object of the classes above arrays
-abbrev pub is_type_of : World → ℕ → Element (List ℕ) → ℕ → Element (List ℕ) → Bool
-is_type_of world zero (elements.Class name) zero (elements.Class other) = is_at_or_below world name other
-is_type_of world zero (elements.Base base) zero (elements.Base other) = same_base base other
-is_type_of world (suc n) element zero (elements.Class other) = is_above_arrays other
-is_type_of world (suc n) element (suc m) other = is_type_of world n element m other
-is_type_of world _ _ _ _ = false
-
+-- an array is one of its component's supers' arrays, and an object of the classes above arrays
 abbrev pub is_subtype : World → FieldTypeOf (List ℕ) → FieldTypeOf (List ℕ) → Bool
-is_subtype world type other = is_type_of world type.dimensions type.element other.dimensions other.element
+is_subtype world type other = extended (is_at_or_below world) type.dimensions type.element other.dimensions other.element
 
 abbrev pub is_instance_of : World → Object → FieldTypeOf (List ℕ) → Bool
 is_instance_of world object type = is_subtype world (type_of_object object) type
