@@ -16,7 +16,7 @@ use Rattle.jv_meaning_machine.specs.Laws.Feeds.{came_behind}
 use Rattle.jv_meaning_machine.specs.Laws.Ends.{EndFitsBehind, EndFitsAlone, EndedGuestStays}
 use Rattle.jv_meaning_machine.proofs.Leading.{Leads, leaf, bound}
 use Rattle.jv_meaning_machine.proofs.Fed.{alone_keeps, fed_nothing, fed_both}
-use Rattle.jv_meaning_machine.proofs.KeptControl.{begun_in}
+use Rattle.jv_meaning_machine.proofs.Began.{begun_in}
 use Rattle.jv_meaning_machine.proofs.Ended.{ended_stays}
 use Rattle.jv_meaning_machine.proofs.Mains.{main_is_its_own}
 use Rattle.jv_meaning_machine.proofs.Going.{IsKept, Went, ends, begin_first_goes, step_goes}

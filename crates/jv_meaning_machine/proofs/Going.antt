@@ -32,7 +32,7 @@ use Rattle.jv_meaning_machine.specs.Initialization.{begin, initialization_of, is
 use Rattle.jv_meaning_machine.specs.Step.{waiting, act, context, step_in, step}
 use Rattle.jv_meaning_machine.specs.Laws.Ends.{EndFits}
 use Rattle.jv_meaning_machine.proofs.Leading.{Leads, leaf, bound, bound_tested, chained}
-use Rattle.jv_meaning_machine.proofs.KeptControl.{begun_if, begun_in}
+use Rattle.jv_meaning_machine.proofs.Began.{begun_if, begun_in}
 
 -- Of the classes' states, the count of throws and the frames: each change that the machine makes keeps it.
 pub record IsKept (G : ClassStates → ℕ → List Frame → Type 0) : Type 0 where

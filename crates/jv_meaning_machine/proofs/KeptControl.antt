@@ -36,6 +36,7 @@ use Rattle.jv_meaning_machine.specs.Initialization.{begin, initialization_of, is
 use Rattle.jv_meaning_machine.specs.Laws.Shapes.{frame_words}
 use Rattle.jv_meaning_machine.specs.Laws.Kept.{Keeps}
 use Rattle.jv_meaning_machine.proofs.Leading.{Leads, leaf, bound, bound_tested, chained, bound_gave, found_gave, tested_gave}
+use Rattle.jv_meaning_machine.proofs.Began.{begun_if, begun_in}
 use Rattle.jv_meaning_machine.proofs.KeptMemory.{keeps_over, keeps_joined, keeps_static, keeps_object, by_payment, named_itself, new_is_of_class}
 use Rattle.jv_meaning_machine.proofs.KeptOutcomes.{IsKeptIf, constant_value_kept, cost_of_object, cost_of_one}
 
@@ -81,23 +82,6 @@ frame_code program d receiver arguments frame code e f =
     sym (found_gave OffsetFault d.method.code code f) ∙ environment_code program d first.0 first.1 in
     ap (λ (o : OrFault MethodFrame). words_in code o) (sym second.2)
     ∙ ap (λ (o : Option CodeSeen). words_of code o) (sym known)
-
--- ---- beginning, by the class's state, and of a class that is untouched by whether it is verified
-
-abbrev pub begun_if : Program → Memory → List Frame → Control → Loaded → Bool → OrFault State
-begun_if program memory frames control l verified = elim verified [
-  | false ↦ raise program.world memory frames control (error_class VerifyError)
-  | true ↦ within_words program.world memory frames control initialization_words (λ given.
-      Ok (state_of memory (Initializes (initialization_of program.world l) ∷ frames) (with_state Begun l given)))
-]
-
-abbrev pub begun_in : Program → Memory → List Frame → Control → Loaded → ClassState → OrFault State
-begun_in program memory frames control l state = elim state [
-  | Begun ↦ Ok (state_of memory frames control)
-  | Initialized ↦ Ok (state_of memory frames control)
-  | Erroneous ↦ raise program.world memory frames control (error_class NoClassDefFoundError)
-  | Untouched ↦ begun_if program memory frames control l (is_verified program l)
-]
 
 -- of a program, from a memory and a sum of words on
 module _ (program : Program) (from : Memory) (all_words : ℕ) (main : List ℕ) where

@@ -7,6 +7,7 @@ mod KeptOutcomes
 mod KeptArrays
 mod KeptCalls
 mod KeptInstructions
+pub mod Began
 mod KeptControl
 mod KeptSteps
 pub mod Fed
