@@ -44,11 +44,7 @@ impl<'a> Model for Parts<'a> {
 ///
 /// `Format` where the bytes are no class structure's, and `Memory` where the host had none for the
 /// constant pool or for the lists of interfaces, fields and methods.
-pub fn read_parts<'a>(
-    alloc: Global,
-    major: u16,
-    bytes: &'a [u8],
-) -> Result<Parts<'a>, PartsFault>
+pub fn read_parts<'a>(alloc: Global, major: u16, bytes: &'a [u8]) -> Result<Parts<'a>, PartsFault>
     ensures ok { IfOk result (λ c. IsBehindVersion major bytes.now c) }
     ensures format { result ≡ Err Format → (c : ClassStructure) → IsBehindVersion major bytes.now c → ⊥ }
 {
