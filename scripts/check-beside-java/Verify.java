@@ -10,7 +10,7 @@ import java.util.HashMap;
 import java.util.List;
 import java.util.Map;
 
-/** Links damaged classes, each beside the others of its folder, and writes of each whether the verifier accepts it. */
+/** Links classes, each beside the others of its folder, and writes of each whether the verifier accepts it; prints its file before. */
 public class Verify {
     /** Defines classes from bytes before any parent is asked. */
     static class Bytes extends ClassLoader {
@@ -42,6 +42,7 @@ public class Verify {
             }
             Map<String, byte[]> files = new HashMap<>(folders.get(parts[1]));
             String name = parts[2];
+            System.out.println(parts[0]);
             files.put(name, Files.readAllBytes(Paths.get(parts[0])));
             found.add(parts[0] + "\t" + link(new Bytes(files), name));
         }

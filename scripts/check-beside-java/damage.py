@@ -1,5 +1,6 @@
-"""Changes bytes of code, handlers and stack maps in the examples' classes: damage.py EXAMPLES FOLDER COUNT SEED.
-Writes the damaged files, and a list of each with its folder, its class's name and the file that it was."""
+"""Changes bytes of code, handlers and stack maps in the examples' classes: damage.py EXAMPLES FOLDER COUNT SEED MAJOR.
+Writes each whole file and the damaged ones as files of that major version, and a list of each with its folder, its class's
+name and the file that it was."""
 import glob
 import os
 import random
@@ -71,7 +72,11 @@ def damaged(spelled, parts):
     return bytes(changed)
 
 
-examples, folder, count, seed = sys.argv[1:]
+def with_version(spelled, major):
+    return spelled[:4] + struct.pack(">HH", 0, major) + spelled[8:]
+
+
+examples, folder, count, seed, major = sys.argv[1:]
 random.seed(int(seed))
 files = []
 for path in sorted(glob.glob(f"{examples}/*/*.class")):
@@ -83,10 +88,11 @@ for path in sorted(glob.glob(f"{examples}/*/*.class")):
     if parts:
         files.append((path, spelled, name, parts))
 lines = []
-for number in range(int(count)):
-    path, spelled, name, parts = random.choice(files)
+for number in range(len(files) + int(count)):
+    is_whole = number < len(files)
+    path, spelled, name, parts = files[number] if is_whole else random.choice(files)
     with open(f"{folder}/{number}.class", "wb") as file:
-        file.write(damaged(spelled, parts))
+        file.write(with_version(spelled if is_whole else damaged(spelled, parts), int(major)))
     lines.append(f"{folder}/{number}.class\t{os.path.dirname(path)}\t{name}\t{path}\n")
 with open(f"{folder}/list", "w") as file:
     file.writelines(lines)

@@ -1,13 +1,13 @@
 -- The law of the class writer: what it writes of a well-formed structure is a class file, and reads back.
-use Rattle.std.specs.Prelude.{◌≡◌}
+use Rattle.std.specs.Prelude.{◌≡◌, IsTrue}
 use Rattle.jv_class.specs.of_class_parts.Structure.{ClassStructure, class_bytes}
-use Rattle.jv_class.specs.of_class_parts.Parts.{is_52_0}
+use Rattle.jv_class.specs.of_class_parts.Version.{is_supported_version}
 use Rattle.jv_class.specs.ClassFile.{IsWellFormed, IsClassFile, OneStructure}
 use Rattle.jv_asm.specs.Fits.{IsFit}
 
--- the structures that a file of this host's version can have
+-- the structures that a file of a supported version can have
 pub record CanBeRead (c : ClassStructure) : Type 0 where
-  pub version : is_52_0 c.minor_version c.major_version
+  pub version : IsTrue (is_supported_version c.minor_version c.major_version)
   pub well_formed : IsWellFormed c
 
 -- A structure that can be read fits, so that its bytes are written; they are the class file with that structure; and where

@@ -15,6 +15,9 @@ use Rattle.jv_asm_builder.specs.Added.{IsAdded, IsNamedAdded, AreClassesAdded, A
 abbrev pub with_pool : ClassStructure → List Entry → ClassStructure
 with_pool c pool = record c { constant_pool = pool }
 
+abbrev pub with_major : ClassStructure → ℕ → ClassStructure
+with_major c major = record c { major_version = major }
+
 abbrev pub with_interface : ClassStructure → ℕ → ClassStructure
 with_interface c index = record c { interfaces = c.interfaces ++ index ∷ [] }
 

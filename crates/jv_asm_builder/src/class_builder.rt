@@ -10,7 +10,7 @@ ghost use Rattle.jv_asm.specs.Description.{described_attribute, described_field}
 ghost use Rattle.jv_asm.specs.Fits.{IsFit};
 ghost use Rattle.jv_asm.specs.declared.fault.AsmFault.TheVariants.{TooLarge};
 ghost use Rattle.jv_asm_builder.specs.Added.{IsAdded, IsNamedAdded, AreClassesAdded, AreTextsAdded, IsNameAndTypeAdded, IsMemberNamed, IsMemberAdded, HasRoom, HasRoomForTwo};
-ghost use Rattle.jv_asm_builder.specs.Built.{long_constant, IsGrown, IsNewRoot, IsNewClass, IsInterfaceAdded, IsFieldAdded, IsAttributeAdded, IsBodilessAdded, IsBegun, IsStackMapAdded, HasMethodRoom, HasStackMapRoom, IsEnded, IsEndFault};
+ghost use Rattle.jv_asm_builder.specs.Built.{long_constant, with_major, IsGrown, IsNewRoot, IsNewClass, IsInterfaceAdded, IsFieldAdded, IsAttributeAdded, IsBodilessAdded, IsBegun, IsStackMapAdded, HasMethodRoom, HasStackMapRoom, IsEnded, IsEndFault};
 ghost use Rattle.jv_asm_builder.specs.Inside.Kept.{contents_kept};
 ghost use Rattle.jv_asm_builder.specs.Inside.Methods.{built_method, built_maps};
 
@@ -35,7 +35,8 @@ pub struct MethodBuilder<'a> {
     pub code: CodeBuilder<'a>,
 }
 
-/// A class file of version 52.0 with the parts that were added so far.
+/// A class file with the parts that were added so far, of version 52.0 unless `set_major` says
+/// another.
 ///
 /// Texts are those of the caller, in modified UTF-8 (4.4.7). Each call that gives an index gives
 /// that of a constant which is there already, or adds one.
@@ -48,6 +49,7 @@ pub struct MethodBuilder<'a> {
 #[derive(Drop)]
 pub struct ClassBuilder<'a> {
     alloc: Global,
+    major: u16,
     pool: PoolBuilder<'a>,
     access_flags: u16,
     this_class: u16,
@@ -63,7 +65,7 @@ impl<'a> Model for ClassBuilder<'a> {
 
     ghost view = { λ b. record {
       minor_version = 0;
-      major_version = 52;
+      major_version = b.major;
       constant_pool = b.pool;
       access_flags = b.access_flags;
       this_class = b.this_class;
@@ -105,6 +107,7 @@ impl<'a> ClassBuilder<'a> {
     {
         let mut class = ClassBuilder {
             alloc,
+            major: 52,
             pool: PoolBuilder::new(alloc),
             access_flags: access_flags.0,
             this_class: 0,
@@ -117,6 +120,13 @@ impl<'a> ClassBuilder<'a> {
         let index = class.class(name)?;
         class.this_class = index;
         Ok(class)
+    }
+
+    /// The class file's version is this major version and 0 (4.1).
+    pub fn set_major(&mut self, major: u16)
+        ensures { self.new ≡ with_major self.old major }
+    {
+        self.major = major;
     }
 
     /// The index of a constant.
@@ -420,7 +430,7 @@ impl<'a> ClassBuilder<'a> {
     {
         let description = Description {
             minor_version: 0,
-            major_version: 52,
+            major_version: self.major,
             constant_pool: self.pool.constants(),
             access_flags: self.access_flags,
             this_class: self.this_class,

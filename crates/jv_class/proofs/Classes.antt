@@ -59,7 +59,7 @@ some_class c w =
     (λ f h. mapped_some _ (named_at pool f.name_index f.descriptor_index) (some_there (named_at pool f.name_index f.descriptor_index) _ h)) c.fields
     rules.members.fields)) (λ fields.
     then_some (all_found (method_of pool) c.methods) _
-    (found_all (method_of pool) c.methods (all_also (KeepsMethodRules pool c.access_flags) (λ m. IsSome (method_of pool m))
+    (found_all (method_of pool) c.methods (all_also (KeepsMethodRules pool c.major_version c.access_flags) (λ m. IsSome (method_of pool m))
     (λ m h. mapped_some _ (named_at pool m.name_index m.descriptor_index) (some_there (named_at pool m.name_index m.descriptor_index) _ h)) c.methods
     rules.members.methods)) (λ methods. refl)))))
 

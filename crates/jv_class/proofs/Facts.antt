@@ -52,18 +52,18 @@ field_keeps_rules pool flags f texts name facts r n h e =
     (ap (λ v. value_keeps_rules pool v f.constant_value) (h.value ∙ ap value_of_type same) ∙ k.value_kind) in
     (there, back)
 
-pub method_keeps_rules : (flags : ℕ) (m : MethodSeen) (texts : NameAndDescriptor) (name descriptor : List ℕ) → texts.name ≡ name → texts.descriptor ≡ descriptor
+pub method_keeps_rules : (major flags : ℕ) (m : MethodSeen) (texts : NameAndDescriptor) (name descriptor : List ℕ) → texts.name ≡ name → texts.descriptor ≡ descriptor
     → (known : TextFacts) (facts : MethodFacts) (r : Bool) → IsTrue known.method_name → AreFacts texts.name known → AreMethodFacts texts.descriptor facts
-    → r ≡ ((method_flags_keep_rules (has flags acc_interface) name m.access_flags && init_keeps_rules (has flags acc_interface) name facts.void && clinit_keeps_rules name descriptor m.access_flags)
+    → r ≡ ((method_flags_keep_rules major (has flags acc_interface) name m.access_flags && init_keeps_rules (has flags acc_interface) name facts.void && clinit_keeps_rules name descriptor m.access_flags)
     && slots_keep_rules m.access_flags facts.slots && code_presence_keeps_rules name m.access_flags (is_some m.code))
-    → (IsTrue r → KeepsRulesAsMethod flags m.access_flags (is_some m.code) texts) × (KeepsRulesAsMethod flags m.access_flags (is_some m.code) texts → IsTrue r)
-method_keeps_rules flags m texts name descriptor e1 e2 known facts r named n h e =
-    let A : Bool = method_flags_keep_rules (has flags acc_interface) name m.access_flags in
+    → (IsTrue r → KeepsRulesAsMethod major flags m.access_flags (is_some m.code) texts) × (KeepsRulesAsMethod major flags m.access_flags (is_some m.code) texts → IsTrue r)
+method_keeps_rules major flags m texts name descriptor e1 e2 known facts r named n h e =
+    let A : Bool = method_flags_keep_rules major (has flags acc_interface) name m.access_flags in
     let B : Bool = init_keeps_rules (has flags acc_interface) name facts.void in
     let C : Bool = clinit_keeps_rules name descriptor m.access_flags in
     let D : Bool = slots_keep_rules m.access_flags facts.slots in
     let E : Bool = code_presence_keeps_rules name m.access_flags (is_some m.code) in
-    let there : IsTrue r → KeepsRulesAsMethod flags m.access_flags (is_some m.code) texts = λ t.
+    let there : IsTrue r → KeepsRulesAsMethod major flags m.access_flags (is_some m.code) texts = λ t.
     let all = and_parts ((A && B && C) && D) E (sym e ∙ t) in
     let four = and_parts (A && B && C) D all.0 in
     let three = and_parts (A && B) C four.0 in
@@ -72,15 +72,15 @@ method_keeps_rules flags m texts name descriptor e1 e2 known facts r named n h e
       named = sym n.method_name ∙ named;
       type = h.type;
       described = h.described;
-      flags_keep_rules = ap (λ x. method_flags_keep_rules (has flags acc_interface) x m.access_flags) e1 ∙ two.0;
+      flags_keep_rules = ap (λ x. method_flags_keep_rules major (has flags acc_interface) x m.access_flags) e1 ∙ two.0;
       init = ap (λ x. init_keeps_rules (has flags acc_interface) x (is_none h.type.result)) e1 ∙ ap (init_keeps_rules (has flags acc_interface) name) (sym h.void) ∙ two.1;
       clinit = ap (λ x. clinit_keeps_rules x texts.descriptor m.access_flags) e1 ∙ ap (λ x. clinit_keeps_rules name x m.access_flags) e2 ∙ three.1;
       few_slots = ap (slots_keep_rules m.access_flags) (sym h.slots) ∙ four.1;
       code_there = ap (λ x. code_presence_keeps_rules x m.access_flags (is_some m.code)) e1 ∙ all.1;
     } in
-    let back : KeepsRulesAsMethod flags m.access_flags (is_some m.code) texts → IsTrue r = λ k.
+    let back : KeepsRulesAsMethod major flags m.access_flags (is_some m.code) texts → IsTrue r = λ k.
     let same : h.type ≡ k.type = one_method texts.descriptor h.type k.type h.described k.described in
-    let a : IsTrue A = ap (λ x. method_flags_keep_rules (has flags acc_interface) x m.access_flags) (sym e1) ∙ k.flags_keep_rules in
+    let a : IsTrue A = ap (λ x. method_flags_keep_rules major (has flags acc_interface) x m.access_flags) (sym e1) ∙ k.flags_keep_rules in
     let b : IsTrue B = ap (init_keeps_rules (has flags acc_interface) name) (h.void ∙ ap (λ (t : MethodDescriptor). is_none t.result) same) ∙ ap (λ x. init_keeps_rules (has flags acc_interface) x (is_none k.type.result)) (sym e1) ∙ k.init in
     let c : IsTrue C = ap (λ x. clinit_keeps_rules name x m.access_flags) (sym e2) ∙ ap (λ x. clinit_keeps_rules x texts.descriptor m.access_flags) (sym e1) ∙ k.clinit in
     let d : IsTrue D = ap (slots_keep_rules m.access_flags) (h.slots ∙ ap slots same) ∙ k.few_slots in

@@ -186,8 +186,8 @@ fields_there c pool xs e is right =
 
 pub methods_there : (c : ClassStructure) (pool : List Entry) (xs : List Method) → pool ≡ c.constant_pool → map seen_method xs ≡ methods_of c → MembersKeepRules c → All (λ x. IsSome (shown_method_texts pool (seen_method x))) xs
 methods_there c pool xs e is right =
-    let all : All (KeepsMethodShown c.constant_pool c.access_flags) (map seen_method xs) = subst (λ fs. All (KeepsMethodShown c.constant_pool c.access_flags) fs) (sym is) (members_shown c right).methods in
-    let some : All (λ f. IsSome (shown_method_texts c.constant_pool f)) (map seen_method xs) = all_there (shown_method_texts c.constant_pool) (λ m. KeepsRulesAsMethod c.access_flags m.access_flags (is_some m.code)) (map seen_method xs) all in
+    let all : All (KeepsMethodShown c.constant_pool c.major_version c.access_flags) (map seen_method xs) = subst (λ fs. All (KeepsMethodShown c.constant_pool c.major_version c.access_flags) fs) (sym is) (members_shown c right).methods in
+    let some : All (λ f. IsSome (shown_method_texts c.constant_pool f)) (map seen_method xs) = all_there (shown_method_texts c.constant_pool) (λ m. KeepsRulesAsMethod c.major_version c.access_flags m.access_flags (is_some m.code)) (map seen_method xs) all in
     all_unseen (λ f. IsSome (shown_method_texts pool f)) seen_method xs (subst (λ p. All (λ f. IsSome (shown_method_texts p f)) (map seen_method xs)) (sym e) some)
 
 class_there : (o : Option (List ℕ)) → IsTrue (some_and is_no_array_name o) → IsSome o
@@ -263,7 +263,7 @@ field_there c place o right e =
 pub method_there : (c : ClassStructure) (place : ℕ) (o : Option Method) → MembersKeepRules c → option_map seen_method o ≡ slice_get (methods_of c) place
     → IfSome o (λ m. IsSome (utf8_at c.constant_pool m.name.0)) × IfSome o (λ m. IsSome (utf8_at c.constant_pool m.descriptor.0))
 method_there c place o right e =
-    let there = texts_at seen_method c.constant_pool (shown_method_texts c.constant_pool) (λ t m. KeepsRulesAsMethod c.access_flags m.access_flags (is_some m.code) t) (methods_of c) place o (members_shown c right).methods e in (
+    let there = texts_at seen_method c.constant_pool (shown_method_texts c.constant_pool) (λ t m. KeepsRulesAsMethod c.major_version c.access_flags m.access_flags (is_some m.code) t) (methods_of c) place o (members_shown c right).methods e in (
       if_some_same o _ _ (λ m h. first_there (utf8_at c.constant_pool m.name.0) (utf8_at c.constant_pool m.descriptor.0) h) there,
       if_some_same o _ _ (λ m h. second_there (utf8_at c.constant_pool m.name.0) (utf8_at c.constant_pool m.descriptor.0) h) there,
     )

@@ -30,26 +30,26 @@ some_mapped f (Some a) = refl
 code_there : (pool : List Entry) (m : MethodInfo) → has_code m ≡ is_some (method_shown pool m).code
 code_there pool m = some_mapped (code_shown pool) (sole (codes_of m))
 
-pub method_shown_keeps : (pool : List Entry) (flags : ℕ) (m : MethodInfo) → KeepsMethodRules pool flags m → KeepsMethodShown pool flags (method_shown pool m)
-method_shown_keeps pool flags m = subst (λ code. IsSomeAnd (method_texts pool m) (KeepsRulesAsMethod flags m.access_flags code)) (code_there pool m)
+pub method_shown_keeps : (pool : List Entry) (major flags : ℕ) (m : MethodInfo) → KeepsMethodRules pool major flags m → KeepsMethodShown pool major flags (method_shown pool m)
+method_shown_keeps pool major flags m = subst (λ code. IsSomeAnd (method_texts pool m) (KeepsRulesAsMethod major flags m.access_flags code)) (code_there pool m)
 
-method_keeps : (pool : List Entry) (flags : ℕ) (m : MethodInfo) → KeepsMethodShown pool flags (method_shown pool m) → KeepsMethodRules pool flags m
-method_keeps pool flags m = subst (λ code. IsSomeAnd (method_texts pool m) (KeepsRulesAsMethod flags m.access_flags code)) (sym (code_there pool m))
+method_keeps : (pool : List Entry) (major flags : ℕ) (m : MethodInfo) → KeepsMethodShown pool major flags (method_shown pool m) → KeepsMethodRules pool major flags m
+method_keeps pool major flags m = subst (λ code. IsSomeAnd (method_texts pool m) (KeepsRulesAsMethod major flags m.access_flags code)) (sym (code_there pool m))
 
 -- ---- the rules of all
 
 pub members_shown : (c : ClassStructure) → MembersKeepRules c → ShownKeepRules c
 members_shown c right = record {
   fields = All-map (KeepsFieldShown c.constant_pool c.access_flags) (field_shown c.constant_pool) c.fields right.fields;
-  methods = All-map (KeepsMethodShown c.constant_pool c.access_flags) (method_shown c.constant_pool) c.methods
-      (all_also (KeepsMethodRules c.constant_pool c.access_flags) (λ m. KeepsMethodShown c.constant_pool c.access_flags (method_shown c.constant_pool m)) (method_shown_keeps c.constant_pool c.access_flags) c.methods right.methods);
+  methods = All-map (KeepsMethodShown c.constant_pool c.major_version c.access_flags) (method_shown c.constant_pool) c.methods
+      (all_also (KeepsMethodRules c.constant_pool c.major_version c.access_flags) (λ m. KeepsMethodShown c.constant_pool c.major_version c.access_flags (method_shown c.constant_pool m)) (method_shown_keeps c.constant_pool c.major_version c.access_flags) c.methods right.methods);
 }
 
 pub members_keep_rules : (c : ClassStructure) → ShownKeepRules c → MembersKeepRules c
 members_keep_rules c shown = record {
   fields = all_unseen (KeepsFieldShown c.constant_pool c.access_flags) (field_shown c.constant_pool) c.fields shown.fields;
-  methods = all_also (λ m. KeepsMethodShown c.constant_pool c.access_flags (method_shown c.constant_pool m)) (KeepsMethodRules c.constant_pool c.access_flags) (method_keeps c.constant_pool c.access_flags) c.methods
-      (all_unseen (KeepsMethodShown c.constant_pool c.access_flags) (method_shown c.constant_pool) c.methods shown.methods);
+  methods = all_also (λ m. KeepsMethodShown c.constant_pool c.major_version c.access_flags (method_shown c.constant_pool m)) (KeepsMethodRules c.constant_pool c.major_version c.access_flags) (method_keeps c.constant_pool c.major_version c.access_flags) c.methods
+      (all_unseen (KeepsMethodShown c.constant_pool c.major_version c.access_flags) (method_shown c.constant_pool) c.methods shown.methods);
 }
 
 -- ---- no two alike

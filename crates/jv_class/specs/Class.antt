@@ -36,8 +36,9 @@ pub record Method : Type 0 where
   pub code : Option CodeSeen
 
 -- a class; java/lang/Object alone has no superclass. Its code names other classes, fields and methods by the constants
--- of its own pool.
+-- of its own pool. The minor version of its file is 0.
 pub record Class : Type 0 where
+  pub major_version : ℕ
   pub access_flags : ℕ
   pub name : List ℕ
   pub super_class : Option (List ℕ)
@@ -85,6 +86,7 @@ class_of c =
     all_found (class_name_at c.constant_pool) c.interfaces >>= λ interfaces.
     all_found (field_of c.constant_pool) c.fields >>= λ fields. all_found (method_of c.constant_pool) c.methods >>= λ methods.
     Some (record {
+      major_version = c.major_version;
       access_flags = c.access_flags;
       name = name;
       super_class = super_class;

@@ -5,11 +5,11 @@ use Rattle.jv_class_parts.specs.of_pool.Constants.{class_name_at, pool_bytes}
 use Rattle.jv_class_parts.specs.of_pool.Rules.{IsPool}
 use Rattle.jv_class_parts.specs.Structure.{ClassStructure, magic, class_bytes, body_fits}
 use Rattle.jv_class_parts.specs.Attributes.{attributes_keep_rules}
-use Rattle.jv_class_parts.specs.Parts.{is_52_0}
+use Rattle.jv_class_parts.specs.Version.{is_supported_version}
 use Rattle.jv_class.specs.Rules.{KeepsClassRules}
 use Rattle.jv_class.specs.Supported.{IsSupported}
 
--- the bytes begin like a class file, with another version
+-- the bytes begin like a class file, with a version that is not supported
 pub record IsOtherVersion (bytes : List ℕ) : Type 0 where
   pub minor : ℕ
   pub major : ℕ
@@ -17,7 +17,7 @@ pub record IsOtherVersion (bytes : List ℕ) : Type 0 where
   pub minor_fits : minor < 65536
   pub major_fits : major < 65536
   pub begins : bytes ≡ magic ++ half.spelling minor ++ half.spelling major ++ rest
-  pub other : ¬ is_52_0 minor major
+  pub other : ¬ IsTrue (is_supported_version minor major)
 
 -- What makes a structure well formed: its constants are a pool, its numbers fit their fields, its attributes are those that
 -- may stand where they stand, and names, types and flags keep their rules.
@@ -30,7 +30,7 @@ pub record IsWellFormed (c : ClassStructure) : Type 0 where
 -- the bytes are the class file with this structure
 pub record IsClassFile (bytes : List ℕ) (c : ClassStructure) : Type 0 where
   pub spelled : bytes ≡ class_bytes c
-  pub version : is_52_0 c.minor_version c.major_version
+  pub version : IsTrue (is_supported_version c.minor_version c.major_version)
   pub well_formed : IsWellFormed c
 
 -- the bytes are a class file with more than the profile supports, its code aside

@@ -15,7 +15,7 @@ use Rattle.jv_class_parts.specs.of_text.Name.{is_array_name, is_init}
 use Rattle.jv_class_parts.specs.of_pool.Facts.{value_of_type}
 use Rattle.jv_class_parts.specs.Structure.{FieldInfo, MethodInfo, ClassStructure}
 use Rattle.jv_class_parts.specs.Attributes.{some_and, sole, static_value, codes_of}
-use Rattle.jv_class_parts.specs.Flags.{has, acc_static, acc_native, acc_interface, acc_abstract, class_flags_keep_rules, visibility_keeps_rules, volatile_keeps_rules, interface_field_keeps_rules, abstract_keeps_rules, interface_method_keeps_rules, init_flags_keep_rules}
+use Rattle.jv_class_parts.specs.Flags.{has, acc_static, acc_native, acc_interface, acc_abstract, class_flags_keep_rules, visibility_keeps_rules, volatile_keeps_rules, interface_field_keeps_rules, abstract_keeps_rules, interface_method_keeps_rules, older_interface_method_keeps_rules, init_flags_keep_rules}
 
 -- ---- names
 
@@ -106,17 +106,19 @@ KeepsFieldRules pool class_flags f =
 
 -- ---- its methods (4.6)
 
-abbrev pub interface_flags_keep_rules : Bool → ℕ → Bool
-interface_flags_keep_rules in_interface flags = if in_interface then interface_method_keeps_rules flags else true
+-- a method of an interface, in a class file of this major version
+abbrev pub interface_flags_keep_rules : ℕ → Bool → ℕ → Bool
+interface_flags_keep_rules major in_interface flags =
+    if in_interface then interface_method_keeps_rules flags && older_interface_method_keeps_rules major flags else true
 
 abbrev pub named_flags_keep_rules : List ℕ → ℕ → Bool
 named_flags_keep_rules name flags = if is_init name then init_flags_keep_rules flags else true
 
 -- of `<clinit>` only whether it is static is looked at (own), by `clinit_keeps_rules`
-abbrev pub method_flags_keep_rules : Bool → List ℕ → ℕ → Bool
-method_flags_keep_rules in_interface name flags =
+abbrev pub method_flags_keep_rules : ℕ → Bool → List ℕ → ℕ → Bool
+method_flags_keep_rules major in_interface name flags =
     if is_clinit name then true
-    else visibility_keeps_rules flags && abstract_keeps_rules flags && interface_flags_keep_rules in_interface flags && named_flags_keep_rules name flags
+    else visibility_keeps_rules flags && abstract_keeps_rules flags && interface_flags_keep_rules major in_interface flags && named_flags_keep_rules name flags
 
 -- `<init>` is void (4.4.2, here of the declared method too) and in no interface (own)
 abbrev pub init_keeps_rules : Bool → List ℕ → Bool → Bool
@@ -141,12 +143,13 @@ has_code m = is_some (sole (codes_of m))
 abbrev pub code_presence_keeps_rules : List ℕ → ℕ → Bool → Bool
 code_presence_keeps_rules name flags code = if is_bodiless name flags then not code else code
 
--- what a method's name, descriptor, flags and whether it has code have to do with one another
-pub record KeepsRulesAsMethod (class_flags flags : ℕ) (code : Bool) (texts : NameAndDescriptor) : Type 0 where
+-- what a method's name, descriptor, flags and whether it has code have to do with one another, in a class file of this
+-- major version
+pub record KeepsRulesAsMethod (major class_flags flags : ℕ) (code : Bool) (texts : NameAndDescriptor) : Type 0 where
   pub named : IsTrue (is_method_name texts.name)
   pub type : MethodDescriptor
   pub described : IsMethod texts.descriptor type
-  pub flags_keep_rules : IsTrue (method_flags_keep_rules (has class_flags acc_interface) texts.name flags)
+  pub flags_keep_rules : IsTrue (method_flags_keep_rules major (has class_flags acc_interface) texts.name flags)
   pub init : IsTrue (init_keeps_rules (has class_flags acc_interface) texts.name (is_none type.result))
   pub clinit : IsTrue (clinit_keeps_rules texts.name texts.descriptor flags)
   pub few_slots : IsTrue (slots_keep_rules flags (slots type))
@@ -156,9 +159,9 @@ pub record KeepsRulesAsMethod (class_flags flags : ℕ) (code : Bool) (texts : N
 abbrev pub method_texts : List Entry → MethodInfo → Option NameAndDescriptor
 method_texts pool m = named_at pool m.name_index m.descriptor_index
 
-abbrev pub KeepsMethodRules : List Entry → ℕ → MethodInfo → Type 0
-KeepsMethodRules pool class_flags m =
-    IsSomeAnd (method_texts pool m) (KeepsRulesAsMethod class_flags m.access_flags (has_code m))
+abbrev pub KeepsMethodRules : List Entry → ℕ → ℕ → MethodInfo → Type 0
+KeepsMethodRules pool major class_flags m =
+    IsSomeAnd (method_texts pool m) (KeepsRulesAsMethod major class_flags m.access_flags (has_code m))
 
 -- ---- no two fields, and no two methods, have the same name and descriptor (4.5, 4.6)
 
@@ -180,7 +183,7 @@ pub record ItselfKeepsRules (c : ClassStructure) : Type 0 where
 
 pub record MembersKeepRules (c : ClassStructure) : Type 0 where
   pub fields : All (KeepsFieldRules c.constant_pool c.access_flags) c.fields
-  pub methods : All (KeepsMethodRules c.constant_pool c.access_flags) c.methods
+  pub methods : All (KeepsMethodRules c.constant_pool c.major_version c.access_flags) c.methods
 
 pub record AreMembersUnlike (c : ClassStructure) : Type 0 where
   pub fields : NoTwoAlike (map (field_texts c.constant_pool) c.fields)

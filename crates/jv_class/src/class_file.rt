@@ -51,7 +51,12 @@ fn shown_keep_rules(parts: &Parts<'_>) -> bool
     ensures { IsTrue result ↔ ShownKeepRules parts.now }
 {
     field_rules::keep_rules(parts.pool(), parts.access_flags(), parts.fields())
-        && method_rules::keep_rules(parts.pool(), parts.access_flags(), parts.methods())
+        && method_rules::keep_rules(
+            parts.pool(),
+            parts.major(),
+            parts.access_flags(),
+            parts.methods(),
+        )
 }
 
 /// Whether fields and methods keep the rules of their own.
@@ -146,6 +151,13 @@ impl<'a> ClassFile<'a> {
         ensures { IsSupported self.now }
     {
         let _parts = &self.parts;
+    }
+
+    /// The major version: 50, 51 or 52; the minor version is 0 (JVMS 4.1).
+    pub fn major(&self) -> u16
+        ensures { result ≡ self.now.major_version }
+    {
+        self.parts.major()
     }
 
     /// The constant pool (JVMS 4.4).

@@ -9,7 +9,7 @@ use thiserror::Error;
 /// Why bytes were not read as a class file, the first that applies.
 #[derive(Clone, Copy, Debug, Error)]
 pub enum ClassFault {
-    /// The bytes begin like a class file, with a version other than 52.0 (JVMS 4.1).
+    /// The bytes begin like a class file, with a version other than 50.0, 51.0 and 52.0 (JVMS 4.1).
     #[error("another version")]
     Version,
     /// The bytes break a rule of the format (JVMS 4.1 to 4.7).

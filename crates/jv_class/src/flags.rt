@@ -1,7 +1,7 @@
 //! Which access flags go together (JVMS tables 4.1-A, 4.5-A and 4.6-A).
 
 ghost use Rattle.std.specs.Prelude.{◌≡◌};
-ghost use Rattle.jv_class_parts.specs.Flags.{class_flags_keep_rules, visibility, visibility_keeps_rules, volatile_keeps_rules, interface_field_keeps_rules, abstract_keeps_rules, interface_method_keeps_rules, init_flags_keep_rules};
+ghost use Rattle.jv_class_parts.specs.Flags.{class_flags_keep_rules, visibility, visibility_keeps_rules, volatile_keeps_rules, interface_field_keeps_rules, abstract_keeps_rules, interface_method_keeps_rules, older_interface_method_keeps_rules, init_flags_keep_rules};
 
 use bitflags::Flags;
 use jv_class_parts::{ClassFlags, FieldFlags, MethodFlags};
@@ -83,6 +83,18 @@ pub(crate) fn are_of_interface_method(flags: MethodFlags) -> bool
 {
     let visibility = visibility(flags.0);
     (visibility == 1 || visibility == 2) && !flags.intersects(NOT_IN_INTERFACES)
+}
+
+/// Whether a method of an interface can have these flags below version 52.0, in a class file of this
+/// major version (4.6).
+pub(crate) fn are_of_older_interface_method(major: u16, flags: MethodFlags) -> bool
+    ensures { result ≡ older_interface_method_keeps_rules major flags.0 }
+{
+    if major < 52 {
+        flags.intersects(MethodFlags::PUBLIC) && flags.intersects(MethodFlags::ABSTRACT)
+    } else {
+        true
+    }
 }
 
 /// Whether `<init>` can have these flags (4.6).

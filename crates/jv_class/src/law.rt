@@ -5,7 +5,8 @@ ghost use Rattle.jv_class.specs.ClassFile.{OneStructure};
 
 use jv_class_parts::one_behind_version;
 
-/// The bytes of a file have one structure at most, and none where they begin with another version.
+/// The bytes of a file have one structure at most, and none where they begin with a version that is
+/// not supported.
 pub fn one_structure()
     ensures { OneStructure }
 {

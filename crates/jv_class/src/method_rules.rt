@@ -10,7 +10,8 @@ ghost use Rattle.jv_class.specs.Rules.{interface_flags_keep_rules, named_flags_k
 ghost use Rattle.jv_class.specs.Inside.Shown.{KeepsMethodShown};
 
 use crate::flags::{
-    are_apart_from_abstract, are_of_init, are_of_interface_method, have_one_visibility,
+    are_apart_from_abstract, are_of_init, are_of_interface_method, are_of_older_interface_method,
+    have_one_visibility,
 };
 use crate::names::{is_clinit, is_no_arguments_void};
 use bitflags::Flags;
@@ -21,11 +22,11 @@ use jv_class_parts::{ClassFlags, Method, MethodFlags};
 /// Abstract and native.
 const WITHOUT_CODE: MethodFlags = MethodFlags(0x0500);
 
-fn flags_keep_rules_in(in_interface: bool, flags: MethodFlags) -> bool
-    ensures { result ≡ interface_flags_keep_rules in_interface flags.0 }
+fn flags_keep_rules_in(major: u16, in_interface: bool, flags: MethodFlags) -> bool
+    ensures { result ≡ interface_flags_keep_rules major in_interface flags.0 }
 {
     if in_interface {
-        are_of_interface_method(flags)
+        are_of_interface_method(flags) && are_of_older_interface_method(major, flags)
     } else {
         true
     }
@@ -41,15 +42,15 @@ fn named_flags_keep_rules(name: &[u8], flags: MethodFlags) -> bool
     }
 }
 
-fn flags_keep_rules(in_interface: bool, name: &[u8], flags: MethodFlags) -> bool
-    ensures { result ≡ method_flags_keep_rules in_interface name.now flags.0 }
+fn flags_keep_rules(major: u16, in_interface: bool, name: &[u8], flags: MethodFlags) -> bool
+    ensures { result ≡ method_flags_keep_rules major in_interface name.now flags.0 }
 {
     if is_clinit(name) {
         true
     } else {
         have_one_visibility(flags.0)
             && are_apart_from_abstract(flags)
-            && flags_keep_rules_in(in_interface, flags)
+            && flags_keep_rules_in(major, in_interface, flags)
             && named_flags_keep_rules(name, flags)
     }
 }
@@ -100,35 +101,38 @@ fn code_presence_keeps_rules(name: &[u8], method: Method<'_>) -> bool
 
 /// Whether a method's name and descriptor go with its flags and its result.
 fn names_keep_rules(
+    major: u16,
     in_interface: bool,
     flags: MethodFlags,
     name: &[u8],
     descriptor: &[u8],
     void: bool,
 ) -> bool
-    ensures { result ≡ (method_flags_keep_rules in_interface name.now flags.0 && init_keeps_rules in_interface name.now void
+    ensures { result ≡ (method_flags_keep_rules major in_interface name.now flags.0 && init_keeps_rules in_interface name.now void
         && clinit_keeps_rules name.now descriptor.now flags.0) }
 {
-    flags_keep_rules(in_interface, name, flags)
+    flags_keep_rules(major, in_interface, name, flags)
         && init_keeps_rules(in_interface, name, void)
         && clinit_keeps_rules(name, descriptor, flags)
 }
 
 /// Whether a method with these texts, of whose type this is known, keeps the rules.
 fn keeps_rules_by_facts(
+    major: u16,
     class_flags: ClassFlags,
     method: Method<'_>,
     name: &[u8],
     descriptor: &[u8],
     facts: MethodFacts,
 ) -> bool
-    ensures { result ≡ ((method_flags_keep_rules (has class_flags.0 acc_interface) name.now method.entry.access_flags.0
+    ensures { result ≡ ((method_flags_keep_rules major (has class_flags.0 acc_interface) name.now method.entry.access_flags.0
         && init_keeps_rules (has class_flags.0 acc_interface) name.now facts.void
         && clinit_keeps_rules name.now descriptor.now method.entry.access_flags.0)
         && slots_keep_rules method.entry.access_flags.0 facts.slots
         && code_presence_keeps_rules name.now method.entry.access_flags.0 (is_some (seen_method method.entry).code)) }
 {
     names_keep_rules(
+        major,
         class_flags.intersects(ClassFlags::INTERFACE),
         method.access_flags,
         name,
@@ -140,6 +144,7 @@ fn keeps_rules_by_facts(
 
 /// Whether a method with these texts, of which this is known, keeps the rules.
 fn method_keeps_rules(
+    major: u16,
     class_flags: ClassFlags,
     method: Method<'_>,
     name: &[u8],
@@ -149,19 +154,19 @@ fn method_keeps_rules(
 ) -> bool
     ensures { (texts : NameAndDescriptor) → texts.name ≡ name.now → texts.descriptor ≡ descriptor.now
         → AreFacts texts.name name_facts → AreFacts texts.descriptor descriptor_facts
-        → (IsTrue result ↔ KeepsRulesAsMethod class_flags.0 method.entry.access_flags.0 (is_some (seen_method method.entry).code) texts) }
+        → (IsTrue result ↔ KeepsRulesAsMethod major class_flags.0 method.entry.access_flags.0 (is_some (seen_method method.entry).code) texts) }
 {
     match descriptor_facts.method {
         Some(facts) => {
             name_facts.method_name
-                && keeps_rules_by_facts(class_flags, method, name, descriptor, facts)
+                && keeps_rules_by_facts(major, class_flags, method, name, descriptor, facts)
         }
         None => false,
     }
 }
 
-fn keeps_rules(pool: &Pool<'_>, class_flags: ClassFlags, method: Method<'_>) -> bool
-    ensures { IsTrue result ↔ KeepsMethodShown pool.now class_flags.0 (seen_method method.entry) }
+fn keeps_rules(pool: &Pool<'_>, major: u16, class_flags: ClassFlags, method: Method<'_>) -> bool
+    ensures { IsTrue result ↔ KeepsMethodShown pool.now major class_flags.0 (seen_method method.entry) }
 {
     let Some(name) = pool.utf8_index(method.name.0) else {
         return false;
@@ -170,6 +175,7 @@ fn keeps_rules(pool: &Pool<'_>, class_flags: ClassFlags, method: Method<'_>) -> 
         return false;
     };
     method_keeps_rules(
+        major,
         class_flags,
         method,
         pool.utf8(name),
@@ -179,18 +185,28 @@ fn keeps_rules(pool: &Pool<'_>, class_flags: ClassFlags, method: Method<'_>) -> 
     )
 }
 
-/// Whether each method keeps the rules.
-pub(crate) fn keep_rules(pool: &Pool<'_>, class_flags: ClassFlags, methods: &[Method<'_>]) -> bool
-    ensures { IsTrue result ↔ All (KeepsMethodShown pool.now class_flags.0) (map seen_method methods.now) }
+/// Whether each method keeps the rules, in a class file of this major version.
+pub(crate) fn keep_rules(
+    pool: &Pool<'_>,
+    major: u16,
+    class_flags: ClassFlags,
+    methods: &[Method<'_>],
+) -> bool
+    ensures { IsTrue result ↔ All (KeepsMethodShown pool.now major class_flags.0) (map seen_method methods.now) }
 {
-    each_keeps_rules(pool, class_flags, methods)
+    each_keeps_rules(pool, major, class_flags, methods)
 }
 
 /// The same of each as it was read.
-fn each_keeps_rules(pool: &Pool<'_>, class_flags: ClassFlags, methods: &[Method<'_>]) -> bool
-    ensures { IsTrue result ↔ All (λ x. KeepsMethodShown pool.now class_flags.0 (seen_method x)) methods.now }
+fn each_keeps_rules(
+    pool: &Pool<'_>,
+    major: u16,
+    class_flags: ClassFlags,
+    methods: &[Method<'_>],
+) -> bool
+    ensures { IsTrue result ↔ All (λ x. KeepsMethodShown pool.now major class_flags.0 (seen_method x)) methods.now }
 {
     methods
         .iter()
-        .all(|method| keeps_rules(pool, class_flags, *method))
+        .all(|method| keeps_rules(pool, major, class_flags, *method))
 }

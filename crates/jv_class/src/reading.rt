@@ -3,6 +3,7 @@
 ghost use Rattle.std.specs.Prelude.{◌≡◌, ◌≢◌, IfOk, Err};
 ghost use Rattle.jv_class_parts.specs.of_format.Format.{Finds};
 ghost use Rattle.jv_class_parts.specs.Structure.{ClassStructure};
+ghost use Rattle.jv_class_parts.specs.Version.{is_supported_version};
 ghost use Rattle.jv_class.specs.ClassFile.{IsClassFile, IsOtherVersion, IsUnsupportedFile};
 ghost use Rattle.jv_class.specs.Supported.{IsSupported};
 ghost use Rattle.jv_class.specs.Inside.Reading.{magic_number, header, IsWholeBehind};
@@ -44,15 +45,21 @@ fn version_at(bytes: &[u8]) -> Option<((u16, u16), &[u8])>
     Some(((minor, major), rest))
 }
 
-/// The class file whose bytes behind the version these are.
-fn class_behind<'a>(alloc: Global, bytes: &'a [u8]) -> Result<ClassFile<'a>, ClassFault>
-    ensures ok { IfOk result (λ c. IsWholeBehind bytes.now c) }
+fn is_supported_version(minor: u16, major: u16) -> bool
+    ensures { result ≡ is_supported_version minor major }
+{
+    minor == 0 && (major == 50 || major == 51 || major == 52)
+}
+
+/// The class file whose bytes behind the version these are, which is this major version and 0.
+fn class_behind<'a>(alloc: Global, major: u16, bytes: &'a [u8]) -> Result<ClassFile<'a>, ClassFault>
+    ensures ok { IfOk result (λ c. IsWholeBehind major bytes.now c) }
     ensures supported { IfOk result (λ c. IsSupported c) }
-    ensures format { result ≡ Err Format → (c : ClassStructure) → IsWholeBehind bytes.now c → ⊥ }
-    ensures unsupported { result ≡ Err Unsupported → (c : ClassStructure) × IsWholeBehind bytes.now c × (IsSupported c → ⊥) }
+    ensures format { result ≡ Err Format → (c : ClassStructure) → IsWholeBehind major bytes.now c → ⊥ }
+    ensures unsupported { result ≡ Err Unsupported → (c : ClassStructure) × IsWholeBehind major bytes.now c × (IsSupported c → ⊥) }
     ensures version { result ≢ Err Version }
 {
-    match read_parts(alloc, bytes) {
+    match read_parts(alloc, major, bytes) {
         Ok(parts) => {
             one_behind_version();
             class_of(alloc, parts)
@@ -68,9 +75,9 @@ fn class_behind<'a>(alloc: Global, bytes: &'a [u8]) -> Result<ClassFile<'a>, Cla
 ///
 /// # Errors
 ///
-/// `Version` where the bytes begin like a class file of another version, `Format` where they are no
-/// class file else, `Unsupported` where they are one with more than this host's profile has, its code
-/// aside, and `Memory` where the host had none for what was read.
+/// `Version` where the bytes begin like a class file of another version than 50.0, 51.0 and 52.0,
+/// `Format` where they are no class file else, `Unsupported` where they are one with more than this
+/// host's profile has, its code aside, and `Memory` where the host had none for what was read.
 pub fn read_class<'a>(alloc: Global, bytes: &'a [u8]) -> Result<ClassFile<'a>, ClassFault>
     ensures ok { IfOk result (λ c. IsClassFile bytes.now c) }
     ensures supported { IfOk result (λ c. IsSupported c) }
@@ -82,8 +89,8 @@ pub fn read_class<'a>(alloc: Global, bytes: &'a [u8]) -> Result<ClassFile<'a>, C
     let Some(((minor, major), rest)) = version_at(bytes) else {
         return Err(ClassFault::Format);
     };
-    if minor != 0 || major != 52 {
+    if !is_supported_version(minor, major) {
         return Err(ClassFault::Version);
     }
-    class_behind(alloc, rest)
+    class_behind(alloc, major, rest)
 }

@@ -11,7 +11,7 @@ use Rattle.jv_pool.specs.Constants.{Entry, pool_bytes}
 use Rattle.jv_pool.specs.Rules.{IsPool, OnePool}
 use Rattle.jv_class_parts.specs.Structure.{ClassStructure, table_bytes, attribute_bytes, field_bytes, method_bytes, body_bytes, table_fits, attribute_fits, field_fits, method_fits, body_fits}
 use Rattle.jv_class_parts.specs.Attributes.{all_named, field_attributes_keep_rules, method_attributes_keep_rules, attributes_keep_rules}
-use Rattle.jv_class_parts.specs.Parts.{IsBehindVersion, OneBehindVersion, is_52_0, field_shown, method_shown}
+use Rattle.jv_class_parts.specs.Parts.{IsBehindVersion, OneBehindVersion, field_shown, method_shown}
 use Rattle.jv_class_parts.specs.Inside.Reading.{three, kept, table, field_attributes, field, method, Body, class_body, structure_of, body_in, structure_in, values_kept, field_kept, method_kept, passed_over, members_kept, BodySeen, body_kept, body_shown, AreBody, FailsWhole}
 use Rattle.jv_class_parts.specs.declared.fault.PartsFault.{PartsFault}
 use Rattle.jv_class_parts.specs.declared.fault.PartsFault.TheVariants.{Format as BadFormat, Memory}
@@ -125,8 +125,8 @@ Fits-from_structure c h k =
       named = r.1;
     }
 
-structure-from_Fits : (pool : List Entry) (b : Body) → Fits pool b → IsTrue (body_fits (structure_of pool b)) × IsTrue (attributes_keep_rules (structure_of pool b))
-structure-from_Fits pool b h = (
+structure-from_Fits : (major : ℕ) (pool : List Entry) (b : Body) → Fits pool b → IsTrue (body_fits (structure_of major pool b)) × IsTrue (attributes_keep_rules (structure_of major pool b))
+structure-from_Fits major pool b h = (
   and_from _ _ (and_from _ _ (and_from _ _ (and_from _ _ (and_from _ _ (and_from _ _ h.access_flags h.this_class) h.super_class) h.interfaces) h.fields) h.methods) h.attributes,
   and_from _ _ (and_from _ _ h.fields_keep_rules h.methods_keep_rules) h.named,
 )
@@ -167,34 +167,34 @@ Fits-from_body pool b h =
     }
 
 abbrev made : ℕ → ℕ → List Entry → Body → ClassStructure
-made minor major pool b = record (structure_of pool b) { minor_version = minor; major_version = major }
+made minor major pool b = record (structure_of major pool b) { minor_version = minor }
 
-pub same_structure : (c : ClassStructure) → is_52_0 c.minor_version c.major_version → c ≡ structure_of c.constant_pool (body_of c)
-same_structure c v =
+pub same_structure : (major : ℕ) (c : ClassStructure) → (c.minor_version ≡ 0) × (c.major_version ≡ major) → c ≡ structure_of major c.constant_pool (body_of c)
+same_structure major c v =
     ap (λ (n : ℕ). made n c.major_version c.constant_pool (body_of c)) v.0
     ∙ ap (λ (n : ℕ). made 0 n c.constant_pool (body_of c)) v.1
 
 -- ---- behind the version
 
 -- a structure's bytes behind its pool are read as its body
-body_again : (bytes : List ℕ) (c : ClassStructure) → IsBehindVersion bytes c → (class_body c.constant_pool).read (body_bytes c) ≡ Some (body_of c, [])
-body_again bytes c b =
+body_again : (major : ℕ) (bytes : List ℕ) (c : ClassStructure) → IsBehindVersion major bytes c → (class_body c.constant_pool).read (body_bytes c) ≡ Some (body_of c, [])
+body_again major bytes c b =
     let pool = c.constant_pool in
     let fits = body-from_Fits pool (body_of c) (Fits-from_structure c b.fits b.attributes) in
     ap (class_body pool).read (body-spelling pool c ∙ sym (append-nil ((class_body pool).spelling (body_of c)))) ∙ (class_body_is pool).again (body_of c) [] fits
 
 -- the bytes behind a pool are read as the body of the structure
-rest_again : OnePool → (front rest : List ℕ) (pool : List Entry) → IsPool front pool → (c : ClassStructure) → IsBehindVersion (front ++ rest) c → (pool ≡ c.constant_pool) × ((class_body pool).read rest ≡ Some (body_of c, []))
-rest_again law front rest pool is c b =
+rest_again : OnePool → (major : ℕ) (front rest : List ℕ) (pool : List Entry) → IsPool front pool → (c : ClassStructure) → IsBehindVersion major (front ++ rest) c → (pool ≡ c.constant_pool) × ((class_body pool).read rest ≡ Some (body_of c, []))
+rest_again law major front rest pool is c b =
     let one = law front (pool_bytes c.constant_pool) rest (body_bytes c) pool c.constant_pool b.spelled is b.pool in
-    (one.0, ap (λ (p : List Entry). (class_body p).read rest) one.0 ∙ ap (class_body c.constant_pool).read one.2 ∙ body_again (front ++ rest) c b)
+    (one.0, ap (λ (p : List Entry). (class_body p).read rest) one.0 ∙ ap (class_body c.constant_pool).read one.2 ∙ body_again major (front ++ rest) c b)
 
 -- a body that was read is that of a structure
-behind : (front rest : List ℕ) (pool : List Entry) (b : Body) → IsBytes rest → IsPool front pool → (class_body pool).read rest ≡ Some (b, []) → IsBehindVersion (front ++ rest) (structure_of pool b)
-behind front rest pool b small is found =
+behind : (major : ℕ) (front rest : List ℕ) (pool : List Entry) (b : Body) → IsBytes rest → IsPool front pool → (class_body pool).read rest ≡ Some (b, []) → IsBehindVersion major (front ++ rest) (structure_of major pool b)
+behind major front rest pool b small is found =
     let one = (class_body_is pool).takes rest [] b small found in
-    let fits = structure-from_Fits pool b (Fits-from_body pool b one.1) in
-    let same : rest ≡ body_bytes (structure_of pool b) = one.0 ∙ append-nil ((class_body pool).spelling b) ∙ sym (body-spelling pool (structure_of pool b)) in
+    let fits = structure-from_Fits major pool b (Fits-from_body pool b one.1) in
+    let same : rest ≡ body_bytes (structure_of major pool b) = one.0 ∙ append-nil ((class_body pool).spelling b) ∙ sym (body-spelling pool (structure_of major pool b)) in
     record {
       spelled = ap (λ (x : List ℕ). x ++ rest) is.spelled ∙ ap (λ (x : List ℕ). pool_bytes pool ++ x) same;
       version = (refl, refl);
@@ -213,15 +213,15 @@ kept_whole pool (Some b) seen e =
 pub AreBody-from : (pool : List Entry) (bytes : List ℕ) (seen : BodySeen) → IsBytes bytes → (body_kept pool).read bytes ≡ Some (seen, []) → AreBody pool bytes seen
 AreBody-from pool bytes seen small e = sym ((body_keeps pool).reads bytes small) ∙ e
 
-pub behind_kept : (front rest : List ℕ) (pool : List Entry) (seen : BodySeen) → IsBytes rest → IsPool front pool → (body_kept pool).read rest ≡ Some (seen, []) → IsBehindVersion (front ++ rest) (structure_in pool rest)
-behind_kept front rest pool seen small is e =
+pub behind_kept : (major : ℕ) (front rest : List ℕ) (pool : List Entry) (seen : BodySeen) → IsBytes rest → IsPool front pool → (body_kept pool).read rest ≡ Some (seen, []) → IsBehindVersion major (front ++ rest) (structure_in major pool rest)
+behind_kept major front rest pool seen small is e =
     let found = kept_whole pool ((class_body pool).read rest) seen (AreBody-from pool rest seen small e) in
-    behind front rest pool (body_in ((class_body pool).read rest)) small is found.0
+    behind major front rest pool (body_in ((class_body pool).read rest)) small is found.0
 
 -- where no body stands behind a pool there is no structure
-pub no_body : OnePool → (front rest : List ℕ) (pool : List Entry) → IsBytes rest → IsPool front pool → ((body_kept pool).read rest >>= whole []) ≡ None → (c : ClassStructure) → IsBehindVersion (front ++ rest) c → ⊥
-no_body law front rest pool small is none c b =
-    let again = (rest_again law front rest pool is c b).1 in
+pub no_body : OnePool → (major : ℕ) (front rest : List ℕ) (pool : List Entry) → IsBytes rest → IsPool front pool → ((body_kept pool).read rest >>= whole []) ≡ None → (c : ClassStructure) → IsBehindVersion major (front ++ rest) c → ⊥
+no_body law major front rest pool small is none c b =
+    let again = (rest_again law major front rest pool is c b).1 in
     let seen : (body_kept pool).read rest ≡ Some (body_shown pool (body_of c), []) = (body_keeps pool).reads rest small ∙ ap (λ (o : Option (Body × List ℕ)). o >>= found_as (body_shown pool)) again in
     let some : ((body_kept pool).read rest >>= whole []) ≡ Some (body_shown pool (body_of c), []) = ap (λ (o : Option (BodySeen × List ℕ)). o >>= whole []) seen in
     cc (none, some)
@@ -229,13 +229,13 @@ no_body law front rest pool small is none c b =
 -- ---- the law
 
 pub OneBehindVersion-holds : OnePool → OneBehindVersion
-OneBehindVersion-holds law bytes c d one two =
-    let again = rest_again law (pool_bytes c.constant_pool) (body_bytes c) c.constant_pool one.pool d (subst (λ (x : List ℕ). IsBehindVersion x d) one.spelled two) in
-    let same : (body_of c, []) ≡ (body_of d, []) = is_some (body_of c, []) (body_of d, []) (sym (body_again bytes c one) ∙ again.1) in
-    same_structure c one.version
-    ∙ ap (structure_of c.constant_pool) (ap (λ (x : Body × List ℕ). x.0) same)
-    ∙ ap (λ (p : List Entry). structure_of p (body_of d)) again.0
-    ∙ sym (same_structure d two.version)
+OneBehindVersion-holds law major bytes c d one two =
+    let again = rest_again law major (pool_bytes c.constant_pool) (body_bytes c) c.constant_pool one.pool d (subst (λ (x : List ℕ). IsBehindVersion major x d) one.spelled two) in
+    let same : (body_of c, []) ≡ (body_of d, []) = is_some (body_of c, []) (body_of d, []) (sym (body_again major bytes c one) ∙ again.1) in
+    same_structure major c one.version
+    ∙ ap (structure_of major c.constant_pool) (ap (λ (x : Body × List ℕ). x.0) same)
+    ∙ ap (λ (p : List Entry). structure_of major p (body_of d)) again.0
+    ∙ sym (same_structure major d two.version)
 
 -- ---- for the answers
 

@@ -1,6 +1,7 @@
 -- Access flags of classes, fields and methods (JVMS tables 4.1-A, 4.5-A and 4.6-A), and which of them go together.
 -- Bits without a name there are not looked at.
 use Rattle.std.specs.Prelude.{ℕ, ◌+◌, Bool, true, not, ◌&&◌, ◌||◌, ◌==◌, bit_and, if◌then◌else◌}
+use Rattle.jv_class_parts.specs.Version.{is_below_52}
 
 abbrev pub acc_public : ℕ
 acc_public = 1
@@ -109,6 +110,11 @@ abbrev pub interface_method_keeps_rules : ℕ → Bool
 interface_method_keeps_rules flags =
     (visibility flags == acc_public || visibility flags == acc_private)
     && not (has flags (acc_final + acc_synchronized + acc_native))
+
+-- in a class file below version 52.0 a method of an interface is public and abstract (4.6)
+abbrev pub older_interface_method_keeps_rules : ℕ → ℕ → Bool
+older_interface_method_keeps_rules major flags =
+    if is_below_52 major then has flags acc_public && has flags acc_abstract else true
 
 -- `<init>` has at most a visibility, varargs, strict and synthetic (4.6)
 abbrev pub init_flags_keep_rules : ℕ → Bool

@@ -1,4 +1,5 @@
 pub mod Structure
+pub mod Version
 pub mod Flags
 pub mod Attributes
 pub mod Parts

@@ -7,22 +7,18 @@ use Rattle.jv_pool.specs.Rules.{IsPool}
 use Rattle.jv_class_parts.specs.Structure.{CodeAttribute, FieldInfo, MethodInfo, ClassStructure, body_bytes, body_fits}
 use Rattle.jv_class_parts.specs.Attributes.{sole, static_value, stack_maps, codes_of, attributes_keep_rules}
 
--- the version of this host's class files (4.1): 52.0, that of Java SE 8
-abbrev pub is_52_0 : ℕ → ℕ → Type 0
-is_52_0 minor major = (minor ≡ 0) × (major ≡ 52)
-
--- The bytes are those of the structure behind its version: its pool is one, its numbers fit their fields, and its
+-- The bytes are those of the structure behind its version, which is this major version and 0: its pool is one, its numbers fit their fields, and its
 -- attributes are those that may stand there.
-pub record IsBehindVersion (bytes : List ℕ) (c : ClassStructure) : Type 0 where
+pub record IsBehindVersion (major : ℕ) (bytes : List ℕ) (c : ClassStructure) : Type 0 where
   pub spelled : bytes ≡ pool_bytes c.constant_pool ++ body_bytes c
-  pub version : is_52_0 c.minor_version c.major_version
+  pub version : (c.minor_version ≡ 0) × (c.major_version ≡ major)
   pub pool : IsPool (pool_bytes c.constant_pool) c.constant_pool
   pub fits : IsTrue (body_fits c)
   pub attributes : IsTrue (attributes_keep_rules c)
 
 -- A law: bytes have one such structure at most.
 abbrev pub OneBehindVersion : Type 0
-OneBehindVersion = (bytes : List ℕ) (c d : ClassStructure) → IsBehindVersion bytes c → IsBehindVersion bytes d → c ≡ d
+OneBehindVersion = (major : ℕ) (bytes : List ℕ) (c d : ClassStructure) → IsBehindVersion major bytes c → IsBehindVersion major bytes d → c ≡ d
 
 -- ---- what is shown of fields and methods
 

@@ -18,6 +18,7 @@ use std::marker::Model;
 /// tables are parts of the file, and attributes that were passed over take no memory.
 #[derive(Drop)]
 pub struct Parts<'a> {
+    major: u16,
     pool: Pool<'a>,
     bytes: &'a [u8],
     body: Body<'a>,
@@ -30,12 +31,12 @@ impl<'a> Model for Parts<'a> {
 
     ghost Value = { ClassStructure };
 
-    ghost view = { λ c. structure_in c.pool c.bytes.now };
+    ghost view = { λ c. structure_in c.major c.pool c.bytes.now };
 
     ghost invariant = { λ c. AreBody c.pool c.bytes.now (seen_body c.body) };
 }
 
-/// The parts that the bytes behind the version are.
+/// The parts that the bytes behind a version are, which is this major version and 0.
 ///
 /// A refused call keeps nothing.
 ///
@@ -43,9 +44,9 @@ impl<'a> Model for Parts<'a> {
 ///
 /// `Format` where the bytes are no class structure's, and `Memory` where the host had none for the
 /// constant pool or for the lists of interfaces, fields and methods.
-pub fn read_parts<'a>(alloc: Global, bytes: &'a [u8]) -> Result<Parts<'a>, PartsFault>
-    ensures ok { IfOk result (λ c. IsBehindVersion bytes.now c) }
-    ensures format { result ≡ Err Format → (c : ClassStructure) → IsBehindVersion bytes.now c → ⊥ }
+pub fn read_parts<'a>(alloc: Global, major: u16, bytes: &'a [u8]) -> Result<Parts<'a>, PartsFault>
+    ensures ok { IfOk result (λ c. IsBehindVersion major bytes.now c) }
+    ensures format { result ≡ Err Format → (c : ClassStructure) → IsBehindVersion major bytes.now c → ⊥ }
 {
     let (pool, taken) = match read_pool(alloc, bytes) {
         Ok(found) => found,
@@ -56,6 +57,7 @@ pub fn read_parts<'a>(alloc: Global, bytes: &'a [u8]) -> Result<Parts<'a>, Parts
     let (_, rest) = bytes.split_at(taken);
     match whole_body(alloc, &pool, rest) {
         Ok(body) => Ok(Parts {
+            major,
             pool,
             bytes: rest,
             body,
@@ -65,6 +67,13 @@ pub fn read_parts<'a>(alloc: Global, bytes: &'a [u8]) -> Result<Parts<'a>, Parts
 }
 
 impl<'a> Parts<'a> {
+    /// The major version; the minor is 0 (JVMS 4.1).
+    pub fn major(&self) -> u16
+        ensures { result ≡ self.now.major_version }
+    {
+        self.major
+    }
+
     /// The constant pool (JVMS 4.4).
     pub fn pool(&self) -> &Pool<'a>
         ensures { result.now ≡ self.now.constant_pool }

@@ -39,6 +39,7 @@ chained None f y e = absurd cc
 chained (Some a) f y e = (a, refl, e)
 
 record AreParts (c : ClassStructure) (class : Class) : Type 0 where
+  pub major : c.major_version ≡ class.major_version
   pub access_flags : c.access_flags ≡ class.access_flags
   pub name : class_name c ≡ Some class.name
   pub super_class : super_of c ≡ Some class.super_class
@@ -54,6 +55,7 @@ parts c class e =
     let fields = chained (all_found (field_of c.constant_pool) c.fields) _ class interfaces.2 in
     let methods = chained (all_found (method_of c.constant_pool) c.methods) _ class fields.2 in
     record {
+      major = cc;
       access_flags = cc;
       name = name.1 ∙ ap (λ l. Some l) cc;
       super_class = above.1 ∙ ap (λ l. Some l) cc;
@@ -119,14 +121,15 @@ interfaces_kept c pool indices same shown names found class e =
 
 module _ (c : ClassStructure) (kept : Kept) (pool : List Entry) (indices : List ClassIndex) where
   pub keeps : pool ≡ c.constant_pool → map seen_index indices ≡ c.interfaces → all_found (interface_at pool) indices ≡ Some (map text_of kept.interfaces.items)
-      → kept.access_flags ≡ c.access_flags → class_name c ≡ Some kept.name.now → super_of c ≡ Some (option_copied kept.super_name)
+      → kept.major ≡ c.major_version → kept.access_flags ≡ c.access_flags → class_name c ≡ Some kept.name.now → super_of c ≡ Some (option_copied kept.super_name)
       → ((class : Class) → class_of c ≡ Some class → kept.fields ≡ map field_seen class.fields) → ((class : Class) → class_of c ≡ Some class → kept.methods ≡ map method_seen class.methods)
       → (class : Class) → class_of c ≡ Some class → Keeps class kept
-  keeps same shown found flags name super_class fields methods class e =
+  keeps same shown found major flags name super_class fields methods class e =
       let of_class = parts c class e in
       let one_name : Some kept.name.now ≡ Some class.name = sym name ∙ of_class.name in
       let one_super : Some (option_copied kept.super_name) ≡ Some class.super_class = sym super_class ∙ of_class.super_class in
       record {
+        major = major ∙ of_class.major;
         access_flags = flags ∙ of_class.access_flags;
         name = cc;
         super_class = cc;

@@ -39,6 +39,7 @@ pub(crate) fn kept_of_io<'a>(alloc: Global, state: RandomState) -> Result<Kept<'
     let fields = Members::with_capacity(alloc, state, 0)?;
     let methods = io_methods(alloc, state)?;
     Ok(Kept {
+        major: 52,
         access_flags: PUBLIC_FINAL_SUPER,
         name: b"host/Io".as_slice(),
         super_name: Some(b"java/lang/Object".as_slice()),

@@ -5,6 +5,7 @@ use crate::members::Members;
 /// What is kept of a class beside its file.
 #[derive(Drop)]
 pub(crate) struct Kept<'a> {
+    pub(crate) major: u16,
     pub(crate) access_flags: u16,
     pub(crate) name: &'a [u8],
     pub(crate) super_name: Option<&'a [u8]>,

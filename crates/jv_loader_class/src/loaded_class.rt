@@ -122,6 +122,13 @@ impl<'a> LoadedClass<'a> {
         self.by_system
     }
 
+    /// The major version of its file, 52 for host/Io; the minor is 0 (JVMS 4.1).
+    pub fn major(&self) -> u16
+        ensures { result ≡ self.now.class.major_version }
+    {
+        self.kept.major
+    }
+
     /// The access flags (JVMS 4.1, table 4.1-A).
     pub fn access_flags(&self) -> u16
         ensures { result ≡ self.now.class.access_flags }

@@ -132,6 +132,7 @@ pub(crate) fn kept_of_file<'a>(
     let fields = fields_of(alloc, state, file)?;
     let methods = methods_of(alloc, state, file)?;
     Ok(Kept {
+        major: file.major(),
         access_flags: file.access_flags().0,
         name: file.name(),
         super_name: super_name(file),

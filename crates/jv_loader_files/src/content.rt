@@ -6,7 +6,7 @@ use jv_class::ClassFile;
 /// in the code, and by its names in definitions.
 #[derive(Drop)]
 pub enum Content<C> {
-    /// Bytes that begin like a class file of a version other than 52.0 (JVMS 4.1).
+    /// Bytes that begin like a class file of a version other than 50.0, 51.0 and 52.0 (JVMS 4.1).
     OtherVersion,
     /// No class file (JVMS 4.1 to 4.7).
     NoClassFile,

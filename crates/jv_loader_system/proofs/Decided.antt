@@ -20,7 +20,7 @@ use Rattle.jv_loader_files.specs.of_pool.Rules.{IsFieldDescriptor, IsMethodDescr
 use Rattle.jv_loader_files.specs.of_class_parts.Structure.{FieldInfo, MethodInfo, ClassStructure, body_fits}
 use Rattle.jv_loader_files.specs.of_class_parts.Attributes.{attributes_keep_rules, static_value}
 use Rattle.jv_loader_files.specs.of_class_parts.Flags.{has, acc_interface, class_flags_keep_rules}
-use Rattle.jv_loader_files.specs.of_class_parts.Parts.{is_52_0}
+use Rattle.jv_loader_files.specs.of_class_parts.Version.{is_supported_version}
 use Rattle.jv_loader_files.specs.of_class.Rules.{is_no_array_name, is_class_at, super_keeps_rules, interface_super_keeps_rules, field_flags_keep_rules, value_keeps_rules, KeepsRulesAsField, method_flags_keep_rules, init_keeps_rules, clinit_keeps_rules, slots_keep_rules, code_presence_keeps_rules, KeepsRulesAsMethod, field_texts, method_texts, has_code, NoTwoAlike, KeepsClassRules}
 use Rattle.jv_loader_files.specs.of_class.Supported.{HasNoFloating, IsSupportedConstant, IsSupportedType, AreSupportedFlags, is_supported_method, IsSupported}
 use Rattle.jv_asm.specs.Law.{CanBeRead}
@@ -158,14 +158,14 @@ abbrev pub type_keeps_rules : ℕ → MethodInfo → NameAndDescriptor → Metho
 type_keeps_rules class_flags m texts type =
     init_keeps_rules (has class_flags acc_interface) texts.name (is_none type.result) && slots_keep_rules m.access_flags (slots type)
 
-abbrev pub method_keeps_rules : ℕ → MethodInfo → NameAndDescriptor → Bool
-method_keeps_rules class_flags m texts =
-    is_method_name texts.name && (method_flags_keep_rules (has class_flags acc_interface) texts.name m.access_flags
+abbrev pub method_keeps_rules : ℕ → ℕ → MethodInfo → NameAndDescriptor → Bool
+method_keeps_rules major class_flags m texts =
+    is_method_name texts.name && (method_flags_keep_rules major (has class_flags acc_interface) texts.name m.access_flags
     && (clinit_keeps_rules texts.name texts.descriptor m.access_flags
     && (code_presence_keeps_rules texts.name m.access_flags (has_code m) && passes (type_keeps_rules class_flags m texts) (method_type_of texts.descriptor))))
 
-abbrev pub method_keeps : List Entry → ℕ → MethodInfo → Bool
-method_keeps pool class_flags m = passes (method_keeps_rules class_flags m) (named_at pool m.name_index m.descriptor_index)
+abbrev pub method_keeps : List Entry → ℕ → ℕ → MethodInfo → Bool
+method_keeps pool major class_flags m = passes (method_keeps_rules major class_flags m) (named_at pool m.name_index m.descriptor_index)
 
 field_is_kept : TypesAgree → (pool : List Entry) (class_flags : ℕ) (f : FieldInfo) (texts : NameAndDescriptor) → IsTrue (field_keeps_rules pool class_flags f texts) → KeepsRulesAsField pool class_flags f.access_flags (static_value pool f) texts
 field_is_kept agree pool class_flags f texts h =
@@ -174,8 +174,8 @@ field_is_kept agree pool class_flags f texts h =
     let type = found _ (field_type_of texts.descriptor) rest.1 in
     record { named = parts.0; type = type.value; described = (agree.field texts.descriptor type.value).1 type.is; flags_keep_rules = rest.0; value_kind = type.passes }
 
-method_is_kept : TypesAgree → (class_flags : ℕ) (m : MethodInfo) (texts : NameAndDescriptor) → IsTrue (method_keeps_rules class_flags m texts) → KeepsRulesAsMethod class_flags m.access_flags (has_code m) texts
-method_is_kept agree class_flags m texts h =
+method_is_kept : TypesAgree → (major class_flags : ℕ) (m : MethodInfo) (texts : NameAndDescriptor) → IsTrue (method_keeps_rules major class_flags m texts) → KeepsRulesAsMethod major class_flags m.access_flags (has_code m) texts
+method_is_kept agree major class_flags m texts h =
     let parts = and_parts _ _ h in
     let rest = and_parts _ _ parts.1 in
     let more = and_parts _ _ rest.1 in
@@ -228,8 +228,11 @@ no_two (a ∷ others) h = let parts = and_parts _ _ h in (unlike_each a others p
 
 abbrev pub members_keep_rules : ClassStructure → Bool
 members_keep_rules c =
-    (list_all (field_keeps c.constant_pool c.access_flags) c.fields && list_all (method_keeps c.constant_pool c.access_flags) c.methods)
+    (list_all (field_keeps c.constant_pool c.access_flags) c.fields && list_all (method_keeps c.constant_pool c.major_version c.access_flags) c.methods)
     && (none_alike (map (field_texts c.constant_pool) c.fields) && none_alike (map (method_texts c.constant_pool) c.methods))
+
+abbrev pub version_supported : ClassStructure → Bool
+version_supported c = is_supported_version c.minor_version c.major_version
 
 abbrev pub numbers_keep_rules : ClassStructure → Bool
 numbers_keep_rules c = pool_fits c.constant_pool && (body_fits c && (attributes_keep_rules c && list_all (keeps_rules c.constant_pool) c.constant_pool))
@@ -250,23 +253,24 @@ class_rules_kept agree c h k =
       };
       members = record {
         fields = each (field_keeps c.constant_pool c.access_flags) _ (λ f t. passed (field_keeps_rules c.constant_pool c.access_flags f) _ (field_is_kept agree c.constant_pool c.access_flags f) (named_at c.constant_pool f.name_index f.descriptor_index) t) c.fields right.0;
-        methods = each (method_keeps c.constant_pool c.access_flags) _ (λ m t. passed (method_keeps_rules c.access_flags m) _ (method_is_kept agree c.access_flags m) (named_at c.constant_pool m.name_index m.descriptor_index) t) c.methods right.1;
+        methods = each (method_keeps c.constant_pool c.major_version c.access_flags) _ (λ m t. passed (method_keeps_rules c.major_version c.access_flags m) _ (method_is_kept agree c.major_version c.access_flags m) (named_at c.constant_pool m.name_index m.descriptor_index) t) c.methods right.1;
       };
       unlike = record { fields = no_two _ apart.0; methods = no_two _ apart.1 };
     }
 
 abbrev pub can_be_read : ClassStructure → Bool
-can_be_read c = numbers_keep_rules c && (itself_keeps_rules c && members_keep_rules c)
+can_be_read c = version_supported c && (numbers_keep_rules c && (itself_keeps_rules c && members_keep_rules c))
 
-pub readable : TypesAgree → (c : ClassStructure) → is_52_0 c.minor_version c.major_version → IsTrue (can_be_read c) → CanBeRead c
-readable agree c version h =
-    let parts = and_parts _ _ h in
+pub readable : TypesAgree → (c : ClassStructure) → IsTrue (can_be_read c) → CanBeRead c
+readable agree c h =
+    let version = and_parts _ _ h in
+    let parts = and_parts _ _ version.1 in
     let numbers = and_parts _ _ parts.0 in
     let body = and_parts _ _ numbers.1 in
     let rest = and_parts _ _ body.1 in
     let rules = and_parts _ _ parts.1 in
     record {
-      version = version;
+      version = version.0;
       well_formed = record {
         pool = record { spelled = refl; fits = numbers.0; rules = each (keeps_rules c.constant_pool) _ (rules_kept agree c.constant_pool) c.constant_pool rest.1 };
         fits = body.0;

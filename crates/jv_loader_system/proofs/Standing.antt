@@ -61,11 +61,11 @@ AreStanding _ _ = ⊥
 abbrev passes_all : ClassStructure → Bool
 passes_all c = can_be_read c && is_supported c
 
-stands : Laws → (c : ClassStructure) (class : Class) → (c.minor_version ≡ 0) × (c.major_version ≡ 52) → IsTrue (passes_all c) → class_of c ≡ Some class → AllByRecursion HasCode class.methods → Stands c class
-stands laws c class version h named code =
+stands : Laws → (c : ClassStructure) (class : Class) → IsTrue (passes_all c) → class_of c ≡ Some class → AllByRecursion HasCode class.methods → Stands c class
+stands laws c class h named code =
     let parts = and_parts _ _ h in
     record {
-      read = readable laws.types c version parts.0;
+      read = readable laws.types c parts.0;
       is = record { named = named; supported = supported laws.types c parts.1; code = all_have class.methods code };
     }
 
@@ -73,26 +73,26 @@ stands laws c class version h named code =
 
 object_stands : Laws → Stands object.object_file object.object
 object_stands laws =
-    stands laws object.object_file object.object (refl, refl) refl refl
+    stands laws object.object_file object.object refl refl
     (within_profile laws object.init_body.code refl, (within_profile laws object.equals_body.code refl, tt))
 
 string_stands : Laws → Stands string.string_file string.string
 string_stands laws =
-    stands laws string.string_file string.string (refl, refl) refl refl
+    stands laws string.string_file string.string refl refl
     (within_profile laws string.length_body.code refl, (within_profile laws string.char_at_body.code refl, (within_profile laws string.hash_code_body.code refl, (within_profile laws string.equals_body.code refl, tt))))
 
 throwable_stands : Laws → Stands throwable.throwable_file throwable.throwable
 throwable_stands laws =
-    stands laws throwable.throwable_file throwable.throwable (refl, refl) refl refl
+    stands laws throwable.throwable_file throwable.throwable refl refl
     (within_profile laws throwable.init_body.code refl, (within_profile laws throwable.message_init_body.code refl, (within_profile laws throwable.get_message_body.code refl, tt)))
 
 interface_stands : Laws → (name : List ℕ) → IsTrue (passes_all (interface_file name)) → Stands (interface_file name) (interface name)
-interface_stands laws name h = stands laws (interface_file name) (interface name) (refl, refl) h refl tt
+interface_stands laws name h = stands laws (interface_file name) (interface name) h refl tt
 
 -- a row's class stands where the tests of its names pass
 row_stands : Laws → (row : throwables.ThrowableRow) → IsTrue (passes_all (throwables.throwable_class_file row)) → Stands (throwables.throwable_class_file row) (throwables.throwable_class row)
 row_stands laws row h =
-    stands laws (throwables.throwable_class_file row) (throwables.throwable_class row) (refl, refl) h refl
+    stands laws (throwables.throwable_class_file row) (throwables.throwable_class row) h refl
     (within_profile laws throwables.init_body.code refl, (within_profile laws throwables.message_init_body.code refl, tt))
 
 abbrev row_passes : throwables.ThrowableRow → Bool

@@ -21,6 +21,7 @@ object_class = 4
 
 abbrev pub interface : List ℕ → Class
 interface name = record {
+  major_version = 52;
   access_flags = acc_public + acc_interface + acc_abstract;
   name = name;
   super_class = Some (codes "java/lang/Object");

@@ -6,6 +6,7 @@ use Rattle.jv_loader_system.specs.Members.{method_without_code}
 
 abbrev pub io : Class
 io = record {
+  major_version = 52;
   access_flags = acc_public + acc_final + acc_super;
   name = codes "host/Io";
   super_class = Some (codes "java/lang/Object");

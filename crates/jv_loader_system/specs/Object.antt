@@ -76,6 +76,7 @@ equals_frames =
 
 abbrev pub object : Class
 object = record {
+  major_version = 52;
   access_flags = acc_public + acc_super;
   name = codes "java/lang/Object";
   super_class = None;

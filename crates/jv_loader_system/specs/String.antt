@@ -210,6 +210,7 @@ equals_frames =
 
 abbrev pub string : Class
 string = record {
+  major_version = 52;
   access_flags = acc_public + acc_final + acc_super;
   name = codes "java/lang/String";
   super_class = Some (codes "java/lang/Object");

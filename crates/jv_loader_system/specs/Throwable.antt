@@ -116,6 +116,7 @@ get_message_body = record {
 
 abbrev pub throwable : Class
 throwable = record {
+  major_version = 52;
   access_flags = acc_public + acc_super;
   name = codes "java/lang/Throwable";
   super_class = Some (codes "java/lang/Object");

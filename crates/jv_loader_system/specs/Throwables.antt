@@ -87,6 +87,7 @@ message_init_body = record {
 
 abbrev pub throwable_class : ThrowableRow → Class
 throwable_class row = record {
+  major_version = 52;
   access_flags = row.access_flags;
   name = row.name;
   super_class = Some row.super_name;

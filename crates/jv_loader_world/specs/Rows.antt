@@ -19,6 +19,7 @@ object_name = codes "java/lang/Object"
 
 abbrev pub class_with : ℕ → List ℕ → Option (List ℕ) → List (List ℕ) → List Method → Class
 class_with flags name super_class interfaces methods = record {
+  major_version = 52;
   access_flags = flags;
   name = name;
   super_class = super_class;
@@ -62,6 +63,7 @@ verdict files place = load_verdict system files place
 
 abbrev pub interface_with : List ℕ → List (List ℕ) → List Method → List Field → Class
 interface_with name supers methods fields = record {
+  major_version = 52;
   access_flags = 1537;
   name = name;
   super_class = Some object_name;
@@ -76,6 +78,7 @@ field_x = record { access_flags = 25; name = codes "x"; descriptor = codes "I"; 
 
 abbrev pub class_between : List ℕ → List ℕ → List (List ℕ) → List Field → Class
 class_between name super_name supers fields = record {
+  major_version = 52;
   access_flags = 1;
   name = name;
   super_class = Some super_name;

@@ -4,7 +4,7 @@
 /// (own order; JVMS 4.1 to 4.7, 5.3.5, 5.4.4, 5.4.5).
 #[derive(Clone, Copy)]
 pub enum LoadVerdict {
-    /// The bytes begin like a class file of a version other than 52.0 (JVMS 4.1).
+    /// The bytes begin like a class file of a version other than 50.0, 51.0 and 52.0 (JVMS 4.1).
     Version,
     /// The bytes are no class file (JVMS 4.1 to 4.7).
     Format,

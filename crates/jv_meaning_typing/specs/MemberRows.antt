@@ -7,7 +7,7 @@ use Rattle.jv_code.specs.declared.kinds.FieldAccess.TheVariants as access
 use Rattle.jv_code.specs.declared.kinds.Invocation.TheVariants as invocations
 use Rattle.jv_meaning_typing.specs.Rule.{handler_frame}
 use Rattle.jv_meaning_typing.specs.Named.{throwable_type}
-use Rattle.jv_meaning_typing.specs.Samples.{b, c, object, of_class, numbers, in_m, in_init, below_own_package, on_stack, on_stack_in, behind, frame, flagged}
+use Rattle.jv_meaning_typing.specs.Samples.{b, c, object, of_class, numbers, in_m, in_init, below_own_package, in_m_of_version, on_stack, on_stack_in, behind, frame, flagged}
 
 -- ---- objects
 
@@ -128,6 +128,19 @@ pub record SpecialRows : Type 0 where
   pub interface_as_class : on_stack (insns.Invoke invocations.Special 53) (types.Long ∷ types.Int ∷ c ∷ []) ≡ Some (types.Int ∷ [])
   pub other_as_class : on_stack (insns.Invoke invocations.Special 54) (types.Long ∷ types.Int ∷ c ∷ []) ≡ None
   pub array : on_stack (insns.Invoke invocations.Special 29) (types.Long ∷ types.Int ∷ c ∷ []) ≡ None
+
+-- in a class file of version 50.0 or 51.0, invokespecial and invokestatic name a method as that of a class only
+pub record OlderRows : Type 0 where
+  pub static : on_stack_in (in_m_of_version 51) (insns.Invoke invocations.Static 27) (types.Long ∷ types.Int ∷ []) ≡ Some (types.Int ∷ [])
+  pub static_of_interface : on_stack_in (in_m_of_version 51) (insns.Invoke invocations.Static 30) (types.Long ∷ types.Int ∷ []) ≡ None
+  pub static_of_interface_50 : on_stack_in (in_m_of_version 50) (insns.Invoke invocations.Static 30) (types.Long ∷ types.Int ∷ []) ≡ None
+  pub static_of_interface_52 : on_stack_in (in_m_of_version 52) (insns.Invoke invocations.Static 30) (types.Long ∷ types.Int ∷ []) ≡ Some (types.Int ∷ [])
+  pub special : on_stack_in (in_m_of_version 51) (insns.Invoke invocations.Special 28) (types.Long ∷ types.Int ∷ c ∷ []) ≡ Some (types.Int ∷ [])
+  pub special_of_interface : on_stack_in (in_m_of_version 51) (insns.Invoke invocations.Special 30) (types.Long ∷ types.Int ∷ c ∷ []) ≡ None
+  pub interface_as_class : on_stack_in (in_m_of_version 51) (insns.Invoke invocations.Special 53) (types.Long ∷ types.Int ∷ c ∷ []) ≡ Some (types.Int ∷ [])
+  pub init : on_stack_in (in_m_of_version 50) (insns.Invoke invocations.Special 38) (types.Uninitialized 0 ∷ []) ≡ Some []
+  pub virtual : on_stack_in (in_m_of_version 50) (insns.Invoke invocations.Virtual 27) (types.Long ∷ types.Int ∷ c ∷ []) ≡ Some (types.Int ∷ [])
+  pub interface : on_stack_in (in_m_of_version 50) (insns.InvokeInterface 31 4) (types.Long ∷ types.Int ∷ object ∷ []) ≡ Some (types.Int ∷ [])
 
 -- ---- the frame of handlers
 

@@ -5,6 +5,7 @@ use Rattle.std.specs.Option.{option_map}
 use Rattle.std.specs.Str.{bytes_eq}
 use Rattle.jv_format.specs.Format.{◌>>=◌}
 use Rattle.jv_text.specs.Name.{is_init}
+use Rattle.jv_class_parts.specs.Version.{is_below_52}
 use Rattle.jv_class.specs.Rules.{is_clinit}
 use Rattle.jv_frames.specs.declared.verification.VerificationTypeOf.TheVariants as types
 use Rattle.jv_frames.specs.Types.{FrameType, words}
@@ -171,8 +172,14 @@ invoke env invocations.Virtual method frame = invoke_virtual env method frame
 invoke env invocations.Special method frame = invoke_special env method frame
 invoke env invocations.Static method frame = invoke_static env method frame
 
+-- in a class file below version 52.0, invokespecial and invokestatic name a method as that of a class only (4.9.1);
+-- invokevirtual does so at each version
+abbrev pub goes_with_version : Environment → MethodUse → Bool
+goes_with_version env method = if is_below_52 (current_class env).major_version then is_of_class method.constant else true
+
 abbrev pub invoke_rule : Environment → Invocation → ℕ → Frame → Option Frame
-invoke_rule env how index frame = method_named_by env index >>= λ method. invoke env how method frame
+invoke_rule env how index frame =
+    method_named_by env index >>= λ method. when (goes_with_version env method) method >>= λ method. invoke env how method frame
 
 abbrev pub invoke_interface_rule : Environment → ℕ → ℕ → Frame → Option Frame
 invoke_interface_rule env index count frame = method_named_by env index >>= λ method. invoke_interface env count method frame

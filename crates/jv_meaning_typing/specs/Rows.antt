@@ -1,7 +1,7 @@
 -- Worked rows of type checking.
 use Rattle.jv_meaning_typing.specs.StackRows.{OneWordRows, CopyRows, TwoWordRows, FourWordRows, NumberRows, ConversionRows, ConstantRows, BranchRows}
 use Rattle.jv_meaning_typing.specs.LocalRows.{LoadRows, StoreRows, StoredKindRows, NumberArrayRows, ReferenceArrayRows, NewArrayRows, LengthRows, ReturnRows}
-use Rattle.jv_meaning_typing.specs.MemberRows.{NewRows, CastRows, InitRows, InitThisRows, FieldRows, PutFieldRows, VirtualRows, StaticRows, InterfaceRows, SpecialRows, HandlerRows}
+use Rattle.jv_meaning_typing.specs.MemberRows.{NewRows, CastRows, InitRows, InitThisRows, FieldRows, PutFieldRows, VirtualRows, StaticRows, InterfaceRows, SpecialRows, OlderRows, HandlerRows}
 use Rattle.jv_meaning_typing.specs.MethodRows.{IntAsObjectRows, ConstructionRows, HalfRows}
 use Rattle.jv_meaning_typing.specs.JudgementRows.{StartRows, ArgumentRows, CatchRows, CoverRows, OverSuperRows, TargetRows, EndRows}
 
@@ -32,6 +32,7 @@ pub record WorkedRows : Type 0 where
   pub static : StaticRows
   pub interface : InterfaceRows
   pub special : SpecialRows
+  pub older : OlderRows
   pub handlers : HandlerRows
   pub int_as_object : IntAsObjectRows
   pub construction : ConstructionRows

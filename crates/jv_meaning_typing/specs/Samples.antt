@@ -145,6 +145,10 @@ method_of_c name result = record {
 abbrev pub in_m : Environment
 in_m = method_of_c (codes "m") None
 
+-- as m, where the file of C has another version
+abbrev pub in_m_of_version : ℕ → Environment
+in_m_of_version major = record in_m { site = record { by = guest (record current { major_version = major }); method = in_m.site.method } }
+
 abbrev pub in_init : Environment
 in_init = method_of_c (codes "<init>") None
 

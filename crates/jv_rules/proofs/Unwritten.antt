@@ -15,6 +15,7 @@ use Rattle.jv_code.specs.Insns.{Instruction}
 use Rattle.jv_code.specs.declared.insn.Insn.TheVariants as insns
 use Rattle.jv_code.specs.declared.kinds.FieldAccess.{FieldAccess}
 use Rattle.jv_code.specs.declared.kinds.FieldAccess.TheVariants as accesses
+use Rattle.jv_code.specs.declared.kinds.Invocation.{Invocation}
 use Rattle.jv_code.specs.declared.kinds.Invocation.TheVariants as invocations
 use Rattle.jv_code.specs.declared.kinds.Test.{Test}
 use Rattle.jv_code.specs.declared.kinds.Test.TheVariants as tests
@@ -27,7 +28,7 @@ use Rattle.jv_meaning_typing.specs.Named.{object_class_type, constant_type, long
 use Rattle.jv_meaning_typing.specs.NumberRules.{Exchange, fixed_exchange, number_arrays, element_number}
 use Rattle.jv_meaning_typing.specs.StackForms.{rearranged}
 use Rattle.jv_meaning_typing.specs.ValueRules.{pushed, has_room, load, value_kind, store, increment, reference_component, with_component, array_length, take_reference, new_object, return_value, return_nothing}
-use Rattle.jv_meaning_typing.specs.MemberRules.{field_guard, taken_for_store, access_field, is_of_class, has_plain_name, called_on, method_guard, counts_arguments, invoke_interface, is_near, invoke_super, constructed_type, constructed, construct_top, invoke_init, invoke}
+use Rattle.jv_meaning_typing.specs.MemberRules.{field_guard, taken_for_store, access_field, is_of_class, has_plain_name, called_on, method_guard, counts_arguments, invoke_interface, is_near, invoke_super, constructed_type, constructed, construct_top, invoke_init, invoke, goes_with_version, invoke_rule}
 use Rattle.jv_meaning_typing.specs.Rule.{test_references, other_rule, by_exchange, effect, within_stack, rule}
 use Rattle.jv_rules.specs.Laws.{keeps_locals}
 
@@ -123,6 +124,11 @@ module _ (G : List FrameType → Bool → Type 0) where
     static_keeps : (method : MethodUse) → Leaves (invoke env invocations.Static method frame)
     static_keeps method = chosen (has_plain_name method) (exchanged env.world method.arguments method.result frame) (exchanged_keeps method.arguments method.result)
 
+    invoked_keeps : (how : Invocation) (index : ℕ) → ((method : MethodUse) → Leaves (invoke env how method frame)) → Leaves (invoke_rule env how index frame)
+    invoked_keeps how index keeps =
+        bound (method_named_by env index) (λ method. when (goes_with_version env method) method >>= λ named. invoke env how named frame)
+        (λ method. bound (when (goes_with_version env method) method) (λ named. invoke env how named frame) keeps)
+
     interface_keeps : (count : ℕ) (method : MethodUse) → Leaves (invoke_interface env count method frame)
     interface_keeps count method =
         chosen (not (is_of_class method.constant) && has_plain_name method && counts_arguments method count) (called_on env method (method.owner ∷ []) frame)
@@ -146,10 +152,9 @@ module _ (G : List FrameType → Bool → Type 0) where
     other_keeps pc (insns.ReturnValue kind) e = return_keeps kind env.descriptor.result
     other_keeps pc insns.Return e = leave_keeps env.descriptor.result
     other_keeps pc (insns.Field access index) e = bound (field_named_by env index) (λ field. access_field env access field frame) (access_keeps access)
-    other_keeps pc (insns.Invoke invocations.Virtual index) e =
-        bound (method_named_by env index) (λ method. invoke env invocations.Virtual method frame) virtual_keeps
+    other_keeps pc (insns.Invoke invocations.Virtual index) e = invoked_keeps invocations.Virtual index virtual_keeps
     other_keeps pc (insns.Invoke invocations.Special index) e = absurd cc
-    other_keeps pc (insns.Invoke invocations.Static index) e = bound (method_named_by env index) (λ method. invoke env invocations.Static method frame) static_keeps
+    other_keeps pc (insns.Invoke invocations.Static index) e = invoked_keeps invocations.Static index static_keeps
     other_keeps pc (insns.InvokeInterface index count) e = bound (method_named_by env index) (λ method. invoke_interface env count method frame) (interface_keeps count)
     other_keeps pc (insns.New index) e = absurd cc
     other_keeps pc (insns.NewReferenceArray index) e =
@@ -267,7 +272,7 @@ module _ (env : Environment) (frame : Frame) where
   writer_keeps pc (insns.Store kind index form) e = store_keeps (value_kind kind) index
   writer_keeps pc (insns.StoreLong index form) e = store_keeps kinds.Long index
   writer_keeps pc (insns.New index) e = new_keeps pc index
-  writer_keeps pc (insns.Invoke invocations.Special index) e = bound Count (method_named_by env index) (λ method. invoke env invocations.Special method frame) special_keeps
+  writer_keeps pc (insns.Invoke invocations.Special index) e = invoked_keeps Count env frame refl invocations.Special index special_keeps
   writer_keeps pc (insns.PoolConstant index form) e = absurd cc
   writer_keeps pc (insns.PoolLongConstant index) e = absurd cc
   writer_keeps pc (insns.Load kind index form) e = absurd cc

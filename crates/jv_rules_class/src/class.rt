@@ -109,6 +109,13 @@ impl<'e, 't, 'a> CurrentClass<'e, 't, 'a> {
         self.constants
     }
 
+    /// The major version of its file (JVMS 4.1).
+    pub fn major(&self) -> u16
+        ensures { result ≡ self.now.by.class.major_version }
+    {
+        self.class.major()
+    }
+
     /// The type of objects of the class.
     pub fn current(&self) -> Item
         ensures { (env : Environment) → IsOfClass self.now env → current_type env ≡ typed self.now.types.names result }

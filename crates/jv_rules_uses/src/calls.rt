@@ -1,8 +1,9 @@
 //! Methods that are called.
 
+ghost use Rattle.std.specs.Prelude.{◌≡◌};
 ghost use Rattle.jv_meaning_typing.specs.Environment.{Environment};
 ghost use Rattle.jv_meaning_typing.specs.Named.{MethodUse};
-ghost use Rattle.jv_meaning_typing.specs.MemberRules.{invoke_super, invoke_special, invoke, invoke_rule, invoke_interface_rule};
+ghost use Rattle.jv_meaning_typing.specs.MemberRules.{invoke_super, invoke_special, invoke, goes_with_version, invoke_rule, invoke_interface_rule};
 ghost use Rattle.jv_rules_frames.specs.Numbered.{frame_of};
 ghost use Rattle.jv_rules_values.specs.Outcomes.{IsOutcome};
 ghost use Rattle.jv_rules_uses.specs.Method.{IsOfMethod};
@@ -83,6 +84,22 @@ fn invoke_as(
     }
 }
 
+/// Whether the constant that names a method is one that the version of the class's file allows: a Methodref, and from
+/// 52.0 on an InterfaceMethodref too.
+fn goes_with_version(
+    context: &MethodContext<'_, '_, '_, '_>,
+    index: u16,
+    called: CalledTypes<'_>,
+) -> bool
+    ensures { (env : Environment) → IsOfMethod context.now env → (named : MethodUse) → Calls context.now.class.types.names env index called.entry named → goes_with_version env named ≡ result }
+{
+    if context.class().major() < 52 {
+        called.of_class
+    } else {
+        true
+    }
+}
+
 /// Calls the method that an index names, as invokevirtual, invokespecial or invokestatic does.
 pub fn invoke(
     context: &MethodContext<'_, '_, '_, '_>,
@@ -93,7 +110,13 @@ pub fn invoke(
     ensures { (env : Environment) → IsOfMethod context.now env → IsOutcome context.now.class.types.names (invoke_rule env how index (frame_of context.now.class.types.names frame.old)) frame.new result }
 {
     match called_types_at(context, index) {
-        Some(called) => invoke_as(context, frame, how, index, called),
+        Some(called) => {
+            if goes_with_version(context, index, called) {
+                invoke_as(context, frame, how, index, called)
+            } else {
+                Outcome::Fails
+            }
+        }
         None => Outcome::Fails,
     }
 }

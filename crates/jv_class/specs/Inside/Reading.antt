@@ -24,9 +24,9 @@ magic_number = such_that (λ k. k == 3405691582) quad
 abbrev pub header : Format Three
 header = both magic_number (both half half)
 
--- the bytes behind the version of a well-formed class
-pub record IsWholeBehind (bytes : List ℕ) (c : ClassStructure) : Type 0 where
-  pub behind : IsBehindVersion bytes c
+-- the bytes behind the version of a well-formed class, which is this major version and 0
+pub record IsWholeBehind (major : ℕ) (bytes : List ℕ) (c : ClassStructure) : Type 0 where
+  pub behind : IsBehindVersion major bytes c
   pub rules : KeepsClassRules c
 
 -- the constant at an index, if there is one, is supported

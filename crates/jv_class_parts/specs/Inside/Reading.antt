@@ -213,10 +213,10 @@ Body = Three × (List ℕ × (List FieldInfo × (List MethodInfo × List Attribu
 abbrev pub class_body : List Entry → Format Body
 class_body pool = both three (both (table half) (both (table (field pool)) (both (table (method pool)) (field_attributes pool false))))
 
-abbrev pub structure_of : List Entry → Body → ClassStructure
-structure_of pool b = record {
+abbrev pub structure_of : ℕ → List Entry → Body → ClassStructure
+structure_of major pool b = record {
   minor_version = 0;
-  major_version = 52;
+  major_version = major;
   constant_pool = pool;
   access_flags = b.0.0;
   this_class = b.0.1.0;
@@ -232,8 +232,8 @@ abbrev pub body_in : Option (Body × List ℕ) → Body
 body_in None = ((0, (0, 0)), ([], ([], ([], []))))
 body_in (Some b) = b.0
 
-abbrev pub structure_in : List Entry → List ℕ → ClassStructure
-structure_in pool bytes = structure_of pool (body_in ((class_body pool).read bytes))
+abbrev pub structure_in : ℕ → List Entry → List ℕ → ClassStructure
+structure_in major pool bytes = structure_of major pool (body_in ((class_body pool).read bytes))
 
 -- ---- what is kept of each part
 

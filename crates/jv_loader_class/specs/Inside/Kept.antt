@@ -10,6 +10,7 @@ use Rattle.jv_loader_class.specs.Inside.Seen.{field_seen, method_seen}
 
 -- what is kept is what the class says
 pub record Keeps (class : Class) (kept : Kept) : Type 0 where
+  pub major : kept.major ≡ class.major_version
   pub access_flags : kept.access_flags ≡ class.access_flags
   pub name : kept.name.now ≡ class.name
   pub super_class : option_copied kept.super_name ≡ class.super_class

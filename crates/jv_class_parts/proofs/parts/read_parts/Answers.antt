@@ -27,8 +27,8 @@ returns-in-Ok-whole_body-clause-ok c =
     let rest : List ℕ = c.split_at.result.1.now in
     let small : IsBytes rest = IsBytes-rest front rest c.args.bytes.now c.split_at.ensures.by_index.0 (λ i. omega (arith, c.type_inv.bytes i)) in
     let pool : IsPool front c.in-Ok.found.0 = subst (λ (x : List ℕ). IsPool x c.in-Ok.found.0) (sym c.split_at.ensures.front) c.in-Ok.ensures.ok in
-    subst (λ (x : List ℕ). IsBehindVersion x (structure_in c.in-Ok.found.0 rest)) (sym c.split_at.ensures.by_index.0)
-    (behind_kept front rest c.in-Ok.found.0 (seen_body c.in-Ok-whole_body.body) small pool c.in-Ok-whole_body.ensures)
+    subst (λ (x : List ℕ). IsBehindVersion c.args.major x (structure_in c.args.major c.in-Ok.found.0 rest)) (sym c.split_at.ensures.by_index.0)
+    (behind_kept c.args.major front rest c.in-Ok.found.0 (seen_body c.in-Ok-whole_body.body) small pool c.in-Ok-whole_body.ensures)
 
 pub returns-clause-format : goal.returns-clause-format
 returns-clause-format c = λ e d b.
@@ -36,8 +36,8 @@ returns-clause-format c = λ e d b.
     let rest : List ℕ = c.split_at.result.1.now in
     let small : IsBytes rest = IsBytes-rest front rest c.args.bytes.now c.split_at.ensures.by_index.0 (λ i. omega (arith, c.type_inv.bytes i)) in
     let pool : IsPool front c.in-Ok.found.0 = subst (λ (x : List ℕ). IsPool x c.in-Ok.found.0) (sym c.split_at.ensures.front) c.in-Ok.ensures.ok in
-    no_body c.one_pool.ensures front rest c.in-Ok.found.0 small pool (no_whole _ ((body_kept c.in-Ok.found.0).read rest) c.in-Err.fault e c.in-Err.ensures) d
-    (subst (λ (x : List ℕ). IsBehindVersion x d) c.split_at.ensures.by_index.0 b)
+    no_body c.one_pool.ensures c.args.major front rest c.in-Ok.found.0 small pool (no_whole _ ((body_kept c.in-Ok.found.0).read rest) c.in-Err.fault e c.in-Err.ensures) d
+    (subst (λ (x : List ℕ). IsBehindVersion c.args.major x d) c.split_at.ensures.by_index.0 b)
 
 pub returns-in-Err-Memory-clause-format : goal.returns-in-Err-Memory-clause-format
 returns-in-Err-Memory-clause-format c = search rules

@@ -288,6 +288,18 @@ returns c = record {
     other_as_class = refl;
     array = refl;
   };
+  older = record {
+    static = refl;
+    static_of_interface = refl;
+    static_of_interface_50 = refl;
+    static_of_interface_52 = refl;
+    special = refl;
+    special_of_interface = refl;
+    interface_as_class = refl;
+    init = refl;
+    virtual = refl;
+    interface = refl;
+  };
   handlers = record {
     plain = refl;
     new = refl;
