@@ -1,7 +1,8 @@
 //! Class files of classes in words.
 //!
 //! A class has its name, `:` and its superclass where that is not java/lang/Object, each direct superinterface
-//! behind another `:`, and its flags where they are not `public`; behind each ` | ` stands a member. Behind ` ~ `
+//! behind another `:`, `@` and its major version where that is not 52, and its flags where they are not `public`;
+//! behind each ` | ` stands a member. Behind ` ~ `
 //! stand bytes in hexadecimal and, behind `>`, those that take their place in the file. A whole file may also stand
 //! in hexadecimal, behind `hex`.
 
@@ -75,7 +76,17 @@ fn new_class<'a>(
     .ok()
 }
 
+/// The names of a class, and the word of its major version.
+fn version<'a>(names: &'a str) -> (&'a str, &'a str) {
+    match names.split_once('@') {
+        Some(parts) => parts,
+        None => (names, "52"),
+    }
+}
+
 fn written<'a>(alloc: Global, flags: u16, names: &'a str, members: &'a str) -> Option<Vec<u8>> {
+    let (names, major) = version(names);
+    let major = major.parse::<u16>().ok()?;
     let (name, rest) = match names.split_once(':') {
         Some(parts) => parts,
         None => (names, "Object"),
@@ -83,6 +94,7 @@ fn written<'a>(alloc: Global, flags: u16, names: &'a str, members: &'a str) -> O
     let (super_name, interfaces) = supers(rest);
     match new_class(alloc, flags, name, super_name) {
         Some(mut class) => {
+            class.set_major(major);
             if add_interfaces(&mut class, interfaces) && add_members(alloc, &mut class, members) {
                 class.finish().ok()
             } else {

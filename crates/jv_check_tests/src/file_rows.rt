@@ -18,9 +18,6 @@ bipush 105, invokestatic Methodref:host/Io:write:(I)V, return = Accepted
 Hi | public+static main ([Ljava/lang/String;)V 1 1 : return ~ b1000000000000>b10000000000 = Format
 Hi | public+static main ([Ljava/lang/String;)V 1 1 : return ~ b1000000000000>b100000000000000 = Format
 Hi | public+static main ([Ljava/lang/String;)V 1 1 : return ~ cafebabe>cafebabf = Format
-Hi | public+static main ([Ljava/lang/String;)V 1 1 : return ~ cafebabe00000034>cafebabe00000033 = Version
-Hi | public+static main ([Ljava/lang/String;)V 1 1 : return ~ cafebabe00000034>cafebabe00000035 = Version
-Hi | public+static main ([Ljava/lang/String;)V 1 1 : return ~ cafebabe00000034>cafebabe00010034 = Version
 A | static m ()V 1 0 : ldc String:text, pop, return = Accepted
 A | static m ()V 1 0 : ldc String:text, pop, return ~ 74657874>7465c080 = Accepted
 A | static m ()V 1 0 : ldc String:text, pop, return ~ 74657874>74657800 = Format
@@ -31,7 +28,7 @@ I2:P public+interface+abstract = Format
 A | public+static <clinit> (I)V 0 1 : return = Format
 A | public <init> ()I 1 1 : iconst_0, ireturn = Format
 -- a version before a form, and a form before what is not supported
-A | public m ()V | public m ()V ~ cafebabe00000034>cafebabe00000033 = Version
+A@49 | public m ()V | public m ()V = Version
 A | public m (F)V | public m (F)V = Format
 -- what is not supported
 A | static m ()I 1 0 : ldc Integer:7, ireturn ~ 0300000007>0400000007 = Unsupported
@@ -70,7 +67,8 @@ A & B & A & A = Accepted, Accepted, Duplicate, Duplicate
 A | static m ()V 0 0 : nop & A = 0 0 8, Duplicate
 A:Missing & A = NoSuper, Duplicate
 A:A & A = Circular, Duplicate
-A ~ cafebabe00000034>cafebabe00000033 & A = Version, Accepted
+A@49 & A = Version, Accepted
+A@50 & A@51 & A = Accepted, Duplicate, Duplicate
 A | private x F & A = Unsupported, Accepted
 A | private x I | private x I & A = Format, Accepted
 -- circles

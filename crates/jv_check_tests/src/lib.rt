@@ -53,4 +53,6 @@ mod system;
 #[cfg(test)]
 mod verdict;
 #[cfg(test)]
+mod version_rows;
+#[cfg(test)]
 mod words;

@@ -146,7 +146,7 @@ pub(crate) fn write_class(
     let cells = [
         Cell::Word("class"),
         Cell::Number(0),
-        Cell::Number(52),
+        Cell::Number(usize::from(class.major())),
         Cell::Flags(class.access_flags().0),
         Cell::Name(class.name()),
         super_of(class),

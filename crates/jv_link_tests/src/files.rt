@@ -1,8 +1,8 @@
 //! Class files of the classes that a text has, a line each.
 //!
-//! A line has the class's flags, joined by `+`, its name, its superclass and its direct superinterfaces;
-//! behind each `|` stands a member, with its flags, its name and its descriptor. The code of a method
-//! returns.
+//! A line has the class's flags, joined by `+`, with `@` and its major version where that is not 52, its
+//! name, its superclass and its direct superinterfaces; behind each `|` stands a member, with its flags,
+//! its name and its descriptor. The code of a method returns.
 
 use crate::row::{Row, is_comment, next_word, read_row};
 use jv_asm_builder::{ClassBuilder, ClassFlags, FieldFlags, MethodFlags, Op};
@@ -118,6 +118,14 @@ fn add_constants<'a>(class: &mut ClassBuilder<'a>, class_name: &str, rows: &'a s
     true
 }
 
+/// The flags of a class, and the word of its major version.
+fn version<'a>(flags: &'a str) -> (&'a str, &'a str) {
+    match flags.split_once('@') {
+        Some(parts) => parts,
+        None => (flags, "52"),
+    }
+}
+
 /// The file of a class, with the constants for its rows; `None` for want of memory, or where the line has
 /// no class.
 fn class_file<'a>(alloc: Global, line: &'a str, rows: &'a str) -> Option<Vec<u8>> {
@@ -126,11 +134,14 @@ fn class_file<'a>(alloc: Global, line: &'a str, rows: &'a str) -> Option<Vec<u8>
         None => (line, ""),
     };
     let mut words = head.split_whitespace();
-    let flags = ClassFlags(flags(next_word(&mut words))?);
+    let (names, major) = version(next_word(&mut words));
+    let major = major.parse::<u16>().ok()?;
+    let flags = ClassFlags(flags(names)?);
     let name = next_word(&mut words);
     let super_name = next_word(&mut words);
     match ClassBuilder::new(alloc, flags, name.as_bytes(), super_name.as_bytes()) {
         Ok(mut class) => {
+            class.set_major(major);
             if add_interfaces(&mut class, head)
                 && add_members(&mut class, members)
                 && add_constants(&mut class, name, rows)

@@ -54,7 +54,10 @@ public WithIL java/lang/Object I L
 public WithBK java/lang/Object B K
 public WithIR java/lang/Object I R
 public WithVW java/lang/Object V W
-public WithJ java/lang/Object J";
+public WithJ java/lang/Object J
+-- of other versions
+public@50 Old java/lang/Object R51 | public m ()V
+public+interface+abstract@51 R51 java/lang/Object B | public+abstract call ()V";
 
 static ROWS: &str = "\
 -- where it is declared
@@ -94,6 +97,11 @@ A m invokestatic InterfaceMethodref W call ()V = W
 A m invokestatic InterfaceMethodref Z call ()V = Z
 A m invokespecial InterfaceMethodref I call ()V = I
 V m invokespecial InterfaceMethodref V call ()V = V
+-- no version is asked for
+Old m invokevirtual Methodref Old call ()V = R51
+Old m invokestatic InterfaceMethodref W call ()V = W
+A m invokeinterface InterfaceMethodref R51 call ()V = R51
+A m invokevirtual Methodref Old m ()V = Old
 -- the constant is of the kind of its class, which is asked before the method
 A m invokestatic Methodref W call ()V = IncompatibleClassChangeError
 A m invokevirtual Methodref I call ()V = IncompatibleClassChangeError

@@ -4,7 +4,7 @@
 /// isn't accepted has `Unsupported`.
 #[derive(Clone, Copy)]
 pub enum Verdict {
-    /// The version is not 52.0 (JVMS 4.1).
+    /// The version is none of 50.0, 51.0 and 52.0 (JVMS 4.1).
     Version,
     /// A rule of the class file format is broken (JVMS 4.1 to 4.7).
     Format,

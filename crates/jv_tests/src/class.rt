@@ -40,7 +40,8 @@ fn law() {
 
 /// Whether a class has the parts of `HI`.
 fn has_parts(class: &ClassFile<'_>) -> bool {
-    class.access_flags().0 == 0x21
+    class.major() == 52
+        && class.access_flags().0 == 0x21
         && class.this_class().0 == 2
         && class.name() == b"Hi".as_slice()
         && class.super_class().is_some()
@@ -137,7 +138,7 @@ fn is_of_other_version(alloc: Global, file: &[u8; 168]) -> bool {
 }
 
 /// Minor and major version.
-static VERSIONS: [(u8, u8); 3] = [(0, 51), (0, 53), (1, 52)];
+static VERSIONS: [(u8, u8); 6] = [(0, 49), (0, 53), (1, 50), (1, 51), (1, 52), (52, 0)];
 
 #[test]
 fn versions(rt: HostRuntime) {
@@ -147,11 +148,28 @@ fn versions(rt: HostRuntime) {
     }
 }
 
+/// Whether the file of a major version is read, and its class shows that version.
+fn shows_major(alloc: Global, major: u8) -> bool {
+    match read_class(alloc, &patched(&[(7, major)])) {
+        Ok(class) => class.major() == u16::from(major),
+        Err(_) => false,
+    }
+}
+
+static MAJORS: [u8; 3] = [50, 51, 52];
+
+#[test]
+fn supported_versions(rt: HostRuntime) {
+    for major in &MAJORS {
+        assert!(rt; shows_major(rt.alloc(), *major), "{major}");
+    }
+}
+
 /// A rule that is broken, and by which bytes at which offsets.
 static BROKEN: [(&str, &[(usize, u8)]); 34] = [
     (
         "another magic, before another version",
-        &[(3, 0xbf), (7, 51)],
+        &[(3, 0xbf), (7, 49)],
     ),
     ("a pool count of 0", &[(9, 0)]),
     ("tag 2", &[(15, 2)]),
@@ -290,10 +308,18 @@ static METHODS: [(&str, [u8; 4], &[u8], &[u8], &str); 17] = [
     ),
 ];
 
-/// What is said of the file with other flags and with another name and descriptor of its method.
-fn answer_to_method(alloc: Global, flags: [u8; 4], name: &[u8], descriptor: &[u8]) -> &'static str {
+/// What is said of the file of a major version with other flags and with another name and descriptor
+/// of its method.
+fn answer_to_method(
+    alloc: Global,
+    major: u8,
+    flags: [u8; 4],
+    name: &[u8],
+    descriptor: &[u8],
+) -> &'static str {
     let [high, low, method_high, method_low] = flags;
     let patches = [
+        (7, major),
         (117, high),
         (118, low),
         (129, method_high),
@@ -308,7 +334,46 @@ fn answer_to_method(alloc: Global, flags: [u8; 4], name: &[u8], descriptor: &[u8
 #[test]
 fn names_of_methods(rt: HostRuntime) {
     for (case, flags, name, descriptor, wanted) in &METHODS {
-        let found = answer_to_method(rt.alloc(), *flags, name, descriptor);
+        let found = answer_to_method(rt.alloc(), 52, *flags, name, descriptor);
         assert!(rt; found == *wanted, "{case}");
+    }
+}
+
+/// Major version, high and low byte of the class's and of the method's flags, name, and what is said of
+/// the file. The method has code, so that it is not abstract.
+static OLDER: [(&str, u8, [u8; 4], &[u8], &str); 8] = [
+    ("a method of a class", 50, [0, 0x21, 0, 0], MAIN, "Read"),
+    ("a default method", 51, [6, 1, 0, 1], MAIN, "Format"),
+    ("a default method", 50, [6, 1, 0, 1], MAIN, "Format"),
+    (
+        "a static method of an interface",
+        51,
+        [6, 1, 0, 9],
+        MAIN,
+        "Format",
+    ),
+    (
+        "a private method of an interface",
+        51,
+        [6, 1, 0, 2],
+        MAIN,
+        "Format",
+    ),
+    ("a default method", 52, [6, 1, 0, 1], MAIN, "Read"),
+    ("<clinit> of an interface", 50, [6, 1, 0, 8], CLINIT, "Read"),
+    (
+        "<clinit> of an interface that is not static",
+        51,
+        [6, 1, 4, 1],
+        CLINIT,
+        "Format",
+    ),
+];
+
+#[test]
+fn methods_by_version(rt: HostRuntime) {
+    for (case, major, flags, name, wanted) in &OLDER {
+        let found = answer_to_method(rt.alloc(), *major, *flags, name, VOID);
+        assert!(rt; found == *wanted, "{case}, {major}");
     }
 }

@@ -49,6 +49,16 @@ fn steps_to_the_end(rt: HostRuntime) {
     assert!(rt; writes_hi(rt.alloc(), &HI));
 }
 
+/// Major versions.
+static MAJORS: [u8; 2] = [50, 51];
+
+#[test]
+fn older_versions(rt: HostRuntime) {
+    for major in &MAJORS {
+        assert!(rt; writes_hi(rt.alloc(), &patched(&[(7, *major)])), "{major}");
+    }
+}
+
 #[test]
 fn attributes_that_are_passed_over(rt: HostRuntime) {
     assert!(rt; writes_hi(rt.alloc(), HI_WITH_ATTRIBUTES));

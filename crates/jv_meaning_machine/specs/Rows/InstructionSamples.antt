@@ -32,6 +32,7 @@ pub record Setting : Type 0 where
 
 abbrev pub current : Setting → Class
 current setting = record {
+  major_version = 52;
   access_flags = 1;
   name = main_name;
   super_class = Some object_name;

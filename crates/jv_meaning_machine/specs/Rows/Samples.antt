@@ -176,6 +176,7 @@ method flags name descriptor body = record { access_flags = flags; name = name; 
 
 abbrev pub class_with : List ℕ → List ℕ → List ℕ → List Field → List Method → Class
 class_with name super_name text fields methods = record {
+  major_version = 52;
   access_flags = 1;
   name = name;
   super_class = Some super_name;
