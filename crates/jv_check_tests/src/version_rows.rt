@@ -44,7 +44,6 @@ K@50 public+interface+abstract | public+abstract <clinit> ()V 0 1 : return = For
 K public+interface+abstract | package <clinit> ()V 0 1 : return = Format
 A@50 | package <clinit> ()V 0 1 : return = Format
 -- those of a class are not
-A@50 | package m ()V 0 1 : return | private+static n ()V 0 0 : return | public+abstract o ()V = Format
 A@50 public+abstract | package m ()V 0 1 : return | private+static n ()V 0 0 : return | public+abstract o ()V = Accepted
 A@51 | package m ()V 0 1 : return | private+static n ()V 0 0 : return = Accepted
 -- a version before a form, and a form before what is not supported
