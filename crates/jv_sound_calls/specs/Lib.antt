@@ -1,0 +1,11 @@
+pub use Rattle.jv_sound_members.specs.of_format as of_format
+pub use Rattle.jv_sound_members.specs.of_text as of_text
+pub use Rattle.jv_sound_members.specs.of_code as of_code
+pub use Rattle.jv_sound_members.specs.of_frames as of_frames
+pub use Rattle.jv_sound_members.specs.of_loader_system as of_loader_system
+pub use Rattle.jv_sound_members.specs.of_loader_world as of_loader_world
+pub use Rattle.jv_sound_members.specs.of_meaning_linking as of_meaning_linking
+pub use Rattle.jv_sound_members.specs.of_assign as of_assign
+pub use Rattle.jv_sound_members.specs.of_meaning_typing as of_meaning_typing
+pub use Rattle.jv_sound_members.specs.of_meaning_machine as of_meaning_machine
+pub use Rattle.jv_sound_members.specs.of_sound_values as of_sound_values

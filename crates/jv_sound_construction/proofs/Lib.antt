@@ -1,0 +1,16 @@
+pub mod New
+pub mod Constructing
+pub mod NewObjects
+pub mod InitCalls
+pub mod ConstructorCalls
+pub use Rattle.jv_sound_calls.proofs.laws_of_loader_world as laws_of_loader_world
+pub use Rattle.jv_sound_calls.proofs.laws_of_meaning_linking as laws_of_meaning_linking
+pub use Rattle.jv_sound_calls.proofs.laws_of_assign as laws_of_assign
+pub use Rattle.jv_sound_calls.proofs.laws_of_meaning_typing as laws_of_meaning_typing
+pub use Rattle.jv_sound_calls.proofs.laws_of_meaning_machine as laws_of_meaning_machine
+pub use Rattle.jv_sound_calls.proofs.laws_of_sound_values as laws_of_sound_values
+pub use Rattle.jv_sound_files.proofs as laws_of_sound_files
+pub use Rattle.jv_sound_calls.proofs.laws_of_sound_memory as laws_of_sound_memory
+pub use Rattle.jv_sound_calls.proofs.laws_of_sound_numbers as laws_of_sound_numbers
+pub use Rattle.jv_sound_calls.proofs.laws_of_sound_members as laws_of_sound_members
+pub use Rattle.jv_sound_calls.proofs as laws_of_sound_calls
