@@ -1,8 +1,8 @@
 -- What the other parts ask of the classes of a judged guest's world, from their files' rules (F1 to F6), and the tasks of initializations
 -- (F15).
 use Rattle.std.proofs.Common.{◌≡◌, ◌⊎◌, inl, inr, ℕ, Bool, true, false, not, ◌&&◌, ◌||◌, List, [], ◌∷◌, ◌++◌, map, Option, Some, None, refl, sym, ap, subst, ◌∙◌}
-use Rattle.std.specs.Prelude.{IsTrue, IsSome, is_some, codes}
-use Rattle.std.specs.List.{AllByRecursion, Contains, list_any, filter_map, cons_option}
+use Rattle.std.specs.Prelude.{IsTrue, IsSome, is_some, if◌then◌else◌, codes}
+use Rattle.std.specs.List.{AllByRecursion, Contains, list_any, find, filter_map, cons_option}
 use Rattle.std.specs.Option.{option_map, option_to_list}
 use Rattle.std.specs.Str.{bytes_eq}
 use Rattle.jv_sound_memory.specs.of_text.declared.descriptor.FieldTypeOf.{FieldTypeOf}
@@ -24,7 +24,6 @@ use Rattle.jv_sound_memory.proofs.laws_of_loader_world.Up.{first, later, named_s
 use Rattle.jv_sound_memory.specs.of_meaning_linking.Kind.{is_static_field, is_static_method}
 use Rattle.jv_sound_memory.specs.of_meaning_linking.InitializationOrder.{init_order}
 use Rattle.jv_sound_memory.proofs.laws_of_meaning_linking.Found.{method_is_named}
-use Rattle.jv_sound_memory.proofs.laws_of_meaning_linking.Finals.{found_stands}
 use Rattle.jv_sound_memory.proofs.laws_of_meaning_linking.Searched.{init_order_is_above}
 use Rattle.jv_sound_memory.specs.of_meaning_machine.Frames.{Task}
 use Rattle.jv_sound_memory.specs.of_meaning_machine.Frames.Task.{SetsField, InitializesFirst, RunsInitializer}
@@ -44,6 +43,15 @@ use Rattle.jv_sound_files.proofs.Formed.{field_test, method_test, code_test, con
 -- all classes of the world
 pub record AreFormed (program : Program) : Type 0 where
   pub each : (l : Loaded) → Contains program.world l → IsFormed l.class × (IsCoded l.class ⊎ (l ≡ loaded true io))
+
+-- what is found in a list stands in it
+found_stands : {A : Type 0} (test : A → Bool) (xs : List A) (y : A) → find test xs ≡ Some y → Contains xs y
+found_stands test [] y e = absurd cc
+found_stands test (x ∷ xs) y e = by_test (test x) e (λ k. found_stands test xs y k)
+  where
+    by_test : (b : Bool) → (if b then Some x else find test xs) ≡ Some y → (find test xs ≡ Some y → Contains xs y) → Contains (x ∷ xs) y
+    by_test true e next = let s : x ≡ y = cc in subst (λ z. Contains (x ∷ xs) z) s (first x xs)
+    by_test false e next = later x xs y (next e)
 
 pub field_stands : (class : Class) (name descriptor : List ℕ) (f : Field) → field_named class name descriptor ≡ Some f
     → Contains class.fields f
