@@ -374,7 +374,7 @@ module _ (program : Program) (rooted : IsRooted program.world) (next_starts : Ne
           (catching_of heap (promise_of f) fs c.1) loadable)
         where
           main_below : (f : MethodFrame) (fs : List Frame) → HasMain program t.control.main (Runs f ∷ fs) →
-          HasMain program t.control.main fs
+              HasMain program t.control.main fs
           main_below f [] m = tt
           main_below f (x ∷ fs) m = m
 
