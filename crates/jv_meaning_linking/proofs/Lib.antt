@@ -1,6 +1,6 @@
 pub mod Found
 pub mod Searched
-mod Resolved
+pub mod Resolved
 pub mod Run
 pub mod Chain
 pub mod Places

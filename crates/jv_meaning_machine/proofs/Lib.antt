@@ -23,4 +23,4 @@ mod NewObjects
 mod StepDoes
 mod Decoding
 mod Shown
-mod Rooting
+pub mod Rooting

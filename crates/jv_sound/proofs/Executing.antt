@@ -55,7 +55,7 @@ use Rattle.jv_sound_steps.proofs.laws_of_sound_numbers.Branches.{has_targets, go
 use Rattle.jv_sound_steps.proofs.laws_of_sound_numbers.StackForms.{stack_ok}
 use Rattle.jv_sound_steps.proofs.laws_of_sound_numbers.Increments.{increment_ok}
 use Rattle.jv_sound_steps.proofs.laws_of_sound_numbers.Returns.{return_value_ok, return_ok}
-use Rattle.jv_sound_steps.proofs.laws_of_sound_numbers.LongConstants.{pool_long_ok}
+use Rattle.jv_sound_steps.proofs.laws_of_sound_members.LongConstants.{pool_long_ok}
 use Rattle.jv_sound_steps.proofs.laws_of_sound_members.Constants.{pool_constant_ok}
 use Rattle.jv_sound_arrays.proofs.Lengths.{array_length_ok}
 use Rattle.jv_sound_arrays.proofs.ArrayLoads.{array_load_ok, reference_array_load_ok}
@@ -142,13 +142,13 @@ module _ (x : Setting) (sound : IsSound (program_of x)) (formed : AreFormed (pro
       by_insn None stands f = absurd cc
       by_insn (Some (insns.New index)) stands f =
           let leaves = (checked.typing.below offset (insns.New index) stands
-              (start_within x.frame.method offset (insns.New index) checked.is stands)).leaves in
+          (start_within x.frame.method offset (insns.New index) checked.is stands)).leaves in
           let g = some_there (rule x.frame.method offset (insns.New index) (checked.frames offset)) leaves in
           let done = chained (effect x.frame.method offset (insns.New index) (checked.frames offset))
-              (within_stack x.frame.method) g.0 g.1 in
+          (within_stack x.frame.method) g.0 g.1 in
           let named = chained (operand_name x.frame.method index) _ done.0 done.1 in
           let operand = chained (class_operand (current_class x.frame.method) index)
-              (λ t. when (not (is_array_name t)) t) named.0 named.1 in
+          (λ t. when (not (is_array_name t)) t) named.0 named.1 in
           let same : operand.0 ≡ text = same_text operand.0 (sym operand.1 ∙ f) in
           ap is_array_name (sym same) ∙ by_when (is_array_name operand.0) operand.0 named.0 operand.2
         where
@@ -274,8 +274,17 @@ module _ (x : Setting) (sound : IsSound (program_of x)) (formed : AreFormed (pro
 abbrev setting_of : (program : Program) (memory : Memory) (control : Control) (heap : Heap) (depth : ℕ) (frame : MethodFrame)
     → IsRunning program heap depth frame → Setting
 setting_of program memory control heap depth frame r =
-    record { base = program; states = control.states; rest = memory; heap = heap; depth = depth; frame = frame; made = r.made; given =
-        r.checked.frames frame.offset }
+    record {
+      base = program;
+      states = control.states;
+      rest = memory;
+      heap = heap;
+      depth = depth;
+      frame = frame;
+      made = r.made;
+      given =
+          r.checked.frames frame.offset;
+    }
 
 module _ (program : Program) (sound : IsSound program) (formed : AreFormed program) (units : AreUnits program.units) (memory : Memory)
     (control : Control) (heap : Heap) (depth : ℕ) (frame : MethodFrame) (r : IsRunning program heap depth frame)
@@ -324,7 +333,7 @@ module _ (program : Program) (sound : IsSound program) (formed : AreFormed progr
       let given = rule_ok program heap depth frame r in
       target_there frame.method r.checked.maps r.checked.frames r.checked.is r.checked.typing frame.offset insn given.0 o stands
       (ap (λ (i : Instruction). rule frame.method frame.offset i (r.checked.frames frame.offset))
-          (same_insn insn (sym stands ∙ r.stands)) ∙ given.1) c
+      (same_insn insn (sym stands ∙ r.stands)) ∙ given.1) c
     where
       same_insn : (i : Instruction) → Some i ≡ Some r.insn → i ≡ r.insn
       same_insn i k = cc
@@ -336,7 +345,7 @@ module _ (program : Program) (sound : IsSound program) (formed : AreFormed progr
       subst (λ (p : Program). Agrees (AreEffects p (here x) frame r.insn x.given) (effect frame.method frame.offset r.insn x.given)
       (execute (in_program p memory) r.insn)) same_program
       (subst (λ (m : Memory). Agrees (AreEffects (program_of x) (here x) frame r.insn x.given)
-          (effect frame.method frame.offset r.insn x.given) (execute (in_program (program_of x) m) r.insn)) same_memory
+      (effect frame.method frame.offset r.insn x.given) (execute (in_program (program_of x) m) r.insn)) same_memory
       (instruction_ok x own_sound own_formed units own_checked set targets r.insn r.stands))
 
 pub execute_ok : (program : Program) → IsSound program → AreFormed program → AreUnits program.units

@@ -1,6 +1,6 @@
 -- A judged guest meets no fault: what is proved of instructions, of effects, of initializations and of the start, put together.
 use Rattle.std.proofs.Common.{◌≡◌, ℕ, Bool, false, List, length, Option, Some, sym, ap, ◌∙◌}
-use Rattle.std.specs.Prelude.{IsTrue, IsOk, codes, ◌||◌}
+use Rattle.std.specs.Prelude.{IsTrue, codes, ◌||◌}
 use Rattle.std.specs.Str.{bytes_eq}
 use Rattle.jv_text.specs.Descriptor.{MethodDescriptor}
 use Rattle.jv_text.specs.Name.{is_init}
@@ -9,7 +9,7 @@ use Rattle.jv_sound_steps.specs.of_frames.Frames.{Frame as TypesOf}
 use Rattle.jv_code.specs.Places.{StandsInList, NextStarts, OneList}
 use Rattle.jv_sound_steps.specs.of_loader_world.Overriding.{Declared}
 use Rattle.jv_sound_steps.specs.of_meaning_typing.Rule.{rule}
-use Rattle.jv_sound_steps.specs.of_meaning_machine.Alone.{Feed, GuestFiles, Judged, IsJudged, AreUnits, alone}
+use Rattle.jv_sound_steps.specs.of_meaning_machine.Alone.{AreUnits}
 use Rattle.jv_sound_steps.specs.of_meaning_machine.Effects.{Effect}
 use Rattle.jv_sound_steps.specs.of_meaning_machine.Effects.Effect.{Goes, Enters, Constructs, Leaves, Throws, Raises, Begins}
 use Rattle.jv_sound_steps.specs.of_meaning_machine.Frames.{MethodFrame, Frame}
@@ -26,7 +26,7 @@ use Rattle.jv_sound_steps.specs.of_sound_values.Frames.Promise.{Gives}
 use Rattle.jv_sound.specs.Law.{NeverFaults}
 use Rattle.jv_sound_steps.specs.of_sound_values.Effects.{IsThrown, ArePassed, AreEffects}
 use Rattle.jv_sound_steps.proofs.laws_of_sound_world.Asked.{AreFormed, tasks_ok, parameters_are_sorts, constructor_rules}
-use Rattle.jv_sound_steps.proofs.laws_of_sound_frames.Acting.{goes, enters, throws as throws_acts, raised as raised_acts, leaves, begins_one}
+use Rattle.jv_sound.proofs.Acting.{goes, enters, throws as throws_acts, raised as raised_acts, leaves, begins_one}
 use Rattle.jv_sound_steps.proofs.Beginning.{raise_ok, throw_ok, within_ok, begin_ok}
 use Rattle.jv_sound_steps.proofs.Catching.{catch_fits}
 use Rattle.jv_sound_steps.proofs.ConstructsActs.{constructs_acts}
@@ -56,7 +56,7 @@ promise_is : (program : Program) (f : MethodFrame) (d : Declared) (heap : Heap) 
     → (passed : ArePassed program heap d receiver arguments) → promise_of f ≡ Gives passed.descriptor.result
 promise_is program f d heap receiver arguments checked site plain passed =
     let same : f.method.descriptor ≡ passed.descriptor = some_same f.method.descriptor passed.descriptor
-        (sym checked.is.descriptor ∙ ap (λ (x : Declared). method_type_of x.method.descriptor) site ∙ passed.described) in
+    (sym checked.is.descriptor ∙ ap (λ (x : Declared). method_type_of x.method.descriptor) site ∙ passed.described) in
     ap (λ (b : Bool). promise_by b f.method f.receiver) (ap (λ (x : Declared). is_init x.method.name) site ∙ plain) ∙ ap
     (λ (x : MethodDescriptor). Gives x.result) same
 
@@ -107,7 +107,7 @@ module _ (one_list : OneList) (next_starts : NextStarts) (stands_in_list : Stand
   -- what each effect makes of the frames
   acts :
       (control : Control) (frame : MethodFrame) (below : List Frame) (heap : Heap) → AreVerified program control.states
-          → ((fs : List Frame) → HasMain program control.main fs)
+      → ((fs : List Frame) → HasMain program control.main fs)
       → (r : IsRunning program heap (length below) frame) → AreWaiting program heap (promise_of frame) below → (g : TypesOf)
       → rule frame.method frame.offset r.insn (r.checked.frames frame.offset) ≡ Some g
       → (out : Memory × Effect) → AreEffects program (place_of heap (length below) frame r.made) frame r.insn

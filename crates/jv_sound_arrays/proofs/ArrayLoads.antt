@@ -47,13 +47,13 @@ pub array_at : (objects : List Object) (id : ℕ) (components : FieldTypeOf (Lis
     → Holds (λ (array : Components). array ≡ (components, values)) (found ReferenceFault (slice_get objects id) >>= array_in)
 array_at objects id components values e =
     then_holds (found_holds {P = λ o. o ≡ ArrayWith components values} ReferenceFault (slice_get objects id)
-        (ArrayWith components values) e refl) (λ o same_object.
+    (ArrayWith components values) e refl) (λ o same_object.
     subst (λ (o : Object). Holds (λ (array : Components). array ≡ (components, values)) (array_in o)) (sym same_object) (holds refl))
 
 module _ (x : Setting) (h : IsSet x) where
   loads :
       (insn : Instruction) (test : FieldTypeOf (List ℕ) → Bool) (P : FieldTypeOf (List ℕ)
-          → Type 0) (type : FrameType) (index : ℤ) (S : List FrameType) (s : List Value) (v : Value)
+      → Type 0) (type : FrameType) (index : ℤ) (S : List FrameType) (s : List Value) (v : Value)
       → IsTrue (falls_through insn) → KeepsLocals x insn → IsSort type → ((c : FieldTypeOf (List ℕ)) → P c → test c ≡ true)
       → ((c : FieldTypeOf (List ℕ)) (w : Value) → P c → Fits (world_of x) x.heap.objects (value_type c) w
       → Fits (world_of x) x.heap.objects type w) → IsArray x.heap.objects P v → HasStack (here x) S s
@@ -63,7 +63,7 @@ module _ (x : Setting) (h : IsSet x) where
   loads insn test P type index S s (Reference id) falls keeps sort passes fits a hs =
       then_holds (array_at x.heap.objects id a.0 a.1 a.2) (λ array same_array.
       then_holds (tested_holds {P = λ (b : Components). b ≡ (a.0, a.1)} ReferenceFault (test array.0) array
-          (ap (λ (b : Components). test b.0) same_array ∙ passes a.0 a.3) same_array) (λ array same_again.
+      (ap (λ (b : Components). test b.0) same_array ∙ passes a.0 a.3) same_array) (λ array same_again.
       subst (λ (b : Components). Does x insn (with_stack x.given (type ∷ S)) (load_at (context_of x insn) s (at_place index b.1)))
       (sym same_again) (by_place index)))
     where
@@ -109,9 +109,9 @@ module _ (x : Setting) (h : IsSet x) where
       by_array index c S v s f hs false e = record { by = tt }
       by_array index c S v s f hs true e =
           let known = array_weaker x.heap.objects _ (IsReferences (world_of x) c) v
-              (λ d below. reference_components (world_of x) c d e below) (array_value (world_of x) x.heap.objects c v f) in
+          (λ d below. reference_components (world_of x) c d e below) (array_value (world_of x) x.heap.objects c v f) in
           then2 {f = λ below. Some (with_stack x.given (value_type c ∷ below))}
-              (array_taken (here x) h.rooted h.loadable (IsReferences (world_of x) c) c S v s f known hs) (λ T under g.
+          (array_taken (here x) h.rooted h.loadable (IsReferences (world_of x) c) c S v s f known hs) (λ T under g.
           agrees_from (loads insns.ReferenceArrayLoad holds_references (IsReferences (world_of x) c)
           (value_type c) index T under.1 under.0 refl refl (usable_sort (value_type c) (value_usable c.dimensions c.element e)) (λ d k. k.0)
           (λ d w k fit. fits_below (world_of x) h.rooted x.heap.objects (value_type d) (value_type c) w

@@ -45,7 +45,7 @@ module _ (x : Setting) (h : IsSet x) where
   -- a component of an array is another value of its type
   stored_ok :
       (insn : Instruction) (S : List FrameType) (s : List Value) (id : ℕ) (components : FieldTypeOf (List ℕ)) (values : List Value)
-          (place : ℕ) (v : Value)
+      (place : ℕ) (v : Value)
       → IsTrue (falls_through insn) → slice_get x.heap.objects id ≡ Some (ArrayWith components values)
       → Fits (world_of x) x.heap.objects (value_type components) v → HasStack (here x) S s
       → Does x insn (with_stack x.given S) (goes_on_with (context_of x insn)
@@ -103,11 +103,11 @@ module _ (x : Setting) (h : IsSet x) where
       stores index U s v (Reference id) f a hs =
           then_holds (array_at x.heap.objects id a.0 a.1 a.2) (λ array same_array.
           then_holds (tested_holds {P = λ (b : Components). b ≡ (a.0, a.1)} ReferenceFault (holds_numbers kind array.0) array
-              (ap (λ (b : Components). holds_numbers kind b.0) same_array ∙ a.3.0) same_array) (λ array same_again.
+          (ap (λ (b : Components). holds_numbers kind b.0) same_array ∙ a.3.0) same_array) (λ array same_again.
           subst (λ (b : Components). Does x (insns.ArrayStore kind) (with_stack x.given U)
           (store_at (context_of x (insns.ArrayStore kind)) id b index v s (at_place index b.1))) (sym same_again)
           (by_place index U s v id a.0 a.1 a.2 (subst (λ (t : FrameType). Fits (world_of x) x.heap.objects t v) (sym a.3.1) f) hs
-              (at_place index a.1))))
+          (at_place index a.1))))
       stores index U s v _ f a hs = absurd a
 
   -- a reference that can stand in an array is of its components' type
@@ -121,8 +121,13 @@ module _ (x : Setting) (h : IsSet x) where
       subst (λ (o : Object). Holds (λ (b : Bool). b ≡ true → Fits (world_of x) x.heap.objects (value_type components) (Reference id))
       (Ok (is_instance_of (world_of x) o components))) (sym same_object)
       (holds (λ e. object_of_usable (world_of x) x.heap.objects (value_type components) id usable
-      (record { object = f.object; there = f.there; constructed = f.constructed; below = instance_below
-      (world_of x) h.rooted f.object components (element_loadable (world_of x) f.object (h.loadable id f.object f.there)) e }))))
+      (record {
+        object = f.object;
+        there = f.there;
+        constructed = f.constructed;
+        below = instance_below
+            (world_of x) h.rooted f.object components (element_loadable (world_of x) f.object (h.loadable id f.object f.there)) e;
+      }))))
   stands components _ usable f = absurd f
 
   pub reference_array_store_ok : Sound x insns.ReferenceArrayStore
@@ -160,7 +165,7 @@ module _ (x : Setting) (h : IsSet x) where
       stores index S s v (Reference id) f a hs =
           then_holds (array_at x.heap.objects id a.0 a.1 a.2) (λ array same_array.
           then_holds (tested_holds {P = λ (b : Components). b ≡ (a.0, a.1)} ReferenceFault (holds_references array.0) array
-              (ap (λ (b : Components). holds_references b.0) same_array ∙ a.3.0) same_array) (λ array same_again.
+          (ap (λ (b : Components). holds_references b.0) same_array ∙ a.3.0) same_array) (λ array same_again.
           subst (λ (b : Components). Does x insns.ReferenceArrayStore (with_stack x.given S)
           (store_reference_at (context_of x insns.ReferenceArrayStore) id b index v s (at_place index b.1))) (sym same_again)
           (by_place index S s v id a.0 a.1 a.2 (value_usable a.0.dimensions a.0.element a.3.0) f hs (at_place index a.1))))

@@ -108,7 +108,7 @@ pub number_array : (world : World) (objects : List Object) (kind : NumberElement
     → IsReferenceTo world objects (array_of_base b) v → IsArray objects (IsNumbers kind) v
 number_array world objects kind b v h f =
     array_weaker objects _ (IsNumbers kind) v (λ c below. number_components world kind b c.dimensions c.element h below)
-        (array_value world objects (record { dimensions = 0; element = elements.Base b }) v f)
+    (array_value world objects (record { dimensions = 0; element = elements.Base b }) v f)
 
 -- ---- arrays of references
 
@@ -165,8 +165,13 @@ fits_below world rooted objects t u v usable b f = by_types t u (below_is_refere
   where
     by_value : (t u : FrameType) (v : Value) → IsBelow world t u → IsReferenceTo world objects t v → IsReferenceTo world objects u v
     by_value t u Null b f = tt
-    by_value t u (Reference id) b f = record { object = f.object; there = f.there; constructed = f.constructed; below = below_is_transitive
-        world rooted (object_type f.object) t u f.below b }
+    by_value t u (Reference id) b f = record {
+      object = f.object;
+      there = f.there;
+      constructed = f.constructed;
+      below = below_is_transitive
+          world rooted (object_type f.object) t u f.below b;
+    }
     by_value t u _ b f = absurd f
 
     by_types : (t u : FrameType) → is_usable_reference t ≡ true → is_usable_reference u ≡ true → IsBelow world t u → Fits world objects t v
@@ -192,8 +197,11 @@ module _ (p : Place) (rooted : IsRooted p.method.world) (loadable : AreLoadable 
       → IsReferenceTo p.method.world p.heap.objects (types.Array c) v → IsArray p.heap.objects P v
       → HasStack p S s → Agrees (IsTakenArray P) (Some S) (taken_reference p.heap.objects (v ∷ s))
   array_taken P c S v s f a hs =
-      rw (sort_has_type p.method.world p.heap.objects (types.Array c) v tt f, sort_usable p.method.world p.heap.objects
-      (types.Array c) v tt f) (both (a, hs))
+      rw (
+        sort_has_type p.method.world p.heap.objects (types.Array c) v tt f,
+        sort_usable p.method.world p.heap.objects
+            (types.Array c) v tt f,
+      ) (both (a, hs))
 
   -- an array of numbers of a kind
   pub numbers_taken : (kind : NumberElement) (S : List FrameType) (s : List Value) → HasStack p S s

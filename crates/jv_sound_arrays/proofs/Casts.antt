@@ -37,7 +37,7 @@ module _ (x : Setting) (h : IsSet x) where
   -- an object is tested against the class that a text names, once that is resolved
   tested_ok :
       (insn : Instruction) (g : TypesOf) (text : List ℕ) (t : FrameType) (id : ℕ)
-          (f : IsObject (world_of x) x.heap.objects object_class_type id) (next : Bool → Outcome)
+      (f : IsObject (world_of x) x.heap.objects object_class_type id) (next : Bool → Outcome)
       → KeepsLocals x insn → reference_type text ≡ Some t
       → ((b : Bool) → (b ≡ true → IsBelow (world_of x) (object_type f.object) t) → Does x insn g (next b))
       → Does x insn g (when_tested (context_of x insn) text id next)

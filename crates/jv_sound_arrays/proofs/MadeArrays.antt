@@ -77,7 +77,7 @@ groups_length f number each start zero h = zero_times each
     zero_times n = omega arith
 groups_length f number each start (suc count) h =
     let again : length (flat_map f (numbers_from number each (start + 1) count)) ≡ count * each = groups_length f number each
-        (start + 1) count h in
+    (start + 1) count h in
     let one : length (f (number + 1 + start * each)) ≡ each = h (number + 1 + start * each) in
     length-append (f (number + 1 + start * each)) (flat_map f (numbers_from number each (start + 1) count)) ∙ omega
     (arith, again, one, suc-mul count each)
@@ -87,7 +87,7 @@ made_length [] c n = refl
 made_length (count ∷ []) c n = refl
 made_length (count ∷ next ∷ more) c n =
     let inner : length (flat_map (λ i. arrays_made (component c) (next ∷ more) i) (inner_numbers count (next ∷ more) n)) ≡ count * arrays_in
-        (next ∷ more) =
+    (next ∷ more) =
     groups_length (λ i. arrays_made (component c) (next ∷ more) i) n (arrays_in (next ∷ more)) 0 count
     (λ m. made_length (next ∷ more) (component c) m) in
     omega (arith, inner)
@@ -101,11 +101,12 @@ groups_stand all f number each start zero h s = tt
 groups_stand all f number each start (suc count) h s =
     let here : ℕ = number + 1 + start * each in
     let behind : Stands all (here + length (f here)) (flat_map f (numbers_from number each (start + 1) count)) = stands_second all here
-        (f here) (flat_map f (numbers_from number each (start + 1) count)) s in
-    let place : here + length (f here) ≡ number + 1 + (start + 1) * each = omega (arith, h here, one_more start each) in
-    (stands_first all here (f here) (flat_map f (numbers_from number each (start + 1) count)) s,
-    groups_stand all f number each (start + 1) count h (subst (λ (m : ℕ). Stands all m
-    (flat_map f (numbers_from number each (start + 1) count))) place behind))
+    (f here) (flat_map f (numbers_from number each (start + 1) count)) s in
+    let place : here + length (f here) ≡ number + 1 + (start + 1) * each = omega (arith, h here, one_more start each) in (
+      stands_first all here (f here) (flat_map f (numbers_from number each (start + 1) count)) s,
+      groups_stand all f number each (start + 1) count h (subst (λ (m : ℕ). Stands all m
+          (flat_map f (numbers_from number each (start + 1) count))) place behind),
+    )
 
 -- ---- each array is of its type
 
@@ -147,15 +148,18 @@ module _ (program : Program) (all : List Object) where
   made_typed (count ∷ []) c n deep loadable s zero o e =
       let same : new_array c count ≡ o = cc in
       subst (λ (p : Object). IsTypedObject program all p) same
-      (record { loadable = loadable; fit = replicated (Fits program.world all (value_type c)) count (default_of_type c)
-      (first_fits program.world all c) })
+      (record {
+        loadable = loadable;
+        fit = replicated (Fits program.world all (value_type c)) count (default_of_type c)
+            (first_fits program.world all c);
+      })
   made_typed (count ∷ []) c n deep loadable s (suc k) o e = absurd cc
   made_typed (count ∷ next ∷ more) c n deep loadable s k o e =
       let dimensions = less_deep c.dimensions (length more) deep in
       let groups = groups_stand all (λ i. arrays_made (component c) (next ∷ more) i) n (arrays_in (next ∷ more)) 0 count
-          (λ m. made_length (next ∷ more) (component c) m)
+      (λ m. made_length (next ∷ more) (component c) m)
       (subst (λ (m : ℕ). Stands all m (flat_map (λ i. arrays_made (component c) (next ∷ more) i) (inner_numbers count (next ∷ more) n)))
-          (at_start n (arrays_in (next ∷ more))) (stands_behind all n _ _ s)) in
+      (at_start n (arrays_in (next ∷ more))) (stands_behind all n _ _ s)) in
       by_place
       (all_mapped (Fits program.world all (value_type c)) (inner_numbers count (next ∷ more) n)
       (all_of {P = λ m. Stands all m (arrays_made (component c) (next ∷ more) m)}
@@ -181,8 +185,13 @@ module _ (program : Program) (all : List Object) where
           × (slice_get all m ≡ Some (ArrayWith (component c) values)) → Fits program.world all (value_type c) (reference_to m)
       reference_fits j e m t =
           subst (λ (u : FrameType). Fits program.world all u (reference_to m)) (sym (value_of_array c j e))
-          (record { object = ArrayWith (component c) t.0; there = t.1; constructed = refl; below = below_is_reflexive program.world
-          (types.Array (component c)) })
+          (record {
+            object = ArrayWith (component c) t.0;
+            there = t.1;
+            constructed = refl;
+            below = below_is_reflexive program.world
+                (types.Array (component c));
+          })
 
       by_place : AllByRecursion (Fits program.world all (value_type c)) (map reference_to (inner_numbers count (next ∷ more) n))
           → ((k : ℕ) (o : Object) → slice_get (flat_map (λ i. arrays_made (component c) (next ∷ more) i)

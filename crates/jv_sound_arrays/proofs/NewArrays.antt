@@ -64,26 +64,32 @@ module _ (x : Setting) (h : IsSet x) where
 
   pushes :
       (insn : Instruction) (c : FieldTypeOf (List ℕ)) (counts : List ℕ) (S : List FrameType) (s : List Value) (cells : ℕ)
-          → IsTrue (falls_through insn) → 1 ≤ length counts → length counts ≤ suc c.dimensions
+      → IsTrue (falls_through insn) → 1 ≤ length counts → length counts ≤ suc c.dimensions
       → IsTrue (has_loadable_element (world_of x) c.element) → HasStack (here x) S s
       → Does x insn (with_stack x.given (types.Array c ∷ S)) (push_arrays (context_of x insn) c counts s
       (Some (record (memory_of x) { cells = cells })))
   pushes insn c counts S s cells falls some deep loadable hs =
       let first = made_first (program_of x) (x.heap.objects ++ made c counts) counts c (length x.heap.objects) some (made_stand c counts) in
       goes_with_ok x h insn (types.Array c ∷ S) (Reference (length x.heap.objects) ∷ s) (with_made c counts)
-          (record (memory_of x) { objects = x.heap.objects ++ made c counts; cells = cells }) falls
-          (more_later (suc x.depth) x.heap (made c counts)) refl
+      (record (memory_of x) { objects = x.heap.objects ++ made c counts; cells = cells }) falls
+      (more_later (suc x.depth) x.heap (made c counts)) refl
       (more_typed (program_of x) x.heap (memory_of x) (made c counts) cells refl h.typed
       (λ k o e. made_typed (program_of x) (x.heap.objects ++ made c counts) counts c (length x.heap.objects) deep loadable
-      (made_stand c counts) k o e))
-      (sort_item (moved (here x) (with_made c counts)) (types.Array c) (Reference (length x.heap.objects)) tt
-      (record { object = ArrayWith c first.0; there = first.1; constructed = refl; below = below_is_reflexive (world_of x)
-      (types.Array c) }),
-      stack_later (here x) (with_made c counts) (more_later (suc x.depth) x.heap (made c counts)) S s hs)
+      (made_stand c counts) k o e)) (
+        sort_item (moved (here x) (with_made c counts)) (types.Array c) (Reference (length x.heap.objects)) tt
+            (record {
+              object = ArrayWith c first.0;
+              there = first.1;
+              constructed = refl;
+              below = below_is_reflexive (world_of x)
+                  (types.Array c);
+            }),
+        stack_later (here x) (with_made c counts) (more_later (suc x.depth) x.heap (made c counts)) S s hs,
+      )
 
   pays :
       (insn : Instruction) (c : FieldTypeOf (List ℕ)) (counts : List ℕ) (S : List FrameType) (s : List Value) (cells : ℕ)
-          → IsTrue (falls_through insn) → KeepsLocals x insn → 1 ≤ length counts → length counts ≤ suc c.dimensions
+      → IsTrue (falls_through insn) → KeepsLocals x insn → 1 ≤ length counts → length counts ≤ suc c.dimensions
       → IsTrue (has_loadable_element (world_of x) c.element) → HasStack (here x) S s
       → Does x insn (with_stack x.given (types.Array c ∷ S)) (push_arrays (context_of x insn) c counts s (paid cells (memory_of x)))
   pays insn c counts S s cells falls keeps some deep loadable hs = by_cells (paid cells (memory_of x)) refl
@@ -162,7 +168,7 @@ module _ (x : Setting) (h : IsSet x) where
           (λ array. exchanged (world_of x) (types.Int ∷ []) (array ∷ []) x.given))
           (unless_error (context_of x (insns.NewReferenceArray index)) (resolve_text (world_of x) x.frame.method.site.by text) (λ resolved.
           taken_as x.heap.objects types.Int x.frame.stack >>= λ top. as_int top.0 >>= λ count. make_array
-              (context_of x (insns.NewReferenceArray index)) (resolved_type resolved) count top.1))
+          (context_of x (insns.NewReferenceArray index)) (resolved_type resolved) count top.1))
       by_type text None e = record { by = tt }
       by_type text (Some type) e = by_limit (nat_le (type.dimensions + 1) 255)
         where
@@ -172,7 +178,7 @@ module _ (x : Setting) (h : IsSet x) where
               (unless_error (context_of x (insns.NewReferenceArray index)) (resolve_text (world_of x) x.frame.method.site.by text)
               (λ resolved.
               taken_as x.heap.objects types.Int x.frame.stack >>= λ top. as_int top.0 >>= λ count. make_array
-                  (context_of x (insns.NewReferenceArray index)) (resolved_type resolved) count top.1))
+              (context_of x (insns.NewReferenceArray index)) (resolved_type resolved) count top.1))
           by_limit false = record { by = tt }
           by_limit true =
               resolves (insns.NewReferenceArray index) index refl text _ _ (λ class r.
@@ -189,7 +195,7 @@ module _ (x : Setting) (h : IsSet x) where
           (found OffsetFault o >>= λ text. unless_error (context_of x (insns.NewReferenceArray index))
           (resolve_text (world_of x) x.frame.method.site.by text) (λ resolved.
           taken_as x.heap.objects types.Int x.frame.stack >>= λ top. as_int top.0 >>= λ count. make_array
-              (context_of x (insns.NewReferenceArray index)) (resolved_type resolved) count top.1))
+          (context_of x (insns.NewReferenceArray index)) (resolved_type resolved) count top.1))
       by_operand None = record { by = tt }
       by_operand (Some text) = by_type text (named_type text) refl
 
@@ -230,8 +236,8 @@ module _ (x : Setting) (h : IsSet x) where
           (unless_error (context_of x (insns.NewMultiArray index dimensions)) (resolve_text (world_of x) x.frame.method.site.by text)
           (λ resolved.
           array_resolved dimensions resolved >>= λ type. taken x.heap.objects
-              (replicate dimensions types.Int) x.frame.stack >>= λ counts. make_arrays (context_of x (insns.NewMultiArray index dimensions))
-              (component type) counts.0 counts.1))
+          (replicate dimensions types.Int) x.frame.stack >>= λ counts. make_arrays (context_of x (insns.NewMultiArray index dimensions))
+          (component type) counts.0 counts.1))
       by_text text type array described false e = record { by = tt }
       by_text text type array described true e =
           resolves (insns.NewMultiArray index dimensions) index refl text _ _ (λ class r. by_class class r)
@@ -294,8 +300,8 @@ module _ (x : Setting) (h : IsSet x) where
           (unless_error (context_of x (insns.NewMultiArray index dimensions)) (resolve_text (world_of x) x.frame.method.site.by text)
           (λ resolved.
           array_resolved dimensions resolved >>= λ type. taken x.heap.objects
-              (replicate dimensions types.Int) x.frame.stack >>= λ counts. make_arrays (context_of x (insns.NewMultiArray index dimensions))
-              (component type) counts.0 counts.1))
+          (replicate dimensions types.Int) x.frame.stack >>= λ counts. make_arrays (context_of x (insns.NewMultiArray index dimensions))
+          (component type) counts.0 counts.1))
       by_described text array None e = record { by = tt }
       by_described text array (Some type) e = by_text text type array e (nat_le dimensions type.dimensions) refl
 
@@ -308,8 +314,8 @@ module _ (x : Setting) (h : IsSet x) where
           (unless_error (context_of x (insns.NewMultiArray index dimensions)) (resolve_text (world_of x) x.frame.method.site.by text)
           (λ resolved.
           array_resolved dimensions resolved >>= λ type. taken x.heap.objects
-              (replicate dimensions types.Int) x.frame.stack >>= λ counts. make_arrays (context_of x (insns.NewMultiArray index dimensions))
-              (component type) counts.0 counts.1))
+          (replicate dimensions types.Int) x.frame.stack >>= λ counts. make_arrays (context_of x (insns.NewMultiArray index dimensions))
+          (component type) counts.0 counts.1))
       by_array text false e = record { by = tt }
       by_array text true e = by_described text e (field_type_of text) refl
 
@@ -323,7 +329,7 @@ module _ (x : Setting) (h : IsSet x) where
           (found OffsetFault o >>= λ text. unless_error (context_of x (insns.NewMultiArray index dimensions))
           (resolve_text (world_of x) x.frame.method.site.by text) (λ resolved.
           array_resolved dimensions resolved >>= λ type. taken x.heap.objects
-              (replicate dimensions types.Int) x.frame.stack >>= λ counts. make_arrays (context_of x (insns.NewMultiArray index dimensions))
-              (component type) counts.0 counts.1))
+          (replicate dimensions types.Int) x.frame.stack >>= λ counts. make_arrays (context_of x (insns.NewMultiArray index dimensions))
+          (component type) counts.0 counts.1))
       by_operand None = record { by = tt }
       by_operand (Some text) = by_array text (is_array_name text) refl

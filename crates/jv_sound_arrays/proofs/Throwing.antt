@@ -37,10 +37,10 @@ module _ (x : Setting) (h : IsSet x)
       (below_is_one (program_of x) h.rooted x.heap.objects f.object throwable (h.typed.objects.each id f.object f.there)
       (ap (class_named (world_of x)) name ∙ named) plain
       (subst (λ (n : List ℕ). IsBelow (world_of x) (object_type f.object)
-          (Rattle.jv_sound_members.specs.of_meaning_typing.Named.class_type n)) (sym name) f.below)) in
+      (Rattle.jv_sound_members.specs.of_meaning_typing.Named.class_type n)) (sym name) f.below)) in
       then_holds (found_holds {P = λ o. o ≡ f.object} ReferenceFault (slice_get x.heap.objects id) f.object f.there refl) (λ o same_object.
       then_holds (tested_holds {P = λ (o : Object). ⊤} ReferenceFault (is_instance_of (world_of x) o (class_components throwable_name)) o
-          (ap (λ (o : Object). is_instance_of (world_of x) o (class_components throwable_name)) same_object ∙ one) tt) (λ o _.
+      (ap (λ (o : Object). is_instance_of (world_of x) o (class_components throwable_name)) same_object ∙ one) tt) (λ o _.
       throws_ok x h insns.Throw (with_stack x.given S) id f refl))
   throws S s _ f = absurd f
 

@@ -58,9 +58,14 @@ module _ (x y : Place) (u z : FrameType) (n : type_width z ≡ One) (one : (t : 
   pub lacking_stack : (ts : List FrameType) (vs : List Value) → list_any (is_same_object u) ts ≡ false → HasStack x ts vs → HasStack y ts vs
   lacking_stack [] [] l f = tt
   lacking_stack (t ∷ ts) (v ∷ vs) l f =
-      let k = neither (is_same_object u t) (list_any (is_same_object u) ts) l in
-      (record { fits = subst (λ (b : Bool). FitsIn y (if b then z else t) v) k.0
-          (one t v f.0.fits); width = f.0.width }, lacking_stack ts vs k.1 f.1)
+      let k = neither (is_same_object u t) (list_any (is_same_object u) ts) l in (
+        record {
+          fits = subst (λ (b : Bool). FitsIn y (if b then z else t) v) k.0
+              (one t v f.0.fits);
+          width = f.0.width;
+        },
+        lacking_stack ts vs k.1 f.1,
+      )
     where
       neither : (a b : Bool) → (a || b) ≡ false → (a ≡ false) × (b ≡ false)
       neither false b e = (refl, e)

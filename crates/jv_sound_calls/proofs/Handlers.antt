@@ -92,19 +92,25 @@ module _ (x : Setting) (h : IsSet x) where
 
   pub enters_ok :
       (insn : Instruction) (descriptor : MethodDescriptor) (d : Declared) (receiver : Option ℕ) (arguments : List Value)
-          (S : List FrameType) (s : List Value) → IsEnterable (program_of x) d → IsTrue (falls_through insn)
+      (S : List FrameType) (s : List Value) → IsEnterable (program_of x) d → IsTrue (falls_through insn)
       → is_init d.method.name ≡ false → IsReceiver (program_of x) x.heap d receiver → method_type_of d.method.descriptor ≡ Some descriptor
       → Zip (Fits (world_of x) x.heap.objects) (Rattle.std.proofs.Common.map value_type descriptor.parameters) arguments
       → IsResultSort descriptor.result → HasStack (here x) S s
       → Does x insn (with_stack x.given (result_types descriptor.result ++ S)) (Ok (memory_of x, Enters d receiver arguments s))
   enters_ok insn descriptor d receiver arguments S s enterable falls plain received described fit sort hs =
-      stays x h insn (with_stack x.given (result_types descriptor.result ++ S)) (Enters d receiver arguments s)
-      (enterable, falls, plain, received, record { descriptor = descriptor; described = described; fit = fit }, handler_locals insn,
-      λ later values g f. record {
-        locals = locals_later (here x) later g x.given.locals x.frame.locals h.holding.locals;
-        stack = resulted (moved (here x) later) descriptor.result values S s sort f (stack_later (here x) later g S s hs);
-        ready = ready_later (here x) later g x.given.flag_this_uninit h.holding.ready;
-      })
+      stays x h insn (with_stack x.given (result_types descriptor.result ++ S)) (Enters d receiver arguments s) (
+        enterable,
+        falls,
+        plain,
+        received,
+        record { descriptor = descriptor; described = described; fit = fit },
+        handler_locals insn,
+        λ later values g f. record {
+          locals = locals_later (here x) later g x.given.locals x.frame.locals h.holding.locals;
+          stack = resulted (moved (here x) later) descriptor.result values S s sort f (stack_later (here x) later g S s hs);
+          ready = ready_later (here x) later g x.given.flag_this_uninit h.holding.ready;
+        },
+      )
 
 pub sorts_mapped : (parameters : List (FieldTypeOf (List ℕ))) → AreSorts parameters
     → AllByRecursion IsSort (Rattle.std.proofs.Common.map value_type parameters)

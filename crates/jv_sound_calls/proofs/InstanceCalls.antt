@@ -57,8 +57,8 @@ use Rattle.jv_sound_members.proofs.laws_of_sound_numbers.Ways.{Setting, IsSet, w
 abbrev pub HasCode : Program → Type 0
 HasCode program =
     (d : Declared) → class_named program.world d.by.class.name ≡ Some d.by
-        → method_named d.by.class d.method.name d.method.descriptor ≡ Some d.method → is_concrete d ≡ true
-        → is_static_method d.method ≡ false → IsSome d.method.code
+    → method_named d.by.class d.method.name d.method.descriptor ≡ Some d.method → is_concrete d ≡ true
+    → is_static_method d.method ≡ false → IsSome d.method.code
 
 -- java/lang/Object
 pub record IsRoot (program : Program) (root : Loaded) : Type 0 where
@@ -95,7 +95,7 @@ pub record CanRun (program : Program) (objects : List Object) (o : Object) (call
 
 module _ (x : Setting) (h : IsSet x) (coded : HasCode (program_of x)) (root : Loaded) (is_root : IsRoot (program_of x) root)
     (accepted_is_loadable : (l : Loaded) → class_named (world_of x) l.class.name ≡ Some l → IsTrue (is_verified (program_of x) l)
-        → IsTrue (is_loadable (world_of x) l)) where
+    → IsTrue (is_loadable (world_of x) l)) where
   -- the class by which a method is selected for an object: none for an array
   abbrev pub IsClassOf : Object → Option Loaded → Type 0
   IsClassOf (InstanceOf i) class = (l : Loaded) × (class ≡ Some l) × (class_named (world_of x) i.class ≡ Some l)
@@ -104,7 +104,7 @@ module _ (x : Setting) (h : IsSet x) (coded : HasCode (program_of x)) (root : Lo
   abbrev pub call_instance_by : Context → Use → MethodDescriptor → MethodTarget → Outcome
   call_instance_by m how descriptor t =
       machine.taken m.memory.objects (map value_type descriptor.parameters) m.frame.stack >>= λ arguments. popped_reference arguments.1 >>=
-          λ receiver.
+      λ receiver.
       call_on m how t arguments.0 receiver.0 receiver.1
 
   root_named : class_named (world_of x) root.class.name ≡ Some root
@@ -175,7 +175,7 @@ module _ (x : Setting) (h : IsSet x) (coded : HasCode (program_of x)) (root : Lo
   -- it is entered
   pub runs_on :
       (insn : Instruction) (descriptor : MethodDescriptor) (how : Use) (t s : MethodTarget) (id : ℕ) (o : Object) (arguments : List Value)
-          (S : List FrameType) (below : List Value) → IsTrue (falls_through insn)
+      (S : List FrameType) (below : List Value) → IsTrue (falls_through insn)
       → slice_get x.heap.objects id ≡ Some o → is_constructed o ≡ true → is_init t.declared.method.name ≡ false
       → method_type_of t.declared.method.descriptor ≡ Some descriptor
       → Zip (Fits (world_of x) x.heap.objects) (map value_type descriptor.parameters) arguments → IsResultSort descriptor.result
@@ -183,10 +183,12 @@ module _ (x : Setting) (h : IsSet x) (coded : HasCode (program_of x)) (root : Lo
       → Does x insn (with_stack x.given (result_types descriptor.result ++ S)) (run_on (context_of x insn) id o arguments below s)
   runs_on insn descriptor how t s id o arguments S below falls there constructed plain described f sort hs can =
       then_holds (tested_holds {P = λ u. u ≡ s} ReferenceFault (can_receive (world_of x) s.declared o) s can.received refl)
-          (λ u same_target.
+      (λ u same_target.
       subst (λ (u : MethodTarget). Does x insn (with_stack x.given (result_types descriptor.result ++ S))
-      (Ok (Rattle.jv_sound_members.proofs.laws_of_sound_numbers.Ways.memory_of x,
-      Rattle.jv_sound_members.specs.of_meaning_machine.Effects.Effect.Enters u.declared (Some id) arguments below))) (sym same_target)
+      (Ok (
+        Rattle.jv_sound_members.proofs.laws_of_sound_numbers.Ways.memory_of x,
+        Rattle.jv_sound_members.specs.of_meaning_machine.Effects.Effect.Enters u.declared (Some id) arguments below,
+      ))) (sym same_target)
       (enters_ok x h insn descriptor s.declared (Some id) arguments S below can.enterable falls (ap is_init can.name ∙ plain)
       (can.instance, receiver) (ap method_type_of can.descriptor ∙ described) f sort hs))
     where
@@ -202,12 +204,12 @@ module _ (x : Setting) (h : IsSet x) (coded : HasCode (program_of x)) (root : Lo
   -- what is called on a value of a usable type, if what is selected for its object can run on it
   pub called_ok :
       (insn : Instruction) (descriptor : MethodDescriptor) (how : Use) (t : MethodTarget) (type : FrameType) (v : Value)
-          (arguments : List Value) (S : List FrameType) (below : List Value) → IsTrue (falls_through insn)
+      (arguments : List Value) (S : List FrameType) (below : List Value) → IsTrue (falls_through insn)
       → is_usable_reference type ≡ true → is_init t.declared.method.name ≡ false
       → method_type_of t.declared.method.descriptor ≡ Some descriptor
       → ((o : Object) (id : ℕ) (class : Option Loaded) → slice_get x.heap.objects id ≡ Some o → IsBelow (world_of x) (object_type o) type
       → IsClassOf o class → (s : MethodTarget) → select (world_of x) x.frame.method.site how t class ≡ Ok s
-          → CanRun (program_of x) x.heap.objects o t.declared s.declared)
+      → CanRun (program_of x) x.heap.objects o t.declared s.declared)
       → Fits (world_of x) x.heap.objects type v → Zip (Fits (world_of x) x.heap.objects) (map value_type descriptor.parameters) arguments
       → IsResultSort descriptor.result → HasStack (here x) S below
       → Does x insn (with_stack x.given (result_types descriptor.result ++ S)) (call_on (context_of x insn) how t arguments v below)
@@ -217,7 +219,7 @@ module _ (x : Setting) (h : IsSet x) (coded : HasCode (program_of x)) (root : Lo
       let g = usable_object (world_of x) x.heap.objects type id usable f in
       then_holds (found_holds {P = λ o. o ≡ g.object} ReferenceFault (slice_get x.heap.objects id) g.object g.there refl) (λ o same_object.
       then_holds (tested_holds {P = λ o. o ≡ g.object} ConstructionFault (is_constructed o) o
-          (ap is_constructed same_object ∙ g.constructed) same_object) (λ o same_again.
+      (ap is_constructed same_object ∙ g.constructed) same_object) (λ o same_again.
       subst (λ (o : Object). Does x insn (with_stack x.given (result_types descriptor.result ++ S))
       (class_of_object (world_of x) o >>= λ class. unless_error (context_of x insn) (select (world_of x) x.frame.method.site how t class)
       (run_on (context_of x insn) id o arguments below))) (sym same_again)
@@ -228,7 +230,7 @@ module _ (x : Setting) (h : IsSet x) (coded : HasCode (program_of x)) (root : Lo
       class_ok (InstanceOf i) id there =
           let typed = h.typed.objects.each id (InstanceOf i) there in
           then_holds (found_holds {P = λ l. l ≡ typed.l} ReferenceFault (class_named (world_of x) i.class) typed.l typed.named refl)
-              (λ l same_class. holds (l, refl, typed.named ∙ ap (λ (y : Loaded). Some y) (sym same_class)))
+          (λ l same_class. holds (l, refl, typed.named ∙ ap (λ (y : Loaded). Some y) (sym same_class)))
       class_ok (ArrayWith components values) id there = holds refl
 
       by_selected : (g : IsObject (world_of x) x.heap.objects type id) (class : Option Loaded) → IsClassOf g.object class
@@ -245,12 +247,12 @@ module _ (x : Setting) (h : IsSet x) (coded : HasCode (program_of x)) (root : Lo
   -- the same with the receiver and the arguments on the stack
   pub call_ok :
       (insn : Instruction) (descriptor : MethodDescriptor) (how : Use) (t : MethodTarget) (type : FrameType) (others : List FrameType)
-          → IsTrue (falls_through insn)
+      → IsTrue (falls_through insn)
       → is_usable_reference type ≡ true → is_init t.declared.method.name ≡ false
       → method_type_of t.declared.method.descriptor ≡ Some descriptor
       → ((o : Object) (id : ℕ) (class : Option Loaded) → slice_get x.heap.objects id ≡ Some o → IsBelow (world_of x) (object_type o) type
       → IsClassOf o class → (s : MethodTarget) → select (world_of x) x.frame.method.site how t class ≡ Ok s
-          → CanRun (program_of x) x.heap.objects o t.declared s.declared)
+      → CanRun (program_of x) x.heap.objects o t.declared s.declared)
       → AreSorts descriptor.parameters → IsResultSort descriptor.result
       → By x insn (rules_format.◌>>=◌ (rules_format.◌>>=◌ (taken (world_of x) (map value_type descriptor.parameters) x.given.stack)
       (taken_as_all (world_of x) (type ∷ others))) (λ below. Some (with_stack x.given (result_types descriptor.result ++ below))))

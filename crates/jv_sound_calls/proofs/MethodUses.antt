@@ -86,7 +86,7 @@ pub called_declared : (world : World) (site : Site) (how : Use) (reference : Met
 called_declared world site how reference t called =
     subst (λ (n : List ℕ). method_named t.declared.by.class n t.declared.method.descriptor ≡ Some t.declared.method) (sym called.name)
     (subst (λ (d : List ℕ). method_named t.declared.by.class reference.member.name d ≡ Some t.declared.method)
-        (sym called.descriptor) called.declared)
+    (sym called.descriptor) called.declared)
 
 -- ---- the operand
 
@@ -95,13 +95,13 @@ module _ (x : Setting) (h : IsSet x) (insn : Instruction) (how : Use) where
   abbrev pub calling : MethodReference → Outcome
   calling reference =
       tested OffsetFault (is_constant_for how reference) reference >>= λ reference. found OffsetFault
-          (method_type_of reference.member.descriptor) >>= λ descriptor.
+      (method_type_of reference.member.descriptor) >>= λ descriptor.
       unless_error (context_of x insn) (resolve_method (world_of x) x.frame.method.site how reference)
       (call_target (context_of x insn) how descriptor)
 
   pub target_ok :
       (rule : Option TypesOf) (reference : MethodReference) (descriptor : MethodDescriptor) → is_constant_for how reference ≡ true
-          → method_type_of reference.member.descriptor ≡ Some descriptor
+      → method_type_of reference.member.descriptor ≡ Some descriptor
       → ((t : MethodTarget) → IsCalled (world_of x) x.frame.method.site how reference t
       → By x insn rule (call_target (context_of x insn) how descriptor t)) → By x insn rule (calling reference)
   target_ok rule reference descriptor constant described each =
@@ -124,8 +124,8 @@ module _ (x : Setting) (h : IsSet x) (insn : Instruction) (how : Use) where
       (index : ℕ) (rule : MethodUse → Option TypesOf)
       → ((reference : MethodReference) (owner : FrameType) (descriptor : MethodDescriptor)
       → method_operand (current_class x.frame.method) index ≡ Some reference → can_be_of reference.constant reference.member.class ≡ true
-          → reference_type reference.member.class ≡ Some owner → method_type_of reference.member.descriptor ≡ Some descriptor
-          → By x insn (rule (method_use reference owner descriptor)) (calling reference))
+      → reference_type reference.member.class ≡ Some owner → method_type_of reference.member.descriptor ≡ Some descriptor
+      → By x insn (rule (method_use reference owner descriptor)) (calling reference))
       → By x insn (rules_format.◌>>=◌ (method_named_by x.frame.method index) rule) (call (context_of x insn) how index)
   method_ok index rule each = by_operand (method_operand (current_class x.frame.method) index) refl
     where
@@ -160,6 +160,6 @@ module _ (x : Setting) (h : IsSet x) (insn : Instruction) (how : Use) where
           (when (can_be_of method.constant method.member.class) method)
           (λ method. rules_format.◌>>=◌ (reference_type method.member.class) (λ owner.
           rules_format.◌>>=◌ (method_type_of method.member.descriptor) (λ descriptor. Some (method_use method owner descriptor)))))) rule)
-              (found OffsetFault o >>= calling)
+          (found OffsetFault o >>= calling)
       by_operand None e = record { by = tt }
       by_operand (Some reference) e = by_constant reference e (can_be_of reference.constant reference.member.class) refl

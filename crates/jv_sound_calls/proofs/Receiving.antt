@@ -78,18 +78,18 @@ module _ (program : Program) (l : Loaded) (l_named : class_named program.world l
       by_part (inl k) =
           or_left (bytes_eq i.class by.class.name) (is_below program.world (class_named program.world i.class) by.class.name)
           (subst (λ (n : List ℕ). bytes_eq i.class n ≡ true) (e ∙ ap (λ (x : Loaded). x.class.name) (single l by k))
-              (nat_list_eq_equiv.refl i.class))
+          (nat_list_eq_equiv.refl i.class))
       by_part (inr k) =
           or_right (bytes_eq i.class by.class.name) (is_below program.world (class_named program.world i.class) by.class.name)
           (subst (λ (o : Option Loaded). is_below program.world o by.class.name ≡ true) (sym found)
           (any_made (λ (s : Loaded). bytes_eq s.class.name by.class.name) (above program.world l.class) by
-              (superclass_is_above above_by_ways above_is_transitive program.world l.class by k) (nat_list_eq_equiv.refl by.class.name)))
+          (superclass_is_above above_by_ways above_is_transitive program.world l.class by k) (nat_list_eq_equiv.refl by.class.name)))
 
   -- a method that runs from the class on can be entered
   pub run_enterable :
       (called ran : Declared) → ((d : Declared) → class_named program.world d.by.class.name ≡ Some d.by
-          → method_named d.by.class d.method.name d.method.descriptor ≡ Some d.method → is_concrete d ≡ true
-          → is_static_method d.method ≡ false → IsSome d.method.code)
+      → method_named d.by.class d.method.name d.method.descriptor ≡ Some d.method → is_concrete d ≡ true
+      → is_static_method d.method ≡ false → IsSome d.method.code)
       → IsRun program.world l called ran → IsEnterable program ran
   run_enterable called ran coded h = enterable (place h.place)
     where
@@ -108,8 +108,13 @@ module _ (program : Program) (l : Loaded) (l_named : class_named program.world l
       no_static true k = absurd cc
 
       enterable : IsAt program l ran.by → IsEnterable program ran
-      enterable at = record { here = at.named; declared = declared; verified = at.verified; code = coded ran at.named declared h.concrete
-          (no_static (is_static_method ran.method) h.instance) }
+      enterable at = record {
+        here = at.named;
+        declared = declared;
+        verified = at.verified;
+        code = coded ran at.named declared h.concrete
+            (no_static (is_static_method ran.method) h.instance);
+      }
 
   pub run_received : (i : Instance) → i.class ≡ l.class.name → (called ran : Declared) → IsRun program.world l called ran
       → can_receive program.world ran (InstanceOf i) ≡ true
@@ -130,7 +135,7 @@ pub record IsSelected (program : Program) (i : Instance) (s : MethodTarget) (cal
 
 pub selected_ok :
     (program : Program) (objects : List Object) (i : Instance) (h : IsTypedInstance program objects i) (site : Site) (how : Use)
-        (t s : MethodTarget) → (how ≡ Invokevirtual) ⊎ (how ≡ Invokeinterface)
+    (t s : MethodTarget) → (how ≡ Invokevirtual) ⊎ (how ≡ Invokeinterface)
     → ((d : Declared) → class_named program.world d.by.class.name ≡ Some d.by
     → method_named d.by.class d.method.name d.method.descriptor ≡ Some d.method → is_concrete d ≡ true → is_static_method d.method ≡ false
     → IsSome d.method.code)

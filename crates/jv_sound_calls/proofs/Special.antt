@@ -42,7 +42,7 @@ module _ (program : Program) (rooted : IsRooted program.world) (current : Loaded
 
   pub start_ok :
       (named : Loaded) → class_named program.world named.class.name ≡ Some named
-          → IsTrue (class_flows program.world current.class.name named.class.name)
+      → IsTrue (class_flows program.world current.class.name named.class.name)
       -- an interface is the current class or a direct superinterface
       → (IsTrue (names_interface program.world named.class.name) → (current ≡ named) ⊎ Contains (above program.world current.class) named)
       → (current ≡ special_start program.world current named) ⊎ Contains (above program.world current.class)
@@ -60,9 +60,9 @@ module _ (program : Program) (rooted : IsRooted program.world) (current : Loaded
           by_flow (inr (inr s)) =
               let same_from : s.from ≡ current = same_some s.from current (sym s.found ∙ current_named) in
               let chain : Contains (superclasses program.world current.class) s.to = subst
-                  (λ (x : Loaded). Contains (superclasses program.world x.class) s.to) same_from s.on_chain in
+              (λ (x : Loaded). Contains (superclasses program.world x.class) s.to) same_from s.on_chain in
               let same_to : s.to ≡ named = same_some s.to named (sym (superclasses_are_named program.world current.class s.to chain) ∙ ap
-                  (class_named program.world) s.named ∙ there) in
+              (class_named program.world) s.named ∙ there) in
               inr (superclass_is_above above_by_ways above_is_transitive program.world current.class named
               (subst (λ (x : Loaded). Contains (superclasses program.world current.class) x) same_to chain))
 
@@ -87,8 +87,8 @@ module _ (program : Program) (rooted : IsRooted program.world) (current : Loaded
 
     pub special_enterable :
         (called ran : Declared) → ((d : Declared) → class_named program.world d.by.class.name ≡ Some d.by
-            → method_named d.by.class d.method.name d.method.descriptor ≡ Some d.method → is_concrete d ≡ true
-            → is_static_method d.method ≡ false → IsSome d.method.code)
+        → method_named d.by.class d.method.name d.method.descriptor ≡ Some d.method → is_concrete d ≡ true
+        → is_static_method d.method ≡ false → IsSome d.method.code)
         → IsRun program.world start called ran → IsEnterable program ran
     special_enterable called ran coded run = run_enterable program start start_at.named start_at.verified called ran coded run
 
@@ -103,7 +103,7 @@ module _ (program : Program) (rooted : IsRooted program.world) (current : Loaded
         below_above x k =
             above_is_below program.world rooted current.class.name x.class.name current current_named current_loadable
             (any_made (λ (s : Loaded). bytes_eq s.class.name x.class.name) (above program.world current.class) x k
-                (nat_list_eq_equiv.refl x.class.name))
+            (nat_list_eq_equiv.refl x.class.name))
 
         by_upward : Contains (start ∷ []) by ⊎ Contains (superclasses program.world start.class) by
             → (start ≡ by) ⊎ Contains (above program.world start.class) by
@@ -122,8 +122,8 @@ module _ (program : Program) (rooted : IsRooted program.world) (current : Loaded
     -- so an object of the current class can receive what runs
     pub special_received :
         (objects : List Object) (o : Object) → IsTypedObject program objects o
-            → IsBelow program.world (object_type o) (types.Class current.class.name) → (called ran : Declared)
-            → IsRun program.world start called ran
+        → IsBelow program.world (object_type o) (types.Class current.class.name) → (called ran : Declared)
+        → IsRun program.world start called ran
         → can_receive program.world ran o ≡ true
     special_received objects o typed b called ran run = by_place run.place
       where

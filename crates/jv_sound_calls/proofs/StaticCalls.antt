@@ -49,20 +49,27 @@ plain_name method e = not_true (is_init method.reference.name) (and_parts (not (
 
 module _ (x : Setting) (h : IsSet x) (index : ℕ)
     (sorts : (reference : MethodReference) (d : MethodDescriptor) → method_operand (current_class x.frame.method) index ≡ Some reference
-        → method_type_of reference.member.descriptor ≡ Some d → AreSorts d.parameters × IsResultSort d.result)
+    → method_type_of reference.member.descriptor ≡ Some d → AreSorts d.parameters × IsResultSort d.result)
     -- a static method has code, host/Io's aside
     (static_have_code : (d : Declared) → class_named (world_of x) d.by.class.name ≡ Some d.by
-        → method_named d.by.class d.method.name d.method.descriptor ≡ Some d.method → is_static_method d.method ≡ true
-        → is_built_in d ≡ false → IsSome d.method.code)
+    → method_named d.by.class d.method.name d.method.descriptor ≡ Some d.method → is_static_method d.method ≡ true
+    → is_built_in d ≡ false → IsSome d.method.code)
     (built_in : (d : Declared) → class_named (world_of x) d.by.class.name ≡ Some d.by
-        → method_named d.by.class d.method.name d.method.descriptor ≡ Some d.method → is_built_in d ≡ true → IsHostMethod d) where
+    → method_named d.by.class d.method.name d.method.descriptor ≡ Some d.method → is_built_in d ≡ true → IsHostMethod d) where
   abbrev insn : Instruction
   insn = insns.Invoke invocations.Static index
 
   typed_again : (memory : Memory) → IsTypedMemory (program_of x) memory → (output input : List ℕ) (left : ℕ)
       → IsTypedMemory (program_of x) (record memory { output = output; input = input; output_left = left })
-  typed_again memory t output input left = record { objects = t.objects; statics = t.statics; statics_there = t.statics_there; literals =
-      t.literals; no_memory = t.no_memory; arguments = t.arguments }
+  typed_again memory t output input left = record {
+    objects = t.objects;
+    statics = t.statics;
+    statics_there = t.statics_there;
+    literals =
+        t.literals;
+    no_memory = t.no_memory;
+    arguments = t.arguments;
+  }
 
   writes : (S : List FrameType) (s : List Value) (number : ℤ) → HasStack (here x) S s
       → Does x insn (with_stack x.given S) (write (context_of x insn) number s)
@@ -81,7 +88,7 @@ module _ (x : Setting) (h : IsSet x) (index : ℕ)
   reads S s hs [] = goes_ok x h insn (types.Int ∷ S) _ refl (record { fits = tt; width = refl }, hs)
   reads S s hs (byte ∷ more) =
       goes_with_ok x h insn (types.Int ∷ S) _ x.heap (record (memory_of x) { input = more }) refl (same (suc x.depth) x.heap) refl
-          (typed_again (memory_of x) h.typed _ more _) (record { fits = tt; width = refl }, hs)
+      (typed_again (memory_of x) h.typed _ more _) (record { fits = tt; width = refl }, hs)
 
   runs_built_in : (d : Declared) (descriptor : MethodDescriptor) (S : List FrameType) (arguments s : List Value) → IsHostMethod d
       → method_type_of d.method.descriptor ≡ Some descriptor

@@ -74,10 +74,10 @@ class_owner world x text owner type flow = by_array (is_array_name text) refl
 
 module _ (x : Setting) (h : IsSet x) (coded : HasCode (program_of x)) (root : Loaded) (is_root : IsRoot (program_of x) root)
     (accepted_is_loadable : (l : Loaded) → class_named (world_of x) l.class.name ≡ Some l → IsTrue (is_verified (program_of x) l)
-        → IsTrue (is_loadable (world_of x) l))
+    → IsTrue (is_loadable (world_of x) l))
     (enterable : IsEnterable (program_of x) x.frame.method.site) (index : ℕ)
     (sorts : (reference : MethodReference) (d : MethodDescriptor) → method_operand (current_class x.frame.method) index ≡ Some reference
-        → method_type_of reference.member.descriptor ≡ Some d → AreSorts d.parameters × IsResultSort d.result) where
+    → method_type_of reference.member.descriptor ≡ Some d → AreSorts d.parameters × IsResultSort d.result) where
   abbrev current : Loaded
   current = x.frame.method.site.by
 
@@ -107,14 +107,14 @@ module _ (x : Setting) (h : IsSet x) (coded : HasCode (program_of x)) (root : Lo
       by_near (inr e) =
           let found = any_found (λ i. bytes_eq i named.class.name) current.class.interfaces e in
           let contained = subst (λ (n : List ℕ). Contains current.class.interfaces n)
-              (same_name found.0 named.class.name found.2) found.1 in
+          (same_name found.0 named.class.name found.2) found.1 in
           inr (interfaces_above above_by_ways above_is_transitive (world_of x) current.class named
           (named_super (world_of x) current.class.interfaces named.class.name named contained there))
 
   selects :
       (t : MethodTarget) (named : IsNamedClass (world_of x) t.named.class.name t.named)
-          → class_flows (world_of x) current.class.name t.named.class.name ≡ true → is_near x.frame.method t.named.class.name ≡ true
-          → is_init t.declared.method.name ≡ false
+      → class_flows (world_of x) current.class.name t.named.class.name ≡ true → is_near x.frame.method t.named.class.name ≡ true
+      → is_init t.declared.method.name ≡ false
       → (o : Object) (id : ℕ) (class : Option Loaded) → slice_get x.heap.objects id ≡ Some o
       → IsBelow (world_of x) (object_type o) (current_type x.frame.method)
       → (s : MethodTarget) → select (world_of x) x.frame.method.site Invokespecial t class ≡ Ok s
@@ -128,7 +128,7 @@ module _ (x : Setting) (h : IsSet x) (coded : HasCode (program_of x)) (root : Lo
           → CanRun (program_of x) x.heap.objects o t.declared s.declared
       by_run (inl run) =
           let at = start_ok (program_of x) h.rooted current enterable.here enterable.verified current_loadable t.named named.there flow
-              (near_is_above t.named named.there near) in
+          (near_is_above t.named named.there near) in
           record {
             enterable = special_enterable (program_of x) h.rooted current enterable.here enterable.verified current_loadable
                 (special_start (world_of x) current t.named) at t.declared s.declared coded run;
@@ -148,7 +148,7 @@ module _ (x : Setting) (h : IsSet x) (coded : HasCode (program_of x)) (root : Lo
 
   pub super_ok :
       (reference : MethodReference) (owner : FrameType) (descriptor : MethodDescriptor)
-          → method_operand (current_class x.frame.method) index ≡ Some reference → reference_type reference.member.class ≡ Some owner
+      → method_operand (current_class x.frame.method) index ≡ Some reference → reference_type reference.member.class ≡ Some owner
       → method_type_of reference.member.descriptor ≡ Some descriptor
       → By x special (invoke_super x.frame.method (method_use reference owner descriptor) x.given)
       (calling x h special Invokespecial reference)
@@ -177,16 +177,16 @@ module _ (x : Setting) (h : IsSet x) (coded : HasCode (program_of x)) (root : Lo
           let own = class_owner (world_of x) current.class.name reference.member.class owner type f in
           target_ok x h special Invokespecial _ reference descriptor refl described (λ t called.
           let named = resolved_class (world_of x) h.alone reference.member.class t.named
-              (named_class (world_of x) current reference.member NoSuchMethodError t.named own.0 called.named_so) in
+          (named_class (world_of x) current reference.member NoSuchMethodError t.named own.0 called.named_so) in
           let own_named : IsNamedClass (world_of x) t.named.class.name t.named = record
-              { name = refl; there = named.there; loadable = named.loadable } in
+          { name = refl; there = named.there; loadable = named.loadable } in
           let flow : class_flows (world_of x) current.class.name t.named.class.name ≡ true =
           subst (λ (n : List ℕ). class_flows (world_of x) current.class.name n ≡ true) (sym named.name)
           (ap (flows (world_of x) (current_type x.frame.method)) (sym own.1) ∙ f) in
           let near : is_near x.frame.method t.named.class.name ≡ true = subst (λ (n : List ℕ). is_near x.frame.method n ≡ true)
-              (sym named.name) n in
+          (sym named.name) n in
           let plain : is_init t.declared.method.name ≡ false = ap is_init called.name ∙ plain_name
-              (method_use reference owner descriptor) e in
+          (method_use reference owner descriptor) e in
           not_init descriptor t plain
           (call_ok x h coded root is_root accepted_is_loadable special descriptor Invokespecial t
           (current_type x.frame.method) [] refl refl plain (ap method_type_of called.descriptor ∙ described)

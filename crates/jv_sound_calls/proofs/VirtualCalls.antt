@@ -37,26 +37,26 @@ use Rattle.jv_sound_members.proofs.laws_of_sound_numbers.Ways.{Setting, IsSet, w
 
 module _ (x : Setting) (h : IsSet x) (coded : HasCode (program_of x)) (root : Loaded) (is_root : IsRoot (program_of x) root)
     (accepted_is_loadable : (l : Loaded) → class_named (world_of x) l.class.name ≡ Some l → IsTrue (is_verified (program_of x) l)
-        → IsTrue (is_loadable (world_of x) l)) (index : ℕ)
+    → IsTrue (is_loadable (world_of x) l)) (index : ℕ)
     (sorts : (reference : MethodReference) (d : MethodDescriptor) → method_operand (current_class x.frame.method) index ≡ Some reference
-        → method_type_of reference.member.descriptor ≡ Some d → AreSorts d.parameters × IsResultSort d.result) where
+    → method_type_of reference.member.descriptor ≡ Some d → AreSorts d.parameters × IsResultSort d.result) where
   -- what is selected by an object's class can run on it
   selected_runs :
       (how : Use) → (how ≡ Invokevirtual) ⊎ (how ≡ Invokeinterface) → (t : MethodTarget) (o : Object) (id : ℕ) (class : Option Loaded)
-          → slice_get x.heap.objects id ≡ Some o
+      → slice_get x.heap.objects id ≡ Some o
       → IsClassOf x h coded root is_root accepted_is_loadable o class → (s : MethodTarget)
       → select (world_of x) x.frame.method.site how t class ≡ Ok s → CanRun (program_of x) x.heap.objects o t.declared s.declared
   selected_runs how one t (InstanceOf i) id class there is s e =
       let typed = h.typed.objects.each id (InstanceOf i) there in
       let same_class : class ≡ Some typed.l = is.1 ∙ ap (λ (l : Loaded). Some l) (same_option is.0 typed.l (sym is.2 ∙ typed.named)) in
       let k = Rattle.jv_sound_calls.proofs.Receiving.selected_ok (program_of x) x.heap.objects i typed x.frame.method.site how t s one coded
-          (subst (λ (c : Option Loaded). select (world_of x) x.frame.method.site how t c ≡ Ok s) same_class e) in
+      (subst (λ (c : Option Loaded). select (world_of x) x.frame.method.site how t c ≡ Ok s) same_class e) in
       record { enterable = k.enterable; received = k.received; name = k.name; descriptor = k.descriptor; instance = k.instance }
   selected_runs how one t (ArrayWith components values) id class there is s e =
       of_root x h coded root is_root accepted_is_loadable (ArrayWith components values) id there t.declared s.declared
       (selected_is_run above_by_ways above_is_transitive (world_of x) x.frame.method.site how t s None root one
       (ap (λ (o : Option Loaded). ok_or o AbstractMethodError) is_root.named)
-          (subst (λ (c : Option Loaded). select (world_of x) x.frame.method.site how t c ≡ Ok s) is e)).1
+      (subst (λ (c : Option Loaded). select (world_of x) x.frame.method.site how t c ≡ Ok s) is e)).1
 
   abbrev virtual : Instruction
   virtual = insns.Invoke invocations.Virtual index

@@ -71,18 +71,18 @@ that_name name (Some other) e = ap (λ (n : List ℕ). Some n) (sym (same_name n
 
 module _ (x : Setting) (h : IsSet x) (coded : HasCode (program_of x)) (root : Loaded) (is_root : IsRoot (program_of x) root)
     (accepted_is_loadable : (l : Loaded) → class_named (world_of x) l.class.name ≡ Some l → IsTrue (is_verified (program_of x) l)
-        → IsTrue (is_loadable (world_of x) l))
+    → IsTrue (is_loadable (world_of x) l))
     (enterable : IsEnterable (program_of x) x.frame.method.site) (index : ℕ)
     (sorts : (reference : MethodReference) (d : MethodDescriptor) → method_operand (current_class x.frame.method) index ≡ Some reference
-        → method_type_of reference.member.descriptor ≡ Some d → AreSorts d.parameters × IsResultSort d.result)
+    → method_type_of reference.member.descriptor ≡ Some d → AreSorts d.parameters × IsResultSort d.result)
     -- an `<init>` has code
     (constructors_have_code : (d : Declared) → class_named (world_of x) d.by.class.name ≡ Some d.by
-        → method_named d.by.class d.method.name d.method.descriptor ≡ Some d.method → is_init d.method.name ≡ true → IsSome d.method.code)
+    → method_named d.by.class d.method.name d.method.descriptor ≡ Some d.method → is_init d.method.name ≡ true → IsSome d.method.code)
     -- no class and no superclass has the name of an array, nor does any `new` of the method name one
     (current_plain : is_array_name (current_class x.frame.method).name ≡ false)
-        (super_plain : super_name_test (current_class x.frame.method).super_class ≡ true)
+    (super_plain : super_name_test (current_class x.frame.method).super_class ≡ true)
     (new_plain : (offset : ℕ) (text : List ℕ) → class_of_new x.frame.method (instruction_at x.frame.method offset) ≡ Some text
-        → is_array_name text ≡ false) where
+    → is_array_name text ≡ false) where
   abbrev insn : Instruction
   insn = insns.Invoke invocations.Special index
 
@@ -101,7 +101,7 @@ module _ (x : Setting) (h : IsSet x) (coded : HasCode (program_of x)) (root : Lo
       → IsConstructor reference t
   constructor reference t is plain called =
       let named = resolved_class (world_of x) h.alone reference.member.class t.named
-          (named_class (world_of x) current reference.member NoSuchMethodError t.named plain called.named_so) in
+      (named_class (world_of x) current reference.member NoSuchMethodError t.named plain called.named_so) in
       let init : is_init t.declared.method.name ≡ true = ap is_init called.name ∙ is in
       record {
         name = sym (same_name t.named.class.name t.declared.by.class.name
@@ -117,14 +117,19 @@ module _ (x : Setting) (h : IsSet x) (coded : HasCode (program_of x)) (root : Lo
 
   enters_verified : (reference : MethodReference) (t : MethodTarget) (c : IsConstructor reference t)
       → IsTrue (is_verified (program_of x) t.declared.by) → IsEnterable (program_of x) t.declared
-  enters_verified reference t c v = record { here = c.there; declared = c.declared; verified = v; code = constructors_have_code t.declared
-      c.there c.declared c.init }
+  enters_verified reference t c v = record {
+    here = c.there;
+    declared = c.declared;
+    verified = v;
+    code = constructors_have_code t.declared
+        c.there c.declared c.init;
+  }
 
   module _ (reference : MethodReference) (owner : FrameType) (descriptor : MethodDescriptor)
       (operand : method_operand (current_class x.frame.method) index ≡ Some reference)
       (can : can_be_of reference.constant reference.member.class ≡ true)
       (type : reference_type reference.member.class ≡ Some owner) (described : method_type_of reference.member.descriptor ≡ Some descriptor)
-          (is : is_init reference.member.name ≡ true)
+      (is : is_init reference.member.name ≡ true)
       (t : MethodTarget) (called : IsCalled (world_of x) x.frame.method.site Invokespecial reference t) where
     abbrev method : MethodUse
     method = method_use reference owner descriptor
@@ -137,7 +142,7 @@ module _ (x : Setting) (h : IsSet x) (coded : HasCode (program_of x)) (root : Lo
         → constructed_object x.frame.method insn x.given ≡ Some y
     object_is y T e =
         ap (λ (o : Option MethodUse). rules_format.◌>>=◌ o (λ method. rules_format.◌>>=◌ (when (is_init method.reference.name) method)
-            (λ method. slice_get x.given.stack (length method.arguments)))) named_so
+        (λ method. slice_get x.given.stack (length method.arguments)))) named_so
         ∙ ap (λ (b : Bool). rules_format.◌>>=◌ (when b method) (λ method. slice_get x.given.stack (length method.arguments))) is
         ∙ receiver_below (world_of x) method.arguments x.given.stack (y ∷ T) e
 
@@ -147,37 +152,37 @@ module _ (x : Setting) (h : IsSet x) (coded : HasCode (program_of x)) (root : Lo
     -- on what a `new` made
     on_fresh :
         (o : ℕ) (T : List FrameType) (v : Value) (arguments s : List Value)
-            → taken (world_of x) method.arguments x.given.stack ≡ Some (types.Uninitialized o ∷ T)
-            → constructs_new x.frame.method method o ≡ true → IsFresh (here x) o v
+        → taken (world_of x) method.arguments x.given.stack ≡ Some (types.Uninitialized o ∷ T)
+        → constructs_new x.frame.method method o ≡ true → IsFresh (here x) o v
         → Zip (Fits (world_of x) x.heap.objects) (map value_type descriptor.parameters) arguments → HasStack (here x) T s
         → Does x insn (constructed x.given (types.Uninitialized o) owner T) (construct (context_of x insn) t arguments v s)
     on_fresh o T v arguments s e rule f zip hs =
         let i = f.instance in
         let new = (and_parts (is_that_name reference.member.class (class_of_new x.frame.method (instruction_at x.frame.method o)))
-            (list_all _ (method_guard x.frame.method method)) rule).0 in
+        (list_all _ (method_guard x.frame.method method)) rule).0 in
         let text : reference.member.class ≡ i.class = sym (same_option i.class reference.member.class
-            (sym f.new ∙ that_name reference.member.class (class_of_new x.frame.method (instruction_at x.frame.method o)) new)) in
+        (sym f.new ∙ that_name reference.member.class (class_of_new x.frame.method (instruction_at x.frame.method o)) new)) in
         let plain : is_array_name reference.member.class ≡ false = ap is_array_name text ∙ new_plain o i.class f.new in
         let c = constructor reference t is plain called in
         let name : t.declared.by.class.name ≡ i.class = c.name ∙ text in
         let typed = h.typed.objects.each (x.made o) (InstanceOf i) f.there in
         let same_class : typed.l ≡ t.declared.by = same_option typed.l t.declared.by
-            (sym typed.named ∙ ap (class_named (world_of x)) (sym name) ∙ c.there) in
+        (sym typed.named ∙ ap (class_named (world_of x)) (sym name) ∙ c.there) in
         subst (λ (v : Value). Does x insn (constructed x.given (types.Uninitialized o) owner T)
         (construct (context_of x insn) t arguments v s)) (sym f.is)
         (subst (λ (w : FrameType). Does x insn (constructed x.given (types.Uninitialized o) w T)
-            (construct (context_of x insn) t arguments (Reference (x.made o)) s))
-            (sym (reference_of_class reference.member.class owner plain type))
+        (construct (context_of x insn) t arguments (Reference (x.made o)) s))
+        (sym (reference_of_class reference.member.class owner plain type))
         (constructs x h index (types.Uninitialized o) (x.made o) i
         (fresh_subject (here x) o v f) t reference.member.class descriptor T arguments s (object_is (types.Uninitialized o) T e)
         (order_fresh (world_of x) i t.declared.by.class.name f.raw f.none
         (subst (λ (n : List ℕ). bytes_eq n i.class ≡ true) (sym name) (nat_list_eq_equiv.refl i.class)))
         (enters_verified reference t c (subst (λ (l : Loaded). IsTrue
-            (is_verified (program_of x) l)) same_class typed.verified)) c.init described_so zip hs
+        (is_verified (program_of x) l)) same_class typed.verified)) c.init described_so zip hs
         (subst (λ (n : List ℕ). IsBelow (world_of x) (types.Class i.class) (class_type n)) (sym name)
-            (below_is_reflexive (world_of x) (types.Class i.class)))
+        (below_is_reflexive (world_of x) (types.Class i.class)))
         (subst (λ (n : List ℕ). IsBelow (world_of x) (types.Class i.class) (class_type n)) (sym text)
-            (below_is_reflexive (world_of x) (types.Class i.class)))
+        (below_is_reflexive (world_of x) (types.Class i.class)))
         (λ c g k. ready_any (here x) c x.made (later (begun_later (here x) (types.Uninitialized o) (x.made o) i
         (fresh_subject (here x) o v f) t.declared) (weaker (omega arith) g)) x.given.flag_this_uninit h.holding.ready)))
 
@@ -191,7 +196,7 @@ module _ (x : Setting) (h : IsSet x) (coded : HasCode (program_of x)) (root : Lo
     next c (inl e) =
         let name : t.declared.by.class.name ≡ current.class.name = c.name ∙ same_name reference.member.class current.class.name e in
         let same_class : current ≡ t.declared.by = same_option current t.declared.by
-            (sym enterable.here ∙ ap (class_named (world_of x)) (sym name) ∙ c.there) in
+        (sym enterable.here ∙ ap (class_named (world_of x)) (sym name) ∙ c.there) in
         record {
           verified = subst (λ (l : Loaded). IsTrue (is_verified (program_of x) l)) same_class enterable.verified;
           below = subst (λ (n : List ℕ). IsBelow (world_of x) (current_type x.frame.method) (class_type n)) (sym name)
@@ -199,11 +204,11 @@ module _ (x : Setting) (h : IsSet x) (coded : HasCode (program_of x)) (root : Lo
         }
     next c (inr e) =
         let super : current.class.super_class ≡ Some t.declared.by.class.name = that_name reference.member.class current.class.super_class e
-            ∙ ap (λ (n : List ℕ). Some n) (sym c.name) in
+        ∙ ap (λ (n : List ℕ). Some n) (sym c.name) in
         let stands : Contains (super_names current.class) t.declared.by.class.name =
         Contains-append_left (superclass_names current.class.super_class) current.class.interfaces t.declared.by.class.name
         (subst (λ (o : Option (List ℕ)). Contains (superclass_names o) t.declared.by.class.name) (sym super)
-            (first t.declared.by.class.name [])) in
+        (first t.declared.by.class.name [])) in
         let higher : Contains (above (world_of x) current.class) t.declared.by =
         (above_by_ways (world_of x) current.class t.declared.by).1
         ([], named_super (world_of x) (super_names current.class) t.declared.by.class.name t.declared.by stands c.there) in
@@ -212,7 +217,7 @@ module _ (x : Setting) (h : IsSet x) (coded : HasCode (program_of x)) (root : Lo
           below = above_is_below (world_of x) h.rooted current.class.name t.declared.by.class.name current enterable.here
               (accepted_is_loadable current enterable.here enterable.verified)
               (any_made (λ (s : Loaded). bytes_eq s.class.name t.declared.by.class.name)
-                  (above (world_of x) current.class) t.declared.by higher (nat_list_eq_equiv.refl t.declared.by.class.name));
+              (above (world_of x) current.class) t.declared.by higher (nat_list_eq_equiv.refl t.declared.by.class.name));
         }
 
     this_plain : (bytes_eq reference.member.class current.class.name ≡ true) ⊎
@@ -228,14 +233,14 @@ module _ (x : Setting) (h : IsSet x) (coded : HasCode (program_of x)) (root : Lo
 
     on_this :
         (T : List FrameType) (v : Value) (arguments s : List Value)
-            → taken (world_of x) method.arguments x.given.stack ≡ Some (types.UninitializedThis ∷ T)
-            → constructs_this x.frame.method method ≡ true → IsThis (here x) v
+        → taken (world_of x) method.arguments x.given.stack ≡ Some (types.UninitializedThis ∷ T)
+        → constructs_this x.frame.method method ≡ true → IsThis (here x) v
         → Zip (Fits (world_of x) x.heap.objects) (map value_type descriptor.parameters) arguments → HasStack (here x) T s
         → Does x insn (constructed x.given types.UninitializedThis (current_type x.frame.method) T)
         (construct (context_of x insn) t arguments v s)
     on_this T v arguments s e rule f zip hs =
         let which = or_cases (bytes_eq reference.member.class current.class.name)
-            (is_that_name reference.member.class current.class.super_class) rule in
+        (is_that_name reference.member.class current.class.super_class) rule in
         let c = constructor reference t is (this_plain which) called in
         let n = next c which in
         subst (λ (v : Value). Does x insn (constructed x.given types.UninitializedThis (current_type x.frame.method) T)
@@ -252,7 +257,7 @@ module _ (x : Setting) (h : IsSet x) (coded : HasCode (program_of x)) (root : Lo
     -- whatever stands there
     on_top :
         (S : List FrameType) (arguments s : List Value) → taken (world_of x) method.arguments x.given.stack ≡ Some S
-            → Zip (Fits (world_of x) x.heap.objects) (map value_type descriptor.parameters) arguments → HasStack (here x) S s
+        → Zip (Fits (world_of x) x.heap.objects) (map value_type descriptor.parameters) arguments → HasStack (here x) S s
         → By x insn (construct_top x.frame.method method x.given S)
         (popped_reference s >>= λ receiver. call_special (context_of x insn) t arguments receiver.0 receiver.1
         (is_init t.declared.method.name))

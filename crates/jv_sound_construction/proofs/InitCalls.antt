@@ -122,7 +122,7 @@ module _ (x : Setting) (h : IsSet x) (index : ℕ) where
 
     pub enters :
         (name : List ℕ) (descriptor : MethodDescriptor) (T : List FrameType) (arguments s : List Value)
-            → constructed_object x.frame.method insn x.given ≡ Some u → IsEnterable (program_of x) d → is_init d.method.name ≡ true
+        → constructed_object x.frame.method insn x.given ≡ Some u → IsEnterable (program_of x) d → is_init d.method.name ≡ true
         → method_type_of d.method.descriptor ≡ Some descriptor → Zip (Fits (world_of x) x.heap.objects)
         (map value_type descriptor.parameters) arguments → HasStack (here x) T s
         → IsBelow (world_of x) (types.Class i.class) (class_type d.by.class.name)
@@ -131,24 +131,30 @@ module _ (x : Setting) (h : IsSet x) (index : ℕ) where
         → IsReady (after (here x) c x.made) (flag_behind u x.given.flag_this_uninit))
         → Does x insn (constructed x.given u (types.Class name) T) (Ok (memory_of x, Constructs d id i arguments s))
     enters name descriptor T arguments s object enterable init described f hs below named ready =
-        stays x h insn (constructed x.given u (types.Class name) T) (Constructs d id i arguments s)
-        (enterable, refl, init, record { descriptor = descriptor; described = described; fit = f },
-        record { there = subject.there; raw = subject.raw; owner = subject.owner; below = below },
-        handler_locals x h insn, begun_locals object, λ c g k.
-        let again = object_again c d.by.class.name name g k named in
-        record {
-          locals = replaced_locals (here x) (after (here x) c x.made) u (types.Class name) refl
-              (done_one (here x) u id i subject d name c g again) x.given.locals x.frame.locals h.holding.locals;
-          stack = replaced_stack (here x) (after (here x) c x.made) u (types.Class name) refl
-              (done_one (here x) u id i subject d name c g again) T s hs;
-          ready = ready c g again;
-        })
+        stays x h insn (constructed x.given u (types.Class name) T) (Constructs d id i arguments s) (
+          enterable,
+          refl,
+          init,
+          record { descriptor = descriptor; described = described; fit = f },
+          record { there = subject.there; raw = subject.raw; owner = subject.owner; below = below },
+          handler_locals x h insn,
+          begun_locals object,
+          λ c g k.
+              let again = object_again c d.by.class.name name g k named in
+              record {
+                locals = replaced_locals (here x) (after (here x) c x.made) u (types.Class name) refl
+                    (done_one (here x) u id i subject d name c g again) x.given.locals x.frame.locals h.holding.locals;
+                stack = replaced_stack (here x) (after (here x) c x.made) u (types.Class name) refl
+                    (done_one (here x) u id i subject d name c g again) T s hs;
+                ready = ready c g again;
+              },
+        )
 
   -- what the machine does with the object
   module _ (u : FrameType) (id : ℕ) (i : Instance) (subject : IsSubject (here x) u id i) (t : MethodTarget) where
     pub constructs :
         (name : List ℕ) (descriptor : MethodDescriptor) (T : List FrameType) (arguments s : List Value)
-            → constructed_object x.frame.method insn x.given ≡ Some u → can_enter (world_of x) i t.declared.by.class.name ≡ true
+        → constructed_object x.frame.method insn x.given ≡ Some u → can_enter (world_of x) i t.declared.by.class.name ≡ true
         → IsEnterable (program_of x) t.declared → is_init t.declared.method.name ≡ true
         → method_type_of t.declared.method.descriptor ≡ Some descriptor
         → Zip (Fits (world_of x) x.heap.objects) (map value_type descriptor.parameters) arguments → HasStack (here x) T s
@@ -160,10 +166,10 @@ module _ (x : Setting) (h : IsSet x) (index : ℕ) where
         → Does x insn (constructed x.given u (types.Class name) T) (construct (context_of x insn) t arguments (Reference id) s)
     constructs name descriptor T arguments s object can enterable init described f hs below named ready =
         then_holds (then_holds (found_holds {P = λ o. o ≡ InstanceOf i} ReferenceFault (slice_get x.heap.objects id)
-            (InstanceOf i) subject.there refl) (λ o same_object. subst (λ (o : Object). Holds (λ j. j ≡ i) (instance_in o))
-            (sym same_object) (holds refl))) (λ j same_instance.
+        (InstanceOf i) subject.there refl) (λ o same_object. subst (λ (o : Object). Holds (λ j. j ≡ i) (instance_in o))
+        (sym same_object) (holds refl))) (λ j same_instance.
         then_holds (tested_holds {P = λ k. k ≡ i} ConstructionFault (can_enter (world_of x) j t.declared.by.class.name) j
-            (ap (λ (k : Instance). can_enter (world_of x) k t.declared.by.class.name) same_instance ∙ can) same_instance) (λ k same_again.
+        (ap (λ (k : Instance). can_enter (world_of x) k t.declared.by.class.name) same_instance ∙ can) same_instance) (λ k same_again.
         subst (λ (k : Instance). Does x insn (constructed x.given u (types.Class name) T)
         (unless_error (context_of x insn) (select (world_of x) x.frame.method.site Invokespecial t None)
         (λ t. Ok (memory_of x, Constructs t.declared id k arguments s)))) (sym same_again)

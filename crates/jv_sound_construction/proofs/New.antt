@@ -40,15 +40,25 @@ use Rattle.jv_sound_calls.proofs.laws_of_sound_values.Heaps.{ready_any}
 -- ---- a new object in a frame
 
 abbrev pub with_new : Heap → Object → ℕ → ℕ → Heap
-with_new a q d pc = record { objects = a.objects ++ q ∷ []; owner = upd a.owner (length a.objects) d; born = upd a.born
-    (length a.objects) pc }
+with_new a q d pc = record {
+  objects = a.objects ++ q ∷ [];
+  owner = upd a.owner (length a.objects) d;
+  born = upd a.born
+      (length a.objects) pc;
+}
 
 pub new_later : (e : ℕ) (a : Heap) (q : Object) (d pc : ℕ) → IsLater e a (with_new a q d pc)
 new_later e a q d pc = record {
   still = λ id o x.
       let n : id ≡ length a.objects → ⊥ = λ y. absurd (omega (arith, y, slice_get_within a.objects id o x)) in
-      record { now = o; there = get_append a.objects (q ∷ []) id o x; type = refl; constructed = λ z. z; kept = λ _.
-          (refl, refl, upd_other a.owner (length a.objects) d id n, upd_other a.born (length a.objects) pc id n) };
+      record {
+        now = o;
+        there = get_append a.objects (q ∷ []) id o x;
+        type = refl;
+        constructed = λ z. z;
+        kept = λ _.
+            (refl, refl, upd_other a.owner (length a.objects) d id n, upd_other a.born (length a.objects) pc id n);
+      };
 }
 
 module _ (p : Place) (l : Loaded) (pc : ℕ) (names : class_of_new p.method (instruction_at p.method pc) ≡ Some l.class.name) where
@@ -86,8 +96,18 @@ module _ (p : Place) (l : Loaded) (pc : ℕ) (names : class_of_new p.method (ins
       go types.Null k = k
       go (types.Class c) k = k
       go (types.Array c) k = k
-      go types.UninitializedThis k = record { number = k.number; is = k.is; receiver = k.receiver; instance = k.instance; there = k.there;
-          raw = k.raw; constructor = k.constructor; entered = k.entered; below = k.below; owner = k.owner }
+      go types.UninitializedThis k = record {
+        number = k.number;
+        is = k.is;
+        receiver = k.receiver;
+        instance = k.instance;
+        there = k.there;
+        raw = k.raw;
+        constructor = k.constructor;
+        entered = k.entered;
+        below = k.below;
+        owner = k.owner;
+      }
       go (types.Uninitialized o) k = which (eqb_tells pc o)
         where
           which : ((nat_eq pc o ≡ true) × (pc ≡ o)) ⊎ ((nat_eq pc o ≡ false) × (pc ≢ o))
@@ -95,7 +115,7 @@ module _ (p : Place) (l : Loaded) (pc : ℕ) (names : class_of_new p.method (ins
           which (inl e) = rw e.0 tt
           which (inr n) =
               let e : upd p.made pc (length p.heap.objects) o ≡ p.made o = upd_other p.made pc (length p.heap.objects) o
-                  (λ q. n.1 (sym q)) in
+              (λ q. n.1 (sym q)) in
               rw n.0 (record {
                 is = k.is ∙ ap Reference (sym e);
                 instance = k.instance;
@@ -114,8 +134,11 @@ module _ (p : Place) (l : Loaded) (pc : ℕ) (names : class_of_new p.method (ins
       (Reference (length p.heap.objects) ∷ items)
   new_holding t values items lacks h = record {
     locals = replaced_locals p new_place (types.Uninitialized pc) types.Top refl new_one t.locals values h.locals;
-    stack = (record { fits = new_fresh; width = refl }, lacking_stack p new_place
-        (types.Uninitialized pc) types.Top refl new_one t.stack items lacks h.stack);
+    stack = (
+      record { fits = new_fresh; width = refl },
+      lacking_stack p new_place
+          (types.Uninitialized pc) types.Top refl new_one t.stack items lacks h.stack,
+    );
     ready = ready_any p new_heap (upd p.made pc (length p.heap.objects))
         (new_later 0 p.heap (new_object p.method.world l) p.depth pc) t.flag_this_uninit h.ready;
   }
@@ -129,7 +152,7 @@ module _ (base : Program) (states : ClassStates) (rest : Memory) (heap : Heap) (
     (holding : Holding (place_of heap depth frame made) t frame.locals frame.stack)
     (out_of_memory_is_thrown : IsObject frame.method.world heap.objects throwable_type out_of_memory)
     (l : Loaded) (there : Contains frame.method.world l) (makeable : IsTrue (is_verified (program_in base frame) l)
-        → IsMakeable (program_in base frame) l)
+    → IsMakeable (program_in base frame) l)
     (names : class_of_new frame.method (instruction_at frame.method frame.offset) ≡ Some l.class.name)
     (lacks : list_any (is_same_object (types.Uninitialized frame.offset)) t.stack ≡ false) where
   abbrev here : Place
@@ -142,8 +165,15 @@ module _ (base : Program) (states : ClassStates) (rest : Memory) (heap : Heap) (
       → paid (object_cells frame.method.world l) (memory_in rest heap) ≡ o
       → Holds (AreEffects (program_in base frame) here frame (insns.New index) t g)
       (push_object (context_in base states rest heap frame (insns.New index)) l o)
-  pushed_ok v None e = holds (record { heap = heap; is = refl; made = made; grows = same depth heap; memory = typed; effect =
-      (out_of_memory_is_thrown, holding.locals) })
+  pushed_ok v None e = holds (record {
+    heap = heap;
+    is = refl;
+    made = made;
+    grows = same depth heap;
+    memory = typed;
+    effect =
+        (out_of_memory_is_thrown, holding.locals);
+  })
   pushed_ok v (Some memory) e =
       subst (λ (m : Memory). Holds (AreEffects (program_in base frame) here frame (insns.New index) t g)
       (push_object (context_in base states rest heap frame (insns.New index)) l (Some m)))
@@ -172,8 +202,15 @@ module _ (base : Program) (states : ClassStates) (rest : Memory) (heap : Heap) (
   created_ok = by_state (is_ready (class_state states l)) refl
     where
       begins : Holds (AreEffects (program_in base frame) here frame (insns.New index) t g) (Ok (memory_in rest heap, Begins l))
-      begins = holds (record { heap = heap; is = refl; made = made; grows = same depth heap; memory = typed; effect =
-          (there, refl, refl, holding.locals) })
+      begins = holds (record {
+        heap = heap;
+        is = refl;
+        made = made;
+        grows = same depth heap;
+        memory = typed;
+        effect =
+            (there, refl, refl, holding.locals);
+      })
 
       by_state : (ready : Bool) → is_ready (class_state states l) ≡ ready
           → Holds (AreEffects (program_in base frame) here frame (insns.New index) t g)

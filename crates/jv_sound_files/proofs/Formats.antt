@@ -60,8 +60,13 @@ one_field pool class_flags info f rules e i = by_texts (named_at pool info.name_
   where
     by_texts : (o : Option NameAndDescriptor) → IsSomeAnd o (KeepsRulesAsField pool class_flags info.access_flags
         (Rattle.jv_sound_values.specs.of_loader_world.of_class_parts.Attributes.static_value pool info))
-        → option_map (λ texts. record { access_flags = info.access_flags; name = texts.name; descriptor = texts.descriptor; initial =
-        initial_value pool info }) o ≡ Some f
+        → option_map (λ texts. record {
+          access_flags = info.access_flags;
+          name = texts.name;
+          descriptor = texts.descriptor;
+          initial =
+              initial_value pool info;
+        }) o ≡ Some f
         → has f.access_flags acc_static ≡ true
     by_texts None k e = absurd k
     by_texts (Some texts) k e =
@@ -72,10 +77,20 @@ one_field pool class_flags info f rules e i = by_texts (named_at pool info.name_
         (interface_field_keeps_rules info.access_flags) (subst (λ
         (b : Bool). field_flags_keep_rules b info.access_flags ≡ true) i k.flags_keep_rules)))
       where
-        same_flags : Some (record { access_flags = info.access_flags; name = texts.name; descriptor = texts.descriptor; initial =
-            initial_value pool info }) ≡ Some f → info.access_flags ≡ f.access_flags
-        same_flags e = let s : record { access_flags = info.access_flags; name = texts.name; descriptor = texts.descriptor; initial =
-            initial_value pool info } ≡ f = cc in ap (λ (x : Field). x.access_flags) s
+        same_flags : Some (record {
+          access_flags = info.access_flags;
+          name = texts.name;
+          descriptor = texts.descriptor;
+          initial =
+              initial_value pool info;
+        }) ≡ Some f → info.access_flags ≡ f.access_flags
+        same_flags e = let s : record {
+          access_flags = info.access_flags;
+          name = texts.name;
+          descriptor = texts.descriptor;
+          initial =
+              initial_value pool info;
+        } ≡ f = cc in ap (λ (x : Field). x.access_flags) s
 
         third : (a b c : Bool) → (a && b && c) ≡ true → c ≡ true
         third true true c h = h
@@ -88,10 +103,10 @@ interface_fields_are_static c class formed e f there i =
     let name = chained (Rattle.jv_sound_values.specs.of_loader_world.of_class.ClassFile.class_name c) _ class e in
     let above = chained (Rattle.jv_sound_values.specs.of_loader_world.of_class.Class.super_of c) _ class name.2 in
     let interfaces = chained (all_found (Rattle.jv_sound_values.specs.of_loader_world.of_pool.Constants.class_name_at c.constant_pool)
-        c.interfaces) _ class above.2 in
+    c.interfaces) _ class above.2 in
     let fields = chained (all_found (field_of c.constant_pool) c.fields) _ class interfaces.2 in
     let methods = chained (all_found (Rattle.jv_sound_values.specs.of_loader_world.of_class.Class.method_of c.constant_pool) c.methods) _
-        class fields.2 in
+    class fields.2 in
     let same_fields : fields.0 ≡ class.fields = cc in
     let same_flags : c.access_flags ≡ class.access_flags = cc in
     of_each (field_of c.constant_pool) (KeepsFieldRules c.constant_pool c.access_flags) (IsStaticIn c.access_flags)

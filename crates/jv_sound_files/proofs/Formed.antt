@@ -281,8 +281,12 @@ int_value pool _ h = absurd (clash h)
 
 long_value : (pool : List Entry) (entry : Entry) → is_long (Some (kind_of entry)) ≡ true
     → (v : InitialValue) × (value_of_constant pool entry ≡ Some v) × (value_is types.Long v ≡ true)
-long_value pool (Long high low) h = (LongValue (Rattle.std.specs.Int.cast_signed Rattle.std.specs.Int.w64
-    (high * 4294967296 + low)), refl, refl)
+long_value pool (Long high low) h = (
+  LongValue (Rattle.std.specs.Int.cast_signed Rattle.std.specs.Int.w64
+      (high * 4294967296 + low)),
+  refl,
+  refl,
+)
 long_value pool _ h = absurd (clash h)
 
 string_value : (pool : List Entry) (entry : Entry) → is_string (Some (kind_of entry)) ≡ true → (text : ℕ) × (entry ≡ String text)
@@ -435,8 +439,13 @@ field_made : (pool : List Entry) (info : FieldInfo) (f : Field) → field_of poo
 field_made pool info f e = by_texts (named_at pool info.name_index info.descriptor_index) refl e
   where
     by_texts : (o : Option NameAndDescriptor) → named_at pool info.name_index info.descriptor_index ≡ o
-        → option_map (λ (texts : NameAndDescriptor). record { access_flags = info.access_flags; name = texts.name; descriptor =
-        texts.descriptor; initial = initial_value pool info }) o ≡ Some f
+        → option_map (λ (texts : NameAndDescriptor). record {
+          access_flags = info.access_flags;
+          name = texts.name;
+          descriptor =
+              texts.descriptor;
+          initial = initial_value pool info;
+        }) o ≡ Some f
         → (texts : NameAndDescriptor) × (named_at pool info.name_index info.descriptor_index ≡ Some texts)
         × (record { access_flags = info.access_flags; name = texts.name; descriptor = texts.descriptor; initial = initial_value pool info }
         ≡ f)
@@ -450,20 +459,20 @@ module _ (agree : TypesAgree) where
       let made = field_made pool info f e in
       let texts = made.0 in
       let kept : KeepsRulesAsField pool class_flags info.access_flags (static_value pool info) texts = some_and_at
-          (KeepsRulesAsField pool class_flags info.access_flags (static_value pool info))
-          (named_at pool info.name_index info.descriptor_index) texts rules made.1 in
+      (KeepsRulesAsField pool class_flags info.access_flags (static_value pool info))
+      (named_at pool info.name_index info.descriptor_index) texts rules made.1 in
       let at : utf8_at pool info.descriptor_index ≡ Some texts.descriptor =
-          (parts_named pool info.name_index info.descriptor_index texts made.1).1 in
+      (parts_named pool info.name_index info.descriptor_index texts made.1).1 in
       let typed : field_type_of texts.descriptor ≡ Some kept.type = (agree.field texts.descriptor kept.type).0 kept.described in
       let plain : not (is_floating kept.type) ≡ true = plain_of kept.type (field_type_of texts.descriptor) typed
-          (no_floating_field_text agree texts.descriptor (some_and_at HasNoFloating
-          (utf8_at pool info.descriptor_index) texts.descriptor supported at)) in
+      (no_floating_field_text agree texts.descriptor (some_and_at HasNoFloating
+      (utf8_at pool info.descriptor_index) texts.descriptor supported at)) in
       subst (λ (x : Field). field_test class_flags x ≡ true) made.2
       (and_from (plain_type (field_type_of texts.descriptor)) _ (ap plain_type typed ∙ plain)
       (and_from (initial_fits (field_type_of texts.descriptor) (initial_value pool info))
       (not (has class_flags acc_interface) || has info.access_flags acc_static)
       (ap (λ (o : Option (FieldTypeOf (List ℕ))). initial_fits o (initial_value pool info)) typed ∙ initial_ok pool kept.type
-          (static_value pool info) plain kept.value_kind)
+      (static_value pool info) plain kept.value_kind)
       (static_in_interface (has class_flags acc_interface) info.access_flags kept.flags_keep_rules)))
 
 initial_is_text : (pool : List Entry) (info : FieldInfo) (f : Field) → All (KeepsRules pool) pool → field_of pool info ≡ Some f
@@ -476,16 +485,31 @@ initial_is_text pool info f rules e =
 
 method_made : (pool : List Entry) (info : MethodInfo) (m : Method) → method_of pool info ≡ Some m
     → (texts : NameAndDescriptor) × (named_at pool info.name_index info.descriptor_index ≡ Some texts)
-    × (record { access_flags = info.access_flags; name = texts.name; descriptor = texts.descriptor; code =
-    (method_shown pool info).code } ≡ m)
+    × (record {
+      access_flags = info.access_flags;
+      name = texts.name;
+      descriptor = texts.descriptor;
+      code =
+          (method_shown pool info).code;
+    } ≡ m)
 method_made pool info m e = by_texts (named_at pool info.name_index info.descriptor_index) refl e
   where
     by_texts : (o : Option NameAndDescriptor) → named_at pool info.name_index info.descriptor_index ≡ o
-        → option_map (λ (texts : NameAndDescriptor). record { access_flags = info.access_flags; name = texts.name; descriptor =
-        texts.descriptor; code = (method_shown pool info).code }) o ≡ Some m
+        → option_map (λ (texts : NameAndDescriptor). record {
+          access_flags = info.access_flags;
+          name = texts.name;
+          descriptor =
+              texts.descriptor;
+          code = (method_shown pool info).code;
+        }) o ≡ Some m
         → (texts : NameAndDescriptor) × (named_at pool info.name_index info.descriptor_index ≡ Some texts)
-        × (record { access_flags = info.access_flags; name = texts.name; descriptor = texts.descriptor; code =
-        (method_shown pool info).code } ≡ m)
+        × (record {
+          access_flags = info.access_flags;
+          name = texts.name;
+          descriptor = texts.descriptor;
+          code =
+              (method_shown pool info).code;
+        } ≡ m)
     by_texts None k e = absurd cc
     by_texts (Some texts) k e = (texts, k, cc)
 
@@ -503,16 +527,18 @@ init_flags : (interface : Bool) (name : List ℕ) (flags : ℕ) → method_flags
     → (has flags acc_static ≡ false) × (has flags acc_abstract ≡ false)
 init_flags interface name flags h init =
     let plain : (visibility_keeps_rules flags && abstract_keeps_rules flags && interface_flags_keep_rules interface flags &&
-        named_flags_keep_rules name flags) ≡ true =
-        ap (λ (b : Bool). if b then true else visibility_keeps_rules flags && abstract_keeps_rules flags && interface_flags_keep_rules
-        interface flags && named_flags_keep_rules name flags) (sym (init_not_clinit name init)) ∙ h in
+    named_flags_keep_rules name flags) ≡ true =
+    ap (λ (b : Bool). if b then true else visibility_keeps_rules flags && abstract_keeps_rules flags && interface_flags_keep_rules
+    interface flags && named_flags_keep_rules name flags) (sym (init_not_clinit name init)) ∙ h in
     let last : named_flags_keep_rules name flags ≡ true = fourth (visibility_keeps_rules flags) (abstract_keeps_rules flags)
-        (interface_flags_keep_rules interface flags) (named_flags_keep_rules name flags) plain in
+    (interface_flags_keep_rules interface flags) (named_flags_keep_rules name flags) plain in
     let kept : init_flags_keep_rules flags ≡ true = ap (λ (b : Bool). if b then init_flags_keep_rules flags else true) (sym init) ∙ last in
     let none : has flags (acc_static + acc_final + acc_synchronized + acc_bridge + acc_native + acc_abstract) ≡ false = not_true
-        (has flags (acc_static + acc_final + acc_synchronized + acc_bridge + acc_native + acc_abstract)) kept in
-    (has_none flags (acc_static + acc_final + acc_synchronized + acc_bridge + acc_native + acc_abstract) acc_static refl none, has_none
-    flags (acc_static + acc_final + acc_synchronized + acc_bridge + acc_native + acc_abstract) acc_abstract refl none)
+    (has flags (acc_static + acc_final + acc_synchronized + acc_bridge + acc_native + acc_abstract)) kept in (
+      has_none flags (acc_static + acc_final + acc_synchronized + acc_bridge + acc_native + acc_abstract) acc_static refl none,
+      has_none
+          flags (acc_static + acc_final + acc_synchronized + acc_bridge + acc_native + acc_abstract) acc_abstract refl none,
+    )
   where
     fourth : (a b c d : Bool) → (a && b && c && d) ≡ true → d ≡ true
     fourth true true true d h = h
@@ -525,9 +551,9 @@ static_flags_of : (interface : Bool) (name : List ℕ) (flags : ℕ) → method_
     → is_clinit name ≡ false → has flags acc_static ≡ true → has flags acc_abstract ≡ false
 static_flags_of interface name flags h plain_name static =
     let plain : (visibility_keeps_rules flags && abstract_keeps_rules flags && interface_flags_keep_rules interface flags &&
-        named_flags_keep_rules name flags) ≡ true =
-        ap (λ (b : Bool). if b then true else visibility_keeps_rules flags && abstract_keeps_rules flags && interface_flags_keep_rules
-        interface flags && named_flags_keep_rules name flags) (sym plain_name) ∙ h in
+    named_flags_keep_rules name flags) ≡ true =
+    ap (λ (b : Bool). if b then true else visibility_keeps_rules flags && abstract_keeps_rules flags && interface_flags_keep_rules
+    interface flags && named_flags_keep_rules name flags) (sym plain_name) ∙ h in
     by_abstract (has flags acc_abstract) refl (second (visibility_keeps_rules flags) (abstract_keeps_rules flags)
     (interface_flags_keep_rules interface flags) (named_flags_keep_rules name flags) plain)
   where
@@ -585,7 +611,7 @@ code_ok interface name flags code rules there supported = by_clinit (is_clinit n
         → (not ((is_clinit name || is_init name) || (has flags acc_static || not (has flags acc_abstract))) || is_some code) ≡ true
     by_clinit true e k n =
         let coded : is_some code ≡ true = ap (λ (b : Bool). if not b && has flags (acc_abstract + acc_native) then not
-            (is_some code) else is_some code) (sym e) ∙ k in
+        (is_some code) else is_some code) (sym e) ∙ k in
         ap (λ (b : Bool). not ((is_clinit name || is_init name) ||
         (has flags acc_static || not (has flags acc_abstract))) || b) coded ∙ or_true
         (not ((is_clinit name || is_init name) || (has flags acc_static || not (has flags acc_abstract))))
@@ -627,23 +653,22 @@ module _ (agree : TypesAgree) where
       let made = method_made pool info m e in
       let texts = made.0 in
       let kept : KeepsRulesAsMethod class_flags info.access_flags (has_code info) texts = some_and_at
-          (KeepsRulesAsMethod class_flags info.access_flags (has_code info))
-          (named_at pool info.name_index info.descriptor_index) texts rules made.1 in
+      (KeepsRulesAsMethod class_flags info.access_flags (has_code info))
+      (named_at pool info.name_index info.descriptor_index) texts rules made.1 in
       let at = parts_named pool info.name_index info.descriptor_index texts made.1 in
       let typed : method_type_of texts.descriptor ≡ Some kept.type = (agree.method texts.descriptor kept.type).0 kept.described in
       let plain : not (is_floating_method kept.type) ≡ true = plain_method_of kept.type (method_type_of texts.descriptor) typed
-          (no_floating_method_text agree texts.descriptor (some_and_at HasNoFloating
-          (utf8_at pool info.descriptor_index) texts.descriptor supported at.1)) in
+      (no_floating_method_text agree texts.descriptor (some_and_at HasNoFloating
+      (utf8_at pool info.descriptor_index) texts.descriptor supported at.1)) in
       let free : is_supported_method texts.name info.access_flags ≡ true = some_and_at
-          (λ (name : List ℕ). IsTrue (is_supported_method name info.access_flags)) (utf8_at pool info.name_index) texts.name flags at.0 in
-      (
+      (λ (name : List ℕ). IsTrue (is_supported_method name info.access_flags)) (utf8_at pool info.name_index) texts.name flags at.0 in (
         subst (λ (x : Method). method_test class_flags x ≡ true) made.2
             (and_from (plain_method_type (method_type_of texts.descriptor)) _ (ap plain_method_type typed ∙ plain)
             (and_from (not (is_init texts.name) || (not (has class_flags acc_interface) &&
             (is_void (method_type_of texts.descriptor) && not (has info.access_flags acc_static))))
             (not (is_clinit texts.name) || (has info.access_flags acc_static && is_no_arguments_void texts.descriptor))
             (ap (λ (o : Option MethodDescriptor). not (is_init texts.name) ||
-                (not (has class_flags acc_interface) && (is_void o && not (has info.access_flags acc_static)))) typed
+            (not (has class_flags acc_interface) && (is_void o && not (has info.access_flags acc_static)))) typed
             ∙ init_ok (has class_flags acc_interface) texts.name info.access_flags
             (is_none kept.type.result) kept.flags_keep_rules kept.init)
             (clinit_ok texts.name texts.descriptor info.access_flags kept.clinit))),
@@ -671,16 +696,22 @@ parts_of c class e =
     let interfaces = chained (all_found (class_name_at c.constant_pool) c.interfaces) _ class above.2 in
     let fields = chained (all_found (field_of c.constant_pool) c.fields) _ class interfaces.2 in
     let methods = chained (all_found (method_of c.constant_pool) c.methods) _ class fields.2 in
-    record { name = name.1 ∙ ap (λ (n : List ℕ). Some n) cc; superclass = above.1 ∙ ap
-        (λ (n : Option (List ℕ)). Some n) cc; flags = cc; pool = cc; fields = fields.1 ∙ ap
-        (λ (l : List Field). Some l) cc; methods = methods.1 ∙ ap (λ (l : List Method). Some l) cc }
+    record {
+      name = name.1 ∙ ap (λ (n : List ℕ). Some n) cc;
+      superclass = above.1 ∙ ap
+          (λ (n : Option (List ℕ)). Some n) cc;
+      flags = cc;
+      pool = cc;
+      fields = fields.1 ∙ ap
+          (λ (l : List Field). Some l) cc;
+      methods = methods.1 ∙ ap (λ (l : List Method). Some l) cc;
+    }
 
 -- the law ClassIsFormed (F1 to F4 and F6)
 pub class_is_formed : TypesAgree → (c : ClassStructure) (class : Class) → IsWellFormed c → IsSupported c → class_of c ≡ Some class
     → IsFormed class × IsCoded class
 class_is_formed agree c class formed supported e =
-    let parts = parts_of c class e in
-    (
+    let parts = parts_of c class e in (
       record {
         named = (some_and_at (λ n. KeepsRulesAsName c.constant_pool c.super_class n)
             (class_name c) class.name formed.rules.itself.named parts.name).no_array;
@@ -693,7 +724,7 @@ class_is_formed agree c class formed supported e =
             (field_passes agree c.constant_pool c.access_flags found.0 f
             (All-contains (KeepsFieldRules c.constant_pool c.access_flags) c.fields found.0 formed.rules.members.fields found.1)
             (All-contains (λ (f : FieldInfo). IsSupportedType c.constant_pool f.descriptor_index) c.fields found.0 supported.fields found.1)
-                found.2);
+            found.2);
         initials = λ f h.
             let found = found_each (field_of c.constant_pool) c.fields class.fields parts.fields f h in
             initial_is_text c.constant_pool found.0 f formed.pool.rules found.2;
@@ -704,8 +735,8 @@ class_is_formed agree c class formed supported e =
             → (constant_test pool entry ≡ true) × HasText pool entry) parts.pool
             (λ at. (
               at_indices (λ (x : Entry). constant_test c.constant_pool x ≡ true) c.constant_pool
-              (all_also (IsSupportedConstant c.constant_pool) (λ (x : Entry). constant_test c.constant_pool x ≡ true)
-              (supported_passes agree c.constant_pool) c.constant_pool supported.constants) index entry at,
+                  (all_also (IsSupportedConstant c.constant_pool) (λ (x : Entry). constant_test c.constant_pool x ≡ true)
+                  (supported_passes agree c.constant_pool) c.constant_pool supported.constants) index entry at,
               text_there c.constant_pool formed.pool.rules index entry at,
             )) at;
       },
@@ -732,6 +763,6 @@ class_is_formed agree c class formed supported e =
         → Contains c.methods info → method_of c.constant_pool info ≡ Some m → (method_test c.access_flags m ≡ true) × (code_test m ≡ true)
     method_both c class formed supported info m there e =
         let both = All-contains (λ (m : MethodInfo). IsSupportedType c.constant_pool m.descriptor_index
-            × AreSupportedFlags c.constant_pool m.name_index m.access_flags) c.methods info supported.methods there in
+        × AreSupportedFlags c.constant_pool m.name_index m.access_flags) c.methods info supported.methods there in
         method_passes agree c.constant_pool c.access_flags info m
         (All-contains (KeepsMethodRules c.constant_pool c.access_flags) c.methods info formed.rules.members.methods there) both.0 both.1 e

@@ -35,7 +35,7 @@ module _ {T : Type 0} (entry_of : Item → Option T) (test : MapFrame T → Bool
       nil (x ∷ xs) k = absurd cc
   each_passes (form ∷ more) base before entries k e h =
       let f = chained (frame_behind entry_of base before form >>= frame_if test)
-          (λ f. frames_behind entry_of test (f.offset + 1) f.locals more >>= λ fs. Some (f ∷ fs)) entries k in
+      (λ f. frames_behind entry_of test (f.offset + 1) f.locals more >>= λ fs. Some (f ∷ fs)) entries k in
       let g = chained (frame_behind entry_of base before form) (frame_if test) f.0 f.1 in
       let fs = chained (frames_behind entry_of test (f.0.offset + 1) f.0.locals more) (λ fs. Some (f.0 ∷ fs)) entries f.2 in
       let same : f.0 ∷ fs.0 ≡ entries = some_same (f.0 ∷ fs.0) entries fs.2 in

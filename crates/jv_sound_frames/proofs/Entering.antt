@@ -106,8 +106,14 @@ module _ (p : Place) where
 -- ---- the method
 
 abbrev made : World → Site → MethodDescriptor → CodeSeen → List Instruction → Environment
-made world site descriptor code instructions = record { world = world; site = site; descriptor = descriptor; code = code; instructions =
-    instructions }
+made world site descriptor code instructions = record {
+  world = world;
+  site = site;
+  descriptor = descriptor;
+  code = code;
+  instructions =
+      instructions;
+}
 
 same_environment : (env other : Environment) → env.world ≡ other.world → env.site ≡ other.site → env.descriptor ≡ other.descriptor
     → env.code ≡ other.code → env.instructions ≡ other.instructions → env ≡ other
@@ -148,37 +154,39 @@ module _ (program : Program) (sound : IsSound program) (one_list : OneList) wher
       let site : h.env.site ≡ d = h.of.1 in
       let code : d.method.code ≡ Some h.env.code = subst (λ (s : Site). s.method.code ≡ Some h.env.code) site h.is.code in
       let described : method_type_of d.method.descriptor ≡ Some h.env.descriptor = subst
-          (λ (s : Site). method_type_of s.method.descriptor ≡ Some h.env.descriptor) site h.is.descriptor in
+      (λ (s : Site). method_type_of s.method.descriptor ≡ Some h.env.descriptor) site h.is.descriptor in
       let spelled : program.instructions h.env.code.code ≡ Some h.env.instructions =
-          (sound.instructions h.env.code.code h.env.instructions).1 h.is.instructions in
+      (sound.instructions h.env.code.code h.env.instructions).1 h.is.instructions in
       then_holds (tested_holds {P = λ x. x ≡ d} UnverifiedFault (is_class_accepted program d.by) d
-          (and_parts (is_class_accepted program d.by) _ e.verified).0 refl) (λ x same_d.
+      (and_parts (is_class_accepted program d.by) _ e.verified).0 refl) (λ x same_d.
       subst (λ (x : Declared). Holds (λ env. IsChecked program env × (env.site ≡ d))
       (found OffsetFault x.method.code >>= λ code. found OffsetFault (method_type_of x.method.descriptor) >>= λ descriptor.
       found OffsetFault (program.instructions code.code) >>= λ instructions. Ok
-          (record { world = program.world; site = x; descriptor = descriptor; code = code; instructions = instructions }))) (sym same_d)
+      (record { world = program.world; site = x; descriptor = descriptor; code = code; instructions = instructions }))) (sym same_d)
       (then_holds (found_holds {P = λ c. c ≡ h.env.code} OffsetFault d.method.code h.env.code code refl) (λ c same_c.
       then_holds (found_holds {P = λ t. t ≡ h.env.descriptor} OffsetFault
-          (method_type_of d.method.descriptor) h.env.descriptor described refl) (λ t same_t.
+      (method_type_of d.method.descriptor) h.env.descriptor described refl) (λ t same_t.
       then_holds (found_holds {P = λ i. i ≡ h.env.instructions} OffsetFault (program.instructions c.code) h.env.instructions
-          (ap (λ (x : CodeSeen). program.instructions x.code) same_c ∙ spelled) refl) (λ i same_i.
+      (ap (λ (x : CodeSeen). program.instructions x.code) same_c ∙ spelled) refl) (λ i same_i.
       holds (checked d e h world site c t i same_c same_t same_i))))))
     where
       checked :
           (d : Declared) → IsEnterable program d → (h : HasTyping program.world d) → h.env.world ≡ program.world → h.env.site ≡ d
-              → (c : CodeSeen) (t : MethodDescriptor) (i : List Instruction)
+          → (c : CodeSeen) (t : MethodDescriptor) (i : List Instruction)
           → c ≡ h.env.code → t ≡ h.env.descriptor → i ≡ h.env.instructions
           → IsChecked program (record { world = program.world; site = d; descriptor = t; code = c; instructions = i }) × (d ≡ d)
       checked d e h world site c t i same_c same_t same_i =
           let env : Environment = record { world = program.world; site = d; descriptor = t; code = c; instructions = i } in
-          let same_env : h.env ≡ env = same_environment h.env env world site (sym same_t) (sym same_c) (sym same_i) in
-          (record {
-            world = refl;
-            is = subst IsEnvironment same_env h.is;
-            maps = h.maps;
-            frames = h.frames;
-            typing = subst (λ (x : Environment). IsTyping x h.maps h.frames) same_env h.typing;
-            enterable = e;
-            loadable = sound.loadable d.by (named_stands program.world d.by.class.name d.by e.here)
-                (and_parts (is_class_accepted program d.by) _ e.verified).0;
-          }, refl)
+          let same_env : h.env ≡ env = same_environment h.env env world site (sym same_t) (sym same_c) (sym same_i) in (
+            record {
+              world = refl;
+              is = subst IsEnvironment same_env h.is;
+              maps = h.maps;
+              frames = h.frames;
+              typing = subst (λ (x : Environment). IsTyping x h.maps h.frames) same_env h.typing;
+              enterable = e;
+              loadable = sound.loadable d.by (named_stands program.world d.by.class.name d.by e.here)
+                  (and_parts (is_class_accepted program d.by) _ e.verified).0;
+            },
+            refl,
+          )

@@ -37,14 +37,14 @@ some_code (Some c) h = (c, refl)
 abbrev pub Raises : (program : Program) → IsRooted program.world → NextStarts → StandsInList → Type 0
 Raises program rooted next_starts stands_in_list =
     (heap : Heap) (memory : Memory) (frames : List Frame) (control : Control) (name : List ℕ) → heap.objects ≡ memory.objects
-        → IsTypedMemory program memory → AreVerified program control.states
+    → IsTypedMemory program memory → AreVerified program control.states
     → HasMain program control.main frames → AreCatching program rooted next_starts stands_in_list heap frames → IsThrown program.world name
     → Holds (IsGood program) (raise program.world memory frames control name)
 
 abbrev pub Throws : (program : Program) → IsRooted program.world → NextStarts → StandsInList → Type 0
 Throws program rooted next_starts stands_in_list =
     (heap : Heap) (memory : Memory) (frames : List Frame) (control : Control) (object : ℕ) → heap.objects ≡ memory.objects
-        → IsTypedMemory program memory → AreVerified program control.states
+    → IsTypedMemory program memory → AreVerified program control.states
     → HasMain program control.main frames → AreCatching program rooted next_starts stands_in_list heap frames
     → IsObject program.world heap.objects throwable_type object
     → Holds (IsGood program) (throw program.world memory frames control object)
@@ -52,13 +52,13 @@ Throws program rooted next_starts stands_in_list =
 abbrev pub Begins : Program → Type 0
 Begins program =
     (a : Heap) (memory : Memory) (frames : List Frame) (control : Control) (l : Loaded) → a.objects ≡ memory.objects
-        → IsTypedMemory program memory → AreVerified program control.states → ((fs : List Frame) → HasMain program control.main fs)
+    → IsTypedMemory program memory → AreVerified program control.states → ((fs : List Frame) → HasMain program control.main fs)
     → Contains program.world l → AreWaiting program a Again frames → Holds (IsGood program) (begin program memory frames control l)
 
 abbrev pub WithinWords : (program : Program) → IsRooted program.world → NextStarts → StandsInList → Type 0
 WithinWords program rooted next_starts stands_in_list =
     (a : Heap) (memory : Memory) (frames : List Frame) (control : Control) (words : ℕ) (next : Control → OrFault State)
-        → a.objects ≡ memory.objects → IsTypedMemory program memory → AreVerified program control.states
+    → a.objects ≡ memory.objects → IsTypedMemory program memory → AreVerified program control.states
     → HasMain program control.main frames → AreCatching program rooted next_starts stands_in_list a frames
     → ((given : Control) → given.states ≡ control.states → given.main ≡ control.main → Holds (IsGood program) (next given))
     → Holds (IsGood program) (within_words program.world memory frames control words next)
@@ -67,18 +67,18 @@ WithinWords program rooted next_starts stands_in_list =
 abbrev pub FrameBegins : Program → Type 0
 FrameBegins program =
     (heap : Heap) (depth : ℕ) (d : Declared) (receiver : Option ℕ) (arguments : List Value) → IsEnterable program d
-        → (is_init d.method.name ≡ false) → IsReceiver program heap d receiver
+    → (is_init d.method.name ≡ false) → IsReceiver program heap d receiver
     → ArePassed program heap d receiver arguments → AreLoadable program.world heap.objects
     → Holds (λ f. IsRunning program heap depth f × (f.method.site ≡ d)
     × (f.receiver ≡ receiver)) (method_frame program d receiver arguments)
 
 module _ (program : Program) (rooted : IsRooted program.world) (next_starts : NextStarts) (stands_in_list : StandsInList)
     (loadable_of : (heap : Heap) (memory : Memory) → heap.objects ≡ memory.objects → IsTypedMemory program memory
-        → AreLoadable program.world heap.objects)
+    → AreLoadable program.world heap.objects)
     (within_ok : WithinWords program rooted next_starts stands_in_list) (method_frame_ok : FrameBegins program) where
   pub enter_ok :
       (a : Heap) (memory : Memory) (frames : List Frame) (control : Control) (d : Declared) (receiver : Option ℕ) (arguments : List Value)
-          → a.objects ≡ memory.objects → IsTypedMemory program memory → AreVerified program control.states
+      → a.objects ≡ memory.objects → IsTypedMemory program memory → AreVerified program control.states
       → ((fs : List Frame) → HasMain program control.main fs) → IsEnterable program d → is_init d.method.name ≡ false
       → IsReceiver program a d receiver → ArePassed program a d receiver arguments
       → AreCatching program rooted next_starts stands_in_list a frames

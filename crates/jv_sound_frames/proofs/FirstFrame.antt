@@ -54,9 +54,9 @@ module _ (program : Program) (sound : IsSound program) (one_list : Rattle.jv_sou
     (next_starts : Rattle.jv_sound_world.specs.of_code.Places.NextStarts)
     (stands_in_list : Rattle.jv_sound_world.specs.of_code.Places.StandsInList)
     (parameters_are_sorts : (d : Declared) (descriptor : MethodDescriptor) → IsEnterable program d
-        → method_type_of d.method.descriptor ≡ Some descriptor → AreSorts descriptor.parameters)
+    → method_type_of d.method.descriptor ≡ Some descriptor → AreSorts descriptor.parameters)
     (slots_are_words : (descriptor : MethodDescriptor) → AreSorts descriptor.parameters
-        → words (map value_type descriptor.parameters) ≡ slots descriptor) where
+    → words (map value_type descriptor.parameters) ≡ slots descriptor) where
   -- the entries, with the values that are passed
   record AreEntries (p : Place) (env : Environment) (receiver : Option ℕ) (arguments : List Value) : Type 0 where
     items : Zip (Item p) (entries_before env) (passed_values receiver arguments)
@@ -67,7 +67,7 @@ module _ (program : Program) (sound : IsSound program) (one_list : Rattle.jv_sou
 
   entries_ok :
       (heap : Heap) (p : Place) (env : Environment) (d : Declared) (receiver : Option ℕ) (arguments : List Value) → p.heap ≡ heap
-          → p.method ≡ env → IsChecked program env → env.site ≡ d → is_init d.method.name ≡ false
+      → p.method ≡ env → IsChecked program env → env.site ≡ d → is_init d.method.name ≡ false
       → IsReceiver program heap d receiver → ArePassed program heap d receiver arguments → AreEntries p env receiver arguments
   entries_ok heap p env d receiver arguments same_heap same_method checked site plain is_receiver passed =
       by_receiver receiver is_receiver
@@ -89,7 +89,7 @@ module _ (program : Program) (sound : IsSound program) (one_list : Rattle.jv_sou
           subst (λ (w : World). Zip (Fits w p.heap.objects) (map value_type env.descriptor.parameters) arguments) (sym world)
           (subst (λ (h : Heap). Zip (Fits program.world h.objects) (map value_type env.descriptor.parameters) arguments) (sym same_heap)
           (subst (λ (x : MethodDescriptor). Zip (Fits program.world heap.objects)
-              (map value_type x.parameters) arguments) same_descriptor passed.fit))
+          (map value_type x.parameters) arguments) same_descriptor passed.fit))
 
       items : Zip (Item p) (map value_type env.descriptor.parameters) arguments
       items = sorts_are_items p env.descriptor.parameters arguments sorts fit
@@ -114,14 +114,23 @@ module _ (program : Program) (sound : IsSound program) (one_list : Rattle.jv_sou
       by_flags true false None e k h = (items, omega (arith, count))
       by_flags false false None e k h = absurd (clash (e ∙ h))
       by_flags true false (Some id) e k h = absurd (clash (sym h.0 ∙ sym e))
-      by_flags false false (Some id) e k h =
-          ((record {
+      by_flags false false (Some id) e k h = (
+        (
+          record {
             fits = subst (λ (w : World). IsObject w p.heap.objects (types.Class env.site.by.class.name) id) (sym world)
-            (subst (λ (h : Heap). IsObject program.world h.objects (types.Class env.site.by.class.name) id) (sym same_heap)
-            (subst (λ (n : List ℕ). IsObject program.world heap.objects (types.Class n) id) (sym name_is) h.1));
+                (subst (λ (h : Heap). IsObject program.world h.objects (types.Class env.site.by.class.name) id) (sym same_heap)
+                (subst (λ (n : List ℕ). IsObject program.world heap.objects (types.Class n) id) (sym name_is) h.1));
             width = refl;
-          }, items), omega (arith, count, sum_by-cons Rattle.jv_sound_world.specs.of_frames.Types.width (types.Class env.site.by.class.name)
-          (map value_type env.descriptor.parameters)))
+          },
+          items,
+        ),
+        omega (
+          arith,
+          count,
+          sum_by-cons Rattle.jv_sound_world.specs.of_frames.Types.width (types.Class env.site.by.class.name)
+              (map value_type env.descriptor.parameters),
+        ),
+      )
       by_flags static true r e k h = absurd (clash (sym k))
 
       by_receiver : (r : Option ℕ) → IsReceiver program heap d r → AreEntries p env r arguments
@@ -130,7 +139,7 @@ module _ (program : Program) (sound : IsSound program) (one_list : Rattle.jv_sou
 
   pub method_frame_ok :
       (heap : Heap) (depth : ℕ) (d : Declared) (receiver : Option ℕ) (arguments : List Value) → IsEnterable program d
-          → (is_init d.method.name ≡ false) → IsReceiver program heap d receiver
+      → (is_init d.method.name ≡ false) → IsReceiver program heap d receiver
       → ArePassed program heap d receiver arguments → AreLoadable program.world heap.objects
       → Holds (λ f. IsRunning program heap depth f × (f.method.site ≡ d)
       × (f.receiver ≡ receiver)) (method_frame program d receiver arguments)
@@ -142,8 +151,16 @@ module _ (program : Program) (sound : IsSound program) (one_list : Rattle.jv_sou
       then_holds (filled_ok p env.code.max_locals (entries_before env) (passed_values receiver arguments) entries.items
       (subst (λ (n : ℕ). n ≤ env.code.max_locals) (sym entries.count) h.0.typing.arguments)) (λ locals k.
       let first = first_there env h.0.is in
-      holds (arrives program sound.rooted next_starts stands_in_list heap depth (entered_frame env receiver locals []) (λ _. 0) h.0
-      (first_frame env) 0 locals [] loadable
-      (begins env h.0.maps h.0.frames h.0.is h.0.typing first.0 first.1)
-      (record { locals = k; stack = tt; ready = λ c. absurd (clash
-          (sym (ap (λ (s : Declared). is_init s.method.name) h.1 ∙ plain) ∙ c)) }), h.1, refl)))
+      holds (
+        arrives program sound.rooted next_starts stands_in_list heap depth (entered_frame env receiver locals []) (λ _. 0) h.0
+            (first_frame env) 0 locals [] loadable
+            (begins env h.0.maps h.0.frames h.0.is h.0.typing first.0 first.1)
+            (record {
+              locals = k;
+              stack = tt;
+              ready = λ c. absurd (clash
+                  (sym (ap (λ (s : Declared). is_init s.method.name) h.1 ∙ plain) ∙ c));
+            }),
+        h.1,
+        refl,
+      )))

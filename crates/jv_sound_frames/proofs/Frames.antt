@@ -89,10 +89,14 @@ module _ (p : Place) (rooted : IsRooted p.method.world) (loadable : AreLoadable 
   frame_goes g h values items (inl e) k = subst (λ (x : TypesOf). Holding p x values items) (sym e) k
   frame_goes g h values items (inr e) k =
       let a = and_parts (all_flow (flows p.method.world) g.locals h.locals && all_flow (item_flows p.method.world) g.stack h.stack)
-          (not g.flag_this_uninit || h.flag_this_uninit) e in
+      (not g.flag_this_uninit || h.flag_this_uninit) e in
       let b = and_parts (all_flow (flows p.method.world) g.locals h.locals) (all_flow (item_flows p.method.world) g.stack h.stack) a.0 in
-      record { locals = locals_flow g.locals h.locals values b.0 k.locals; stack = stack_flow g.stack h.stack items b.1 k.stack; ready =
-          ready_flows g.flag_this_uninit h.flag_this_uninit a.1 k.ready }
+      record {
+        locals = locals_flow g.locals h.locals values b.0 k.locals;
+        stack = stack_flow g.stack h.stack items b.1 k.stack;
+        ready =
+            ready_flows g.flag_this_uninit h.flag_this_uninit a.1 k.ready;
+      }
 
 -- ---- all frames
 
@@ -122,9 +126,12 @@ module _ (program : Program) (rooted : IsRooted program.world) (next_starts : Ne
   pub waiting_later : {a b : Heap} (fs : List Frame) → IsLater (length fs) a b → (p : Promise) → AreWaiting program a p fs
       → AreWaiting program b p fs
   waiting_later [] g p c = tt
-  waiting_later (Runs f ∷ fs) g p c =
-      (catching_later (length fs) g f c.0, resumes_later (length fs) g f p c.1, waiting_later fs (weaker (omega arith) g)
-      (promise_of f) c.2)
+  waiting_later (Runs f ∷ fs) g p c = (
+    catching_later (length fs) g f c.0,
+    resumes_later (length fs) g f p c.1,
+    waiting_later fs (weaker (omega arith) g)
+        (promise_of f) c.2,
+  )
   waiting_later (Initializes f ∷ fs) g p c = (c.0, c.1, waiting_later fs (weaker (omega arith) g) Again c.2)
 
   world_loadable : (heap : Heap) (env : Environment) → env.world ≡ program.world → AreLoadable program.world heap.objects
@@ -134,7 +141,7 @@ module _ (program : Program) (rooted : IsRooted program.world) (next_starts : Ne
   -- where a frame leads, it runs
   pub arrives :
       (heap : Heap) (d : ℕ) (f : MethodFrame) (made : ℕ → ℕ) (checked : IsChecked program f.method) (g : TypesOf) (to : ℕ)
-          (values items : List Value)
+      (values items : List Value)
       → AreLoadable program.world heap.objects → Leads f.method checked.frames g to → Holding (place_of heap d f made) g values items
       → IsRunning program heap d (record f { offset = to; locals = values; stack = items })
   arrives heap d f made checked g to values items loadable leads k = record {
@@ -181,7 +188,7 @@ module _ (program : Program) (rooted : IsRooted program.world) (next_starts : Ne
   -- the current frame goes on where its instruction leads
   pub at_offset_ok :
       (heap : Heap) (d : ℕ) (f : MethodFrame) (made : ℕ → ℕ) (checked : IsChecked program f.method) (insn : Instruction) (g : TypesOf)
-          (to : ℕ) (values items : List Value)
+      (to : ℕ) (values items : List Value)
       → AreLoadable program.world heap.objects → instruction_at f.method f.offset ≡ Some insn
       → rule f.method f.offset insn (checked.frames f.offset) ≡ Some g
       → IsSuccessor f.offset insn to → Holding (place_of heap d f made) g values items
@@ -191,15 +198,18 @@ module _ (program : Program) (rooted : IsRooted program.world) (next_starts : Ne
       let room : nat_le (words_of_values items) f.method.code.max_stack ≡ true =
       ap (λ (n : ℕ). nat_le n f.method.code.max_stack) (stack_words (place_of heap d f made) g.stack items k.stack) ∙ fits.1 in
       then_holds (tested_holds {P = λ x. x ≡ f} StackFault _ f room refl) (λ x e.
-      holds (subst (λ (x : MethodFrame). IsResumed program heap d f (record x { offset = to; locals = values; stack = items })) (sym e)
-      (arrives heap d f made checked g to values items loadable
-      (follows f.method checked.maps checked.frames checked.is checked.typing next_starts stands_in_list f.offset insn g to stands rules
-      succ) k, refl)))
+      holds (subst (λ (x : MethodFrame). IsResumed program heap d f (record x { offset = to; locals = values; stack = items })) (sym e) (
+        arrives heap d f made checked g to values items loadable
+            (follows f.method checked.maps checked.frames checked.is checked.typing next_starts stands_in_list f.offset insn
+            g to stands rules
+            succ) k,
+        refl,
+      )))
 
   -- a caller goes on behind its call: this is what its promise comes to
   pub resumed_ok :
       (heap : Heap) (d : ℕ) (f : MethodFrame) (made : ℕ → ℕ) (checked : IsChecked program f.method) (insn : Instruction) (g : TypesOf)
-          (result : List Value)
+      (result : List Value)
       → AreLoadable program.world heap.objects → instruction_at f.method f.offset ≡ Some insn
       → rule f.method f.offset insn (checked.frames f.offset) ≡ Some g
       → IsTrue (falls_through insn) → Holding (place_of heap d f made) g f.locals (result ++ f.stack)
@@ -232,8 +242,15 @@ module _ (program : Program) (rooted : IsRooted program.world) (next_starts : Ne
       holds (record { heap = heap; is = is; memory = typed; frames = tt; verified = verified; main = tt })
   leave_gives heap memory control result values (Runs f ∷ fs) verified main typed is loadable waiting r =
       then_holds (waiting.1 heap values (same (suc (length fs)) heap) loadable r)
-          (λ g run. holds (record { heap = heap; is = is; memory = typed; frames =
-          (run.0, subst (λ (p : Promise). AreWaiting program heap p fs) (sym run.1) waiting.2); verified = verified; main = main }))
+      (λ g run. holds (record {
+        heap = heap;
+        is = is;
+        memory = typed;
+        frames =
+            (run.0, subst (λ (p : Promise). AreWaiting program heap p fs) (sym run.1) waiting.2);
+        verified = verified;
+        main = main;
+      }))
   leave_gives heap memory control result values (Initializes f ∷ fs) verified main typed is loadable waiting r =
       holds (record { heap = heap; is = is; memory = typed; frames = waiting; verified = verified; main = main })
 
@@ -248,8 +265,15 @@ module _ (program : Program) (rooted : IsRooted program.world) (next_starts : Ne
       holds (record { heap = heap; is = is; memory = typed; frames = tt; verified = verified; main = tt })
   leave_builds heap memory control type receiver (Runs f ∷ fs) verified main typed is loadable waiting id e o =
       then_holds (waiting.1 heap id (same (suc (length fs)) heap) loadable e o)
-          (λ g run. holds (record { heap = heap; is = is; memory = typed; frames =
-          (run.0, subst (λ (p : Promise). AreWaiting program heap p fs) (sym run.1) waiting.2); verified = verified; main = main }))
+      (λ g run. holds (record {
+        heap = heap;
+        is = is;
+        memory = typed;
+        frames =
+            (run.0, subst (λ (p : Promise). AreWaiting program heap p fs) (sym run.1) waiting.2);
+        verified = verified;
+        main = main;
+      }))
   leave_builds heap memory control type receiver (Initializes f ∷ fs) verified main typed is loadable waiting id e o =
       holds (record { heap = heap; is = is; memory = typed; frames = waiting; verified = verified; main = main })
 
@@ -279,84 +303,93 @@ module _ (program : Program) (rooted : IsRooted program.world) (next_starts : Ne
   -- of another
   module _
       (handler_room : (f : MethodFrame) (checked : IsChecked program f.method) (insn : Instruction) (h : Handler)
-          → instruction_at f.method f.offset ≡ Some insn
-          → Contains f.method.code.exception_table h → covers h f.offset ≡ true → nat_le 1 f.method.code.max_stack ≡ true)
+      → instruction_at f.method f.offset ≡ Some insn
+      → Contains f.method.code.exception_table h → covers h f.offset ≡ true → nat_le 1 f.method.code.max_stack ≡ true)
       (catch_fits : (heap : Heap) (t : Thrown) (f : MethodFrame) (checked : IsChecked program f.method) (h : Handler) (type : FrameType)
-          → IsThrownGood heap t
-          → Contains f.method.code.exception_table h → catches program.world (current_class f.method).constant_pool t.class h ≡ true
-          → catch_type f.method h.catch_type ≡ Some type → (p : Place) → p.heap ≡ heap → p.method ≡ f.method
-          → Item p type (Reference t.object))
+      → IsThrownGood heap t
+      → Contains f.method.code.exception_table h → catches program.world (current_class f.method).constant_pool t.class h ≡ true
+      → catch_type f.method h.catch_type ≡ Some type → (p : Place) → p.heap ≡ heap → p.method ≡ f.method
+      → Item p type (Reference t.object))
       (replacement_ok : (heap : Heap) (t : Thrown) (d : ℕ) → IsThrownGood heap t
-          → Holds (λ u. (b : Heap) × IsLater d heap b × IsThrownGood b u × (u.control.main ≡ t.control.main)) (replacement program.world t))
+      → Holds (λ u. (b : Heap) × IsLater d heap b × IsThrownGood b u × (u.control.main ≡ t.control.main)) (replacement program.world t))
       (thrown_loadable : (heap : Heap) (t : Thrown) → IsThrownGood heap t → AreLoadable program.world heap.objects)
       (begun_is_verified : (l : Loaded) (t : Thrown) (heap : Heap) → Contains program.world l → IsThrownGood heap t
-          → IsThrownGood heap (passed_initialization l t))
-      where
-    find_gave : {A : Type 0} (test : A → Bool) (xs : List A) (x : A) → find test xs ≡ Some x → Contains xs x × (test x ≡ true)
-    find_gave test [] x e = absurd cc
-    find_gave test (y ∷ xs) x e = by_test (test y) refl e (λ k. find_gave test xs x k)
-      where
-        by_test : (b : Bool) → test y ≡ b → (if b then Some y else find test xs) ≡ Some x
-            → (find test xs ≡ Some x → Contains xs x × (test x ≡ true)) → Contains (y ∷ xs) x × (test x ≡ true)
-        by_test true k e next = let s : y ≡ x = cc in subst (λ z. Contains (y ∷ xs) z × (test z ≡ true)) s (first y xs, k)
-        by_test false k e next = let n = next e in (one_later_of y xs x n.0, n.1)
+      → IsThrownGood heap (passed_initialization l t))
+    where
+      find_gave : {A : Type 0} (test : A → Bool) (xs : List A) (x : A) → find test xs ≡ Some x → Contains xs x × (test x ≡ true)
+      find_gave test [] x e = absurd cc
+      find_gave test (y ∷ xs) x e = by_test (test y) refl e (λ k. find_gave test xs x k)
+        where
+          by_test : (b : Bool) → test y ≡ b → (if b then Some y else find test xs) ≡ Some x
+              → (find test xs ≡ Some x → Contains xs x × (test x ≡ true)) → Contains (y ∷ xs) x × (test x ≡ true)
+          by_test true k e next = let s : y ≡ x = cc in subst (λ z. Contains (y ∷ xs) z × (test z ≡ true)) s (first y xs, k)
+          by_test false k e next = let n = next e in (one_later_of y xs x n.0, n.1)
 
-    caught_ok :
-        (heap : Heap) (t : Thrown) (f : MethodFrame) (fs : List Frame) (h : Handler) → IsThrownGood heap t
-            → HasMain program t.control.main (Runs f ∷ fs)
-        → IsCatching program heap (length fs) f → AreWaiting program heap (promise_of f) fs → handler_for program.world t.class f ≡ Some h
-        → AreLoadable program.world heap.objects
-        → Holds (IsGood program) (caught t f fs h)
-    caught_ok heap t f fs h ok main c waiting e loadable =
-        let found = find_gave (λ (h : Handler). covers h f.offset && catches program.world
-            (current_class f.method).constant_pool t.class h) f.method.code.exception_table h e in
-        let tests = and_parts (covers h f.offset) (catches program.world (current_class f.method).constant_pool t.class h) found.1 in
-        let go = handled f.method c.checked.maps c.checked.frames c.checked.is c.checked.typing f.offset c.insn h c.stands found.0 tests.0
-            in
-        let item = catch_fits heap t f c.checked h go.type ok found.0 tests.1 go.caught (place_of heap (length fs) f c.made) refl refl in
-        then_holds (tested_holds {P = λ x. x ≡ f} StackFault _ f (handler_room f c.checked c.insn h c.stands found.0 tests.0) refl)
-            (λ x same_frame.
-        holds (record {
-          heap = heap;
-          is = ok.is;
-          memory = ok.memory;
-          frames = (subst (λ (x : MethodFrame). IsRunning program heap (length fs)
-              (record x { offset = h.handler_pc; stack = Reference t.object ∷ [] })) (sym same_frame)
-          (arrives heap (length fs) f c.made c.checked _ h.handler_pc f.locals (Reference t.object ∷ []) loadable go.leads
-          (record { locals = c.locals; stack = (item, tt); ready = c.ready })),
-          subst (λ (x : MethodFrame). AreWaiting program heap (promise_of x) fs) (sym same_frame) waiting);
-          verified = ok.verified;
-          main = main;
-        }))
+      caught_ok :
+          (heap : Heap) (t : Thrown) (f : MethodFrame) (fs : List Frame) (h : Handler) → IsThrownGood heap t
+          → HasMain program t.control.main (Runs f ∷ fs)
+          → IsCatching program heap (length fs) f → AreWaiting program heap (promise_of f) fs → handler_for program.world t.class f ≡ Some h
+          → AreLoadable program.world heap.objects
+          → Holds (IsGood program) (caught t f fs h)
+      caught_ok heap t f fs h ok main c waiting e loadable =
+          let found = find_gave (λ (h : Handler). covers h f.offset && catches program.world
+          (current_class f.method).constant_pool t.class h) f.method.code.exception_table h e in
+          let tests = and_parts (covers h f.offset) (catches program.world (current_class f.method).constant_pool t.class h) found.1 in
+          let go = handled f.method c.checked.maps c.checked.frames c.checked.is c.checked.typing f.offset c.insn h c.stands found.0 tests.0
+          in
+          let item = catch_fits heap t f c.checked h go.type ok found.0 tests.1 go.caught (place_of heap (length fs) f c.made) refl refl in
+          then_holds (tested_holds {P = λ x. x ≡ f} StackFault _ f (handler_room f c.checked c.insn h c.stands found.0 tests.0) refl)
+          (λ x same_frame.
+          holds (record {
+            heap = heap;
+            is = ok.is;
+            memory = ok.memory;
+            frames = (
+              subst (λ (x : MethodFrame). IsRunning program heap (length fs)
+                  (record x { offset = h.handler_pc; stack = Reference t.object ∷ [] })) (sym same_frame)
+                  (arrives heap (length fs) f c.made c.checked _ h.handler_pc f.locals (Reference t.object ∷ []) loadable go.leads
+                  (record { locals = c.locals; stack = (item, tt); ready = c.ready })),
+              subst (λ (x : MethodFrame). AreWaiting program heap (promise_of x) fs) (sym same_frame) waiting,
+            );
+            verified = ok.verified;
+            main = main;
+          }))
 
-    pub unwound_ok :
-        (heap : Heap) (t : Thrown) (fs : List Frame) → IsThrownGood heap t → HasMain program t.control.main fs → AreCatching heap fs
-            → AreLoadable program.world heap.objects
-        → Holds (IsGood program) (unwound program.world t fs)
-    unwound_ok heap t [] ok main c loadable =
-        holds (record { heap = heap; is = ok.is; memory = ok.memory; frames = tt; verified = ok.verified; main = tt })
-    unwound_ok heap t (Runs f ∷ fs) ok main c loadable =
-        by_handler (handler_for program.world t.class f) refl
-        (unwound_ok heap (passed_method f t) fs (record { is = ok.is; memory = ok.memory; object = ok.object; throwable = ok.throwable;
-        loadable = ok.loadable; verified = ok.verified }) (main_below f fs main)
-        (catching_of heap (promise_of f) fs c.1) loadable)
-      where
-        main_below : (f : MethodFrame) (fs : List Frame) → HasMain program t.control.main (Runs f ∷ fs) → HasMain program t.control.main fs
-        main_below f [] m = tt
-        main_below f (x ∷ fs) m = m
+      pub unwound_ok :
+          (heap : Heap) (t : Thrown) (fs : List Frame) → IsThrownGood heap t → HasMain program t.control.main fs → AreCatching heap fs
+          → AreLoadable program.world heap.objects
+          → Holds (IsGood program) (unwound program.world t fs)
+      unwound_ok heap t [] ok main c loadable =
+          holds (record { heap = heap; is = ok.is; memory = ok.memory; frames = tt; verified = ok.verified; main = tt })
+      unwound_ok heap t (Runs f ∷ fs) ok main c loadable =
+          by_handler (handler_for program.world t.class f) refl
+          (unwound_ok heap (passed_method f t) fs (record {
+            is = ok.is;
+            memory = ok.memory;
+            object = ok.object;
+            throwable = ok.throwable;
+            loadable = ok.loadable;
+            verified = ok.verified;
+          }) (main_below f fs main)
+          (catching_of heap (promise_of f) fs c.1) loadable)
+        where
+          main_below : (f : MethodFrame) (fs : List Frame) → HasMain program t.control.main (Runs f ∷ fs) →
+              HasMain program t.control.main fs
+          main_below f [] m = tt
+          main_below f (x ∷ fs) m = m
 
-        by_handler : (o : Option Handler) → handler_for program.world t.class f ≡ o
-            → Holds (IsGood program) (unwound program.world (passed_method f t) fs)
-            → Holds (IsGood program) (elim o [ | None ↦ unwound program.world (passed_method f t) fs | Some h ↦ caught t f fs h ])
-        by_handler None e next = next
-        by_handler (Some h) e next = caught_ok heap t f fs h ok main c.0 c.1 e loadable
-    unwound_ok heap t (Initializes f ∷ fs) ok main c loadable =
-        then_holds (replacement_ok heap (passed_initialization f.class t) (length fs) (begun_is_verified f.class t heap c.0.here ok))
-        (λ u k.
-        unwound_ok k.0 u fs k.2 (main_below u.control.main k.3 fs main) (catching_of k.0 Again fs (waiting_later fs k.1 Again c.2))
-        (thrown_loadable k.0 u k.2))
-      where
-        main_below : (name : List ℕ) → name ≡ t.control.main → (fs : List Frame) → HasMain program t.control.main (Initializes f ∷ fs)
-            → HasMain program name fs
-        main_below name e [] m = tt
-        main_below name e (x ∷ fs) m = subst (λ (n : List ℕ). HasMain program n (x ∷ fs)) (sym e) m
+          by_handler : (o : Option Handler) → handler_for program.world t.class f ≡ o
+              → Holds (IsGood program) (unwound program.world (passed_method f t) fs)
+              → Holds (IsGood program) (elim o [ None ↦ unwound program.world (passed_method f t) fs | Some h ↦ caught t f fs h ])
+          by_handler None e next = next
+          by_handler (Some h) e next = caught_ok heap t f fs h ok main c.0 c.1 e loadable
+      unwound_ok heap t (Initializes f ∷ fs) ok main c loadable =
+          then_holds (replacement_ok heap (passed_initialization f.class t) (length fs) (begun_is_verified f.class t heap c.0.here ok))
+          (λ u k.
+          unwound_ok k.0 u fs k.2 (main_below u.control.main k.3 fs main) (catching_of k.0 Again fs (waiting_later fs k.1 Again c.2))
+          (thrown_loadable k.0 u k.2))
+        where
+          main_below : (name : List ℕ) → name ≡ t.control.main → (fs : List Frame) → HasMain program t.control.main (Initializes f ∷ fs)
+              → HasMain program name fs
+          main_below name e [] m = tt
+          main_below name e (x ∷ fs) m = subst (λ (n : List ℕ). HasMain program n (x ∷ fs)) (sym e) m

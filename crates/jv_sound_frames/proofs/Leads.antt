@@ -104,14 +104,18 @@ module _ (env : Environment) (maps : List PlacedFrame) (frames : Assignment) (is
             → IsAssignedBy env frames (offset_behind pc insn) o → Merges env frames (offset_behind pc insn) o
             → Leads env frames g (offset_behind pc insn)
         by_map next k None assigned merges =
-            record { insn = next; stands = k; goes = inl (assigned g
-                (inr (record { before = pc; insn = insn; starts = e; next = refl; goes_on = falls; left = r }))) }
+            record {
+              insn = next;
+              stands = k;
+              goes = inl (assigned g
+                  (inr (record { before = pc; insn = insn; starts = e; next = refl; goes_on = falls; left = r })));
+            }
         by_map next k (Some map) assigned merges =
             record {
               insn = next;
               stands = k;
               goes = inr (subst (λ (x : Frame). IsTrue (frame_flows env.world g x)) (sym assigned)
-              (merges g (inr (record { before = pc; insn = insn; starts = e; next = refl; goes_on = falls; left = r }))));
+                  (merges g (inr (record { before = pc; insn = insn; starts = e; next = refl; goes_on = falls; left = r }))));
             }
 
     pub follows : (pc : ℕ) (insn : Instruction) (g : Frame) (to : ℕ) → instruction_at env pc ≡ Some insn
@@ -127,8 +131,12 @@ module _ (env : Environment) (maps : List PlacedFrame) (frames : Assignment) (is
       by_map : (o : Option Frame) → IsAssignedBy env frames 0 o → Merges env frames 0 o → Leads env frames (first_frame env) 0
       by_map None assigned merges = record { insn = insn; stands = e; goes = inl (assigned (first_frame env) (inl (refl, refl))) }
       by_map (Some map) assigned merges =
-          record { insn = insn; stands = e; goes = inr (subst (λ (x : Frame). IsTrue (frame_flows env.world (first_frame env) x))
-              (sym assigned) (merges (first_frame env) (inl (refl, refl)))) }
+          record {
+            insn = insn;
+            stands = e;
+            goes = inr (subst (λ (x : Frame). IsTrue (frame_flows env.world (first_frame env) x))
+                (sym assigned) (merges (first_frame env) (inl (refl, refl))));
+          }
 
   -- a handler that covers an instruction begins with the handler's frame
   pub record IsHandled (pc : ℕ) (insn : Instruction) (h : Handler) : Type 0 where
@@ -142,7 +150,7 @@ module _ (env : Environment) (maps : List PlacedFrame) (frames : Assignment) (is
       by_type (catch_type env h.catch_type) refl
       (reached (covers h pc) (handles env maps (handler_frame env insn (frames pc)) h) covering
       (all_at (λ (h : Handler). not (covers h pc) || handles env maps (handler_frame env insn (frames pc)) h) env.code.exception_table h
-          (safe pc insn e).handled there))
+      (safe pc insn e).handled there))
     where
       reached : (a b : Bool) → a ≡ true → (not a || b) ≡ true → b ≡ true
       reached true b e k = k
@@ -153,5 +161,9 @@ module _ (env : Environment) (maps : List PlacedFrame) (frames : Assignment) (is
           (option_map (λ (type : FrameType). record (handler_frame env insn (frames pc)) { stack = type ∷ [] }) o)) false ≡ true
           → IsHandled pc insn h
       by_type None k f = absurd (clash f)
-      by_type (Some type) k f = record { type = type; caught = k; leads = into_map
-          (record (handler_frame env insn (frames pc)) { stack = type ∷ [] }) h.handler_pc (frame_at maps h.handler_pc) refl f }
+      by_type (Some type) k f = record {
+        type = type;
+        caught = k;
+        leads = into_map
+            (record (handler_frame env insn (frames pc)) { stack = type ∷ [] }) h.handler_pc (frame_at maps h.handler_pc) refl f;
+      }

@@ -6,7 +6,6 @@ pub mod Room
 pub mod Replacing
 pub mod Unwinding
 pub mod EnteringAbove
-pub mod Acting
 pub use Rattle.jv_sound_world.proofs.laws_of_loader_world as laws_of_loader_world
 pub use Rattle.jv_sound_world.proofs.laws_of_meaning_linking as laws_of_meaning_linking
 pub use Rattle.jv_sound_world.proofs.laws_of_assign as laws_of_assign

@@ -42,23 +42,31 @@ module _ (program : Program) (sound : IsSound program) (next_starts : NextStarts
 
   thrown_good :
       (a : Heap) (memory : Memory) (control : Control) (id : ℕ) → a.objects ≡ memory.objects → IsTypedMemory program memory
-          → AreVerified program control.states → IsObject program.world a.objects throwable_type id
+      → AreVerified program control.states → IsObject program.world a.objects throwable_type id
       → Holds (λ t. IsFine a t × (t.control.main ≡ control.main)) (thrown control (memory, id))
   thrown_good a memory control id is typed verified h =
       let at : slice_get memory.objects id ≡ Some h.object = subst (λ (os : List Object). slice_get os id ≡ Some h.object) is h.there in
       then_holds (then_holds (found_holds {P = λ o. o ≡ h.object} ReferenceFault (slice_get memory.objects id) h.object at refl) (λ o e.
       subst (λ (x : Object). Holds (λ i. h.object ≡ InstanceOf i) (instance_in x)) (sym e) (by_object h.object h.below))) (λ i e.
-      holds (record {
-        is = is;
-        memory = typed;
-        object = record { object = h.object; there = h.there; constructed = h.constructed; below = subst
-            (λ (x : Object). IsBelow program.world (object_type x) (types.Class i.class)) (sym e)
-            (below_is_reflexive program.world (types.Class i.class)) };
-        throwable = h;
-        loadable = subst (λ (x : Object). IsTrue (is_loadable_type program.world (object_type x))) e
-            (loadable_of program a memory is typed id h.object h.there);
-        verified = verified;
-      }, refl))
+      holds (
+        record {
+          is = is;
+          memory = typed;
+          object = record {
+            object = h.object;
+            there = h.there;
+            constructed = h.constructed;
+            below = subst
+                (λ (x : Object). IsBelow program.world (object_type x) (types.Class i.class)) (sym e)
+                (below_is_reflexive program.world (types.Class i.class));
+          };
+          throwable = h;
+          loadable = subst (λ (x : Object). IsTrue (is_loadable_type program.world (object_type x))) e
+              (loadable_of program a memory is typed id h.object h.there);
+          verified = verified;
+        },
+        refl,
+      ))
     where
       by_object : (o : Object) → IsBelow program.world (object_type o) throwable_type → Holds (λ i. o ≡ InstanceOf i) (instance_in o)
       by_object (InstanceOf i) b = holds refl
@@ -86,9 +94,9 @@ module _ (program : Program) (sound : IsSound program) (next_starts : NextStarts
 
   pub unwinding_ok :
       ((heap : Heap) (t : Thrown) (f : MethodFrame) (checked : IsChecked program f.method) (h : Handler) (type : FrameType) → IsFine heap t
-          → Contains f.method.code.exception_table h → catches program.world (current_class f.method).constant_pool t.class h ≡ true
-          → catch_type f.method h.catch_type ≡ Some type → (p : Place) → p.heap ≡ heap → p.method ≡ f.method
-          → Item p type (Reference t.object))
+      → Contains f.method.code.exception_table h → catches program.world (current_class f.method).constant_pool t.class h ≡ true
+      → catch_type f.method h.catch_type ≡ Some type → (p : Place) → p.heap ≡ heap → p.method ≡ f.method
+      → Item p type (Reference t.object))
       → (heap : Heap) (t : Thrown) (fs : List Frame) → IsFine heap t → HasMain program t.control.main fs
       → AreCatching program sound.rooted next_starts stands_in_list heap fs → AreLoadable program.world heap.objects
       → Holds (IsGood program) (unwound program.world t fs)

@@ -83,7 +83,7 @@ module _ (program : Program) where
       by_type (catch_type f.method h.catch_type)
       (reached (covers h f.offset) (handles f.method checked.maps (handler_frame f.method insn (checked.frames f.offset)) h) covering
       (all_at (λ (h : Handler). not (covers h f.offset) || handles f.method checked.maps
-          (handler_frame f.method insn (checked.frames f.offset)) h) f.method.code.exception_table h
+      (handler_frame f.method insn (checked.frames f.offset)) h) f.method.code.exception_table h
       (checked.typing.below f.offset insn e (start_within f.method f.offset insn checked.is e)).handled there))
     where
       reached : (a b : Bool) → a ≡ true → (not a || b) ≡ true → b ≡ true
@@ -96,13 +96,13 @@ module _ (program : Program) where
       by_map thrown type one (Some map) k flow =
           let placed = in_map checked.maps h.handler_pc map k in
           let within : words map.stack ≤ f.method.code.max_stack = subst (λ (x : Frame). words x.stack ≤ f.method.code.max_stack) placed.2
-              (spelled_within f.method checked.maps f.method.code.stack_map_table checked.typing.stack_map.spelled placed.0 placed.1) in
+          (spelled_within f.method checked.maps f.method.code.stack_map_table checked.typing.stack_map.spelled placed.0 placed.1) in
           let parts = and_parts (all_flow (flows f.method.world) thrown.locals map.locals && all_flow
-              (item_flows f.method.world) thrown.stack map.stack) (not thrown.flag_this_uninit || map.flag_this_uninit) flow in
+          (item_flows f.method.world) thrown.stack map.stack) (not thrown.flag_this_uninit || map.flag_this_uninit) flow in
           let stacks = (and_parts (all_flow (flows f.method.world) thrown.locals map.locals)
-              (all_flow (item_flows f.method.world) thrown.stack map.stack) parts.0).1 in
+          (all_flow (item_flows f.method.world) thrown.stack map.stack) parts.0).1 in
           let some = some_words f.method.world type map.stack (subst
-              (λ (s : List FrameType). all_flow (item_flows f.method.world) s map.stack ≡ true) one stacks) in
+          (λ (s : List FrameType). all_flow (item_flows f.method.world) s map.stack ≡ true) one stacks) in
           le-leb 1 f.method.code.max_stack (omega (arith, some, within))
 
       by_type : (o : Option FrameType)
@@ -123,8 +123,15 @@ module _ (program : Program) where
     pub begun_is_verified : (l : Loaded) (t : Thrown) (heap : Heap) → Contains program.world l
         → IsThrownGood program rooted next_starts stands_in_list heap t
         → IsThrownGood program rooted next_starts stands_in_list heap (passed_initialization l t)
-    begun_is_verified l t heap here ok = record { is = ok.is; memory = ok.memory; object = ok.object; throwable = ok.throwable; loadable =
-        ok.loadable; verified = verified }
+    begun_is_verified l t heap here ok = record {
+      is = ok.is;
+      memory = ok.memory;
+      object = ok.object;
+      throwable = ok.throwable;
+      loadable =
+          ok.loadable;
+      verified = verified;
+    }
       where
         verified : AreVerified program ((l.class.name, Erroneous) ∷ t.control.states)
         verified other there e = by_system other.by_system refl e

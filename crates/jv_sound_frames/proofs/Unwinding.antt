@@ -51,8 +51,15 @@ module _ (program : Program) (rooted : IsRooted program.world) (next_starts : Ne
   pub begun_is_verified : (l : Loaded) (t : Thrown) (heap : Heap) → Contains program.world l
       → IsThrownGood program rooted next_starts stands_in_list heap t
       → IsThrownGood program rooted next_starts stands_in_list heap (passed_initialization l t)
-  begun_is_verified l t heap there h = record { is = h.is; memory = h.memory; object = h.object; throwable = h.throwable; loadable =
-      h.loadable; verified = erroneous_verified program l t.control.states h.verified }
+  begun_is_verified l t heap there h = record {
+    is = h.is;
+    memory = h.memory;
+    object = h.object;
+    throwable = h.throwable;
+    loadable =
+        h.loadable;
+    verified = erroneous_verified program l t.control.states h.verified;
+  }
 
   pub thrown_loadable : (heap : Heap) (t : Thrown) → IsThrownGood program rooted next_starts stands_in_list heap t
       → AreLoadable program.world heap.objects

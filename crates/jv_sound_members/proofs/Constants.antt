@@ -74,17 +74,19 @@ module _ (x : Setting) (h : IsSet x) (string : Loaded) (there : class_named (wor
     (makeable : IsMakeable (program_of x) string)
     -- the text of a String constant is there and spells units (4.4.3, 4.4.7)
     (has_units : (index text : ℕ) → at_index (current_class x.frame.method).constant_pool index ≡ Some (constants.String text)
-        → (bytes : List ℕ) × (utf8_at (current_class x.frame.method).constant_pool text ≡ Some bytes) × (units : List ℕ)
-        × (x.base.units bytes ≡ Some units)) where
+    → (bytes : List ℕ) × (utf8_at (current_class x.frame.method).constant_pool text ≡ Some bytes) × (units : List ℕ)
+    × (x.base.units bytes ≡ Some units)) where
   pushes : (insn : Instruction) (type : FrameType) (o : Option (Memory × Value)) → IsSort type → IsTrue (falls_through insn)
       → KeepsLocals x insn
       → IsConstantIf (program_of x) string there makeable x.heap type o
       → Does x insn (pushed x.given type) (push_value (context_of x insn) o)
   pushes insn type None sort falls keeps f = lacks_ok x h insn (pushed x.given type) keeps
   pushes insn type (Some made) sort falls keeps f =
-      goes_with_ok x h insn (type ∷ x.given.stack) (made.1 ∷ x.frame.stack) f.heap made.0 falls (f.grows (suc x.depth)) f.is f.typed
-      (sort_item (moved (here x) f.heap) type made.1 sort f.fits, stack_later (here x) f.heap
-      (f.grows (suc x.depth)) x.given.stack x.frame.stack h.holding.stack)
+      goes_with_ok x h insn (type ∷ x.given.stack) (made.1 ∷ x.frame.stack) f.heap made.0 falls (f.grows (suc x.depth)) f.is f.typed (
+        sort_item (moved (here x) f.heap) type made.1 sort f.fits,
+        stack_later (here x) f.heap
+            (f.grows (suc x.depth)) x.given.stack x.frame.stack h.holding.stack,
+      )
 
   pub pool_constant_ok : (index : ℕ) (form : IndexForm) → Sound x (insns.PoolConstant index form)
   pool_constant_ok index form = by_entry (at_index (current_class x.frame.method).constant_pool index) refl
@@ -100,9 +102,9 @@ module _ (x : Setting) (h : IsSet x) (string : Loaded) (there : class_named (wor
       by_entry (Some (constants.String text)) e =
           let u = has_units index text e in
           agrees_from (then_holds {P = λ c. c ≡ StringValue u.0}
-              (then_holds (found_holds {P = λ bytes. bytes ≡ u.0} OffsetFault
-              (utf8_at (current_class x.frame.method).constant_pool text) u.0 u.1 refl)
-              (λ bytes same_text. holds (ap StringValue same_text))) (λ c same_constant.
+          (then_holds (found_holds {P = λ bytes. bytes ≡ u.0} OffsetFault
+          (utf8_at (current_class x.frame.method).constant_pool text) u.0 u.1 refl)
+          (λ bytes same_text. holds (ap StringValue same_text))) (λ c same_constant.
           subst (λ (c : InitialValue). Does x (insns.PoolConstant index form) (pushed x.given string_type)
           (constant_value (program_of x) c (memory_of x) >>= push_value (context_of x (insns.PoolConstant index form)))) (sym same_constant)
           (then_holds (constant_ok (program_of x) string there makeable x.heap (memory_of x) string_type (StringValue u.0) refl h.typed refl

@@ -40,7 +40,7 @@ owner_cases text e = by_test (is_array_name text) (is_class_name text) e
     by_test : (a c : Bool) → a ≡ false
         → ((if a then rules_format.◌>>=◌ (field_type_of text) array_of else if c then Some (types.Class text) else None) ≡ None)
         ⊎ ((if a then rules_format.◌>>=◌ (field_type_of text) array_of else if c then Some (types.Class text) else None) ≡ Some
-            (types.Class text))
+        (types.Class text))
     by_test true c k = absurd (clash (sym k))
     by_test false true k = inr refl
     by_test false false k = inl refl
@@ -53,8 +53,13 @@ module _ (x : Setting) (h : IsSet x) where
   once_ok insn rule l done there keeps k = by_state (is_ready (class_state x.states l)) k
     where
       begins : (g : TypesOf) → Does x insn g (Ok (Rattle.jv_sound_numbers.proofs.Ways.memory_of x, Begins l))
-      begins g = stays x h insn g (Begins l) (there, refl, refl, subst (λ (ls : List FrameType). HasLocals (here x) ls x.frame.locals)
-          (sym keeps) h.holding.locals)
+      begins g = stays x h insn g (Begins l) (
+        there,
+        refl,
+        refl,
+        subst (λ (ls : List FrameType). HasLocals (here x) ls x.frame.locals)
+            (sym keeps) h.holding.locals,
+      )
 
       by_state : (ready : Bool) → (ready ≡ true → By x insn rule done)
           → By x insn rule (if ready then done else Ok (Rattle.jv_sound_numbers.proofs.Ways.memory_of x, Begins l))
@@ -63,14 +68,14 @@ module _ (x : Setting) (h : IsSet x) where
 
   module _ (how : FieldAccess) (index : ℕ)
       (sorts : (reference : MemberReference) (type : FieldTypeOf (List ℕ))
-          → field_operand (current_class x.frame.method) index ≡ Some reference → field_type_of reference.descriptor ≡ Some type
-          → IsSort (value_type type))
+      → field_operand (current_class x.frame.method) index ≡ Some reference → field_type_of reference.descriptor ≡ Some type
+      → IsSort (value_type type))
       (each : (reference : MemberReference) (type : FieldTypeOf (List ℕ)) (d : DeclaredField) → is_array_name reference.class ≡ false
-          → field_type_of reference.descriptor ≡ Some type → IsSort (value_type type)
-          → resolve_field (world_of x) x.frame.method.site (use_for how) reference ≡ Ok d
-          → By x (insns.Field how index) (rules.access_field x.frame.method how
-          (field_use reference (types.Class reference.class) type) x.given)
-          (access_field (context_of x (insns.Field how index)) how reference d)) where
+      → field_type_of reference.descriptor ≡ Some type → IsSort (value_type type)
+      → resolve_field (world_of x) x.frame.method.site (use_for how) reference ≡ Ok d
+      → By x (insns.Field how index) (rules.access_field x.frame.method how
+      (field_use reference (types.Class reference.class) type) x.given)
+      (access_field (context_of x (insns.Field how index)) how reference d)) where
     abbrev machine : MemberReference → OrError DeclaredField → Outcome
     machine reference r = unless_error (context_of x (insns.Field how index)) r
         (access_field (context_of x (insns.Field how index)) how reference)
@@ -78,7 +83,7 @@ module _ (x : Setting) (h : IsSet x) where
     abbrev owned : MemberReference → Option FrameType → Option TypesOf
     owned reference o =
         rules_format.◌>>=◌ (rules_format.◌>>=◌ o (λ owner. rules_format.◌>>=◌ (field_type_of reference.descriptor)
-            (λ type. Some (field_use reference owner type))))
+        (λ type. Some (field_use reference owner type))))
         (λ field. rules.access_field x.frame.method how field x.given)
 
     abbrev By_rule : Option TypesOf → Outcome → Type 0
@@ -121,7 +126,7 @@ module _ (x : Setting) (h : IsSet x) where
             → is_array_name reference.class ≡ a
             → By_rule (rules_format.◌>>=◌ (rules_format.◌>>=◌ (when (not a) reference) (λ reference.
             rules_format.◌>>=◌ (reference_type reference.class) (λ owner. rules_format.◌>>=◌ (field_type_of reference.descriptor)
-                (λ type. Some (field_use reference owner type))))) (λ field. rules.access_field x.frame.method how field x.given))
+            (λ type. Some (field_use reference owner type))))) (λ field. rules.access_field x.frame.method how field x.given))
             (machine reference (resolve_field (world_of x) x.frame.method.site (use_for how) reference))
         by_class reference operand true e = record { by = tt }
         by_class reference operand false e = by_owner reference operand e (owner_cases reference.class e)
@@ -130,7 +135,7 @@ module _ (x : Setting) (h : IsSet x) where
             → By_rule (rules_format.◌>>=◌ (rules_format.◌>>=◌ o (λ reference. rules_format.◌>>=◌
             (when (not (is_array_name reference.class)) reference) (λ reference.
             rules_format.◌>>=◌ (reference_type reference.class) (λ owner. rules_format.◌>>=◌ (field_type_of reference.descriptor)
-                (λ type. Some (field_use reference owner type)))))) (λ field. rules.access_field x.frame.method how field x.given))
+            (λ type. Some (field_use reference owner type)))))) (λ field. rules.access_field x.frame.method how field x.given))
             (found OffsetFault o >>= λ reference. machine reference
             (resolve_field (world_of x) x.frame.method.site (use_for how) reference))
         by_operand None e = record { by = tt }

@@ -46,7 +46,7 @@ field_found program rooted alone site how reference d plain e =
     let found = field_is_used above_by_ways above_is_transitive program.world site how reference d e in
     let used = found.1 in
     let class = resolved_class program.world alone reference.class found.0
-        (named_class program.world site.by reference NoSuchFieldError found.0 plain used.named_so) in
+    (named_class program.world site.by reference NoSuchFieldError found.0 plain used.named_so) in
     let declaring = below_declaring program.world rooted found.0 d.by class.there class.loadable used.place in
     record {
       there = declaring.0;
@@ -60,13 +60,13 @@ field_found program rooted alone site how reference d plain e =
 
 module _ (program : Program) (rooted : IsRooted program.world)
     (interfaces_are_static : (l : Loaded) → Contains program.world l → is_interface l ≡ true → (name descriptor : List ℕ) (f : Field)
-        → field_named l.class name descriptor ≡ Some f → is_static_field f ≡ true)
+    → field_named l.class name descriptor ≡ Some f → is_static_field f ≡ true)
     (object_has_none : (l : Loaded) → class_named program.world object_name ≡ Some l → (name descriptor : List ℕ) (f : Field)
-        → field_named l.class name descriptor ≡ Some f → ⊥) where
+    → field_named l.class name descriptor ≡ Some f → ⊥) where
   -- an object at or below the named class has the field
   pub object_field :
       (objects : List Object) (how : Use) (reference : MemberReference) (d : DeclaredField) (o : Object) → IsTypedObject program objects o
-          → IsFieldFound program how reference d → is_static_field d.field ≡ false
+      → IsFieldFound program how reference d → is_static_field d.field ≡ false
       → IsBelow program.world (object_type o) (types.Class reference.class)
       → (i : Instance) × (o ≡ InstanceOf i) × HoldsField program objects d i
   object_field objects how reference d o typed found instance_field b =
@@ -87,9 +87,12 @@ module _ (program : Program) (rooted : IsRooted program.world)
           let class : t.l.class.name ≡ i.class = has_name program.world i.class t.l t.named in
           let l_there : class_named program.world t.l.class.name ≡ Some t.l = ap (class_named program.world) class ∙ t.named in
           let b2 : IsBelow program.world (types.Class t.l.class.name) (types.Class d.by.class.name) = subst
-              (λ (x : List ℕ). IsBelow program.world (types.Class x) (types.Class d.by.class.name)) (sym class) b in
-          (i, refl, holds_field program objects i d t (field_there program.world rooted t.l d reference.name reference.descriptor
-          (is_upward program.world rooted t.l d.by l_there found.there t.plain no_interface b2) found.declared instance_field))
+          (λ (x : List ℕ). IsBelow program.world (types.Class x) (types.Class d.by.class.name)) (sym class) b in (
+            i,
+            refl,
+            holds_field program objects i d t (field_there program.world rooted t.l d reference.name reference.descriptor
+                (is_upward program.world rooted t.l d.by l_there found.there t.plain no_interface b2) found.declared instance_field),
+          )
       by_object (ArrayWith components values) t b =
           let by_is_object : d.by.class.name ≡ object_name =
           array_below_class program.world rooted components d.by.class.name

@@ -47,12 +47,12 @@ instance_kind false k = refl
 
 module _ (x : Setting) (h : IsSet x)
     (interfaces_are_static : (l : Loaded) → Contains (world_of x) l → is_interface l ≡ true → (name descriptor : List ℕ) (f : Field)
-        → field_named l.class name descriptor ≡ Some f → is_static_field f ≡ true)
+    → field_named l.class name descriptor ≡ Some f → is_static_field f ≡ true)
     (object_has_none : (l : Loaded) → class_named (world_of x) object_name ≡ Some l → (name descriptor : List ℕ) (f : Field)
-        → field_named l.class name descriptor ≡ Some f → ⊥) (index : ℕ)
+    → field_named l.class name descriptor ≡ Some f → ⊥) (index : ℕ)
     (sorts : (reference : MemberReference) (type : FieldTypeOf (List ℕ))
-        → field_operand (current_class x.frame.method) index ≡ Some reference → field_type_of reference.descriptor ≡ Some type
-        → IsSort (value_type type)) where
+    → field_operand (current_class x.frame.method) index ≡ Some reference → field_type_of reference.descriptor ≡ Some type
+    → IsSort (value_type type)) where
   abbrev insn : Instruction
   insn = insns.Field access.GetField index
 
@@ -66,18 +66,20 @@ module _ (x : Setting) (h : IsSet x)
       (with_stack x.given (value_type type ∷ S)) null_pointer refl refl
   on_value reference d type S s (Reference id) known described sort f hs =
       let has = object_field (program_of x) h.rooted interfaces_are_static object_has_none x.heap.objects Getfield reference d f.object
-          (h.typed.objects.each id f.object f.there) known (instance_kind (is_static_field d.field) known.kind) f.below in
+      (h.typed.objects.each id f.object f.there) known (instance_kind (is_static_field d.field) known.kind) f.below in
       let there : slice_get x.heap.objects id ≡ Some (InstanceOf has.0) = f.there ∙ ap Some has.1 in
       then_holds (then_holds (found_holds {P = λ o. o ≡ InstanceOf has.0} ReferenceFault (slice_get x.heap.objects id)
-          (InstanceOf has.0) there refl) (λ o same_object. subst (λ (o : Object). Holds (λ i. i ≡ has.0) (instance_in o)) (sym same_object)
-          (holds refl))) (λ i same_instance.
+      (InstanceOf has.0) there refl) (λ o same_object. subst (λ (o : Object). Holds (λ i. i ≡ has.0) (instance_in o)) (sym same_object)
+      (holds refl))) (λ i same_instance.
       then_holds (found_holds {P = λ v. v ≡ has.2.value} ReferenceFault (value_at (key_of d) i.fields) has.2.value
-          (subst (λ (i : Instance). value_at (key_of d) i.fields ≡ Some has.2.value) (sym same_instance) has.2.held) refl) (λ v same_value.
-      goes_ok x h insn (value_type type ∷ S) (v ∷ s) refl
-      (sort_item (here x) (value_type type) v sort (subst (λ (y : Value). Fits (world_of x) x.heap.objects (value_type type) y)
-      (sym same_value)
-      (subst (λ (o : Option (FieldTypeOf (List ℕ))). FitsDescribed (world_of x) x.heap.objects o has.2.value)
-          (ap field_type_of known.descriptor ∙ described) has.2.fits)), hs)))
+      (subst (λ (i : Instance). value_at (key_of d) i.fields ≡ Some has.2.value) (sym same_instance) has.2.held) refl) (λ v same_value.
+      goes_ok x h insn (value_type type ∷ S) (v ∷ s) refl (
+        sort_item (here x) (value_type type) v sort (subst (λ (y : Value). Fits (world_of x) x.heap.objects (value_type type) y)
+            (sym same_value)
+            (subst (λ (o : Option (FieldTypeOf (List ℕ))). FitsDescribed (world_of x) x.heap.objects o has.2.value)
+            (ap field_type_of known.descriptor ∙ described) has.2.fits)),
+        hs,
+      )))
   on_value reference d type S s _ found described sort f hs = absurd f
 
   pub get_field_ok : Sound x insn

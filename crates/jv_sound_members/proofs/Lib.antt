@@ -1,4 +1,5 @@
 pub mod Constants
+pub mod LongConstants
 pub mod Resolving
 pub mod ResolvedTypes
 pub mod FieldsFound

@@ -68,12 +68,12 @@ and_both false b e k = absurd (clash e)
 
 module _ (x : Setting) (h : IsSet x)
     (interfaces_are_static : (l : Loaded) → Contains (world_of x) l → is_interface l ≡ true → (name descriptor : List ℕ) (f : Field)
-        → field_named l.class name descriptor ≡ Some f → is_static_field f ≡ true)
+    → field_named l.class name descriptor ≡ Some f → is_static_field f ≡ true)
     (object_has_none : (l : Loaded) → class_named (world_of x) object_name ≡ Some l → (name descriptor : List ℕ) (f : Field)
-        → field_named l.class name descriptor ≡ Some f → ⊥) (index : ℕ)
+    → field_named l.class name descriptor ≡ Some f → ⊥) (index : ℕ)
     (sorts : (reference : MemberReference) (type : FieldTypeOf (List ℕ))
-        → field_operand (current_class x.frame.method) index ≡ Some reference → field_type_of reference.descriptor ≡ Some type
-        → IsSort (value_type type)) where
+    → field_operand (current_class x.frame.method) index ≡ Some reference → field_type_of reference.descriptor ≡ Some type
+    → IsSort (value_type type)) where
   abbrev insn : Instruction
   insn = insns.Field access.PutField index
 
@@ -83,7 +83,7 @@ module _ (x : Setting) (h : IsSet x)
   -- an object whose class has the field, and that can be stored to
   stored_ok :
       (reference : MemberReference) (d : DeclaredField) (type : FieldTypeOf (List ℕ)) (S : List FrameType) (s : List Value) (id : ℕ)
-          (o : Object) (v : Value)
+      (o : Object) (v : Value)
       → IsFieldFound (program_of x) Putfield reference d → field_type_of reference.descriptor ≡ Some type
       → slice_get x.heap.objects id ≡ Some o
       → IsBelow (world_of x) (object_type o) (types.Class reference.class)
@@ -93,17 +93,17 @@ module _ (x : Setting) (h : IsSet x)
   stored_ok reference d type S s id o v known described at below settable f hs =
       let typed = h.typed.objects.each id o at in
       let has = object_field (program_of x) h.rooted interfaces_are_static object_has_none x.heap.objects Putfield reference d o typed known
-          (instance_kind (is_static_field d.field) known.kind) below in
+      (instance_kind (is_static_field d.field) known.kind) below in
       let i = has.0 in
       let there : slice_get x.heap.objects id ≡ Some (InstanceOf i) = at ∙ ap Some has.1 in
       then_holds (then_holds (found_holds {P = λ o. o ≡ InstanceOf i} ReferenceFault (slice_get x.heap.objects id)
-          (InstanceOf i) there refl) (λ o same_object. subst (λ (o : Object). Holds (λ j. j ≡ i) (instance_in o)) (sym same_object)
-          (holds refl))) (λ j same_instance.
+      (InstanceOf i) there refl) (λ o same_object. subst (λ (o : Object). Holds (λ j. j ≡ i) (instance_in o)) (sym same_object)
+      (holds refl))) (λ j same_instance.
       then_holds (tested_holds {P = λ k. k ≡ i} ConstructionFault _ j
-          (ap (λ (k : Instance). can_be_set (context_of x insn) reference id k) same_instance ∙ settable i has.1) same_instance)
-          (λ k same_set.
+      (ap (λ (k : Instance). can_be_set (context_of x insn) reference id k) same_instance ∙ settable i has.1) same_instance)
+      (λ k same_set.
       then_holds (tested_holds {P = λ k. k ≡ i} ReferenceFault _ k
-          (ap (λ (k : Instance). is_some (value_at (key_of d) k.fields)) same_set ∙ ap is_some has.2.held) same_set) (λ k same_held.
+      (ap (λ (k : Instance). is_some (value_at (key_of d) k.fields)) same_set ∙ ap is_some has.2.held) same_set) (λ k same_held.
       subst (λ (k : Instance). Does x insn (with_stack x.given S)
       (Rattle.jv_sound_numbers.specs.of_meaning_machine.Effects.goes_on_with (context_of x insn)
       (with_object id (with_field_value (key_of d) v k) (memory_of x)) s)) (sym same_held)
@@ -164,7 +164,7 @@ module _ (x : Setting) (h : IsSet x)
   on_this reference d type S s u v known described own g f hs =
       let parts = and_parts (is_init x.frame.method.site.method.name) (bytes_eq reference.class (current_class x.frame.method).name) own in
       let name : reference.class ≡ (current_class x.frame.method).name = same_name reference.class
-          (current_class x.frame.method).name parts.1 in
+      (current_class x.frame.method).name parts.1 in
       subst (λ (u : Value). Does x insn (with_stack x.given S) (popped_reference (u ∷ s) >>= λ under. put_field_of
       (context_of x insn) reference d under.0 v under.1)) (sym g.is)
       (stored_ok reference d type S s g.number (InstanceOf g.instance) v known described g.there
@@ -216,7 +216,7 @@ module _ (x : Setting) (h : IsSet x)
       field_ok x h access.PutField index sorts (λ reference type d plain described sort e.
       let known = field_found (program_of x) h.rooted h.alone x.frame.method.site Putfield reference d plain e in
       then1 (found_holds {P = λ t. t ≡ type} OffsetFault (field_type_of d.field.descriptor) type
-          (ap field_type_of known.descriptor ∙ described) refl) (λ t same_type.
+      (ap field_type_of known.descriptor ∙ described) refl) (λ t same_type.
       subst (λ (t : FieldTypeOf (List ℕ)). By x insn (rules.put_field x.frame.method
       (field_use reference (types.Class reference.class) type) x.given)
       (taken_as x.heap.objects (value_type t) x.frame.stack >>= λ top. popped_reference top.1 >>= λ under. put_field_of

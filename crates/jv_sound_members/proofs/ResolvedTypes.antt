@@ -51,16 +51,18 @@ array_dimensions (byte ∷ rest) type a e = by_type (type_at (byte ∷ rest)) kn
     by_type : (o : Option (FieldTypeOf (List ℕ) × List ℕ)) → ((found : FieldTypeOf (List ℕ) × List ℕ) → o ≡ Some found
         → found.0.dimensions ≡ brackets (byte ∷ rest)) → option_and_then type_alone o ≡ Some type → (k : ℕ) × (type.dimensions ≡ suc k)
     by_type None known k = absurd cc
-    by_type (Some found) known k =
-        (brackets rest, ap (λ (t : FieldTypeOf (List ℕ)). t.dimensions) (sym (by_alone found _ k)) ∙ known found refl ∙ counted
-            (byte == 91) a)
+    by_type (Some found) known k = (
+      brackets rest,
+      ap (λ (t : FieldTypeOf (List ℕ)). t.dimensions) (sym (by_alone found _ k)) ∙ known found refl ∙ counted
+          (byte == 91) a,
+    )
 
 -- the values of such a type are arrays
 pub value_of_array : (type : FieldTypeOf (List ℕ)) (k : ℕ) → type.dimensions ≡ suc k → value_type type ≡ types.Array (component type)
 value_of_array type k e =
     let less : suc k - 1 ≡ k = omega arith in
     ap (λ (n : ℕ). value_type_by n type.element) e ∙ ap (λ (n : ℕ). types.Array (record { dimensions = n; element = type.element }))
-        (sym less ∙ ap (λ (n : ℕ). n - 1) (sym e))
+    (sym less ∙ ap (λ (n : ℕ). n - 1) (sym e))
 
 -- ---- what resolution makes of a text
 
@@ -173,10 +175,12 @@ resolved_components world text class type (inl r) e =
 resolved_components world text class type (inr r) e =
     let same : class_components text ≡ type = by_test (is_array_name text) (is_class_name text) r.plain e in
     let loadable : passes (is_loadable world) (class_named world text) ≡ true = ap
-        (λ (n : List ℕ). passes (is_loadable world) (class_named world n)) (sym r.named.name) ∙ ap
-        (passes (is_loadable world)) r.named.there ∙ r.named.loadable in
-    (ap resolved_type r.is ∙ ap class_components r.named.name ∙ same, subst
-        (λ (t : FieldTypeOf (List ℕ)). IsTrue (has_loadable_element world t.element)) same loadable)
+    (λ (n : List ℕ). passes (is_loadable world) (class_named world n)) (sym r.named.name) ∙ ap
+    (passes (is_loadable world)) r.named.there ∙ r.named.loadable in (
+      ap resolved_type r.is ∙ ap class_components r.named.name ∙ same,
+      subst
+          (λ (t : FieldTypeOf (List ℕ)). IsTrue (has_loadable_element world t.element)) same loadable,
+    )
   where
     by_test : (b c : Bool) → b ≡ false → (if b then field_type_of text else when c (class_components text)) ≡ Some type
         → class_components text ≡ type

@@ -82,14 +82,17 @@ named_class world current reference error named plain h = by_array (is_array_nam
 pub below_declaring : (world : World) → IsRooted world → (named by : Loaded) → class_named world named.class.name ≡ Some named
     → IsTrue (is_loadable world named) → IsAtOrAbove world named by
     → (class_named world by.class.name ≡ Some by) × IsBelow world (types.Class named.class.name) (types.Class by.class.name)
-below_declaring world rooted named by e loadable (inl s) =
-    (subst (λ (x : Loaded). class_named world x.class.name ≡ Some x) (sym s) e,
-    subst (λ (x : Loaded). IsBelow world (types.Class named.class.name) (types.Class x.class.name)) (sym s)
-    (below_is_reflexive world (types.Class named.class.name)))
-below_declaring world rooted named by e loadable (inr h) =
-    (above_is_named world named.class by h,
-    above_is_below world rooted named.class.name by.class.name named e loadable
-    (any_made (λ (s : Loaded). bytes_eq s.class.name by.class.name) (above world named.class) by h (nat_list_eq_equiv.refl by.class.name)))
+below_declaring world rooted named by e loadable (inl s) = (
+  subst (λ (x : Loaded). class_named world x.class.name ≡ Some x) (sym s) e,
+  subst (λ (x : Loaded). IsBelow world (types.Class named.class.name) (types.Class x.class.name)) (sym s)
+      (below_is_reflexive world (types.Class named.class.name)),
+)
+below_declaring world rooted named by e loadable (inr h) = (
+  above_is_named world named.class by h,
+  above_is_below world rooted named.class.name by.class.name named e loadable
+      (any_made (λ (s : Loaded). bytes_eq s.class.name by.class.name) (above world named.class) by h
+      (nat_list_eq_equiv.refl by.class.name)),
+)
 
 -- a class that a reference names can be loaded, and is found by its own name
 pub record IsNamedClass (world : World) (text : List ℕ) (l : Loaded) : Type 0 where

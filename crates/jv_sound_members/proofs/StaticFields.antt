@@ -58,8 +58,8 @@ static_there world d name descriptor there declared static =
 
 module _ (x : Setting) (h : IsSet x) (index : ℕ)
     (sorts : (reference : MemberReference) (type : FieldTypeOf (List ℕ))
-        → field_operand (current_class x.frame.method) index ≡ Some reference → field_type_of reference.descriptor ≡ Some type
-        → IsSort (value_type type)) where
+    → field_operand (current_class x.frame.method) index ≡ Some reference → field_type_of reference.descriptor ≡ Some type
+    → IsSort (value_type type)) where
   stands : (d : DeclaredField) → class_named (world_of x) d.by.class.name ≡ Some d.by → Contains (world_of x) d.by
   stands d e = named_stands (world_of x) d.by.class.name d.by e
 
@@ -90,10 +90,12 @@ module _ (x : Setting) (h : IsSet x) (index : ℕ)
           (ap field_type_of known.descriptor ∙ described)
           (held_fits (world_of x) x.heap.objects (key_of d) x.rest.statics value.0 h.typed.statics value.1) in
           then_holds (found_holds {P = λ v. v ≡ value.0} OffsetFault (value_at (key_of d) x.rest.statics) value.0 value.1 refl)
-              (λ v same_value.
-          goes_ok x h (insns.Field access.GetStatic index) (value_type type ∷ x.given.stack) (v ∷ x.frame.stack) refl
-          (sort_item (here x) (value_type type) v sort (subst (λ (y : Value). Fits (world_of x) x.heap.objects (value_type type) y)
-          (sym same_value) fits), h.holding.stack))
+          (λ v same_value.
+          goes_ok x h (insns.Field access.GetStatic index) (value_type type ∷ x.given.stack) (v ∷ x.frame.stack) refl (
+            sort_item (here x) (value_type type) v sort (subst (λ (y : Value). Fits (world_of x) x.heap.objects (value_type type) y)
+                (sym same_value) fits),
+            h.holding.stack,
+          ))
 
   pub put_static_ok : Sound x (insns.Field access.PutStatic index)
   put_static_ok =
@@ -108,7 +110,7 @@ module _ (x : Setting) (h : IsSet x) (index : ℕ)
           (value_type type ∷ []) [] x.given) (put_static (context_of x (insns.Field access.PutStatic index)) d)
       stores reference type d known described sort =
           then1 (found_holds {P = λ t. t ≡ type} OffsetFault (field_type_of d.field.descriptor) type
-              (ap field_type_of known.descriptor ∙ described) refl) (λ t same_type.
+          (ap field_type_of known.descriptor ∙ described) refl) (λ t same_type.
           subst (λ (t : FieldTypeOf (List ℕ)). By x (insns.Field access.PutStatic index)
           (Rattle.jv_sound_numbers.specs.of_meaning_typing.FrameChanges.exchanged (world_of x) (value_type type ∷ []) [] x.given)
           (taken_as x.heap.objects (value_type t) x.frame.stack >>= λ top. found OffsetFault (value_at (key_of d) x.rest.statics) >>= λ old.
@@ -117,10 +119,10 @@ module _ (x : Setting) (h : IsSet x) (index : ℕ)
           (handed_on (taken_as_all (world_of x) (value_type type ∷ []) x.given.stack) (λ below. Some (with_stack x.given below)) _
           (then2 (taken_one (here x) h.rooted h.loadable (value_type type) x.given.stack x.frame.stack sort h.holding.stack) (λ S top f.
           agrees_from (then_holds (found_holds {P = λ v. ⊤} OffsetFault (value_at (key_of d) x.rest.statics)
-              (held d reference.name reference.descriptor known.there known.declared known.kind).0
-              (held d reference.name reference.descriptor known.there known.declared known.kind).1 tt) (λ old _.
+          (held d reference.name reference.descriptor known.there known.declared known.kind).0
+          (held d reference.name reference.descriptor known.there known.declared known.kind).1 tt) (λ old _.
           goes_with_ok x h (insns.Field access.PutStatic index) S top.1 x.heap
           (with_static (key_of d) (narrowed type top.0) (memory_of x)) refl (same (suc x.depth) x.heap) refl
           (static_typed (program_of x) (memory_of x) (key_of d) (narrowed type top.0) h.typed
           (subst (λ (o : Option (FieldTypeOf (List ℕ))). FitsDescribed (world_of x) x.heap.objects o (narrowed type top.0))
-              (sym (ap field_type_of known.descriptor ∙ described)) (narrowed_fits (world_of x) x.heap.objects type top.0 f.0))) f.1))))))
+          (sym (ap field_type_of known.descriptor ∙ described)) (narrowed_fits (world_of x) x.heap.objects type top.0 f.0))) f.1))))))

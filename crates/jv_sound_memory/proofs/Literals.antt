@@ -46,8 +46,13 @@ module _ (program : Program) (string : Loaded) (there : class_named program.worl
         plain = h.plain;
         keys = with_value_keys string_value (Reference n) (new_instance program.world true string).fields ∙ h.keys;
         values = with_value_fits program.world objects string_value (Reference n) (new_instance program.world true string).fields
-        (record { object = chars_of units; there = e; constructed = refl; below = below_is_reflexive program.world
-        (types.Array (base_components bases.Char)) }) h.values;
+            (record {
+              object = chars_of units;
+              there = e;
+              constructed = refl;
+              below = below_is_reflexive program.world
+                  (types.Array (base_components bases.Char));
+            }) h.values;
       }
 
   -- the object of a text, and the memory with it
@@ -98,20 +103,20 @@ module _ (program : Program) (string : Loaded) (there : class_named program.worl
       let more = s ∷ chars_of units ∷ [] in
       let b = with_more a more in
       let second : slice_get b.objects (n + 1) ≡ Some (chars_of units) = subst
-          (λ (os : List Object). slice_get (os ++ more) (n + 1) ≡ Some (chars_of units)) (sym is)
-          (get_second memory.objects s (chars_of units)) in
+      (λ (os : List Object). slice_get (os ++ more) (n + 1) ≡ Some (chars_of units)) (sym is)
+      (get_second memory.objects s (chars_of units)) in
       let first : slice_get b.objects n ≡ Some s = subst (λ (os : List Object). slice_get (os ++ more) n ≡ Some s) (sym is)
-          (get_behind memory.objects more) in
+      (get_behind memory.objects more) in
       let object : IsObject program.world b.objects string_type n = record
-          { object = s; there = first; constructed = refl; below = is_string } in
+      { object = s; there = first; constructed = refl; below = is_string } in
       record {
         heap = b;
         grows = λ d. more_later d a more;
         is = ap (λ (os : List Object). os ++ more) is;
         typed = subst (λ (os : List Object). IsTypedMemory program
             (record memory { objects = os ++ more; cells = cells; literals = (text, n) ∷ memory.literals })) is
-        (made_typed text (record memory { objects = b.objects; cells = cells }) n
-        (more_typed program a memory more cells is typed (λ k o e. each second k o e)) object);
+            (made_typed text (record memory { objects = b.objects; cells = cells }) n
+            (more_typed program a memory more cells is typed (λ k o e. each second k o e)) object);
         object = object;
       }
     where
@@ -149,14 +154,20 @@ module _ (program : Program) (string : Loaded) (there : class_named program.worl
           (made_ok a memory text units (memory.cells - literal_cells program string units) is typed)
 
       by_known : (o : Option ℕ) → literal_in text memory.literals ≡ o → Holds (IsLiteralIf a) (literal_or_new program text memory o)
-      by_known (Some id) e = holds (record { heap = a; grows = λ d. same d a; is = is; typed = typed; object = subst
-          (λ (os : List Object). IsObject program.world os string_type id) (sym is) (typed.literals text id e) })
+      by_known (Some id) e = holds (record {
+        heap = a;
+        grows = λ d. same d a;
+        is = is;
+        typed = typed;
+        object = subst
+            (λ (os : List Object). IsObject program.world os string_type id) (sym is) (typed.literals text id e);
+      })
       by_known None e =
           then_holds (found_holds {P = λ l. l ≡ string} ReferenceFault (class_named program.world string_name) string there refl)
-              (λ l same_class.
+          (λ l same_class.
           then_holds (found_holds {P = λ us. us ≡ units} OffsetFault (program.units text) units spelled refl) (λ us same_units.
           subst (λ (x : Loaded). Holds (IsLiteralIf a) (Ok (literal_made program x text us (paid (literal_cells program x us) memory))))
           (sym same_class)
           (subst (λ (ys : List ℕ). Holds (IsLiteralIf a) (Ok (literal_made program string text ys
-              (paid (literal_cells program string ys) memory)))) (sym same_units)
+          (paid (literal_cells program string ys) memory)))) (sym same_units)
           (holds (by_cells (paid (literal_cells program string units) memory) refl)))))

@@ -114,8 +114,8 @@ held_fits world objects key (entry ∷ more) v f e = by_test (same_key key entry
     by_test true k e next =
         let same_value : entry.1 ≡ v = cc in
         let same_text : key.descriptor ≡ entry.0.descriptor = same_name key.descriptor entry.0.descriptor
-            (and_parts (bytes_eq key.name entry.0.name && bytes_eq key.class entry.0.class)
-            (bytes_eq key.descriptor entry.0.descriptor) k).1 in
+        (and_parts (bytes_eq key.name entry.0.name && bytes_eq key.class entry.0.class)
+        (bytes_eq key.descriptor entry.0.descriptor) k).1 in
         subst (λ (x : Value). FitsDescribed world objects (field_type_of key.descriptor) x) same_value
         (subst (λ (d : List ℕ). FitsDescribed world objects (field_type_of d) entry.1) (sym same_text) f.0)
     by_test false k e next = next e
@@ -145,7 +145,7 @@ module _ (world : World) (rooted : IsRooted world) where
   -- a class below another, neither an interface, has it upward
   pub is_upward :
       (l by : Loaded) → class_named world l.class.name ≡ Some l → class_named world by.class.name ≡ Some by → is_interface l ≡ false
-          → is_interface by ≡ false
+      → is_interface by ≡ false
       → IsBelow world (types.Class l.class.name) (types.Class by.class.name) → Contains (upward world l) by
   is_upward l by el eb nl nb h =
       by_flow (flow_cases world l.class.name by.class.name (below_plain l.class.name by.class.name (not_interface l.class.name l el nl)
@@ -160,9 +160,9 @@ module _ (world : World) (rooted : IsRooted world) where
       by_flow (inr (inr s)) =
           let same_from : s.from ≡ l = same_some s.from l (sym s.found ∙ el) in
           let chain : Contains (superclasses world l.class) s.to = subst
-              (λ (x : Loaded). Contains (superclasses world x.class) s.to) same_from s.on_chain in
+          (λ (x : Loaded). Contains (superclasses world x.class) s.to) same_from s.on_chain in
           let same_to : s.to ≡ by = same_some s.to by (sym (superclasses_are_named world l.class s.to chain) ∙ ap
-              (class_named world) s.named ∙ eb) in
+          (class_named world) s.named ∙ eb) in
           subst (λ (x : Loaded). Contains (upward world l) x) same_to (later l (superclasses world l.class) s.to chain)
 
   own_field : (by : Loaded) (f : Field) (name descriptor : List ℕ) → field_named by.class name descriptor ≡ Some f
@@ -170,7 +170,7 @@ module _ (world : World) (rooted : IsRooted world) where
   own_field by f name descriptor e n =
       in_map (field_by by) (filter (λ (f : Field). not (is_static_field f)) by.class.fields) f
       (kept (λ (f : Field). not (is_static_field f)) by.class.fields f
-          (field_in (λ (g : Field). bytes_eq g.name name && bytes_eq g.descriptor descriptor) by.class.fields f e) (ap not n))
+      (field_in (λ (g : Field). bytes_eq g.name name && bytes_eq g.descriptor descriptor) by.class.fields f e) (ap not n))
 
   pub field_there : (l : Loaded) (d : DeclaredField) (name descriptor : List ℕ) → Contains (upward world l) d.by
       → field_named d.by.class name descriptor ≡ Some d.field → is_static_field d.field ≡ false
@@ -197,13 +197,13 @@ holds_field program objects instance d h there =
     any_made (same_key (key_of d)) (map key_of (instance_fields program.world h.l)) (key_of d)
     (in_map key_of (instance_fields program.world h.l) d there) (same_key_itself (key_of d)) in
     let v = some_value (value_at (key_of d) instance.fields) (held_by_keys (key_of d) instance.fields ∙ ap
-        (list_any (same_key (key_of d))) h.keys ∙ known) in
+    (list_any (same_key (key_of d))) h.keys ∙ known) in
     record { value = v.0; held = v.1; fits = held_fits program.world objects (key_of d) instance.fields v.0 h.values v.1 }
 
 -- an object below a class that is no interface is one of it (the verifier's order and instanceof agree there)
 pub below_is_one :
     (program : Program) (rooted : IsRooted program.world) (objects : List Object) (o : Object) (by : Loaded)
-        → IsTypedObject program objects o → class_named program.world by.class.name ≡ Some by → is_interface by ≡ false
+    → IsTypedObject program objects o → class_named program.world by.class.name ≡ Some by → is_interface by ≡ false
     → IsBelow program.world (object_type o) (types.Class by.class.name)
     → is_instance_of program.world o (class_components by.class.name) ≡ true
 below_is_one program rooted objects (InstanceOf i) by h named plain b =

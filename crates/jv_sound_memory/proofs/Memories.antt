@@ -93,10 +93,21 @@ append_cases (x ∷ h) more (suc id) o e = append_cases h more id o e
 module _ (program : Program) where
   pub typed_later : {d : ℕ} {a b : Heap} → IsLater d a b → (o : Object) → IsTypedObject program a.objects o
       → IsTypedObject program b.objects o
-  typed_later g (InstanceOf i) h = record { l = h.l; named = h.named; loadable = h.loadable; verified = h.verified; plain = h.plain; keys =
-      h.keys; values = entries_later program.world g i.fields h.values }
-  typed_later g (ArrayWith components values) h = record { loadable = h.loadable; fit = values_later program.world g
-      (value_type components) values h.fit }
+  typed_later g (InstanceOf i) h = record {
+    l = h.l;
+    named = h.named;
+    loadable = h.loadable;
+    verified = h.verified;
+    plain = h.plain;
+    keys =
+        h.keys;
+    values = entries_later program.world g i.fields h.values;
+  }
+  typed_later g (ArrayWith components values) h = record {
+    loadable = h.loadable;
+    fit = values_later program.world g
+        (value_type components) values h.fit;
+  }
 
   -- objects that are of their types join
   pub more_typed :
@@ -148,11 +159,11 @@ module _ (program : Program) where
 
   module _ (makeable : (name : List ℕ) (h : IsThrown program.world name) → IsMakeable program h.l)
       (out_of_memory_is_thrown : (objects : List Object) → IsObject program.world objects
-          (class_type (codes "java/lang/OutOfMemoryError")) out_of_memory
-          → IsObject program.world objects throwable_type out_of_memory) where
+      (class_type (codes "java/lang/OutOfMemoryError")) out_of_memory
+      → IsObject program.world objects throwable_type out_of_memory) where
     pub exception_ok :
         (a : Heap) (memory : Memory) (name : List ℕ) → a.objects ≡ memory.objects → IsTypedMemory program memory
-            → IsThrown program.world name
+        → IsThrown program.world name
         → Holds (IsMade a) (exception program.world name memory)
     exception_ok a memory name is typed h =
         then_holds (found_holds {P = λ l. l ≡ h.l} ReferenceFault (class_named program.world name) h.l h.named refl) (λ l e.
@@ -162,9 +173,15 @@ module _ (program : Program) where
       where
         by_cells : (o : Option Memory) → paid (object_cells program.world h.l) memory ≡ o
             → IsMade a (exception_made program.world h.l memory o)
-        by_cells None k = record { heap = a; grows = λ d. same d a; is = is; typed = typed; throwable = out_of_memory_is_thrown a.objects
-            (subst (λ (os : List Object). IsObject program.world os (class_type (codes "java/lang/OutOfMemoryError")) out_of_memory)
-            (sym is) typed.no_memory) }
+        by_cells None k = record {
+          heap = a;
+          grows = λ d. same d a;
+          is = is;
+          typed = typed;
+          throwable = out_of_memory_is_thrown a.objects
+              (subst (λ (os : List Object). IsObject program.world os (class_type (codes "java/lang/OutOfMemoryError")) out_of_memory)
+              (sym is) typed.no_memory);
+        }
         by_cells (Some after) k =
             let o = made_object program.world h.l in
             let b = with_more a (o ∷ []) in
@@ -176,9 +193,9 @@ module _ (program : Program) where
               is = ap (λ (os : List Object). os ++ o ∷ []) is;
               typed = subst (λ (os : List Object). IsTypedMemory program
                   (record memory { objects = os ++ o ∷ []; cells = memory.cells - object_cells program.world h.l })) is
-              (more_typed a memory (o ∷ []) (memory.cells - object_cells program.world h.l) is typed (λ k x e. only_one k x e));
+                  (more_typed a memory (o ∷ []) (memory.cells - object_cells program.world h.l) is typed (λ k x e. only_one k x e));
               throwable = subst (λ (n : ℕ). IsObject program.world b.objects throwable_type n) (ap (λ (os : List Object). length os) is)
-              (record { object = o; there = get_behind a.objects (o ∷ []); constructed = refl; below = h.below });
+                  (record { object = o; there = get_behind a.objects (o ∷ []); constructed = refl; below = h.below });
             })
           where
             only_one : (k : ℕ) (x : Object) → slice_get (made_object program.world h.l ∷ []) k ≡ Some x

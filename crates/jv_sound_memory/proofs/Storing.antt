@@ -41,9 +41,11 @@ with_value_fits world objects key v (entry ∷ more) f h = by_test (same_key key
         → AllByRecursion (FitsEntry world objects) (if b then (entry.0, v) ∷ more else entry ∷ with_value key v more)
     by_test true e again =
         let parts = and_parts (bytes_eq key.name entry.0.name && bytes_eq key.class entry.0.class)
-            (bytes_eq key.descriptor entry.0.descriptor) e in
-        (subst (λ (d : List ℕ). FitsDescribed world objects (field_type_of d) v)
-            (same_name key.descriptor entry.0.descriptor parts.1) f, h.1)
+        (bytes_eq key.descriptor entry.0.descriptor) e in (
+          subst (λ (d : List ℕ). FitsDescribed world objects (field_type_of d) v)
+              (same_name key.descriptor entry.0.descriptor parts.1) f,
+          h.1,
+        )
     by_test false e again = (h.0, again)
 
 -- the same fields hold something
@@ -86,8 +88,10 @@ module _ (program : Program) where
       → IsTypedMemory program memory
       → IsLater 0 a b → IsTypedObject program b.objects q → IsTypedMemory program (record memory { objects = b.objects })
   set_typed a b memory id q is now typed g new = record {
-    objects = record { each = λ j o e. by_place j o (set_cases a.objects id q j o
-        (subst (λ (os : List Object). slice_get os j ≡ Some o) now e)) };
+    objects = record {
+      each = λ j o e. by_place j o (set_cases a.objects id q j o
+          (subst (λ (os : List Object). slice_get os j ≡ Some o) now e));
+    };
     statics = entries_later program.world g memory.statics (subst
         (λ (os : List Object). AllByRecursion (FitsEntry program.world os) memory.statics) (sym is) typed.statics);
     statics_there = typed.statics_there;

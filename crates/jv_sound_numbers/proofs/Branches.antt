@@ -81,7 +81,7 @@ key_contained default pairs number = by_pair (find (has_key number) (pairs_in pa
 abbrev pub HasTargets : Setting → Instruction → Type 0
 HasTargets x insn =
     (d : ℤ) → Contains (jump_distances insn) d → (to : ℕ) × (target_of x.frame.offset d ≡ Some to)
-        × Contains (jump_targets x.frame.offset insn) (Some to)
+    × Contains (jump_targets x.frame.offset insn) (Some to)
 
 -- from what Leads says of targets
 pub has_targets : (x : Setting) (insn : Instruction) → ((o : Option ℕ) → Contains (jump_targets x.frame.offset insn) o → IsSome o)
@@ -103,7 +103,7 @@ module _ (x : Setting) (h : IsSet x) where
   jumps_ok insn z S s c t hs =
       let k = t z c in
       rw k.1 (stays x h insn (with_stack x.given S) (Goes k.0 x.frame.locals s)
-          (inl k.2, record { locals = h.holding.locals; stack = hs; ready = h.holding.ready }))
+      (inl k.2, record { locals = h.holding.locals; stack = hs; ready = h.holding.ready }))
 
   jumps_if_ok : (insn : Instruction) (z : ℤ) (S : List FrameType) (s : List Value) (test : Bool) → IsTrue (falls_through insn)
       → Contains (jump_distances insn) z → HasTargets x insn → HasStack (here x) S s
@@ -115,7 +115,7 @@ module _ (x : Setting) (h : IsSet x) where
   goto_ok z form t =
       by_table x h (insns.Goto z form) [] [] tt (λ S values s f hs.
       then_holds (none_ok {P = λ b. HasStack (here x) S b} (Fits (world_of x) x.heap.objects) s values f hs)
-          (λ b k. jumps_ok (insns.Goto z form) z S b (first z []) t k))
+      (λ b k. jumps_ok (insns.Goto z form) z S b (first z []) t k))
 
   pub if_int_ok : (condition : Condition) (z : ℤ) → HasTargets x (insns.Branch (tests.IfInt condition) z)
       → Sound x (insns.Branch (tests.IfInt condition) z)

@@ -3,7 +3,6 @@ pub mod Ways
 pub mod Locals
 pub mod LocalInstructions
 pub mod Increments
-pub mod LongConstants
 pub mod StackForms
 pub mod Branches
 pub mod Returns

@@ -113,8 +113,15 @@ module _ (base : Program) (states : ClassStates) (rest : Memory) (heap : Heap) (
   next_ok : (insn : Instruction) (g : TypesOf) (values items : List Value)
       → IsTrue (Rattle.jv_sound_memory.specs.of_code.Successors.falls_through insn) → Holding here g values items
       → AreEffects (program_in base frame) here frame insn t g (memory_in rest heap, Goes (offset_behind frame.offset insn) values items)
-  next_ok insn g values items falls h = record { heap = heap; is = refl; made = made; grows = same depth heap; memory = typed; effect =
-      (inr (falls, refl), h) }
+  next_ok insn g values items falls h = record {
+    heap = heap;
+    is = refl;
+    made = made;
+    grows = same depth heap;
+    memory = typed;
+    effect =
+        (inr (falls, refl), h);
+  }
 
   pub load_ok : (kind : ValueKind) (index : ℕ) (form : LocalForm) → Sound (insns.Load kind index form)
   load_ok kind index form =
@@ -124,8 +131,11 @@ module _ (base : Program) (states : ClassStates) (rest : Memory) (heap : Heap) (
       go : (r : Option TypesOf) (m : OrFault Value) → Agrees (λ after v. (u : FrameType) × (after ≡ pushed t u) × (is_of_kind kind u ≡ true)
           × Item here u v) r m
           → Agrees (AreEffects (program_in base frame) here frame (insns.Load kind index form) t) r
-          (m >>= λ value. Ok (memory_in rest heap, Goes (offset_behind frame.offset (insns.Load kind index form)) frame.locals
-          (value ∷ frame.stack)))
+          (m >>= λ value. Ok (
+            memory_in rest heap,
+            Goes (offset_behind frame.offset (insns.Load kind index form)) frame.locals
+                (value ∷ frame.stack),
+          ))
       go None m a = nothing
       go (Some g) (Err fault) a = absurd a.by
       go (Some g) (Ok v) a =
@@ -179,7 +189,7 @@ module _ (base : Program) (states : ClassStates) (rest : Memory) (heap : Heap) (
       (then2 (kind_taken here rooted loadable kind t.stack frame.stack holding.stack) (λ u top h.
       then2 (or_fault LocalFault (words_ok kind u.0 top.0 index h.0 h.1.fits)) (λ ls values k.
       both (next_ok insn (with_locals (with_stack t u.1) ls) values top.1 falls
-          (record { locals = k; stack = h.2; ready = holding.ready })))))
+      (record { locals = k; stack = h.2; ready = holding.ready })))))
 
   pub store_word_ok : (kind : WordKind) (index : ℕ) (form : LocalForm) → Sound (insns.Store kind index form)
   store_word_ok kind index form = store_ok (insns.Store kind index form) (value_kind kind) index refl

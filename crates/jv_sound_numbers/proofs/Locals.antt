@@ -65,16 +65,21 @@ module _ (p : Place) where
   -- a long before it is cut
   cut_off :
       (vs : List Value) (n : Value) (r : Option (List FrameType)) (m : Option (List Value)) → (BeginsHalf (n ∷ vs) → ⊥)
-          → Alike (IsStored 0 vs) r m
+      → Alike (IsStored 0 vs) r m
       → Alike (IsStored 1 (n ∷ vs)) (option_map (λ rest. types.Top ∷ rest) r) (option_map (λ rest. Unset ∷ rest) m)
   cut_off vs n None m k a = record { by = tt }
   cut_off vs n (Some ts') None k a = absurd a.by
-  cut_off vs n (Some ts') (Some vs') k a = record { by = record { fits = (tt, tt, a.by.fits); pairs = λ u x h. no_pair u n vs
-      (Unset ∷ vs') k h } }
+  cut_off vs n (Some ts') (Some vs') k a = record {
+    by = record {
+      fits = (tt, tt, a.by.fits);
+      pairs = λ u x h. no_pair u n vs
+          (Unset ∷ vs') k h;
+    };
+  }
 
   module _ (ws : List FrameType) (words : List Value)
       (base : (ts : List FrameType) (vs : List Value) → HasLocals p ts vs
-          → Alike (HasLocals p) (rules.stored ws 0 ts) (machine.stored words 0 vs)) where
+      → Alike (HasLocals p) (rules.stored ws 0 ts) (machine.stored words 0 vs)) where
     base_stored : (vs : List Value) (r : Option (List FrameType)) (m : Option (List Value)) → Alike (HasLocals p) r m
         → Alike (IsStored 0 vs) r m
     base_stored vs None m a = record { by = tt }
@@ -141,7 +146,7 @@ module _ (p : Place) where
   -- one word that is no long
   pub one_base :
       (t : FrameType) (v : Value) → FitsIn p t v → ((after : List Value) → IsPaired t after) → (ts : List FrameType) (vs : List Value)
-          → HasLocals p ts vs
+      → HasLocals p ts vs
       → Alike (HasLocals p) (rules.stored (t ∷ []) 0 ts) (machine.stored (v ∷ []) 0 vs)
   one_base t v f n [] [] h = record { by = tt }
   one_base t v f n (x ∷ ts) (y ∷ vs) h =

@@ -58,10 +58,11 @@ module _ (x : Setting) (h : IsSet x)
           (taken_as x.heap.objects (value_type type) x.frame.stack >>= λ top. Ok
           (Rattle.jv_sound_numbers.proofs.Ways.memory_of x, Leaves (top.0 ∷ [])))
           (then2 (taken_one (here x) h.rooted h.loadable (value_type type) x.given.stack x.frame.stack sort h.holding.stack) (λ S top f.
-          agrees_from (stays x h (insns.ReturnValue kind) (with_stack x.given S) (Leaves (top.0 ∷ []))
-          ((λ c. absurd (some_none type (sym e ∙ constructors_are_void c))),
-          (λ _. subst (λ (o : Option (FieldTypeOf (List ℕ))). IsResult (world_of x) x.heap.objects o (top.0 ∷ [])) (sym e)
-              (top.0, refl, f.0))))))
+          agrees_from (stays x h (insns.ReturnValue kind) (with_stack x.given S) (Leaves (top.0 ∷ [])) (
+            (λ c. absurd (some_none type (sym e ∙ constructors_are_void c))),
+            (λ _. subst (λ (o : Option (FieldTypeOf (List ℕ))). IsResult (world_of x) x.heap.objects o (top.0 ∷ [])) (sym e)
+                (top.0, refl, f.0)),
+          ))))
 
       by_kind : (type : FieldTypeOf (List ℕ)) → x.frame.method.descriptor.result ≡ Some type → (b : Bool)
           → is_of_kind kind (value_type type) ≡ b
@@ -83,9 +84,10 @@ module _ (x : Setting) (h : IsSet x)
           → By x insns.Return (when (not b) x.given) (return_nothing (context_of x insns.Return) None)
       by_flag e true k = record { by = tt }
       by_flag e false k =
-          agrees_from (stays x h insns.Return x.given (Leaves [])
-          ((λ c. let r = h.holding.ready c in (refl, r.0, r.1, r.2 k)),
-          (λ _. subst (λ (o : Option (FieldTypeOf (List ℕ))). IsResult (world_of x) x.heap.objects o []) (sym e) refl)))
+          agrees_from (stays x h insns.Return x.given (Leaves []) (
+            (λ c. let r = h.holding.ready c in (refl, r.0, r.1, r.2 k)),
+            (λ _. subst (λ (o : Option (FieldTypeOf (List ℕ))). IsResult (world_of x) x.heap.objects o []) (sym e) refl),
+          ))
 
       by_result : (o : Option (FieldTypeOf (List ℕ))) → x.frame.method.descriptor.result ≡ o
           → By x insns.Return (value_rules.return_nothing o x.given) (return_nothing (context_of x insns.Return) o)

@@ -78,7 +78,7 @@ module _ (p : Place) where
   top_alike (suc n) (t ∷ S) (v ∷ s) h =
       then_alike (behind_alike (suc n) t v h.0) (λ a b e.
       then_alike {Q = Parted} (subst (λ (k : ℕ). Alike Parted (top_words item_width a S) (top_words value_width k s)) e
-          (top_alike a S s h.1)) (λ c d k.
+      (top_alike a S s h.1)) (λ c d k.
       record { by = ((h.0, k.0), k.1) }))
   top_alike (suc n) _ _ h = absurd h
 

@@ -111,7 +111,7 @@ module _ (x : Setting) (h : IsSet x) where
   -- in a later heap
   pub goes_with_ok :
       (insn : Instruction) (S : List FrameType) (s : List Value) (b : Heap) (memory : Memory) → IsTrue (falls_through insn)
-          → IsLater (ℕ.suc x.depth) x.heap b
+      → IsLater (ℕ.suc x.depth) x.heap b
       → b.objects ≡ memory.objects → IsTypedMemory (program_of x) memory → HasStack (moved (here x) b) S s
       → Does x insn (with_stack x.given S) (goes_on_with (context_of x insn) memory s)
   goes_with_ok insn S s b memory falls g is typed hs =
@@ -121,11 +121,14 @@ module _ (x : Setting) (h : IsSet x) where
         made = x.made;
         grows = weaker (omega arith) g;
         memory = typed;
-        effect = (inr (falls, refl), record {
-          locals = locals_later (here x) b g x.given.locals x.frame.locals h.holding.locals;
-          stack = hs;
-          ready = ready_later (here x) b g x.given.flag_this_uninit h.holding.ready;
-        });
+        effect = (
+          inr (falls, refl),
+          record {
+            locals = locals_later (here x) b g x.given.locals x.frame.locals h.holding.locals;
+            stack = hs;
+            ready = ready_later (here x) b g x.given.flag_this_uninit h.holding.ready;
+          },
+        );
       })
 
   pub raised_ok : (insn : Instruction) (g : TypesOf) (name : List ℕ) → IsThrown (world_of x) name → KeepsLocals x insn
@@ -139,8 +142,11 @@ module _ (x : Setting) (h : IsSet x) where
 
   pub throws_ok : (insn : Instruction) (g : TypesOf) (id : ℕ) → IsObject (world_of x) x.heap.objects throwable_type id → KeepsLocals x insn
       → Does x insn g (Ok (memory_of x, Throws id))
-  throws_ok insn g id t e = stays insn g (Throws id) (t, subst (λ (ls : List FrameType). HasLocals (here x) ls x.frame.locals)
-      (sym e) h.holding.locals)
+  throws_ok insn g id t e = stays insn g (Throws id) (
+    t,
+    subst (λ (ls : List FrameType). HasLocals (here x) ls x.frame.locals)
+        (sym e) h.holding.locals,
+  )
 
   pub lacks_ok : (insn : Instruction) (g : TypesOf) → KeepsLocals x insn → Does x insn g (lacks_memory (context_of x insn))
   lacks_ok insn g e = throws_ok insn g out_of_memory h.no_memory e

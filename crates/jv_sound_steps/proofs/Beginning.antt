@@ -52,40 +52,48 @@ given_same w c given k = by_test (nat_le w c.words) k
 module _ (program : Program) (rooted : IsRooted program.world) (next_starts : NextStarts) (stands_in_list : StandsInList)
     (named : (l : Loaded) → Contains program.world l → class_named program.world l.class.name ≡ Some l)
     (loadable_of : (heap : Heap) (memory : Memory) → heap.objects ≡ memory.objects → IsTypedMemory program memory
-        → AreLoadable program.world heap.objects)
+    → AreLoadable program.world heap.objects)
     (throwable_is_plain : IsTrue (names_interface program.world (codes "java/lang/Throwable")) → ⊥)
     (throwable_is_not_object : codes "java/lang/Throwable" ≡ object_name → ⊥)
     (exception_ok : (a : Heap) (memory : Memory) (name : List ℕ) → a.objects ≡ memory.objects → IsTypedMemory program memory
-        → IsThrown program.world name → Holds (IsMade program a) (exception program.world name memory))
+    → IsThrown program.world name → Holds (IsMade program a) (exception program.world name memory))
     (unwound_ok : (heap : Heap) (t : Thrown) (fs : List Frame) → IsThrownGood program rooted next_starts stands_in_list heap t
-        → HasMain program t.control.main fs → AreCatching program rooted next_starts stands_in_list heap fs
-        → AreLoadable program.world heap.objects → Holds (IsGood program) (unwound program.world t fs))
+    → HasMain program t.control.main fs → AreCatching program rooted next_starts stands_in_list heap fs
+    → AreLoadable program.world heap.objects → Holds (IsGood program) (unwound program.world t fs))
     (system_error : (name : List ℕ) → IsTrue (bytes_eq name (codes "java/lang/VerifyError") ||
-        (bytes_eq name (codes "java/lang/NoClassDefFoundError") || bytes_eq name (codes "java/lang/StackOverflowError")))
-        → IsThrown program.world name)
+    (bytes_eq name (codes "java/lang/NoClassDefFoundError") || bytes_eq name (codes "java/lang/StackOverflowError")))
+    → IsThrown program.world name)
     (tasks_ok : (l : Loaded) → Contains program.world l → IsTrue (is_verified program l)
-        → AllByRecursion (IsTask program) (tasks_of program.world l)) where
+    → AllByRecursion (IsTask program) (tasks_of program.world l)) where
   -- what is thrown is an instance
   thrown_ok :
       (a : Heap) (memory : Memory) (control : Control) (id : ℕ) → a.objects ≡ memory.objects → IsTypedMemory program memory
-          → AreVerified program control.states → IsObject program.world a.objects throwable_type id
+      → AreVerified program control.states → IsObject program.world a.objects throwable_type id
       → Holds (λ t. IsThrownGood program rooted next_starts stands_in_list a t
       × (t.control.main ≡ control.main)) (thrown control (memory, id))
   thrown_ok a memory control id is typed verified h =
       let at : slice_get memory.objects id ≡ Some h.object = subst (λ (os : List Object). slice_get os id ≡ Some h.object) is h.there in
       then_holds (then_holds (found_holds {P = λ o. o ≡ h.object} ReferenceFault (slice_get memory.objects id) h.object at refl) (λ o e.
       subst (λ (x : Object). Holds (λ i. h.object ≡ InstanceOf i) (instance_in x)) (sym e) (by_object h.object h.below))) (λ i e.
-      holds (record {
-        is = is;
-        memory = typed;
-        object = record { object = h.object; there = h.there; constructed = h.constructed; below = subst
-            (λ (x : Object). IsBelow program.world (object_type x) (types.Class i.class)) (sym e)
-            (below_is_reflexive program.world (types.Class i.class)) };
-        throwable = h;
-        loadable = subst (λ (x : Object). IsTrue (is_loadable_type program.world (object_type x))) e
-            (loadable_of a memory is typed id h.object h.there);
-        verified = verified;
-      }, refl))
+      holds (
+        record {
+          is = is;
+          memory = typed;
+          object = record {
+            object = h.object;
+            there = h.there;
+            constructed = h.constructed;
+            below = subst
+                (λ (x : Object). IsBelow program.world (object_type x) (types.Class i.class)) (sym e)
+                (below_is_reflexive program.world (types.Class i.class));
+          };
+          throwable = h;
+          loadable = subst (λ (x : Object). IsTrue (is_loadable_type program.world (object_type x))) e
+              (loadable_of a memory is typed id h.object h.there);
+          verified = verified;
+        },
+        refl,
+      ))
     where
       by_object : (o : Object) → IsBelow program.world (object_type o) throwable_type → Holds (λ i. o ≡ InstanceOf i) (instance_in o)
       by_object (InstanceOf i) b = holds refl
@@ -94,7 +102,7 @@ module _ (program : Program) (rooted : IsRooted program.world) (next_starts : Ne
 
   pub throw_ok :
       (a : Heap) (memory : Memory) (frames : List Frame) (control : Control) (id : ℕ) → a.objects ≡ memory.objects
-          → IsTypedMemory program memory → AreVerified program control.states → HasMain program control.main frames
+      → IsTypedMemory program memory → AreVerified program control.states → HasMain program control.main frames
       → AreCatching program rooted next_starts stands_in_list a frames → IsObject program.world a.objects throwable_type id
       → Holds (IsGood program) (throw program.world memory frames control id)
   throw_ok a memory frames control id is typed verified main c h =
@@ -104,11 +112,17 @@ module _ (program : Program) (rooted : IsRooted program.world) (next_starts : Ne
   all_catching_later : {a b : Heap} (fs : List Frame) → IsLater (length fs) a b → AreCatching program rooted next_starts stands_in_list a fs
       → AreCatching program rooted next_starts stands_in_list b fs
   all_catching_later [] g c = tt
-  all_catching_later (Runs f ∷ fs) g c =
-      (catching_later program rooted next_starts stands_in_list (length fs) g f c.0, waiting_later program rooted next_starts stands_in_list
-      fs (weaker (omega arith) g) (promise_of f) c.1)
-  all_catching_later (Initializes f ∷ fs) g c = (c.0, c.1, waiting_later program rooted next_starts stands_in_list fs
-      (weaker (omega arith) g) Again c.2)
+  all_catching_later (Runs f ∷ fs) g c = (
+    catching_later program rooted next_starts stands_in_list (length fs) g f c.0,
+    waiting_later program rooted next_starts stands_in_list
+        fs (weaker (omega arith) g) (promise_of f) c.1,
+  )
+  all_catching_later (Initializes f ∷ fs) g c = (
+    c.0,
+    c.1,
+    waiting_later program rooted next_starts stands_in_list fs
+        (weaker (omega arith) g) Again c.2,
+  )
 
   -- what is raised, in a later heap
   record IsRaised (a : Heap) (control : Control) (t : Thrown) : Type 0 where
@@ -120,7 +134,7 @@ module _ (program : Program) (rooted : IsRooted program.world) (next_starts : Ne
 
   pub raise_ok :
       (a : Heap) (memory : Memory) (frames : List Frame) (control : Control) (name : List ℕ) → a.objects ≡ memory.objects
-          → IsTypedMemory program memory → AreVerified program control.states → HasMain program control.main frames
+      → IsTypedMemory program memory → AreVerified program control.states → HasMain program control.main frames
       → AreCatching program rooted next_starts stands_in_list a frames → IsThrown program.world name
       → Holds (IsGood program) (raise program.world memory frames control name)
   raise_ok a memory frames control name is typed verified main c h =
@@ -132,21 +146,27 @@ module _ (program : Program) (rooted : IsRooted program.world) (next_starts : Ne
       also : (made : Memory × ℕ) (k : IsMade program a made) (r : OrFault Thrown)
           → Holds (λ t. IsThrownGood program rooted next_starts stands_in_list k.heap t × (t.control.main ≡ control.main)) r
           → Holds (IsRaised a control) r
-      also made k (Ok t) h = holds (record { heap = k.heap; grows = k.grows; fine = h.by.0; main = h.by.1; loadable = loadable_of k.heap
-          made.0 k.is k.typed })
+      also made k (Ok t) h = holds (record {
+        heap = k.heap;
+        grows = k.grows;
+        fine = h.by.0;
+        main = h.by.1;
+        loadable = loadable_of k.heap
+            made.0 k.is k.typed;
+      })
       also made k (Err fault) h = absurd h.by
 
   -- where words are left it goes on with fewer of them, and else a StackOverflowError is thrown
   pub within_ok :
       (a : Heap) (memory : Memory) (frames : List Frame) (control : Control) (words : ℕ) (next : Control → OrFault State)
-          → a.objects ≡ memory.objects → IsTypedMemory program memory → AreVerified program control.states
+      → a.objects ≡ memory.objects → IsTypedMemory program memory → AreVerified program control.states
       → HasMain program control.main frames → AreCatching program rooted next_starts stands_in_list a frames
       → ((given : Control) → given.states ≡ control.states → given.main ≡ control.main → Holds (IsGood program) (next given))
       → Holds (IsGood program) (within_words program.world memory frames control words next)
   within_ok a memory frames control words next is typed verified main c k = by_words (given_words words control) refl
     where
       by_words : (o : Option Control) → given_words words control ≡ o
-          → Holds (IsGood program) (elim o [ | None ↦ raise program.world memory frames control stack_overflow | Some given ↦ next given ])
+          → Holds (IsGood program) (elim o [ None ↦ raise program.world memory frames control stack_overflow | Some given ↦ next given ])
       by_words None e = raise_ok a memory frames control stack_overflow is typed verified main c (system_error stack_overflow refl)
       by_words (Some given) e = let kept = given_same words control given e in k given kept.0 kept.1
 
@@ -175,7 +195,7 @@ module _ (program : Program) (rooted : IsRooted program.world) (next_starts : Ne
   -- an initialization is begun above frames that go on afterwards
   pub begin_ok :
       (a : Heap) (memory : Memory) (frames : List Frame) (control : Control) (l : Loaded) → a.objects ≡ memory.objects
-          → IsTypedMemory program memory → AreVerified program control.states → ((fs : List Frame) → HasMain program control.main fs)
+      → IsTypedMemory program memory → AreVerified program control.states → ((fs : List Frame) → HasMain program control.main fs)
       → Contains program.world l → AreWaiting program a Again frames → Holds (IsGood program) (begin program memory frames control l)
   begin_ok a memory frames control l is typed verified main there waits = by_state (class_state control.states l)
     where
@@ -186,8 +206,15 @@ module _ (program : Program) (rooted : IsRooted program.world) (next_starts : Ne
       raised name h = raise_ok a memory frames control name is typed verified (main frames) catching h
 
       stays : Holds (IsGood program) (Ok (state_of memory frames control))
-      stays = holds (record { heap = a; is = is; memory = typed; frames = again program rooted next_starts stands_in_list a frames
-          (loadable_of a memory is typed) waits; verified = verified; main = main frames })
+      stays = holds (record {
+        heap = a;
+        is = is;
+        memory = typed;
+        frames = again program rooted next_starts stands_in_list a frames
+            (loadable_of a memory is typed) waits;
+        verified = verified;
+        main = main frames;
+      })
 
       by_verdict : (b : Bool) → is_verified program l ≡ b → Holds (IsGood program) (begun_if program memory frames control l b)
       by_verdict true v =

@@ -77,15 +77,15 @@ module _ (heap : Heap) (depth : ℕ) (id : ℕ) (i : Instance) (there : slice_ge
 
 module _ (program : Program) (sound : IsSound program) (one_list : OneList) (next_starts : NextStarts) (stands_in_list : StandsInList)
     (parameters_are_sorts : (d : Declared) (descriptor : MethodDescriptor) → IsEnterable program d
-        → method_type_of d.method.descriptor ≡ Some descriptor → AreSorts descriptor.parameters)
+    → method_type_of d.method.descriptor ≡ Some descriptor → AreSorts descriptor.parameters)
     (slots_are_words : (descriptor : MethodDescriptor) → AreSorts descriptor.parameters
-        → words (map value_type descriptor.parameters) ≡ slots descriptor)
+    → words (map value_type descriptor.parameters) ≡ slots descriptor)
     (constructors_are_not_static : (d : Declared) → IsEnterable program d → is_init d.method.name ≡ true
-        → is_static_method d.method ≡ false) where
+    → is_static_method d.method ≡ false) where
   module _ (heap : Heap) (depth : ℕ) (id : ℕ) (i : Instance) (there : slice_get heap.objects id ≡ Some (InstanceOf i)) (d : Declared)
       (e : IsEnterable program d) (init : IsTrue (is_init d.method.name))
       (arguments : List Value) (passed : ArePassed program (entered_heap heap depth id i there d) d (Some id) arguments)
-          (below : IsBelow program.world (types.Class i.class) (class_type d.by.class.name)) where
+      (below : IsBelow program.world (types.Class i.class) (class_type d.by.class.name)) where
     abbrev entered : Heap
     entered = entered_heap heap depth id i there d
 
@@ -115,7 +115,7 @@ module _ (program : Program) (sound : IsSound program) (one_list : OneList) (nex
             sorts_are_items (place env) env.descriptor.parameters arguments sorts
             (subst (λ (w : World). Zip (Fits w entered.objects) (map value_type env.descriptor.parameters) arguments) (sym checked.world)
             (subst (λ (x : MethodDescriptor). Zip (Fits program.world entered.objects) (map value_type x.parameters) arguments)
-                (same_descriptor passed.descriptor env.descriptor (sym passed.described ∙ described)) passed.fit))
+            (same_descriptor passed.descriptor env.descriptor (sym passed.described ∙ described)) passed.fit))
 
         static_is : is_static env ≡ false
         static_is = ap (λ (s : Declared). is_static_method s.method) site ∙ constructors_are_not_static d e init
@@ -128,7 +128,7 @@ module _ (program : Program) (sound : IsSound program) (one_list : OneList) (nex
             receiver_fits heap depth id i there d (place env) refl refl refl site init
             (subst (λ (w : World). IsBelow w (types.Class i.class) (current_type env)) (sym checked.world)
             (subst (λ (n : List ℕ). IsBelow program.world (types.Class i.class) (class_type n))
-                (ap (λ (s : Declared). s.by.class.name) (sym site)) below))
+            (ap (λ (s : Declared). s.by.class.name) (sym site)) below))
 
         narrow : (b : Bool) → width (if true && not b then types.UninitializedThis else types.Class (current_class env).name) ≡ 1
         narrow true = refl
@@ -162,11 +162,17 @@ module _ (program : Program) (sound : IsSound program) (one_list : OneList) (nex
         by_flags true init k j = absurd (clash (sym k))
         by_flags false false k j = absurd (clash j)
         by_flags false true k j =
-            let test = bytes_eq (current_class env).name (codes "java/lang/Object") in
-            ((item test fits, items),
-            omega (arith, count, narrow test, sum_by-cons width (if true && not test then types.UninitializedThis else types.Class
-            (current_class env).name) (map value_type env.descriptor.parameters)),
-            ready test fits)
+            let test = bytes_eq (current_class env).name (codes "java/lang/Object") in (
+              (item test fits, items),
+              omega (
+                arith,
+                count,
+                narrow test,
+                sum_by-cons width (if true && not test then types.UninitializedThis else types.Class
+                    (current_class env).name) (map value_type env.descriptor.parameters),
+              ),
+              ready test fits,
+            )
 
     pub constructor_frame_ok : AreLoadable program.world entered.objects
         → Holds (λ f. IsRunning program entered depth f × (f.method.site ≡ d)
@@ -177,7 +183,11 @@ module _ (program : Program) (sound : IsSound program) (one_list : OneList) (nex
         then_holds (filled_ok (place env) env.code.max_locals (entries_before env) (passed_values (Some id) arguments) entries.items
         (subst (λ (n : ℕ). n ≤ env.code.max_locals) (sym entries.count) h.0.typing.arguments)) (λ locals k.
         let first = first_there env h.0.is in
-        holds (arrives program sound.rooted next_starts stands_in_list entered depth (entered_frame env (Some id) locals []) (λ _. 0) h.0
-        (first_frame env) 0 locals [] loadable
-        (begins env h.0.maps h.0.frames h.0.is h.0.typing first.0 first.1)
-        (record { locals = k; stack = tt; ready = entries.ready }), h.1, refl)))
+        holds (
+          arrives program sound.rooted next_starts stands_in_list entered depth (entered_frame env (Some id) locals []) (λ _. 0) h.0
+              (first_frame env) 0 locals [] loadable
+              (begins env h.0.maps h.0.frames h.0.is h.0.typing first.0 first.1)
+              (record { locals = k; stack = tt; ready = entries.ready }),
+          h.1,
+          refl,
+        )))

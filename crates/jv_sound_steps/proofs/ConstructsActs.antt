@@ -50,18 +50,18 @@ zip_later world g (t ∷ ts) [] f = absurd f
 
 module _ (program : Program) (sound : IsSound program) (one_list : OneList) (next_starts : NextStarts) (stands_in_list : StandsInList)
     (parameters_are_sorts : (d : Declared) (descriptor : MethodDescriptor) → IsEnterable program d
-        → method_type_of d.method.descriptor ≡ Some descriptor → AreSorts descriptor.parameters)
+    → method_type_of d.method.descriptor ≡ Some descriptor → AreSorts descriptor.parameters)
     (slots_are_words : (descriptor : MethodDescriptor) → AreSorts descriptor.parameters
-        → words (map value_type descriptor.parameters) ≡ slots descriptor)
+    → words (map value_type descriptor.parameters) ≡ slots descriptor)
     (constructors_are_not_static : (d : Declared) → IsEnterable program d → is_init d.method.name ≡ true
-        → is_static_method d.method ≡ false)
+    → is_static_method d.method ≡ false)
     (loadable_of : (heap : Heap) (memory : Memory) → heap.objects ≡ memory.objects → IsTypedMemory program memory
-        → AreLoadable program.world heap.objects)
+    → AreLoadable program.world heap.objects)
     (within_ok : WithinWords program sound.rooted next_starts stands_in_list)
     (control : Control) (frame : MethodFrame) (below : List Frame) (heap : Heap) (verified : AreVerified program control.states)
     (main_all : (fs : List Frame) → HasMain program control.main fs)
     (r : IsRunning program heap (length below) frame) (cs : AreWaiting program heap (promise_of frame) below) (g : TypesOf)
-        (rules : rule frame.method frame.offset r.insn (r.checked.frames frame.offset) ≡ Some g) where
+    (rules : rule frame.method frame.offset r.insn (r.checked.frames frame.offset) ≡ Some g) where
   abbrev here : Place
   here = place_of heap (length below) frame r.made
 
@@ -97,12 +97,24 @@ module _ (program : Program) (sound : IsSound program) (one_list : OneList) (nex
         still : IsTypedObject program begun.objects (entered_on d instance)
         still =
             let t = of_instance in
-            record { l = t.l; named = t.named; loadable = t.loadable; verified = t.verified; plain = t.plain; keys = t.keys; values =
-                entries_later program.world grows instance.fields t.values }
+            record {
+              l = t.l;
+              named = t.named;
+              loadable = t.loadable;
+              verified = t.verified;
+              plain = t.plain;
+              keys = t.keys;
+              values =
+                  entries_later program.world grows instance.fields t.values;
+            }
 
     passed : ArePassed program begun d (Some object) arguments
-    passed = record { descriptor = e.effect.3.descriptor; described = e.effect.3.described; fit = zip_later program.world grows
-        (map value_type e.effect.3.descriptor.parameters) arguments e.effect.3.fit }
+    passed = record {
+      descriptor = e.effect.3.descriptor;
+      described = e.effect.3.described;
+      fit = zip_later program.world grows
+          (map value_type e.effect.3.descriptor.parameters) arguments e.effect.3.fit;
+    }
 
     abbrev caller : MethodFrame
     caller = record frame { stack = stack }
@@ -133,7 +145,7 @@ module _ (program : Program) (sound : IsSound program) (one_list : OneList) (nex
         resumed_ok program sound.rooted next_starts stands_in_list c
         (length below) caller e.made r.checked r.insn g [] loadable r.stands rules e.effect.1
         (e.effect.7 c l (subst (λ (n : ℕ). IsObject program.world c.objects (class_type d.by.class.name) n)
-            (sym (same_number same_receiver)) constructed))
+        (sym (same_number same_receiver)) constructed))
       where
         same_number : Some object ≡ Some id → object ≡ id
         same_number k = cc
@@ -161,10 +173,16 @@ module _ (program : Program) (sound : IsSound program) (one_list : OneList) (nex
           heap = begun;
           is = begun_is;
           memory = typed;
-          frames = (run.0, subst (λ (p : Promise). AreWaiting program begun p (waiting frame stack ∷ below))
-              (sym (promise_is f run.1 run.2))
-          (waits_begun, goes_on, waiting_later program sound.rooted next_starts stands_in_list below (later e.grows grows)
-          (promise_of frame) cs));
+          frames = (
+            run.0,
+            subst (λ (p : Promise). AreWaiting program begun p (waiting frame stack ∷ below))
+                (sym (promise_is f run.1 run.2)) (
+                  waits_begun,
+                  goes_on,
+                  waiting_later program sound.rooted next_starts stands_in_list below (later e.grows grows)
+                      (promise_of frame) cs,
+                ),
+          );
           verified = subst (λ (x : ClassStates). AreVerified program x) (sym states) verified;
           main = subst (λ (x : List ℕ). HasMain program x (Runs f ∷ waiting frame stack ∷ below)) (sym same_main)
               (main_all (Runs f ∷ waiting frame stack ∷ below));

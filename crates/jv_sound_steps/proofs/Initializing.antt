@@ -37,7 +37,7 @@ tasks_kept program states [] h = tt
 tasks_kept program states (InitializesFirst l ∷ more) h = by_state (is_ready (class_state states l)) (tasks_kept program states more h.1)
   where
     by_state : (b : Bool) → AllByRecursion (IsTask program) (tasks_left states more)
-        → AllByRecursion (IsTask program) (elim b [ | true ↦ tasks_left states more | false ↦ InitializesFirst l ∷ more ])
+        → AllByRecursion (IsTask program) (elim b [ true ↦ tasks_left states more | false ↦ InitializesFirst l ∷ more ])
     by_state true k = k
     by_state false k = h
 tasks_kept program states (SetsField field constant ∷ more) h = h
@@ -46,18 +46,18 @@ tasks_kept program states (RunsInitializer d ∷ more) h = h
 module _ (program : Program) (rooted : IsRooted program.world) (next_starts : NextStarts) (stands_in_list : StandsInList)
     (named : (l : Loaded) → Contains program.world l → class_named program.world l.class.name ≡ Some l)
     (loadable_of : (heap : Heap) (memory : Memory) → heap.objects ≡ memory.objects → IsTypedMemory program memory
-        → AreLoadable program.world heap.objects)
+    → AreLoadable program.world heap.objects)
     (within_ok : WithinWords program rooted next_starts stands_in_list)
     (begin_ok : Begins program)
     (method_frame_ok : FrameBegins program)
     (set_field_ok : (a : Heap) (memory : Memory) (frames : List Frame) (control : Control) (d : DeclaredField) (constant : InitialValue)
-        → a.objects ≡ memory.objects → IsTypedMemory program memory → AreVerified program control.states
-        → ((fs : List Frame) → HasMain program control.main fs) → AreWaiting program a Again frames → IsTask program (SetsField d constant)
-        → Holds (IsGood program) (do_task program memory frames control (SetsField d constant))) where
+    → a.objects ≡ memory.objects → IsTypedMemory program memory → AreVerified program control.states
+    → ((fs : List Frame) → HasMain program control.main fs) → AreWaiting program a Again frames → IsTask program (SetsField d constant)
+    → Holds (IsGood program) (do_task program memory frames control (SetsField d constant))) where
   -- a static method is entered above frames that are no methods in need of a result
   run_ok :
       (a : Heap) (memory : Memory) (frames : List Frame) (control : Control) (d : Declared) (parameters : List (FieldTypeOf (List ℕ)))
-          (arguments : List Value) → a.objects ≡ memory.objects → IsTypedMemory program memory
+      (arguments : List Value) → a.objects ≡ memory.objects → IsTypedMemory program memory
       → AreVerified program control.states → ((fs : List Frame) → HasMain program control.main fs) → IsRunnable program d parameters
       → Zip (Fits program.world a.objects) (map value_type parameters) arguments
       → AreCatching program rooted next_starts stands_in_list a frames → ((p : Promise) → AreWaiting program a p frames)
@@ -65,8 +65,12 @@ module _ (program : Program) (rooted : IsRooted program.world) (next_starts : Ne
   run_ok a memory frames control d parameters arguments is typed verified main r fit catching waits =
       enter_ok program rooted next_starts stands_in_list loadable_of within_ok method_frame_ok a memory frames control d None arguments is
       typed verified main r.enterable r.plain r.static
-      (record { descriptor = r.descriptor; described = r.described; fit = subst
-          (λ (ps : List (FieldTypeOf (List ℕ))). Zip (Fits program.world a.objects) (map value_type ps) arguments) (sym r.takes) fit })
+      (record {
+        descriptor = r.descriptor;
+        described = r.described;
+        fit = subst
+            (λ (ps : List (FieldTypeOf (List ℕ))). Zip (Fits program.world a.objects) (map value_type ps) arguments) (sym r.takes) fit;
+      })
       catching (λ f run site. waits (promise_of f))
 
   initialized_verified : (l : Loaded) (states : ClassStates) → IsBegun program l → AreVerified program states
@@ -91,7 +95,7 @@ module _ (program : Program) (rooted : IsRooted program.world) (next_starts : Ne
 
   pub initialization_step_ok :
       (a : Heap) (memory : Memory) (frame : InitializationFrame) (below : List Frame) (control : Control) → a.objects ≡ memory.objects
-          → IsTypedMemory program memory → AreVerified program control.states
+      → IsTypedMemory program memory → AreVerified program control.states
       → ((fs : List Frame) → HasMain program control.main fs) → AreFrames program a (Initializes frame ∷ below)
       → Holds (IsGood program) (initialization_step program memory frame below control)
   initialization_step_ok a memory frame below control is typed verified main c = by_tasks (tasks_left control.states frame.tasks)
@@ -107,9 +111,11 @@ module _ (program : Program) (rooted : IsRooted program.world) (next_starts : Ne
           subst (λ (x : Declared). Holds (IsGood program) (enter program memory [] (finished frame.class control) x None
           (Reference main_arguments ∷ []))) (sym e)
           (run_ok a memory [] (finished frame.class control) m.0 (string_array ∷ [])
-          (Reference main_arguments ∷ []) is typed done_verified main m.2
-          (subst (λ (os : List Rattle.jv_sound_frames.specs.of_meaning_machine.Objects.Object). IsObject program.world os
-              (value_type string_array) main_arguments) (sym is) typed.arguments, tt) tt (λ p. tt)))
+          (Reference main_arguments ∷ []) is typed done_verified main m.2 (
+            subst (λ (os : List Rattle.jv_sound_frames.specs.of_meaning_machine.Objects.Object). IsObject program.world os
+                (value_type string_array) main_arguments) (sym is) typed.arguments,
+            tt,
+          ) tt (λ p. tt)))
 
       finish_ok : (fs : List Frame) → AreWaiting program a Again fs
           → Holds (IsGood program) (finish program memory fs (finished frame.class control))

@@ -35,9 +35,9 @@ use Rattle.jv_sound_frames.proofs.laws_of_sound_memory.Storing.{narrowed_fits}
 module _ (program : Program) (rooted : IsRooted program.world) (next_starts : NextStarts) (stands_in_list : StandsInList)
     (string : Loaded) (there : class_named program.world string_name ≡ Some string) (makeable : IsMakeable program string)
     (loadable_of : (heap : Heap) (memory : Memory) → heap.objects ≡ memory.objects → IsTypedMemory program memory
-        → AreLoadable program.world heap.objects)
+    → AreLoadable program.world heap.objects)
     (out_of_memory_is_thrown : (objects : List Object) → IsObject program.world objects
-        (class_type (codes "java/lang/OutOfMemoryError")) out_of_memory → IsObject program.world objects throwable_type out_of_memory)
+    (class_type (codes "java/lang/OutOfMemoryError")) out_of_memory → IsObject program.world objects throwable_type out_of_memory)
     (throw_ok : Throws program rooted next_starts stands_in_list) where
   pub set_field_ok : (a : Heap) (memory : Memory) (frames : List Frame) (control : Control) (d : DeclaredField) (constant : InitialValue)
       → a.objects ≡ memory.objects → IsTypedMemory program memory → AreVerified program control.states
@@ -56,12 +56,12 @@ module _ (program : Program) (rooted : IsRooted program.world) (next_starts : Ne
           throw_ok a memory frames control out_of_memory is typed verified (main frames)
           (catching_of program rooted next_starts stands_in_list a Again frames waits)
           (out_of_memory_is_thrown a.objects (subst (λ (os : List Object). IsObject program.world os
-              (class_type (codes "java/lang/OutOfMemoryError")) out_of_memory) (sym is) typed.no_memory))
+          (class_type (codes "java/lang/OutOfMemoryError")) out_of_memory) (sym is) typed.no_memory))
       by_made (Some made) f =
           let fits : FitsDescribed program.world made.0.objects (field_type_of d.field.descriptor) (narrowed task.0 made.1) =
           subst (λ (o : Option (FieldTypeOf (List ℕ))). FitsDescribed program.world made.0.objects o (narrowed task.0 made.1)) (sym task.1)
           (subst (λ (os : List Object). Fits program.world os (value_type task.0) (narrowed task.0 made.1)) f.is
-              (narrowed_fits program.world f.heap.objects task.0 made.1 f.fits)) in
+          (narrowed_fits program.world f.heap.objects task.0 made.1 f.fits)) in
           holds (record {
             heap = f.heap;
             is = f.is;

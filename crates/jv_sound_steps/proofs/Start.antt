@@ -85,8 +85,13 @@ module _ (program : Program) (sound : IsSound program) (formed : AreFormed progr
       below = subst (λ (n : List ℕ). IsBelow program.world (types.Class n) (class_type error_name))
           (sym (has_name program.world error_name l e)) (below_is_reflexive program.world (class_type error_name));
     };
-    arguments = record { object = new_array (class_components string_name) 0; there = refl; constructed = refl; below = below_is_reflexive
-        program.world (array_with (class_components string_name)) };
+    arguments = record {
+      object = new_array (class_components string_name) 0;
+      there = refl;
+      constructed = refl;
+      below = below_is_reflexive
+          program.world (array_with (class_components string_name));
+    };
   }
     where
       no_literal : (id : ℕ) → None ≡ Some id → ⊥
@@ -101,8 +106,11 @@ module _ (program : Program) (sound : IsSound program) (formed : AreFormed progr
       each (suc zero) o k =
           let same : new_array (class_components string_name) 0 ≡ o = cc in
           subst (λ (x : Object). IsTypedObject program (start_memory program.world input b l).objects x) same
-          (record { loadable = subst (λ (w : World). has_loadable_element w (class_components string_name).element ≡ true) (sym sound.world)
-              (string_loadable (map (loaded false) sound.guests)); fit = tt })
+          (record {
+            loadable = subst (λ (w : World). has_loadable_element w (class_components string_name).element ≡ true) (sym sound.world)
+                (string_loadable (map (loaded false) sound.guests));
+            fit = tt;
+          })
       each (suc (suc id)) o k = absurd cc
 
   none_begun : AreVerified program []
@@ -129,7 +137,7 @@ module _ (program : Program) (sound : IsSound program) (formed : AreFormed progr
               here = subst (λ (x : Loaded). class_named program.world x.class.name ≡ Some x) (sym is.0) (sound.named l here);
               declared = subst (λ (x : Loaded). method_named x.class d.method.name d.method.descriptor ≡ Some d.method) (sym is.0)
                   (ap (λ (n : List ℕ). method_named l.class n d.method.descriptor) texts.0 ∙
-                      (ap (method_named l.class (codes "main")) texts.1 ∙ is.1));
+                  (ap (method_named l.class (codes "main")) texts.1 ∙ is.1));
               verified = verified;
               code = needs_have_code program formed sound.named units l here
                   (λ io_is. no_method (subst (λ (x : Loaded). method_named x.class (codes "main")
@@ -162,7 +170,7 @@ module _ (program : Program) (sound : IsSound program) (formed : AreFormed progr
           (subst (Contains program.world) (sym is.0) here, λ v. runnable l here is both.1 v)
 
       by_loadable : (l : Loaded) → Contains program.world l → (b : Bool)
-          → elim b [ | false ↦ None | true ↦ method_if is_main (method_in (codes "main") (codes "([Ljava/lang/String;)V") l) ] ≡ Some d
+          → elim b [ false ↦ None | true ↦ method_if is_main (method_in (codes "main") (codes "([Ljava/lang/String;)V") l) ] ≡ Some d
           → Contains program.world d.by × (IsTrue (is_verified program d.by) → IsRunnable program d (string_array ∷ []))
       by_loadable l here false k = absurd cc
       by_loadable l here true k = by_method l here k
@@ -178,7 +186,7 @@ module _ (program : Program) (sound : IsSound program) (formed : AreFormed progr
     pub start_ok : (main input : List ℕ) (b : Budget) → Holds (IsGood program) (start program main input b)
     start_ok main input b =
         then_holds (found_holds {P = λ l. l ≡ error_is_thrown.l} ReferenceFault
-            (class_named program.world error_name) error_is_thrown.l error_is_thrown.named refl) (λ l e.
+        (class_named program.world error_name) error_is_thrown.l error_is_thrown.named refl) (λ l e.
         subst (λ (x : Loaded). Holds (IsGood program) (start_with program main b (start_memory program.world input b x)
         (main_method program.world main))) (sym e)
         (by_main (main_method program.world main) refl))
@@ -208,8 +216,8 @@ module _ (program : Program) (sound : IsSound program) (formed : AreFormed progr
         by_verified d e true v =
             let m = main_ok main d e in
             begin_ok (record { objects = (start_memory program.world input b error_is_thrown.l).objects; owner = λ n. 0; born = λ n. 0 })
-                (start_memory program.world input b error_is_thrown.l) [] (start_control main b Running) d.by refl typed none_begun
-                (all_main d e (m.1 v)) m.0 tt
+            (start_memory program.world input b error_is_thrown.l) [] (start_control main b Running) d.by refl typed none_begun
+            (all_main d e (m.1 v)) m.0 tt
         by_verified d e false v = by_system d.by.by_system refl
           where
             by_system : (s : Bool) → d.by.by_system ≡ s → Holds (IsGood program)
@@ -219,8 +227,12 @@ module _ (program : Program) (sound : IsSound program) (formed : AreFormed progr
             by_system false s =
                 subst (λ (t : Bool). Holds (IsGood program) (begun_if program (start_memory program.world input b error_is_thrown.l) []
                 (start_control main b Running) d.by t)) (sym v)
-                (raise_ok (record { objects = (start_memory program.world input b error_is_thrown.l).objects; owner = λ n. 0; born =
-                λ n. 0 }) (start_memory program.world input b error_is_thrown.l) [] (start_control main b Running)
+                (raise_ok (record {
+                  objects = (start_memory program.world input b error_is_thrown.l).objects;
+                  owner = λ n. 0;
+                  born =
+                      λ n. 0;
+                }) (start_memory program.world input b error_is_thrown.l) [] (start_control main b Running)
                 (codes "java/lang/VerifyError") refl typed none_begun tt tt
                 (raised program sound (codes "java/lang/VerifyError") refl))
 

@@ -73,34 +73,41 @@ main_of_all program main f below h (x ∷ fs) = h
 module _ (program : Program)
     -- each instruction, against its rule
     (execute_ok : (memory : Memory) (control : Control) (heap : Heap) (frame : MethodFrame) (below : List Frame)
-        (r : IsRunning program heap (length below) frame) → heap.objects ≡ memory.objects → IsTypedMemory program memory
-        → AreVerified program control.states
-        → Agrees (AreEffects program (place_of heap (length below) frame r.made) frame r.insn (r.checked.frames frame.offset))
-        (effect frame.method frame.offset r.insn (r.checked.frames frame.offset))
-        (execute (context program memory control frame r.insn) r.insn))
+    (r : IsRunning program heap (length below) frame) → heap.objects ≡ memory.objects → IsTypedMemory program memory
+    → AreVerified program control.states
+    → Agrees (AreEffects program (place_of heap (length below) frame r.made) frame r.insn (r.checked.frames frame.offset))
+    (effect frame.method frame.offset r.insn (r.checked.frames frame.offset))
+    (execute (context program memory control frame r.insn) r.insn))
     -- what each effect makes of the frames
     (act_ok : (control : Control) (frame : MethodFrame) (below : List Frame) (heap : Heap) → AreVerified program control.states
-        → ((fs : List Frame) → HasMain program control.main fs)
-        → (r : IsRunning program heap (length below) frame) → AreWaiting program heap (promise_of frame) below → (g : TypesOf)
-        → rule frame.method frame.offset r.insn (r.checked.frames frame.offset) ≡ Some g
-        → (out : Memory × Effect) → AreEffects program (place_of heap (length below) frame r.made) frame r.insn
-        (r.checked.frames frame.offset) g out → Holds (IsGood program) (act program frame below control out))
+    → ((fs : List Frame) → HasMain program control.main fs)
+    → (r : IsRunning program heap (length below) frame) → AreWaiting program heap (promise_of frame) below → (g : TypesOf)
+    → rule frame.method frame.offset r.insn (r.checked.frames frame.offset) ≡ Some g
+    → (out : Memory × Effect) → AreEffects program (place_of heap (length below) frame r.made) frame r.insn
+    (r.checked.frames frame.offset) g out → Holds (IsGood program) (act program frame below control out))
     (initialization_step_ok : (a : Heap) (memory : Memory) (frame : InitializationFrame) (below : List Frame) (control : Control)
-        → a.objects ≡ memory.objects → IsTypedMemory program memory → AreVerified program control.states
-        → ((fs : List Frame) → HasMain program control.main fs) → AreFrames program a (Initializes frame ∷ below)
-        → Holds (IsGood program) (initialization_step program memory frame below control)) where
+    → a.objects ≡ memory.objects → IsTypedMemory program memory → AreVerified program control.states
+    → ((fs : List Frame) → HasMain program control.main fs) → AreFrames program a (Initializes frame ∷ below)
+    → Holds (IsGood program) (initialization_step program memory frame below control)) where
   pub step_ok : (s : State) → IsGood program s → Holds (IsGood program) (step program s)
   step_ok s good = by_frames s.frames good.frames good.main
     where
       by_frames : (fs : List Frame) → AreFrames program good.heap fs → HasMain program s.control.main fs
           → Holds (IsGood program) (step_in program s.memory fs s.control)
-      by_frames [] c m = holds (record { heap = good.heap; is = good.is; memory = good.memory; frames = tt; verified = good.verified; main =
-          tt })
+      by_frames [] c m = holds (record {
+        heap = good.heap;
+        is = good.is;
+        memory = good.memory;
+        frames = tt;
+        verified = good.verified;
+        main =
+            tt;
+      })
       by_frames (Runs frame ∷ below) c m =
           let r = c.0 in
           let g = rule_ok program good.heap (length below) frame r in
           then_holds (found_holds {P = λ i. i ≡ r.insn} OffsetFault (instruction_at frame.method frame.offset) r.insn r.stands refl)
-              (λ i same_insn.
+          (λ i same_insn.
           subst (λ (x : Instruction). Holds (IsGood program) (execute
           (context program s.memory s.control frame x) x >>= act program frame below s.control)) (sym same_insn)
           (then_holds (used (execute_ok s.memory s.control good.heap frame below r good.is good.memory good.verified) g.0

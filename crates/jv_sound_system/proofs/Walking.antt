@@ -63,7 +63,7 @@ module _ (env : Environment) (maps : List PlacedFrame) (frames : Assignment) whe
       → IsTypeSafe env maps frames pc insn
   safe pc insn falls e h m t =
       let handled = and_parts (handlers_hold env maps pc insn (frames pc))
-          (instruction_holds env pc insn (frames pc) && targets_hold env maps pc insn (frames pc)) t in
+      (instruction_holds env pc insn (frames pc) && targets_hold env maps pc insn (frames pc)) t in
       let rest = and_parts (instruction_holds env pc insn (frames pc)) (targets_hold env maps pc insn (frames pc)) handled.1 in
       record {
         assigned = assigned pc (frame_at maps pc) falls e h;
@@ -102,7 +102,7 @@ module _ (env : Environment) (maps : List PlacedFrame) (frames : Assignment) whe
       by_frame (Some frame) e t =
           let here : frames start ≡ frame = at.frames_are start (omega arith) ∙ walked_first env maps start falls insn more frame e in
           let t2 : IsTrue (Test start falls insn more (frames start)) = subst (λ (x : Frame). IsTrue (Test start falls insn more x))
-              (sym here) t in
+          (sym here) t in
           let parts = and_parts _ _ t2 in
           let more_parts = and_parts _ _ parts.1 in
           record { frame_is = e ∙ ap Some (sym here); merged = parts.0; holds = more_parts.0; rest = more_parts.1 }
@@ -138,7 +138,7 @@ module _ (env : Environment) (maps : List PlacedFrame) (frames : Assignment) whe
       by_part s (inl here) again =
           subst (λ (n : ℕ). IsTypeSafe env maps frames n insn) here.0
           (subst (λ (i : Instruction). IsTypeSafe env maps frames start i) here.1
-              (safe start x falls s.frame_is at.falls_in s.merged s.holds))
+          (safe start x falls s.frame_is at.falls_in s.merged s.holds))
       by_part s (inr there) again = again there
 
 abbrev pub frames_of_walk : Environment → List PlacedFrame → Assignment

@@ -24,8 +24,16 @@ use Rattle.jv_sound_values.specs.Effects.{after}
 -- ---- later heaps
 
 pub same : (d : ℕ) (a : Heap) → IsLater d a a
-same d a = record { still = λ id o e. record { now = o; there = e; type = refl; constructed = λ x. x; kept = λ _.
-    (refl, refl, refl, refl) } }
+same d a = record {
+  still = λ id o e. record {
+    now = o;
+    there = e;
+    type = refl;
+    constructed = λ x. x;
+    kept = λ _.
+        (refl, refl, refl, refl);
+  };
+}
 
 pub later : {d : ℕ} {a b c : Heap} → IsLater d a b → IsLater d b c → IsLater d a c
 later {d} {a} {b} {c} g k = record { still = λ id o e. one id o (g.still id o e) }
@@ -104,8 +112,14 @@ with_more a more = record a { objects = a.objects ++ more }
 
 pub more_later : (d : ℕ) (a : Heap) (more : List Object) → IsLater d a (with_more a more)
 more_later d a more = record {
-  still = λ id o x. record { now = o; there = get_append a.objects more id o x; type = refl; constructed = λ z. z; kept = λ _.
-      (refl, refl, refl, refl) };
+  still = λ id o x. record {
+    now = o;
+    there = get_append a.objects more id o x;
+    type = refl;
+    constructed = λ z. z;
+    kept = λ _.
+        (refl, refl, refl, refl);
+  };
 }
 
 -- another object stands in the place of one, and belongs to a depth
@@ -121,13 +135,25 @@ set_later e a id o q d x c dn k = record { still = λ j p y. go j p y (eqb_tells
   where
     go : (j : ℕ) (p : Object) → slice_get a.objects j ≡ Some p → ((nat_eq j id ≡ true) × (j ≡ id)) ⊎ ((nat_eq j id ≡ false) × (j ≢ id))
         → IsStill e a (with_set a id q d) j p
-    go j p y (inr n) = record { now = p; there = get_set_other a.objects id j q n.1 ∙ y; type = refl; constructed = λ z. z; kept = λ _.
-        (refl, refl, upd_other a.owner id d j n.1, refl) }
+    go j p y (inr n) = record {
+      now = p;
+      there = get_set_other a.objects id j q n.1 ∙ y;
+      type = refl;
+      constructed = λ z. z;
+      kept = λ _.
+          (refl, refl, upd_other a.owner id d j n.1, refl);
+    }
     go j p y (inl n) =
         let s : o ≡ p = cc in
         subst (λ (r : Object). IsStill e a (with_set a id q d) j r) s (subst (λ (i : ℕ). IsStill e a (with_set a id q d) i o) (sym n.1)
-        (record { now = q; there = get_set_same a.objects id o q x; type = c; constructed = dn; kept = λ l. let u = k l in
-        (u.0, u.1, upd_same a.owner id d ∙ u.2, refl) }))
+        (record {
+          now = q;
+          there = get_set_same a.objects id o q x;
+          type = c;
+          constructed = dn;
+          kept = λ l. let u = k l in
+              (u.0, u.1, upd_same a.owner id d ∙ u.2, refl);
+        }))
 
 -- ---- what fits still fits
 
@@ -135,8 +161,13 @@ module _ (w : World) where
   pub object_later : {d : ℕ} {a b : Heap} → IsLater d a b → (t : FrameType) (id : ℕ) → IsObject w a.objects t id → IsObject w b.objects t id
   object_later g t id f =
       let p = g.still id f.object f.there in
-      record { object = p.now; there = p.there; constructed = p.constructed f.constructed; below = subst
-          (λ (y : FieldTypeOf (List ℕ)). IsBelow w (value_type y) t) (sym p.type) f.below }
+      record {
+        object = p.now;
+        there = p.there;
+        constructed = p.constructed f.constructed;
+        below = subst
+            (λ (y : FieldTypeOf (List ℕ)). IsBelow w (value_type y) t) (sym p.type) f.below;
+      }
 
   pub reference_later : {d : ℕ} {a b : Heap} → IsLater d a b → (t : FrameType) (v : Value) → IsReferenceTo w a.objects t v
       → IsReferenceTo w b.objects t v

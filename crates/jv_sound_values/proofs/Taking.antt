@@ -84,7 +84,7 @@ module _ (p : Place) (rooted : IsRooted p.method.world) (loadable : AreLoadable 
 
   before_ok :
       (ts done S : List FrameType) (values s : List Value) → AllByRecursion IsSort ts → Zip (Fits p.method.world p.heap.objects) done values
-          → HasStack p S s
+      → HasStack p S s
       → Agrees (λ below out. AreTaken p (reverse_aux ts done) below out) (taken_downward p.method.world ts S)
       (taken_before p.heap.objects values ts s)
   before_ok [] done S values s sorts fits hs = both (fits, hs)

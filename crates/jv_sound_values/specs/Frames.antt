@@ -105,11 +105,11 @@ Resumes program heap depth frame Again = (next : Heap) → IsLater (suc depth) h
     → IsRunning program next depth frame
 Resumes program heap depth frame (Gives result) =
     (next : Heap) (values : List Value) → IsLater (suc depth) heap next → AreLoadable program.world next.objects
-        → IsResult program.world next.objects result values
+    → IsResult program.world next.objects result values
     → Holds (IsResumed program next depth frame) (resumed frame values)
 Resumes program heap depth frame (Builds type receiver) =
     (next : Heap) (id : ℕ) → IsLater (suc depth) heap next → AreLoadable program.world next.objects → receiver ≡ Some id
-        → IsObject program.world next.objects type id
+    → IsObject program.world next.objects type id
     → Holds (IsResumed program next depth frame) (resumed frame [])
 
 -- ---- initializations
@@ -142,7 +142,7 @@ HasUnits program _ = ⊤
 abbrev pub IsTask : Program → Task → Type 0
 IsTask program (SetsField field constant) =
     (type : FieldTypeOf (List ℕ)) × (field_type_of field.field.descriptor ≡ Some type) × IsConstantOf (value_type type) constant
-        × HasUnits program constant
+    × HasUnits program constant
 IsTask program (InitializesFirst l) = Contains program.world l
 IsTask program (RunsInitializer d) = IsRunnable program d []
 

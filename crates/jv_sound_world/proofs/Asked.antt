@@ -1,13 +1,13 @@
 -- What the other parts ask of the classes of a judged guest's world, from their files' rules (F1 to F6), and the tasks of initializations
 -- (F15).
 use Rattle.std.proofs.Common.{◌≡◌, ◌⊎◌, inl, inr, ℕ, Bool, true, false, not, ◌&&◌, ◌||◌, List, [], ◌∷◌, ◌++◌, map, Option, Some, None, refl, sym, ap, subst, ◌∙◌}
-use Rattle.std.specs.Prelude.{IsTrue, IsSome, is_some, codes}
-use Rattle.std.specs.List.{AllByRecursion, Contains, list_any, filter_map, cons_option}
+use Rattle.std.specs.Prelude.{IsTrue, IsSome, is_some, if◌then◌else◌, codes}
+use Rattle.std.specs.List.{AllByRecursion, Contains, find, filter_map, cons_option}
 use Rattle.std.specs.Option.{option_map, option_to_list}
 use Rattle.std.specs.Str.{bytes_eq}
 use Rattle.jv_sound_memory.specs.of_text.declared.descriptor.FieldTypeOf.{FieldTypeOf}
 use Rattle.jv_sound_memory.specs.of_text.Name.{is_init}
-use Rattle.jv_sound_memory.specs.of_text.Descriptor.{MethodDescriptor, is_floating, is_floating_method, is_floating_result}
+use Rattle.jv_sound_memory.specs.of_text.Descriptor.{MethodDescriptor, is_floating, is_floating_method}
 use Rattle.jv_sound_memory.specs.of_text.Types.{field_type_of, method_type_of}
 use Rattle.jv_sound_memory.specs.of_frames.declared.verification.VerificationTypeOf.TheVariants as types
 use Rattle.jv_sound_memory.specs.of_frames.Types.{FrameType, value_type}
@@ -24,7 +24,6 @@ use Rattle.jv_sound_memory.proofs.laws_of_loader_world.Up.{first, later, named_s
 use Rattle.jv_sound_memory.specs.of_meaning_linking.Kind.{is_static_field, is_static_method}
 use Rattle.jv_sound_memory.specs.of_meaning_linking.InitializationOrder.{init_order}
 use Rattle.jv_sound_memory.proofs.laws_of_meaning_linking.Found.{method_is_named}
-use Rattle.jv_sound_memory.proofs.laws_of_meaning_linking.Finals.{found_stands}
 use Rattle.jv_sound_memory.proofs.laws_of_meaning_linking.Searched.{init_order_is_above}
 use Rattle.jv_sound_memory.specs.of_meaning_machine.Frames.{Task}
 use Rattle.jv_sound_memory.specs.of_meaning_machine.Frames.Task.{SetsField, InitializesFirst, RunsInitializer}
@@ -44,6 +43,15 @@ use Rattle.jv_sound_files.proofs.Formed.{field_test, method_test, code_test, con
 -- all classes of the world
 pub record AreFormed (program : Program) : Type 0 where
   pub each : (l : Loaded) → Contains program.world l → IsFormed l.class × (IsCoded l.class ⊎ (l ≡ loaded true io))
+
+-- what is found in a list stands in it
+found_stands : {A : Type 0} (test : A → Bool) (xs : List A) (y : A) → find test xs ≡ Some y → Contains xs y
+found_stands test [] y e = absurd cc
+found_stands test (x ∷ xs) y e = by_test (test x) e (λ k. found_stands test xs y k)
+  where
+    by_test : (b : Bool) → (if b then Some x else find test xs) ≡ Some y → (find test xs ≡ Some y → Contains xs y) → Contains (x ∷ xs) y
+    by_test true e next = let s : x ≡ y = cc in subst (λ z. Contains (x ∷ xs) z) s (first x xs)
+    by_test false e next = later x xs y (next e)
 
 pub field_stands : (class : Class) (name descriptor : List ℕ) (f : Field) → field_named class name descriptor ≡ Some f
     → Contains class.fields f
@@ -92,10 +100,10 @@ module _ (program : Program) (formed : AreFormed program) (named : (l : Loaded) 
   interfaces_are_static l here i name descriptor f e =
       let test = (formed.each l here).0.fields f (field_stands l.class name descriptor f e) in
       let rest = and_parts (plain_type (field_type_of f.descriptor))
-          (initial_fits (field_type_of f.descriptor) f.initial &&
-          (not (has l.class.access_flags acc_interface) || has f.access_flags acc_static)) test in
+      (initial_fits (field_type_of f.descriptor) f.initial &&
+      (not (has l.class.access_flags acc_interface) || has f.access_flags acc_static)) test in
       let last = and_parts (initial_fits (field_type_of f.descriptor) f.initial)
-          (not (has l.class.access_flags acc_interface) || has f.access_flags acc_static) rest.1 in
+      (not (has l.class.access_flags acc_interface) || has f.access_flags acc_static) rest.1 in
       or_gives (has l.class.access_flags acc_interface) (has f.access_flags acc_static) last.1 i
 
   -- F2: fields
@@ -127,7 +135,7 @@ module _ (program : Program) (formed : AreFormed program) (named : (l : Loaded) 
       → AreSorts descriptor.parameters × IsResultSort descriptor.result
   method_sorts d descriptor here declared e =
       let plain = method_is_plain d.by (named_stands program.world d.by.class.name d.by here) d.method
-          (method_stands d.by.class d.method.name d.method.descriptor d.method declared) in
+      (method_stands d.by.class d.method.name d.method.descriptor d.method declared) in
       plain_sorts descriptor (subst (λ (x : MethodDescriptor). not (is_floating_method x) ≡ true)
       (one_type plain.0 descriptor (sym plain.1 ∙ e)) plain.2)
     where
@@ -174,11 +182,11 @@ module _ (program : Program) (formed : AreFormed program) (named : (l : Loaded) 
       let there = method_stands d.by.class d.method.name d.method.descriptor d.method declared in
       let test = (formed.each d.by (named_stands program.world d.by.class.name d.by here)).0.methods d.method there in
       let rest = and_parts (plain_method_type (method_type_of d.method.descriptor))
-          (init_test d.by.class.access_flags d.method && clinit_test d.method) test in
+      (init_test d.by.class.access_flags d.method && clinit_test d.method) test in
       let own = by_test (is_init d.method.name) init (and_parts (init_test d.by.class.access_flags d.method)
-          (clinit_test d.method) rest.1).0 in
+      (clinit_test d.method) rest.1).0 in
       let last = and_parts (is_void (method_type_of d.method.descriptor)) (not (has d.method.access_flags acc_static))
-          (and_parts (not (has d.by.class.access_flags acc_interface)) _ own).1 in
+      (and_parts (not (has d.by.class.access_flags acc_interface)) _ own).1 in
       (last.0, Rattle.jv_sound_files.proofs.Formed.not_true (has d.method.access_flags acc_static) last.1)
     where
       by_test : (b : Bool) → b ≡ true → (not b || (not (has d.by.class.access_flags acc_interface) &&
@@ -217,7 +225,7 @@ module _ (program : Program) (formed : AreFormed program) (named : (l : Loaded) 
       let there = method_stands d.by.class d.method.name d.method.descriptor d.method declared in
       needs_have_code d.by (named_stands program.world d.by.class.name d.by here)
       (λ e. clash (sym other ∙ subst (λ (x : Loaded). (x.by_system && bytes_eq x.class.name (codes "host/Io")) ≡ true)
-          (sym e) refl)) d.method there
+      (sym e) refl)) d.method there
       (or_third (is_clinit d.method.name) (is_init d.method.name) (has d.method.access_flags acc_static)
       (not (has d.method.access_flags acc_abstract)) static)
 
@@ -227,14 +235,18 @@ module _ (program : Program) (formed : AreFormed program) (named : (l : Loaded) 
   setting_ok l here f there v e =
       let sort = field_is_sort l here f there in
       let rest = (and_parts (plain_type (field_type_of f.descriptor))
-          (initial_fits (field_type_of f.descriptor) f.initial &&
-          (not (has l.class.access_flags acc_interface) || has f.access_flags acc_static)) ((formed.each l here).0.fields f there)).1 in
+      (initial_fits (field_type_of f.descriptor) f.initial &&
+      (not (has l.class.access_flags acc_interface) || has f.access_flags acc_static)) ((formed.each l here).0.fields f there)).1 in
       let fits = (and_parts (initial_fits (field_type_of f.descriptor) f.initial)
-          (not (has l.class.access_flags acc_interface) || has f.access_flags acc_static) rest).0 in
+      (not (has l.class.access_flags acc_interface) || has f.access_flags acc_static) rest).0 in
       let both : initial_fits (Some sort.0) (Some v) ≡ true = subst (λ (o : Option InitialValue). initial_fits (Some sort.0) o ≡ true) e
-          (subst (λ (o : Option (FieldTypeOf (List ℕ))). initial_fits o f.initial ≡ true) sort.1 fits) in
-      (sort.0, sort.1, value_constant (value_type sort.0) v both, by_value v
-      (subst IsInitialText e ((formed.each l here).0.initials f there)))
+      (subst (λ (o : Option (FieldTypeOf (List ℕ))). initial_fits o f.initial ≡ true) sort.1 fits) in (
+        sort.0,
+        sort.1,
+        value_constant (value_type sort.0) v both,
+        by_value v
+            (subst IsInitialText e ((formed.each l here).0.initials f there)),
+      )
     where
       by_value : (v : InitialValue) → IsInitialText (Some v) → HasUnits program v
       by_value (IntValue number) k = tt
@@ -264,7 +276,7 @@ module _ (program : Program) (formed : AreFormed program) (named : (l : Loaded) 
       let there = method_stands l.class (codes "<clinit>") (codes "()V") m e in
       let name : is_clinit m.name ≡ true = ap is_clinit texts.0 in
       let rest = (and_parts (plain_method_type (method_type_of m.descriptor)) (init_test l.class.access_flags m && clinit_test m)
-          ((formed.each l here).0.methods m there)).1 in
+      ((formed.each l here).0.methods m there)).1 in
       let its = or_gives (is_clinit m.name) _ (and_parts (init_test l.class.access_flags m) (clinit_test m) rest).1 name in
       record {
         enterable = record {

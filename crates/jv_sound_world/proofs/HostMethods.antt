@@ -38,7 +38,7 @@ pub built_in : (program : Program) → IsSound program → (d : Declared) → cl
     → method_named d.by.class d.method.name d.method.descriptor ≡ Some d.method → is_built_in d ≡ true → IsHostMethod d
 built_in program sound d here declared e =
     let name : d.by.class.name ≡ codes "host/Io" = same_name d.by.class.name (codes "host/Io")
-        (and_parts d.by.by_system (bytes_eq d.by.class.name (codes "host/Io")) e).1 in
+    (and_parts d.by.by_system (bytes_eq d.by.class.name (codes "host/Io")) e).1 in
     let is_io : loaded true io ≡ d.by =
     same_some (loaded true io) d.by (sym (io_there (map (loaded false) sound.guests)) ∙ ap (λ (w : World). class_named w (codes "host/Io"))
     (sym sound.world) ∙ ap (class_named program.world) (sym name) ∙ here) in

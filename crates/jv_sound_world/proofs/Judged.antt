@@ -117,8 +117,11 @@ no_classes : AreOwn []
 no_classes = record { named = λ c h. absurd (none c h); free = λ c h. absurd (none c h) }
 
 one_more : (cs : List Class) (c : Class) → AreOwn cs → is_reserved c.name ≡ false → has_class cs c.name ≡ false → AreOwn (cs ++ c ∷ [])
-one_more cs c own free new = record { named = λ x h. named x (Contains-append_cases cs (c ∷ []) x h); free = λ x h. unreserved x
-    (Contains-append_cases cs (c ∷ []) x h) }
+one_more cs c own free new = record {
+  named = λ x h. named x (Contains-append_cases cs (c ∷ []) x h);
+  free = λ x h. unreserved x
+      (Contains-append_cases cs (c ∷ []) x h);
+}
   where
     named : (x : Class) → Contains cs x ⊎ Contains (c ∷ []) x → class_named (map (loaded false) (cs ++ c ∷ [])) x.name ≡ Some
         (loaded false x)
@@ -127,7 +130,7 @@ one_more cs c own free new = record { named = λ x h. named x (Contains-append_c
     named x (inr k) =
         subst (λ (y : Class). class_named (map (loaded false) (cs ++ c ∷ [])) y.name ≡ Some (loaded false y)) (single c x k)
         (ap (λ (w : World). class_named w c.name) (map_end false cs (c ∷ [])) ∙
-            (passed_all false cs (loaded false c ∷ []) c.name new ∙ itself_named false c []))
+        (passed_all false cs (loaded false c ∷ []) c.name new ∙ itself_named false c []))
 
     unreserved : (x : Class) → Contains cs x ⊎ Contains (c ∷ []) x → is_reserved x.name ≡ false
     unreserved x (inl k) = own.free x k
@@ -222,8 +225,14 @@ record IsAcceptedFile (contents : List FileContent) (verdicts : List Verdict) (n
 
 next_file : (f : FileContent) (v : Verdict) (contents : List FileContent) (verdicts : List Verdict) (name : List ℕ)
     → IsAcceptedFile contents verdicts name → IsAcceptedFile (f ∷ contents) (v ∷ verdicts) name
-next_file f v contents verdicts name h = record { place = suc h.place; class = h.class; held = h.held; accepted = h.accepted; named =
-    h.named }
+next_file f v contents verdicts name h = record {
+  place = suc h.place;
+  class = h.class;
+  held = h.held;
+  accepted = h.accepted;
+  named =
+      h.named;
+}
 
 accepted_file : (contents : List FileContent) (verdicts : List Verdict) (name : List ℕ)
     → list_any (bytes_eq name) (accepted_names contents verdicts) ≡ true → IsAcceptedFile contents verdicts name
@@ -343,8 +352,8 @@ right_loadable world alone l here r = (loadable_by_all world l alone here).1 (st
         (and_from (not (is_circular world l.class) && each_super world (λ s. true) l.class) (have_right_kind world l.class)
         (and_from (not (is_circular world l.class)) (each_super world (λ s. true) l.class) (ap not r.circle)
         (all_weaker (λ (name : List ℕ). passes (is_loadable world) (class_named world name))
-            (λ (name : List ℕ). passes (λ (s : Loaded). true) (class_named world name)) (super_names l.class)
-            (λ name k. loadable_there world (class_named world name) k) r.supers))
+        (λ (name : List ℕ). passes (λ (s : Loaded). true) (class_named world name)) (super_names l.class)
+        (λ name k. loadable_there world (class_named world name) k) r.supers))
         r.kinds) r.names)
 
     direct : (s : Loaded) → Contains (supers_in world l.class) s
@@ -353,8 +362,8 @@ right_loadable world alone l here r = (loadable_by_all world l alone here).1 (st
         let found = found_super world l.class s h in
         (loadable_by_all world s alone (named_stands world found.0 s found.2)).0
         (subst (λ (o : Option Loaded). passes (is_loadable world) o ≡ true) found.2
-            (all_at (λ (name : List ℕ). passes (is_loadable world) (class_named world name))
-            (super_names l.class) found.0 r.supers found.1))
+        (all_at (λ (name : List ℕ). passes (is_loadable world) (class_named world name))
+        (super_names l.class) found.0 r.supers found.1))
 
     by_way : (s : Loaded) → (between : List Loaded) → IsWayUp world l.class between s → stands_itself world s ≡ true
     by_way s [] w = (direct s w).0

@@ -144,7 +144,7 @@ module _ (program : Program) (sound : IsSound program) where
     below = below_is_transitive program.world sound.rooted (object_type h.object)
         (class_type (codes "java/lang/OutOfMemoryError")) throwable_type h.below
         (subst (λ (w : World). IsBelow w (class_type (codes "java/lang/OutOfMemoryError")) throwable_type) (sym sound.world)
-            (out_below guests));
+        (out_below guests));
   }
 
   -- what is above a class of the system is the system's
@@ -179,8 +179,8 @@ module _ (program : Program) (sound : IsSound program) where
       let here = named_stands program.world name h.l h.named in
       let c = of_system h.l here h.by_system in
       let below : below_throwable (with_guests guests) (loaded true c.0) ≡ true = subst
-          (λ (w : World). below_throwable w (loaded true c.0) ≡ true) sound.world
-          (subst (λ (x : Loaded). below_throwable program.world x ≡ true) (sym c.2) h.below) in
+      (λ (w : World). below_throwable w (loaded true c.0) ≡ true) sound.world
+      (subst (λ (x : Loaded). below_throwable program.world x ≡ true) (sym c.2) h.below) in
       record {
         named = sound.named h.l here;
         loadable = system_loadable program.world h.l h.by_system;
@@ -241,9 +241,9 @@ module _ (program : Program) (sound : IsSound program) where
   pub string_class : (l : Loaded) → class_named program.world (codes "java/lang/String") ≡ Some l → IsStringClass program l
   string_class l e =
       let same : loaded true Rattle.jv_sound_memory.specs.of_loader_system.String.string ≡ l = one_string
-          (loaded true Rattle.jv_sound_memory.specs.of_loader_system.String.string) l
-          (sym (string_there (map (loaded false) sound.guests)) ∙
-          (ap (λ (w : World). class_named w (codes "java/lang/String")) (sym sound.world) ∙ e)) in
+      (loaded true Rattle.jv_sound_memory.specs.of_loader_system.String.string) l
+      (sym (string_there (map (loaded false) sound.guests)) ∙
+      (ap (λ (w : World). class_named w (codes "java/lang/String")) (sym sound.world) ∙ e)) in
       let here = named_stands program.world (codes "java/lang/String") l e in
       let by : l.by_system ≡ true = ap (λ (x : Loaded). x.by_system) (sym same) in
       record {
@@ -257,9 +257,9 @@ module _ (program : Program) (sound : IsSound program) where
             (Rattle.jv_sound_memory.specs.of_meaning_linking.Layout.instance_fields program.world x) ≡
             Rattle.jv_sound_memory.specs.of_meaning_machine.Literals.string_value ∷ []) same
             (ap (λ (w : World). map Rattle.jv_sound_memory.specs.of_meaning_machine.Objects.key_of
-                (Rattle.jv_sound_memory.specs.of_meaning_linking.Layout.instance_fields w
-                (loaded true Rattle.jv_sound_memory.specs.of_loader_system.String.string))) sound.world ∙ string_fields
-                (map (loaded false) sound.guests));
+            (Rattle.jv_sound_memory.specs.of_meaning_linking.Layout.instance_fields w
+            (loaded true Rattle.jv_sound_memory.specs.of_loader_system.String.string))) sound.world ∙ string_fields
+            (map (loaded false) sound.guests));
       }
 
 -- ---- classes of the system that the machine means by their names
@@ -275,10 +275,12 @@ module _ (program : Program) (sound : IsSound program) where
   pub string_there_in : (l : Loaded) × (class_named program.world (codes "java/lang/String") ≡ Some l) × IsMakeable program l
   string_there_in =
       let there : class_named program.world (codes "java/lang/String") ≡ Some
-          (loaded true Rattle.jv_sound_memory.specs.of_loader_system.String.string) =
-      ap (λ (w : World). class_named w (codes "java/lang/String")) sound.world ∙ string_there (map (loaded false) sound.guests) in
-      (loaded true Rattle.jv_sound_memory.specs.of_loader_system.String.string, there,
-      (string_class program sound (loaded true Rattle.jv_sound_memory.specs.of_loader_system.String.string) there).makeable)
+      (loaded true Rattle.jv_sound_memory.specs.of_loader_system.String.string) =
+      ap (λ (w : World). class_named w (codes "java/lang/String")) sound.world ∙ string_there (map (loaded false) sound.guests) in (
+        loaded true Rattle.jv_sound_memory.specs.of_loader_system.String.string,
+        there,
+        (string_class program sound (loaded true Rattle.jv_sound_memory.specs.of_loader_system.String.string) there).makeable,
+      )
 
   pub throwable_in : (l : Loaded) × (class_named program.world (codes "java/lang/Throwable") ≡ Some l) × (is_interface l ≡ false)
   throwable_in =
@@ -289,6 +291,10 @@ module _ (program : Program) (sound : IsSound program) where
       × (is_loadable program.world l ≡ true)
   root_in =
       let t = root_there (map (loaded false) sound.guests) in
-      let there : class_named program.world object_name ≡ Some t.0 = ap (λ (w : World). class_named w object_name) sound.world ∙ t.1 in
-      (t.0, there, system_verified program sound t.0 (named_stands program.world object_name t.0 there) t.2, system_loadable program.world
-      t.0 t.2)
+      let there : class_named program.world object_name ≡ Some t.0 = ap (λ (w : World). class_named w object_name) sound.world ∙ t.1 in (
+        t.0,
+        there,
+        system_verified program sound t.0 (named_stands program.world object_name t.0 there) t.2,
+        system_loadable program.world
+            t.0 t.2,
+      )

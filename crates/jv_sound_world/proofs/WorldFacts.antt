@@ -64,7 +64,7 @@ passes_formed : (c : Class) → class_passes c ≡ true → names_pass c ≡ tru
 passes_formed c h n =
     let fields = and_parts (list_all (λ (f : Field). field_test c.access_flags f && is_none f.initial) c.fields) _ h in
     let rest = and_parts (list_all (λ (m : Method). method_test c.access_flags m) c.methods)
-        (list_all (λ (e : Entry). constant_test c.constant_pool e && no_string e) c.constant_pool) fields.1 in
+    (list_all (λ (e : Entry). constant_test c.constant_pool e && no_string e) c.constant_pool) fields.1 in
     record {
       named = (and_parts (class_name_test c.name) (super_name_test c.super_class) n).0;
       superclass = (and_parts (class_name_test c.name) (super_name_test c.super_class) n).1;
@@ -75,8 +75,8 @@ passes_formed c h n =
       methods = λ m k. all_at (λ (m : Method). method_test c.access_flags m) c.methods m rest.0 k;
       constants = λ index entry at.
           let both = and_parts (constant_test c.constant_pool entry) (no_string entry)
-              (at_indices (λ (e : Entry). (constant_test c.constant_pool e && no_string e) ≡ true) c.constant_pool
-              (all_by_test (λ (e : Entry). constant_test c.constant_pool e && no_string e) c.constant_pool rest.1) index entry at) in
+          (at_indices (λ (e : Entry). (constant_test c.constant_pool e && no_string e) ≡ true) c.constant_pool
+          (all_by_test (λ (e : Entry). constant_test c.constant_pool e && no_string e) c.constant_pool rest.1) index entry at) in
           (both.0, no_text c.constant_pool entry both.1);
     }
 
@@ -134,8 +134,10 @@ world_is_formed agree files judged right l here = by_loader (Contains-append_cas
     (map (loaded false) (classes_in right.contents)) l (subst (λ (w : World). Contains w l) right.world here))
   where
     of_system : (c : Class) → Contains classes_with_files c ⊎ Contains (io ∷ []) c → IsCoded c ⊎ (loaded true c ≡ loaded true io)
-    of_system c (inl k) = inl (record { coded = λ m h. all_at code_test c.methods m
-        (all_at (λ (c : Class). list_all code_test c.methods) classes_with_files c with_files_coded k) h })
+    of_system c (inl k) = inl (record {
+      coded = λ m h. all_at code_test c.methods m
+          (all_at (λ (c : Class). list_all code_test c.methods) classes_with_files c with_files_coded k) h;
+    })
     of_system c (inr k) = inr (ap (loaded true) (sym (single io c k)))
 
     of_guest : (c : Class) → Contains [] c ⊎ Contains right.contents (Holds c) → Both c
@@ -146,10 +148,12 @@ world_is_formed agree files judged right l here = by_loader (Contains-append_cas
         → IsFormed l.class × (IsCoded l.class ⊎ (l ≡ loaded true io))
     by_loader (inl k) =
         let c = in_mapped true system_classes l k in
-        subst (λ (x : Loaded). IsFormed x.class × (IsCoded x.class ⊎ (x ≡ loaded true io))) c.2
-        (passes_formed c.0 (all_at class_passes system_classes c.0 system_passes c.1)
-        (all_at names_pass system_classes c.0 system_names_pass c.1), of_system c.0
-        (Contains-append_cases classes_with_files (io ∷ []) c.0 c.1))
+        subst (λ (x : Loaded). IsFormed x.class × (IsCoded x.class ⊎ (x ≡ loaded true io))) c.2 (
+          passes_formed c.0 (all_at class_passes system_classes c.0 system_passes c.1)
+              (all_at names_pass system_classes c.0 system_names_pass c.1),
+          of_system c.0
+              (Contains-append_cases classes_with_files (io ∷ []) c.0 c.1),
+        )
     by_loader (inr k) =
         let c = in_mapped false (classes_in right.contents) l k in
         let both = of_guest c.0 (joined_from [] right.contents c.0 c.1) in

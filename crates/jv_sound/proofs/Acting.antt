@@ -1,37 +1,36 @@
 -- What an effect makes of the frames.
 use Rattle.std.proofs.Common.{◌≡◌, ℕ, suc, Bool, true, false, List, ◌∷◌, length, Option, Some, refl, sym, ap, subst, ◌∙◌}
-use Rattle.jv_sound_world.specs.of_text.Name.{is_init}
-use Rattle.jv_sound_world.specs.of_frames.Frames.{Frame as TypesOf}
-use Rattle.jv_sound_world.specs.of_code.Places.{StandsInList, NextStarts}
-use Rattle.jv_sound_world.specs.of_loader_world.World.{Loaded}
-use Rattle.jv_sound_world.specs.of_loader_world.Overriding.{Declared}
-use Rattle.jv_sound_world.specs.of_meaning_typing.of_assign.Order.{IsRooted}
-use Rattle.jv_sound_world.specs.of_meaning_typing.Rule.{rule, handler_frame}
-use Rattle.jv_sound_world.specs.of_meaning_machine.Values.{Value}
-use Rattle.jv_sound_world.specs.of_meaning_machine.Frames.{MethodFrame, Frame}
-use Rattle.jv_sound_world.specs.of_meaning_machine.Frames.Frame.{Runs}
-use Rattle.jv_sound_world.specs.of_meaning_machine.State.{Program, Memory, Control}
-use Rattle.jv_sound_world.specs.of_meaning_machine.Costs.{method_words, with_words_back}
-use Rattle.jv_sound_world.specs.of_meaning_machine.Effects.Effect.{Goes, Enters, Leaves, Throws, Raises, Begins}
-use Rattle.jv_sound_world.specs.of_meaning_machine.Entering.{leave_to}
-use Rattle.jv_sound_world.specs.of_meaning_machine.Step.{waiting, act}
-use Rattle.jv_sound_world.specs.of_sound_values.Values.{Heap, HasLocals, IsReady}
-use Rattle.jv_sound_world.specs.of_sound_values.Memory.{IsTypedMemory}
-use Rattle.jv_sound_world.specs.of_sound_values.Later.{IsLater}
-use Rattle.jv_sound_world.specs.of_sound_values.Sound.{IsChecked}
-use Rattle.jv_sound_world.specs.of_sound_values.Frames.{Holds, place_of, IsRunning, IsCatching, Promise, promise_by, promise_of, Resumes, AreWaiting, AreVerified, HasMain, IsGood}
-use Rattle.jv_sound_world.specs.of_sound_values.Frames.Promise.{Gives}
-use Rattle.jv_sound_world.specs.of_sound_values.Effects.{IsEffect, after, ArePassed}
-use Rattle.jv_sound_world.proofs.laws_of_sound_values.Logic.{holds, then_holds}
-use Rattle.jv_sound_world.specs.of_sound_values.Memory.{AreLoadable}
-
-use Rattle.jv_sound_frames.proofs.EnteringAbove.{Raises as RaisesFine, Throws as ThrowsFine, Begins as BeginsFine, WithinWords, FrameBegins, enter_ok}
-use Rattle.jv_sound_frames.proofs.Frames.{at_offset_ok, resumed_ok, leave_gives, leave_builds, waiting_later, AreCatching}
+use Rattle.jv_text.specs.Name.{is_init}
+use Rattle.jv_sound_steps.specs.of_frames.Frames.{Frame as TypesOf}
+use Rattle.jv_code.specs.Places.{StandsInList, NextStarts}
+use Rattle.jv_sound_steps.specs.of_loader_world.World.{Loaded}
+use Rattle.jv_sound_steps.specs.of_loader_world.Overriding.{Declared}
+use Rattle.jv_sound_steps.specs.of_meaning_typing.of_assign.Order.{IsRooted}
+use Rattle.jv_sound_steps.specs.of_meaning_typing.Rule.{rule, handler_frame}
+use Rattle.jv_sound_steps.specs.of_meaning_machine.Values.{Value}
+use Rattle.jv_sound_steps.specs.of_meaning_machine.Frames.{MethodFrame, Frame}
+use Rattle.jv_sound_steps.specs.of_meaning_machine.Frames.Frame.{Runs}
+use Rattle.jv_sound_steps.specs.of_meaning_machine.State.{Program, Memory, Control}
+use Rattle.jv_sound_steps.specs.of_meaning_machine.Costs.{method_words, with_words_back}
+use Rattle.jv_sound_steps.specs.of_meaning_machine.Effects.Effect.{Goes, Enters, Leaves, Throws, Raises, Begins}
+use Rattle.jv_sound_steps.specs.of_meaning_machine.Entering.{leave_to}
+use Rattle.jv_sound_steps.specs.of_meaning_machine.Step.{waiting, act}
+use Rattle.jv_sound_steps.specs.of_sound_values.Values.{Heap, HasLocals, IsReady}
+use Rattle.jv_sound_steps.specs.of_sound_values.Memory.{IsTypedMemory}
+use Rattle.jv_sound_steps.specs.of_sound_values.Later.{IsLater}
+use Rattle.jv_sound_steps.specs.of_sound_values.Sound.{IsChecked}
+use Rattle.jv_sound_steps.specs.of_sound_values.Frames.{Holds, place_of, IsRunning, IsCatching, Promise, promise_by, promise_of, Resumes, AreWaiting, AreVerified, HasMain, IsGood}
+use Rattle.jv_sound_steps.specs.of_sound_values.Frames.Promise.{Gives}
+use Rattle.jv_sound_steps.specs.of_sound_values.Effects.{IsEffect, after, ArePassed}
+use Rattle.jv_sound_steps.proofs.laws_of_sound_values.Logic.{holds, then_holds}
+use Rattle.jv_sound_steps.specs.of_sound_values.Memory.{AreLoadable}
+use Rattle.jv_sound_steps.proofs.laws_of_sound_frames.EnteringAbove.{Raises as RaisesFine, Throws as ThrowsFine, Begins as BeginsFine, WithinWords, FrameBegins, enter_ok}
+use Rattle.jv_sound_steps.proofs.laws_of_sound_frames.Frames.{at_offset_ok, resumed_ok, leave_gives, leave_builds, waiting_later, AreCatching}
 
 module _ (program : Program) (rooted : IsRooted program.world) (next_starts : NextStarts) (stands_in_list : StandsInList)
     -- of memories and throws
     (loadable_of : (heap : Heap) (memory : Memory) → heap.objects ≡ memory.objects → IsTypedMemory program memory
-        → AreLoadable program.world heap.objects)
+    → AreLoadable program.world heap.objects)
     (raise_ok : RaisesFine program rooted next_starts stands_in_list)
     (throw_ok : ThrowsFine program rooted next_starts stands_in_list)
     (within_ok : WithinWords program rooted next_starts stands_in_list)
@@ -39,8 +38,8 @@ module _ (program : Program) (rooted : IsRooted program.world) (next_starts : Ne
     (method_frame_ok : FrameBegins program)
     -- a method's result is that of its descriptor
     (promise_is : (f : MethodFrame) (d : Declared) (heap : Heap) (receiver : Option ℕ) (arguments : List Value) → IsChecked program f.method
-        → f.method.site ≡ d → is_init d.method.name ≡ false → (passed : ArePassed program heap d receiver arguments)
-        → promise_of f ≡ Gives passed.descriptor.result) where
+    → f.method.site ≡ d → is_init d.method.name ≡ false → (passed : ArePassed program heap d receiver arguments)
+    → promise_of f ≡ Gives passed.descriptor.result) where
   module _ (control : Control) (frame : MethodFrame) (below : List Frame) (heap : Heap) (verified : AreVerified program control.states)
       (main_all : (fs : List Frame) → HasMain program control.main fs)
       (r : IsRunning program heap (length below) frame) (cs : AreWaiting program heap (promise_of frame) below) where
@@ -50,8 +49,15 @@ module _ (program : Program) (rooted : IsRooted program.world) (next_starts : Ne
         (handler_frame frame.method r.insn (r.checked.frames frame.offset)).locals frame.locals
         → IsReady (after (place_of heap (length below) frame r.made) b made) (r.checked.frames frame.offset).flag_this_uninit
         → IsCatching program b (length below) (record frame { stack = stack })
-    catching b made stack g ls ready = record { checked = r.checked; insn = r.insn; stands = r.stands; made = made; locals = ls; ready =
-        ready }
+    catching b made stack g ls ready = record {
+      checked = r.checked;
+      insn = r.insn;
+      stands = r.stands;
+      made = made;
+      locals = ls;
+      ready =
+          ready;
+    }
 
     module _ (g : TypesOf) (rules : rule frame.method frame.offset r.insn (r.checked.frames frame.offset) ≡ Some g) where
       pub goes : (out : Memory) (to : ℕ) (values items : List Value) → (b : Heap) → b.objects ≡ out.objects → (made : ℕ → ℕ)
@@ -66,8 +72,11 @@ module _ (program : Program) (rooted : IsRooted program.world) (next_starts : Ne
             heap = b;
             is = is;
             memory = typed;
-            frames = (run.0, subst (λ (p : Promise). AreWaiting program b p below) (sym run.1)
-                (waiting_later program rooted next_starts stands_in_list below grows (promise_of frame) cs));
+            frames = (
+              run.0,
+              subst (λ (p : Promise). AreWaiting program b p below) (sym run.1)
+                  (waiting_later program rooted next_starts stands_in_list below grows (promise_of frame) cs),
+            );
             verified = verified;
             main = main_all (Runs f ∷ below);
           }))
@@ -94,7 +103,7 @@ module _ (program : Program) (rooted : IsRooted program.world) (next_starts : Ne
           goes_on : Resumes program b (length below) (record frame { stack = stack }) (Gives e.4.descriptor.result)
           goes_on c values l loadable result =
               resumed_ok program rooted next_starts stands_in_list c (length below)
-                  (record frame { stack = stack }) made r.checked r.insn g values
+              (record frame { stack = stack }) made r.checked r.insn g values
               loadable r.stands rules e.1 (e.6 c values l result)
 
       -- a frame that throws is the current one
@@ -103,8 +112,11 @@ module _ (program : Program) (rooted : IsRooted program.world) (next_starts : Ne
           (handler_frame frame.method r.insn (r.checked.frames frame.offset)).locals frame.locals
           → IsReady (after (place_of heap (length below) frame r.made) b made) (r.checked.frames frame.offset).flag_this_uninit
           → AreCatching program rooted next_starts stands_in_list b (Runs frame ∷ below)
-      throwing b made grows ls ready = (catching b made frame.stack grows ls ready, waiting_later program rooted next_starts stands_in_list
-          below grows (promise_of frame) cs)
+      throwing b made grows ls ready = (
+        catching b made frame.stack grows ls ready,
+        waiting_later program rooted next_starts stands_in_list
+            below grows (promise_of frame) cs,
+      )
 
       pub throws : (out : Memory) (object : ℕ) → (b : Heap) → b.objects ≡ out.objects → (made : ℕ → ℕ) → IsLater (length below) heap b
           → IsTypedMemory program out
