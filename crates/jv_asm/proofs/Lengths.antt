@@ -10,8 +10,8 @@ use Rattle.std.proofs.lemmas.List.Folds.{flat_map-map, length-flat_map-take}
 use Rattle.jv_format.specs.Format.{half, quad}
 use Rattle.jv_format.specs.declared.handlers.Handler.{Handler}
 use Rattle.jv_format.specs.Handlers.{handler_bytes}
-use Rattle.jv_class.specs.of_pool.Constants.{Entry, entries_of, table_of, pool_count}
-use Rattle.jv_class.specs.of_class_parts.Structure.{AttributeInfo, CodeAttribute, attribute_bytes, attribute_fits, code_bytes, table_fits}
+use Rattle.jv_pool.specs.Constants.{Entry, entries_of, table_of, pool_count}
+use Rattle.jv_class_structure.specs.Structure.{AttributeInfo, CodeAttribute, attribute_bytes, attribute_fits, code_bytes, table_fits}
 
 -- each of some parts that all fit does
 all_at : {X : Type 0} (p : X → Bool) (xs : List X) (i : ℕ) (d : X) → i < length xs → IsTrue (list_all p xs) → IsTrue (p (get_or xs i d))

@@ -1,7 +1,7 @@
 -- The structure that a description of a class file stands for: the same parts, slices seen as lists.
 use Rattle.std.specs.Prelude.{List, map}
-use Rattle.jv_class.specs.of_pool.Seen.{seen}
-use Rattle.jv_class.specs.of_class_parts.Structure.{AttributeInfo, CodeAttribute, MethodAttribute, Code, Other, FieldInfo, MethodInfo, ClassStructure}
+use Rattle.jv_pool.specs.Seen.{seen}
+use Rattle.jv_class_structure.specs.Structure.{AttributeInfo, CodeAttribute, MethodAttribute, Code, Other, FieldInfo, MethodInfo, ClassStructure}
 use Rattle.jv_asm.specs.declared.description.AttributeDescription.{AttributeDescription}
 use Rattle.jv_asm.specs.declared.description.CodeDescription.{CodeDescription}
 use Rattle.jv_asm.specs.declared.description.MethodAttributeDescription.{MethodAttributeDescription}
@@ -59,3 +59,10 @@ described_class d = record {
 -- a structure with other methods
 abbrev pub with_methods : ClassStructure → List MethodInfo → ClassStructure
 with_methods c methods = record c { methods = methods }
+
+abbrev pub described_all : List AttributeDescription → List AttributeInfo
+described_all attributes = map described_attribute attributes
+
+-- the structure with these methods in the place of its own
+abbrev pub described_with : Description → List MethodInfo → ClassStructure
+described_with description methods = with_methods (described_class description) methods

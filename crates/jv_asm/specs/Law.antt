@@ -1,7 +1,7 @@
 -- The law of the class writer: what it writes of a well-formed structure is a class file, and reads back.
 use Rattle.std.specs.Prelude.{◌≡◌, IsTrue}
-use Rattle.jv_class.specs.of_class_parts.Structure.{ClassStructure, class_bytes}
-use Rattle.jv_class.specs.of_class_parts.Version.{is_supported_version}
+use Rattle.jv_class_structure.specs.Structure.{ClassStructure, class_bytes}
+use Rattle.jv_class_structure.specs.Version.{is_supported_version}
 use Rattle.jv_class.specs.ClassFile.{IsWellFormed, IsClassFile, OneStructure}
 use Rattle.jv_asm.specs.Fits.{IsFit}
 

@@ -3,7 +3,7 @@
 ghost use Rattle.std.specs.Prelude.{◌≡◌, ◌++◌, ◌<◌, ◌&&◌, ◌^◌, OnOk, IsTrue, length, map};
 ghost use Rattle.std.specs.List.{flat_map};
 ghost use Rattle.jv_format.specs.Format.{half, quad};
-ghost use Rattle.jv_class.specs.of_class_parts.Structure.{AttributeInfo, contents_bytes, table_bytes, table_fits, attribute_bytes, attribute_fits};
+ghost use Rattle.jv_class_structure.specs.Structure.{AttributeInfo, contents_bytes, table_bytes, table_fits, attribute_bytes, attribute_fits};
 ghost use Rattle.jv_format.specs.declared.handlers.Handler.{Handler};
 ghost use Rattle.jv_format.specs.Handlers.{handler_bytes, handler_fits};
 ghost use Rattle.jv_asm.specs.Description.{described_attribute};

@@ -2,11 +2,11 @@
 
 ghost use Rattle.std.specs.Prelude.{◌≡◌, ◌++◌, ◌∷◌, ◌<◌, ◌&&◌, OnOk, length};
 ghost use Rattle.jv_format.specs.Format.{byte, half, quad, text};
-ghost use Rattle.jv_class.specs.of_pool.Constants.{Entry, constant_bytes, constant_fits, entries_of};
-ghost use Rattle.jv_class.specs.of_pool.Seen.{seen};
+ghost use Rattle.jv_pool.specs.Constants.{Entry, constant_bytes, constant_fits, entries_of};
+ghost use Rattle.jv_pool.specs.Seen.{seen};
 
 use crate::part::{Part, half_fits, halves_fit, put_half, put_quad};
-use jv_class::of_pool::Constant;
+use jv_pool::Constant;
 use std::alloc::AllocError;
 
 /// A text behind its tag and its length (4.4.7).

@@ -1,10 +1,10 @@
 //! A class file as lists of its parts (JVMS 4.1 to 4.7).
 //!
 //! Numbers and indices are as they stand in the file; counts and lengths are those of the lists.
-//! `specs/Description.antt` says which structure of `jv_class_parts` a description stands for.
+//! `specs/Description.antt` says which structure of `jv_class_structure` a description stands for.
 
-use jv_class::of_pool::Constant;
 use jv_format::Handler;
+use jv_pool::Constant;
 
 /// An attribute: the index of its name, and its contents (4.7).
 #[derive(Clone, Copy)]

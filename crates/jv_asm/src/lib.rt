@@ -1,7 +1,7 @@
 //! The class writer: class files (JVMS 4) from lists of their parts, and code from lists of
 //! instructions.
 //!
-//! [`write_class`] writes the bytes that `jv_class_parts` defines for a structure, and
+//! [`write_class`] writes the bytes that `jv_class_structure` defines for a structure, and
 //! [`write_code`] those that an instruction's operands spell. `jv_asm_builder` puts structures and
 //! code together by calls.
 #![tactic(auto)]
@@ -27,8 +27,8 @@ pub use description::{
 };
 pub use fault::AsmFault;
 pub use item::Item;
-pub use jv_class::of_pool::Constant;
 pub use jv_format::Handler;
+pub use jv_pool::Constant;
 pub use law::written_reads_back;
 pub use member::Method;
 pub use part::put_half;

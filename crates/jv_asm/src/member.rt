@@ -3,7 +3,7 @@
 ghost use Rattle.std.specs.Prelude.{◌≡◌, ◌++◌, ◌<◌, ◌&&◌, OnOk, IsTrue, length, map};
 ghost use Rattle.std.specs.List.{list_all};
 ghost use Rattle.jv_format.specs.Format.{half, quad};
-ghost use Rattle.jv_class.specs.of_class_parts.Structure.{FieldInfo, MethodInfo, MethodAttribute, contents_bytes, table_bytes, table_fits, attribute_bytes, attribute_fits, code_bytes, code_fits, method_attribute_bytes, method_attribute_fits, field_bytes, field_fits, method_bytes, method_fits};
+ghost use Rattle.jv_class_structure.specs.Structure.{FieldInfo, MethodInfo, MethodAttribute, contents_bytes, table_bytes, table_fits, attribute_bytes, attribute_fits, code_bytes, code_fits, method_attribute_bytes, method_attribute_fits, field_bytes, field_fits, method_bytes, method_fits};
 ghost use Rattle.jv_asm.specs.Description.{described_attribute, described_code, described_method_attribute, described_field, described_method};
 
 use crate::attribute::{are_handlers, attributes_length, contents_fit, put_contents, put_handlers};

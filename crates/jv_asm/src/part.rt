@@ -3,7 +3,7 @@
 ghost use Rattle.std.specs.Prelude.{◌≡◌, ◌++◌, ◌<◌, ◌&&◌, ℕ, Bool, List, OnOk, IsTrue, length, map};
 ghost use Rattle.std.specs.List.{flat_map, list_all};
 ghost use Rattle.jv_format.specs.Format.{half, quad};
-ghost use Rattle.jv_class.specs.of_class_parts.Structure.{table_bytes, table_fits};
+ghost use Rattle.jv_class_structure.specs.Structure.{table_bytes, table_fits};
 
 use byteorder::{BigEndian, ByteOrder};
 use jv_format::are_big_endian;

@@ -1,12 +1,11 @@
 //! Writes a class file.
 
-ghost use Rattle.std.specs.Prelude.{◌≡◌, ◌++◌, ◌<◌, ◌≤◌, ◌↔◌, Err, IfOk, IsOk, OnOk, IsTrue, length, map};
-ghost use Rattle.std.specs.List.{flat_map, list_all};
+ghost use Rattle.std.specs.Prelude.{◌≡◌, ◌++◌, ◌<◌, ◌≤◌, ◌↔◌, Err, IfOk, IsOk, OnOk, IsTrue, map};
 ghost use Rattle.jv_format.specs.Format.{half};
-ghost use Rattle.jv_class.specs.of_pool.Constants.{entries_of, pool_count, pool_bytes, pool_fits, constant_bytes, constant_fits};
-ghost use Rattle.jv_class.specs.of_pool.Seen.{seen};
-ghost use Rattle.jv_class.specs.of_class_parts.Structure.{magic, table_bytes, table_fits, body_bytes, body_fits, class_bytes};
-ghost use Rattle.jv_asm.specs.Description.{described_class, with_methods};
+ghost use Rattle.jv_pool.specs.Constants.{pool_count, pool_bytes, pool_fits};
+ghost use Rattle.jv_pool.specs.Seen.{seen};
+ghost use Rattle.jv_class_structure.specs.Structure.{magic, table_bytes, table_fits, body_bytes, body_fits, class_bytes};
+ghost use Rattle.jv_asm.specs.Description.{described_class, with_methods, described_with};
 ghost use Rattle.jv_asm.specs.Fits.{IsFit};
 ghost use Rattle.jv_asm.specs.declared.fault.AsmFault.TheVariants.{TooLarge};
 
@@ -18,7 +17,7 @@ use crate::part::{
     all_fit, are_halves, half_fits, halves_fit, put_all, put_half, put_halves, put_table,
     table_fits,
 };
-use jv_class::of_pool::Constant;
+use jv_pool::Constant;
 use std::alloc::{AllocError, Global};
 
 /// One more than the entries of the table (4.1), or 65,536 where there are more than that.
@@ -79,7 +78,7 @@ fn put_body<M: Method>(
     methods: &[M],
 ) -> Result<(), AllocError>
     requires { IsTrue (body_fits (with_methods (described_class description.now) (map M.method methods.now))) }
-    ensures { OnOk result (out.new.items ≡ out.old.items ++ body_bytes (with_methods (described_class description.now) (map M.method methods.now))) }
+    ensures { OnOk result (out.new.items ≡ out.old.items ++ body_bytes (described_with description.now (map M.method methods.now))) }
 {
     put_names(
         out,
@@ -150,7 +149,7 @@ pub fn write_class_with<M: Method>(
     description: &Description<'_>,
     methods: &[M],
 ) -> Result<Vec<u8>, AsmFault>
-    ensures ok { IfOk result (λ bytes. bytes.items ≡ class_bytes (with_methods (described_class description.now) (map M.method methods.now))) }
+    ensures ok { IfOk result (λ bytes. bytes.items ≡ class_bytes (described_with description.now (map M.method methods.now))) }
     ensures fits { IsOk result → IsFit (with_methods (described_class description.now) (map M.method methods.now)) }
     ensures too_large { (result ≡ Err TooLarge) ↔ ¬ IsFit (with_methods (described_class description.now) (map M.method methods.now)) }
 {

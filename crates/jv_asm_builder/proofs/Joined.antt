@@ -7,7 +7,7 @@ use Rattle.std.proofs.lemmas.List.Folds.{list_all-append}
 use Rattle.std.proofs.lemmas.Bool.{and_parts, and_from, ltb-true, lt-ltb}
 use Rattle.jv_pool.specs.declared.constant.Constant.TheVariants.{Utf8, Class, NameAndType}
 use Rattle.jv_pool.specs.Constants.{Entry, pool_count, at_index, constant_fits, pool_fits}
-use Rattle.jv_class_parts.specs.Structure.{ClassStructure}
+use Rattle.jv_class_structure.specs.Structure.{ClassStructure}
 use Rattle.jv_asm.specs.declared.fault.AsmFault.{AsmFault}
 use Rattle.jv_asm.specs.declared.fault.AsmFault.TheVariants.{TooLarge}
 use Rattle.jv_asm_builder.specs.Added.{IsIndexOf, IsNew, IsAdded, IsNamedAdded, AreClassesAdded, AreTextsAdded, IsNameAndTypeAdded, IsMemberNamed, IsMemberAdded, HasRoom, HasRoomForTwo, IsGrownPool}

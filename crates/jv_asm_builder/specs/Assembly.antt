@@ -133,10 +133,6 @@ abbrev pub items_in : (ℕ → Label → Expected ℤ) → ℕ → List Step →
 items_in distance at [] = Ok []
 items_in distance at (s ∷ steps) = item_in (distance at) s >>= λ i. items_in distance (at + step_size at s) steps >>= λ is. Ok (i ∷ is)
 
--- the instructions
-abbrev pub assembled_items : Assembly → Expected (List Item)
-assembled_items a = items_in (distance_in a.places) 0 a.steps
-
 -- the bytes of steps
 abbrev pub code_in : List (Option ℕ) → List Step → Expected (List ℕ)
 code_in places steps = items_in (distance_in places) 0 steps >>= λ items. Ok (code_of_items 0 items)
@@ -199,3 +195,8 @@ abbrev pub assembled_code : Assembly → Expected AssembledCode
 assembled_code a =
     assembled_bytes a >>= λ code. exception_table a >>= λ handlers. stack_map_table a.frames >>= λ frames.
     Ok (record { code = code; exception_table = handlers; stack_map_table = frames })
+
+-- the same by its parts
+abbrev pub with_handler_at : Assembly → Label → Label → Label → ℕ → Assembly
+with_handler_at a start end handler catch_type =
+    with_handler a (record { start = start; end = end; handler = handler; catch_type = catch_type })

@@ -1,14 +1,14 @@
 -- A class in the making (JVMS 4.1, 4.5, 4.6): the structure so far, and what each call adds to it.
 use Rattle.std.specs.Prelude.{◌≡◌, ◌⊎◌, ℕ, ◌/◌, ◌%◌, ℤ, List, [], ◌∷◌, ◌++◌, Option, Some, None, Ok, Err, IsTrue, codes}
-use Rattle.std.specs.Int.{w64, cast_unsigned}
-use Rattle.jv_pool.specs.declared.constant.Constant.TheVariants.{Utf8, Long, Class}
+use Rattle.std.specs.Int.{w64, cast_unsigned, w32}
+use Rattle.jv_pool.specs.declared.constant.Constant.TheVariants.{Utf8, Long, Class, Integer}
 use Rattle.jv_pool.specs.Constants.{Entry, pool_fits}
-use Rattle.jv_class_parts.specs.Structure.{AttributeInfo, Code, FieldInfo, MethodInfo, ClassStructure}
+use Rattle.jv_class_structure.specs.Structure.{AttributeInfo, Code, FieldInfo, MethodInfo, ClassStructure}
 use Rattle.jv_asm_builder.specs.declared.class_builder.MethodBuilder.{MethodBuilder}
 use Rattle.jv_asm_builder.specs.declared.fault.BuilderFault.{BuilderFault}
 use Rattle.jv_asm_builder.specs.declared.fault.BuilderFault.TheVariants.{TooLarge, Memory}
 use Rattle.jv_asm_builder.specs.Assembly.{no_steps, AssembledCode, assembled_code}
-use Rattle.jv_asm_builder.specs.Added.{IsAdded, IsNamedAdded, AreClassesAdded, AreTextsAdded, IsGrownPool}
+use Rattle.jv_asm_builder.specs.Added.{IsAdded, IsNamedAdded, AreClassesAdded, AreTextsAdded, IsGrownPool, IsMemberNamed, IsMemberAdded, HasRoom, HasRoomForTwo}
 
 -- ---- structures with one part changed
 
@@ -150,3 +150,31 @@ pub record HasNoMapRoom (old : ClassStructure) (method : MethodBuilder) : Type 0
 -- why a method is not ended: the host's memory was refused, its code has a fault, or there is no room for the StackMapTable
 abbrev pub IsEndFault : ClassStructure → MethodBuilder → BuilderFault → Type 0
 IsEndFault old method fault = (fault ≡ Memory) ⊎ ((assembled_code method.code ≡ Err fault) ⊎ ((fault ≡ TooLarge) × HasNoMapRoom old method))
+
+-- ---- what calls add to the pool of a class
+
+abbrev pub AddsInteger : ClassStructure → ℤ → ClassStructure → ℕ → Type 0
+AddsInteger old value new index = IsAdded old.constant_pool (Integer (cast_unsigned w32 value)) new.constant_pool index
+
+abbrev pub HasIntegerRoom : ClassStructure → ℤ → Type 0
+HasIntegerRoom c value = HasRoom (IsAdded c.constant_pool (Integer (cast_unsigned w32 value)))
+
+abbrev pub AddsTexts : ClassStructure → List ℕ → List ℕ → ClassStructure → ℕ × ℕ → Type 0
+AddsTexts old first second new indices = AreTextsAdded old.constant_pool first second new.constant_pool indices.0 indices.1
+
+abbrev pub NamesMember : ClassStructure → List ℕ → List ℕ → List ℕ → ClassStructure → ℕ × ℕ → Type 0
+NamesMember old class name descriptor new indices =
+    IsMemberNamed old.constant_pool class name descriptor new.constant_pool indices.0 indices.1
+
+abbrev pub HasNameRoom : ClassStructure → List ℕ → List ℕ → List ℕ → Type 0
+HasNameRoom c class name descriptor = HasRoomForTwo (IsMemberNamed c.constant_pool class name descriptor)
+
+abbrev pub AddsMember : (ℕ → ℕ → Entry) → ClassStructure → List ℕ → List ℕ → List ℕ → ClassStructure → ℕ → Type 0
+AddsMember constant old class name descriptor new index =
+    IsMemberAdded constant old.constant_pool class name descriptor new.constant_pool index
+
+abbrev pub MemberFits : (ℕ → ℕ → Entry) → ClassStructure → List ℕ → List ℕ → List ℕ → Type 0
+MemberFits constant c class name descriptor = HasRoom (IsMemberAdded constant c.constant_pool class name descriptor)
+
+abbrev pub BeginsMethod : ClassStructure → ℕ → List ℕ → List ℕ → ClassStructure → MethodBuilder → Type 0
+BeginsMethod old access_flags name descriptor new method = IsBegun old.constant_pool access_flags name descriptor new.constant_pool method

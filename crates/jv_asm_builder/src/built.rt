@@ -1,7 +1,7 @@
 //! Methods that a class builder keeps (JVMS 4.6, 4.7.3).
 
 ghost use Rattle.std.specs.Prelude.{◌≡◌, ◌++◌, OnOk, IsTrue, map};
-ghost use Rattle.jv_class_parts.specs.Structure.{method_bytes, method_fits};
+ghost use Rattle.jv_class_structure.specs.Structure.{method_bytes, method_fits};
 ghost use Rattle.jv_asm.specs.Description.{described_attribute, described_method_attribute, described_method};
 ghost use Rattle.jv_asm_builder.specs.Inside.Methods.{built_map, coded, with_code, with_attributes, built_method};
 

@@ -1,25 +1,25 @@
 //! Builds class files, with constants found or added by value.
 
-ghost use Rattle.std.specs.Prelude.{◌≡◌, ◌++◌, ◌↔◌, [], Err, IfOk, IfErr, IsOk, OnErr, OnOk, IsTrue, map};
-ghost use Rattle.std.specs.Int.{w32, cast_unsigned};
+ghost use Rattle.std.specs.Prelude.{◌≡◌, ◌↔◌, [], Err, IfOk, IfErr, IsOk, OnErr, OnOk, IsTrue, map};
+ghost use Rattle.std.specs.Int.{cast_unsigned};
 ghost use Rattle.jv_pool.specs.declared.constant.Constant.TheVariants as constants;
 ghost use Rattle.jv_pool.specs.Constants.{pool_fits};
 ghost use Rattle.jv_pool.specs.Seen.{seen};
-ghost use Rattle.jv_class_parts.specs.Structure.{ClassStructure, class_bytes};
-ghost use Rattle.jv_asm.specs.Description.{described_attribute, described_field};
+ghost use Rattle.jv_class_structure.specs.Structure.{ClassStructure, class_bytes};
+ghost use Rattle.jv_asm.specs.Description.{described_attribute, described_field, described_all};
 ghost use Rattle.jv_asm.specs.Fits.{IsFit};
 ghost use Rattle.jv_asm.specs.declared.fault.AsmFault.TheVariants.{TooLarge};
-ghost use Rattle.jv_asm_builder.specs.Added.{IsAdded, IsNamedAdded, AreClassesAdded, AreTextsAdded, IsNameAndTypeAdded, IsMemberNamed, IsMemberAdded, HasRoom, HasRoomForTwo};
-ghost use Rattle.jv_asm_builder.specs.Built.{long_constant, with_major, IsGrown, IsNewRoot, IsNewClass, IsInterfaceAdded, IsFieldAdded, IsAttributeAdded, IsBodilessAdded, IsBegun, IsStackMapAdded, HasMethodRoom, HasStackMapRoom, IsEnded, IsEndFault};
+ghost use Rattle.jv_asm_builder.specs.Added.{IsAdded, IsNamedAdded, AreClassesAdded, AreTextsAdded, IsNameAndTypeAdded, HasRoom, HasRoomForTwo};
+ghost use Rattle.jv_asm_builder.specs.Built.{long_constant, with_major, IsGrown, IsNewRoot, IsNewClass, IsInterfaceAdded, IsFieldAdded, IsAttributeAdded, IsBodilessAdded, HasMethodRoom, HasStackMapRoom, IsEnded, IsEndFault, AddsInteger, HasIntegerRoom, AddsTexts, NamesMember, HasNameRoom, AddsMember, MemberFits, BeginsMethod};
 ghost use Rattle.jv_asm_builder.specs.Inside.Kept.{contents_kept};
-ghost use Rattle.jv_asm_builder.specs.Inside.Methods.{built_method, built_maps};
+ghost use Rattle.jv_asm_builder.specs.Inside.Methods.{built_method, AddsStackMap};
 
 use crate::built::{BuiltCode, BuiltMethod, StackMap};
 use crate::code_builder::CodeBuilder;
 use crate::fault::BuilderFault;
 use crate::pool_builder::PoolBuilder;
 use jv_asm::{AsmFault, AttributeDescription, Description, FieldDescription, write_class_with};
-use jv_class_parts::{ClassFlags, FieldFlags, MethodFlags};
+use jv_class_structure::{ClassFlags, FieldFlags, MethodFlags};
 use jv_pool::Constant;
 use std::alloc::Global;
 use std::marker::Model;
@@ -151,10 +151,10 @@ impl<'a> ClassBuilder<'a> {
 
     /// The index of an int (4.4.4).
     pub fn integer(&mut self, value: i32) -> Result<u16, AsmFault>
-        ensures ok { IfOk result (λ index. IsAdded self.old.constant_pool (constants.Integer (cast_unsigned w32 value)) self.new.constant_pool index) }
+        ensures ok { IfOk result (AddsInteger self.old value self.new) }
         ensures grown { IsGrown self.old self.new }
         ensures refused { OnErr result (self.new ≡ self.old) }
-        ensures too_large { (result ≡ Err TooLarge) ↔ ¬ HasRoom (IsAdded self.old.constant_pool (constants.Integer (cast_unsigned w32 value))) }
+        ensures too_large { (result ≡ Err TooLarge) ↔ ¬ HasIntegerRoom self.old value }
     {
         self.constant(Constant::Integer(value.cast_unsigned()))
     }
@@ -192,7 +192,7 @@ impl<'a> ClassBuilder<'a> {
 
     /// The indices of two texts.
     fn texts(&mut self, first: &'a [u8], second: &'a [u8]) -> Result<(u16, u16), AsmFault>
-        ensures ok { IfOk result (λ indices. AreTextsAdded self.old.constant_pool first.now second.now self.new.constant_pool indices.0 indices.1) }
+        ensures ok { IfOk result (λ indices. AddsTexts self.old first.now second.now self.new indices) }
         ensures grown { IsGrown self.old self.new }
         ensures too_large { (result ≡ Err TooLarge) → ¬ HasRoomForTwo (AreTextsAdded self.old.constant_pool first.now second.now) }
     {
@@ -218,9 +218,9 @@ impl<'a> ClassBuilder<'a> {
         name: &'a [u8],
         descriptor: &'a [u8],
     ) -> Result<(u16, u16), AsmFault>
-        ensures ok { IfOk result (λ indices. IsMemberNamed self.old.constant_pool class.now name.now descriptor.now self.new.constant_pool indices.0 indices.1) }
+        ensures ok { IfOk result (λ indices. NamesMember self.old class.now name.now descriptor.now self.new indices) }
         ensures grown { IsGrown self.old self.new }
-        ensures too_large { (result ≡ Err TooLarge) → ¬ HasRoomForTwo (IsMemberNamed self.old.constant_pool class.now name.now descriptor.now) }
+        ensures too_large { (result ≡ Err TooLarge) → ¬ HasNameRoom self.old class.now name.now descriptor.now }
     {
         let class = self.class(class)?;
         let member = self.name_and_type(name, descriptor)?;
@@ -234,9 +234,9 @@ impl<'a> ClassBuilder<'a> {
         name: &'a [u8],
         descriptor: &'a [u8],
     ) -> Result<u16, AsmFault>
-        ensures ok { IfOk result (λ index. IsMemberAdded constants.Fieldref self.old.constant_pool class.now name.now descriptor.now self.new.constant_pool index) }
+        ensures ok { IfOk result (AddsMember constants.Fieldref self.old class.now name.now descriptor.now self.new) }
         ensures grown { IsGrown self.old self.new }
-        ensures too_large { (result ≡ Err TooLarge) → ¬ HasRoom (IsMemberAdded constants.Fieldref self.old.constant_pool class.now name.now descriptor.now) }
+        ensures too_large { (result ≡ Err TooLarge) → ¬ MemberFits constants.Fieldref self.old class.now name.now descriptor.now }
     {
         let (class, member) = self.member(class, name, descriptor)?;
         self.constant(Constant::Fieldref(class, member))
@@ -249,9 +249,9 @@ impl<'a> ClassBuilder<'a> {
         name: &'a [u8],
         descriptor: &'a [u8],
     ) -> Result<u16, AsmFault>
-        ensures ok { IfOk result (λ index. IsMemberAdded constants.Methodref self.old.constant_pool class.now name.now descriptor.now self.new.constant_pool index) }
+        ensures ok { IfOk result (AddsMember constants.Methodref self.old class.now name.now descriptor.now self.new) }
         ensures grown { IsGrown self.old self.new }
-        ensures too_large { (result ≡ Err TooLarge) → ¬ HasRoom (IsMemberAdded constants.Methodref self.old.constant_pool class.now name.now descriptor.now) }
+        ensures too_large { (result ≡ Err TooLarge) → ¬ MemberFits constants.Methodref self.old class.now name.now descriptor.now }
     {
         let (class, member) = self.member(class, name, descriptor)?;
         self.constant(Constant::Methodref(class, member))
@@ -264,9 +264,9 @@ impl<'a> ClassBuilder<'a> {
         name: &'a [u8],
         descriptor: &'a [u8],
     ) -> Result<u16, AsmFault>
-        ensures ok { IfOk result (λ index. IsMemberAdded constants.InterfaceMethodref self.old.constant_pool class.now name.now descriptor.now self.new.constant_pool index) }
+        ensures ok { IfOk result (AddsMember constants.InterfaceMethodref self.old class.now name.now descriptor.now self.new) }
         ensures grown { IsGrown self.old self.new }
-        ensures too_large { (result ≡ Err TooLarge) → ¬ HasRoom (IsMemberAdded constants.InterfaceMethodref self.old.constant_pool class.now name.now descriptor.now) }
+        ensures too_large { (result ≡ Err TooLarge) → ¬ MemberFits constants.InterfaceMethodref self.old class.now name.now descriptor.now }
     {
         let (class, member) = self.member(class, name, descriptor)?;
         self.constant(Constant::InterfaceMethodref(class, member))
@@ -290,7 +290,7 @@ impl<'a> ClassBuilder<'a> {
         descriptor: &'a [u8],
         attributes: &'a [AttributeDescription<'a>],
     ) -> Result<(), AsmFault>
-        ensures ok { OnOk result (IsFieldAdded self.old access_flags.0 name.now descriptor.now (map described_attribute attributes.now) self.new) }
+        ensures ok { OnOk result (IsFieldAdded self.old access_flags.0 name.now descriptor.now (described_all attributes.now) self.new) }
         ensures refused { OnErr result (IsGrown self.old self.new) }
         ensures too_large { (result ≡ Err TooLarge) → ¬ HasRoomForTwo (AreTextsAdded self.old.constant_pool name.now descriptor.now) }
     {
@@ -349,7 +349,7 @@ impl<'a> ClassBuilder<'a> {
         name: &'a [u8],
         descriptor: &'a [u8],
     ) -> Result<MethodBuilder<'a>, AsmFault>
-        ensures ok { IfOk result (λ method. IsBegun self.old.constant_pool access_flags.0 name.now descriptor.now self.new.constant_pool method) }
+        ensures ok { IfOk result (BeginsMethod self.old access_flags.0 name.now descriptor.now self.new) }
         ensures grown { IsGrown self.old self.new }
         ensures too_large { (result ≡ Err TooLarge) → ¬ HasMethodRoom self.old.constant_pool name.now descriptor.now }
     {
@@ -366,7 +366,7 @@ impl<'a> ClassBuilder<'a> {
 
     /// The StackMapTable with these contents, if there are some.
     fn stack_map(&mut self, contents: Option<Vec<u8>>) -> Result<Option<StackMap>, AsmFault>
-        ensures ok { IfOk result (λ map. IsStackMapAdded self.old.constant_pool (contents_kept contents) self.new.constant_pool (built_maps map)) }
+        ensures ok { IfOk result (AddsStackMap self.old (contents_kept contents) self.new) }
         ensures grown { IsGrown self.old self.new }
         ensures too_large { (result ≡ Err TooLarge) → ¬ HasStackMapRoom self.old.constant_pool (contents_kept contents) }
     {

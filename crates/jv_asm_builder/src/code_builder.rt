@@ -1,8 +1,8 @@
 //! Builds code, with labels for branches, switches and handlers, and frames.
 
-ghost use Rattle.std.specs.Prelude.{◌≡◌, IfOk, OnErr, OnOk, is_ok, if◌then◌else◌, map, length};
+ghost use Rattle.std.specs.Prelude.{◌≡◌, IfOk, OnErr, OnOk, is_ok, map, length, if◌then◌else◌};
 ghost use Rattle.jv_asm_builder.specs.Faults.{IsAnswer};
-ghost use Rattle.jv_asm_builder.specs.Assembly.{Assembly, Branch, TableSwitch, LookupSwitch, no_steps, with_handler, with_label, with_place, with_frame, steps_end, code_size, place_in, assembled_bytes, exception_table, stack_map_table, assembled_code, IsStepAdded, IsItemAdded};
+ghost use Rattle.jv_asm_builder.specs.Assembly.{Assembly, Branch, TableSwitch, LookupSwitch, no_steps, with_label, with_place, with_frame, steps_end, code_size, place_in, assembled_bytes, exception_table, stack_map_table, assembled_code, IsStepAdded, IsItemAdded, with_handler_at};
 ghost use Rattle.jv_asm_builder.specs.Inside.Kept.{step_kept, frame_kept, contents_kept, parts_kept};
 
 use crate::fault::BuilderFault;
@@ -195,7 +195,7 @@ impl<'a> CodeBuilder<'a> {
         handler: Label,
         catch_type: u16,
     ) -> Result<(), AllocError>
-        ensures { self.new ≡ (if is_ok result then with_handler self.old (record { start = start; end = end; handler = handler; catch_type = catch_type }) else self.old) }
+        ensures { self.new ≡ (if is_ok result then with_handler_at self.old start end handler catch_type else self.old) }
     {
         self.handlers.push(HandlerLabels {
             start,

@@ -1,11 +1,10 @@
 //! Stack maps (JVMS 4.7.4).
 
 ghost use Rattle.std.specs.Prelude.{◌≡◌, ◌++◌, ◌<◌, OnOk, length, map};
-ghost use Rattle.jv_frames.specs.Bytes.{item_bytes, counted_bytes, form_bytes};
-ghost use Rattle.jv_frames.specs.declared.form.Form.TheVariants.{Full};
+ghost use Rattle.jv_frames.specs.Bytes.{item_bytes, counted_bytes};
 ghost use Rattle.jv_asm_builder.specs.Faults.{IsAnswer};
 ghost use Rattle.jv_asm_builder.specs.Assembly.{stack_map_type, stack_map_table};
-ghost use Rattle.jv_asm_builder.specs.Inside.Kept.{frame_kept, contents_kept};
+ghost use Rattle.jv_asm_builder.specs.Inside.Kept.{frame_kept, contents_kept, full_bytes};
 ghost use Rattle.jv_asm_builder.specs.Inside.Behind.{frame_behind, frames_behind};
 
 use crate::fault::BuilderFault;
@@ -65,7 +64,7 @@ fn put_types(out: &mut Vec<u8>, entries: &[VerificationType]) -> Result<(), Allo
 fn put_full(out: &mut Vec<u8>, delta: u16, frame: &BuiltFrame) -> Result<(), AllocError>
     requires locals { length frame.now.locals.items < 65536 }
     requires stack { length frame.now.stack.items < 65536 }
-    ensures { OnOk result (out.new.items ≡ out.old.items ++ form_bytes (Full delta (map stack_map_type frame.now.locals.items) (map stack_map_type frame.now.stack.items))) }
+    ensures { OnOk result (out.new.items ≡ out.old.items ++ full_bytes delta frame.now) }
 {
     put_index(out, 255, delta)?;
     put_types(out, &frame.locals)?;

@@ -21,7 +21,7 @@ pub use code_builder::CodeBuilder;
 pub use fault::BuilderFault;
 pub use frame::VerificationType;
 pub use jv_asm::{AsmFault, AttributeDescription, Item};
-pub use jv_class_parts::{ClassFlags, FieldFlags, MethodFlags};
+pub use jv_class_structure::{ClassFlags, FieldFlags, MethodFlags};
 pub use jv_pool::Constant;
 pub use law::indices_name;
 pub use opcode::{ArrayType, Op};

@@ -1,7 +1,7 @@
 //! A constant pool in the making (JVMS 4.4), in which each constant stands once.
 
-ghost use Rattle.std.specs.Prelude.{◌≡◌, ◌+◌, ◌++◌, ◌↔◌, List, [], ◌∷◌, Err, IfOk, OnErr, OnOk, IsTrue, is_ok, if◌then◌else◌, length, map};
-ghost use Rattle.jv_pool.specs.Constants.{Entry, entries_of, pool_count, pool_bytes, constant_fits, pool_fits};
+ghost use Rattle.std.specs.Prelude.{◌≡◌, ◌+◌, ◌++◌, ◌↔◌, List, [], ◌∷◌, Err, IfOk, OnErr, IsTrue, is_ok, length, map, if◌then◌else◌};
+ghost use Rattle.jv_pool.specs.Constants.{Entry, entries_of, pool_count, constant_fits, pool_fits};
 ghost use Rattle.jv_pool.specs.Seen.{seen};
 ghost use Rattle.jv_asm_builder.specs.Added.{IsNew, IsAdded, HasRoom};
 ghost use Rattle.jv_asm_builder.specs.Inside.Pooled.{holding, key_holding, IsIndexFound, IsPooled};

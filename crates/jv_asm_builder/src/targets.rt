@@ -3,7 +3,7 @@
 ghost use Rattle.std.specs.Prelude.{◌≡◌, ◌+◌, ◌<◌, length, map};
 ghost use Rattle.jv_asm_builder.specs.Faults.{IsAnswer, each};
 ghost use Rattle.jv_asm_builder.specs.Assembly.{Branch, TableSwitch, LookupSwitch, step_size, steps_end, offset_in, distance_in, case_in, code_in, handler_in};
-ghost use Rattle.jv_asm_builder.specs.Inside.Behind.{near_distance_in, step_behind};
+ghost use Rattle.jv_asm_builder.specs.Inside.Behind.{near_distance_in, step_behind, table_behind};
 ghost use Rattle.jv_asm_builder.specs.Inside.Kept.{step_kept};
 
 use crate::fault::BuilderFault;
@@ -139,7 +139,7 @@ fn put_tableswitch(
     targets: &[Label],
 ) -> Result<(), BuilderFault>
     requires { length out.old.items + step_size (length out.old.items) (TableSwitch default bounds.0 bounds.1 targets.now) < 65536 }
-    ensures { IsAnswer (step_behind places.now out.old.items (TableSwitch default bounds.0 bounds.1 targets.now)) (λ _. out.new.items) result }
+    ensures { IsAnswer (table_behind places.now out.old.items default bounds targets.now) (λ _. out.new.items) result }
 {
     let at = out.len() as u16;
     let default = distance(places, at, default)?;

@@ -2,8 +2,8 @@
 use Rattle.std.proofs.Common.{◌≡◌, ℕ, zero, suc, ◌<◌, List, false, refl, arith}
 use Rattle.jv_text.specs.declared.descriptor.Element.{Element}
 use Rattle.jv_text.specs.declared.descriptor.Element.TheVariants as elements
-use Rattle.jv_loader_classes.specs.of_loader_world.World.{World}
-use Rattle.jv_assign.specs.Flow.{component_flows}
+use Rattle.jv_meaning_world.specs.World.{World}
+use Rattle.jv_meaning_world.specs.Flow.{component_flows}
 
 -- of as many dimensions: as the elements
 pub as_many : (world : World) (m n : ℕ) (e f : Element (List ℕ)) → m ≡ n → component_flows world m e n f ≡ component_flows world 0 e 0 f

@@ -3,7 +3,7 @@ use Rattle.std.proofs.Common.{◌≡◌, ℕ, suc, Bool, true, false, ◌&&◌, 
 use Rattle.std.specs.List.{list_all, zip}
 use Rattle.std.proofs.lemmas.Bool.{eqb-true}
 use Rattle.jv_frames.specs.Types.{FrameType}
-use Rattle.jv_assign.specs.FrameFlow.{all_flow}
+use Rattle.jv_meaning_world.specs.FrameFlow.{all_flow}
 
 module _ {A : Type 0} (flow : FrameType → FrameType → Bool) (seen : A → FrameType) where
   fewer : (m n : ℕ) → suc m ≡ suc n → m ≡ n

@@ -3,14 +3,14 @@ use Rattle.std.proofs.Common.{◌≡◌, ℕ, zero, suc, Bool, true, false, ◌&
 use Rattle.std.specs.Prelude.{slice_get}
 use Rattle.std.specs.List.{list_any}
 use Rattle.std.specs.Str.{bytes_eq}
-use Rattle.jv_loader_classes.specs.of_loader_world.World.{Loaded, World, class_named}
-use Rattle.jv_loader_classes.specs.of_loader_world.Above.{class_if_named, chain_within, superclass_in, superclasses}
-use Rattle.jv_loader_classes.specs.of_loader_world.LookUps.{is_subclass}
-use Rattle.jv_loader_classes.specs.of_loader_world.Verdicts.{is_interface, is_loadable}
-use Rattle.jv_loader_classes.proofs.laws_of_loader_world.Up.{same_name}
-use Rattle.jv_loader_classes.specs.Numbers.{number_named, IsNumbered}
-use Rattle.jv_loader_classes.proofs.Numbers.{numbered}
-use Rattle.jv_assign.specs.Flow.{is_loadable_interface, is_loadable_below, class_flows}
+use Rattle.jv_meaning_world.specs.World.{Loaded, World, class_named}
+use Rattle.jv_meaning_world.specs.Above.{class_if_named, chain_within, superclass_in, superclasses}
+use Rattle.jv_meaning_world.specs.LookUps.{is_subclass}
+use Rattle.jv_meaning_world.specs.Verdicts.{is_interface, is_loadable}
+use Rattle.jv_meaning_world.proofs.Up.{same_name, has_name}
+use Rattle.jv_meaning_world.specs.Numbers.{number_named, IsNumbered}
+use Rattle.jv_classes.proofs.Numbers.{numbered}
+use Rattle.jv_meaning_world.specs.Flow.{is_loadable_interface, is_loadable_below, class_flows}
 
 -- a name without a number is that of no class
 pub no_class : (world : World) (name : List ℕ) → number_named world name ≡ None → class_named world name ≡ None
@@ -22,18 +22,6 @@ no_class world name e = by_class (class_named world name) refl
     by_class : (o : Option Loaded) → class_named world name ≡ o → o ≡ None
     by_class None f = refl
     by_class (Some s) f = absurd (clash (sym (numbered world name s f).1 ∙ e))
-
--- a class that is found by a name has it
-pub has_name : (world : World) (name : List ℕ) (s : Loaded) → class_named world name ≡ Some s → s.class.name ≡ name
-has_name [] name s e = absurd cc
-has_name (x ∷ world) name s e = by_test (bytes_eq x.class.name name) refl (λ f. has_name world name s f) e
-  where
-    same : Some x ≡ Some s → x ≡ s
-    same f = cc
-
-    by_test : (t : Bool) → bytes_eq x.class.name name ≡ t → (class_named world name ≡ Some s → s.class.name ≡ name) → (if t then Some x else class_named world name) ≡ Some s → s.class.name ≡ name
-    by_test true t again f = ap (λ (l : Loaded). l.class.name) (sym (same f)) ∙ same_name x.class.name name t
-    by_test false t again f = again f
 
 -- ---- chains
 

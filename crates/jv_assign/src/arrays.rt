@@ -4,11 +4,12 @@ ghost use Rattle.std.specs.Prelude.{◌≡◌, ℕ, List};
 ghost use Rattle.jv_text.specs.declared.descriptor.Element.{Element};
 ghost use Rattle.jv_text.specs.Descriptor.{base_letter};
 ghost use Rattle.jv_text.specs.Seen.{seen_element};
-ghost use Rattle.jv_loader_classes.specs.of_loader_world.World.{World};
-ghost use Rattle.jv_assign.specs.Flow.{same_base, is_above_arrays, component_flows};
+ghost use Rattle.jv_meaning_world.specs.World.{World};
+ghost use Rattle.jv_meaning_world.specs.Flow.{same_base, is_above_arrays, component_flows};
+ghost use Rattle.jv_assign.specs.Inside.Classes.{components_flow};
 
 use crate::classes::class_flows;
-use jv_loader_classes::ClassTable;
+use jv_classes::ClassTable;
 use jv_text::{Base, Element, FieldType};
 
 /// The letter of a primitive type (JVMS table 4.3-A).
@@ -70,7 +71,7 @@ pub(crate) fn component_flows(
     from: FieldType<'_>,
     to: FieldType<'_>,
 ) -> bool
-    ensures { result ≡ component_flows table.now from.entry.dimensions (seen_element from.entry.element) to.entry.dimensions (seen_element to.entry.element) }
+    ensures { result ≡ components_flow table.now from.entry to.entry }
 {
     if from.dimensions == to.dimensions {
         element_flows(table, from.element, to.element)

@@ -3,19 +3,20 @@
 ghost use Rattle.std.specs.Prelude.{◌≡◌, ◌<◌, ◌&&◌, ◌||◌, ℕ, List, false, length};
 ghost use Rattle.std.specs.Option.{ForSome};
 ghost use Rattle.std.specs.Str.{bytes_eq};
-ghost use Rattle.jv_loader_classes.specs.of_loader_world.World.{class_named};
-ghost use Rattle.jv_loader_classes.specs.of_loader_world.LookUps.{is_subclass};
-ghost use Rattle.jv_loader_classes.specs.of_loader_world.Verdicts.{is_interface, is_loadable};
-ghost use Rattle.jv_loader_classes.specs.Numbers.{number_named};
-ghost use Rattle.jv_loader_classes.specs.Inside.Told.{IsAt};
-ghost use Rattle.jv_assign.specs.Flow.{is_loadable_interface, is_loadable_below, class_flows};
+ghost use Rattle.jv_meaning_world.specs.World.{class_named};
+ghost use Rattle.jv_meaning_world.specs.LookUps.{is_subclass};
+ghost use Rattle.jv_meaning_world.specs.Verdicts.{is_interface, is_loadable};
+ghost use Rattle.jv_meaning_world.specs.Numbers.{number_named, HoldsAtBoth};
+ghost use Rattle.jv_meaning_world.specs.Numbers.{HoldsAtNumber};
+ghost use Rattle.jv_meaning_world.specs.Flow.{is_loadable_interface, is_loadable_below, class_flows};
+ghost use Rattle.jv_assign.specs.Inside.Classes.{flows_to_other, IsFlowOfOthers};
 
-use jv_loader_classes::ClassTable;
+use jv_classes::ClassTable;
 
 /// Whether a class is an interface that can be loaded (JVMS 5.3.5).
 fn is_loadable_interface(table: &ClassTable<'_>, number: usize) -> bool
     requires { number < length table.now }
-    ensures { IsAt table.now number (λ l. result ≡ is_loadable table.now l && is_interface l) }
+    ensures { HoldsAtNumber table.now number (λ l. result ≡ is_loadable table.now l && is_interface l) }
 {
     table.is_loadable(number) && table.classes()[number].is_interface()
 }
@@ -24,7 +25,7 @@ fn is_loadable_interface(table: &ClassTable<'_>, number: usize) -> bool
 fn is_loadable_subclass(table: &ClassTable<'_>, number: usize, of: usize) -> bool
     requires number { number < length table.now }
     requires of { of < length table.now }
-    ensures { IsAt table.now number (λ l. IsAt table.now of (λ to. result ≡ is_loadable table.now l && is_subclass table.now l to)) }
+    ensures { HoldsAtBoth table.now number of (λ l to. result ≡ is_loadable table.now l && is_subclass table.now l to) }
 {
     table.is_loadable(number) && table.is_subclass(number, of)
 }
@@ -35,7 +36,7 @@ fn named_is_loadable_subclass(table: &ClassTable<'_>, from: Option<usize>, of: u
     requires from { ForSome from (λ n. n < length table.now) }
     requires of { of < length table.now }
     ensures { (name : List ℕ) → from ≡ number_named table.now name
-        → IsAt table.now of (λ to. bytes_eq name to.class.name ≡ false → result ≡ is_loadable_below table.now to.class.name (class_named table.now name)) }
+        → HoldsAtNumber table.now of (λ to. bytes_eq name to.class.name ≡ false → result ≡ is_loadable_below table.now to.class.name (class_named table.now name)) }
 {
     let Some(number) = from else {
         return false;
@@ -47,7 +48,7 @@ fn named_is_loadable_subclass(table: &ClassTable<'_>, from: Option<usize>, of: u
 /// its superclasses (JVMS 4.10.1.2).
 fn flows_to_other(table: &ClassTable<'_>, from: &[u8], to: &[u8]) -> bool
     requires { bytes_eq from.now to.now ≡ false }
-    ensures { result ≡ is_loadable_interface table.now (class_named table.now to.now) || is_loadable_below table.now to.now (class_named table.now from.now) }
+    ensures { result ≡ flows_to_other table.now from.now to.now }
 {
     table.is_numbered();
     let Some(number) = table.find(to) else {
@@ -70,7 +71,7 @@ pub(crate) fn class_flows(table: &ClassTable<'_>, from: &[u8], to: &[u8]) -> boo
 pub fn other_class_flows(table: &ClassTable<'_>, from: Option<usize>, to: Option<usize>) -> bool
     requires from { ForSome from (λ n. n < length table.now) }
     requires to { ForSome to (λ n. n < length table.now) }
-    ensures { (x y : List ℕ) → from ≡ number_named table.now x → to ≡ number_named table.now y → bytes_eq x y ≡ false → result ≡ class_flows table.now x y }
+    ensures { IsFlowOfOthers table.now from to result }
 {
     table.is_numbered();
     let Some(number) = to else {

@@ -2,14 +2,14 @@
 
 ghost use Rattle.std.specs.Prelude.{◌≡◌, map};
 ghost use Rattle.std.specs.List.{list_all, zip};
-ghost use Rattle.jv_assign.specs.Flow.{flows};
-ghost use Rattle.jv_assign.specs.FrameFlow.{all_flow, item_flows, frame_flows};
+ghost use Rattle.jv_meaning_world.specs.Flow.{flows};
+ghost use Rattle.jv_meaning_world.specs.FrameFlow.{all_flow, item_flows, frame_flows};
 ghost use Rattle.jv_assign.specs.Seen.{seen_type, seen_frame};
 
 use crate::frame::Frame;
 use crate::types::flows;
+use jv_classes::ClassTable;
 use jv_frames::VerificationTypeOf;
-use jv_loader_classes::ClassTable;
 
 /// Whether an item of the stack can stand where another is expected: a long flows to a long alone.
 fn item_flows(

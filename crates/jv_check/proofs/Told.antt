@@ -1,6 +1,6 @@
 -- What is told of the system's classes beside files.
 use Rattle.std.proofs.Common.{◌≡◌, ℕ, true, false, List, sym, subst}
-use Rattle.jv_loader_world.specs.World.{World}
+use Rattle.jv_meaning_world.specs.World.{World}
 use Rattle.jv_meaning_typing.specs.declared.verdict.Verdict.{Verdict}
 use Rattle.jv_method.specs.Files.{AreVerdicts, IsSystemTold, Verified}
 use Rattle.jv_check.specs.Check.{AreVerdictsOf, IsSystemBroken}

@@ -1,8 +1,8 @@
 -- What the program says of the files of a guest (JVMS 4.10, 5.3.5).
 use Rattle.std.specs.Prelude.{◌≡◌, ℕ, ⊤, true, false, List, None, Some, string_bytes}
-use Rattle.jv_loader_files.specs.FileContent.{FileContent, AreContents}
-use Rattle.jv_loader_system.specs.SystemClasses.{system_classes}
-use Rattle.jv_loader_world.specs.World.{world_of}
+use Rattle.jv_meaning_world.specs.FileContent.{FileContent, AreContents}
+use Rattle.jv_meaning_world.specs.System.Classes.{system_classes}
+use Rattle.jv_meaning_world.specs.World.{world_of}
 use Rattle.jv_meaning_typing.specs.declared.verdict.Verdict.{Verdict}
 use Rattle.jv_method.specs.Files.{AreVerdicts, IsSystemTold}
 use Rattle.jv_run.specs.declared.failure.Failure.{Failure}

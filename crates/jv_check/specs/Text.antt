@@ -2,8 +2,8 @@
 use Rattle.std.specs.Prelude.{ℕ, Bool, true, false, List, [], ◌∷◌, ◌++◌, codes, if◌then◌else◌}
 use Rattle.std.specs.Fmt.{decimal}
 use Rattle.std.specs.List.{list_all}
-use Rattle.jv_loader_world.specs.declared.verdict.LoadVerdict.{LoadVerdict}
-use Rattle.jv_loader_world.specs.declared.verdict.LoadVerdict.TheVariants as reasons
+use Rattle.jv_meaning_world.specs.declared.verdict.LoadVerdict.{LoadVerdict}
+use Rattle.jv_meaning_world.specs.declared.verdict.LoadVerdict.TheVariants as reasons
 use Rattle.jv_meaning_typing.specs.declared.verdict.VerifyRule.{VerifyRule}
 use Rattle.jv_meaning_typing.specs.declared.verdict.VerifyRule.TheVariants as rules
 use Rattle.jv_meaning_typing.specs.declared.verdict.VerifyFault.{VerifyFault}

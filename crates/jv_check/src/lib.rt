@@ -7,5 +7,4 @@ mod named;
 mod report;
 
 pub use checking::check_files;
-pub use limits::first_file_refusal;
 pub use named::check_named;

@@ -7,11 +7,11 @@ use Rattle.std.specs.Str.{bytes_eq}
 use Rattle.std.proofs.lemmas.Bool.{and_parts, and_from}
 use Rattle.std.proofs.lemmas.List.Elements.{All-head, All-tail}
 use Rattle.std.proofs.lemmas.Slice.Eq.{bytes_eq-Decides}
-use Rattle.jv_class_parts.specs.of_format.Format.{◌>>=◌}
-use Rattle.jv_class_parts.specs.of_pool.Constants.{Entry, NameAndDescriptor, name_and_descriptor, named_at, class_name_at}
-use Rattle.jv_class_parts.specs.Structure.{FieldInfo, MethodInfo, ClassStructure}
-use Rattle.jv_class_parts.specs.Attributes.{some_and}
-use Rattle.jv_class_parts.specs.Parts.{method_shown}
+use Rattle.jv_format.specs.Format.{◌>>=◌}
+use Rattle.jv_pool.specs.Constants.{Entry, NameAndDescriptor, name_and_descriptor, named_at, class_name_at}
+use Rattle.jv_class_structure.specs.Structure.{FieldInfo, MethodInfo, ClassStructure}
+use Rattle.jv_class_structure.specs.Attributes.{some_and}
+use Rattle.jv_class_structure.specs.Parts.{method_shown}
 use Rattle.jv_class.specs.Rules.{NoTwoAlike, IsClassAt, KeepsFieldRules, KeepsMethodRules}
 use Rattle.jv_class.proofs.ShownOf.{all_also}
 use Rattle.jv_class.specs.ClassFile.{class_name}

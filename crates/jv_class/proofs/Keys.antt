@@ -9,20 +9,20 @@ use Rattle.std.proofs.lemmas.Grind.{common_steps}
 use Rattle.std.proofs.lemmas.List.{take_more, take-append-drop}
 use Rattle.std.proofs.lemmas.List.Elements.{All-head, All-tail, All-nil, All-cons, All-get_or}
 use Rattle.std.proofs.lemmas.Option.{slice_get_within, get_or_from_slice_get}
-use Rattle.jv_class_parts.specs.of_format.Format.{◌>>=◌}
-use Rattle.jv_class_parts.specs.of_pool.Constants.{Entry, NameAndDescriptor, name_and_descriptor, utf8_at, named_at, class_name_at}
-use Rattle.jv_class_parts.specs.of_pool.declared.index.ClassIndex.{ClassIndex}
+use Rattle.jv_format.specs.Format.{◌>>=◌}
+use Rattle.jv_pool.specs.Constants.{Entry, NameAndDescriptor, name_and_descriptor, utf8_at, named_at, class_name_at}
+use Rattle.jv_pool.specs.declared.index.ClassIndex.{ClassIndex}
 use Rattle.std.proofs.lemmas.Slice.Zip.{all_zipped_more}
-use Rattle.jv_class_parts.specs.Seen.{seen_index, seen_field, seen_method}
-use Rattle.jv_class_parts.specs.Attributes.{some_and}
-use Rattle.jv_class_parts.specs.declared.member.Field.{Field}
-use Rattle.jv_class_parts.specs.declared.member.Method.{Method}
-use Rattle.jv_class_parts.specs.Structure.{ClassStructure}
+use Rattle.jv_class_structure.specs.Seen.{seen_index, seen_field, seen_method}
+use Rattle.jv_class_structure.specs.Attributes.{some_and}
+use Rattle.jv_class_structure.specs.declared.member.Field.{Field}
+use Rattle.jv_class_structure.specs.declared.member.Method.{Method}
+use Rattle.jv_class_structure.specs.Structure.{ClassStructure}
 use Rattle.std.specs.Prelude.{is_some, IfSome, slice_get}
 use Rattle.jv_class.proofs.ShownOf.{members_shown}
 use Rattle.jv_class.specs.Rules.{MembersKeepRules, NoTwoAlike, is_object, is_no_array_name, is_class_at, KeepsRulesAsName, IsClassAt, SupersKeepRules, KeepsRulesAsField, KeepsRulesAsMethod}
 use Rattle.jv_class.specs.Inside.Shown.{shown_field_texts, shown_method_texts, KeepsFieldShown, KeepsMethodShown}
-use Rattle.jv_class_parts.specs.Parts.{fields_of, methods_of}
+use Rattle.jv_class_structure.specs.Parts.{fields_of, methods_of}
 use Rattle.jv_class.proofs.Kept.{all_there, all_unseen, some_there}
 use Rattle.jv_class.specs.Inside.Reading.{IsFirst, IsKeyOf, IsFieldKey, IsMethodKey}
 

@@ -4,10 +4,10 @@ use Rattle.std.specs.Prelude.{IsSomeAnd, is_some, map}
 use Rattle.std.specs.List.{All}
 use Rattle.std.specs.Option.{option_map}
 use Rattle.std.proofs.lemmas.List.Elements.{All-map, All-head, All-tail, All-nil, All-cons}
-use Rattle.jv_class_parts.specs.of_pool.Constants.{Entry}
-use Rattle.jv_class_parts.specs.Structure.{MethodInfo, ClassStructure}
-use Rattle.jv_class_parts.specs.Attributes.{sole, codes_of}
-use Rattle.jv_class_parts.specs.Parts.{code_shown, field_shown, method_shown}
+use Rattle.jv_pool.specs.Constants.{Entry}
+use Rattle.jv_class_structure.specs.Structure.{MethodInfo, ClassStructure}
+use Rattle.jv_class_structure.specs.Attributes.{sole, codes_of}
+use Rattle.jv_class_structure.specs.Parts.{code_shown, field_shown, method_shown}
 use Rattle.jv_class.specs.Rules.{KeepsMethodRules, KeepsRulesAsMethod, NoTwoAlike, MembersKeepRules, AreMembersUnlike, has_code, method_texts}
 use Rattle.jv_class.specs.Supported.{IsSupported}
 use Rattle.jv_class.specs.Inside.Shown.{KeepsFieldShown, KeepsMethodShown, shown_field_texts, shown_method_texts, IsFieldShownSupported, IsMethodShownSupported, ShownKeepRules, AreShownUnlike, AreShownSupported}

@@ -5,38 +5,38 @@ use Rattle.std.specs.Option.{option_map, IsSomeAnd}
 use Rattle.std.specs.List.{All}
 use Rattle.std.proofs.lemmas.List.Elements.{All-get_or}
 use Rattle.std.proofs.lemmas.Option.{slice_get_within, get_or_from_slice_get}
-use Rattle.jv_class_parts.specs.of_text.declared.descriptor.FieldTypeOf.{FieldTypeOf}
-use Rattle.jv_class_parts.specs.of_text.Descriptor.{is_floating}
-use Rattle.jv_class_parts.specs.of_pool.declared.constant.Constant.TheVariants.{Utf8, Integer, Float, Long, Double, Class, String, Fieldref, Methodref, InterfaceMethodref, NameAndType, MethodHandle, MethodType, InvokeDynamic}
-use Rattle.jv_class_parts.specs.of_pool.declared.constant.Kind.TheVariants as kinds
-use Rattle.jv_class_parts.specs.of_pool.Constants.{Entry, at_index, kind_of, kind_at, string_in, string_at, utf8_at}
-use Rattle.jv_class_parts.specs.of_pool.Rules.{KeepsRules}
+use Rattle.jv_text.specs.declared.descriptor.FieldTypeOf.{FieldTypeOf}
+use Rattle.jv_text.specs.Descriptor.{is_floating}
+use Rattle.jv_pool.specs.declared.constant.Constant.TheVariants.{Utf8, Integer, Float, Long, Double, Class, String, Fieldref, Methodref, InterfaceMethodref, NameAndType, MethodHandle, MethodType, InvokeDynamic}
+use Rattle.jv_pool.specs.declared.constant.Kind.TheVariants as kinds
+use Rattle.jv_pool.specs.Constants.{Entry, at_index, kind_of, kind_at, string_in, string_at, utf8_at}
+use Rattle.jv_pool.specs.Rules.{KeepsRules}
 use Rattle.std.proofs.Common.{cond}
 use Rattle.std.specs.Prelude.{codes, ◌==◌}
 use Rattle.std.specs.Str.{bytes_eq}
-use Rattle.jv_class_parts.specs.of_format.Format.{◌>>=◌}
-use Rattle.jv_class_parts.specs.of_text.declared.descriptor.Base.{Base}
-use Rattle.jv_class_parts.specs.of_text.declared.descriptor.Base.TheVariants as bases
-use Rattle.jv_class_parts.specs.of_text.declared.descriptor.Element.{Element}
-use Rattle.jv_class_parts.specs.of_text.declared.descriptor.Element.TheVariants as elements
-use Rattle.jv_class_parts.specs.of_text.Descriptor.{is_floating_element}
-use Rattle.jv_class_parts.specs.of_pool.declared.constant.Kind.{Kind}
-use Rattle.jv_class_parts.specs.of_pool.declared.facts.ConstantValueKind.{ConstantValueKind}
-use Rattle.jv_class_parts.specs.of_pool.declared.facts.ConstantValueKind.TheVariants as values
-use Rattle.jv_class_parts.specs.of_pool.Constants.{NameAndDescriptor, name_and_descriptor}
-use Rattle.jv_class_parts.specs.of_pool.Facts.{value_of_base, value_of_element, value_of_type}
-use Rattle.jv_class_parts.specs.Structure.{ClassStructure}
-use Rattle.jv_class_parts.specs.Parts.{FieldSeen}
+use Rattle.jv_format.specs.Format.{◌>>=◌}
+use Rattle.jv_text.specs.declared.descriptor.Base.{Base}
+use Rattle.jv_text.specs.declared.descriptor.Base.TheVariants as bases
+use Rattle.jv_text.specs.declared.descriptor.Element.{Element}
+use Rattle.jv_text.specs.declared.descriptor.Element.TheVariants as elements
+use Rattle.jv_text.specs.Descriptor.{is_floating_element}
+use Rattle.jv_pool.specs.declared.constant.Kind.{Kind}
+use Rattle.jv_pool.specs.declared.facts.ConstantValueKind.{ConstantValueKind}
+use Rattle.jv_pool.specs.declared.facts.ConstantValueKind.TheVariants as values
+use Rattle.jv_pool.specs.Constants.{NameAndDescriptor, name_and_descriptor}
+use Rattle.jv_pool.specs.Facts.{value_of_base, value_of_element, value_of_type}
+use Rattle.jv_class_structure.specs.Structure.{ClassStructure}
+use Rattle.jv_class_structure.specs.Parts.{FieldSeen}
 use Rattle.jv_class.specs.Rules.{is_integer, is_long, is_string, takes, value_keeps_rules, KeepsRulesAsField, KeepsClassRules}
 use Rattle.jv_class.proofs.ShownOf.{members_shown, supported_shown}
 use Rattle.jv_class.specs.Inside.Shown.{KeepsFieldShown}
-use Rattle.jv_class_parts.specs.Parts.{fields_of}
+use Rattle.jv_class_structure.specs.Parts.{fields_of}
 use Rattle.jv_class.specs.Supported.{HasNoFloating, IsSupported}
 use Rattle.jv_class.proofs.ShownOf.{members_shown, supported_shown}
 use Rattle.jv_class.specs.Inside.Shown.{IsFieldShownSupported}
 use Rattle.std.specs.Prelude.{IfSome, IfNone}
-use Rattle.jv_class_parts.specs.Seen.{seen_field}
-use Rattle.jv_class_parts.specs.declared.member.Field.{Field}
+use Rattle.jv_class_structure.specs.Seen.{seen_field}
+use Rattle.jv_class_structure.specs.declared.member.Field.{Field}
 use Rattle.jv_class.specs.declared.constant_value.ConstantValue.{ConstantValue}
 use Rattle.jv_class.specs.Value.{is_value, value_number, value_of_field}
 use Rattle.jv_class.proofs.Kept.{at_indices}

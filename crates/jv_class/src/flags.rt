@@ -1,10 +1,10 @@
 //! Which access flags go together (JVMS tables 4.1-A, 4.5-A and 4.6-A).
 
 ghost use Rattle.std.specs.Prelude.{◌≡◌};
-ghost use Rattle.jv_class_parts.specs.Flags.{class_flags_keep_rules, visibility, visibility_keeps_rules, volatile_keeps_rules, interface_field_keeps_rules, abstract_keeps_rules, interface_method_keeps_rules, older_interface_method_keeps_rules, init_flags_keep_rules};
+ghost use Rattle.jv_class_structure.specs.Flags.{class_flags_keep_rules, visibility, visibility_keeps_rules, volatile_keeps_rules, interface_field_keeps_rules, abstract_keeps_rules, interface_method_keeps_rules, older_interface_method_keeps_rules, init_flags_keep_rules};
 
 use bitflags::Flags;
-use jv_class_parts::{ClassFlags, FieldFlags, MethodFlags};
+use jv_class_structure::{ClassFlags, FieldFlags, MethodFlags};
 
 const FINAL_SUPER_OR_ENUM: ClassFlags = ClassFlags(0x4030);
 

@@ -3,7 +3,7 @@
 ghost use Rattle.jv_class.specs.Class.{IsSomeClass, OneOfEachName};
 ghost use Rattle.jv_class.specs.ClassFile.{OneStructure};
 
-use jv_class_parts::one_behind_version;
+use jv_class_structure::one_behind_version;
 
 /// The bytes of a file have one structure at most, and none where they begin with a version that is
 /// not supported.

@@ -21,8 +21,6 @@ mod supported;
 pub use class_file::ClassFile;
 pub use constant_value::ConstantValue;
 pub use fault::ClassFault;
-pub use jv_class_parts::{
-    ClassFlags, Field, FieldFlags, Method, MethodCode, MethodFlags, of_pool as of_pool,
-};
+pub use jv_class_structure::{ClassFlags, Field, FieldFlags, Method, MethodCode, MethodFlags};
 pub use law::{is_some_class, one_of_each_name, one_structure};
 pub use reading::read_class;

@@ -1,9 +1,9 @@
 //! Reads a class file.
 
 ghost use Rattle.std.specs.Prelude.{◌≡◌, ◌≢◌, IfOk, Err};
-ghost use Rattle.jv_class_parts.specs.of_format.Format.{Finds};
-ghost use Rattle.jv_class_parts.specs.Structure.{ClassStructure};
-ghost use Rattle.jv_class_parts.specs.Version.{is_supported_version};
+ghost use Rattle.jv_format.specs.Format.{Finds};
+ghost use Rattle.jv_class_structure.specs.Structure.{ClassStructure};
+ghost use Rattle.jv_class_structure.specs.Version.{is_supported_version};
 ghost use Rattle.jv_class.specs.ClassFile.{IsClassFile, IsOtherVersion, IsUnsupportedFile};
 ghost use Rattle.jv_class.specs.Supported.{IsSupported};
 ghost use Rattle.jv_class.specs.Inside.Reading.{magic_number, header, IsWholeBehind};
@@ -11,8 +11,8 @@ ghost use Rattle.jv_class.specs.declared.fault.ClassFault.TheVariants.{Version, 
 
 use crate::class_file::{ClassFile, class_of};
 use crate::fault::ClassFault;
-use jv_class_parts::of_format::{half_at, quad_at};
-use jv_class_parts::{PartsFault, one_behind_version, read_parts};
+use jv_class_structure::{PartsFault, one_behind_version, read_parts};
+use jv_format::{half_at, quad_at};
 use std::alloc::Global;
 
 /// What follows the magic number.

@@ -16,10 +16,6 @@ use Rattle.jv_code.proofs.StartLaws.{end_within, StartsApart-holds}
 start_within : (bytes : List ℕ) (pc : ℕ) → IsStart bytes pc → pc < length bytes
 start_within bytes pc s = omega (arith, end_within bytes pc s.0 s.1, some_bytes s.0)
 
-pub start_or_end : (bytes : List ℕ) (pc : ℕ) → pc < length bytes → IsStartOrEnd bytes pc → IsStart bytes pc
-start_or_end bytes pc lt (inl s) = s
-start_or_end bytes pc lt (inr e) = absurd (omega (arith, lt, e))
-
 pub IsBlank-replicate : (n : ℕ) → IsBlank (replicate n false)
 IsBlank-replicate n pc h =
     let lt : pc < n = omega (arith, slice_get_within (replicate n false) pc true h, length-replicate n false) in

@@ -27,17 +27,6 @@ pair_found (a ∷ b ∷ c ∷ d ∷ s ∷ t ∷ u ∷ v ∷ bytes) p rest e =
     let same : found ≡ (p, rest) = is_some found (p, rest) e in
     subst (λ (y : (ℤ × ℤ) × List ℕ). Pairs (a ∷ b ∷ c ∷ d ∷ s ∷ t ∷ u ∷ v ∷ bytes) y.0 y.1) same (refl, omega arith)
 
-pub pair_none : (bytes : List ℕ) → pair.read bytes ≡ None → pairs_in bytes ≡ []
-pair_none [] e = refl
-pair_none (a ∷ []) e = refl
-pair_none (a ∷ b ∷ []) e = refl
-pair_none (a ∷ b ∷ c ∷ []) e = refl
-pair_none (a ∷ b ∷ c ∷ d ∷ []) e = refl
-pair_none (a ∷ b ∷ c ∷ d ∷ s ∷ []) e = refl
-pair_none (a ∷ b ∷ c ∷ d ∷ s ∷ t ∷ []) e = refl
-pair_none (a ∷ b ∷ c ∷ d ∷ s ∷ t ∷ u ∷ []) e = refl
-pair_none (a ∷ b ∷ c ∷ d ∷ s ∷ t ∷ u ∷ v ∷ bytes) e = absurd cc
-
 pub pairs_count : (bytes : List ℕ) → length (pairs_in bytes) ≡ length bytes / 8
 pairs_count (a ∷ b ∷ c ∷ d ∷ e ∷ f ∷ g ∷ h ∷ rest) = let more = pairs_count rest in omega (arith, more)
 pairs_count [] = refl

@@ -27,7 +27,3 @@ jump_distances _ = []
 -- where it jumps, from an offset; None where that is no offset
 abbrev pub jump_targets : ℕ → Instruction → List (Option ℕ)
 jump_targets pc i = map (target_of pc) (jump_distances i)
-
--- control can go from an instruction at an offset to another offset, a throw to a handler aside
-abbrev pub IsSuccessor : ℕ → Instruction → ℕ → Type 0
-IsSuccessor pc i next = Contains (jump_targets pc i) (Some next) ⊎ (IsTrue (falls_through i) × (next ≡ pc + length (insn_bytes i)))

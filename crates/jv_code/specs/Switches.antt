@@ -1,5 +1,5 @@
 -- The padding, distances and keys of a switch (JVMS 6.5, tableswitch and lookupswitch).
-use Rattle.std.specs.Prelude.{ℕ, ◌+◌, ◌-◌, ◌*◌, ◌/◌, ◌%◌, ℤ, pos, negsuc, Bool, true, false, ◌&&◌, ◌≡◌, List, [], ◌∷◌, length, Option, nat_lt, int_lt, ◌==◌, IsTrue, find}
+use Rattle.std.specs.Prelude.{ℕ, ◌+◌, ◌-◌, ◌*◌, ◌/◌, ◌%◌, ℤ, pos, negsuc, Bool, true, false, ◌&&◌, ◌≡◌, List, [], ◌∷◌, length, Option, nat_lt, int_lt, ◌==◌, IsTrue, find, slice_get}
 use Rattle.std.specs.Int.{w32, cast_signed}
 use Rattle.std.specs.Ordering.{int_eq}
 use Rattle.std.specs.Option.{option_map}
@@ -76,3 +76,7 @@ DistancesStand =
 -- Pairs stand in their own bytes.
 abbrev pub PairsStand : Type 0
 PairsStand = (pairs : List (ℤ × ℤ)) → IsTrue (list_all pair.fits pairs) → pairs_in (flat_map pair.spelling pairs) ≡ pairs
+
+-- the distance of the pair at a place
+abbrev pub distance_of_place : List ℕ → ℕ → Option ℤ
+distance_of_place pairs place = option_map pair_distance (slice_get (pairs_in pairs) place)

@@ -4,8 +4,7 @@ ghost use Rattle.std.specs.Prelude.{◌≡◌, ◌∷◌, [], ◌↔◌, ◌-ℤ
 ghost use Rattle.std.specs.Option.{option_map};
 ghost use Rattle.jv_format.specs.Format.{Finds};
 ghost use Rattle.jv_format.specs.Readers.{paired};
-ghost use Rattle.jv_code.specs.Numbers.{signed32};
-ghost use Rattle.jv_code.specs.Switches.{distances_in, pair, pairs_in, keys_rise, pairs_keep_rules, pair_distance, distance_for};
+ghost use Rattle.jv_code.specs.Switches.{distances_in, pair, pairs_in, keys_rise, pairs_keep_rules, pair_distance, distance_for, distance_of_place};
 ghost use Rattle.jv_code.specs.Inside.SwitchReading.{padding, distance_bytes, bounds, distance_bytes_between, pairs_of, pairs, known_pairs};
 ghost use Rattle.jv_code.specs.Inside.Reading.{table_switch_read, lookup_switch_read, known_lookup_switch_read, Reads};
 
@@ -117,7 +116,7 @@ fn is_above(pair: (i32, i32), key: i32) -> bool
 /// The place of the pair with a key.
 fn place_of_key(pairs: &[u8], key: i32) -> Option<usize>
     requires { IsTrue (keys_rise (pairs_in pairs.now)) }
-    ensures found { IfSome result (λ place. option_map pair_distance (slice_get (pairs_in pairs.now) place) ≡ distance_for key (pairs_in pairs.now)) }
+    ensures found { IfSome result (λ place. distance_of_place pairs.now place ≡ distance_for key (pairs_in pairs.now)) }
     ensures none { IfNone result (distance_for key (pairs_in pairs.now) ≡ None) }
 {
     let mut low = 0;

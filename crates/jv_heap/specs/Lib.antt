@@ -1,2 +1,3 @@
 pub mod Content
 pub mod Inside
+pub mod Laws

@@ -1,26 +1,27 @@
 //! Laws of contents, for callers: each is a call that does nothing.
 
 ghost use Rattle.jv_heap.specs.Content.{words_at, words_held, greatest, written, without, IsRising};
-ghost use Rattle.std.specs.Prelude.{◌≡◌, ◌≢◌, ℕ, ◌+◌, ◌<◌, ◌≤◌, cond, nat_eq, List, [], ◌∷◌, ◌++◌, length, set};
+ghost use Rattle.std.specs.Prelude.{◌≡◌, ℕ, ◌+◌, ◌<◌, ◌≤◌, List, [], ◌∷◌, ◌++◌, length};
+ghost use Rattle.jv_heap.specs.Laws.{NewWords, WrittenWords, WrittenNewest, WrittenOlder};
 
 /// A block above all others adds its words and changes no other block.
 pub fn new_block()
-    ensures words { (c : List (ℕ × List ℕ)) (a : ℕ) (ws : List ℕ) (b : ℕ) → greatest c < a → words_at (c ++ (a, ws) ∷ []) b ≡ cond (nat_eq a b) ws (words_at c b) }
+    ensures words { NewWords }
     ensures held { (c : List (ℕ × List ℕ)) (a : ℕ) (ws : List ℕ) → words_held (c ++ (a, ws) ∷ []) ≡ words_held c + length ws }
     ensures greatest { (c : List (ℕ × List ℕ)) (a : ℕ) (ws : List ℕ) → greatest c < a → greatest (c ++ (a, ws) ∷ []) ≡ a }
 {}
 
 /// A write changes one word of the block at its address, and no other block.
 pub fn write()
-    ensures words { (c : List (ℕ × List ℕ)) (a i w b : ℕ) → words_at (written c a i w) b ≡ cond (nat_eq a b) (set (words_at c a) i w) (words_at c b) }
+    ensures words { WrittenWords }
     ensures held { (c : List (ℕ × List ℕ)) (a i w : ℕ) → words_held (written c a i w) ≡ words_held c }
     ensures greatest { (c : List (ℕ × List ℕ)) (a i w : ℕ) → greatest (written c a i w) ≡ greatest c }
-    ensures newest { (c : List (ℕ × List ℕ)) (a : ℕ) (ws : List ℕ) (i w : ℕ) → greatest c < a → written (c ++ (a, ws) ∷ []) a i w ≡ c ++ (a, set ws i w) ∷ [] }
+    ensures newest { WrittenNewest }
 {}
 
 /// A write to an older block and the coming of a newer one commute.
 pub fn older()
-    ensures { (c : List (ℕ × List ℕ)) (a b i w : ℕ) (ws : List ℕ) → b ≢ a → written (c ++ (a, ws) ∷ []) b i w ≡ written c b i w ++ (a, ws) ∷ [] }
+    ensures { WrittenOlder }
 {}
 
 /// Addresses rise from 1 on: where nothing is held, where a block comes above all others, where a

@@ -12,7 +12,7 @@ use Rattle.jv_meaning.specs.Thin.Machine.{State, Fault, Program, ◌>>=◌, prog
 use Rattle.jv_meaning.specs.Thin.Alone.{runnable_class_of, thin_alone, observation, Shows, IsRunningAfter, IsOverAfter, FaultsWithin}
 use Rattle.jv_interp.specs.Thin.GuestState.{GuestState}
 use Rattle.jv_host.specs.Inside.Admission.{Runs, IsAdmitted, IsFoundVerdict}
-use Rattle.jv_class_parts.specs.Structure.{ClassStructure}
+use Rattle.jv_class_structure.specs.Structure.{ClassStructure}
 
 abbrev just_ok : State → Result State Fault
 just_ok s = Ok s

@@ -1,11 +1,11 @@
 -- The limits of the host, and the order in which it refuses a guest (own).
-use Rattle.std.specs.Prelude.{ℕ, Bool, ◌&&◌, not, nat_le, nat_lt, ◌==◌, if◌then◌else◌, List, length, Option, Some, None}
+use Rattle.std.specs.Prelude.{ℕ, Bool, ◌&&◌, not, nat_le, nat_lt, ◌==◌, if◌then◌else◌, List, length, Option, Some, None, ◌≡◌, ◌≢◌}
 use Rattle.std.specs.List.{list_any}
-use Rattle.jv_class.specs.of_format.Numbers.{is_from_to}
+use Rattle.jv_format.specs.Numbers.{is_from_to}
 use Rattle.jv_meaning.specs.declared.guest.Budget.{Budget}
 use Rattle.jv_meaning.specs.Guest.{Guest}
 use Rattle.jv_host.specs.declared.fault.AdmitFault.{AdmitFault}
-use Rattle.jv_host.specs.declared.fault.AdmitFault.TheVariants.{NoFiles, TooManyFiles, FileTooLong, InputTooLong, BudgetOutOfRange, TooManyGuests}
+use Rattle.jv_host.specs.declared.fault.AdmitFault.TheVariants.{NoFiles, TooManyFiles, FileTooLong, InputTooLong, BudgetOutOfRange, TooManyGuests, HostMemory}
 
 -- a file longer than 4,194,304 bytes
 abbrev pub is_long_file : List ℕ → Bool
@@ -25,3 +25,7 @@ first_refusal g b guests =
     else if not (is_in_range b) then Some BudgetOutOfRange
     else if nat_le 1 guests then Some TooManyGuests
     else None
+
+-- the refusal is the first that applies, but for want of memory
+abbrev pub IsRefused : Guest → Budget → ℕ → AdmitFault → Type 0
+IsRefused g b guests fault = fault ≢ HostMemory → first_refusal g b guests ≡ Some fault

@@ -1,10 +1,10 @@
 //! The host and its calls.
 
-ghost use Rattle.std.specs.Prelude.{◌≡◌, ◌≢◌, ◌↔◌, ◌+◌, ◌<◌, ◌^◌, ◌++◌, [], ◌∷◌, ℕ, Some, None, Err, OnOk, OnErr, IfOk, IfErr, IfSome, IsErr, length, slice_get};
+ghost use Rattle.std.specs.Prelude.{◌≡◌, ◌↔◌, ◌+◌, ◌<◌, ◌^◌, ◌++◌, [], ◌∷◌, ℕ, Some, None, Err, OnOk, OnErr, IfOk, IfErr, IfSome, IsErr, length, slice_get};
 ghost use Rattle.jv_meaning.specs.Guest.{guest_of, observed_of};
 ghost use Rattle.jv_host.specs.Host.{IsStuckAfter};
 ghost use Rattle.jv_host.specs.Calls.{admission, IsTurn, IsCutTurn, IsShown, AreShown};
-ghost use Rattle.jv_host.specs.Limits.{first_refusal};
+ghost use Rattle.jv_host.specs.Limits.{first_refusal, IsRefused};
 
 use crate::admission::Admitted;
 use crate::fault::{AdmitFault, NoGuest, TurnFault};
@@ -63,7 +63,7 @@ impl<'a> Host<'a> {
         ensures number { IfOk result (λ id. id.0 ≡ length self.old) }
         ensures admitted { OnOk result (self.new ≡ self.old ++ admission (guest_of files.entry) budget ∷ []) }
         ensures allowed { OnOk result (first_refusal (guest_of files.entry) budget (length self.old) ≡ None) }
-        ensures refused { IfErr result (λ e. e ≢ AdmitFault.HostMemory → first_refusal (guest_of files.entry) budget (length self.old) ≡ Some e) }
+        ensures refused { IfErr result (IsRefused (guest_of files.entry) budget (length self.old)) }
         ensures memory { result ≡ Err AdmitFault.HostMemory → first_refusal (guest_of files.entry) budget (length self.old) ≡ None }
         ensures same { OnErr result (self.new ≡ self.old) }
     {

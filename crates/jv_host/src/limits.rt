@@ -3,7 +3,7 @@
 ghost use Rattle.std.specs.Prelude.{◌≡◌, ◌==◌, nat_lt, length};
 ghost use Rattle.std.specs.List.{list_any};
 ghost use Rattle.jv_meaning.specs.Guest.{guest_of};
-ghost use Rattle.jv_class.specs.of_format.Numbers.{is_from_to};
+ghost use Rattle.jv_format.specs.Numbers.{is_from_to};
 ghost use Rattle.jv_host.specs.Limits.{first_refusal, is_long_file, is_in_range};
 
 use crate::fault::AdmitFault;

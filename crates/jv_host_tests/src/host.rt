@@ -199,7 +199,7 @@ fn files_that_do_not_run(rt: HostRuntime) {
     assert!(rt; verdict_without_main(alloc, &HI[..167], b"Hi") == "Format");
     assert!(rt; verdict_without_main(alloc, &longer, b"Hi") == "Format");
     assert!(rt; verdict_without_main(alloc, b"", b"Hi") == "Format");
-    assert!(rt; verdict_without_main(alloc, &patched(&[(7, 51)]), b"Hi") == "Version");
+    assert!(rt; verdict_without_main(alloc, &patched(&[(7, 49)]), b"Hi") == "Version");
     assert!(rt; verdict_without_main(alloc, &patched(&[(151, 0)]), b"Hi") == "Unsupported");
     assert!(rt; verdict_without_main(alloc, HI, b"Ho") == "Accepted");
 }

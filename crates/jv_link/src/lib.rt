@@ -1,10 +1,38 @@
-//! Linking (JVMS 5.4, 5.5): what the references of a class resolve to, which method a call runs, what is
-//! initialized before a class, and where its objects keep their fields. Resolution and selection take no
-//! memory.
+//! Linking (JVMS 5.4): what references to classes, fields and methods resolve to at a site, or the named error; which method a
+//! call runs; what is initialized before a class (JVMS 5.5), and where its objects keep their fields.
 #![tactic(auto)]
 
-pub use jv_link_order::{Layout, PlacedField, init_order, layout_of};
-pub use jv_link_resolution::{
-    ClassRef, LinkError, MethodTarget, Site, Use, resolve_class, resolve_field, resolve_method,
-};
-pub use jv_link_selection::select;
+mod access;
+mod alike;
+mod chain;
+mod class;
+mod climbing;
+mod ending;
+mod error;
+mod field;
+mod giving;
+mod kind;
+mod laying;
+mod layout;
+mod meeting;
+mod member;
+mod method;
+mod order;
+mod reference;
+mod selection;
+mod site;
+mod special;
+mod target;
+
+pub use access::same_package;
+pub use class::{resolve_class, same_class};
+pub use error::LinkError;
+pub use field::resolve_field;
+pub use laying::layout_of;
+pub use layout::{Layout, PlacedField};
+pub use member::{class_at, field_at, method_at};
+pub use method::resolve_method;
+pub use order::init_order;
+pub use selection::select;
+pub use site::{Site, Use};
+pub use target::{ClassRef, MethodTarget};

@@ -1,10 +1,10 @@
 //! What methods resolve to (JVMS 5.4.3.3, 5.4.3.4, 5.4.4, 6.5), and how tables say which method runs.
 
 ghost use Rattle.std.specs.Prelude.{IsSome, IfSome};
-ghost use Rattle.jv_loader_classes.specs.Inside.Told.{IsAt};
+ghost use Rattle.jv_meaning_world.specs.Numbers.{HoldsAtNumber};
 ghost use Rattle.jv_meaning_linking.specs.Operands.{method_operand};
-ghost use Rattle.jv_link_resolution.specs.Seen.{IsSite};
-ghost use Rattle.jv_link_selection.specs.Objects.{IsObject};
+ghost use Rattle.jv_link.specs.Seen.{IsSite};
+ghost use Rattle.jv_link.specs.Objects.{IsObject};
 
 use crate::guest::{Table, wrong_row};
 use crate::named::{class_name, error_name, is_method_at};
@@ -261,7 +261,7 @@ fn object_of(classes: &Classes<'_>, row: &Row<'_>) -> Option<Option<usize>>
 /// Whether the method that a row says runs, of the one that is resolved.
 fn runs(classes: &Classes<'_>, site: Site, how: Use, index: u16, row: &Row<'_>) -> bool
     requires site { IsSite classes.now.world site }
-    requires index { IsAt classes.now.world site.class (λ l. IsSome (method_operand l.class index)) }
+    requires index { HoldsAtNumber classes.now.world site.class (λ l. IsSome (method_operand l.class index)) }
 {
     match (
         resolve_method(classes, site, how, index),

@@ -2,9 +2,9 @@
 
 ghost use Rattle.std.specs.Prelude.{◌≡◌, ◌<◌, IsSome, IfSome, length};
 ghost use Rattle.jv_class.specs.Class.{Class};
-ghost use Rattle.jv_loader_classes.specs.Inside.Told.{IsAt};
+ghost use Rattle.jv_meaning_world.specs.Numbers.{HoldsAtNumber};
 ghost use Rattle.jv_meaning_linking.specs.Operands.{field_operand, method_operand};
-ghost use Rattle.jv_link_resolution.specs.Seen.{IsSite};
+ghost use Rattle.jv_link.specs.Seen.{IsSite};
 
 use crate::row::Row;
 use jv_link::{Site, Use};
@@ -108,7 +108,7 @@ fn method_in(pool: &Pool<'_>, row: &Row<'_>) -> Option<u16>
 
 /// The constants of a class of the guest.
 fn pool_of<'c, 'a>(classes: &'c Classes<'a>, class: usize) -> Option<&'c Pool<'a>>
-    ensures { IfSome result (λ pool. IsAt classes.now.world class (λ l. l.class.constant_pool ≡ pool.now)) }
+    ensures { IfSome result (λ pool. HoldsAtNumber classes.now.world class (λ l. l.class.constant_pool ≡ pool.now)) }
 {
     let file = classes.table().classes().get(class)?.file()?;
     Some(file.pool())
@@ -116,14 +116,14 @@ fn pool_of<'c, 'a>(classes: &'c Classes<'a>, class: usize) -> Option<&'c Pool<'a
 
 /// The index of the field's constant that a row names.
 pub(crate) fn field_index(classes: &Classes<'_>, class: usize, row: &Row<'_>) -> Option<u16>
-    ensures { IfSome result (λ index. IsAt classes.now.world class (λ l. IsSome (field_operand l.class index))) }
+    ensures { IfSome result (λ index. HoldsAtNumber classes.now.world class (λ l. IsSome (field_operand l.class index))) }
 {
     field_in(pool_of(classes, class)?, row)
 }
 
 /// The index of the method's constant that a row names.
 pub(crate) fn method_index(classes: &Classes<'_>, class: usize, row: &Row<'_>) -> Option<u16>
-    ensures { IfSome result (λ index. IsAt classes.now.world class (λ l. IsSome (method_operand l.class index))) }
+    ensures { IfSome result (λ index. HoldsAtNumber classes.now.world class (λ l. IsSome (method_operand l.class index))) }
 {
     method_in(pool_of(classes, class)?, row)
 }

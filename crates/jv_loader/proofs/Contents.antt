@@ -2,12 +2,12 @@
 use Rattle.std.proofs.Common.{◌≡◌, ℕ, List, Option, Some, None, refl, sym, ap, ◌∙◌, subst}
 use Rattle.std.specs.Prelude.{IsSomeAnd}
 use Rattle.std.specs.Option.{option_map}
-use Rattle.jv_class_parts.specs.Structure.{ClassStructure}
+use Rattle.jv_class_structure.specs.Structure.{ClassStructure}
 use Rattle.jv_class.specs.Class.{Class, class_of}
-use Rattle.jv_loader_files.specs.declared.content.Content.{Content}
-use Rattle.jv_loader_files.specs.declared.content.Content.TheVariants.{OtherVersion, NoClassFile, MoreThanProfile, Holds}
-use Rattle.jv_loader_files.specs.FileContent.{FileContent, IsContent, OneContent}
-use Rattle.jv_loader_files.specs.Inside.Reading.{content_of}
+use Rattle.jv_meaning_world.specs.declared.content.Content.{Content}
+use Rattle.jv_meaning_world.specs.declared.content.Content.TheVariants.{OtherVersion, NoClassFile, MoreThanProfile, Holds}
+use Rattle.jv_meaning_world.specs.FileContent.{FileContent, IsContent, OneContent}
+use Rattle.jv_loader.specs.Inside.Reading.{content_of}
 
 module _ (P : FileContent → Type 0) where
   pub has_more : (found : Content ClassStructure) → IsSomeAnd (content_of found) P → found ≡ MoreThanProfile → P MoreThanProfile

@@ -6,21 +6,21 @@ use Rattle.std.specs.Str.{bytes_eq}
 use Rattle.std.proofs.lemmas.Bool.{and_parts}
 use Rattle.std.proofs.lemmas.Iterator.Adapters.{position_from-zero}
 use Rattle.jv_class.specs.Class.{Class}
-use Rattle.jv_loader_files.specs.FileContent.{FileContent, IsContent, AreContents}
-use Rattle.jv_loader_files.specs.declared.content.Content.TheVariants.{Holds}
-use Rattle.jv_loader_system.specs.SystemClasses.{classes_with_files, system_classes, system_contents, system_bytes}
+use Rattle.jv_meaning_world.specs.FileContent.{FileContent, IsContent, AreContents}
+use Rattle.jv_meaning_world.specs.declared.content.Content.TheVariants.{Holds}
+use Rattle.jv_meaning_world.specs.System.Classes.{classes_with_files, system_classes, system_contents, system_bytes}
 use Rattle.std.specs.Prelude.{◌⊎◌}
 use Rattle.std.specs.List.{Contains}
 use Rattle.std.proofs.lemmas.List.Elements.{Contains-append_cases}
-use Rattle.jv_loader_world.specs.Above.{super_names}
-use Rattle.jv_loader_world.specs.Laws.{SystemStandsAlone}
-use Rattle.jv_loader_world.proofs.Up.{none, first, later, single, found_super}
-use Rattle.jv_loader_system.specs.Io.{io}
+use Rattle.jv_meaning_world.specs.Above.{super_names}
+use Rattle.jv_meaning_world.specs.Laws.Above.{SystemStandsAlone}
+use Rattle.jv_meaning_world.proofs.Up.{none, first, later, single, found_super}
+use Rattle.jv_meaning_world.specs.System.Io.{io}
 use Rattle.std.proofs.lemmas.Grind.{common_steps}
 use Rattle.std.proofs.lemmas.List.{map-append}
-use Rattle.jv_loader_classes.proofs.Numbers.{take_more}
-use Rattle.jv_loader_world.specs.World.{Loaded, loaded, has_class, class_named, classes_in, world_of}
-use Rattle.jv_loader_classes.specs.Numbers.{number_named}
+use Rattle.jv_classes.proofs.Numbers.{take_more}
+use Rattle.jv_meaning_world.specs.World.{Loaded, loaded, has_class, class_named, classes_in, world_of}
+use Rattle.jv_meaning_world.specs.Numbers.{number_named}
 
 -- ---- nothing has a name
 

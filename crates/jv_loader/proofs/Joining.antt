@@ -11,14 +11,14 @@ use Rattle.std.proofs.lemmas.List.Folds.{list_any-append}
 use Rattle.std.proofs.lemmas.List.Elements.{All-cons}
 use Rattle.std.proofs.lemmas.Option.{slice_get-get_or}
 use Rattle.jv_class.specs.Class.{Class}
-use Rattle.jv_loader_files.specs.FileContent.{FileContent}
-use Rattle.jv_loader_files.specs.declared.content.Content.TheVariants.{OtherVersion, NoClassFile, MoreThanProfile, Holds}
-use Rattle.jv_loader_system.specs.SystemClasses.{system_classes}
-use Rattle.jv_loader_world.specs.declared.verdict.LoadVerdict.TheVariants.{Reserved, Duplicate}
-use Rattle.jv_loader_world.specs.World.{Loaded, World, loaded, is_reserved, has_class, with_class_of, joined_all, classes_in, world_of}
-use Rattle.jv_loader_world.specs.Verdicts.{verdict_of_class, verdict_behind, load_verdict}
-use Rattle.jv_loader_classes.specs.Numbers.{number_named}
-use Rattle.jv_loader_world.proofs.Up.{same_name}
+use Rattle.jv_meaning_world.specs.FileContent.{FileContent}
+use Rattle.jv_meaning_world.specs.declared.content.Content.TheVariants.{OtherVersion, NoClassFile, MoreThanProfile, Holds}
+use Rattle.jv_meaning_world.specs.System.Classes.{system_classes}
+use Rattle.jv_meaning_world.specs.declared.verdict.LoadVerdict.TheVariants.{Reserved, Duplicate}
+use Rattle.jv_meaning_world.specs.World.{Loaded, World, loaded, is_reserved, has_class, with_class_of, joined_all, classes_in, world_of}
+use Rattle.jv_meaning_world.specs.Verdicts.{verdict_of_class, verdict_behind, load_verdict}
+use Rattle.jv_meaning_world.specs.Numbers.{number_named}
+use Rattle.jv_meaning_world.proofs.Up.{same_name}
 use Rattle.jv_loader.specs.Inside.System.{system_world}
 use Rattle.jv_loader.specs.Inside.Files.{with_file, with_files, entry_of, entries_from, verdict_of_entry, IsPlace}
 

@@ -1,8 +1,8 @@
 pub mod Contents
 pub mod InSystem
-pub mod Putting
-pub mod Unlike
 pub mod Joining
-pub mod Whole
+pub mod Putting
 pub mod Searching
 pub mod Straightness
+pub mod Unlike
+pub mod Whole

@@ -4,7 +4,7 @@ use Rattle.std.specs.Global.{Vec}
 use Rattle.std.proofs.lemmas.Bool.{ltb-true, ltb-false}
 use Rattle.std.proofs.lemmas.List.{map-append, length-map, length-append, get_or_append_left, get_or-map}
 use Rattle.std.proofs.Math.Seq.{get_or-append_seam}
-use Rattle.jv_loader_world.specs.World.{World}
+use Rattle.jv_meaning_world.specs.World.{World}
 use Rattle.jv_loader.specs.Inside.Searches.{IsSearch, AreSearches, numbers_in, lists_of}
 
 pub one_more : (world : World) (lists new : List (Vec ℕ)) (v : Vec ℕ) (n : ℕ) → new ≡ lists ++ v ∷ [] → length lists ≡ n → ((k : ℕ) → k < n → IsSearch world k (get_or (lists_of lists) k [])) → IsSearch world n v.items

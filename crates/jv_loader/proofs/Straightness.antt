@@ -5,14 +5,14 @@ use Rattle.std.specs.List.{Contains, find, list_all, list_any}
 use Rattle.std.specs.Str.{bytes_eq}
 use Rattle.std.proofs.lemmas.Bool.{ltb-true}
 use Rattle.jv_class.specs.Class.{Class}
-use Rattle.jv_loader_files.specs.FileContent.{FileContent}
-use Rattle.jv_loader_system.specs.SystemClasses.{system_classes}
-use Rattle.jv_loader_system.specs.Object.{object}
-use Rattle.jv_loader_world.specs.World.{Loaded, World, loaded, class_named, classes_in, world_of}
-use Rattle.jv_loader_world.specs.Above.{super_names, supers_in, above, is_circular}
-use Rattle.jv_loader_world.specs.Verdicts.{each_super, have_right_kind, can_name_supers, is_loadable_within, is_loadable}
-use Rattle.jv_loader_world.specs.Laws.{AboveByWays, LoadableByAll, IsWayUp, stands_itself}
-use Rattle.jv_loader_world.proofs.Up.{first, later, found_super, named_stands, same_name}
+use Rattle.jv_meaning_world.specs.FileContent.{FileContent}
+use Rattle.jv_meaning_world.specs.System.Classes.{system_classes}
+use Rattle.jv_meaning_world.specs.System.Object.{object}
+use Rattle.jv_meaning_world.specs.World.{Loaded, World, loaded, class_named, classes_in, world_of}
+use Rattle.jv_meaning_world.specs.Above.{super_names, supers_in, above, is_circular}
+use Rattle.jv_meaning_world.specs.Verdicts.{each_super, have_right_kind, can_name_supers, is_loadable_within, is_loadable}
+use Rattle.jv_meaning_world.specs.Laws.Above.{AboveByWays, LoadableByAll, IsWayUp, stands_itself}
+use Rattle.jv_meaning_world.proofs.Up.{first, later, found_super, named_stands, same_name}
 use Rattle.jv_loader.specs.Straight.{IsStraight, AreStraight}
 use Rattle.jv_loader.proofs.InSystem.{each_passes, of_system, stands_alone}
 

@@ -6,15 +6,15 @@ use Rattle.std.specs.Str.{bytes_eq}
 use Rattle.std.proofs.lemmas.Bool.{and_from}
 use Rattle.std.proofs.lemmas.List.Elements.{Contains-append_cases}
 use Rattle.jv_class.specs.Class.{Class}
-use Rattle.jv_loader_world.specs.World.{Loaded, World, class_named}
-use Rattle.jv_loader_world.specs.Above.{superclass_names, supers_in, superclass_in, class_if_named, chain_within, superclasses, above, is_circular}
-use Rattle.jv_loader_world.specs.Laws.{IsWayUp}
-use Rattle.jv_loader_world.specs.Verdicts.{passes}
-use Rattle.jv_loader_world.proofs.Up.{none, first, later, single, above_by_ways}
-use Rattle.jv_loader_world.proofs.Standing.{named_super}
-use Rattle.jv_loader_classes.proofs.Ways.{any_if}
-use Rattle.jv_loader_finals.specs.Finals.{have_other_names, AreUnlike}
-use Rattle.jv_loader_world.specs.Numbers.{classes_at}
+use Rattle.jv_meaning_world.specs.World.{Loaded, World, class_named}
+use Rattle.jv_meaning_world.specs.Above.{superclass_names, supers_in, superclass_in, class_if_named, chain_within, superclasses, above, is_circular}
+use Rattle.jv_meaning_world.specs.Laws.Above.{IsWayUp}
+use Rattle.jv_meaning_world.specs.Verdicts.{passes}
+use Rattle.jv_meaning_world.proofs.Up.{none, first, later, single, above_by_ways}
+use Rattle.jv_meaning_world.proofs.Standing.{named_super}
+use Rattle.jv_classes.proofs.Ways.{any_if}
+use Rattle.jv_lookups.specs.Finals.{have_other_names, AreUnlike}
+use Rattle.jv_meaning_world.specs.Numbers.{classes_at}
 
 super_there : (world : World) (interfaces : List (List ℕ)) (name : Option (List ℕ)) (t : Loaded) → class_if_named world name ≡ Some t → Contains (filter_map (class_named world) (superclass_names name ++ interfaces)) t
 super_there world interfaces None t e = absurd cc

@@ -3,11 +3,11 @@ use Rattle.std.proofs.Common.{◌≡◌, ℕ, ◌<◌, suc, List, [], ◌∷◌,
 use Rattle.std.specs.Prelude.{slice_get}
 use Rattle.std.specs.List.{All}
 use Rattle.std.proofs.lemmas.List.{length-map}
-use Rattle.jv_loader_files.specs.FileContent.{FileContent, AreContents}
-use Rattle.jv_loader_system.specs.SystemClasses.{system_classes}
-use Rattle.jv_loader_world.specs.declared.verdict.LoadVerdict.{LoadVerdict}
-use Rattle.jv_loader_world.specs.World.{World, world_of}
-use Rattle.jv_loader_world.specs.Laws.{SystemStandsAlone}
+use Rattle.jv_meaning_world.specs.FileContent.{FileContent, AreContents}
+use Rattle.jv_meaning_world.specs.System.Classes.{system_classes}
+use Rattle.jv_meaning_world.specs.declared.verdict.LoadVerdict.{LoadVerdict}
+use Rattle.jv_meaning_world.specs.World.{World, world_of}
+use Rattle.jv_meaning_world.specs.Laws.Above.{SystemStandsAlone}
 use Rattle.jv_loader.specs.Loading.{AreLoaded}
 use Rattle.jv_loader.specs.Inside.System.{system_world}
 use Rattle.jv_loader.specs.Inside.Files.{ArePut, with_files, entries_from, verdict_of_entry, IsPlace, IsOfFiles}

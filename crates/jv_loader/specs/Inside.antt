@@ -1,4 +1,5 @@
-pub mod System
 pub mod Files
 pub mod Finals
+pub mod Reading
 pub mod Searches
+pub mod System

@@ -1,3 +1,3 @@
+pub mod Inside
 pub mod Loading
 pub mod Straight
-pub mod Inside

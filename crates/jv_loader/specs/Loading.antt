@@ -1,10 +1,10 @@
 -- A guest's classes, loaded (JVMS 5.3).
 use Rattle.std.specs.Prelude.{◌≡◌, ℕ, ◌<◌, List, length, Option, Some, slice_get}
-use Rattle.jv_loader_files.specs.FileContent.{FileContent, AreContents}
-use Rattle.jv_loader_system.specs.SystemClasses.{system_classes}
-use Rattle.jv_loader_world.specs.declared.verdict.LoadVerdict.{LoadVerdict}
-use Rattle.jv_loader_world.specs.World.{World, world_of}
-use Rattle.jv_loader_world.specs.Verdicts.{load_verdict}
+use Rattle.jv_meaning_world.specs.FileContent.{FileContent, AreContents}
+use Rattle.jv_meaning_world.specs.System.Classes.{system_classes}
+use Rattle.jv_meaning_world.specs.declared.verdict.LoadVerdict.{LoadVerdict}
+use Rattle.jv_meaning_world.specs.World.{World, world_of}
+use Rattle.jv_meaning_world.specs.Verdicts.{load_verdict}
 
 -- the classes that the guest can name; and for each of its files what is wrong with it before its methods are looked at,
 -- nothing where these decide

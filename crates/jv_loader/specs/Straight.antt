@@ -1,9 +1,9 @@
 -- No class that can be loaded is above itself (JVMS 5.3.5).
 use Rattle.std.specs.Prelude.{◌≡◌, Some, codes, IsTrue, IsFalse}
 use Rattle.std.specs.List.{Contains}
-use Rattle.jv_loader_world.specs.World.{Loaded, World, class_named}
-use Rattle.jv_loader_world.specs.Above.{above, is_circular}
-use Rattle.jv_loader_world.specs.Verdicts.{is_loadable}
+use Rattle.jv_meaning_world.specs.World.{Loaded, World, class_named}
+use Rattle.jv_meaning_world.specs.Above.{above, is_circular}
+use Rattle.jv_meaning_world.specs.Verdicts.{is_loadable}
 
 -- neither the class nor one above it is above itself
 pub record IsStraight (world : World) (l : Loaded) : Type 0 where

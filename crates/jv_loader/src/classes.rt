@@ -1,14 +1,12 @@
 //! A guest's classes, loaded.
 
 ghost use Rattle.std.specs.Prelude.{◌≡◌, ◌<◌, Some, IfOk, IfSome, length, slice_get};
-ghost use Rattle.std.specs.Option.{option_and_then};
-ghost use Rattle.jv_loader_world.specs.LookUps.{lookup_field, lookup_method};
-ghost use Rattle.jv_loader_classes.specs.Inside.Told.{IsAt};
-ghost use Rattle.jv_loader_lookups.specs.Places.{field_at, method_at, IsFieldPlace, IsMethodPlace};
-ghost use Rattle.jv_loader_lookups.specs.Defaults.{defaults, AreDefaults, IsDefaultPlace};
+ghost use Rattle.jv_meaning_world.specs.LookUps.{lookup_field, lookup_method};
+ghost use Rattle.jv_lookups.specs.Places.{IsFieldPlace, IsMethodPlace, IsFieldLookedUp, IsMethodLookedUp};
+ghost use Rattle.jv_lookups.specs.Defaults.{IsDefaultPlace, AreDefaultsOf};
 ghost use Rattle.jv_loader.specs.Loading.{AreLoaded};
 ghost use Rattle.jv_loader.specs.Straight.{AreStraight};
-ghost use Rattle.jv_loader_class.specs.of_loader_tables.Inside.Kept.{texts_of};
+ghost use Rattle.jv_names.specs.Inside.Kept.{texts_of};
 ghost use Rattle.jv_loader.specs.Inside.Files.{IsOfFiles};
 ghost use Rattle.jv_loader.specs.Inside.Searches.{IsSearch};
 
@@ -16,11 +14,10 @@ use crate::entry::put_files;
 use crate::searches::searches_of;
 use crate::system::system_list;
 use crate::verdicts::verdicts_of;
-use jv_loader_classes::ClassTable;
-use jv_loader_files::Memory;
-use jv_loader_lookups::{Defaults, Place, lookup_field, lookup_method, superinterface_defaults};
-use jv_loader_system::SystemFiles;
-use jv_loader_world::{LoadVerdict, above_by_ways, loadable_by_all};
+use jv_classes::ClassTable;
+use jv_loader_system::{Memory, SystemFiles};
+use jv_lookups::{Defaults, Place, lookup_field, lookup_method, superinterface_defaults};
+use jv_meaning_world::{LoadVerdict, above_by_ways, loadable_by_all};
 use std::alloc::Global;
 use std::hash::RandomState;
 use std::marker::Model;
@@ -139,7 +136,7 @@ impl<'a> Classes<'a> {
     /// 5.4.3.2). It costs one hash for each class that the search meets.
     pub fn lookup_field(&self, class: usize, name: &[u8], descriptor: &[u8]) -> Option<Place>
         requires { class < length self.now.world }
-        ensures found { IsAt self.now.world class (λ l. option_and_then (field_at self.now.world) result ≡ lookup_field self.now.world l name.now descriptor.now) }
+        ensures found { IsFieldLookedUp self.now.world class name.now descriptor.now result }
         ensures place { IfSome result (IsFieldPlace self.now.world) }
     {
         lookup_field(self.table(), self.searched(class), name, descriptor)
@@ -149,7 +146,7 @@ impl<'a> Classes<'a> {
     /// (JVMS 5.4.3.3, 5.4.3.4).
     pub fn lookup_method(&self, class: usize, name: &[u8], descriptor: &[u8]) -> Option<Place>
         requires { class < length self.now.world }
-        ensures found { IsAt self.now.world class (λ l. option_and_then (method_at self.now.world) result ≡ lookup_method self.now.world l name.now descriptor.now) }
+        ensures found { IsMethodLookedUp self.now.world class name.now descriptor.now result }
         ensures place { IfSome result (IsMethodPlace self.now.world) }
     {
         lookup_method(self.table(), class, self.searched(class), name, descriptor)
@@ -159,7 +156,7 @@ impl<'a> Classes<'a> {
     /// declare and that are not abstract (JVMS 5.4.3.3, 6.5).
     pub fn superinterface_defaults(&self, class: usize, name: &[u8], descriptor: &[u8]) -> Defaults
         requires { class < length self.now.world }
-        ensures found { IsAt self.now.world class (λ l. AreDefaults self.now.world result (defaults self.now.world l name.now descriptor.now)) }
+        ensures found { AreDefaultsOf self.now.world class name.now descriptor.now result }
         ensures place { IsDefaultPlace self.now.world result }
     {
         superinterface_defaults(self.table(), class, self.searched(class), name, descriptor)

@@ -1,16 +1,15 @@
 //! What a file of a guest is among the files before it.
 
 ghost use Rattle.std.specs.Prelude.{◌≡◌, false, IfOk, OnOk};
-ghost use Rattle.jv_loader_files.specs.FileContent.{FileContent, IsContent};
-ghost use Rattle.jv_loader_files.specs.declared.content.Content.TheVariants.{Holds};
-ghost use Rattle.jv_loader_world.specs.World.{is_reserved};
-ghost use Rattle.jv_loader_class.specs.of_loader_tables.Inside.Kept.{texts_of};
-ghost use Rattle.jv_loader.specs.Inside.Files.{with_file, entry_of, ArePut};
+ghost use Rattle.jv_meaning_world.specs.declared.content.Content.TheVariants.{Holds};
+ghost use Rattle.jv_meaning_world.specs.World.{is_reserved};
+ghost use Rattle.jv_names.specs.Inside.Kept.{texts_of};
+ghost use Rattle.jv_loader.specs.Inside.Files.{with_file, entry_of, ArePut, IsPut};
 
-use jv_loader_class::LoadedClass;
-use jv_loader_classes::ClassList;
-use jv_loader_files::{Content, Memory, read_content};
-use jv_loader_world::LoadVerdict;
+use crate::reading::read_content;
+use jv_classes::{ClassList, LoadedClass};
+use jv_loader_system::Memory;
+use jv_meaning_world::{Content, LoadVerdict};
 use std::alloc::{AllocError, Global};
 use std::hash::RandomState;
 
@@ -48,7 +47,7 @@ fn put_file<'a>(
     list: &mut ClassList<'a>,
     bytes: &'a [u8],
 ) -> Result<Entry, Memory>
-    ensures { IfOk result (λ entry. (content : FileContent) × IsContent bytes.now content × (list.new ≡ with_file list.old content) × (entry ≡ entry_of list.old content)) }
+    ensures { IfOk result (IsPut bytes.now list.old list.new) }
 {
     match read_content(alloc, bytes)? {
         Content::OtherVersion => Ok(Err(LoadVerdict::Version)),

@@ -1,17 +1,19 @@
-//! A guest's classes (JVMS 5.3): those of the system and of its own files, by number, with what each
-//! file is, what is wrong with it before its methods are looked at, and which classes are above which.
+//! A guest's classes (JVMS 5.3).
+//!
+//! [`Classes::load`] reads the files of a guest, and answers exactly the world of its classes behind the system's, what is
+//! wrong with each file before its methods are looked at, and where a field or a method of a class is found.
 #![tactic(auto)]
 
 mod classes;
 mod entry;
+mod reading;
 mod searches;
 mod system;
 mod verdicts;
 
 pub use classes::Classes;
-pub use jv_loader_class::{LoadedClass, Member};
-pub use jv_loader_classes::ClassTable;
-pub use jv_loader_files::Memory;
-pub use jv_loader_lookups::{Defaults, Place};
-pub use jv_loader_system::{SystemFiles, system_files};
-pub use jv_loader_world::LoadVerdict;
+pub use jv_classes::{ClassTable, LoadedClass, Member};
+pub use jv_loader_system::{Memory, SystemFiles, system_files};
+pub use jv_lookups::{Defaults, Place};
+pub use jv_meaning_world::LoadVerdict;
+pub use reading::read_content;

@@ -1,10 +1,10 @@
 //! The classes that a search for a member meets, class by class.
 
-ghost use Rattle.std.specs.Prelude.{◌≡◌, IfOk};
+ghost use Rattle.std.specs.Prelude.{IfOk};
 ghost use Rattle.jv_loader.specs.Inside.Searches.{AreSearches, lists_of};
 
-use jv_loader_classes::ClassTable;
-use jv_loader_lookups::searched_from;
+use jv_classes::ClassTable;
+use jv_lookups::searched_from;
 use std::alloc::{AllocError, Global};
 
 /// The classes that a search for a member from each class meets, in its order (JVMS 5.4.3.2).

@@ -2,16 +2,16 @@
 
 ghost use Rattle.std.specs.Prelude.{◌≡◌, ◌++◌, [], ◌∷◌, true, None, IfOk, OnOk};
 ghost use Rattle.jv_class.specs.Class.{Class};
-ghost use Rattle.jv_loader_files.specs.FileContent.{IsContent};
-ghost use Rattle.jv_loader_files.specs.declared.content.Content.TheVariants.{Holds};
-ghost use Rattle.jv_loader_world.specs.World.{loaded};
-ghost use Rattle.jv_loader_classes.specs.Numbers.{number_named};
+ghost use Rattle.jv_meaning_world.specs.FileContent.{IsContent};
+ghost use Rattle.jv_meaning_world.specs.declared.content.Content.TheVariants.{Holds};
+ghost use Rattle.jv_meaning_world.specs.World.{loaded};
+ghost use Rattle.jv_meaning_world.specs.Numbers.{number_named};
 ghost use Rattle.jv_loader.specs.Inside.System.{system_world};
 
-use jv_loader_class::LoadedClass;
-use jv_loader_classes::ClassList;
-use jv_loader_files::{Content, Memory, one_content, read_content};
-use jv_loader_system::SystemFiles;
+use crate::reading::read_content;
+use jv_classes::{ClassList, LoadedClass};
+use jv_loader_system::{Memory, SystemFiles};
+use jv_meaning_world::{Content, one_content};
 use std::alloc::Global;
 use std::hash::RandomState;
 

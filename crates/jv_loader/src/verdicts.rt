@@ -1,17 +1,17 @@
 //! The verdicts on a guest's files before their methods are looked at.
 
-ghost use Rattle.std.specs.Prelude.{◌≡◌, ◌<◌, [], false, IfOk, length, map};
-ghost use Rattle.jv_loader_world.specs.Above.{is_circular, superclasses};
-ghost use Rattle.jv_loader_world.specs.Verdicts.{verdict_of_class, breaks_final};
-ghost use Rattle.jv_loader_classes.specs.Inside.Told.{IsAt};
+ghost use Rattle.std.specs.Prelude.{◌≡◌, ◌<◌, false, IfOk, length, map};
+ghost use Rattle.jv_meaning_world.specs.Above.{is_circular, superclasses};
+ghost use Rattle.jv_meaning_world.specs.Verdicts.{verdict_of_class, breaks_final};
+ghost use Rattle.jv_meaning_world.specs.Numbers.{HoldsAtNumber};
 ghost use Rattle.std.specs.List.{All};
 ghost use Rattle.jv_loader.specs.Inside.Files.{verdict_of_entry, IsPlace};
-ghost use Rattle.jv_loader.specs.Inside.Finals.{AreTold};
+ghost use Rattle.jv_loader.specs.Inside.Finals.{AreTold, breaks_final_above};
 
 use crate::entry::Entry;
-use jv_loader_classes::ClassTable;
-use jv_loader_finals::{Marks, breaks_final, final_declarers, package_numbers};
-use jv_loader_world::LoadVerdict;
+use jv_classes::ClassTable;
+use jv_lookups::{Marks, breaks_final, final_declarers, package_numbers};
+use jv_meaning_world::LoadVerdict;
 use std::alloc::{AllocError, Global};
 use std::hash::RandomState;
 
@@ -51,8 +51,8 @@ fn overrides_final(
 ) -> Result<bool, AllocError>
     requires number { number < length table.now }
     requires finals { AreTold table.now finals.now }
-    requires circular { IsAt table.now number (λ l. is_circular table.now l.class ≡ false) }
-    ensures found { IfOk result (λ broken. IsAt table.now number (λ l. broken ≡ breaks_final l [] (superclasses table.now l.class))) }
+    requires circular { HoldsAtNumber table.now number (λ l. is_circular table.now l.class ≡ false) }
+    ensures found { IfOk result (λ broken. HoldsAtNumber table.now number (λ l. broken ≡ breaks_final_above table.now l)) }
     ensures finals { AreTold table.now finals.new }
 {
     table.is_numbered();
@@ -76,7 +76,7 @@ fn verdict_of(
 ) -> Result<Option<LoadVerdict>, AllocError>
     requires number { number < length table.now }
     requires finals { AreTold table.now finals.now }
-    ensures verdict { IfOk result (λ verdict. IsAt table.now number (λ l. verdict ≡ verdict_of_class table.now l)) }
+    ensures verdict { IfOk result (λ verdict. HoldsAtNumber table.now number (λ l. verdict ≡ verdict_of_class table.now l)) }
     ensures finals { AreTold table.now finals.new }
 {
     if let Some(verdict) = table.fault_of_supers(number) {

@@ -13,16 +13,16 @@ use Rattle.jv_text.specs.Text.{unit_bytes, text_bytes, is_unit}
 use Rattle.jv_text.specs.Name.{is_unqualified_name, is_class_name, is_method_name}
 use Rattle.jv_text.specs.Descriptor.{MethodDescriptor, slots, is_floating, is_floating_method}
 use Rattle.jv_text.specs.Types.{field_type_of, method_type_of, TypesAgree}
-use Rattle.jv_loader_files.specs.of_pool.declared.constant.Constant.TheVariants.{Utf8, Integer, Float, Long, Double, Class, String, Fieldref, Methodref, InterfaceMethodref, NameAndType, MethodHandle, MethodType, InvokeDynamic}
-use Rattle.jv_loader_files.specs.of_pool.Constants.{Entry, NameAndDescriptor, named_at, pool_fits, utf8_at, class_name_at, name_and_type_at}
-use Rattle.jv_loader_files.specs.of_pool.Facts.{value_of_type}
-use Rattle.jv_loader_files.specs.of_pool.Rules.{IsFieldDescriptor, IsMethodDescriptor, IsDescriptor, NamesField, special_name_keeps_rules, NamesMethod, KeepsRules}
-use Rattle.jv_loader_files.specs.of_class_parts.Structure.{FieldInfo, MethodInfo, ClassStructure, body_fits}
-use Rattle.jv_loader_files.specs.of_class_parts.Attributes.{attributes_keep_rules, static_value}
-use Rattle.jv_loader_files.specs.of_class_parts.Flags.{has, acc_interface, class_flags_keep_rules}
-use Rattle.jv_loader_files.specs.of_class_parts.Version.{is_supported_version}
-use Rattle.jv_loader_files.specs.of_class.Rules.{is_no_array_name, is_class_at, super_keeps_rules, interface_super_keeps_rules, field_flags_keep_rules, value_keeps_rules, KeepsRulesAsField, method_flags_keep_rules, init_keeps_rules, clinit_keeps_rules, slots_keep_rules, code_presence_keeps_rules, KeepsRulesAsMethod, field_texts, method_texts, has_code, NoTwoAlike, KeepsClassRules}
-use Rattle.jv_loader_files.specs.of_class.Supported.{HasNoFloating, IsSupportedConstant, IsSupportedType, AreSupportedFlags, is_supported_method, IsSupported}
+use Rattle.jv_pool.specs.declared.constant.Constant.TheVariants.{Utf8, Integer, Float, Long, Double, Class, String, Fieldref, Methodref, InterfaceMethodref, NameAndType, MethodHandle, MethodType, InvokeDynamic}
+use Rattle.jv_pool.specs.Constants.{Entry, NameAndDescriptor, named_at, pool_fits, utf8_at, class_name_at, name_and_type_at}
+use Rattle.jv_pool.specs.Facts.{value_of_type}
+use Rattle.jv_pool.specs.Rules.{IsFieldDescriptor, IsMethodDescriptor, IsDescriptor, NamesField, special_name_keeps_rules, NamesMethod, KeepsRules}
+use Rattle.jv_class_structure.specs.Structure.{FieldInfo, MethodInfo, ClassStructure, body_fits}
+use Rattle.jv_class_structure.specs.Attributes.{attributes_keep_rules, static_value}
+use Rattle.jv_class_structure.specs.Flags.{has, acc_interface, class_flags_keep_rules}
+use Rattle.jv_class_structure.specs.Version.{is_supported_version}
+use Rattle.jv_class.specs.Rules.{is_no_array_name, is_class_at, super_keeps_rules, interface_super_keeps_rules, field_flags_keep_rules, value_keeps_rules, KeepsRulesAsField, method_flags_keep_rules, init_keeps_rules, clinit_keeps_rules, slots_keep_rules, code_presence_keeps_rules, KeepsRulesAsMethod, field_texts, method_texts, has_code, NoTwoAlike, KeepsClassRules}
+use Rattle.jv_class.specs.Supported.{HasNoFloating, IsSupportedConstant, IsSupportedType, AreSupportedFlags, is_supported_method, IsSupported}
 use Rattle.jv_asm.specs.Law.{CanBeRead}
 
 -- ---- tests of what may be there

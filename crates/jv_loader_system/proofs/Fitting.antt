@@ -2,11 +2,11 @@
 use Rattle.std.specs.Prelude.{Bool, ◌&&◌, IsTrue, List}
 use Rattle.std.specs.List.{All, list_all}
 use Rattle.std.proofs.lemmas.Bool.{and_parts}
-use Rattle.jv_loader_files.specs.of_pool.Constants.{pool_fits}
-use Rattle.jv_loader_files.specs.of_class_parts.Structure.{ClassStructure, body_fits}
+use Rattle.jv_pool.specs.Constants.{pool_fits}
+use Rattle.jv_class_structure.specs.Structure.{ClassStructure, body_fits}
 use Rattle.jv_asm.specs.Fits.{IsFit}
 use Rattle.jv_loader_system.specs.declared.throwables.ThrowableClass.{ThrowableClass}
-use Rattle.jv_loader_system.specs.Throwables.{throwable_class_file}
+use Rattle.jv_meaning_world.specs.System.Throwables.{throwable_class_file}
 use Rattle.jv_loader_system.specs.Inside.Table.{row_of}
 use Rattle.jv_loader_system.proofs.Decided.{each}
 

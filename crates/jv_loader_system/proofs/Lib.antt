@@ -1,3 +1,3 @@
 pub mod Decided
-pub mod Standing
 pub mod Fitting
+pub mod Standing

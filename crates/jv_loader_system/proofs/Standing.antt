@@ -8,17 +8,17 @@ use Rattle.jv_text.specs.Types.{TypesAgree}
 use Rattle.jv_code.specs.Insns.{Instruction, insn_bytes}
 use Rattle.jv_code.specs.Places.{all_fit, IsCode}
 use Rattle.jv_code.specs.Unsupported.{IsUnsupported, CodeIsSupported}
-use Rattle.jv_loader_files.specs.of_class_parts.Structure.{ClassStructure, class_bytes}
-use Rattle.jv_loader_files.specs.of_class.Class.{Class, Method, class_of}
+use Rattle.jv_class_structure.specs.Structure.{ClassStructure, class_bytes}
+use Rattle.jv_class.specs.Class.{Class, Method, class_of}
 use Rattle.jv_asm.specs.Law.{CanBeRead, WrittenReadsBack}
-use Rattle.jv_loader_files.specs.FileContent.{HasNoUnsupportedCode, IsProfileClass, AreContents}
-use Rattle.jv_loader_files.specs.declared.content.Content.TheVariants.{Holds}
-use Rattle.jv_loader_system.specs.Interfaces.{interface, interface_file}
-use Rattle.jv_loader_system.specs.Object as object
-use Rattle.jv_loader_system.specs.String as string
-use Rattle.jv_loader_system.specs.Throwable as throwable
-use Rattle.jv_loader_system.specs.Throwables as throwables
-use Rattle.jv_loader_system.specs.SystemClasses.{classes_with_files, system_structures, system_bytes, system_contents}
+use Rattle.jv_meaning_world.specs.FileContent.{HasNoUnsupportedCode, IsProfileClass, AreContents}
+use Rattle.jv_meaning_world.specs.declared.content.Content.TheVariants.{Holds}
+use Rattle.jv_meaning_world.specs.System.Interfaces.{interface, interface_file}
+use Rattle.jv_meaning_world.specs.System.Object as object
+use Rattle.jv_meaning_world.specs.System.String as string
+use Rattle.jv_meaning_world.specs.System.Throwable as throwable
+use Rattle.jv_meaning_world.specs.System.Throwables as throwables
+use Rattle.jv_meaning_world.specs.System.Classes.{classes_with_files, system_structures, system_bytes, system_contents}
 use Rattle.jv_loader_system.proofs.Decided.{can_be_read, readable, is_supported, supported}
 
 -- the laws of lower layers that serve here

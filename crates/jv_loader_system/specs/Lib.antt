@@ -1,11 +1,1 @@
-pub mod Mnemonics
-pub mod Members
-pub mod Interfaces
-pub mod Io
-pub mod Object
-pub mod String
-pub mod Throwable
-pub mod Throwables
-pub mod SystemClasses
-pub mod Rows
 pub mod Inside

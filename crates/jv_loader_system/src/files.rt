@@ -1,21 +1,21 @@
 //! The files of the system classes.
 
 ghost use Rattle.std.specs.Prelude.{◌≡◌, ◌<◌, ◌++◌, [], ◌∷◌, Some, IfOk, OnOk, length, map, slice_get};
-ghost use Rattle.jv_loader_files.specs.of_class_parts.Structure.{class_bytes};
-ghost use Rattle.jv_loader_files.specs.FileContent.{AreContents};
-ghost use Rattle.jv_loader_system.specs.Interfaces.{cloneable_file, serializable_file};
-ghost use Rattle.jv_loader_system.specs.Object.{object_file};
-ghost use Rattle.jv_loader_system.specs.String.{string_file};
-ghost use Rattle.jv_loader_system.specs.Throwable.{throwable_file};
-ghost use Rattle.jv_loader_system.specs.SystemClasses.{system_bytes, system_contents};
+ghost use Rattle.jv_class_structure.specs.Structure.{class_bytes};
+ghost use Rattle.jv_meaning_world.specs.FileContent.{AreContents};
+ghost use Rattle.jv_meaning_world.specs.System.Interfaces.{cloneable_file, serializable_file};
+ghost use Rattle.jv_meaning_world.specs.System.Object.{object_file};
+ghost use Rattle.jv_meaning_world.specs.System.String.{string_file};
+ghost use Rattle.jv_meaning_world.specs.System.Throwable.{throwable_file};
+ghost use Rattle.jv_meaning_world.specs.System.Classes.{system_bytes, system_contents};
 
 use crate::interface::{cloneable_file, serializable_file};
 use crate::law::system_holds;
+use crate::memory::Memory;
 use crate::object::object_file;
 use crate::string::string_file;
 use crate::throwable::throwable_file;
 use crate::throwables::put_throwable_files;
-use jv_loader_files::Memory;
 use std::alloc::Global;
 use std::marker::Model;
 
@@ -28,7 +28,7 @@ pub struct SystemFiles {
 
 impl Model for SystemFiles {
     ghost use Rattle.std.specs.Prelude.{◌≡◌, ℕ, List, map};
-    ghost use Rattle.jv_loader_system.specs.SystemClasses.{system_bytes};
+    ghost use Rattle.jv_meaning_world.specs.System.Classes.{system_bytes};
 
     ghost Value = { List (List ℕ) };
 

@@ -1,13 +1,13 @@
 //! java/lang/Cloneable and java/io/Serializable.
 
 ghost use Rattle.std.specs.Prelude.{◌≡◌, IfOk};
-ghost use Rattle.jv_loader_files.specs.of_class_parts.Structure.{class_bytes};
-ghost use Rattle.jv_loader_system.specs.Interfaces.{cloneable_file, serializable_file};
+ghost use Rattle.jv_class_structure.specs.Structure.{class_bytes};
+ghost use Rattle.jv_meaning_world.specs.System.Interfaces.{cloneable_file, serializable_file};
 
 use crate::flag::INTERFACE;
+use crate::memory::Memory;
 use crate::written::written;
 use jv_asm::{Constant, Description};
-use jv_loader_files::Memory;
 use std::alloc::Global;
 
 const INTERFACE_CLASS: u16 = 2;

@@ -1,10 +1,11 @@
-//! The system classes (JVMS 2.12, own selection). A private part of `jv_loader`.
+//! The system classes (JVMS 2.12, own selection). A room of `jv_loader`.
 #![tactic(auto)]
 
 mod files;
 mod flag;
 mod interface;
 mod law;
+mod memory;
 mod object;
 mod opcode;
 mod string;
@@ -13,4 +14,4 @@ mod throwables;
 mod written;
 
 pub use files::{SystemFiles, system_files};
-pub use law::worked_rows;
+pub use memory::Memory;

@@ -1,17 +1,17 @@
 //! java/lang/Object.
 
 ghost use Rattle.std.specs.Prelude.{◌≡◌, IfOk};
-ghost use Rattle.jv_loader_files.specs.of_class_parts.Structure.{class_bytes};
-ghost use Rattle.jv_loader_system.specs.Object.{object_file};
+ghost use Rattle.jv_class_structure.specs.Structure.{class_bytes};
+ghost use Rattle.jv_meaning_world.specs.System.Object.{object_file};
 
 use crate::flag::{CLASS, PUBLIC};
+use crate::memory::Memory;
 use crate::opcode::{ALOAD_0, ALOAD_1, ICONST_0, ICONST_1, IF_ACMPNE, IRETURN, RETURN};
 use crate::written::written;
 use jv_asm::{
     AttributeDescription, CodeDescription, Constant, Description, MethodAttributeDescription,
     MethodDescription,
 };
-use jv_loader_files::Memory;
 use std::alloc::Global;
 
 const OBJECT_CLASS: u16 = 2;

@@ -1,10 +1,11 @@
 //! java/lang/String.
 
 ghost use Rattle.std.specs.Prelude.{◌≡◌, IfOk};
-ghost use Rattle.jv_loader_files.specs.of_class_parts.Structure.{class_bytes};
-ghost use Rattle.jv_loader_system.specs.String.{string_file};
+ghost use Rattle.jv_class_structure.specs.Structure.{class_bytes};
+ghost use Rattle.jv_meaning_world.specs.System.String.{string_file};
 
 use crate::flag::{FINAL_CLASS, PRIVATE_FINAL, PUBLIC};
+use crate::memory::Memory;
 use crate::opcode::{
     ALOAD_0, ALOAD_1, ALOAD_2, ARRAYLENGTH, ASTORE_2, BIPUSH, CALOAD, CHECKCAST, GETFIELD, GOTO,
     IADD, ICONST_0, ICONST_1, IF_ICMPEQ, IF_ICMPGE, IFNE, IINC, ILOAD_1, ILOAD_2, ILOAD_3, IMUL,
@@ -15,7 +16,6 @@ use jv_asm::{
     AttributeDescription, CodeDescription, Constant, Description, FieldDescription,
     MethodAttributeDescription, MethodDescription,
 };
-use jv_loader_files::Memory;
 use std::alloc::Global;
 
 const STRING_CLASS: u16 = 2;

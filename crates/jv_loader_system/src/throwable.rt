@@ -1,17 +1,17 @@
 //! java/lang/Throwable.
 
 ghost use Rattle.std.specs.Prelude.{◌≡◌, IfOk};
-ghost use Rattle.jv_loader_files.specs.of_class_parts.Structure.{class_bytes};
-ghost use Rattle.jv_loader_system.specs.Throwable.{throwable_file};
+ghost use Rattle.jv_class_structure.specs.Structure.{class_bytes};
+ghost use Rattle.jv_meaning_world.specs.System.Throwable.{throwable_file};
 
 use crate::flag::{CLASS, PRIVATE, PUBLIC};
+use crate::memory::Memory;
 use crate::opcode::{ALOAD_0, ALOAD_1, ARETURN, GETFIELD, INVOKESPECIAL, PUTFIELD, RETURN};
 use crate::written::written;
 use jv_asm::{
     CodeDescription, Constant, Description, FieldDescription, MethodAttributeDescription,
     MethodDescription,
 };
-use jv_loader_files::Memory;
 use std::alloc::Global;
 
 const THROWABLE_CLASS: u16 = 2;

@@ -2,18 +2,18 @@
 
 ghost use Rattle.std.specs.Prelude.{◌≡◌, ◌++◌, IfOk, OnOk, map};
 ghost use Rattle.std.specs.List.{All};
-ghost use Rattle.jv_loader_files.specs.of_class_parts.Structure.{class_bytes};
+ghost use Rattle.jv_class_structure.specs.Structure.{class_bytes};
 ghost use Rattle.jv_asm.specs.Fits.{IsFit};
-ghost use Rattle.jv_loader_system.specs.Throwables.{throwable_class_file, throwable_rows};
+ghost use Rattle.jv_meaning_world.specs.System.Throwables.{throwable_class_file, throwable_rows};
 ghost use Rattle.jv_loader_system.specs.Inside.Table.{row_of};
 
 use crate::flag::{ABSTRACT_CLASS, CLASS, PUBLIC};
+use crate::memory::Memory;
 use crate::opcode::{ALOAD_0, ALOAD_1, INVOKESPECIAL, RETURN};
 use crate::written::written;
 use jv_asm::{
     CodeDescription, Constant, Description, MethodAttributeDescription, MethodDescription,
 };
-use jv_loader_files::Memory;
 use std::alloc::Global;
 
 /// What such classes differ in.

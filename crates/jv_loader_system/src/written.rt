@@ -1,12 +1,12 @@
 //! Files of descriptions that are known to fit.
 
 ghost use Rattle.std.specs.Prelude.{◌≡◌, IfOk};
-ghost use Rattle.jv_loader_files.specs.of_class_parts.Structure.{class_bytes};
+ghost use Rattle.jv_class_structure.specs.Structure.{class_bytes};
 ghost use Rattle.jv_asm.specs.Description.{described_class};
 ghost use Rattle.jv_asm.specs.Fits.{IsFit};
 
+use crate::memory::Memory;
 use jv_asm::{AsmFault, Description, write_class};
-use jv_loader_files::Memory;
 use std::alloc::Global;
 
 /// The file of a description whose counts and lengths fit their fields.

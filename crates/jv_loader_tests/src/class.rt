@@ -1,8 +1,9 @@
 //! Classes of a world: those of the system's files, and host/Io.
 
-use jv_loader_class::LoadedClass;
-use jv_loader_files::{Content, read_content};
+use jv_classes::LoadedClass;
+use jv_loader::read_content;
 use jv_loader_system::{SystemFiles, system_files};
+use jv_meaning_world::Content;
 use std::alloc::Global;
 use std::hash::RandomState;
 

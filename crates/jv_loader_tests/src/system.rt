@@ -1,7 +1,8 @@
 //! The files of the system classes, read back.
 
-use jv_loader_files::{Content, read_content};
-use jv_loader_system::{SystemFiles, system_files, worked_rows};
+use jv_loader::read_content;
+use jv_loader_system::{SystemFiles, system_files};
+use jv_meaning_world::{Content, system_rows};
 use std::alloc::Global;
 
 /// The names of the classes with files, in their order.
@@ -85,5 +86,5 @@ fn files_hold_their_classes_or_has_no_memory(rt: HostRuntime) {
 
 #[test]
 fn law() {
-    worked_rows();
+    system_rows();
 }

@@ -1,6 +1,6 @@
 -- A file is judged in one way.
 use Rattle.std.proofs.Common.{◌≡◌, ℕ, List, [], ◌∷◌, Result, Ok, refl, sym, ap, subst, ◌∙◌}
-use Rattle.jv_class_parts.specs.Structure.{ClassStructure}
+use Rattle.jv_class_structure.specs.Structure.{ClassStructure}
 use Rattle.jv_class.specs.ClassFile.{OneStructure}
 use Rattle.jv_meaning.specs.declared.guest.Budget.{Budget}
 use Rattle.jv_meaning.specs.Guest.{Guest, Observed}

@@ -4,7 +4,7 @@ use Rattle.std.specs.Prelude.{bit_and, pos}
 use Rattle.jv_meaning.specs.declared.thin.insn.ThinInsn.{ThinInsn}
 use Rattle.jv_meaning.specs.declared.thin.insn.ThinInsn.TheVariants.{Constant, Invokestatic}
 use Rattle.jv_meaning.specs.Thin.Accepted.{IsAccepted, IsMainLike, IsShortLine, IsLine}
-use Rattle.jv_class_parts.specs.Parts.{CodeSeen, MethodSeen, code_shown, method_shown}
+use Rattle.jv_class_structure.specs.Parts.{CodeSeen, MethodSeen, code_shown, method_shown}
 use Rattle.jv_meaning.specs.Thin.Rows.{hi_pool, hi_code, hi_main, hi_class}
 
 hi_insns : List ThinInsn

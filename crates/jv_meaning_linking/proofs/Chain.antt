@@ -9,10 +9,10 @@ use Rattle.std.proofs.lemmas.List.{length-map}
 use Rattle.std.proofs.lemmas.Map.Keys.{IsDistinct-cons}
 use Rattle.std.proofs.lemmas.Map.Made.{length-le_from_is_member}
 use Rattle.jv_class.specs.Class.{Class}
-use Rattle.jv_loader_world.specs.World.{Loaded, World, class_named}
-use Rattle.jv_loader_world.specs.Above.{above, is_circular, class_if_named, superclass_in, chain_within, superclasses}
-use Rattle.jv_loader_world.specs.Laws.{AboveByWays, AboveIsTransitive}
-use Rattle.jv_loader_world.proofs.Up.{none, first, later, name_of, names_of, named_is_member}
+use Rattle.jv_meaning_world.specs.World.{Loaded, World, class_named}
+use Rattle.jv_meaning_world.specs.Above.{above, is_circular, class_if_named, superclass_in, chain_within, superclasses}
+use Rattle.jv_meaning_world.specs.Laws.Above.{AboveByWays, AboveIsTransitive}
+use Rattle.jv_meaning_world.proofs.Up.{none, first, later, name_of, names_of, named_is_member}
 use Rattle.jv_meaning_linking.proofs.Found.{split, in_find, same_text}
 use Rattle.jv_meaning_linking.proofs.Searched.{AllOf, superclass_is_super, of_chain, direct}
 

@@ -6,14 +6,14 @@ use Rattle.std.specs.Str.{bytes_eq}
 use Rattle.std.proofs.lemmas.List.{append_assoc, append-nil}
 use Rattle.std.proofs.lemmas.List.Elements.{Contains-append_left, Contains-append_right, Contains-append_cases, filter-append}
 use Rattle.jv_class.specs.Class.{Class}
-use Rattle.jv_loader_world.specs.World.{Loaded, World, class_named}
-use Rattle.jv_loader_world.specs.Above.{above, is_circular, class_if_named, superclass_names}
-use Rattle.jv_loader_world.specs.Verdicts.{is_interface}
-use Rattle.jv_loader_world.specs.LookUps.{is_among}
-use Rattle.jv_loader_world.specs.Laws.{AboveByWays, AboveIsTransitive}
+use Rattle.jv_meaning_world.specs.World.{Loaded, World, class_named}
+use Rattle.jv_meaning_world.specs.Above.{above, is_circular, class_if_named, superclass_names}
+use Rattle.jv_meaning_world.specs.Verdicts.{is_interface}
+use Rattle.jv_meaning_world.specs.LookUps.{is_among}
+use Rattle.jv_meaning_world.specs.Laws.Above.{AboveByWays, AboveIsTransitive}
 use Rattle.jv_meaning_linking.specs.InitializationOrder.{interfaces_in, given_within, enumerated, declares_default, init_order}
 use Rattle.jv_meaning_linking.specs.Laws.{IsInterfaceWay, IsOwnSuperinterface, EachBehind, IsNext, behind_superclass, IsInitOrder, InitOrderIsByRule}
-use Rattle.jv_loader_world.proofs.Up.{none, single, first, later}
+use Rattle.jv_meaning_world.proofs.Up.{none, single, first, later}
 use Rattle.jv_meaning_linking.proofs.Found.{split, in_filter, in_found, same_text}
 use Rattle.jv_meaning_linking.proofs.Searched.{AllOf, of_joined, of_fold, of_given, interfaces_above}
 use Rattle.jv_meaning_linking.proofs.Chain.{in_any, found_is_named, IsNamedIn, IsFresh, NoTwo, few}

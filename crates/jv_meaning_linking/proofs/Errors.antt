@@ -8,14 +8,14 @@ use Rattle.jv_text.specs.declared.descriptor.FieldTypeOf.{FieldTypeOf}
 use Rattle.jv_text.specs.Name.{is_array_name, is_init}
 use Rattle.jv_text.specs.Types.{field_type_of}
 use Rattle.jv_pool.specs.Constants.{MemberReference}
-use Rattle.jv_class_parts.specs.Flags.{has, acc_public, acc_interface, acc_abstract}
+use Rattle.jv_class_structure.specs.Flags.{has, acc_public, acc_interface, acc_abstract}
 use Rattle.jv_class.specs.Class.{Method}
-use Rattle.jv_loader_world.specs.World.{Loaded, World, class_named, can_name}
-use Rattle.jv_loader_world.specs.Overriding.{Declared}
-use Rattle.jv_loader_world.specs.declared.verdict.LoadVerdict.{LoadVerdict}
-use Rattle.jv_loader_world.specs.Verdicts.{verdict_of_class}
-use Rattle.jv_loader_world.specs.declared.verdict.LoadVerdict.TheVariants.{Circular, NoSuper, WrongKind, NoAccess}
-use Rattle.jv_loader_world.specs.LookUps.{is_concrete, lookup_field, lookup_class_method, lookup_interface_method, candidates, maximally_specific}
+use Rattle.jv_meaning_world.specs.World.{Loaded, World, class_named, can_name}
+use Rattle.jv_meaning_world.specs.Overriding.{Declared}
+use Rattle.jv_meaning_world.specs.declared.verdict.LoadVerdict.{LoadVerdict}
+use Rattle.jv_meaning_world.specs.Verdicts.{verdict_of_class}
+use Rattle.jv_meaning_world.specs.declared.verdict.LoadVerdict.TheVariants.{Circular, NoSuper, WrongKind, NoAccess}
+use Rattle.jv_meaning_world.specs.LookUps.{is_concrete, lookup_field, lookup_class_method, lookup_interface_method, candidates, maximally_specific}
 use Rattle.jv_meaning_linking.specs.Uses.{Use, Site}
 use Rattle.jv_meaning_linking.specs.Uses.Use.{Invokevirtual, Invokespecial, Invokeinterface, New}
 use Rattle.jv_meaning_linking.specs.LinkErrors.{LinkError, OrError, ◌>>=◌, provided, unless_wrong}

@@ -5,16 +5,16 @@ use Rattle.std.specs.List.{Contains, find, list_any}
 use Rattle.std.specs.Str.{bytes_eq}
 use Rattle.std.specs.Cmp.Lexicographic.{nat_list_eq_equiv}
 use Rattle.std.proofs.lemmas.List.{append_assoc, append-nil, reverse-append}
-use Rattle.jv_class_parts.specs.Flags.{has, acc_final}
-use Rattle.jv_loader_world.specs.World.{Loaded, World}
-use Rattle.jv_loader_world.specs.Above.{above, is_above, is_circular, superclass_in, chain_within, superclasses}
-use Rattle.jv_loader_world.specs.Overriding.{Declared, is_instance, overriding}
-use Rattle.jv_loader_world.specs.Verdicts.{is_final_instance, declared_by, overrides_in, breaks_final_of, breaks_final}
-use Rattle.jv_loader_world.specs.Laws.{AboveByWays, AboveIsTransitive}
+use Rattle.jv_class_structure.specs.Flags.{has, acc_final}
+use Rattle.jv_meaning_world.specs.World.{Loaded, World}
+use Rattle.jv_meaning_world.specs.Above.{above, is_above, is_circular, superclass_in, chain_within, superclasses}
+use Rattle.jv_meaning_world.specs.Overriding.{Declared, is_instance, overriding}
+use Rattle.jv_meaning_world.specs.Verdicts.{is_final_instance, declared_by, overrides_in, breaks_final_of, breaks_final}
+use Rattle.jv_meaning_world.specs.Laws.Above.{AboveByWays, AboveIsTransitive}
 use Rattle.jv_meaning_linking.specs.Access.{same_class}
 use Rattle.jv_meaning_linking.specs.Selection.{upward, classes_below}
 use Rattle.jv_meaning_linking.specs.Laws.{NoneBreaksFinal, FinalIsRun}
-use Rattle.jv_loader_world.proofs.Up.{none, first, later}
+use Rattle.jv_meaning_world.proofs.Up.{none, first, later}
 use Rattle.jv_meaning_linking.proofs.Found.{split, same_text}
 use Rattle.jv_meaning_linking.proofs.Searched.{AllOf, superclass_is_above}
 use Rattle.jv_meaning_linking.proofs.Chain.{in_any, chain_is_above}

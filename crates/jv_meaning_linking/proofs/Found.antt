@@ -9,9 +9,9 @@ use Rattle.std.proofs.lemmas.Bool.{and_parts}
 use Rattle.std.proofs.lemmas.List.Elements.{Contains-append_left, Contains-append_right, Contains-append_cases}
 use Rattle.std.proofs.lemmas.Slice.Eq.{bytes_eq-Decides}
 use Rattle.jv_class.specs.Class.{Class, Field, Method, field_named, method_named}
-use Rattle.jv_loader_world.specs.Overriding.{Declared}
-use Rattle.jv_loader_world.specs.LookUps.{first_found, else_option, only, method_if}
-use Rattle.jv_loader_world.proofs.Up.{none, single, first, later}
+use Rattle.jv_meaning_world.specs.Overriding.{Declared}
+use Rattle.jv_meaning_world.specs.LookUps.{first_found, else_option, only, method_if}
+use Rattle.jv_meaning_world.proofs.Up.{none, single, first, later}
 use Rattle.jv_meaning_linking.specs.LinkErrors.{LinkError, OrError, ◌>>=◌, provided}
 use Rattle.jv_meaning_linking.specs.Selection.{one_of}
 

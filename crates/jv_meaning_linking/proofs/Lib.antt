@@ -1,14 +1,14 @@
+pub mod ByRule
+pub mod Chain
+pub mod Enumerated
+pub mod Errors
+pub mod Finals
 pub mod Found
-pub mod Searched
+pub mod Loading
+pub mod OneWalk
+pub mod Places
 pub mod Resolved
 pub mod Run
-pub mod Chain
-pub mod Places
+pub mod Searched
 pub mod Unchanged
-mod Finals
-pub mod Loading
-mod Errors
-mod OneWalk
-mod Enumerated
-pub mod ByRule
-mod Upward
+pub mod Upward

@@ -6,15 +6,15 @@ use Rattle.std.specs.Option.{option_and_then}
 use Rattle.std.specs.Str.{bytes_eq}
 use Rattle.std.proofs.lemmas.Bool.{and_parts, and_from}
 use Rattle.jv_class.specs.Class.{Class}
-use Rattle.jv_loader_world.specs.World.{Loaded, World, class_named}
-use Rattle.jv_loader_world.specs.Above.{super_names, supers_in, above, is_circular, superclasses}
-use Rattle.jv_loader_world.specs.declared.verdict.LoadVerdict.{LoadVerdict}
-use Rattle.jv_loader_world.specs.Verdicts.{passes, each_super, have_right_kind, can_name_supers, is_loadable_within, is_loadable, has_final_super, breaks_final, verdict_of_class}
-use Rattle.jv_loader_world.specs.declared.verdict.LoadVerdict.TheVariants.{Circular, NoSuper, WrongKind, NoAccess, FinalBroken}
-use Rattle.jv_loader_world.specs.Laws.{AboveByWays, AboveIsTransitive, LoadableByAll, IsWayUp, stands_itself}
+use Rattle.jv_meaning_world.specs.World.{Loaded, World, class_named}
+use Rattle.jv_meaning_world.specs.Above.{super_names, supers_in, above, is_circular, superclasses}
+use Rattle.jv_meaning_world.specs.declared.verdict.LoadVerdict.{LoadVerdict}
+use Rattle.jv_meaning_world.specs.Verdicts.{passes, each_super, have_right_kind, can_name_supers, is_loadable_within, is_loadable, has_final_super, breaks_final, verdict_of_class}
+use Rattle.jv_meaning_world.specs.declared.verdict.LoadVerdict.TheVariants.{Circular, NoSuper, WrongKind, NoAccess, FinalBroken}
+use Rattle.jv_meaning_world.specs.Laws.Above.{AboveByWays, AboveIsTransitive, LoadableByAll, IsWayUp, stands_itself}
 use Rattle.jv_meaning_linking.specs.ClassResolution.{loading_error, error_of_class}
 use Rattle.jv_meaning_linking.specs.Laws.{LoadableResolves}
-use Rattle.jv_loader_world.proofs.Up.{none, first, later}
+use Rattle.jv_meaning_world.proofs.Up.{none, first, later}
 use Rattle.jv_meaning_linking.proofs.Found.{split, in_found, found_in}
 use Rattle.jv_meaning_linking.proofs.Searched.{direct}
 use Rattle.jv_meaning_linking.proofs.Finals.{found_stands}

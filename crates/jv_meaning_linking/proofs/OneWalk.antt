@@ -8,10 +8,10 @@ use Rattle.std.proofs.lemmas.Bool.Decides.{Decides-eqb}
 use Rattle.std.proofs.lemmas.Nat.{and_le_r}
 use Rattle.std.proofs.lemmas.List.{append_assoc, append-nil}
 use Rattle.std.proofs.lemmas.List.Folds.{list_any-append}
-use Rattle.jv_class_parts.specs.Flags.{has, acc_private}
+use Rattle.jv_class_structure.specs.Flags.{has, acc_private}
 use Rattle.jv_class.specs.Class.{Method}
-use Rattle.jv_loader_world.specs.World.{Loaded, package_of, same_loader, same_package}
-use Rattle.jv_loader_world.specs.Overriding.{Declared, is_package_private, overrides_itself, alike_in, with_declared, overriding}
+use Rattle.jv_meaning_world.specs.World.{Loaded, package_of, same_loader, same_package}
+use Rattle.jv_meaning_world.specs.Overriding.{Declared, is_package_private, overrides_itself, alike_in, with_declared, overriding}
 use Rattle.jv_meaning_linking.specs.Inside.OneWalk.{is_open, joins, walked, OverridingInOneWalk}
 use Rattle.jv_meaning_linking.proofs.Found.{same_text}
 use Rattle.jv_meaning_linking.proofs.Unchanged.{narrowed}

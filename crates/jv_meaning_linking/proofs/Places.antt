@@ -5,8 +5,8 @@ use Rattle.std.specs.List.{AllByRecursion, flat_map}
 use Rattle.std.proofs.lemmas.Grind.{flat_map-append}
 use Rattle.std.proofs.lemmas.List.{reverse-append}
 use Rattle.std.proofs.lemmas.List.Sums.{sum_by-cons}
-use Rattle.jv_loader_world.specs.LookUps.{DeclaredField}
-use Rattle.jv_loader_world.specs.Laws.{AboveByWays, AboveIsTransitive}
+use Rattle.jv_meaning_world.specs.LookUps.{DeclaredField}
+use Rattle.jv_meaning_world.specs.Laws.Above.{AboveByWays, AboveIsTransitive}
 use Rattle.jv_meaning_linking.specs.Selection.{upward}
 use Rattle.jv_meaning_linking.specs.Layout.{own_fields, instance_fields, field_words, object_words, Placed, laid_at, placed_from, layout, end_of, AreApart, EachTwoApart}
 use Rattle.jv_meaning_linking.specs.Laws.{LayoutIsByRule, LayoutExtends}

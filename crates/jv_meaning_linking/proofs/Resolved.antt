@@ -8,12 +8,12 @@ use Rattle.std.specs.Cmp.Lexicographic.{nat_list_eq_equiv}
 use Rattle.std.proofs.lemmas.Bool.{and_parts}
 use Rattle.jv_pool.specs.Constants.{MemberReference}
 use Rattle.jv_class.specs.Class.{Field, Method, field_named, method_named}
-use Rattle.jv_loader_world.specs.World.{Loaded, World, class_named}
-use Rattle.jv_loader_world.specs.Above.{above, superclasses}
-use Rattle.jv_loader_world.specs.Overriding.{Declared}
-use Rattle.jv_loader_world.specs.Verdicts.{is_interface, declared_by}
-use Rattle.jv_loader_world.specs.LookUps.{DeclaredField, field_by, lookup_field, searched_from, first_found, itself, only, else_option, method_if, method_in, method_if_loaded, without_itself, superinterfaces, is_inheritable, is_concrete, is_public_instance, candidates, maximally_specific, is_below, superinterface_method, lookup_class_method, lookup_interface_method}
-use Rattle.jv_loader_world.specs.Laws.{AboveByWays, AboveIsTransitive}
+use Rattle.jv_meaning_world.specs.World.{Loaded, World, class_named}
+use Rattle.jv_meaning_world.specs.Above.{above, superclasses}
+use Rattle.jv_meaning_world.specs.Overriding.{Declared}
+use Rattle.jv_meaning_world.specs.Verdicts.{is_interface, declared_by}
+use Rattle.jv_meaning_world.specs.LookUps.{DeclaredField, field_by, lookup_field, searched_from, first_found, itself, only, else_option, method_if, method_in, method_if_loaded, without_itself, superinterfaces, is_inheritable, is_concrete, is_public_instance, candidates, maximally_specific, is_below, superinterface_method, lookup_class_method, lookup_interface_method}
+use Rattle.jv_meaning_world.specs.Laws.Above.{AboveByWays, AboveIsTransitive}
 use Rattle.jv_meaning_linking.specs.LinkErrors.{◌>>=◌, provided}
 use Rattle.jv_meaning_linking.specs.LinkErrors.LinkError.{IncompatibleClassChangeError, IllegalAccessError, NoSuchFieldError, NoSuchMethodError}
 use Rattle.jv_meaning_linking.specs.Operands.{MethodConstant, MethodReference}

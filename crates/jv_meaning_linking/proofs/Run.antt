@@ -7,14 +7,14 @@ use Rattle.std.proofs.lemmas.Bool.{and_parts}
 use Rattle.std.proofs.lemmas.Bool.Decides.{Decides-eqb}
 use Rattle.std.proofs.lemmas.Nat.{and_assoc}
 use Rattle.jv_text.specs.Name.{is_init}
-use Rattle.jv_class_parts.specs.Flags.{has, acc_public, acc_private, acc_static}
+use Rattle.jv_class_structure.specs.Flags.{has, acc_public, acc_private, acc_static}
 use Rattle.jv_class.specs.Class.{Method, method_named}
-use Rattle.jv_loader_world.specs.World.{Loaded, World, class_named}
-use Rattle.jv_loader_world.specs.Above.{superclasses}
-use Rattle.jv_loader_world.specs.Overriding.{Declared, declared_if, alike_in, is_instance}
-use Rattle.jv_loader_world.specs.Verdicts.{is_interface}
-use Rattle.jv_loader_world.specs.LookUps.{method_if, method_if_loaded, is_inheritable, is_concrete, is_public_instance, candidates, maximally_specific, is_below}
-use Rattle.jv_loader_world.specs.Laws.{AboveByWays, AboveIsTransitive}
+use Rattle.jv_meaning_world.specs.World.{Loaded, World, class_named}
+use Rattle.jv_meaning_world.specs.Above.{superclasses}
+use Rattle.jv_meaning_world.specs.Overriding.{Declared, declared_if, alike_in, is_instance}
+use Rattle.jv_meaning_world.specs.Verdicts.{is_interface}
+use Rattle.jv_meaning_world.specs.LookUps.{method_if, method_if_loaded, is_inheritable, is_concrete, is_public_instance, candidates, maximally_specific, is_below}
+use Rattle.jv_meaning_world.specs.Laws.Above.{AboveByWays, AboveIsTransitive}
 use Rattle.jv_meaning_linking.specs.Uses.{Use, Site}
 use Rattle.jv_meaning_linking.specs.Uses.Use.{Invokevirtual, Invokespecial, Invokeinterface}
 use Rattle.jv_meaning_linking.specs.LinkErrors.{OrError, ◌>>=◌, provided}
@@ -23,7 +23,7 @@ use Rattle.jv_meaning_linking.specs.Kind.{is_static_method}
 use Rattle.jv_meaning_linking.specs.MethodResolution.{MethodTarget, target}
 use Rattle.jv_meaning_linking.specs.Selection.{upward, overrides, overriding_in, first_overriding, first_alike, superinterface_default, not_abstract, found_or_default, select_virtual, implements, public_or_default, select_interface, interface_first, special_start, select_from, object_class, selected}
 use Rattle.jv_meaning_linking.specs.Laws.{IsRootClass, IsRun, SelectedIsRun, SpecialIsRun}
-use Rattle.jv_loader_world.proofs.Up.{first}
+use Rattle.jv_meaning_world.proofs.Up.{first}
 use Rattle.jv_meaning_linking.proofs.Found.{in_filter, in_or, in_first, in_one, passed, went_on, held, method_is_named}
 use Rattle.jv_meaning_linking.proofs.Resolved.{method_in_is, candidate, in_object}
 

@@ -4,14 +4,14 @@ use Rattle.std.specs.Prelude.{◌⊎◌, filter, if◌then◌else◌}
 use Rattle.std.specs.List.{Contains, filter_map, fold}
 use Rattle.std.proofs.lemmas.List.Elements.{Contains-append_left, Contains-append_right, Contains-append_cases}
 use Rattle.jv_class.specs.Class.{Class}
-use Rattle.jv_loader_world.specs.World.{Loaded, World, class_named}
-use Rattle.jv_loader_world.specs.Above.{superclass_names, super_names, supers_in, above, class_if_named, superclass_in, chain_within, superclasses}
-use Rattle.jv_loader_world.specs.Verdicts.{is_interface}
-use Rattle.jv_loader_world.specs.LookUps.{is_among, next_in, searched_within, searched_from}
-use Rattle.jv_loader_world.specs.Laws.{AboveByWays, AboveIsTransitive}
+use Rattle.jv_meaning_world.specs.World.{Loaded, World, class_named}
+use Rattle.jv_meaning_world.specs.Above.{superclass_names, super_names, supers_in, above, class_if_named, superclass_in, chain_within, superclasses}
+use Rattle.jv_meaning_world.specs.Verdicts.{is_interface}
+use Rattle.jv_meaning_world.specs.LookUps.{is_among, next_in, searched_within, searched_from}
+use Rattle.jv_meaning_world.specs.Laws.Above.{AboveByWays, AboveIsTransitive}
 use Rattle.jv_meaning_linking.specs.InitializationOrder.{interfaces_in, given_within, enumerated, declares_default, init_order}
 use Rattle.jv_meaning_linking.specs.Laws.{IsAtOrAbove}
-use Rattle.jv_loader_world.proofs.Up.{none, single, first, later}
+use Rattle.jv_meaning_world.proofs.Up.{none, single, first, later}
 use Rattle.jv_meaning_linking.proofs.Found.{split, in_filter, in_found, found_in}
 
 -- what holds of each class of a list

@@ -9,13 +9,13 @@ use Rattle.std.proofs.lemmas.Bool.{and_parts}
 use Rattle.std.proofs.lemmas.Bool.Decides.{Decides-eqb}
 use Rattle.std.proofs.lemmas.Nat.{and_assoc}
 use Rattle.jv_text.specs.Name.{is_init}
-use Rattle.jv_class_parts.specs.Flags.{has, acc_public, acc_private, acc_protected, visibility, visibility_keeps_rules}
+use Rattle.jv_class_structure.specs.Flags.{has, acc_public, acc_private, acc_protected, visibility, visibility_keeps_rules}
 use Rattle.jv_class.specs.Class.{Method, method_named}
-use Rattle.jv_loader_world.specs.World.{Loaded, World, class_named, same_package}
-use Rattle.jv_loader_world.specs.Above.{superclass_in, superclasses}
-use Rattle.jv_loader_world.specs.Overriding.{Declared, declared_if, alike_in, is_instance, is_package_private, overrides_itself, with_declared, overriding}
-use Rattle.jv_loader_world.specs.Verdicts.{is_interface}
-use Rattle.jv_loader_world.specs.LookUps.{first_found, else_option, method_if, is_public_instance, method_if_loaded}
+use Rattle.jv_meaning_world.specs.World.{Loaded, World, class_named, same_package}
+use Rattle.jv_meaning_world.specs.Above.{superclass_in, superclasses}
+use Rattle.jv_meaning_world.specs.Overriding.{Declared, declared_if, alike_in, is_instance, is_package_private, overrides_itself, with_declared, overriding}
+use Rattle.jv_meaning_world.specs.Verdicts.{is_interface}
+use Rattle.jv_meaning_world.specs.LookUps.{first_found, else_option, method_if, is_public_instance, method_if_loaded}
 use Rattle.jv_meaning_linking.specs.Uses.{Site}
 use Rattle.jv_meaning_linking.specs.Uses.Use.{Invokevirtual}
 use Rattle.jv_meaning_linking.specs.LinkErrors.{◌>>=◌, provided}
@@ -24,7 +24,7 @@ use Rattle.jv_meaning_linking.specs.Access.{same_class}
 use Rattle.jv_meaning_linking.specs.MethodResolution.{MethodTarget, target}
 use Rattle.jv_meaning_linking.specs.Selection.{upward, classes_below, are_alike, has_overriding, overrides, overriding_in, first_overriding, first_alike, found_or_default, interface_first, special_first, special_start, select_from, select}
 use Rattle.jv_meaning_linking.specs.Laws.{IsAboveObject, PrivateIsRun, NamedIsRun}
-use Rattle.jv_loader_world.proofs.Up.{none, first, later}
+use Rattle.jv_meaning_world.proofs.Up.{none, first, later}
 use Rattle.jv_meaning_linking.proofs.Found.{split, passed, same_text}
 use Rattle.jv_meaning_linking.proofs.Chain.{IsNamedIn, superclasses_are_named}
 use Rattle.jv_meaning_linking.proofs.Run.{alike}

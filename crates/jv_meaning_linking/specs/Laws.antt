@@ -4,14 +4,14 @@ use Rattle.std.specs.List.{Contains}
 use Rattle.std.specs.Option.{ok_or}
 use Rattle.jv_text.specs.Name.{is_init}
 use Rattle.jv_pool.specs.Constants.{MemberReference}
-use Rattle.jv_class_parts.specs.Flags.{has, acc_private, acc_final, visibility_keeps_rules}
+use Rattle.jv_class_structure.specs.Flags.{has, acc_private, acc_final, visibility_keeps_rules}
 use Rattle.jv_class.specs.Class.{Class, field_named, method_named}
-use Rattle.jv_loader_world.specs.World.{Loaded, World, class_named}
-use Rattle.jv_loader_world.specs.Above.{above, is_circular, superclass_in, superclasses}
-use Rattle.jv_loader_world.specs.Overriding.{Declared, is_instance}
-use Rattle.jv_loader_world.specs.Verdicts.{is_interface, is_loadable, breaks_final}
-use Rattle.jv_loader_world.specs.LookUps.{DeclaredField, is_concrete, is_among}
-use Rattle.jv_loader_world.specs.Laws.{SystemStandsAlone}
+use Rattle.jv_meaning_world.specs.World.{Loaded, World, class_named}
+use Rattle.jv_meaning_world.specs.Above.{above, is_circular, superclass_in, superclasses}
+use Rattle.jv_meaning_world.specs.Overriding.{Declared, is_instance}
+use Rattle.jv_meaning_world.specs.Verdicts.{is_interface, is_loadable, breaks_final}
+use Rattle.jv_meaning_world.specs.LookUps.{DeclaredField, is_concrete, is_among}
+use Rattle.jv_meaning_world.specs.Laws.Above.{SystemStandsAlone}
 use Rattle.jv_meaning_linking.specs.Uses.{Use, Site}
 use Rattle.jv_meaning_linking.specs.Uses.Use.{Invokevirtual, Invokespecial, Invokeinterface}
 use Rattle.jv_meaning_linking.specs.LinkErrors.{LinkError, ◌>>=◌}

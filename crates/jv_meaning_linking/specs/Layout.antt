@@ -3,8 +3,8 @@
 use Rattle.std.specs.Prelude.{◌≡◌, ℕ, ◌+◌, ◌≤◌, ◌⊎◌, ⊤, not, List, [], ◌∷◌, ◌++◌, map, reverse, filter, sum_by, codes, if◌then◌else◌}
 use Rattle.std.specs.List.{AllByRecursion, flat_map}
 use Rattle.std.specs.Str.{bytes_eq}
-use Rattle.jv_loader_world.specs.World.{Loaded, World}
-use Rattle.jv_loader_world.specs.LookUps.{DeclaredField, field_by}
+use Rattle.jv_meaning_world.specs.World.{Loaded, World}
+use Rattle.jv_meaning_world.specs.LookUps.{DeclaredField, field_by}
 use Rattle.jv_meaning_linking.specs.Kind.{is_static_field}
 use Rattle.jv_meaning_linking.specs.Selection.{upward}
 

@@ -2,8 +2,8 @@
 -- that `overriding` finds those that override by it.
 use Rattle.std.specs.Prelude.{◌≡◌, IsTrue, List, [], ◌∷◌, ◌++◌, Some, None}
 use Rattle.jv_class.specs.Class.{Method}
-use Rattle.jv_loader_world.specs.World.{Loaded}
-use Rattle.jv_loader_world.specs.Overriding.{Declared, overrides_itself, alike_in, overriding}
+use Rattle.jv_meaning_world.specs.World.{Loaded}
+use Rattle.jv_meaning_world.specs.Overriding.{Declared, overrides_itself, alike_in, overriding}
 
 -- A method overrides one of a class above its own, with these classes between the two, the highest first: it is not private,
 -- and the other is public or protected, or package-private in the same run-time package; or a third method between them

@@ -1,16 +1,5 @@
--- Worked rows of linking.
-use Rattle.jv_meaning_linking.specs.ResolutionRows.{ClassRows, FieldRows, MethodRows}
-use Rattle.jv_meaning_linking.specs.SelectionRows.{VirtualRows, DefaultRows, InterfaceRows, SpecialRows}
-use Rattle.jv_meaning_linking.specs.ObjectRows.{InitializationRows, LayoutRows, OperandRows}
-
-pub record WorkedRows : Type 0 where
-  pub classes : ClassRows
-  pub fields : FieldRows
-  pub methods : MethodRows
-  pub virtual : VirtualRows
-  pub defaults : DefaultRows
-  pub interfaces : InterfaceRows
-  pub special : SpecialRows
-  pub initialization : InitializationRows
-  pub layouts : LayoutRows
-  pub operands : OperandRows
+pub mod Objects
+pub mod Resolution
+pub mod Samples
+pub mod Selection
+pub mod Worked

@@ -5,13 +5,13 @@ use Rattle.std.specs.List.{list_any}
 use Rattle.std.specs.Option.{ok_or, option_or, unwrap_or}
 use Rattle.std.specs.Str.{bytes_eq}
 use Rattle.jv_text.specs.Name.{is_init}
-use Rattle.jv_class_parts.specs.Flags.{has, acc_public}
+use Rattle.jv_class_structure.specs.Flags.{has, acc_public}
 use Rattle.jv_class.specs.Class.{Method}
-use Rattle.jv_loader_world.specs.World.{Loaded, World, class_named}
-use Rattle.jv_loader_world.specs.Above.{is_above, superclass_in, superclasses}
-use Rattle.jv_loader_world.specs.Overriding.{Declared, is_instance, alike_in, overriding}
-use Rattle.jv_loader_world.specs.Verdicts.{is_interface}
-use Rattle.jv_loader_world.specs.LookUps.{is_among, first_found, candidates, maximally_specific, is_concrete, is_public_instance, method_if, method_if_loaded}
+use Rattle.jv_meaning_world.specs.World.{Loaded, World, class_named}
+use Rattle.jv_meaning_world.specs.Above.{is_above, superclass_in, superclasses}
+use Rattle.jv_meaning_world.specs.Overriding.{Declared, is_instance, alike_in, overriding}
+use Rattle.jv_meaning_world.specs.Verdicts.{is_interface}
+use Rattle.jv_meaning_world.specs.LookUps.{is_among, first_found, candidates, maximally_specific, is_concrete, is_public_instance, method_if, method_if_loaded}
 use Rattle.jv_meaning_linking.specs.Uses.{Use, Site}
 use Rattle.jv_meaning_linking.specs.Uses.Use.{Invokevirtual, Invokespecial, Invokeinterface}
 use Rattle.jv_meaning_linking.specs.LinkErrors.{OrError, ◌>>=◌, provided}

@@ -1,6 +1,6 @@
 -- The instructions that name a field, a method or a class to be linked, each with rules of its own (JVMS 6.5), and where
 -- they stand.
-use Rattle.jv_loader_world.specs.Overriding.{Declared}
+use Rattle.jv_meaning_world.specs.Overriding.{Declared}
 
 pub data Use : Type 0 where
   Getstatic : Use

@@ -4,9 +4,9 @@ ghost use Rattle.jv_meaning_linking.specs.Laws.{LoadableResolves, FieldIsUsed, M
 ghost use Rattle.jv_meaning_linking.specs.OverridingRule.{OverridingIsByRule};
 ghost use Rattle.jv_meaning_linking.specs.Inside.OneWalk.{OverridingInOneWalk};
 ghost use Rattle.jv_meaning_linking.specs.Inside.Upward.{OverridingUpward};
-ghost use Rattle.jv_meaning_linking.specs.Rows.{WorkedRows};
+ghost use Rattle.jv_meaning_linking.specs.Rows.Worked.{WorkedRows};
 
-use jv_loader_world::{above_by_ways, above_is_transitive, loadable_by_all};
+use jv_meaning_world::{above_by_ways, above_is_transitive, loadable_by_all};
 
 /// Worked rows of linking, computed.
 pub fn worked_rows()

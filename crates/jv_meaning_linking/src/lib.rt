@@ -1,5 +1,4 @@
-//! Linking (JVMS 5.4, 5.5): definitions of resolution, access, selection and layouts, and laws. A private part of
-//! `jv_meaning`.
+//! Linking (JVMS 5.4, 5.5): definitions of resolution, access, selection and layouts, and laws.
 #![tactic(auto)]
 
 mod law;

@@ -4,9 +4,9 @@ use Rattle.std.proofs.Common.{◌≡◌, ℕ, ◌+◌, ◌-◌, ◌^◌, min, na
 use Rattle.jv_format.specs.declared.handlers.Handler.{Handler}
 use Rattle.jv_text.specs.declared.descriptor.FieldTypeOf.{FieldTypeOf}
 use Rattle.jv_code.specs.Insns.{Instruction}
-use Rattle.jv_loader_world.specs.World.{Loaded, World}
-use Rattle.jv_loader_world.specs.Overriding.{Declared}
-use Rattle.jv_loader_world.specs.LookUps.{DeclaredField}
+use Rattle.jv_meaning_world.specs.World.{Loaded, World}
+use Rattle.jv_meaning_world.specs.Overriding.{Declared}
+use Rattle.jv_meaning_world.specs.LookUps.{DeclaredField}
 use Rattle.jv_meaning_linking.specs.LinkErrors.{error_class}
 use Rattle.jv_meaning_linking.specs.LinkErrors.LinkError.{NoClassDefFoundError, VerifyError}
 use Rattle.jv_meaning_machine.specs.Faults.{OrFault, found, ◌>>=◌}

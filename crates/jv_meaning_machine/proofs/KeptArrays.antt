@@ -8,7 +8,7 @@ use Rattle.std.proofs.lemmas.List.Sums.{sum_by-append}
 use Rattle.jv_text.specs.declared.descriptor.FieldTypeOf.{FieldTypeOf}
 use Rattle.jv_frames.specs.Types.{component}
 use Rattle.jv_code.specs.declared.kinds.NumberElement.{NumberElement}
-use Rattle.jv_loader_world.specs.World.{World}
+use Rattle.jv_meaning_world.specs.World.{World}
 use Rattle.jv_meaning_machine.specs.Faults.{OrFault, tested, ◌>>=◌}
 use Rattle.jv_meaning_machine.specs.Faults.Fault.{ReferenceFault, TagFault}
 use Rattle.jv_meaning_machine.specs.Values.{Value, default_of_type, narrowed}

@@ -5,10 +5,10 @@ use Rattle.std.proofs.lemmas.Bool.{leb-true}
 use Rattle.std.proofs.lemmas.List.Sums.{sum_by-cons}
 use Rattle.jv_format.specs.declared.handlers.Handler.{Handler}
 use Rattle.jv_text.specs.declared.descriptor.FieldTypeOf.{FieldTypeOf}
-use Rattle.jv_loader_world.specs.of_class_parts.Parts.{CodeSeen}
-use Rattle.jv_loader_world.specs.World.{Loaded, class_named}
-use Rattle.jv_loader_world.specs.Overriding.{Declared}
-use Rattle.jv_loader_world.specs.LookUps.{DeclaredField}
+use Rattle.jv_class_structure.specs.Parts.{CodeSeen}
+use Rattle.jv_meaning_world.specs.World.{Loaded, class_named}
+use Rattle.jv_meaning_world.specs.Overriding.{Declared}
+use Rattle.jv_meaning_world.specs.LookUps.{DeclaredField}
 use Rattle.jv_meaning_linking.specs.Layout.{object_cells}
 use Rattle.jv_text.specs.Types.{method_type_of}
 use Rattle.jv_meaning_linking.specs.LinkErrors.{error_class}

@@ -15,7 +15,7 @@ use Rattle.jv_code.specs.declared.kinds.Test.{Test}
 use Rattle.jv_code.specs.declared.kinds.Test.TheVariants as tests
 use Rattle.jv_code.specs.declared.kinds.ValueKind.{ValueKind}
 use Rattle.jv_code.specs.declared.kinds.ValueKind.TheVariants as kinds
-use Rattle.jv_loader_world.specs.World.{Loaded, World, class_named, can_name}
+use Rattle.jv_meaning_world.specs.World.{Loaded, World, class_named, can_name}
 use Rattle.jv_meaning_linking.specs.Uses.{Site}
 use Rattle.jv_meaning_linking.specs.Uses.Use.{New, Invokeinterface}
 use Rattle.jv_meaning_linking.specs.LinkErrors.{LinkError, OrError, provided, unless_wrong, ◌>>=◌}

@@ -5,11 +5,11 @@ use Rattle.std.proofs.lemmas.List.Sums.{sum_by-cons}
 use Rattle.jv_text.specs.declared.descriptor.Base.TheVariants as bases
 use Rattle.jv_code.specs.declared.kinds.FieldAccess.{FieldAccess}
 use Rattle.jv_code.specs.declared.kinds.FieldAccess.TheVariants as accesses
-use Rattle.jv_loader_world.specs.of_pool.Constants.{MemberReference}
-use Rattle.jv_loader_world.specs.of_class.Class.{InitialValue}
-use Rattle.jv_loader_world.specs.of_class.Class.InitialValue.{IntValue, LongValue, StringValue}
-use Rattle.jv_loader_world.specs.World.{Loaded, World, class_named}
-use Rattle.jv_loader_world.specs.LookUps.{DeclaredField}
+use Rattle.jv_pool.specs.Constants.{MemberReference}
+use Rattle.jv_class.specs.Class.{InitialValue}
+use Rattle.jv_class.specs.Class.InitialValue.{IntValue, LongValue, StringValue}
+use Rattle.jv_meaning_world.specs.World.{Loaded, World, class_named}
+use Rattle.jv_meaning_world.specs.LookUps.{DeclaredField}
 use Rattle.jv_meaning_linking.specs.LinkErrors.{OrError, error_class}
 use Rattle.jv_meaning_linking.specs.Operands.{field_operand}
 use Rattle.jv_meaning_linking.specs.FieldResolution.{resolve_field}

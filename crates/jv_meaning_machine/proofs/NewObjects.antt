@@ -6,10 +6,10 @@ use Rattle.std.proofs.lemmas.List.{length-replicate}
 use Rattle.jv_text.specs.declared.descriptor.FieldTypeOf.{FieldTypeOf}
 use Rattle.jv_frames.specs.declared.verification.VerificationTypeOf.TheVariants as types
 use Rattle.jv_frames.specs.Types.{FrameType, component}
-use Rattle.jv_loader_world.specs.of_pool.Constants.{at_index}
-use Rattle.jv_loader_world.specs.of_class.Class.{InitialValue}
-use Rattle.jv_loader_world.specs.of_class.Class.InitialValue.{IntValue, LongValue, StringValue}
-use Rattle.jv_loader_world.specs.World.{Loaded, class_named}
+use Rattle.jv_pool.specs.Constants.{at_index}
+use Rattle.jv_class.specs.Class.{InitialValue}
+use Rattle.jv_class.specs.Class.InitialValue.{IntValue, LongValue, StringValue}
+use Rattle.jv_meaning_world.specs.World.{Loaded, class_named}
 use Rattle.jv_meaning_linking.specs.Uses.{Use}
 use Rattle.jv_meaning_linking.specs.Uses.Use.{New}
 use Rattle.jv_meaning_linking.specs.LinkErrors.{OrError, error_class}

@@ -4,10 +4,10 @@ use Rattle.std.specs.Prelude.{◌≡◌, ◌↔◌, ℕ, zero, suc, ◌==◌, if
 use Rattle.jv_text.specs.Text.{Spells}
 use Rattle.jv_code.specs.Insns.{Instruction}
 use Rattle.jv_code.specs.Places.{IsCode}
-use Rattle.jv_loader_world.specs.of_loader_files.FileContent.{FileContent, AreContents}
-use Rattle.jv_loader_world.specs.of_loader_files.declared.content.Content.TheVariants.{Holds}
-use Rattle.jv_loader_world.specs.World.{world_of}
-use Rattle.jv_loader_system.specs.SystemClasses.{system_classes}
+use Rattle.jv_meaning_world.specs.FileContent.{FileContent, AreContents}
+use Rattle.jv_meaning_world.specs.declared.content.Content.TheVariants.{Holds}
+use Rattle.jv_meaning_world.specs.World.{world_of}
+use Rattle.jv_meaning_world.specs.System.Classes.{system_classes}
 use Rattle.jv_meaning_typing.specs.declared.verdict.Verdict.{Verdict}
 use Rattle.jv_meaning_typing.specs.declared.verdict.Verdict.TheVariants.{Accepted}
 use Rattle.jv_meaning_typing.specs.Judgement.{IsVerdictOfFile}

@@ -9,9 +9,9 @@ use Rattle.jv_text.specs.Types.{method_type_of}
 use Rattle.jv_frames.specs.Types.{value_type}
 use Rattle.jv_code.specs.declared.kinds.Invocation.{Invocation}
 use Rattle.jv_code.specs.declared.kinds.Invocation.TheVariants as invocations
-use Rattle.jv_loader_world.specs.World.{Loaded, World, class_named}
-use Rattle.jv_loader_world.specs.Overriding.{Declared}
-use Rattle.jv_loader_world.specs.Verdicts.{is_interface}
+use Rattle.jv_meaning_world.specs.World.{Loaded, World, class_named}
+use Rattle.jv_meaning_world.specs.Overriding.{Declared}
+use Rattle.jv_meaning_world.specs.Verdicts.{is_interface}
 use Rattle.jv_meaning_linking.specs.Uses.{Use}
 use Rattle.jv_meaning_linking.specs.Uses.Use.{Invokestatic, Invokevirtual, Invokespecial, Invokeinterface}
 use Rattle.jv_meaning_linking.specs.Operands.{MethodReference, method_operand}

@@ -4,7 +4,7 @@ use Rattle.std.specs.Prelude.{ℕ, ◌+◌, ◌*◌, ◌-◌, nat_le, List, [], 
 use Rattle.jv_text.specs.declared.descriptor.FieldTypeOf.{FieldTypeOf}
 use Rattle.jv_text.specs.Descriptor.{field_slots}
 use Rattle.jv_frames.specs.Types.{component}
-use Rattle.jv_loader_world.specs.of_class_parts.Parts.{CodeSeen}
+use Rattle.jv_class_structure.specs.Parts.{CodeSeen}
 use Rattle.jv_meaning_machine.specs.Objects.{Object}
 use Rattle.jv_meaning_machine.specs.Frames.{MethodFrame}
 use Rattle.jv_meaning_machine.specs.State.{Memory, Control}

@@ -8,8 +8,8 @@ use Rattle.jv_text.specs.Types.{field_type_of}
 use Rattle.jv_frames.specs.Types.{value_type}
 use Rattle.jv_code.specs.declared.kinds.FieldAccess.{FieldAccess}
 use Rattle.jv_code.specs.declared.kinds.FieldAccess.TheVariants as access
-use Rattle.jv_loader_world.specs.of_pool.Constants.{MemberReference}
-use Rattle.jv_loader_world.specs.LookUps.{DeclaredField}
+use Rattle.jv_pool.specs.Constants.{MemberReference}
+use Rattle.jv_meaning_world.specs.LookUps.{DeclaredField}
 use Rattle.jv_meaning_linking.specs.Uses.{Use}
 use Rattle.jv_meaning_linking.specs.Uses.Use.{Getstatic, Putstatic, Getfield, Putfield}
 use Rattle.jv_meaning_linking.specs.Operands.{field_operand}

@@ -4,13 +4,13 @@ use Rattle.std.specs.Prelude.{ℕ, Bool, true, false, ◌&&◌, List, [], ◌∷
 use Rattle.std.specs.List.{filter_map, list_all}
 use Rattle.std.specs.Option.{option_map, option_to_list, option_and_then}
 use Rattle.jv_text.specs.declared.descriptor.FieldTypeOf.{FieldTypeOf}
-use Rattle.jv_loader_world.specs.of_class.Class.{Field}
-use Rattle.jv_loader_world.specs.of_class_parts.Flags.{has, acc_public, acc_static}
-use Rattle.jv_loader_world.specs.World.{Loaded, World, class_named}
-use Rattle.jv_loader_world.specs.Above.{above}
-use Rattle.jv_loader_world.specs.Overriding.{Declared}
-use Rattle.jv_loader_world.specs.Verdicts.{is_loadable}
-use Rattle.jv_loader_world.specs.LookUps.{DeclaredField, field_by, method_in, method_if}
+use Rattle.jv_class.specs.Class.{Field}
+use Rattle.jv_class_structure.specs.Flags.{has, acc_public, acc_static}
+use Rattle.jv_meaning_world.specs.World.{Loaded, World, class_named}
+use Rattle.jv_meaning_world.specs.Above.{above}
+use Rattle.jv_meaning_world.specs.Overriding.{Declared}
+use Rattle.jv_meaning_world.specs.Verdicts.{is_loadable}
+use Rattle.jv_meaning_world.specs.LookUps.{DeclaredField, field_by, method_in, method_if}
 use Rattle.jv_meaning_linking.specs.LinkErrors.{error_class}
 use Rattle.jv_meaning_linking.specs.LinkErrors.LinkError.{NoClassDefFoundError, VerifyError}
 use Rattle.jv_meaning_linking.specs.InitializationOrder.{init_order}

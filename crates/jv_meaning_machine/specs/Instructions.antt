@@ -17,7 +17,7 @@ use Rattle.jv_code.specs.declared.kinds.Test.TheVariants as tests
 use Rattle.jv_code.specs.declared.kinds.ValueKind.{ValueKind}
 use Rattle.jv_code.specs.declared.kinds.ValueKind.TheVariants as kinds
 use Rattle.jv_code.specs.Targets.{target_of}
-use Rattle.jv_loader_world.specs.World.{Loaded}
+use Rattle.jv_meaning_world.specs.World.{Loaded}
 use Rattle.jv_meaning_linking.specs.Uses.Use.{New, Invokeinterface}
 use Rattle.jv_meaning_linking.specs.ClassResolution.{ResolvedClass, resolve_class}
 use Rattle.jv_meaning_linking.specs.ClassResolution.ResolvedClass.{ClassOf, ArrayOf}

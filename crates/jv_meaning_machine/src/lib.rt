@@ -1,5 +1,5 @@
 //! The machine (JVMS 2, 5.5, 6): definitions of what a guest's classes do, step by step, with a named fault wherever code
-//! that was not verified could go wrong. A private part of `jv_meaning`.
+//! that was not verified could go wrong.
 #![tactic(auto)]
 
 mod end_law;

@@ -1,7 +1,7 @@
-pub mod Starts
 pub mod Agreement
-mod OneFault
-mod OneVerdict
 pub mod Falling
-mod Verdicts
-mod MapVerdicts
+pub mod MapVerdicts
+pub mod OneFault
+pub mod OneVerdict
+pub mod Starts
+pub mod Verdicts

@@ -2,7 +2,7 @@
 use Rattle.std.proofs.Common.{◌≡◌, ℕ, zero, suc, true, false, List, [], ◌∷◌, Some, None, refl, sym, ap, subst, inl, inr, arith, pos, codes}
 use Rattle.std.specs.Prelude.{IsTrue}
 use Rattle.std.proofs.lemmas.List.Elements.{All-cons}
-use Rattle.jv_class_parts.specs.Parts.{CodeSeen}
+use Rattle.jv_class_structure.specs.Parts.{CodeSeen}
 use Rattle.jv_frames.specs.declared.item.Item.TheVariants as items
 use Rattle.jv_frames.specs.declared.form.Form.TheVariants.{Same, SameItem, Full}
 use Rattle.jv_frames.specs.declared.verification.VerificationTypeOf.TheVariants as types
@@ -17,16 +17,16 @@ use Rattle.jv_code.specs.Insns.{Instruction}
 use Rattle.jv_code.specs.Places.{IsStart, StandsInList, StartsApart}
 use Rattle.jv_code.specs.Successors.{falls_through}
 use Rattle.jv_code.proofs.Sizes.{some_bytes}
-use Rattle.jv_assign.specs.FrameFlow.{frame_flows}
-use Rattle.jv_loader_world.specs.Verdicts.{declared_by}
-use Rattle.jv_meaning_linking.specs.Samples.{world_with, guest}
+use Rattle.jv_meaning_world.specs.FrameFlow.{frame_flows}
+use Rattle.jv_meaning_world.specs.Verdicts.{declared_by}
+use Rattle.jv_meaning_linking.specs.Rows.Samples.{world_with, guest}
 use Rattle.jv_meaning_typing.specs.declared.verdict.VerifyRule.TheVariants as rules
 use Rattle.jv_meaning_typing.specs.declared.verdict.Verdict.TheVariants as verdicts
 use Rattle.jv_meaning_typing.specs.Environment.{Environment, IsEnvironment, instruction_at, offset_behind}
 use Rattle.jv_meaning_typing.specs.Named.{throwable_type}
 use Rattle.jv_meaning_typing.specs.Typing.{HandlersKeepRules, AreFrames, FrameStands, Assignment, FallsInto, IsTypeSafe, IsTypingBelow, first_frame}
-use Rattle.jv_meaning_typing.specs.Samples.{frame, flagged}
-use Rattle.jv_meaning_typing.specs.VerdictRows.{coded, mapped, constructing, constructor, covered_code, covered_super, HasVerdict, broken, MapVerdictRows, SuperVerdictRows}
+use Rattle.jv_meaning_typing.specs.Rows.Samples.{frame, flagged}
+use Rattle.jv_meaning_typing.specs.Rows.Verdicts.{coded, mapped, constructing, constructor, covered_code, covered_super, HasVerdict, broken, MapVerdictRows, SuperVerdictRows}
 use Rattle.jv_meaning_typing.proofs.Falling.{assigned, merged, below_one}
 use Rattle.jv_meaning_typing.proofs.Verdicts.{no_arguments, env_of, empty, always, none_in, no_handlers, first_fault, typed, unsome_insn, behind_first}
 

@@ -5,7 +5,7 @@ use Rattle.std.specs.List.{All, list_all}
 use Rattle.std.proofs.lemmas.List.Elements.{All-cons}
 use Rattle.jv_format.specs.declared.handlers.Handler.{Handler}
 use Rattle.jv_code.specs.Handlers.{HandlerFits, HandlersFit}
-use Rattle.jv_class_parts.specs.Parts.{CodeSeen}
+use Rattle.jv_class_structure.specs.Parts.{CodeSeen}
 use Rattle.jv_class.specs.Class.{Method}
 use Rattle.jv_text.specs.Descriptor.{MethodDescriptor}
 use Rattle.jv_text.specs.declared.descriptor.Base.TheVariants as bases
@@ -20,9 +20,9 @@ use Rattle.jv_code.specs.declared.kinds.ValueKind.TheVariants as kinds
 use Rattle.jv_code.specs.Insns.{Instruction}
 use Rattle.jv_code.specs.Places.{IsStart, OneList, StandsInList, StartsApart}
 use Rattle.jv_code.proofs.Sizes.{some_bytes}
-use Rattle.jv_loader_world.specs.World.{World}
-use Rattle.jv_loader_world.specs.Verdicts.{declared_by}
-use Rattle.jv_meaning_linking.specs.Samples.{world_with, guest}
+use Rattle.jv_meaning_world.specs.World.{World}
+use Rattle.jv_meaning_world.specs.Verdicts.{declared_by}
+use Rattle.jv_meaning_linking.specs.Rows.Samples.{world_with, guest}
 use Rattle.jv_meaning_linking.specs.Uses.{Site}
 use Rattle.jv_meaning_typing.specs.declared.verdict.VerifyRule.{VerifyRule}
 use Rattle.jv_meaning_typing.specs.declared.verdict.VerifyRule.TheVariants as rules
@@ -31,9 +31,9 @@ use Rattle.jv_meaning_typing.specs.Environment.{Environment, IsEnvironment, inst
 use Rattle.jv_meaning_typing.specs.Rule.{rule}
 use Rattle.jv_meaning_typing.specs.Typing.{argument_words, catches_throwable, HasFrames, FrameStands, HandlersKeepRules, AreFrames, Assignment, FallsInto, Merges, HasTyping}
 use Rattle.jv_meaning_typing.specs.Judgement.{AreTyped, WithFrames, BreaksFirst, IsCodeOf, BreaksRule, IsFirstFault}
-use Rattle.jv_meaning_typing.specs.MethodRows.{iconst}
-use Rattle.jv_meaning_typing.specs.Samples.{frame}
-use Rattle.jv_meaning_typing.specs.VerdictRows.{coded, method_with, class_of, void, handling, handler, HasVerdict, broken, PlainVerdictRows}
+use Rattle.jv_meaning_typing.specs.Rows.Methods.{iconst}
+use Rattle.jv_meaning_typing.specs.Rows.Samples.{frame}
+use Rattle.jv_meaning_typing.specs.Rows.Verdicts.{coded, method_with, class_of, void, handling, handler, HasVerdict, broken, PlainVerdictRows}
 use Rattle.jv_meaning_typing.proofs.Falling.{assigned, merged, safe, below_none, below_one}
 use Rattle.jv_meaning_typing.proofs.OneFault.{one_environment}
 

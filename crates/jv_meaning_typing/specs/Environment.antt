@@ -3,11 +3,11 @@
 use Rattle.std.specs.Prelude.{◌≡◌, ℕ, ◌+◌, ◌==◌, List, [], ◌∷◌, length, Option, Some, None, if◌then◌else◌}
 use Rattle.jv_text.specs.Descriptor.{MethodDescriptor}
 use Rattle.jv_text.specs.Types.{method_type_of}
-use Rattle.jv_class_parts.specs.Parts.{CodeSeen}
+use Rattle.jv_class_structure.specs.Parts.{CodeSeen}
 use Rattle.jv_class.specs.Class.{Class}
 use Rattle.jv_code.specs.Insns.{Instruction, insn_bytes}
 use Rattle.jv_code.specs.Places.{IsCode}
-use Rattle.jv_loader_world.specs.World.{World}
+use Rattle.jv_meaning_world.specs.World.{World}
 use Rattle.jv_meaning_linking.specs.Uses.{Site}
 
 pub record Environment : Type 0 where

@@ -11,8 +11,8 @@ use Rattle.jv_frames.specs.Types.{FrameType}
 use Rattle.jv_frames.specs.Frames.{Frame}
 use Rattle.jv_code.specs.declared.kinds.ValueKind.{ValueKind}
 use Rattle.jv_code.specs.declared.kinds.ValueKind.TheVariants as kinds
-use Rattle.jv_loader_world.specs.World.{World}
-use Rattle.jv_assign.specs.FrameFlow.{item_flows}
+use Rattle.jv_meaning_world.specs.World.{World}
+use Rattle.jv_meaning_world.specs.FrameFlow.{item_flows}
 
 abbrev pub with_stack : Frame → List FrameType → Frame
 with_stack frame stack = record frame { stack = stack }

@@ -3,11 +3,11 @@ use Rattle.std.specs.Prelude.{◌≡◌, ℕ, ◌≤◌, false, List, length, sl
 use Rattle.std.specs.List.{All}
 use Rattle.jv_class.specs.Class.{Class, Method}
 use Rattle.jv_code.specs.Insns.{Instruction}
-use Rattle.jv_loader_files.specs.FileContent.{FileContent}
-use Rattle.jv_loader_files.specs.declared.content.Content.TheVariants.{Holds}
-use Rattle.jv_loader_world.specs.World.{Loaded, World, loaded, world_of}
-use Rattle.jv_loader_world.specs.declared.verdict.LoadVerdict.{LoadVerdict}
-use Rattle.jv_loader_world.specs.Verdicts.{verdict_of_class, load_verdict, declared_by}
+use Rattle.jv_meaning_world.specs.FileContent.{FileContent}
+use Rattle.jv_meaning_world.specs.declared.content.Content.TheVariants.{Holds}
+use Rattle.jv_meaning_world.specs.World.{Loaded, World, loaded, world_of}
+use Rattle.jv_meaning_world.specs.declared.verdict.LoadVerdict.{LoadVerdict}
+use Rattle.jv_meaning_world.specs.Verdicts.{verdict_of_class, load_verdict, declared_by}
 use Rattle.jv_meaning_linking.specs.Uses.{Site}
 use Rattle.jv_meaning_typing.specs.declared.verdict.VerifyRule.{VerifyRule}
 use Rattle.jv_meaning_typing.specs.declared.verdict.VerifyRule.TheVariants as rules

@@ -4,8 +4,8 @@ use Rattle.jv_frames.specs.Frames.{Frame, PlacedFrame}
 use Rattle.jv_code.specs.Insns.{Instruction}
 use Rattle.jv_code.specs.Places.{IsAt}
 use Rattle.jv_class.specs.Class.{Class}
-use Rattle.jv_loader_files.specs.FileContent.{FileContent}
-use Rattle.jv_loader_world.specs.World.{Loaded, World}
+use Rattle.jv_meaning_world.specs.FileContent.{FileContent}
+use Rattle.jv_meaning_world.specs.World.{Loaded, World}
 use Rattle.jv_meaning_linking.specs.Uses.{Site}
 use Rattle.jv_meaning_typing.specs.declared.verdict.VerifyRule.{VerifyRule}
 use Rattle.jv_meaning_typing.specs.declared.verdict.Verdict.{Verdict}

@@ -1,20 +1,12 @@
 pub mod Environment
-pub mod StackForms
 pub mod FrameChanges
+pub mod Judgement
+pub mod Laws
+pub mod MemberRules
 pub mod Named
 pub mod NumberRules
-pub mod ValueRules
-pub mod MemberRules
-pub mod Rule
-pub mod Typing
-pub mod Judgement
-pub mod Samples
-pub mod StackRows
-pub mod LocalRows
-pub mod MemberRows
-pub mod MethodRows
 pub mod Rows
-pub mod Laws
-pub mod JudgementRows
-pub mod VerdictRows
-pub use Rattle.jv_assign.specs as of_assign
+pub mod Rule
+pub mod StackForms
+pub mod Typing
+pub mod ValueRules

@@ -5,7 +5,7 @@ use Rattle.std.specs.Option.{option_map}
 use Rattle.std.specs.Str.{bytes_eq}
 use Rattle.jv_format.specs.Format.{◌>>=◌}
 use Rattle.jv_text.specs.Name.{is_init}
-use Rattle.jv_class_parts.specs.Version.{is_below_52}
+use Rattle.jv_class_structure.specs.Version.{is_below_52}
 use Rattle.jv_class.specs.Rules.{is_clinit}
 use Rattle.jv_frames.specs.declared.verification.VerificationTypeOf.TheVariants as types
 use Rattle.jv_frames.specs.Types.{FrameType, words}
@@ -16,9 +16,9 @@ use Rattle.jv_code.specs.declared.kinds.FieldAccess.{FieldAccess}
 use Rattle.jv_code.specs.declared.kinds.FieldAccess.TheVariants as access
 use Rattle.jv_code.specs.declared.kinds.Invocation.{Invocation}
 use Rattle.jv_code.specs.declared.kinds.Invocation.TheVariants as invocations
-use Rattle.jv_loader_world.specs.World.{Loaded, class_named}
-use Rattle.jv_loader_world.specs.Verdicts.{is_interface}
-use Rattle.jv_assign.specs.Flow.{flows}
+use Rattle.jv_meaning_world.specs.World.{Loaded, class_named}
+use Rattle.jv_meaning_world.specs.Verdicts.{is_interface}
+use Rattle.jv_meaning_world.specs.Flow.{flows}
 use Rattle.jv_meaning_linking.specs.Operands.{class_operand, MethodConstant}
 use Rattle.jv_meaning_linking.specs.Operands.MethodConstant.{Methodref, InterfaceMethodref}
 use Rattle.jv_meaning_typing.specs.Environment.{Environment, current_class, instruction_at}

@@ -8,11 +8,11 @@ use Rattle.jv_text.specs.Name.{is_array_name, is_class_name}
 use Rattle.jv_text.specs.Types.{field_type_of, method_type_of}
 use Rattle.jv_pool.specs.declared.constant.Constant.TheVariants as constants
 use Rattle.jv_pool.specs.Constants.{Entry, at_index, MemberReference}
-use Rattle.jv_class_parts.specs.Flags.{has, acc_protected, acc_static}
+use Rattle.jv_class_structure.specs.Flags.{has, acc_protected, acc_static}
 use Rattle.jv_frames.specs.declared.verification.VerificationTypeOf.TheVariants as types
 use Rattle.jv_frames.specs.Types.{FrameType, reference_type, value_type}
-use Rattle.jv_loader_world.specs.World.{Loaded, World, class_named, same_package}
-use Rattle.jv_loader_world.specs.LookUps.{is_subclass, lookup_field, lookup_method}
+use Rattle.jv_meaning_world.specs.World.{Loaded, World, class_named, same_package}
+use Rattle.jv_meaning_world.specs.LookUps.{is_subclass, lookup_field, lookup_method}
 use Rattle.jv_meaning_linking.specs.Operands.{class_operand, field_operand, MethodConstant, MethodReference, method_operand}
 use Rattle.jv_meaning_linking.specs.Operands.MethodConstant.{Methodref, InterfaceMethodref}
 use Rattle.jv_meaning_linking.specs.Access.{same_class}

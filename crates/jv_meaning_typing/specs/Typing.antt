@@ -8,7 +8,7 @@ use Rattle.jv_format.specs.declared.handlers.Handler.{Handler}
 use Rattle.jv_text.specs.Descriptor.{slots}
 use Rattle.jv_text.specs.Name.{is_init}
 use Rattle.jv_pool.specs.Constants.{class_name_at}
-use Rattle.jv_class_parts.specs.Flags.{has, acc_static}
+use Rattle.jv_class_structure.specs.Flags.{has, acc_static}
 use Rattle.jv_frames.specs.declared.limits.Limits.{Limits}
 use Rattle.jv_frames.specs.declared.verification.VerificationTypeOf.TheVariants as types
 use Rattle.jv_frames.specs.Types.{FrameType, reference_type}
@@ -18,9 +18,9 @@ use Rattle.jv_code.specs.declared.insn.Insn.TheVariants as insns
 use Rattle.jv_code.specs.Handlers.{HandlersFit}
 use Rattle.jv_code.specs.Insns.{Instruction}
 use Rattle.jv_code.specs.Successors.{falls_through, jump_targets}
-use Rattle.jv_assign.specs.Flow.{flows}
-use Rattle.jv_assign.specs.FrameFlow.{frame_flows}
-use Rattle.jv_loader_world.specs.World.{World}
+use Rattle.jv_meaning_world.specs.Flow.{flows}
+use Rattle.jv_meaning_world.specs.FrameFlow.{frame_flows}
+use Rattle.jv_meaning_world.specs.World.{World}
 use Rattle.jv_meaning_linking.specs.Uses.{Site}
 use Rattle.jv_meaning_typing.specs.Environment.{Environment, IsEnvironment, current_class, offset_behind, instruction_at}
 use Rattle.jv_meaning_typing.specs.FrameChanges.{with_stack}

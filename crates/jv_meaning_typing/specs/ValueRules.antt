@@ -13,7 +13,7 @@ use Rattle.jv_code.specs.declared.kinds.ValueKind.{ValueKind}
 use Rattle.jv_code.specs.declared.kinds.ValueKind.TheVariants as kinds
 use Rattle.jv_code.specs.declared.kinds.WordKind.{WordKind}
 use Rattle.jv_code.specs.declared.kinds.WordKind.TheVariants as word_kinds
-use Rattle.jv_loader_world.specs.World.{World}
+use Rattle.jv_meaning_world.specs.World.{World}
 use Rattle.jv_meaning_typing.specs.Environment.{Environment}
 use Rattle.jv_meaning_typing.specs.StackForms.{rearranged}
 use Rattle.jv_meaning_typing.specs.FrameChanges.{with_stack, with_locals, is_reference, is_of_kind, taken, taken_as_any, taken_of_kind, exchanged, item_width, stored, is_same_object, replaced}

@@ -1,8 +1,8 @@
 //! Laws of type checking.
 
 ghost use Rattle.jv_meaning_typing.specs.Laws.{InstructionAtIs, OneFalls, OneJudgement, OneJudgementOfFile, TypingGrows, TypingIsLocal, TypingOrFault};
-ghost use Rattle.jv_meaning_typing.specs.Rows.{WorkedRows};
-ghost use Rattle.jv_meaning_typing.specs.VerdictRows.{VerdictRows};
+ghost use Rattle.jv_meaning_typing.specs.Rows.Worked.{WorkedRows};
+ghost use Rattle.jv_meaning_typing.specs.Rows.Verdicts.{VerdictRows};
 
 use jv_code::{one_list, stands_in_list, starts_apart};
 use jv_frames::one_maps;

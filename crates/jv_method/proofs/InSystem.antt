@@ -6,13 +6,13 @@ use Rattle.std.specs.List.{list_all, Contains}
 use Rattle.std.proofs.lemmas.Bool.{and_parts}
 use Rattle.std.proofs.lemmas.Option.{slice_get-get_or, slice_get_within}
 use Rattle.std.proofs.lemmas.List.Elements.{Contains-append_cases, Contains-get_or}
-use Rattle.jv_loader_files.specs.FileContent.{FileContent}
+use Rattle.jv_meaning_world.specs.FileContent.{FileContent}
 use Rattle.jv_class.specs.Class.{Class}
 use Rattle.jv_loader.specs.Loading.{Loading, AreLoaded}
-use Rattle.jv_loader_system.specs.SystemClasses.{system_classes}
-use Rattle.jv_loader_world.specs.declared.verdict.LoadVerdict.{LoadVerdict}
-use Rattle.jv_loader_world.specs.World.{Loaded, World, loaded, world_of, classes_in}
-use Rattle.jv_loader_world.specs.Verdicts.{verdict_of_class}
+use Rattle.jv_meaning_world.specs.System.Classes.{system_classes}
+use Rattle.jv_meaning_world.specs.declared.verdict.LoadVerdict.{LoadVerdict}
+use Rattle.jv_meaning_world.specs.World.{Loaded, World, loaded, world_of, classes_in}
+use Rattle.jv_meaning_world.specs.Verdicts.{verdict_of_class}
 use Rattle.jv_meaning_typing.specs.declared.verdict.VerifyFault.{VerifyFault}
 use Rattle.jv_meaning_typing.specs.declared.verdict.Verdict.{Verdict}
 use Rattle.jv_meaning_typing.specs.declared.verdict.Verdict.TheVariants.{Accepted, Refused, Verify}

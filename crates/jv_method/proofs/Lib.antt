@@ -1,4 +1,8 @@
-pub mod Shown
-pub mod Numbered
-pub mod Placed
+pub mod EntryWords
+pub mod Environments
 pub mod InSystem
+pub mod Judging
+pub mod Numbered
+pub mod Parts
+pub mod Placed
+pub mod Shown

@@ -3,13 +3,13 @@ use Rattle.std.proofs.Common.{◌≡◌, ℕ, zero, suc, ◌+◌, Bool, true, fa
 use Rattle.std.specs.Prelude.{IsTrue, slice_get, drop}
 use Rattle.std.proofs.lemmas.List.{length-append}
 use Rattle.jv_class.specs.Class.{Class}
-use Rattle.jv_loader_files.specs.FileContent.{FileContent}
-use Rattle.jv_loader_files.specs.declared.content.Content.TheVariants.{OtherVersion, NoClassFile, MoreThanProfile, Holds}
-use Rattle.jv_loader_world.specs.declared.verdict.LoadVerdict.{LoadVerdict}
-use Rattle.jv_loader_world.specs.declared.verdict.LoadVerdict.TheVariants.{Reserved, Duplicate, Circular, NoSuper, WrongKind, NoAccess, FinalBroken}
-use Rattle.jv_loader_world.specs.Above.{is_circular, superclasses}
-use Rattle.jv_loader_world.specs.World.{Loaded, World, loaded, is_reserved, has_class, with_class_of, joined_all, classes_in, world_of}
-use Rattle.jv_loader_world.specs.Verdicts.{verdict_of_class, verdict_behind, load_verdict, each_super, is_loadable, have_right_kind, can_name_supers, has_final_super, breaks_final}
+use Rattle.jv_meaning_world.specs.FileContent.{FileContent}
+use Rattle.jv_meaning_world.specs.declared.content.Content.TheVariants.{OtherVersion, NoClassFile, MoreThanProfile, Holds}
+use Rattle.jv_meaning_world.specs.declared.verdict.LoadVerdict.{LoadVerdict}
+use Rattle.jv_meaning_world.specs.declared.verdict.LoadVerdict.TheVariants.{Reserved, Duplicate, Circular, NoSuper, WrongKind, NoAccess, FinalBroken}
+use Rattle.jv_meaning_world.specs.Above.{is_circular, superclasses}
+use Rattle.jv_meaning_world.specs.World.{Loaded, World, loaded, is_reserved, has_class, with_class_of, joined_all, classes_in, world_of}
+use Rattle.jv_meaning_world.specs.Verdicts.{verdict_of_class, verdict_behind, load_verdict, each_super, is_loadable, have_right_kind, can_name_supers, has_final_super, breaks_final}
 use Rattle.jv_method.specs.Inside.Numbered.{joins, next_number, number_behind}
 
 -- ---- lists

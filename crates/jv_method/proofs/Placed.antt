@@ -3,15 +3,15 @@ use Rattle.std.proofs.Common.{◌≡◌, ◌≢◌, ℕ, zero, suc, ◌+◌, ◌
 use Rattle.std.specs.Prelude.{IsTrue, IfNone, slice_get, ◌⊎◌}
 use Rattle.std.proofs.lemmas.Bool.{eqb-false}
 use Rattle.std.proofs.lemmas.List.{length-append}
-use Rattle.jv_loader_classes.specs.Inside.Told.{IsAt}
+use Rattle.jv_meaning_world.specs.Numbers.{HoldsAtNumber}
 use Rattle.jv_class.specs.Class.{Class}
 use Rattle.jv_loader.specs.Loading.{Loading, AreLoaded}
-use Rattle.jv_loader_files.specs.FileContent.{FileContent, AreContents}
-use Rattle.jv_loader_files.specs.declared.content.Content.TheVariants.{OtherVersion, NoClassFile, MoreThanProfile, Holds}
-use Rattle.jv_loader_system.specs.SystemClasses.{system_classes}
-use Rattle.jv_loader_world.specs.declared.verdict.LoadVerdict.{LoadVerdict}
-use Rattle.jv_loader_world.specs.World.{Loaded, World, classes_in, loaded, world_of}
-use Rattle.jv_loader_world.specs.Verdicts.{load_verdict, verdict_at, verdict_behind, verdict_of_class}
+use Rattle.jv_meaning_world.specs.FileContent.{FileContent, AreContents}
+use Rattle.jv_meaning_world.specs.declared.content.Content.TheVariants.{OtherVersion, NoClassFile, MoreThanProfile, Holds}
+use Rattle.jv_meaning_world.specs.System.Classes.{system_classes}
+use Rattle.jv_meaning_world.specs.declared.verdict.LoadVerdict.{LoadVerdict}
+use Rattle.jv_meaning_world.specs.World.{Loaded, World, classes_in, loaded, world_of}
+use Rattle.jv_meaning_world.specs.Verdicts.{load_verdict, verdict_at, verdict_behind, verdict_of_class}
 use Rattle.jv_meaning_typing.specs.declared.verdict.Verdict.{Verdict}
 use Rattle.jv_meaning_typing.specs.declared.verdict.Verdict.TheVariants.{Accepted, Refused}
 use Rattle.jv_meaning_typing.specs.Judgement.{AreTyped, IsVerdictOfMethods, IsVerdictOfContent, IsVerdictOfFile}
@@ -128,7 +128,7 @@ module _ (files : List (List ℕ)) (loading : Loading) (are : AreLoaded files lo
     next_is_behind = ap (λ n. next_number n why) is ∙ sym (next_behind system_classes are.contents k content.0 content.1 why (why_is k why at less))
 
     -- the verdict on the class of the file, which is one of the world's
-    pub verdict_here : IsTrue (joins why) → IsAt loading.world number (λ l. why ≡ verdict_of_class loading.world l)
+    pub verdict_here : IsTrue (joins why) → HoldsAtNumber loading.world number (λ l. why ≡ verdict_of_class loading.world l)
     verdict_here on = λ l there.
         let here = found on in
         let same : loaded false here.0 ≡ l = some_same (loaded false here.0) l (sym here.2 ∙ there) in
@@ -188,7 +188,7 @@ module _ (files : List (List ℕ)) (loading : Loading) (are : AreLoaded files lo
 
   -- a class that is none of the files' is the system's
   pub of_system : (k number class : ℕ) → IsPassed are.contents k number class → k ≡ length loading.verdicts → class < length loading.world
-      → IsAt loading.world class (λ l. None ≡ verdict_of_class loading.world l)
+      → HoldsAtNumber loading.world class (λ l. None ≡ verdict_of_class loading.world l)
   of_system k number class passed e within = λ l there.
       subst (λ (w : World). None ≡ verdict_of_class w l) (sym are.world) (sym (plain_at are.contents class l first (ap (λ w. slice_get w class) (sym are.world) ∙ there)))
     where

@@ -10,20 +10,20 @@ use Rattle.std.proofs.lemmas.Option.{slice_get-get_or}
 use Rattle.jv_format.specs.Format.{◌>>=◌, half}
 use Rattle.jv_pool.specs.Constants.{Entry, utf8_at, class_name_at, name_and_descriptor}
 use Rattle.jv_class.specs.ClassFile.{class_name}
-use Rattle.jv_class_parts.specs.declared.member.Method.{Method as ShownMethod}
-use Rattle.jv_class_parts.specs.Parts.{CodeSeen, MethodSeen, method_shown, methods_of}
-use Rattle.jv_class_parts.specs.declared.member.MethodCode.{MethodCode}
-use Rattle.jv_class_parts.specs.Seen.{seen_code, seen_method}
-use Rattle.jv_class_parts.specs.Structure.{MethodInfo, ClassStructure, body_fits, table_fits, field_fits, method_fits, attribute_fits}
+use Rattle.jv_class_structure.specs.declared.member.Method.{Method as ShownMethod}
+use Rattle.jv_class_structure.specs.Parts.{CodeSeen, MethodSeen, method_shown, methods_of}
+use Rattle.jv_class_structure.specs.declared.member.MethodCode.{MethodCode}
+use Rattle.jv_class_structure.specs.Seen.{seen_code, seen_method}
+use Rattle.jv_class_structure.specs.Structure.{MethodInfo, ClassStructure, body_fits, table_fits, field_fits, method_fits, attribute_fits}
 use Rattle.jv_class.specs.Class.{Method, Class, all_found, field_of, method_of, super_of, class_of}
-use Rattle.jv_loader_world.specs.World.{Loaded, World}
-use Rattle.jv_loader_world.specs.Verdicts.{declared_by}
+use Rattle.jv_meaning_world.specs.World.{Loaded, World}
+use Rattle.jv_meaning_world.specs.Verdicts.{declared_by}
 use Rattle.jv_meaning_typing.specs.declared.verdict.VerifyFault.{VerifyFault}
 use Rattle.jv_meaning_typing.specs.Judgement.{AreTyped, IsFirstFault, BreaksRule}
 use Rattle.jv_meaning_typing.specs.Typing.{HasTyping}
-use Rattle.jv_method_check.specs.of_rules_class.Current.{CurrentClass}
-use Rattle.jv_method_check.specs.of_method_code.declared.fault.CodeFault.{CodeFault}
-use Rattle.jv_method_check.specs.Judged.{IsMethodOf, IsVerdictOnMethod}
+use Rattle.jv_constants.specs.Current.{CurrentClass}
+use Rattle.jv_method_pass.specs.declared.fault.CodeFault.{CodeFault}
+use Rattle.jv_method.specs.Judged.{IsMethodOf, IsVerdictOnMethod}
 use Rattle.jv_method.specs.Inside.Shown.{method_in, AreMethodsOf, IsMethodJudged}
 
 pub there : {A : Type 0} (o : Option A) → IsSome o → (a : A) × (o ≡ Some a)

@@ -2,10 +2,10 @@
 use Rattle.std.specs.Prelude.{◌≡◌, ℕ, Bool, true, false, List, length, Some, slice_get, IsTrue}
 use Rattle.std.specs.List.{Contains}
 use Rattle.jv_class.specs.Class.{Class}
-use Rattle.jv_loader_files.specs.FileContent.{FileContent}
-use Rattle.jv_loader_files.specs.declared.content.Content.TheVariants.{Holds}
-use Rattle.jv_loader_system.specs.SystemClasses.{system_classes}
-use Rattle.jv_loader_world.specs.World.{Loaded, World, loaded, world_of}
+use Rattle.jv_meaning_world.specs.FileContent.{FileContent}
+use Rattle.jv_meaning_world.specs.declared.content.Content.TheVariants.{Holds}
+use Rattle.jv_meaning_world.specs.System.Classes.{system_classes}
+use Rattle.jv_meaning_world.specs.World.{Loaded, World, loaded, world_of}
 use Rattle.jv_meaning_typing.specs.declared.verdict.Verdict.{Verdict}
 use Rattle.jv_meaning_typing.specs.declared.verdict.VerifyFault.{VerifyFault}
 use Rattle.jv_meaning_typing.specs.declared.verdict.Verdict.TheVariants.{Verify, Accepted}

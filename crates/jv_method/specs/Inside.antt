@@ -1,2 +1,4 @@
-pub mod Shown
+pub mod Known
 pub mod Numbered
+pub mod Read
+pub mod Shown

@@ -1,3 +1,4 @@
-pub mod Methods
 pub mod Files
 pub mod Inside
+pub mod Judged
+pub mod Methods

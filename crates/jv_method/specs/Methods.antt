@@ -1,6 +1,6 @@
 -- What is found of the methods of a class (JVMS 4.10).
 use Rattle.std.specs.Prelude.{Bool, true, false, Option, Some, None}
-use Rattle.jv_loader_world.specs.World.{Loaded, World}
+use Rattle.jv_meaning_world.specs.World.{Loaded, World}
 use Rattle.jv_meaning_typing.specs.declared.verdict.VerifyFault.{VerifyFault}
 use Rattle.jv_meaning_typing.specs.Judgement.{AreTyped, IsFirstFault}
 

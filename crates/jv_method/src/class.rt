@@ -2,8 +2,8 @@
 
 ghost use Rattle.std.specs.Prelude.{◌≡◌, ◌<◌, ◌==◌, ◌&&◌, ℕ, List, IfOk, length};
 ghost use Rattle.jv_loader.specs.Loading.{AreLoaded};
-ghost use Rattle.jv_loader_classes.specs.Inside.Told.{IsAt};
-ghost use Rattle.jv_loader_world.specs.Verdicts.{verdict_of_class};
+ghost use Rattle.jv_meaning_world.specs.Numbers.{HoldsAtNumber};
+ghost use Rattle.jv_meaning_world.specs.Verdicts.{verdict_of_class};
 ghost use Rattle.jv_meaning_typing.specs.Judgement.{IsVerdictOfClass};
 ghost use Rattle.jv_method.specs.Inside.Numbered.{joins};
 
@@ -24,7 +24,7 @@ fn is_of_file(why: Option<LoadVerdict>, number: usize, class: usize) -> bool
 fn load_verdict_of(classes: &Classes<'_>, class: usize) -> Option<LoadVerdict>
     requires class { class < length classes.now.world }
     requires loaded { (files : List (List ℕ)) × AreLoaded files classes.now }
-    ensures { IsAt classes.now.world class (λ l. result ≡ verdict_of_class classes.now.world l) }
+    ensures { HoldsAtNumber classes.now.world class (λ l. result ≡ verdict_of_class classes.now.world l) }
 {
     let mut number = SYSTEM_COUNT;
     for file in 0..classes.file_count() {
@@ -51,7 +51,7 @@ pub fn check_class<'a>(
 ) -> Result<Verdict, AllocError>
     requires class { class < length classes.now.world }
     requires loaded { (files : List (List ℕ)) × AreLoaded files classes.now }
-    ensures { IfOk result (λ verdict. IsAt classes.now.world class (λ l. IsVerdictOfClass classes.now.world l verdict)) }
+    ensures { IfOk result (λ verdict. HoldsAtNumber classes.now.world class (λ l. IsVerdictOfClass classes.now.world l verdict)) }
 {
     let why = load_verdict_of(classes, class);
     verdict_of(alloc, state, classes, class, why)

@@ -2,11 +2,10 @@
 
 ghost use Rattle.std.specs.Prelude.{◌≡◌, ◌<◌, ℕ, List, IfOk, IfNone, IsTrue, length};
 ghost use Rattle.jv_loader.specs.Loading.{AreLoaded};
-ghost use Rattle.jv_loader_world.specs.World.{Loaded, World};
+ghost use Rattle.jv_meaning_world.specs.World.{Loaded, World};
 ghost use Rattle.jv_meaning_typing.specs.Judgement.{IsVerdictOfMethods};
 ghost use Rattle.jv_method.specs.Methods.{AreJudged};
-ghost use Rattle.jv_method.specs.Files.{AreVerdicts};
-ghost use Rattle.jv_method.specs.Inside.Numbered.{joins, next_number, IsVerdictAt};
+ghost use Rattle.jv_method.specs.Inside.Numbered.{joins, next_number, IsVerdictAt, AreVerdictsOn};
 
 use crate::methods::check_methods;
 use jv_loader::{Classes, LoadVerdict};
@@ -74,7 +73,7 @@ pub(crate) fn verdicts_of<'a>(
     classes: &Classes<'a>,
 ) -> Result<Vec<Verdict>, AllocError>
     requires { (files : List (List ℕ)) × AreLoaded files classes.now }
-    ensures { IfOk result (λ verdicts. (files : List (List ℕ)) (are : AreLoaded files classes.now) → AreVerdicts are.contents verdicts.items) }
+    ensures { IfOk result (λ verdicts. AreVerdictsOn classes.now verdicts.items) }
 {
     let mut verdicts = Vec::new(alloc);
     let mut number = SYSTEM_COUNT;

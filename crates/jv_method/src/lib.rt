@@ -1,13 +1,18 @@
-//! The verdict on the methods of a class and on each file of a guest (JVMS 4.10).
+//! The verifier (JVMS 4.10): the code of each method against all rules in their order, the verdict on each class and on each
+//! file of a guest.
 #![tactic(auto)]
 
+mod check;
 mod class;
+mod entries;
 mod files;
+mod known;
 mod methods;
+mod read;
 mod system;
+mod tables;
 mod verified;
 
 pub use class::check_class;
 pub use jv_meaning_typing::{Verdict, VerifyFault, VerifyRule};
-pub use methods::check_methods;
 pub use verified::{Verified, verify};

@@ -2,19 +2,19 @@
 
 ghost use Rattle.std.specs.Prelude.{◌≡◌, ◌<◌, Some, IfOk, IsSome, is_some, length};
 ghost use Rattle.std.specs.List.{list_any};
-ghost use Rattle.jv_class.specs.Class.{Method as NamedMethod, class_of};
-ghost use Rattle.jv_class_parts.specs.Seen.{seen_method};
-ghost use Rattle.jv_loader_classes.specs.Inside.Told.{IsAt};
+ghost use Rattle.jv_class.specs.Class.{class_of};
+ghost use Rattle.jv_class_structure.specs.Seen.{seen_method};
+ghost use Rattle.jv_meaning_world.specs.Numbers.{HoldsAtNumber};
 ghost use Rattle.jv_method.specs.Methods.{AreJudged};
-ghost use Rattle.jv_method.specs.Inside.Shown.{method_in, AreMethodsOf, IsMethodJudged};
+ghost use Rattle.jv_method.specs.Inside.Shown.{method_in, AreMethodsOf, IsJudgedIn};
 
+use crate::check::check_method;
 use jv_class::{ClassFile, Method};
-use jv_link_resolution::class_at;
+use jv_constants::{ConstantTypes, CurrentClass};
+use jv_link::class_at;
 use jv_loader::Classes;
 use jv_meaning_typing::VerifyFault;
-use jv_method_check::of_rules_class::CurrentClass;
-use jv_method_check::{CodeFault, check_method};
-use jv_rules_constants::ConstantTypes;
+use jv_method_pass::CodeFault;
 use std::alloc::{AllocError, Global};
 use std::hash::RandomState;
 
@@ -25,7 +25,7 @@ fn check_code<'a>(
     method: &Method<'a>,
 ) -> Result<Option<CodeFault>, AllocError>
     requires { IsSome (method_in class.now.by.class.constant_pool (seen_method method.now)) }
-    ensures { (m : NamedMethod) → method_in class.now.by.class.constant_pool (seen_method method.now) ≡ Some m → IfOk result (IsMethodJudged class.now.types.world class.now.by m) }
+    ensures { IsJudgedIn class.now (seen_method method.now) result }
 {
     match &method.code {
         Some(code) => check_method(alloc, class, method, code),
@@ -73,8 +73,8 @@ fn check_file<'a>(
     file: &ClassFile<'a>,
 ) -> Result<Option<VerifyFault>, AllocError>
     requires class { class < length classes.now.world }
-    requires file { IsAt classes.now.world class (λ l. class_of file.now ≡ Some l.class) }
-    ensures { IfOk result (λ fault. IsAt classes.now.world class (λ l. AreJudged classes.now.world l fault)) }
+    requires file { HoldsAtNumber classes.now.world class (λ l. class_of file.now ≡ Some l.class) }
+    ensures { IfOk result (λ fault. HoldsAtNumber classes.now.world class (λ l. AreJudged classes.now.world l fault)) }
 {
     file.is_well_formed();
     let constants = ConstantTypes::new(alloc, state, classes.table(), file.pool())?;
@@ -98,8 +98,8 @@ fn check_shown<'a>(
     file: &ClassFile<'a>,
 ) -> Result<Option<VerifyFault>, AllocError>
     requires class { class < length classes.now.world }
-    requires file { IsAt classes.now.world class (λ l. class_of file.now ≡ Some l.class) }
-    ensures { IfOk result (λ fault. IsAt classes.now.world class (λ l. AreJudged classes.now.world l fault)) }
+    requires file { HoldsAtNumber classes.now.world class (λ l. class_of file.now ≡ Some l.class) }
+    ensures { IfOk result (λ fault. HoldsAtNumber classes.now.world class (λ l. AreJudged classes.now.world l fault)) }
 {
     if has_code(file.methods()) {
         check_file(alloc, state, classes, class, file)
@@ -121,7 +121,7 @@ pub fn check_methods<'a>(
     class: usize,
 ) -> Result<Option<VerifyFault>, AllocError>
     requires { class < length classes.now.world }
-    ensures { IfOk result (λ fault. IsAt classes.now.world class (λ l. AreJudged classes.now.world l fault)) }
+    ensures { IfOk result (λ fault. HoldsAtNumber classes.now.world class (λ l. AreJudged classes.now.world l fault)) }
 {
     match class_at(classes.table(), class).file() {
         Some(file) => check_shown(alloc, state, classes, class, file),

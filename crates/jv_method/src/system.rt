@@ -2,7 +2,7 @@
 
 ghost use Rattle.std.specs.Prelude.{◌<◌, ℕ, List, IfOk, length};
 ghost use Rattle.jv_loader.specs.Loading.{AreLoaded};
-ghost use Rattle.jv_loader_classes.specs.Inside.Told.{IsAt};
+ghost use Rattle.jv_meaning_world.specs.Numbers.{HoldsAtNumber};
 ghost use Rattle.jv_method.specs.Files.{IsSystemTold};
 ghost use Rattle.jv_method.specs.Methods.{AreToldTyped};
 
@@ -20,7 +20,7 @@ fn are_typed<'a>(
     class: usize,
 ) -> Result<bool, AllocError>
     requires { class < length classes.now.world }
-    ensures { IfOk result (λ typed. IsAt classes.now.world class (λ l. AreToldTyped classes.now.world l typed)) }
+    ensures { IfOk result (λ typed. HoldsAtNumber classes.now.world class (λ l. AreToldTyped classes.now.world l typed)) }
 {
     match check_methods(alloc, state, classes, class)? {
         Some(_) => Ok(false),

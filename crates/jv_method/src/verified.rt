@@ -2,7 +2,7 @@
 
 ghost use Rattle.std.specs.Prelude.{◌≡◌, ◌<◌, ℕ, List, Some, IfOk, length, slice_get};
 ghost use Rattle.jv_loader.specs.Loading.{AreLoaded};
-ghost use Rattle.jv_loader_files.specs.FileContent.{FileContent};
+ghost use Rattle.jv_meaning_world.specs.FileContent.{FileContent};
 ghost use Rattle.jv_method.specs.Files.{AreVerified, AcceptedAreTyped, IsOfFiles, SystemIsTyped};
 
 use crate::files::verdicts_of;

@@ -5,16 +5,16 @@ use Rattle.jv_text.specs.declared.descriptor.FieldTypeOf.{FieldTypeOf}
 use Rattle.jv_frames.specs.Frames.{Frame}
 use Rattle.jv_code.specs.declared.insn.Insn.{Insn}
 use Rattle.jv_code.specs.Insns.{instruction_of}
-use Rattle.jv_loader_world.specs.World.{Loaded, World}
+use Rattle.jv_meaning_world.specs.World.{Loaded, World}
 use Rattle.jv_meaning_typing.specs.Environment.{Environment}
 use Rattle.jv_meaning_typing.specs.Rule.{effect}
-use Rattle.jv_rules_types.specs.Typed.{TypeWorld}
-use Rattle.jv_rules_frames.specs.Numbered.{NumberFrame}
-use Rattle.jv_rules_values.specs.declared.outcome.Outcome.{Outcome}
-use Rattle.jv_rules_values.specs.Outcomes.{IsOutcome}
-use Rattle.jv_rules_constants.specs.PoolTypes.{PoolTypes, typed_result}
-use Rattle.jv_rules_uses.specs.of_rules_class.Current.{CurrentClass}
-use Rattle.jv_rules_uses.specs.Method.{MethodContext, IsOfMethod}
+use Rattle.jv_types.specs.Typed.{TypeWorld}
+use Rattle.jv_types.specs.Numbered.{NumberFrame}
+use Rattle.jv_types.specs.declared.outcome.Outcome.{Outcome}
+use Rattle.jv_types.specs.Outcomes.{IsOutcome}
+use Rattle.jv_constants.specs.PoolTypes.{PoolTypes, typed_result}
+use Rattle.jv_constants.specs.Current.{CurrentClass}
+use Rattle.jv_rules.specs.Method.{MethodContext, IsOfMethod}
 use Rattle.jv_rules.specs.Inside.Over.{IsMethodOver}
 
 -- an environment of the method, over the constants of its class

@@ -1,4 +1,9 @@
 pub mod Arms
-pub mod Unwritten
+pub mod Making
 pub mod Named
+pub mod NamedTypes
 pub mod OnStack
+pub mod Placed
+pub mod Replacing
+pub mod Unwritten
+pub mod Using

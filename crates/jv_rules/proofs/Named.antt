@@ -13,13 +13,13 @@ use Rattle.jv_meaning_typing.specs.Environment.{Environment}
 use Rattle.jv_meaning_typing.specs.FrameChanges.{exchanged}
 use Rattle.jv_meaning_typing.specs.Named.{object_class_type, when}
 use Rattle.jv_meaning_typing.specs.ValueRules.{new_object, new_reference_array, new_multi_array, check_cast, instance_of}
-use Rattle.jv_rules_types.specs.Typed.{TypeWorld, typed}
-use Rattle.jv_rules_frames.specs.Numbered.{Item, NumberFrame, frame_of}
-use Rattle.jv_rules_values.specs.declared.outcome.Outcome.{Outcome}
-use Rattle.jv_rules_values.specs.Outcomes.{IsOutcome}
+use Rattle.jv_types.specs.Typed.{TypeWorld, typed}
+use Rattle.jv_types.specs.Numbered.{Item, NumberFrame, frame_of}
+use Rattle.jv_types.specs.declared.outcome.Outcome.{Outcome}
+use Rattle.jv_types.specs.Outcomes.{IsOutcome}
 use Rattle.jv_rules_values.specs.Inside.Objects.{new_object as object_at}
-use Rattle.jv_rules_constants.specs.PoolTypes.{PoolTypes, class_type_at}
-use Rattle.jv_rules_uses.specs.of_rules_operands.Operands.{HasPool, plain_class, class_named_at, array_of_at, array_at}
+use Rattle.jv_constants.specs.PoolTypes.{PoolTypes, class_type_at}
+use Rattle.jv_constants.specs.Operands.{HasPool, plain_class, class_named_at, array_of_at, array_at}
 use Rattle.jv_rules.specs.Inside.Over.{IsOver}
 
 -- ---- what is exchanged for a type that is named

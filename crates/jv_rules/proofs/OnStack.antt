@@ -7,8 +7,8 @@ use Rattle.jv_frames.specs.Types.{width, words}
 use Rattle.jv_meaning_typing.specs.Environment.{Environment}
 use Rattle.jv_meaning_typing.specs.Named.{when}
 use Rattle.jv_meaning_typing.specs.Rule.{within_stack}
-use Rattle.jv_rules_types.specs.Typed.{typed, typed_all}
-use Rattle.jv_rules_frames.specs.Numbered.{Item, NumberFrame, frame_of, topped, item_words, stack_words}
+use Rattle.jv_types.specs.Typed.{typed, typed_all}
+use Rattle.jv_types.specs.Numbered.{Item, NumberFrame, frame_of, topped, item_words, stack_words}
 
 typed_width : (names : List (List ℕ)) (item : Item) → width (typed names item) ≡ item_words item
 typed_width names types.Top = refl

@@ -21,7 +21,7 @@ use Rattle.jv_code.specs.declared.kinds.Test.{Test}
 use Rattle.jv_code.specs.declared.kinds.Test.TheVariants as tests
 use Rattle.jv_code.specs.declared.kinds.ValueKind.{ValueKind}
 use Rattle.jv_code.specs.declared.kinds.ValueKind.TheVariants as kinds
-use Rattle.jv_assign.specs.Flow.{flows}
+use Rattle.jv_meaning_world.specs.Flow.{flows}
 use Rattle.jv_meaning_typing.specs.Environment.{Environment}
 use Rattle.jv_meaning_typing.specs.FrameChanges.{with_stack, with_locals, is_of_kind, taken, taken_as_all, taken_as_any, taken_of_kind, exchanged, item_width, stored, is_same_object, replaced}
 use Rattle.jv_meaning_typing.specs.Named.{object_class_type, constant_type, long_constant_type, operand_type, operand_name, array_of_operand, array_operand, FieldUse, field_named_by, MethodUse, method_named_by, current_type, when}

@@ -1,1 +1,4 @@
+pub mod ByTypes
+pub mod Constructed
 pub mod Over
+pub mod Used

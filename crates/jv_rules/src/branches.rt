@@ -1,30 +1,26 @@
 //! Branches and switches (JVMS 4.10.1.9).
 
-ghost use Rattle.std.specs.Prelude.{◌≡◌, ◌∷◌, []};
+ghost use Rattle.std.specs.Prelude.{◌∷◌, []};
 ghost use Rattle.jv_frames.specs.declared.verification.VerificationTypeOf.TheVariants as variants;
-ghost use Rattle.jv_meaning_typing.specs.FrameChanges.{exchanged};
-ghost use Rattle.jv_meaning_typing.specs.Environment.{Environment};
-ghost use Rattle.jv_meaning_typing.specs.NumberRules.{test};
-ghost use Rattle.jv_meaning_typing.specs.Rule.{by_exchange, test_references};
-ghost use Rattle.jv_rules_frames.specs.Numbered.{frame_of};
-ghost use Rattle.jv_rules_values.specs.Outcomes.{IsOutcome};
+ghost use Rattle.jv_meaning_typing.specs.Rule.{test_references};
+ghost use Rattle.jv_types.specs.Outcomes.{Exchanges};
+ghost use Rattle.jv_rules.specs.Inside.Over.{TestsReferences, branch_of};
 
 use jv_code::Test;
 use jv_frames::VerificationTypeOf;
-use jv_rules_frames::TypeFrame;
-use jv_rules_types::TypeNames;
-use jv_rules_values::{Outcome, exchange, test_reference, test_references};
+use jv_rules_values::{exchange, test_reference, test_references};
+use jv_types::{Outcome, TypeFrame, TypeNames};
 
 /// Takes an int.
 pub(crate) fn take_int(types: &TypeNames<'_, '_>, frame: &mut TypeFrame) -> Outcome
-    ensures { IsOutcome types.now.names (exchanged types.now.world (variants.Int ∷ []) [] (frame_of types.now.names frame.old)) frame.new result }
+    ensures { Exchanges types.now (variants.Int ∷ []) [] frame.old frame.new result }
 {
     exchange(types, frame, &[VerificationTypeOf::Int], None)
 }
 
 /// Takes two ints.
 fn take_ints(types: &TypeNames<'_, '_>, frame: &mut TypeFrame) -> Outcome
-    ensures { IsOutcome types.now.names (exchanged types.now.world (variants.Int ∷ variants.Int ∷ []) [] (frame_of types.now.names frame.old)) frame.new result }
+    ensures { Exchanges types.now (variants.Int ∷ variants.Int ∷ []) [] frame.old frame.new result }
 {
     exchange(
         types,
@@ -36,7 +32,7 @@ fn take_ints(types: &TypeNames<'_, '_>, frame: &mut TypeFrame) -> Outcome
 
 /// Takes what a branch tests.
 pub(crate) fn branch(types: &TypeNames<'_, '_>, frame: &mut TypeFrame, condition: Test) -> Outcome
-    ensures { (env : Environment) → env.world ≡ types.now.world → IsOutcome types.now.names (by_exchange env (test condition) (test_references condition (frame_of types.now.names frame.old)) (frame_of types.now.names frame.old)) frame.new result }
+    ensures { TestsReferences types.now (branch_of condition) frame.old frame.new result }
 {
     match condition {
         Test::IfInt(_) => take_int(types, frame),

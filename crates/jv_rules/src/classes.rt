@@ -1,18 +1,13 @@
 //! Instructions that name a class or an array by the index of the constant (JVMS 4.10.1.9).
 
-ghost use Rattle.jv_meaning_typing.specs.Environment.{Environment};
 ghost use Rattle.jv_meaning_typing.specs.ValueRules.{new_object, new_reference_array, new_multi_array, check_cast, instance_of};
-ghost use Rattle.jv_rules_frames.specs.Numbered.{frame_of};
-ghost use Rattle.jv_rules_values.specs.Outcomes.{IsOutcome};
-ghost use Rattle.jv_rules_uses.specs.of_rules_operands.Operands.{HasPool};
-ghost use Rattle.jv_rules.specs.Inside.Over.{IsOver};
+ghost use Rattle.jv_rules.specs.Inside.Over.{FollowsOver, FollowsByPool};
 
+use crate::casts::{cast, new_multi_array, new_reference_array, test_instance};
+use jv_constants::{ConstantTypes, array_of, array_type, names_class};
 use jv_pool::kinds_name;
-use jv_rules_constants::ConstantTypes;
-use jv_rules_frames::TypeFrame;
-use jv_rules_uses::of_rules_members::{cast, new_multi_array, new_reference_array, test_instance};
-use jv_rules_uses::of_rules_operands::{array_of, array_type, names_class};
-use jv_rules_values::{Outcome, new_object};
+use jv_rules_values::new_object;
+use jv_types::{Outcome, TypeFrame};
 
 /// Makes an object of a class at an offset.
 pub(crate) fn make_object(
@@ -21,7 +16,7 @@ pub(crate) fn make_object(
     offset: u16,
     index: u16,
 ) -> Outcome
-    ensures { (env : Environment) → HasPool constants.now.pool env → IsOutcome constants.now.types.names (new_object env offset index (frame_of constants.now.types.names frame.old)) frame.new result }
+    ensures { FollowsByPool constants.now (λ env. new_object env offset index) frame.old frame.new result }
 {
     kinds_name();
     constants.pool().keeps_rules();
@@ -37,7 +32,7 @@ pub(crate) fn make_array(
     frame: &mut TypeFrame,
     index: u16,
 ) -> Outcome
-    ensures { (env : Environment) → IsOver constants.now env → IsOutcome constants.now.types.names (new_reference_array env index (frame_of constants.now.types.names frame.old)) frame.new result }
+    ensures { FollowsOver constants.now (λ env. new_reference_array env index) frame.old frame.new result }
 {
     match array_of(constants, index) {
         Some(array) => new_reference_array(constants.names(), frame, array),
@@ -52,7 +47,7 @@ pub(crate) fn make_multi_array(
     index: u16,
     dimensions: u8,
 ) -> Outcome
-    ensures { (env : Environment) → IsOver constants.now env → IsOutcome constants.now.types.names (new_multi_array env index dimensions (frame_of constants.now.types.names frame.old)) frame.new result }
+    ensures { FollowsOver constants.now (λ env. new_multi_array env index dimensions) frame.old frame.new result }
 {
     match array_type(constants, index, dimensions) {
         Some(array) => new_multi_array(constants.names(), frame, dimensions, array),
@@ -66,7 +61,7 @@ pub(crate) fn check_cast(
     frame: &mut TypeFrame,
     index: u16,
 ) -> Outcome
-    ensures { (env : Environment) → IsOver constants.now env → IsOutcome constants.now.types.names (check_cast env index (frame_of constants.now.types.names frame.old)) frame.new result }
+    ensures { FollowsOver constants.now (λ env. check_cast env index) frame.old frame.new result }
 {
     match constants.class_type(index) {
         Some(target) => cast(constants.names(), frame, target),
@@ -80,7 +75,7 @@ pub(crate) fn instance_of(
     frame: &mut TypeFrame,
     index: u16,
 ) -> Outcome
-    ensures { (env : Environment) → IsOver constants.now env → IsOutcome constants.now.types.names (instance_of env index (frame_of constants.now.types.names frame.old)) frame.new result }
+    ensures { FollowsOver constants.now (λ env. instance_of env index) frame.old frame.new result }
 {
     match constants.class_type(index) {
         Some(_) => test_instance(constants.names(), frame),

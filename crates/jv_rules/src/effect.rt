@@ -2,26 +2,27 @@
 
 ghost use Rattle.std.specs.Prelude.{◌≡◌, ℕ, List, IfOk};
 ghost use Rattle.jv_code.specs.Insns.{instruction_of};
-ghost use Rattle.jv_meaning_typing.specs.Environment.{Environment};
 ghost use Rattle.jv_meaning_typing.specs.Rule.{effect};
 ghost use Rattle.jv_meaning_typing.specs.ValueRules.{move_words, value_kind};
-ghost use Rattle.jv_rules_frames.specs.Numbered.{frame_of};
-ghost use Rattle.jv_rules_values.specs.Outcomes.{IsOutcome};
-ghost use Rattle.jv_rules.specs.Inside.Over.{IsMethodOver};
+ghost use Rattle.jv_types.specs.Numbered.{frame_of};
+ghost use Rattle.jv_types.specs.Outcomes.{IsOutcome};
+ghost use Rattle.jv_rules.specs.Inside.Over.{FollowsBoth};
 
 use crate::branches::{branch, take_int};
+use crate::calls::{invoke, invoke_of_interface};
 use crate::classes::{check_cast, instance_of, make_array, make_multi_array, make_object};
 use crate::constants::{push_constant, push_long_constant};
+use crate::context::MethodContext;
+use crate::fields::use_field;
 use crate::returns::{leave, leave_with_value};
 use jv_code::{Insn, StackForm, ValueKind, WordKind};
+use jv_constants::ConstantTypes;
 use jv_frames::VerificationTypeOf;
-use jv_rules_constants::ConstantTypes;
-use jv_rules_frames::TypeFrame;
-use jv_rules_uses::{MethodContext, invoke, invoke_of_interface, use_field};
 use jv_rules_values::{
-    Outcome, array_length, array_load, array_store, combine, compute, exchange, increment, load,
-    move_words, new_array, reference_array_load, reference_array_store, store,
+    array_length, array_load, array_store, combine, compute, exchange, increment, load, move_words,
+    new_array, reference_array_load, reference_array_store, store,
 };
+use jv_types::{Outcome, TypeFrame};
 use std::alloc::AllocError;
 
 fn value_kind(kind: WordKind) -> ValueKind
@@ -52,7 +53,7 @@ pub(crate) fn effect(
     offset: u16,
     insn: &Insn<&[u8]>,
 ) -> Result<Outcome, AllocError>
-    ensures { (env : Environment) → IsMethodOver context.now constants.now env → IfOk result (IsOutcome constants.now.types.names (effect env offset (instruction_of insn.now) (frame_of constants.now.types.names frame.old)) frame.new) }
+    ensures { FollowsBoth context.now constants.now (λ env. effect env offset (instruction_of insn.now)) frame.old frame.new result }
 {
     let types = constants.names();
     match *insn {

@@ -1,19 +1,33 @@
-//! The rule of each instruction (JVMS 4.10.1.9), on a frame that is changed in place: one call an instruction, to the rule of
-//! its kind in the crates below.
+//! The rule of each instruction (JVMS 4.10.1.9), on a frame that is changed in place.
+//!
+//! [`apply`] makes the frame before an instruction exactly the one behind it, or answers that the instruction may not stand there.
 #![tactic(auto)]
 
 mod branches;
+mod calls;
+mod casts;
 mod classes;
 mod constants;
+mod constructing;
+mod construction;
+mod constructors;
+mod context;
 mod effect;
+mod field_access;
+mod fields;
+mod guards;
 mod law;
 mod locals;
+mod methods;
+mod operands;
+mod receivers;
 mod returns;
 mod rule;
+mod texts;
 mod words;
 
-pub use jv_rules_uses as of_rules_uses;
-pub use jv_rules_uses::{MethodContext, constructed_object, of_rules_class as of_rules_class};
+pub use constructing::constructed_object;
+pub use context::MethodContext;
 pub use law::{keeps_local_count, leaves_locals};
 pub use locals::keeps_locals;
 pub use rule::apply;

@@ -1,14 +1,13 @@
 //! The words of the stack within max_stack (JVMS 4.10.1.4).
 
-ghost use Rattle.std.specs.Prelude.{◌≡◌, ◌+◌, ℕ, List, nat_le, IfOk};
-ghost use Rattle.jv_meaning_typing.specs.Environment.{Environment};
+ghost use Rattle.std.specs.Prelude.{◌≡◌, ◌+◌, nat_le};
 ghost use Rattle.jv_meaning_typing.specs.Rule.{within_stack};
-ghost use Rattle.jv_rules_frames.specs.Numbered.{frame_of, topped, item_words, stack_words};
-ghost use Rattle.jv_rules_values.specs.Outcomes.{IsFrame};
+ghost use Rattle.jv_types.specs.Numbered.{frame_of, item_words, stack_words};
+ghost use Rattle.jv_types.specs.Outcomes.{IsFrame};
+ghost use Rattle.jv_rules.specs.Inside.Over.{WithinStack, SettlesTop};
 
 use jv_frames::VerificationTypeOf;
-use jv_rules_frames::TypeFrame;
-use jv_rules_types::Item;
+use jv_types::{Item, TypeFrame};
 use std::alloc::AllocError;
 
 /// The words of an item: two of a long.
@@ -23,7 +22,7 @@ fn words_of(item: Item) -> u16
 
 /// Whether the stack has no more words than it may have.
 pub(crate) fn is_within(frame: &TypeFrame, max_stack: u16) -> bool
-    ensures { (names : List (List ℕ)) (env : Environment) → env.code.max_stack ≡ max_stack → IsFrame names (within_stack env (frame_of names frame.now)) frame.now result }
+    ensures { WithinStack max_stack (λ names env. IsFrame names (within_stack env (frame_of names frame.now)) frame.now result) }
 {
     frame.stack_words() <= usize::from(max_stack)
 }
@@ -44,7 +43,7 @@ pub(crate) fn push_within(
     item: Item,
     max_stack: u16,
 ) -> Result<bool, AllocError>
-    ensures { (names : List (List ℕ)) (env : Environment) → env.code.max_stack ≡ max_stack → IfOk result (IsFrame names (within_stack env (frame_of names (topped frame.old item))) frame.new) }
+    ensures { SettlesTop max_stack frame.old item frame.new result }
 {
     if has_room(frame, item, max_stack) {
         frame.push(item)?;

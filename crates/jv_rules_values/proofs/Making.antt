@@ -6,12 +6,12 @@ use Rattle.jv_code.specs.declared.kinds.ValueKind.TheVariants as kinds
 use Rattle.jv_frames.specs.declared.verification.VerificationTypeOf.TheVariants as types
 use Rattle.jv_frames.specs.Types.{FrameType}
 use Rattle.jv_frames.specs.Frames.{Frame}
-use Rattle.jv_loader_world.specs.World.{World}
-use Rattle.jv_rules_frames.specs.of_meaning_typing.FrameChanges.{with_stack as stack_of, with_locals as locals_of, is_same_object, replaced, taken, taken_of_kind}
-use Rattle.jv_rules_frames.specs.of_meaning_typing.Named.{when}
-use Rattle.jv_rules_frames.specs.of_meaning_typing.ValueRules.{pushed, take_reference, with_component, reference_array_load}
-use Rattle.jv_rules_frames.specs.of_rules_types.Typed.{typed, typed_all}
-use Rattle.jv_rules_frames.specs.Numbered.{Item, NumberFrame, frame_of, topped, with_locals, with_stack}
+use Rattle.jv_meaning_world.specs.World.{World}
+use Rattle.jv_meaning_typing.specs.FrameChanges.{with_stack as stack_of, with_locals as locals_of, is_same_object, replaced, taken, taken_of_kind}
+use Rattle.jv_meaning_typing.specs.Named.{when}
+use Rattle.jv_meaning_typing.specs.ValueRules.{pushed, take_reference, with_component, reference_array_load}
+use Rattle.jv_types.specs.Typed.{typed, typed_all}
+use Rattle.jv_types.specs.Numbered.{Item, NumberFrame, frame_of, topped, with_locals, with_stack}
 use Rattle.jv_rules_values.specs.Inside.Objects.{new_object}
 
 module _ (names : List (List ℕ)) (pc : ℕ) where

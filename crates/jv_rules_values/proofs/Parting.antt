@@ -8,11 +8,11 @@ use Rattle.jv_code.specs.declared.kinds.StackForm.{StackForm}
 use Rattle.jv_code.specs.declared.kinds.StackForm.TheVariants as forms
 use Rattle.jv_frames.specs.declared.width.Width.TheVariants.{One}
 use Rattle.jv_frames.specs.Types.{FrameType}
-use Rattle.jv_rules_frames.specs.of_meaning_typing.FrameChanges.{item_width, with_stack as stack_of}
-use Rattle.jv_rules_frames.specs.of_meaning_typing.StackForms.{words_behind, top_words, item_before, taken_words, passed_words, arranged}
-use Rattle.jv_rules_frames.specs.of_meaning_typing.ValueRules.{move_words}
-use Rattle.jv_rules_frames.specs.of_rules_types.Typed.{typed, typed_all}
-use Rattle.jv_rules_frames.specs.Numbered.{Item, NumberFrame, topped, with_stack, frame_of}
+use Rattle.jv_meaning_typing.specs.FrameChanges.{item_width, with_stack as stack_of}
+use Rattle.jv_meaning_typing.specs.StackForms.{words_behind, top_words, item_before, taken_words, passed_words, arranged}
+use Rattle.jv_meaning_typing.specs.ValueRules.{move_words}
+use Rattle.jv_types.specs.Typed.{typed, typed_all}
+use Rattle.jv_types.specs.Numbered.{Item, NumberFrame, topped, with_stack, frame_of}
 use Rattle.jv_rules_values.specs.declared.forms.Words.{Words}
 use Rattle.jv_rules_values.specs.Inside.Words.{items_in, arranged_words, AreTaken, IsBelow}
 

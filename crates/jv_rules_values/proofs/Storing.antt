@@ -4,10 +4,10 @@ use Rattle.jv_format.specs.Format.{◌>>=◌}
 use Rattle.jv_frames.specs.Types.{FrameType}
 use Rattle.jv_frames.specs.Frames.{Frame, type_by_words}
 use Rattle.jv_code.specs.declared.kinds.ValueKind.{ValueKind}
-use Rattle.jv_rules_frames.specs.of_meaning_typing.FrameChanges.{with_stack as stack_of, with_locals as locals_of, stored, taken_of_kind}
-use Rattle.jv_rules_frames.specs.of_meaning_typing.ValueRules.{store}
-use Rattle.jv_rules_frames.specs.of_rules_types.Typed.{typed, typed_all}
-use Rattle.jv_rules_frames.specs.Numbered.{Item, NumberFrame, frame_of, topped, with_locals}
+use Rattle.jv_meaning_typing.specs.FrameChanges.{with_stack as stack_of, with_locals as locals_of, stored, taken_of_kind}
+use Rattle.jv_meaning_typing.specs.ValueRules.{store}
+use Rattle.jv_types.specs.Typed.{typed, typed_all}
+use Rattle.jv_types.specs.Numbered.{Item, NumberFrame, frame_of, topped, with_locals}
 
 module _ (names : List (List ℕ)) (kind : ValueKind) (index : ℕ) where
   -- what is left of a store when an item was taken from a frame

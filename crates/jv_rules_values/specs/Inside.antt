@@ -1,3 +1,3 @@
-pub mod Popping
 pub mod Objects
+pub mod Popping
 pub mod Words

@@ -2,24 +2,20 @@
 
 ghost use Rattle.std.specs.Prelude.{◌≡◌, ℕ, List, ◌∷◌, []};
 ghost use Rattle.std.specs.List.{list_any};
-ghost use Rattle.std.specs.Option.{option_map};
-ghost use Rattle.jv_frames.specs.Types.{value_type};
 ghost use Rattle.jv_frames.specs.declared.verification.VerificationTypeOf.TheVariants as variants;
-ghost use Rattle.jv_rules_frames.specs.of_assign.FrameFlow.{item_flows};
-ghost use Rattle.jv_rules_frames.specs.of_meaning_typing.FrameChanges.{taken_as_any, exchanged};
-ghost use Rattle.jv_rules_frames.specs.of_meaning_typing.NumberRules.{array_of_base, number_arrays, element_number, new_array_type};
-ghost use Rattle.jv_rules_frames.specs.of_meaning_typing.ValueRules.{array_load, array_store, reference_component, reference_array_load, is_array_or_null};
-ghost use Rattle.jv_rules_frames.specs.of_rules_types.Typed.{typed, typed_field, typed_all};
-ghost use Rattle.jv_rules_frames.specs.Numbered.{frame_of};
-ghost use Rattle.jv_rules_values.specs.Outcomes.{IsOutcome, Takes};
+ghost use Rattle.jv_meaning_world.specs.FrameFlow.{item_flows};
+ghost use Rattle.jv_meaning_typing.specs.FrameChanges.{taken_as_any};
+ghost use Rattle.jv_meaning_typing.specs.NumberRules.{array_of_base, number_arrays, element_number, new_array_type};
+ghost use Rattle.jv_meaning_typing.specs.ValueRules.{array_load, array_store};
+ghost use Rattle.jv_types.specs.Typed.{typed};
+ghost use Rattle.jv_types.specs.Numbered.{frame_of};
+ghost use Rattle.jv_types.specs.Outcomes.{IsOutcome, Exchanges, TakesBy};
 
-use crate::outcome::Outcome;
 use crate::stack::{exchange, take};
 use jv_code::{ElementType, NumberElement};
 use jv_frames::VerificationTypeOf;
-use jv_rules_frames::TypeFrame;
-use jv_rules_frames::of_rules_types::{Item, TypeNames};
 use jv_text::{Base, Element, FieldTypeOf};
+use jv_types::{Item, Outcome, TypeFrame, TypeNames};
 
 /// The array of a primitive type.
 pub fn array_of_base(base: Base) -> Item
@@ -59,7 +55,7 @@ fn take_number_array(
     frame: &mut TypeFrame,
     element: NumberElement,
 ) -> bool
-    ensures { Takes types.now.names (taken_as_any types.now.world (number_arrays element) (typed_all types.now.names frame.old.stack)) frame.old frame.new result }
+    ensures { TakesBy types.now.names (taken_as_any types.now.world (number_arrays element)) frame.old frame.new result }
 {
     match frame.pop() {
         None => false,
@@ -128,7 +124,7 @@ fn new_array_type(element: ElementType) -> Item
 
 /// Takes a length and gives an array of numbers.
 pub fn new_array(types: &TypeNames<'_, '_>, frame: &mut TypeFrame, element: ElementType) -> Outcome
-    ensures { IsOutcome types.now.names (exchanged types.now.world (variants.Int ∷ []) (new_array_type element ∷ []) (frame_of types.now.names frame.old)) frame.new result }
+    ensures { Exchanges types.now (variants.Int ∷ []) (new_array_type element ∷ []) frame.old frame.new result }
 {
     exchange(
         types,

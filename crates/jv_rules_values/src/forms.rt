@@ -1,18 +1,17 @@
 //! Forms of the stack (JVMS 4.10.1.9): pop to swap.
 
 ghost use Rattle.std.specs.Prelude.{◌≡◌, ◌++◌, ℕ, List, OnOk, IfOk};
-ghost use Rattle.jv_rules_frames.specs.of_meaning_typing.FrameChanges.{item_width};
-ghost use Rattle.jv_rules_frames.specs.of_meaning_typing.StackForms.{top_words, taken_words, passed_words};
-ghost use Rattle.jv_rules_frames.specs.of_meaning_typing.ValueRules.{move_words};
-ghost use Rattle.jv_rules_frames.specs.of_rules_types.Typed.{typed, typed_all};
-ghost use Rattle.jv_rules_frames.specs.Numbered.{frame_of, with_stack};
-ghost use Rattle.jv_rules_values.specs.Outcomes.{IsFrame};
-ghost use Rattle.jv_rules_values.specs.Inside.Words.{items_in, arranged_words, IsWord, IsBelow, AreTaken};
+ghost use Rattle.jv_meaning_typing.specs.FrameChanges.{item_width};
+ghost use Rattle.jv_meaning_typing.specs.StackForms.{top_words, taken_words, passed_words};
+ghost use Rattle.jv_meaning_typing.specs.ValueRules.{move_words};
+ghost use Rattle.jv_types.specs.Typed.{typed, typed_all};
+ghost use Rattle.jv_types.specs.Numbered.{frame_of, with_stack};
+ghost use Rattle.jv_types.specs.Outcomes.{IsFrame};
+ghost use Rattle.jv_rules_values.specs.Inside.Words.{items_in, arranged_words, IsWord, TakesBelow, TakesWords};
 
 use jv_code::StackForm;
 use jv_frames::{VerificationTypeOf, Width};
-use jv_rules_frames::TypeFrame;
-use jv_rules_frames::of_rules_types::Item;
+use jv_types::{Item, TypeFrame};
 use std::alloc::AllocError;
 
 /// Items from the top of a stack: none, one, or two, of which the first was on top.
@@ -47,7 +46,7 @@ fn pop_word(frame: &mut TypeFrame) -> Option<Item>
 
 /// Takes an item of one word, below one that was taken.
 fn pop_below(frame: &mut TypeFrame, first: Item) -> Option<Words>
-    ensures { (names : List (List ℕ)) → IsBelow names first (top_words item_width 1 (typed_all names frame.old.stack)) frame.old frame.new result }
+    ensures { TakesBelow first 1 frame.old frame.new result }
 {
     match pop_word(frame) {
         Some(second) => Some(Words::Two(first, second)),
@@ -57,7 +56,7 @@ fn pop_below(frame: &mut TypeFrame, first: Item) -> Option<Words>
 
 /// Takes an item of two words, or two of one.
 fn pop_two_words(frame: &mut TypeFrame) -> Option<Words>
-    ensures { (names : List (List ℕ)) → AreTaken names (top_words item_width 2 (typed_all names frame.old.stack)) frame.old frame.new result }
+    ensures { TakesWords 2 frame.old frame.new result }
 {
     match frame.pop() {
         None => None,
@@ -70,7 +69,7 @@ fn pop_two_words(frame: &mut TypeFrame) -> Option<Words>
 }
 
 fn pop_one_word(frame: &mut TypeFrame) -> Option<Words>
-    ensures { (names : List (List ℕ)) → AreTaken names (top_words item_width 1 (typed_all names frame.old.stack)) frame.old frame.new result }
+    ensures { TakesWords 1 frame.old frame.new result }
 {
     match pop_word(frame) {
         Some(item) => Some(Words::One(item)),
@@ -80,7 +79,7 @@ fn pop_one_word(frame: &mut TypeFrame) -> Option<Words>
 
 /// Takes the words that a form drops, copies or swaps.
 fn pop_taken(frame: &mut TypeFrame, form: StackForm) -> Option<Words>
-    ensures { (names : List (List ℕ)) → AreTaken names (top_words item_width (taken_words form) (typed_all names frame.old.stack)) frame.old frame.new result }
+    ensures { TakesWords (taken_words form) frame.old frame.new result }
 {
     match form {
         StackForm::Pop2 => pop_two_words(frame),
@@ -97,7 +96,7 @@ fn pop_taken(frame: &mut TypeFrame, form: StackForm) -> Option<Words>
 
 /// Takes the words below them that a form puts copies under, or swaps them with.
 fn pop_passed(frame: &mut TypeFrame, form: StackForm) -> Option<Words>
-    ensures { (names : List (List ℕ)) → AreTaken names (top_words item_width (passed_words form) (typed_all names frame.old.stack)) frame.old frame.new result }
+    ensures { TakesWords (passed_words form) frame.old frame.new result }
 {
     match form {
         StackForm::DupX2 => pop_two_words(frame),

@@ -1,19 +1,17 @@
 //! Instructions on local variables (JVMS 4.10.1.9): iload to aload, istore to astore, iinc.
 
-ghost use Rattle.std.specs.Prelude.{◌≡◌, ℕ, List, length, MatchOption, None, Some};
+ghost use Rattle.std.specs.Prelude.{◌≡◌, ℕ, List, length, None, Some};
 ghost use Rattle.jv_frames.specs.Types.{FrameType};
-ghost use Rattle.jv_rules_frames.specs.of_meaning_typing.FrameChanges.{is_reference, is_of_kind, taken_of_kind};
-ghost use Rattle.jv_rules_frames.specs.of_meaning_typing.ValueRules.{has_room, load, store, increment};
-ghost use Rattle.jv_rules_frames.specs.of_rules_types.Typed.{typed, typed_all};
-ghost use Rattle.jv_rules_frames.specs.Numbered.{frame_of, topped};
-ghost use Rattle.jv_rules_values.specs.Outcomes.{IsOutcome};
+ghost use Rattle.jv_meaning_typing.specs.FrameChanges.{is_reference, is_of_kind, taken_of_kind};
+ghost use Rattle.jv_meaning_typing.specs.ValueRules.{has_room, load, store, increment};
+ghost use Rattle.jv_types.specs.Typed.{typed, typed_all};
+ghost use Rattle.jv_types.specs.Numbered.{frame_of};
+ghost use Rattle.jv_types.specs.Outcomes.{IsOutcome};
 ghost use Rattle.jv_rules_values.specs.Inside.Popping.{IsPopped};
 
-use crate::outcome::Outcome;
 use jv_code::ValueKind;
 use jv_frames::VerificationTypeOf;
-use jv_rules_frames::TypeFrame;
-use jv_rules_frames::of_rules_types::Item;
+use jv_types::{Item, Outcome, TypeFrame};
 
 /// Whether a type is an object's, an array's or null's, also one that is not initialized (JVMS 4.10.1.2).
 pub fn is_reference(item: Item) -> bool

@@ -1,59 +1,21 @@
 //! Instructions on references (JVMS 4.10.1.9), members aside.
 
-ghost use Rattle.std.specs.Prelude.{◌≡◌, ℕ, List, [], ◌∷◌, None, codes, if◌then◌else◌};
+ghost use Rattle.std.specs.Prelude.{◌≡◌, ℕ, List, [], None, if◌then◌else◌};
 ghost use Rattle.jv_frames.specs.declared.verification.VerificationTypeOf.TheVariants as variants;
 ghost use Rattle.std.specs.Option.{option_map};
-ghost use Rattle.jv_frames.specs.Types.{primitive_type, value_type, value_type_by};
-ghost use Rattle.jv_rules_frames.specs.of_meaning_typing.FrameChanges.{is_of_kind, exchanged, with_stack};
-ghost use Rattle.jv_rules_frames.specs.of_meaning_typing.ValueRules.{reference_component, with_component, reference_array_load, is_array_or_null, array_length, take_reference, return_nothing};
-ghost use Rattle.jv_rules_frames.specs.of_meaning_typing.Named.{array_with, class_components, object_class_type};
-ghost use Rattle.jv_rules_frames.specs.of_rules_types.Typed.{typed, typed_element, typed_field, typed_all};
-ghost use Rattle.jv_rules_frames.specs.Numbered.{frame_of};
-ghost use Rattle.jv_rules_values.specs.Outcomes.{IsOutcome, IsFrame, typed_option, outcome_of_component};
-ghost use Rattle.jv_rules_values.specs.Inside.Objects.{new_object, take_references};
+ghost use Rattle.jv_meaning_typing.specs.FrameChanges.{is_of_kind, with_stack};
+ghost use Rattle.jv_meaning_typing.specs.ValueRules.{reference_component, with_component, reference_array_load, is_array_or_null, array_length, take_reference, return_nothing};
+ghost use Rattle.jv_types.specs.Typed.{typed};
+ghost use Rattle.jv_types.specs.Numbered.{frame_of};
+ghost use Rattle.jv_types.specs.Outcomes.{IsOutcome, IsFrame, typed_option, outcome_of_component, Applies, AppliesToAny, Exchanges};
+ghost use Rattle.jv_rules_values.specs.Inside.Objects.{new_object, take_references, stored_reference, return_of};
 
 use crate::locals::{is_of_kind, is_reference, pop_of_kind};
-use crate::outcome::Outcome;
 use crate::stack::{exchange, take};
 use jv_code::ValueKind;
 use jv_frames::VerificationTypeOf;
-use jv_rules_frames::TypeFrame;
-use jv_rules_frames::of_rules_types::{Item, TypeNames};
 use jv_text::{Base, Element, FieldTypeOf};
-
-/// The type of a number of a primitive type; top of a floating point type, which no supported class has.
-fn primitive_type(base: Base) -> Item
-    ensures { (names : List (List ℕ)) → typed names result ≡ primitive_type base }
-{
-    match base {
-        Base::Long => VerificationTypeOf::Long,
-        Base::Float => VerificationTypeOf::Top,
-        Base::Double => VerificationTypeOf::Top,
-        _ => VerificationTypeOf::Int,
-    }
-}
-
-fn element_type(element: Element<u32>) -> Item
-    ensures { (names : List (List ℕ)) → typed names result ≡ value_type_by 0 (typed_element names element) }
-{
-    match element {
-        Element::Base(base) => primitive_type(base),
-        Element::Class(name) => VerificationTypeOf::Class(name),
-    }
-}
-
-/// The type of the values of a field type (JVMS 4.3.2).
-pub fn value_type(type_of: FieldTypeOf<u32>) -> Item
-    ensures { (names : List (List ℕ)) → typed names result ≡ value_type (typed_field names type_of) }
-{
-    match type_of.dimensions.checked_sub(1) {
-        None => element_type(type_of.element),
-        Some(dimensions) => VerificationTypeOf::Array(FieldTypeOf {
-            dimensions,
-            element: type_of.element,
-        }),
-    }
-}
+use jv_types::{Item, Outcome, TypeFrame, TypeNames, value_type};
 
 /// The type of what an array of references holds: null for null; `None` for what is no such array.
 fn reference_component(item: Item) -> Option<Item>
@@ -83,7 +45,7 @@ fn outcome_of_component(component: Option<Item>) -> Outcome
 }
 
 fn load_component(frame: &mut TypeFrame) -> Outcome
-    ensures { (names : List (List ℕ)) → IsOutcome names (with_component (frame_of names frame.old) (typed_all names frame.old.stack)) frame.new result }
+    ensures { AppliesToAny (λ f. with_component f f.stack) frame.old frame.new result }
 {
     match frame.pop() {
         Some(array) => outcome_of_component(reference_component(array)),
@@ -104,7 +66,7 @@ pub fn reference_array_load(types: &TypeNames<'_, '_>, frame: &mut TypeFrame) ->
 
 /// Stores a reference in an array.
 pub fn reference_array_store(types: &TypeNames<'_, '_>, frame: &mut TypeFrame) -> Outcome
-    ensures { IsOutcome types.now.names (exchanged types.now.world (array_with (class_components (codes "java/lang/Object")) ∷ variants.Int ∷ object_class_type ∷ []) [] (frame_of types.now.names frame.old)) frame.new result }
+    ensures { Exchanges types.now stored_reference [] frame.old frame.new result }
 {
     let object = types.object();
     let objects = FieldTypeOf {
@@ -135,7 +97,7 @@ fn is_array_or_null(item: Item) -> bool
 
 /// Takes an array and gives its length.
 pub fn array_length(frame: &mut TypeFrame) -> Outcome
-    ensures { (names : List (List ℕ)) → IsOutcome names (option_map (with_stack (frame_of names frame.old)) (array_length (typed_all names frame.old.stack))) frame.new result }
+    ensures { AppliesToAny (λ f. option_map (with_stack f) (array_length f.stack)) frame.old frame.new result }
 {
     match frame.pop() {
         Some(item) if is_array_or_null(item) => Outcome::Gives(VerificationTypeOf::Int),
@@ -190,7 +152,7 @@ pub fn new_object(frame: &mut TypeFrame, pc: u16) -> Outcome
 
 /// Returns no value, where the method has none to return.
 pub fn return_nothing(frame: &TypeFrame, has_result: bool) -> Outcome
-    ensures { (names : List (List ℕ)) → IsOutcome names (if has_result then None else return_nothing None (frame_of names frame.now)) frame.now result }
+    ensures { AppliesToAny (λ f. (if has_result then None else return_nothing None f)) frame.now frame.now result }
 {
     if has_result || frame.flag_this_uninit() {
         Outcome::Fails
@@ -206,7 +168,7 @@ pub fn return_value(
     kind: ValueKind,
     result_type: Item,
 ) -> Outcome
-    ensures { IsOutcome types.now.names (if is_of_kind kind (typed types.now.names result_type) then exchanged types.now.world (typed types.now.names result_type ∷ []) [] (frame_of types.now.names frame.old) else None) frame.new result }
+    ensures { Applies types.now.names (return_of types.now.world kind (typed types.now.names result_type)) frame.old frame.new result }
 {
     if is_of_kind(kind, result_type) {
         exchange(types, frame, &[result_type], None)

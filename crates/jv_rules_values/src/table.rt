@@ -2,18 +2,14 @@
 
 ghost use Rattle.std.specs.Prelude.{◌≡◌, ℕ, List, [], ◌∷◌};
 ghost use Rattle.jv_frames.specs.declared.verification.VerificationTypeOf.TheVariants as variants;
-ghost use Rattle.jv_rules_frames.specs.of_meaning_typing.FrameChanges.{exchanged};
-ghost use Rattle.jv_rules_frames.specs.of_meaning_typing.NumberRules.{number_type, conversion, computation};
-ghost use Rattle.jv_rules_frames.specs.of_rules_types.Typed.{typed};
-ghost use Rattle.jv_rules_frames.specs.Numbered.{frame_of};
-ghost use Rattle.jv_rules_values.specs.Outcomes.{IsOutcome};
+ghost use Rattle.jv_meaning_typing.specs.NumberRules.{number_type, conversion, computation};
+ghost use Rattle.jv_types.specs.Typed.{typed};
+ghost use Rattle.jv_types.specs.Outcomes.{Exchanges};
 
-use crate::outcome::Outcome;
 use crate::stack::exchange;
 use jv_code::{Computation, Conversion, NumberKind};
 use jv_frames::VerificationTypeOf;
-use jv_rules_frames::TypeFrame;
-use jv_rules_frames::of_rules_types::{Item, TypeNames};
+use jv_types::{Item, Outcome, TypeFrame, TypeNames};
 
 /// The type of a number of a kind.
 pub fn number_type(kind: NumberKind) -> Item
@@ -27,7 +23,7 @@ pub fn number_type(kind: NumberKind) -> Item
 
 /// Converts a number.
 fn convert(types: &TypeNames<'_, '_>, frame: &mut TypeFrame, to: Conversion) -> Outcome
-    ensures { IsOutcome types.now.names (exchanged types.now.world (conversion to).takes (conversion to).gives (frame_of types.now.names frame.old)) frame.new result }
+    ensures { Exchanges types.now (conversion to).takes (conversion to).gives frame.old frame.new result }
 {
     match to {
         Conversion::IntToLong => exchange(
@@ -53,7 +49,7 @@ fn convert(types: &TypeNames<'_, '_>, frame: &mut TypeFrame, to: Conversion) -> 
 
 /// Takes two numbers of a kind and gives one.
 pub fn combine(types: &TypeNames<'_, '_>, frame: &mut TypeFrame, kind: NumberKind) -> Outcome
-    ensures { IsOutcome types.now.names (exchanged types.now.world (number_type kind ∷ number_type kind ∷ []) (number_type kind ∷ []) (frame_of types.now.names frame.old)) frame.new result }
+    ensures { Exchanges types.now (number_type kind ∷ number_type kind ∷ []) (number_type kind ∷ []) frame.old frame.new result }
 {
     let number = number_type(kind);
     exchange(types, frame, &[number, number], Some(number))
@@ -61,7 +57,7 @@ pub fn combine(types: &TypeNames<'_, '_>, frame: &mut TypeFrame, kind: NumberKin
 
 /// Takes a number of a kind and an int, and gives one of the kind.
 fn shift(types: &TypeNames<'_, '_>, frame: &mut TypeFrame, kind: NumberKind) -> Outcome
-    ensures { IsOutcome types.now.names (exchanged types.now.world (number_type kind ∷ variants.Int ∷ []) (number_type kind ∷ []) (frame_of types.now.names frame.old)) frame.new result }
+    ensures { Exchanges types.now (number_type kind ∷ variants.Int ∷ []) (number_type kind ∷ []) frame.old frame.new result }
 {
     let number = number_type(kind);
     exchange(
@@ -74,7 +70,7 @@ fn shift(types: &TypeNames<'_, '_>, frame: &mut TypeFrame, kind: NumberKind) -> 
 
 /// Takes a number of a kind and gives one.
 fn negate(types: &TypeNames<'_, '_>, frame: &mut TypeFrame, kind: NumberKind) -> Outcome
-    ensures { IsOutcome types.now.names (exchanged types.now.world (number_type kind ∷ []) (number_type kind ∷ []) (frame_of types.now.names frame.old)) frame.new result }
+    ensures { Exchanges types.now (number_type kind ∷ []) (number_type kind ∷ []) frame.old frame.new result }
 {
     let number = number_type(kind);
     exchange(types, frame, &[number], Some(number))
@@ -82,7 +78,7 @@ fn negate(types: &TypeNames<'_, '_>, frame: &mut TypeFrame, kind: NumberKind) ->
 
 /// Takes the numbers of a computation and gives its result.
 pub fn compute(types: &TypeNames<'_, '_>, frame: &mut TypeFrame, what: Computation) -> Outcome
-    ensures { IsOutcome types.now.names (exchanged types.now.world (computation what).takes (computation what).gives (frame_of types.now.names frame.old)) frame.new result }
+    ensures { Exchanges types.now (computation what).takes (computation what).gives frame.old frame.new result }
 {
     match what {
         Computation::IntConstant(_, _) => {

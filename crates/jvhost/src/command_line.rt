@@ -49,6 +49,7 @@ fn check_command<'a>(alloc: Global) -> Result<Command<'a>, AllocError> {
 fn command<'a>(alloc: Global) -> Result<Command<'a>, AllocError> {
     Command::new(alloc, "jvhost")
         .about("Checks and runs class files")
+        .version("0.1.0")
         .subcommand_required(true)
         .subcommand(run_command(alloc)?)?
         .subcommand(check_command(alloc)?)

@@ -5,7 +5,7 @@ use Rattle.jv_frames.specs.Bytes.{form_bytes}
 use Rattle.jv_asm.specs.Items.{code_of_item, code_of_items}
 use Rattle.jv_asm_builder.specs.declared.step.Label.{Label}
 use Rattle.jv_asm_builder.specs.Faults.{Expected, ◌>>=◌}
-use Rattle.jv_asm_builder.specs.Assembly.{Step, StackFrame, distance_in, near_distance, item_in, items_in, form_from, forms_from}
+use Rattle.jv_asm_builder.specs.Assembly.{Step, StackFrame, distance_in, near_distance, item_in, items_in, form_from, forms_from, TableSwitch}
 
 abbrev pub near_distance_in : List (Option ℕ) → ℕ → Label → Expected ℤ
 near_distance_in places at label = distance_in places at label >>= near_distance
@@ -29,3 +29,7 @@ frames_behind out base frames = forms_from base frames >>= λ forms. Ok (out ++ 
 -- a list with more behind it
 abbrev pub with_front : {A : Type 0} → List A → Expected (List A) → Expected (List A)
 with_front front rest = rest >>= λ list. Ok (front ++ list)
+
+-- a tableswitch from the low number to the high one
+abbrev pub table_behind : List (Option ℕ) → List ℕ → Label → ℤ × ℤ → List Label → Expected (List ℕ)
+table_behind places out default bounds targets = step_behind places out (TableSwitch default bounds.0 bounds.1 targets)

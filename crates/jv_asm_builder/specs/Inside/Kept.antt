@@ -1,11 +1,13 @@
 -- What the builders keep, as what it stands for.
-use Rattle.std.specs.Prelude.{ℕ, List, Option, Some, None, Vec}
+use Rattle.std.specs.Prelude.{ℕ, List, Option, Some, None, Vec, map}
 use Rattle.std.specs.declared.alloc.Global.{Global}
 use Rattle.jv_asm_builder.specs.declared.step.BuilderStep.{BuilderStep}
 use Rattle.jv_asm_builder.specs.declared.step.BuilderStep.TheVariants as built
 use Rattle.jv_asm_builder.specs.declared.frame.BuiltFrame.{BuiltFrame}
 use Rattle.jv_asm_builder.specs.declared.code_builder.BuiltParts.{BuiltParts}
-use Rattle.jv_asm_builder.specs.Assembly.{Step, Unlabelled, Branch, TableSwitch, LookupSwitch, StackFrame, AssembledCode}
+use Rattle.jv_asm_builder.specs.Assembly.{Step, Unlabelled, Branch, TableSwitch, LookupSwitch, StackFrame, AssembledCode, stack_map_type}
+use Rattle.jv_frames.specs.Bytes.{form_bytes}
+use Rattle.jv_frames.specs.declared.form.Form.TheVariants.{Full}
 
 abbrev pub step_kept : BuilderStep → Step
 step_kept (built.Unlabelled i) = Unlabelled i
@@ -26,3 +28,7 @@ parts_kept p = record {
   exception_table = p.exception_table.items;
   stack_map_table = contents_kept p.stack_map_table;
 }
+
+-- the bytes of a frame that says all its types
+abbrev pub full_bytes : ℕ → BuiltFrame → List ℕ
+full_bytes delta frame = form_bytes (Full delta (map stack_map_type frame.locals.items) (map stack_map_type frame.stack.items))

@@ -1,9 +1,10 @@
 -- The methods that a class builder keeps, as those of a class structure (JVMS 4.6, 4.7.3, 4.7.4).
-use Rattle.std.specs.Prelude.{List, [], ◌∷◌, Option, Some, None}
-use Rattle.jv_class_parts.specs.Structure.{AttributeInfo, MethodAttribute, Code, MethodInfo}
+use Rattle.std.specs.Prelude.{List, [], ◌∷◌, Option, Some, None, ℕ}
+use Rattle.jv_class_structure.specs.Structure.{AttributeInfo, MethodAttribute, Code, MethodInfo, ClassStructure}
 use Rattle.jv_asm_builder.specs.declared.built.StackMap.{StackMap}
 use Rattle.jv_asm_builder.specs.declared.built.BuiltCode.{BuiltCode}
 use Rattle.jv_asm_builder.specs.declared.built.BuiltMethod.{BuiltMethod}
+use Rattle.jv_asm_builder.specs.Built.{IsStackMapAdded}
 
 abbrev pub built_map : StackMap → AttributeInfo
 built_map m = record { attribute_name_index = m.name_index; info = m.contents.items }
@@ -38,3 +39,7 @@ built_attributes (Some c) = coded c (built_maps c.stack_map) ∷ []
 
 abbrev pub built_method : BuiltMethod → MethodInfo
 built_method m = with_attributes m (built_attributes m.code)
+
+-- the stack map with these contents, if there are some
+abbrev pub AddsStackMap : ClassStructure → Option (List ℕ) → ClassStructure → Option StackMap → Type 0
+AddsStackMap old contents new map = IsStackMapAdded old.constant_pool contents new.constant_pool (built_maps map)

@@ -1,6 +1,6 @@
 -- The classes of files, with the verdicts on them.
 use Rattle.std.specs.Prelude.{ℕ, List}
-use Rattle.jv_loader_files.specs.FileContent.{FileContent, AreContents}
+use Rattle.jv_meaning_world.specs.FileContent.{FileContent, AreContents}
 use Rattle.jv_method.specs.Files.{Verified, AreVerified}
 
 -- what is found of the files of one guest

@@ -1,6 +1,6 @@
 -- What the code keeps of a guest that was admitted, and of the host.
 use Rattle.std.specs.Prelude.{◌≡◌, ℕ, zero, suc, List, [], ◌∷◌, Option, Some, None, Ok}
-use Rattle.jv_class_parts.specs.Structure.{ClassStructure}
+use Rattle.jv_class_structure.specs.Structure.{ClassStructure}
 use Rattle.jv_meaning.specs.declared.guest.Budget.{Budget}
 use Rattle.jv_meaning.specs.declared.observation.End.TheVariants.{Running}
 use Rattle.jv_meaning.specs.declared.observation.Verdict.{Verdict}

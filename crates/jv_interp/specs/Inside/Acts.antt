@@ -1,6 +1,6 @@
 -- What the code's functions on a machine do, in the terms of the definitions.
 use Rattle.std.specs.Prelude.{◌≡◌, ℕ, List, Ok, IsErr}
-use Rattle.jv_class_parts.specs.Parts.{CodeSeen}
+use Rattle.jv_class_structure.specs.Parts.{CodeSeen}
 use Rattle.jv_meaning.specs.Thin.Machine.{Word, thin_act}
 use Rattle.jv_interp.specs.declared.thin.machine.Machine.{Machine}
 use Rattle.jv_interp.specs.declared.thin.execute.Change.{Change}

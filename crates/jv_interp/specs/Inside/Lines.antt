@@ -2,10 +2,10 @@
 use Rattle.std.specs.Prelude.{◌≡◌, ℕ, ◌+◌, ◌-◌, ◌≤◌, false, List, [], ◌∷◌, Option, Some, None}
 use Rattle.std.specs.Option.{IsSomeAnd}
 use Rattle.jv_pool.specs.Constants.{Entry}
-use Rattle.jv_class_parts.specs.Structure.{ClassStructure}
-use Rattle.jv_class_parts.specs.Parts.{CodeSeen, MethodSeen}
+use Rattle.jv_class_structure.specs.Structure.{ClassStructure}
+use Rattle.jv_class_structure.specs.Parts.{CodeSeen, MethodSeen}
 use Rattle.jv_class.specs.ClassFile.{class_name}
-use Rattle.jv_class_parts.specs.Parts.{methods_of}
+use Rattle.jv_class_structure.specs.Parts.{methods_of}
 use Rattle.jv_meaning.specs.declared.thin.insn.ThinInsn.{ThinInsn}
 use Rattle.jv_meaning.specs.Thin.Accepted.{operand_count, result_count, is_reserved, IsInLine, IsLine, IsMainLike, IsShortLine}
 

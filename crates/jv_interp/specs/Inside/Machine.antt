@@ -1,8 +1,8 @@
 -- The state that the code's machine stands for, and the program that a class and its code are.
 use Rattle.std.specs.Prelude.{ℕ, List, [], ◌∷◌, Option, Some, None}
-use Rattle.jv_class_parts.specs.Structure.{ClassStructure}
-use Rattle.jv_class_parts.specs.Seen.{seen_code}
-use Rattle.jv_class_parts.specs.declared.member.MethodCode.{MethodCode}
+use Rattle.jv_class_structure.specs.Structure.{ClassStructure}
+use Rattle.jv_class_structure.specs.Seen.{seen_code}
+use Rattle.jv_class_structure.specs.declared.member.MethodCode.{MethodCode}
 use Rattle.jv_meaning.specs.Guest.{optional_name_of}
 use Rattle.jv_meaning.specs.Thin.Machine.{Word, Activity, State, Program, main_locals}
 use Rattle.jv_meaning.specs.Thin.Machine.Activity.{Initialization, Method, Returned, Threw, NoMain}

@@ -3,8 +3,8 @@
 ghost use Rattle.std.specs.Prelude.{◌≡◌, ◌≢◌, ◌≤◌, ◌+◌, ◌-◌, ◌↔◌, List, Some, IfSome, IfNone, IsTrue, bit_and, codes};
 ghost use Rattle.std.specs.Option.{option_map};
 ghost use Rattle.jv_pool.specs.Constants.{utf8_at, class_name_at};
-ghost use Rattle.jv_class_parts.specs.Attributes.{some_and};
-ghost use Rattle.jv_class_parts.specs.Seen.{seen_method, seen_code};
+ghost use Rattle.jv_class_structure.specs.Attributes.{some_and};
+ghost use Rattle.jv_class_structure.specs.Seen.{seen_method, seen_code};
 ghost use Rattle.jv_class.specs.Rules.{is_object};
 ghost use Rattle.jv_meaning.specs.declared.thin.insn.ThinInsn.{ThinInsn};
 ghost use Rattle.jv_meaning.specs.Thin.Accepted.{operand_count, result_count, IsInLine, IsLine, is_reserved, IsMainLike, IsShortLine, IsPlain, IsAccepted};
@@ -64,7 +64,7 @@ fn is_return(insn: ThinInsn) -> bool
 /// The depth of the stack after an instruction of a line, if it keeps to the stack.
 fn depth_after(pool: &Pool<'_>, max_stack: u32, depth: u32, insn: ThinInsn) -> Option<u32>
     requires { depth ≤ 65536 }
-    ensures some { IfSome result (λ after. KeepsTo pool.now max_stack depth insn × (after ≡ depth - operand_count insn + result_count insn)) }
+    ensures some { IfSome result (λ n. KeepsTo pool.now max_stack depth insn × (n ≡ depth - operand_count insn + result_count insn)) }
     ensures none { IfNone result (¬ KeepsTo pool.now max_stack depth insn) }
 {
     if !is_in_line(pool, insn) || operand_count(insn) > depth {

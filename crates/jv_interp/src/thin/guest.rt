@@ -5,7 +5,7 @@ ghost use Rattle.jv_meaning.specs.Guest.{optional_name_of, ending_of};
 ghost use Rattle.jv_meaning.specs.declared.observation.End.TheVariants.{Running};
 ghost use Rattle.std.specs.Option.{option_map};
 ghost use Rattle.jv_pool.specs.Constants.{utf8_at};
-ghost use Rattle.jv_class_parts.specs.Seen.{seen_method, seen_code};
+ghost use Rattle.jv_class_structure.specs.Seen.{seen_method, seen_code};
 ghost use Rattle.jv_meaning.specs.Thin.Machine.{equals_text, is_main, main_code, program_of, start, next, end_of_activity};
 ghost use Rattle.jv_interp.specs.Thin.GuestState.{GuestState};
 ghost use Rattle.jv_interp.specs.Inside.Machine.{program_with};

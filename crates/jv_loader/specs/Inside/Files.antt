@@ -1,14 +1,14 @@
 -- Files that join a world one by one.
 use Rattle.std.specs.Prelude.{◌≡◌, ℕ, ◌||◌, false, List, [], ◌∷◌, ◌++◌, length, Option, Some, Result, Ok, Err, IfOk, ◌<◌, is_some, slice_get, if◌then◌else◌}
 use Rattle.std.specs.Option.{option_and_then}
-use Rattle.jv_loader_files.specs.FileContent.{FileContent, AreContents}
-use Rattle.jv_loader_files.specs.declared.content.Content.TheVariants.{OtherVersion, NoClassFile, MoreThanProfile, Holds}
-use Rattle.jv_loader_world.specs.declared.verdict.LoadVerdict.{LoadVerdict}
-use Rattle.jv_loader_world.specs.declared.verdict.LoadVerdict.TheVariants.{Version, Format, Unsupported, Reserved, Duplicate}
-use Rattle.jv_loader_world.specs.World.{World, loaded, is_reserved, world_of}
-use Rattle.jv_loader_system.specs.SystemClasses.{system_classes}
-use Rattle.jv_loader_world.specs.Verdicts.{verdict_of_class}
-use Rattle.jv_loader_classes.specs.Numbers.{number_named}
+use Rattle.jv_meaning_world.specs.FileContent.{FileContent, AreContents, IsContent}
+use Rattle.jv_meaning_world.specs.declared.content.Content.TheVariants.{OtherVersion, NoClassFile, MoreThanProfile, Holds}
+use Rattle.jv_meaning_world.specs.declared.verdict.LoadVerdict.{LoadVerdict}
+use Rattle.jv_meaning_world.specs.declared.verdict.LoadVerdict.TheVariants.{Version, Format, Unsupported, Reserved, Duplicate}
+use Rattle.jv_meaning_world.specs.World.{World, loaded, is_reserved, world_of}
+use Rattle.jv_meaning_world.specs.System.Classes.{system_classes}
+use Rattle.jv_meaning_world.specs.Verdicts.{verdict_of_class}
+use Rattle.jv_meaning_world.specs.Numbers.{number_named}
 
 -- the world with what a file holds
 abbrev pub with_file : World → FileContent → World
@@ -53,3 +53,7 @@ IsPlace world entry = IfOk entry (λ number. number < length world)
 -- the world of the system's classes and those of some files
 abbrev pub IsOfFiles : World → Type 0
 IsOfFiles world = (contents : List FileContent) × (world ≡ world_of system_classes contents)
+
+-- a file's content joins the list of classes, if it is a class of its own, and gets an entry
+abbrev pub IsPut : List ℕ → World → World → Result ℕ LoadVerdict → Type 0
+IsPut bytes old new entry = (content : FileContent) × IsContent bytes content × (new ≡ with_file old content) × (entry ≡ entry_of old content)

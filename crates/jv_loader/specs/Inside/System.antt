@@ -1,7 +1,7 @@
 -- The world of the system alone.
 use Rattle.std.specs.Prelude.{map, true}
-use Rattle.jv_loader_system.specs.SystemClasses.{system_classes}
-use Rattle.jv_loader_world.specs.World.{World, loaded}
+use Rattle.jv_meaning_world.specs.System.Classes.{system_classes}
+use Rattle.jv_meaning_world.specs.World.{World, loaded}
 
 abbrev pub system_world : World
 system_world = map (loaded true) system_classes

@@ -3,12 +3,12 @@ use Rattle.std.specs.Prelude.{◌≡◌, ◌≢◌, ℕ, ◌+◌, ◌-◌, ◌�
 use Rattle.std.specs.List.{starts_with}
 use Rattle.std.specs.Prelude.{nat_eq}
 use Rattle.jv_pool.specs.Constants.{Entry, utf8_at, class_name_at, method_reference_at}
-use Rattle.jv_class_parts.specs.Structure.{ClassStructure}
-use Rattle.jv_class_parts.specs.Attributes.{some_and}
-use Rattle.jv_class_parts.specs.Flags.{acc_static, acc_synchronized}
-use Rattle.jv_class_parts.specs.Parts.{CodeSeen, MethodSeen}
+use Rattle.jv_class_structure.specs.Structure.{ClassStructure}
+use Rattle.jv_class_structure.specs.Attributes.{some_and}
+use Rattle.jv_class_structure.specs.Flags.{acc_static, acc_synchronized}
+use Rattle.jv_class_structure.specs.Parts.{CodeSeen, MethodSeen}
 use Rattle.jv_class.specs.Rules.{is_object}
-use Rattle.jv_class_parts.specs.Parts.{methods_of}
+use Rattle.jv_class_structure.specs.Parts.{methods_of}
 use Rattle.jv_class.specs.ClassFile.{class_name}
 use Rattle.jv_meaning.specs.declared.thin.insn.ThinInsn.{ThinInsn}
 use Rattle.jv_meaning.specs.declared.thin.insn.ThinInsn.TheVariants.{Constant, Pop, Negate, Binary, Invokestatic, Return}

@@ -1,6 +1,6 @@
 -- A guest alone: what its own file, main class name and budget give on the thin machine.
 use Rattle.std.specs.Prelude.{◌≡◌, ℕ, List, [], ◌∷◌, Option, Some, None, Result, Ok, IsErr, ◌≢◌}
-use Rattle.jv_class_parts.specs.Structure.{ClassStructure}
+use Rattle.jv_class_structure.specs.Structure.{ClassStructure}
 use Rattle.jv_class.specs.ClassFile.{IsClassFile, IsOtherVersion}
 use Rattle.jv_class.specs.Supported.{IsSupported}
 use Rattle.jv_meaning.specs.declared.guest.Budget.{Budget}

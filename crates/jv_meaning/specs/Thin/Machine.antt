@@ -4,10 +4,10 @@ use Rattle.std.specs.Prelude.{ℕ, zero, suc, ◌+◌, ◌-◌, ◌/◌, ◌%◌
 use Rattle.std.specs.Int.{w32, cast_signed, cast_unsigned, int_wrapping_add, int_wrapping_sub, int_wrapping_mul, int_wrapping_neg, int_shl, int_shr, int_bit_and, int_bit_or, int_bit_xor}
 use Rattle.std.specs.Str.{bytes_eq}
 use Rattle.jv_pool.specs.Constants.{Entry, utf8_at, MemberReference, method_reference_at}
-use Rattle.jv_class_parts.specs.Structure.{ClassStructure}
-use Rattle.jv_class_parts.specs.Flags.{has, acc_public, acc_static}
-use Rattle.jv_class_parts.specs.Parts.{CodeSeen, MethodSeen}
-use Rattle.jv_class_parts.specs.Parts.{methods_of}
+use Rattle.jv_class_structure.specs.Structure.{ClassStructure}
+use Rattle.jv_class_structure.specs.Flags.{has, acc_public, acc_static}
+use Rattle.jv_class_structure.specs.Parts.{CodeSeen, MethodSeen}
+use Rattle.jv_class_structure.specs.Parts.{methods_of}
 use Rattle.jv_class.specs.ClassFile.{class_name}
 use Rattle.jv_meaning.specs.declared.observation.End.{End}
 use Rattle.jv_meaning.specs.declared.observation.End.TheVariants as ends

@@ -2,8 +2,8 @@
 use Rattle.std.specs.Prelude.{◌≡◌, ℕ, pos, negsuc, List, [], ◌∷◌, Option, Some, None, Ok, Err, codes}
 use Rattle.jv_pool.specs.Constants.{Entry}
 use Rattle.jv_pool.specs.declared.constant.Constant.TheVariants.{Utf8, Class, NameAndType, Methodref}
-use Rattle.jv_class_parts.specs.Structure.{CodeAttribute, MethodInfo, ClassStructure, class_bytes}
-use Rattle.jv_class_parts.specs.Structure.MethodAttribute.{Code}
+use Rattle.jv_class_structure.specs.Structure.{CodeAttribute, MethodInfo, ClassStructure, class_bytes}
+use Rattle.jv_class_structure.specs.Structure.MethodAttribute.{Code}
 use Rattle.jv_meaning.specs.declared.thin.insn.ThinInsn.TheVariants.{Constant}
 use Rattle.jv_meaning.specs.declared.thin.insn.Operator.TheVariants as operators
 use Rattle.jv_meaning.specs.Thin.Instructions.{first_insn}

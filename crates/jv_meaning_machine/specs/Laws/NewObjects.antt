@@ -8,10 +8,10 @@ use Rattle.jv_frames.specs.Types.{component}
 use Rattle.jv_code.specs.declared.insn.Insn.TheVariants as insns
 use Rattle.jv_code.specs.declared.kinds.ElementType.{ElementType}
 use Rattle.jv_code.specs.declared.kinds.IndexForm.{IndexForm}
-use Rattle.jv_loader_world.specs.of_pool.Constants.{at_index}
-use Rattle.jv_loader_world.specs.of_class.Class.{InitialValue}
-use Rattle.jv_loader_world.specs.of_class.Class.InitialValue.{StringValue}
-use Rattle.jv_loader_world.specs.World.{Loaded, class_named}
+use Rattle.jv_pool.specs.Constants.{at_index}
+use Rattle.jv_class.specs.Class.{InitialValue}
+use Rattle.jv_class.specs.Class.InitialValue.{StringValue}
+use Rattle.jv_meaning_world.specs.World.{Loaded, class_named}
 use Rattle.jv_meaning_linking.specs.Uses.{Use}
 use Rattle.jv_meaning_linking.specs.Uses.Use.{New}
 use Rattle.jv_meaning_linking.specs.LinkErrors.{LinkError, error_class}

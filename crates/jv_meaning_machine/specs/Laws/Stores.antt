@@ -8,8 +8,8 @@ use Rattle.jv_code.specs.declared.insn.Insn.TheVariants as insns
 use Rattle.jv_code.specs.declared.kinds.FieldAccess.{FieldAccess}
 use Rattle.jv_code.specs.declared.kinds.FieldAccess.TheVariants as access
 use Rattle.jv_code.specs.declared.kinds.NumberElement.{NumberElement}
-use Rattle.jv_loader_world.specs.of_pool.Constants.{MemberReference}
-use Rattle.jv_loader_world.specs.LookUps.{DeclaredField}
+use Rattle.jv_pool.specs.Constants.{MemberReference}
+use Rattle.jv_meaning_world.specs.LookUps.{DeclaredField}
 use Rattle.jv_meaning_linking.specs.LinkErrors.{LinkError, error_class}
 use Rattle.jv_meaning_linking.specs.Operands.{field_operand}
 use Rattle.jv_meaning_linking.specs.FieldResolution.{resolve_field}

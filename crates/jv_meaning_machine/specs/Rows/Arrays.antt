@@ -8,9 +8,9 @@ use Rattle.jv_code.specs.declared.kinds.ElementType.TheVariants as element_types
 use Rattle.jv_code.specs.declared.kinds.NumberElement.{NumberElement}
 use Rattle.jv_code.specs.declared.kinds.NumberElement.TheVariants as numbers
 use Rattle.jv_code.specs.Insns.{Instruction}
-use Rattle.jv_loader_world.specs.of_pool.declared.constant.Constant.TheVariants as constants
-use Rattle.jv_loader_world.specs.of_pool.Constants.{Entry}
-use Rattle.jv_loader_world.specs.Rows.{object_name}
+use Rattle.jv_pool.specs.declared.constant.Constant.TheVariants as constants
+use Rattle.jv_pool.specs.Constants.{Entry}
+use Rattle.jv_meaning_world.specs.Rows.Files.{object_name}
 use Rattle.jv_meaning_typing.specs.Named.{class_components}
 use Rattle.jv_meaning_machine.specs.Faults.{OrFault}
 use Rattle.jv_meaning_machine.specs.Faults.Fault.{TagFault, ReferenceFault}

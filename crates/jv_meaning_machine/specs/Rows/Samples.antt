@@ -15,14 +15,14 @@ use Rattle.jv_code.specs.declared.kinds.NumberKind.TheVariants as numbers
 use Rattle.jv_code.specs.declared.kinds.ShiftOperator.TheVariants as shifts
 use Rattle.jv_code.specs.declared.kinds.StackForm.TheVariants as forms
 use Rattle.jv_code.specs.Insns.{Instruction, insn_bytes}
-use Rattle.jv_loader_world.specs.of_pool.declared.constant.Constant.TheVariants as constants
-use Rattle.jv_loader_world.specs.of_pool.Constants.{Entry}
-use Rattle.jv_loader_world.specs.of_class_parts.Parts.{CodeSeen}
-use Rattle.jv_loader_world.specs.of_class.Class.{Class, Field, InitialValue, Method}
-use Rattle.jv_loader_world.specs.World.{World, loaded}
-use Rattle.jv_loader_world.specs.Rows.{object_name}
-use Rattle.jv_loader_system.specs.Mnemonics.{return}
-use Rattle.jv_loader_system.specs.SystemClasses.{system_classes}
+use Rattle.jv_pool.specs.declared.constant.Constant.TheVariants as constants
+use Rattle.jv_pool.specs.Constants.{Entry}
+use Rattle.jv_class_structure.specs.Parts.{CodeSeen}
+use Rattle.jv_class.specs.Class.{Class, Field, InitialValue, Method}
+use Rattle.jv_meaning_world.specs.World.{World, loaded}
+use Rattle.jv_meaning_world.specs.Rows.Files.{object_name}
+use Rattle.jv_meaning_world.specs.System.Mnemonics.{return}
+use Rattle.jv_meaning_world.specs.System.Classes.{system_classes}
 use Rattle.jv_meaning_machine.specs.Faults.{OrFault, ◌>>=◌}
 use Rattle.jv_meaning_machine.specs.State.{Program, End}
 use Rattle.jv_meaning_machine.specs.Start.{Budget}

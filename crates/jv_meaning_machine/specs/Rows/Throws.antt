@@ -9,12 +9,12 @@ use Rattle.jv_code.specs.declared.kinds.FieldAccess.TheVariants as access
 use Rattle.jv_code.specs.declared.kinds.NumberKind.TheVariants as numbers
 use Rattle.jv_code.specs.declared.kinds.ShiftOperator.TheVariants as shifts
 use Rattle.jv_code.specs.Insns.{Instruction}
-use Rattle.jv_loader_world.specs.of_class.Class.{Class, Field, InitialValue, Method}
-use Rattle.jv_loader_world.specs.of_class.Class.InitialValue.{IntValue, LongValue, StringValue}
-use Rattle.jv_loader_world.specs.Rows.{object_name}
-use Rattle.jv_loader_system.specs.Mnemonics.{iconst, bipush, aload, invokespecial, return}
-use Rattle.jv_loader_system.specs.Throwable.{init_body as throwable_init}
-use Rattle.jv_loader_system.specs.Throwables.{init_body as error_init}
+use Rattle.jv_class.specs.Class.{Class, Field, InitialValue, Method}
+use Rattle.jv_class.specs.Class.InitialValue.{IntValue, LongValue, StringValue}
+use Rattle.jv_meaning_world.specs.Rows.Files.{object_name}
+use Rattle.jv_meaning_world.specs.System.Mnemonics.{iconst, bipush, aload, invokespecial, return}
+use Rattle.jv_meaning_world.specs.System.Throwable.{init_body as throwable_init}
+use Rattle.jv_meaning_world.specs.System.Throwables.{init_body as error_init}
 use Rattle.jv_format.specs.Handlers.{handler}
 use Rattle.jv_meaning_machine.specs.Faults.{OrFault}
 use Rattle.jv_meaning_machine.specs.Faults.Fault.{ConstructionFault}

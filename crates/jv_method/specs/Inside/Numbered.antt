@@ -1,15 +1,17 @@
 -- The numbers of the classes of a guest's files (JVMS 5.3), and the verdicts on the files one by one.
 use Rattle.std.specs.Prelude.{◌≡◌, ◌<◌, ◌≤◌, ◌⊎◌, ℕ, ◌+◌, Bool, true, false, List, length, take, Option, Some, None, slice_get, if◌then◌else◌}
 use Rattle.jv_class.specs.Class.{Class}
-use Rattle.jv_loader_files.specs.FileContent.{FileContent}
-use Rattle.jv_loader_system.specs.SystemClasses.{system_classes}
-use Rattle.jv_loader_world.specs.declared.verdict.LoadVerdict.{LoadVerdict}
-use Rattle.jv_loader_world.specs.declared.verdict.LoadVerdict.TheVariants.{Version, Format, Unsupported, Reserved, Duplicate}
-use Rattle.jv_loader_world.specs.World.{Loaded, World, classes_in}
-use Rattle.jv_loader_classes.specs.Inside.Told.{IsAt}
+use Rattle.jv_meaning_world.specs.FileContent.{FileContent}
+use Rattle.jv_meaning_world.specs.System.Classes.{system_classes}
+use Rattle.jv_meaning_world.specs.declared.verdict.LoadVerdict.{LoadVerdict}
+use Rattle.jv_meaning_world.specs.declared.verdict.LoadVerdict.TheVariants.{Version, Format, Unsupported, Reserved, Duplicate}
+use Rattle.jv_meaning_world.specs.World.{Loaded, World, classes_in}
+use Rattle.jv_meaning_world.specs.Numbers.{HoldsAtNumber}
 use Rattle.jv_meaning_typing.specs.declared.verdict.Verdict.{Verdict}
 use Rattle.jv_meaning_typing.specs.declared.verdict.Verdict.TheVariants as verdicts
 use Rattle.jv_meaning_typing.specs.Judgement.{AreTyped, IsVerdictOfMethods, IsVerdictOfFile}
+use Rattle.jv_loader.specs.Loading.{Loading, AreLoaded}
+use Rattle.jv_method.specs.Files.{AreVerdicts}
 
 -- the class of a file is one of the world's, where this is wrong with the file before its methods are looked at
 abbrev pub joins : Option LoadVerdict → Bool
@@ -31,7 +33,7 @@ number_behind system earlier = length system + length (classes_in earlier)
 -- the verdict on a file whose class has this number
 abbrev pub IsVerdictAt : World → ℕ → Option LoadVerdict → Verdict → Type 0
 IsVerdictAt world number (Some why) verdict = verdict ≡ verdicts.Refused why
-IsVerdictAt world number None verdict = IsAt world number (λ l. IsVerdictOfMethods world l verdict)
+IsVerdictAt world number None verdict = HoldsAtNumber world number (λ l. IsVerdictOfMethods world l verdict)
 
 -- the verdicts on the first files, and the number of the next one's class
 pub record AreVerdictsBelow (contents : List FileContent) (below next : ℕ) (verdicts : List Verdict) : Type 0 where
@@ -47,3 +49,7 @@ pub record IsPassed (contents : List FileContent) (file number class : ℕ) : Ty
 -- each method with code of the first classes has a typing
 abbrev pub AreTypedBelow : World → ℕ → Type 0
 AreTypedBelow world below = (place : ℕ) (l : Loaded) → place < below → slice_get world place ≡ Some l → AreTyped world l l.class.methods
+
+-- the verdicts on the files that classes were loaded from
+abbrev pub AreVerdictsOn : Loading → List Verdict → Type 0
+AreVerdictsOn classes verdicts = (files : List (List ℕ)) (are : AreLoaded files classes) → AreVerdicts are.contents verdicts

@@ -1,16 +1,17 @@
 -- The methods of a class as its file shows them (JVMS 4.6), and what is found of one.
-use Rattle.std.specs.Prelude.{◌≡◌, List, map, Option, Some, None, IsSome}
+use Rattle.std.specs.Prelude.{◌≡◌, List, map, Option, Some, None, IsSome, Result, IfOk}
 use Rattle.std.specs.Option.{option_map}
 use Rattle.jv_pool.specs.Constants.{Entry, named_at}
-use Rattle.jv_class_parts.specs.Parts.{MethodSeen}
-use Rattle.jv_class_parts.specs.Seen.{seen_method}
-use Rattle.jv_class_parts.specs.declared.member.Method.{Method as ShownMethod}
+use Rattle.jv_class_structure.specs.Parts.{MethodSeen}
+use Rattle.jv_class_structure.specs.Seen.{seen_method}
+use Rattle.jv_class_structure.specs.declared.member.Method.{Method as ShownMethod}
 use Rattle.jv_class.specs.Class.{Method, all_found}
-use Rattle.jv_loader_world.specs.World.{Loaded, World}
-use Rattle.jv_loader_world.specs.Verdicts.{declared_by}
+use Rattle.jv_meaning_world.specs.World.{Loaded, World}
+use Rattle.jv_meaning_world.specs.Verdicts.{declared_by}
 use Rattle.jv_meaning_typing.specs.Judgement.{BreaksRule}
 use Rattle.jv_meaning_typing.specs.Typing.{HasTyping}
-use Rattle.jv_method_check.specs.of_method_code.declared.fault.CodeFault.{CodeFault}
+use Rattle.jv_method_pass.specs.declared.fault.CodeFault.{CodeFault}
+use Rattle.jv_constants.specs.Current.{CurrentClass}
 
 -- the method that is shown so, by its names
 abbrev pub method_in : List Entry → MethodSeen → Option Method
@@ -27,3 +28,8 @@ AreMethodsOf l methods = all_found (method_in l.class.constant_pool) (map seen_m
 abbrev pub IsMethodJudged : World → Loaded → Method → Option CodeFault → Type 0
 IsMethodJudged world l m None = IsSome m.code → HasTyping world (declared_by l m)
 IsMethodJudged world l m (Some fault) = IsSome m.code × BreaksRule world (declared_by l m) fault.offset fault.rule
+
+-- the method of the class that is shown so
+abbrev pub IsJudgedIn : {E : Type 0} → CurrentClass → MethodSeen → Result (Option CodeFault) E → Type 0
+IsJudgedIn class shown answer =
+    (m : Method) → method_in class.by.class.constant_pool shown ≡ Some m → IfOk answer (IsMethodJudged class.types.world class.by m)

@@ -1,8 +1,8 @@
 -- An item that was taken from the stack.
 use Rattle.std.specs.Prelude.{◌≡◌, ℕ, List, Option, Some, None}
 use Rattle.jv_frames.specs.Types.{FrameType}
-use Rattle.jv_rules_frames.specs.of_rules_types.Typed.{typed, typed_all}
-use Rattle.jv_rules_frames.specs.Numbered.{Item, NumberFrame, topped}
+use Rattle.jv_types.specs.Typed.{typed, typed_all}
+use Rattle.jv_types.specs.Numbered.{Item, NumberFrame, topped}
 
 -- it was the one on top, and else nothing has changed; or it could not be taken
 abbrev pub IsPopped : List (List ℕ) → Option (FrameType × List FrameType) → NumberFrame → NumberFrame → Option Item → Type 0

@@ -3,11 +3,12 @@ use Rattle.std.specs.Prelude.{◌≡◌, ℕ, List, [], ◌∷◌, Option, Some,
 use Rattle.std.specs.Option.{option_map}
 use Rattle.jv_frames.specs.Types.{FrameType}
 use Rattle.jv_code.specs.declared.kinds.StackForm.{StackForm}
-use Rattle.jv_rules_frames.specs.of_meaning_typing.StackForms.{arranged, item_before}
-use Rattle.jv_rules_frames.specs.of_rules_types.Typed.{typed, typed_all}
-use Rattle.jv_rules_frames.specs.Numbered.{Item, NumberFrame, with_stack}
+use Rattle.jv_meaning_typing.specs.StackForms.{arranged, item_before, top_words}
+use Rattle.jv_types.specs.Typed.{typed, typed_all}
+use Rattle.jv_types.specs.Numbered.{Item, NumberFrame, with_stack}
 use Rattle.jv_rules_values.specs.declared.forms.Words.{Words}
 use Rattle.jv_rules_values.specs.declared.forms.Words.TheVariants.{Nothing, One, Two}
+use Rattle.jv_meaning_typing.specs.FrameChanges.{item_width}
 
 -- the items, the top first
 abbrev pub items_in : Words → List Item
@@ -32,3 +33,14 @@ abbrev pub IsBelow : List (List ℕ) → Item → Option (List FrameType × List
 IsBelow names first parts old new None = parts ≡ None
 IsBelow names first parts old new (Some words) =
     (option_map (item_before (typed names first)) parts ≡ Some (typed_all names (items_in words), typed_all names new.stack)) × (new ≡ with_stack new.stack old)
+
+-- So many words were taken as one item, or with one below another, or as items, whatever the names are.
+abbrev pub TakesWord : ℕ → NumberFrame → NumberFrame → Option Item → Type 0
+TakesWord count old new answer = (names : List (List ℕ)) → IsWord names (top_words item_width count (typed_all names old.stack)) old new answer
+
+abbrev pub TakesBelow : Item → ℕ → NumberFrame → NumberFrame → Option Words → Type 0
+TakesBelow first count old new answer =
+    (names : List (List ℕ)) → IsBelow names first (top_words item_width count (typed_all names old.stack)) old new answer
+
+abbrev pub TakesWords : ℕ → NumberFrame → NumberFrame → Option Words → Type 0
+TakesWords count old new answer = (names : List (List ℕ)) → AreTaken names (top_words item_width count (typed_all names old.stack)) old new answer

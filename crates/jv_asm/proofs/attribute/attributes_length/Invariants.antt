@@ -1,7 +1,7 @@
 use Rattle.std.proofs.Common.{◌≡◌, ◌*◌, ◌≤◌, take, length}
 use Rattle.std.specs.Prelude.{map}
 use Rattle.std.specs.List.{flat_map}
-use Rattle.jv_class.specs.of_class_parts.Structure.{attribute_bytes}
+use Rattle.jv_class_structure.specs.Structure.{attribute_bytes}
 use Rattle.jv_asm.specs.Description.{described_attribute}
 use Rattle.jv_asm.proofs.attribute.attributes_length.Given as goal
 

@@ -1,6 +1,6 @@
 use Rattle.std.proofs.lemmas.Grind.{common_steps}
 use Rattle.std.proofs.Common.{◌∙◌, ap, sym, arith}
-use Rattle.jv_class.specs.of_class_parts.Structure.{method_fits}
+use Rattle.jv_class_structure.specs.Structure.{method_fits}
 use Rattle.jv_asm.proofs.Mapped.{one_fails}
 use Rattle.jv_asm.proofs.member.all_methods_fit.Goals as goal
 

@@ -3,7 +3,7 @@ use Rattle.std.proofs.Common.{length, subst, sym, arith}
 use Rattle.std.specs.Prelude.{IsTrue, map, nat_lt}
 use Rattle.std.specs.List.{list_all}
 use Rattle.std.proofs.lemmas.Bool.{and_parts}
-use Rattle.jv_class.specs.of_class_parts.Structure.{method_fits}
+use Rattle.jv_class_structure.specs.Structure.{method_fits}
 use Rattle.jv_asm.proofs.Mapped.{each_fits}
 use Rattle.jv_asm.proofs.member.put_methods.Goals as goal
 

@@ -1,4 +1,4 @@
-use Rattle.jv_class.specs.of_pool.Seen.{seen}
+use Rattle.jv_pool.specs.Seen.{seen}
 use Rattle.std.proofs.Common.{arith}
 use Rattle.jv_asm.proofs.Lengths.{count_more}
 use Rattle.jv_asm.proofs.writer.count_of.Goals as goal

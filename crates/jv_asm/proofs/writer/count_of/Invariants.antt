@@ -1,7 +1,7 @@
 use Rattle.std.proofs.Common.{◌≡◌, ◌<◌, take}
 use Rattle.std.specs.Prelude.{map}
-use Rattle.jv_class.specs.of_pool.Constants.{pool_count}
-use Rattle.jv_class.specs.of_pool.Seen.{seen}
+use Rattle.jv_pool.specs.Constants.{pool_count}
+use Rattle.jv_pool.specs.Seen.{seen}
 use Rattle.jv_asm.proofs.writer.count_of.Given as goal
 
 abbrev pub invariant-loop-constant : goal.invariant-loop-constant

@@ -1,7 +1,7 @@
 use Rattle.std.proofs.Common.{◌∙◌, ◌&&◌, sym, ap, get_or}
 use Rattle.std.specs.Prelude.{slice_get}
-use Rattle.jv_loader_classes.specs.of_loader_world.Verdicts.{is_interface}
-use Rattle.jv_loader_classes.proofs.Told.{class_at, same_some}
+use Rattle.jv_meaning_world.specs.Verdicts.{is_interface}
+use Rattle.jv_classes.proofs.Told.{class_at, same_some}
 use Rattle.jv_assign.proofs.classes.is_loadable_interface.Goals as goal
 
 pub returns-then-is_loadable : goal.returns-then-is_loadable

@@ -1,6 +1,6 @@
 use Rattle.std.proofs.Common.{◌∙◌, ap, sym}
-use Rattle.jv_loader_classes.proofs.Told.{stands_at}
-use Rattle.jv_assign.specs.Flow.{is_loadable_below}
+use Rattle.jv_classes.proofs.Told.{stands_at}
+use Rattle.jv_meaning_world.specs.Flow.{is_loadable_below}
 use Rattle.jv_assign.proofs.Names.{no_class, below_other}
 use Rattle.jv_assign.proofs.classes.named_is_loadable_subclass.Goals as goal
 

@@ -1,5 +1,5 @@
 use Rattle.std.proofs.Common.{◌∙◌, sym}
-use Rattle.jv_loader_classes.proofs.Told.{stands_at}
+use Rattle.jv_classes.proofs.Told.{stands_at}
 use Rattle.jv_assign.proofs.Names.{to_no_class, interface_there, interface_not, of_others}
 use Rattle.jv_assign.proofs.classes.other_class_flows.Goals as goal
 

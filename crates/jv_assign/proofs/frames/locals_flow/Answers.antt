@@ -1,5 +1,5 @@
 use Rattle.std.proofs.Common.{◌∙◌}
-use Rattle.jv_assign.specs.Flow.{flows}
+use Rattle.jv_meaning_world.specs.Flow.{flows}
 use Rattle.jv_assign.specs.Seen.{seen_type}
 use Rattle.jv_assign.proofs.Lists.{as_pairs, of_two_lengths}
 use Rattle.jv_assign.proofs.frames.locals_flow.Goals as goal

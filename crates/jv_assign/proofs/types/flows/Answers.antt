@@ -1,5 +1,5 @@
 use Rattle.std.proofs.Common.{◌∙◌, sym, ap, rules}
-use Rattle.jv_assign.specs.Flow.{flows}
+use Rattle.jv_meaning_world.specs.Flow.{flows}
 use Rattle.jv_assign.specs.Seen.{seen_type}
 use Rattle.jv_assign.proofs.types.flows.Goals as goal
 

@@ -2,7 +2,7 @@ use Rattle.std.specs.Prelude.{IsTrue, nat_eq, ◌↔◌, map}
 use Rattle.std.proofs.Common.{ℕ, List, sym, subst}
 use Rattle.std.specs.List.{AllZip, IsDistinct}
 use Rattle.jv_class.specs.Inside.Reading.{IsFieldKey}
-use Rattle.jv_class_parts.specs.Seen.{seen_field}
+use Rattle.jv_class_structure.specs.Seen.{seen_field}
 use Rattle.jv_class.specs.Rules.{NoTwoAlike}
 use Rattle.jv_class.specs.Inside.Shown.{shown_field_texts}
 use Rattle.jv_class.proofs.Kept.{if_ok_same}

@@ -1,5 +1,5 @@
 use Rattle.jv_class.specs.Rules.{IsClassAt}
-use Rattle.jv_class_parts.specs.Seen.{seen_index}
+use Rattle.jv_class_structure.specs.Seen.{seen_index}
 use Rattle.jv_class.proofs.Kept.{all_mapped}
 use Rattle.jv_class.proofs.class_rules.are_classes.Goals as goal
 

@@ -1,7 +1,7 @@
 use Rattle.std.proofs.Common.{rules, tests}
 use Rattle.std.proofs.lemmas.Iterator.{YieldsList-from_slice}
 use Rattle.jv_class.specs.Rules.{IsClassAt}
-use Rattle.jv_class_parts.specs.Seen.{seen_index}
+use Rattle.jv_class_structure.specs.Seen.{seen_index}
 use Rattle.jv_class.proofs.Each.{decided}
 use Rattle.jv_class.proofs.class_rules.each_is_class.Goals as goal
 

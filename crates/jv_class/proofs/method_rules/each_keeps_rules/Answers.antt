@@ -1,7 +1,7 @@
 use Rattle.std.proofs.Common.{rules, tests}
 use Rattle.std.proofs.lemmas.Iterator.{YieldsList-from_slice}
 use Rattle.jv_class.specs.Inside.Shown.{KeepsMethodShown}
-use Rattle.jv_class_parts.specs.Seen.{seen_method}
+use Rattle.jv_class_structure.specs.Seen.{seen_method}
 use Rattle.jv_class.proofs.Each.{decided}
 use Rattle.jv_class.proofs.method_rules.each_keeps_rules.Goals as goal
 

@@ -1,5 +1,5 @@
 use Rattle.jv_class.specs.Inside.Shown.{KeepsMethodShown}
-use Rattle.jv_class_parts.specs.Seen.{seen_method}
+use Rattle.jv_class_structure.specs.Seen.{seen_method}
 use Rattle.jv_class.proofs.Kept.{all_mapped}
 use Rattle.jv_class.proofs.method_rules.keep_rules.Goals as goal
 

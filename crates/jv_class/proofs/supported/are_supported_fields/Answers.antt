@@ -1,5 +1,5 @@
 use Rattle.jv_class.specs.Inside.Shown.{IsFieldShownSupported}
-use Rattle.jv_class_parts.specs.Seen.{seen_field}
+use Rattle.jv_class_structure.specs.Seen.{seen_field}
 use Rattle.jv_class.proofs.Kept.{all_mapped}
 use Rattle.jv_class.proofs.supported.are_supported_fields.Goals as goal
 

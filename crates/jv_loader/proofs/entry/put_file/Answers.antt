@@ -1,6 +1,6 @@
 use Rattle.std.proofs.Common.{refl, rules}
-use Rattle.jv_loader_files.specs.FileContent.{IsContent}
-use Rattle.jv_loader_files.specs.declared.content.Content.TheVariants.{MoreThanProfile, Holds}
+use Rattle.jv_meaning_world.specs.FileContent.{IsContent}
+use Rattle.jv_meaning_world.specs.declared.content.Content.TheVariants.{MoreThanProfile, Holds}
 use Rattle.jv_loader.proofs.Contents.{has_more, has_class}
 use Rattle.jv_loader.proofs.entry.put_file.Goals as goal
 

@@ -1,7 +1,7 @@
 use Rattle.std.proofs.Common.{◌≡◌, ◌∙◌, ◌++◌, ◌∷◌, [], true, None, sym, ap, subst}
 use Rattle.jv_class.specs.Class.{Class}
-use Rattle.jv_loader_world.specs.World.{loaded}
-use Rattle.jv_loader_classes.specs.Numbers.{number_named}
+use Rattle.jv_meaning_world.specs.World.{loaded}
+use Rattle.jv_meaning_world.specs.Numbers.{number_named}
 use Rattle.jv_loader.proofs.Contents.{known, must_hold, same_class}
 use Rattle.jv_loader.proofs.system.add_system_file.Goals as goal
 

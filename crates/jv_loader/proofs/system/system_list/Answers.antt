@@ -1,7 +1,7 @@
 use Rattle.std.proofs.Common.{◌≡◌, ◌∙◌, ◌++◌, ◌∷◌, [], ◌≤◌, length, true, None, sym, ap, subst}
-use Rattle.jv_loader_system.specs.Io.{io}
-use Rattle.jv_loader_world.specs.World.{Loaded, loaded}
-use Rattle.jv_loader_classes.specs.Numbers.{number_named}
+use Rattle.jv_meaning_world.specs.System.Io.{io}
+use Rattle.jv_meaning_world.specs.World.{Loaded, loaded}
+use Rattle.jv_meaning_world.specs.Numbers.{number_named}
 use Rattle.jv_loader.proofs.InSystem.{class_at, system_name_is_new, system_more, all_files, io_is_new}
 use Rattle.jv_loader.proofs.system.system_list.Goals as goal
 

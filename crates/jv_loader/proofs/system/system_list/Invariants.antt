@@ -1,6 +1,6 @@
 use Rattle.std.proofs.Common.{◌≡◌, map, take, true}
-use Rattle.jv_loader_system.specs.SystemClasses.{classes_with_files}
-use Rattle.jv_loader_world.specs.World.{loaded}
+use Rattle.jv_meaning_world.specs.System.Classes.{classes_with_files}
+use Rattle.jv_meaning_world.specs.World.{loaded}
 use Rattle.jv_loader.proofs.system.system_list.Given as goal
 
 abbrev pub invariant-loop-place : goal.invariant-loop-place

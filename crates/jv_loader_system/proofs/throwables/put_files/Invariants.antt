@@ -1,7 +1,7 @@
 use Rattle.std.proofs.Common.{◌≡◌, ◌++◌, take}
 use Rattle.std.specs.Prelude.{map}
-use Rattle.jv_loader_files.specs.of_class_parts.Structure.{class_bytes}
-use Rattle.jv_loader_system.specs.Throwables.{throwable_class_file}
+use Rattle.jv_class_structure.specs.Structure.{class_bytes}
+use Rattle.jv_meaning_world.specs.System.Throwables.{throwable_class_file}
 use Rattle.jv_loader_system.specs.Inside.Table.{row_of}
 use Rattle.jv_loader_system.proofs.throwables.put_files.Given as goal
 

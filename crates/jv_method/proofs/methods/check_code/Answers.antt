@@ -1,7 +1,7 @@
 use Rattle.std.proofs.Common.{◌≡◌, Some, ap, ◌∙◌}
 use Rattle.std.specs.Option.{option_map}
-use Rattle.jv_class_parts.specs.Seen.{seen_code, seen_method}
-use Rattle.jv_loader_world.specs.Verdicts.{declared_by}
+use Rattle.jv_class_structure.specs.Seen.{seen_code, seen_method}
+use Rattle.jv_meaning_world.specs.Verdicts.{declared_by}
 use Rattle.jv_method.specs.Inside.Shown.{method_in}
 use Rattle.jv_method.proofs.Shown.{there, known_method, has_body, judged_method, if_ok_so}
 use Rattle.jv_method.proofs.methods.check_code.Goals as goal

@@ -1,6 +1,6 @@
 use Rattle.std.proofs.Common.{sym, subst}
-use Rattle.jv_loader_world.specs.World.{Loaded}
-use Rattle.jv_loader_classes.proofs.Followed.{some_class}
+use Rattle.jv_meaning_world.specs.World.{Loaded}
+use Rattle.jv_classes.proofs.Followed.{some_class}
 use Rattle.jv_method.specs.Inside.Shown.{AreMethodsOf}
 use Rattle.jv_method.proofs.Shown.{of_file, few}
 use Rattle.jv_method.proofs.methods.check_file.Goals as goal

@@ -1,7 +1,7 @@
 use Rattle.std.proofs.Common.{rules, ◌≡◌, false}
 use Rattle.std.specs.Prelude.{is_some}
 use Rattle.std.specs.List.{list_any}
-use Rattle.jv_class_parts.specs.declared.member.Method.{Method}
+use Rattle.jv_class_structure.specs.declared.member.Method.{Method}
 use Rattle.jv_method.proofs.Shown.{of_file, none_typed}
 use Rattle.jv_method.proofs.methods.check_shown.Goals as goal
 

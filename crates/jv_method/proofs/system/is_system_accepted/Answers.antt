@@ -1,5 +1,5 @@
 use Rattle.std.proofs.Common.{rules, ◌≡◌, ◌<◌, length, subst}
-use Rattle.jv_loader_system.specs.SystemClasses.{system_classes}
+use Rattle.jv_meaning_world.specs.System.Classes.{system_classes}
 use Rattle.jv_method.specs.Methods.{AreToldTyped}
 use Rattle.jv_method.proofs.InSystem.{refused_told, typed_told}
 use Rattle.jv_method.proofs.system.is_system_accepted.Goals as goal

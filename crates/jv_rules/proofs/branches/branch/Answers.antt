@@ -2,8 +2,8 @@ use Rattle.std.proofs.Common.{sym, subst}
 use Rattle.jv_code.specs.declared.kinds.Test.{Test}
 use Rattle.jv_meaning_typing.specs.NumberRules.{test}
 use Rattle.jv_meaning_typing.specs.Rule.{by_exchange, test_references}
-use Rattle.jv_rules_frames.specs.Numbered.{frame_of}
-use Rattle.jv_rules_values.specs.Outcomes.{IsOutcome}
+use Rattle.jv_types.specs.Numbered.{frame_of}
+use Rattle.jv_types.specs.Outcomes.{IsOutcome}
 use Rattle.jv_rules.proofs.branches.branch.Goals as goal
 
 pub returns-in-IfReferences : goal.returns-in-IfReferences

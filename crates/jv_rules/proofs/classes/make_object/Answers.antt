@@ -3,9 +3,9 @@ use Rattle.std.specs.Prelude.{List}
 use Rattle.std.specs.List.{All}
 use Rattle.jv_pool.specs.Constants.{Entry}
 use Rattle.jv_pool.specs.Rules.{KeepsRules}
-use Rattle.jv_rules_types.specs.Typed.{name_at}
-use Rattle.jv_rules_frames.specs.Numbered.{frame_of}
-use Rattle.jv_rules_values.specs.Outcomes.{IsOutcome}
+use Rattle.jv_types.specs.Typed.{name_at}
+use Rattle.jv_types.specs.Numbered.{frame_of}
+use Rattle.jv_types.specs.Outcomes.{IsOutcome}
 use Rattle.jv_rules.proofs.Named.{object_made, no_object_made}
 use Rattle.jv_rules.proofs.classes.make_object.Goals as goal
 

@@ -11,9 +11,9 @@ use Rattle.jv_meaning_typing.specs.Named.{array_with, class_components, object_c
 use Rattle.jv_meaning_typing.specs.NumberRules.{computation, number_type, new_array_type, test}
 use Rattle.jv_meaning_typing.specs.Rule.{by_exchange, effect, test_references}
 use Rattle.jv_meaning_typing.specs.ValueRules.{store, array_load, array_store, reference_array_load, return_value}
-use Rattle.jv_rules_types.specs.Typed.{TypeWorld, typed}
-use Rattle.jv_rules_frames.specs.Numbered.{frame_of}
-use Rattle.jv_rules_values.specs.Outcomes.{IsOutcome}
+use Rattle.jv_types.specs.Typed.{TypeWorld, typed}
+use Rattle.jv_types.specs.Numbered.{frame_of}
+use Rattle.jv_types.specs.Outcomes.{IsOutcome}
 use Rattle.jv_rules.proofs.Arms.{at_insn, in_class, world_same, result_same}
 use Rattle.jv_rules.proofs.effect.effect.Goals as goal
 

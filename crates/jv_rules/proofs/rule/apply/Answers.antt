@@ -1,9 +1,9 @@
 use Rattle.std.proofs.Common.{sym, subst, ◌∙◌}
 use Rattle.jv_code.specs.Insns.{instruction_of}
 use Rattle.jv_meaning_typing.specs.Rule.{effect}
-use Rattle.jv_rules_types.specs.Typed.{TypeWorld}
-use Rattle.jv_rules_frames.specs.Numbered.{frame_of}
-use Rattle.jv_rules_values.specs.Outcomes.{IsOutcome}
+use Rattle.jv_types.specs.Typed.{TypeWorld}
+use Rattle.jv_types.specs.Numbered.{frame_of}
+use Rattle.jv_types.specs.Outcomes.{IsOutcome}
 use Rattle.jv_rules.specs.Inside.Over.{IsMethodOver}
 use Rattle.jv_rules.proofs.Arms.{over_class}
 use Rattle.jv_rules.proofs.rule.apply.Goals as goal

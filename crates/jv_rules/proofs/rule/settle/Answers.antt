@@ -1,7 +1,7 @@
 use Rattle.std.proofs.Common.{sym, subst}
 use Rattle.std.specs.Prelude.{IfOk}
-use Rattle.jv_rules_values.specs.declared.outcome.Outcome.{Outcome}
-use Rattle.jv_rules_values.specs.Outcomes.{IsFrame, IsOutcome}
+use Rattle.jv_types.specs.declared.outcome.Outcome.{Outcome}
+use Rattle.jv_types.specs.Outcomes.{IsFrame, IsOutcome}
 use Rattle.jv_rules.specs.Inside.Over.{settled}
 use Rattle.jv_rules.proofs.rule.settle.Goals as goal
 

@@ -1,7 +1,7 @@
 use Rattle.std.proofs.Common.{ap}
 use Rattle.std.specs.Option.{option_map}
-use Rattle.jv_rules_frames.specs.of_meaning_typing.StackForms.{item_before}
-use Rattle.jv_rules_frames.specs.of_rules_types.Typed.{typed}
+use Rattle.jv_meaning_typing.specs.StackForms.{item_before}
+use Rattle.jv_types.specs.Typed.{typed}
 use Rattle.jv_rules_values.proofs.forms.pop_below.Goals as goal
 
 pub returns-in-Some : goal.returns-in-Some

@@ -1,8 +1,8 @@
 use Rattle.std.proofs.Common.{sym, subst}
 use Rattle.jv_code.specs.declared.kinds.StackForm.{StackForm}
-use Rattle.jv_rules_frames.specs.of_meaning_typing.FrameChanges.{item_width}
-use Rattle.jv_rules_frames.specs.of_meaning_typing.StackForms.{top_words, passed_words}
-use Rattle.jv_rules_frames.specs.of_rules_types.Typed.{typed_all}
+use Rattle.jv_meaning_typing.specs.FrameChanges.{item_width}
+use Rattle.jv_meaning_typing.specs.StackForms.{top_words, passed_words}
+use Rattle.jv_types.specs.Typed.{typed_all}
 use Rattle.jv_rules_values.specs.Inside.Words.{AreTaken}
 use Rattle.jv_rules_values.proofs.forms.pop_passed.Goals as goal
 

@@ -1,5 +1,5 @@
 use Rattle.std.proofs.Common.{sym, subst}
-use Rattle.jv_rules_values.specs.Outcomes.{IsOutcome}
+use Rattle.jv_types.specs.Outcomes.{IsOutcome}
 use Rattle.jv_rules_values.proofs.Making.{component_behind}
 use Rattle.jv_rules_values.proofs.references.reference_array_load.Goals as goal
 

@@ -1,7 +1,7 @@
 use Rattle.std.proofs.Common.{sym, subst, ap}
 use Rattle.jv_format.specs.Format.{◌>>=◌}
-use Rattle.jv_rules_frames.specs.of_meaning_typing.ValueRules.{take_reference}
-use Rattle.jv_rules_values.specs.Outcomes.{IsOutcome}
+use Rattle.jv_meaning_typing.specs.ValueRules.{take_reference}
+use Rattle.jv_types.specs.Outcomes.{IsOutcome}
 use Rattle.jv_rules_values.proofs.references.test_references.Goals as goal
 
 pub returns-then-take_reference : goal.returns-then-take_reference

@@ -1,7 +1,7 @@
 use Rattle.std.proofs.Common.{◌≡◌, length}
-use Rattle.jv_rules_frames.specs.of_rules_types.Typed.{typed_all}
-use Rattle.jv_rules_frames.specs.Numbered.{with_stack}
-use Rattle.jv_rules_frames.specs.of_meaning_typing.FrameChanges.{taken}
+use Rattle.jv_types.specs.Typed.{typed_all}
+use Rattle.jv_types.specs.Numbered.{with_stack}
+use Rattle.jv_meaning_typing.specs.FrameChanges.{taken}
 use Rattle.jv_rules_values.proofs.stack.take.Given as goal
 
 abbrev pub invariant-loop-item : goal.invariant-loop-item

@@ -1,6 +1,6 @@
 use Rattle.std.proofs.Common.{rules, ◌≡◌, ◌++◌, subst}
 use Rattle.std.specs.Prelude.{OnOk}
-use Rattle.jv_class_parts.specs.Structure.{method_bytes}
+use Rattle.jv_class_structure.specs.Structure.{method_bytes}
 use Rattle.jv_asm.specs.Description.{described_method}
 use Rattle.jv_asm_builder.specs.Inside.Methods.{with_code}
 use Rattle.jv_asm_builder.proofs.built.BuiltCode.put.Goals as goal

@@ -2,7 +2,7 @@ use Rattle.std.proofs.Common.{rules}
 use Rattle.std.proofs.Common.{◌∙◌, subst, ap}
 use Rattle.std.specs.Prelude.{slice_get}
 use Rattle.jv_class.specs.Rules.{MembersKeepRules}
-use Rattle.jv_class_parts.specs.Parts.{fields_of}
+use Rattle.jv_class_structure.specs.Parts.{fields_of}
 use Rattle.jv_class.proofs.Keys.{field_there}
 use Rattle.jv_class.proofs.class_file.ClassFile.field.Goals as goal
 

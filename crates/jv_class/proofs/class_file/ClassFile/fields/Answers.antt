@@ -1,7 +1,7 @@
 use Rattle.std.proofs.Common.{refl, subst, ap, ◌∙◌}
-use Rattle.jv_class_parts.specs.declared.member.Field.{Field}
+use Rattle.jv_class_structure.specs.declared.member.Field.{Field}
 use Rattle.jv_class.specs.Rules.{MembersKeepRules}
-use Rattle.jv_class_parts.specs.Parts.{fields_of}
+use Rattle.jv_class_structure.specs.Parts.{fields_of}
 use Rattle.jv_class.proofs.Keys.{fields_there, all_named, all_described}
 use Rattle.jv_class.proofs.class_file.ClassFile.fields.Goals as goal
 

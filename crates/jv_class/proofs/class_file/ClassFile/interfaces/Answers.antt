@@ -1,5 +1,5 @@
 use Rattle.std.proofs.Common.{subst, ap, ◌∙◌}
-use Rattle.jv_class_parts.specs.Structure.{ClassStructure}
+use Rattle.jv_class_structure.specs.Structure.{ClassStructure}
 use Rattle.jv_class.specs.Rules.{SupersKeepRules}
 use Rattle.jv_class.proofs.Keys.{classes_there}
 use Rattle.jv_class.proofs.class_file.ClassFile.interfaces.Goals as goal

@@ -1,7 +1,7 @@
 use Rattle.std.proofs.Common.{refl, subst, ap, ◌∙◌}
-use Rattle.jv_class_parts.specs.declared.member.Method.{Method}
+use Rattle.jv_class_structure.specs.declared.member.Method.{Method}
 use Rattle.jv_class.specs.Rules.{MembersKeepRules}
-use Rattle.jv_class_parts.specs.Parts.{methods_of}
+use Rattle.jv_class_structure.specs.Parts.{methods_of}
 use Rattle.jv_class.proofs.Keys.{methods_there, all_named, all_described}
 use Rattle.jv_class.proofs.class_file.ClassFile.methods.Goals as goal
 

@@ -1,6 +1,6 @@
 use Rattle.std.proofs.Common.{◌≡◌, length}
 use Rattle.std.specs.Prelude.{map}
-use Rattle.jv_class_parts.specs.Seen.{seen_method}
+use Rattle.jv_class_structure.specs.Seen.{seen_method}
 use Rattle.jv_meaning.specs.Thin.Machine.{main_code}
 use Rattle.jv_interp.proofs.thin.guest.main_code.Given as goal
 

@@ -1,9 +1,9 @@
 use Rattle.std.proofs.Common.{◌≡◌, sym, subst}
 use Rattle.std.specs.Option.{option_and_then}
-use Rattle.jv_loader_world.specs.LookUps.{lookup_method}
-use Rattle.jv_loader_classes.specs.Inside.Told.{IsAt}
-use Rattle.jv_loader_lookups.specs.Places.{method_at}
-use Rattle.jv_loader_world.specs.Numbers.{AreNumbers}
+use Rattle.jv_meaning_world.specs.LookUps.{lookup_method}
+use Rattle.jv_meaning_world.specs.Numbers.{HoldsAtNumber}
+use Rattle.jv_lookups.specs.Places.{method_at}
+use Rattle.jv_meaning_world.specs.Numbers.{AreNumbers}
 use Rattle.jv_loader.specs.Inside.Searches.{IsSearch}
 use Rattle.jv_loader.proofs.classes.Classes.lookup_method.Goals as goal
 
@@ -13,5 +13,5 @@ lookup_method-requires-clause-searched c = subst (λ w. AreNumbers w c.searched.
 pub returns-clause-found : goal.returns-clause-found
 returns-clause-found c =
     let search = subst (λ w. IsSearch w c.args.class c.searched.result.now) (sym c.table.ensures) c.searched.ensures in
-    subst (λ w. IsAt w c.args.class (λ l. option_and_then (method_at w) c.lookup_method.result ≡ lookup_method w l c.args.name.now c.args.descriptor.now)) c.table.ensures
+    subst (λ w. HoldsAtNumber w c.args.class (λ l. option_and_then (method_at w) c.lookup_method.result ≡ lookup_method w l c.args.name.now c.args.descriptor.now)) c.table.ensures
     (λ l at. c.lookup_method.ensures.found l at (search.found l at))

@@ -1,7 +1,7 @@
 use Rattle.std.proofs.Common.{sym, subst}
-use Rattle.jv_loader_classes.specs.Inside.Told.{IsAt}
-use Rattle.jv_loader_lookups.specs.Defaults.{defaults, AreDefaults}
-use Rattle.jv_loader_world.specs.Numbers.{AreNumbers}
+use Rattle.jv_meaning_world.specs.Numbers.{HoldsAtNumber}
+use Rattle.jv_lookups.specs.Defaults.{defaults, AreDefaults}
+use Rattle.jv_meaning_world.specs.Numbers.{AreNumbers}
 use Rattle.jv_loader.specs.Inside.Searches.{IsSearch}
 use Rattle.jv_loader.proofs.classes.Classes.superinterface_defaults.Goals as goal
 
@@ -11,5 +11,5 @@ superinterface_defaults-requires-clause-searched c = subst (λ w. AreNumbers w c
 pub returns-clause-found : goal.returns-clause-found
 returns-clause-found c =
     let search = subst (λ w. IsSearch w c.args.class c.searched.result.now) (sym c.table.ensures) c.searched.ensures in
-    subst (λ w. IsAt w c.args.class (λ l. AreDefaults w c.superinterface_defaults.result (defaults w l c.args.name.now c.args.descriptor.now))) c.table.ensures
+    subst (λ w. HoldsAtNumber w c.args.class (λ l. AreDefaults w c.superinterface_defaults.result (defaults w l c.args.name.now c.args.descriptor.now))) c.table.ensures
     (λ l at. c.superinterface_defaults.ensures.found l at (search.found l at))

@@ -1,5 +1,0 @@
-use Rattle.jv_assign.proofs.OrderAbove.{above_is_below}
-use Rattle.jv_assign.proofs.order_law.above_is_below.Goals as goal
-
-pub returns : goal.returns
-returns c = above_is_below

@@ -1,5 +1,0 @@
-use Rattle.jv_assign.proofs.OrderAbove.{below_is_above}
-use Rattle.jv_assign.proofs.order_law.below_is_above.Goals as goal
-
-pub returns : goal.returns
-returns c = below_is_above

@@ -1,5 +1,0 @@
-use Rattle.jv_assign.proofs.Order.{components_are_below}
-use Rattle.jv_assign.proofs.order_law.components_are_below.Goals as goal
-
-pub returns : goal.returns
-returns c = components_are_below

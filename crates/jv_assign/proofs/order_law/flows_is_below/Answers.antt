@@ -1,5 +1,0 @@
-use Rattle.jv_assign.proofs.Order.{flows_is_below}
-use Rattle.jv_assign.proofs.order_law.flows_is_below.Goals as goal
-
-pub returns : goal.returns
-returns c = flows_is_below

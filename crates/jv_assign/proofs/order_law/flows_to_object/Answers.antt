@@ -1,5 +1,0 @@
-use Rattle.jv_assign.proofs.Order.{flows_to_object}
-use Rattle.jv_assign.proofs.order_law.flows_to_object.Goals as goal
-
-pub returns : goal.returns
-returns c = flows_to_object

@@ -1,5 +1,0 @@
-use Rattle.jv_assign.proofs.OrderWorked.{worked_order_rows}
-use Rattle.jv_assign.proofs.order_law.order_rows.Goals as goal
-
-pub returns : goal.returns
-returns c = worked_order_rows

@@ -1,9 +1,0 @@
-pub mod Gathering
-pub mod Lists
-pub mod Forms
-pub mod AttributeLaws
-pub mod Handlers
-pub mod MemberLaws
-pub mod Whole
-pub use Rattle.jv_pool.proofs.laws_of_format
-pub use Rattle.jv_pool.proofs.laws_of_text

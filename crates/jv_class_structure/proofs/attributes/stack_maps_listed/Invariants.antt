@@ -1,0 +1,9 @@
+use Rattle.std.proofs.Common.{◌≡◌, ◌-◌, None}
+use Rattle.jv_class_structure.specs.Inside.Kept.{seen_map}
+use Rattle.jv_class_structure.specs.Inside.Reading.{gathered, stack_map_kept}
+use Rattle.jv_class_structure.proofs.attributes.stack_maps_listed.Given as goal
+
+abbrev pub invariant-loop : goal.invariant-loop
+invariant-loop l =
+    gathered (stack_map_kept l.pool) (l.count - l.counter) (seen_map l.found) l.rest
+    ≡ gathered (stack_map_kept l.pool) l.count None l.bytes

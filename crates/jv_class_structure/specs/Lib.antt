@@ -1,0 +1,7 @@
+pub mod Structure
+pub mod Version
+pub mod Flags
+pub mod Attributes
+pub mod Parts
+pub mod Seen
+pub mod Inside

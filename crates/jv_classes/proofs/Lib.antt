@@ -1,0 +1,14 @@
+pub mod Adding
+pub mod AllFound
+pub mod Chains
+pub mod Followed
+pub mod Listing
+pub mod Loaded
+pub mod Numbers
+pub mod OfFile
+pub mod Places
+pub mod Rows
+pub mod Tests
+pub mod Told
+pub mod Unlike
+pub mod Ways

@@ -1,0 +1,5 @@
+use Rattle.std.proofs.Common.{rules}
+use Rattle.jv_classes.proofs.loaded_class.LoadedClass.access_flags.Goals as goal
+
+pub returns : goal.returns
+returns c = search rules

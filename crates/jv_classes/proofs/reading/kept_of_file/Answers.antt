@@ -1,0 +1,7 @@
+use Rattle.jv_classes.proofs.OfFile.{keeps}
+use Rattle.jv_classes.proofs.reading.kept_of_file.Goals as goal
+
+pub returns : goal.returns
+returns c =
+    keeps c.args.file.now _ c.pool.result.now c.interfaces.result.now c.pool.ensures c.interfaces.ensures.same c.in_ok-interfaces.ensures
+    c.major.ensures c.access_flags.ensures c.name.ensures c.super_name.ensures c.in_ok-fields.ensures c.in_ok-methods.ensures

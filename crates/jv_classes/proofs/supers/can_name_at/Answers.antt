@@ -1,0 +1,9 @@
+use Rattle.std.proofs.lemmas.Grind.{elements}
+use Rattle.std.proofs.Common.{arith}
+use Rattle.jv_classes.proofs.supers.can_name_at.Goals as goal
+
+pub returns-in-Some-get : goal.returns-in-Some-get
+returns-in-Some-get c = grind (arith, elements)
+
+pub returns-in-None-get : goal.returns-in-None-get
+returns-in-None-get c = grind (arith, elements)

@@ -1,0 +1,30 @@
+-- What is read of a file, by the texts that its indices name.
+use Rattle.std.specs.Prelude.{ℕ, List, Option}
+use Rattle.std.specs.Option.{option_map}
+use Rattle.jv_pool.specs.declared.index.ClassIndex.{ClassIndex}
+use Rattle.jv_pool.specs.Constants.{Entry, NameAndDescriptor, named_at, class_name_at}
+use Rattle.jv_class_structure.specs.declared.member.Field.{Field}
+use Rattle.jv_class_structure.specs.declared.member.Method.{Method}
+use Rattle.jv_classes.specs.Inside.Seen.{MemberSeen, member_made}
+
+abbrev pub member_with : ℕ → NameAndDescriptor → MemberSeen
+member_with access_flags texts = member_made access_flags texts.name texts.descriptor
+
+-- the member whose name and descriptor these indices name
+abbrev pub member_seen_at : List Entry → ℕ → ℕ → ℕ → Option MemberSeen
+member_seen_at pool access_flags name descriptor = option_map (member_with access_flags) (named_at pool name descriptor)
+
+abbrev pub field_texts : List Entry → Field → Option NameAndDescriptor
+field_texts pool f = named_at pool f.name.0 f.descriptor.0
+
+abbrev pub field_at : List Entry → Field → Option MemberSeen
+field_at pool f = option_map (member_with f.access_flags.0) (field_texts pool f)
+
+abbrev pub method_texts : List Entry → Method → Option NameAndDescriptor
+method_texts pool m = named_at pool m.name.0 m.descriptor.0
+
+abbrev pub method_at : List Entry → Method → Option MemberSeen
+method_at pool m = option_map (member_with m.access_flags.0) (method_texts pool m)
+
+abbrev pub interface_at : List Entry → ClassIndex → Option (List ℕ)
+interface_at pool index = class_name_at pool index.0

@@ -1,0 +1,31 @@
+-- What tables tell of the classes of a world.
+use Rattle.std.specs.Prelude.{◌≡◌, ℕ, Bool, false, List, Option, Some, IsTrue, length, map, slice_get, get_or}
+use Rattle.jv_names.specs.Ways.{Rows, related}
+use Rattle.jv_meaning_world.specs.World.{Loaded, World}
+use Rattle.jv_meaning_world.specs.Above.{is_above, superclasses}
+use Rattle.jv_meaning_world.specs.LookUps.{is_among}
+use Rattle.jv_meaning_world.specs.Verdicts.{is_loadable}
+use Rattle.jv_classes.specs.Inside.Rows.{all_super_numbers}
+
+-- which class is above which
+abbrev pub TellsAbove : World → Rows → Type 0
+TellsAbove world rows = (a b : ℕ) (l to : Loaded) → slice_get world a ≡ Some l → slice_get world b ≡ Some to → related rows a b ≡ is_above world to.class.name l.class
+
+-- which class is a superclass of which
+abbrev pub TellsSuperclasses : World → Rows → Type 0
+TellsSuperclasses world rows =
+    (a b : ℕ) (l to : Loaded) → slice_get world a ≡ Some l → slice_get world b ≡ Some to → related rows a b ≡ is_among (superclasses world l.class) to
+
+-- a number is marked, and all that it is related to
+abbrev pub AreAllMarked : Rows → List Bool → ℕ → Type 0
+AreAllMarked rows marks number = IsTrue (get_or marks number false) × ((to : ℕ) → IsTrue (related rows number to) → IsTrue (get_or marks to false))
+
+-- a table tells of a world: who the direct supers are, which class is above which, which is a superclass of which, and which
+-- can be loaded
+pub record IsTable (world : World) (numbers : List (List (Option ℕ))) (ups chains : Rows) (marks : List Bool) : Type 0 where
+  pub supers : numbers ≡ all_super_numbers world
+  pub above_size : length ups ≡ length world
+  pub above : TellsAbove world ups
+  pub superclasses_size : length chains ≡ length world
+  pub superclasses : TellsSuperclasses world chains
+  pub loadable : marks ≡ map (is_loadable world) world

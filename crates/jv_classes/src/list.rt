@@ -1,0 +1,103 @@
+//! Classes in the order in which they came.
+
+ghost use Rattle.std.specs.Prelude.{◌≡◌, ◌<◌, ◌++◌, [], ◌∷◌, None, OnOk, OnErr, length};
+ghost use Rattle.jv_meaning_world.specs.Numbers.{number_named, IsNumbered, AreNoArrays};
+
+use crate::loaded_class::LoadedClass;
+use jv_names::Names;
+use std::alloc::{AllocError, Global};
+use std::hash::RandomState;
+use std::marker::Model;
+
+/// Classes, no two of one name; each has the number of those that came before it. In contracts it is
+/// the world of these classes (JVMS 5.3).
+pub struct ClassList<'a> {
+    names: Names<'a>,
+    classes: Vec<LoadedClass<'a>>,
+}
+
+impl<'a> Model for ClassList<'a> {
+    ghost use Rattle.std.specs.Prelude.{◌≡◌};
+    ghost use Rattle.jv_meaning_world.specs.World.{World};
+    ghost use Rattle.jv_meaning_world.specs.Numbers.{IsNumbered, AreNoArrays};
+    ghost use Rattle.jv_classes.specs.Inside.Listed.{names_of};
+
+    ghost Value = { World };
+
+    ghost view = { λ l. l.classes.items };
+
+    ghost invariant = { λ l. (l.names ≡ names_of l.classes.items) × IsNumbered l.classes.items × AreNoArrays l.classes.items };
+}
+
+impl Drop for ClassList<'_> {
+    fn drop(self) {
+        let ClassList {
+            names: _,
+            classes: _,
+        } = self;
+    }
+}
+
+impl<'a> ClassList<'a> {
+    /// No classes; their names are hashed with the state.
+    pub fn new(alloc: Global, state: RandomState) -> ClassList<'a>
+        ensures { result ≡ [] }
+    {
+        ClassList {
+            names: Names::new(alloc, state),
+            classes: Vec::new(alloc),
+        }
+    }
+
+    /// Each class is the one of its name. The call does nothing.
+    pub fn is_numbered(&self)
+        ensures { IsNumbered self.now }
+    {
+        let _names = &self.names;
+    }
+
+    /// No class has the name of an array (JVMS 4.1). The call does nothing.
+    pub fn are_no_arrays(&self)
+        ensures { AreNoArrays self.now }
+    {
+        let _names = &self.names;
+    }
+
+    /// How many classes there are.
+    pub fn count(&self) -> usize
+        ensures { result ≡ length self.now }
+    {
+        self.classes.len()
+    }
+
+    /// The number of the class of a name, where it is there.
+    pub fn find(&self, name: &[u8]) -> Option<usize>
+        ensures { result ≡ number_named self.now name.now }
+    {
+        self.names.place_of(name)
+    }
+
+    /// The classes, each at its number.
+    pub fn classes(&self) -> &[LoadedClass<'a>]
+        ensures { result.now ≡ self.now }
+    {
+        &self.classes
+    }
+
+    /// Adds a class of a new name.
+    ///
+    /// # Errors
+    ///
+    /// Where the host had no memory for it; nothing has then changed.
+    pub fn add(&mut self, class: LoadedClass<'a>) -> Result<(), AllocError>
+        requires { number_named self.now class.class.name ≡ None }
+        ensures ok { OnOk result (self.new ≡ self.old ++ class.entry ∷ []) }
+        ensures refused { OnErr result (self.new ≡ self.old) }
+    {
+        class.is_no_array();
+        self.classes.reserve(1)?;
+        self.names.add(class.name())?;
+        self.classes.push_reserved(class);
+        Ok(())
+    }
+}

@@ -1,0 +1,143 @@
+//! What is kept of the class of a file.
+
+ghost use Rattle.std.specs.Prelude.{◌≡◌, IfOk, IsSome, Some, map};
+ghost use Rattle.std.specs.List.{All};
+ghost use Rattle.std.specs.Option.{option_copied};
+ghost use Rattle.jv_pool.specs.Constants.{class_name_at, utf8_at};
+ghost use Rattle.jv_class.specs.Class.{Class, all_found, class_of, super_of};
+ghost use Rattle.jv_class.specs.Rules.{NoTwoAlike};
+ghost use Rattle.jv_names.specs.Inside.Kept.{text_of};
+ghost use Rattle.jv_classes.specs.Inside.Kept.{Keeps};
+ghost use Rattle.jv_classes.specs.Inside.Seen.{field_seen, member_seen, method_seen};
+ghost use Rattle.jv_classes.specs.Inside.Found.{field_at, field_texts, interface_at, member_seen_at, method_at, method_texts};
+
+use crate::kept::Kept;
+use crate::member::Member;
+use crate::members::Members;
+use jv_class::{ClassFile, Field, Method};
+use jv_pool::{ClassIndex, Pool, Utf8Index};
+use std::alloc::{AllocError, Global};
+use std::hash::RandomState;
+
+/// The member with these flags and texts.
+fn member_in<'a>(
+    pool: &Pool<'a>,
+    access_flags: u16,
+    name: Utf8Index,
+    descriptor: Utf8Index,
+) -> Member<'a>
+    requires name { IsSome (utf8_at pool.now name.0) }
+    requires descriptor { IsSome (utf8_at pool.now descriptor.0) }
+    ensures { member_seen_at pool.now access_flags name.0 descriptor.0 ≡ Some (member_seen result) }
+{
+    Member {
+        access_flags,
+        name: pool.utf8(name),
+        descriptor: pool.utf8(descriptor),
+    }
+}
+
+fn fields_in<'a>(
+    alloc: Global,
+    state: RandomState,
+    pool: &Pool<'a>,
+    fields: &[Field],
+) -> Result<Members<'a>, AllocError>
+    requires named { All (λ field. IsSome (utf8_at pool.now field.name.0)) fields.now }
+    requires described { All (λ field. IsSome (utf8_at pool.now field.descriptor.0)) fields.now }
+    requires unlike { NoTwoAlike (map (field_texts pool.now) fields.now) }
+    ensures { IfOk result (λ members. all_found (field_at pool.now) fields.now ≡ Some members) }
+{
+    let mut members = Members::with_capacity(alloc, state, fields.len())?;
+    for field in fields {
+        members.add(member_in(pool, field.access_flags.0, field.name, field.descriptor))?;
+    }
+    Ok(members)
+}
+
+fn methods_in<'a>(
+    alloc: Global,
+    state: RandomState,
+    pool: &Pool<'a>,
+    methods: &[Method<'a>],
+) -> Result<Members<'a>, AllocError>
+    requires named { All (λ method. IsSome (utf8_at pool.now method.name.0)) methods.now }
+    requires described { All (λ method. IsSome (utf8_at pool.now method.descriptor.0)) methods.now }
+    requires unlike { NoTwoAlike (map (method_texts pool.now) methods.now) }
+    ensures { IfOk result (λ members. all_found (method_at pool.now) methods.now ≡ Some members) }
+{
+    let mut members = Members::with_capacity(alloc, state, methods.len())?;
+    for method in methods {
+        members.add(member_in(pool, method.access_flags.0, method.name, method.descriptor))?;
+    }
+    Ok(members)
+}
+
+fn fields_of<'a>(
+    alloc: Global,
+    state: RandomState,
+    file: &ClassFile<'a>,
+) -> Result<Members<'a>, AllocError>
+    ensures { IfOk result (λ members. (class : Class) → class_of file.now ≡ Some class → members ≡ map field_seen class.fields) }
+{
+    file.is_well_formed();
+    fields_in(alloc, state, file.pool(), file.fields())
+}
+
+fn methods_of<'a>(
+    alloc: Global,
+    state: RandomState,
+    file: &ClassFile<'a>,
+) -> Result<Members<'a>, AllocError>
+    ensures { IfOk result (λ members. (class : Class) → class_of file.now ≡ Some class → members ≡ map method_seen class.methods) }
+{
+    file.is_well_formed();
+    methods_in(alloc, state, file.pool(), file.methods())
+}
+
+/// The names of these classes.
+fn class_names<'a>(
+    alloc: Global,
+    pool: &Pool<'a>,
+    indices: &[ClassIndex],
+) -> Result<Vec<&'a [u8]>, AllocError>
+    requires { All (λ index. IsSome (class_name_at pool.now index.0)) indices.now }
+    ensures { IfOk result (λ names. all_found (interface_at pool.now) indices.now ≡ Some (map text_of names.items)) }
+{
+    let mut names = Vec::with_capacity(alloc, indices.len())?;
+    for index in indices {
+        names.push(pool.class_name(*index))?;
+    }
+    Ok(names)
+}
+
+fn super_name<'a>(file: &ClassFile<'a>) -> Option<&'a [u8]>
+    ensures { super_of file.now ≡ Some (option_copied result) }
+{
+    match file.super_class() {
+        Some(index) => Some(file.pool().class_name(index)),
+        None => None,
+    }
+}
+
+/// What is kept of the class of a file.
+pub(crate) fn kept_of_file<'a>(
+    alloc: Global,
+    state: RandomState,
+    file: &ClassFile<'a>,
+) -> Result<Kept<'a>, AllocError>
+    ensures { IfOk result (λ kept. (class : Class) → class_of file.now ≡ Some class → Keeps class kept) }
+{
+    let interfaces = class_names(alloc, file.pool(), file.interfaces())?;
+    let fields = fields_of(alloc, state, file)?;
+    let methods = methods_of(alloc, state, file)?;
+    Ok(Kept {
+        major: file.major(),
+        access_flags: file.access_flags().0,
+        name: file.name(),
+        super_name: super_name(file),
+        interfaces,
+        fields,
+        methods,
+    })
+}

@@ -1,0 +1,14 @@
+pub mod Arguments
+pub mod Arrays
+pub mod Called
+pub mod Descriptors
+pub mod Finding
+pub mod Guarding
+pub mod Keeping
+pub mod KeepingClass
+pub mod Lasting
+pub mod Marking
+pub mod Members
+pub mod Naming
+pub mod OfClass
+pub mod Plain

@@ -1,0 +1,4 @@
+pub mod Current
+pub mod Inside
+pub mod Operands
+pub mod PoolTypes

@@ -1,0 +1,11 @@
+pub mod Defaulting
+pub mod Fields
+pub mod GivenSoFar
+pub mod Loadable
+pub mod Naming
+pub mod Operands
+pub mod Placed
+pub mod Running
+pub mod SameSearch
+pub mod Stepping
+pub mod Upward

@@ -1,0 +1,6 @@
+pub mod Answers
+pub mod Inside
+pub mod Layouts
+pub mod Objects
+pub mod Orders
+pub mod Seen

@@ -1,0 +1,95 @@
+//! Methods of one name and descriptor, and what their flags say.
+
+ghost use Rattle.std.specs.Prelude.{◌≡◌, ◌<◌, Some, IfSome, length};
+ghost use Rattle.std.specs.Option.{option_and_then};
+ghost use Rattle.jv_class_structure.specs.Flags.{has, acc_public};
+ghost use Rattle.jv_meaning_world.specs.Overriding.{Declared, is_instance, alike_in};
+ghost use Rattle.jv_meaning_world.specs.LookUps.{is_concrete};
+ghost use Rattle.jv_lookups.specs.Places.{method_at, IsMethodPlace, HoldsAtCall};
+ghost use Rattle.jv_meaning_linking.specs.Inside.OneWalk.{is_open};
+ghost use Rattle.jv_meaning_linking.specs.Inside.Upward.{is_private};
+ghost use Rattle.jv_link.specs.Inside.Called.{method_named_as};
+
+use crate::member::{class_at, method_at};
+use jv_loader::{ClassTable, Place};
+use jv_text::is_init;
+
+// Access flags of methods (JVMS table 4.6-A).
+const PUBLIC: u16 = 0x0001;
+
+const PRIVATE: u16 = 0x0002;
+
+const PUBLIC_OR_PROTECTED: u16 = 0x0005;
+
+const STATIC: u16 = 0x0008;
+
+const ABSTRACT: u16 = 0x0400;
+
+/// Whether a method is an instance method other than `<init>`.
+pub(crate) fn is_instance(table: &ClassTable<'_>, place: Place) -> bool
+    requires { IsMethodPlace table.now place }
+    ensures { (d : Declared) → method_at table.now place ≡ Some d → result ≡ is_instance d.method }
+{
+    let method = method_at(table, place);
+    method.access_flags & STATIC == 0 && !is_init(method.name)
+}
+
+/// Whether a method is public.
+pub(crate) fn is_public(table: &ClassTable<'_>, place: Place) -> bool
+    requires { IsMethodPlace table.now place }
+    ensures { (d : Declared) → method_at table.now place ≡ Some d → result ≡ has d.method.access_flags acc_public }
+{
+    method_at(table, place).access_flags & PUBLIC != 0
+}
+
+/// Whether a method is private.
+pub(crate) fn is_private(table: &ClassTable<'_>, place: Place) -> bool
+    requires { IsMethodPlace table.now place }
+    ensures { (d : Declared) → method_at table.now place ≡ Some d → result ≡ is_private d }
+{
+    method_at(table, place).access_flags & PRIVATE != 0
+}
+
+/// Whether a method is public or protected.
+pub(crate) fn is_open(table: &ClassTable<'_>, place: Place) -> bool
+    requires { IsMethodPlace table.now place }
+    ensures { (d : Declared) → method_at table.now place ≡ Some d → result ≡ is_open d }
+{
+    method_at(table, place).access_flags & PUBLIC_OR_PROTECTED != 0
+}
+
+/// Whether a method is not abstract.
+pub(crate) fn is_concrete(table: &ClassTable<'_>, place: Place) -> bool
+    requires { IsMethodPlace table.now place }
+    ensures { (d : Declared) → method_at table.now place ≡ Some d → result ≡ is_concrete d }
+{
+    method_at(table, place).access_flags & ABSTRACT == 0
+}
+
+/// The method of a class with the name and the descriptor of another.
+fn named_as(table: &ClassTable<'_>, class: usize, called: Place) -> Option<Place>
+    requires class { class < length table.now }
+    requires called { IsMethodPlace table.now called }
+    ensures found { HoldsAtCall table.now called class (λ l e. option_and_then (method_at table.now) result ≡ method_named_as e l) }
+    ensures place { IfSome result (IsMethodPlace table.now) }
+{
+    let called = method_at(table, called);
+    let member = class_at(table, class).method_named(called.name, called.descriptor)?;
+    Some(Place { class, member })
+}
+
+/// The instance method of a class with the name and the descriptor of another, `<init>` aside.
+pub(crate) fn alike_in(table: &ClassTable<'_>, class: usize, called: Place) -> Option<Place>
+    requires class { class < length table.now }
+    requires called { IsMethodPlace table.now called }
+    ensures found { HoldsAtCall table.now called class (λ l e. option_and_then (method_at table.now) result ≡ alike_in l e.method) }
+    ensures place { IfSome result (IsMethodPlace table.now) }
+{
+    let Some(place) = named_as(table, class, called) else {
+        return None;
+    };
+    if !is_instance(table, place) {
+        return None;
+    }
+    Some(place)
+}

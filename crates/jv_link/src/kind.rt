@@ -1,0 +1,147 @@
+//! Which fields and methods an instruction can use (JVMS 6.5).
+
+ghost use Rattle.std.specs.Prelude.{◌≡◌, ◌<◌, Some, IfOk, length};
+ghost use Rattle.jv_class.specs.Class.{Field, Method};
+ghost use Rattle.jv_class.specs.Rules.{is_clinit};
+ghost use Rattle.jv_lookups.specs.Places.{field_at, IsFieldPlace};
+ghost use Rattle.jv_meaning_linking.specs.Uses.{Site as SiteOfNames};
+ghost use Rattle.jv_meaning_linking.specs.Kind.{has_field_kind, can_set_final, can_use_final, has_method_kind};
+ghost use Rattle.jv_meaning_linking.specs.MethodResolution.{is_own_init};
+ghost use Rattle.jv_link.specs.Seen.{seen_use, seen_site, IsSite, IsMethodTarget};
+ghost use Rattle.jv_link.specs.Inside.Steps.{usable_field, callable_method, CanSetFinal, CanUseFinal, AnswersUsable, IsOwnInit};
+ghost use Rattle.jv_link.specs.Answers.{AnswersTarget, HoldsAtTarget};
+
+use crate::class::same_class;
+use crate::error::LinkError;
+use crate::member::{field_at, method_at};
+use crate::site::{Site, Use};
+use crate::target::MethodTarget;
+use jv_loader::{ClassTable, Place};
+use jv_text::is_init;
+
+// Access flags of fields and methods (JVMS tables 4.5-A, 4.6-A).
+const STATIC: u16 = 0x0008;
+
+const FINAL: u16 = 0x0010;
+
+const STATIC_OR_PRIVATE: u16 = 0x000a;
+
+/// Whether an instruction uses a field of this kind, static or not.
+fn has_field_kind(how: Use, flags: u16) -> bool
+    ensures { (f : Field) → flags ≡ f.access_flags → result ≡ has_field_kind (seen_use how) f }
+{
+    match how {
+        Use::Getstatic | Use::Putstatic => flags & STATIC != 0,
+        Use::Getfield | Use::Putfield => flags & STATIC == 0,
+        _ => true,
+    }
+}
+
+/// Whether an instruction calls a method of this kind.
+fn has_method_kind(how: Use, flags: u16) -> bool
+    ensures { (m : Method) → flags ≡ m.access_flags → result ≡ has_method_kind (seen_use how) m }
+{
+    match how {
+        Use::Invokestatic => flags & STATIC != 0,
+        Use::Invokevirtual | Use::Invokespecial => flags & STATIC == 0,
+        Use::Invokeinterface => flags & STATIC_OR_PRIVATE == 0,
+        _ => true,
+    }
+}
+
+/// Whether a name is that of a class's initialization (JVMS 2.9).
+fn is_clinit(name: &[u8]) -> bool
+    ensures { result ≡ is_clinit name.now }
+{
+    name == b"<clinit>".as_slice()
+}
+
+/// The name of the method at a site.
+fn name_at<'a>(table: &ClassTable<'a>, site: Site) -> &'a [u8]
+    requires { IsSite table.now site }
+    ensures { (s : SiteOfNames) → seen_site table.now site ≡ Some s → result.now ≡ s.method.name }
+{
+    let place = Place {
+        class: site.class,
+        member: site.method,
+    };
+    method_at(table, place).name
+}
+
+/// Whether an instruction can set a final field that a class declares: putfield in `<init>` of that class,
+/// and putstatic in its `<clinit>`.
+fn can_set_final(table: &ClassTable<'_>, how: Use, site: Site, by: usize) -> bool
+    requires site { IsSite table.now site }
+    requires by { by < length table.now }
+    ensures { CanSetFinal table.now site how by result }
+{
+    match how {
+        Use::Putfield => is_init(name_at(table, site)) && same_class(table, site.class, by),
+        Use::Putstatic => is_clinit(name_at(table, site)) && same_class(table, site.class, by),
+        _ => true,
+    }
+}
+
+/// Whether an instruction can use a field: one that is not final, or that it can set, or that it only reads.
+fn can_use_final(table: &ClassTable<'_>, how: Use, site: Site, by: usize, flags: u16) -> bool
+    requires site { IsSite table.now site }
+    requires by { by < length table.now }
+    ensures { CanUseFinal table.now site how by flags result }
+{
+    flags & FINAL == 0 || can_set_final(table, how, site, by)
+}
+
+/// A field, where it is of the instruction's kind, and not final where the instruction can't set it.
+pub(crate) fn usable_field(
+    table: &ClassTable<'_>,
+    site: Site,
+    how: Use,
+    place: Place,
+) -> Result<Place, LinkError>
+    requires site { IsSite table.now site }
+    requires place { IsFieldPlace table.now place }
+    ensures found { AnswersUsable table.now site how place result }
+    ensures place { IfOk result (IsFieldPlace table.now) }
+{
+    let field = field_at(table, place);
+    if !has_field_kind(how, field.access_flags) {
+        return Err(LinkError::IncompatibleClassChangeError);
+    }
+    if !can_use_final(table, how, site, place.class, field.access_flags) {
+        return Err(LinkError::IllegalAccessError);
+    }
+    Ok(place)
+}
+
+/// Whether the named class declares an `<init>` itself that invokespecial calls.
+fn is_own_init(table: &ClassTable<'_>, how: Use, target: MethodTarget, name: &[u8]) -> bool
+    requires { IsMethodTarget table.now target }
+    ensures { IsOwnInit table.now target how name.now result }
+{
+    match how {
+        Use::Invokespecial => {
+            !is_init(name) || same_class(table, target.named, target.declared.class)
+        }
+        _ => true,
+    }
+}
+
+/// A method, where an `<init>` is that of the named class, and the method is of the instruction's kind.
+pub(crate) fn callable_method(
+    table: &ClassTable<'_>,
+    how: Use,
+    target: MethodTarget,
+) -> Result<MethodTarget, LinkError>
+    requires { IsMethodTarget table.now target }
+    ensures found { HoldsAtTarget table.now target (λ t. AnswersTarget table.now result (callable_method (seen_use how) t)) }
+    ensures target { IfOk result (IsMethodTarget table.now) }
+{
+    let method = method_at(table, target.declared);
+    if !is_own_init(table, how, target, method.name) {
+        return Err(LinkError::NoSuchMethodError);
+    }
+    if !has_method_kind(how, method.access_flags) {
+        return Err(LinkError::IncompatibleClassChangeError);
+    }
+    Ok(target)
+}

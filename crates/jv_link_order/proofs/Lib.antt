@@ -1,3 +1,0 @@
-pub mod GivenSoFar
-pub mod Fields
-pub mod Defaulting

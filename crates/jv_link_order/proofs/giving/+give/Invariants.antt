@@ -1,9 +1,0 @@
-use Rattle.std.proofs.Common.{◌-◌}
-use Rattle.jv_link_order.proofs.GivenSoFar.{GivesOn}
-use Rattle.jv_link_order.proofs.giving.+give.Given as goal
-
-abbrev pub decreases-give : goal.decreases-give
-decreases-give l = l.steps
-
-abbrev pub invariant-loop-place : goal.invariant-loop-place
-invariant-loop-place l = GivesOn l.table (l.steps - 1) l.initial.given l.interfaces l.place l.given

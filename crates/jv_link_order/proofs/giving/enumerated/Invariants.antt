@@ -1,6 +1,0 @@
-use Rattle.std.proofs.Common.{length}
-use Rattle.jv_link_order.proofs.GivenSoFar.{GivesOn}
-use Rattle.jv_link_order.proofs.giving.enumerated.Given as goal
-
-abbrev pub invariant-loop-place : goal.invariant-loop-place
-invariant-loop-place l = GivesOn l.table (length l.table) l.initial.given l.interfaces l.place l.given

@@ -1,5 +1,0 @@
-pub mod Stepping
-pub mod Placed
-pub mod Loadable
-pub mod Operands
-pub mod SameSearch

@@ -1,8 +1,0 @@
-use Rattle.std.proofs.Common.{◌≡◌, ◌-◌, Some}
-use Rattle.jv_loader_world.specs.Overriding.{Declared, alike_in}
-use Rattle.jv_loader_lookups.specs.Places.{method_at}
-use Rattle.jv_loader_lookups.proofs.Chain.{Climbs}
-use Rattle.jv_link_selection.proofs.chain.superclass_alike.Given as goal
-
-abbrev pub invariant-loop : goal.invariant-loop
-invariant-loop l = (e : Declared) → method_at l.table l.called ≡ Some e → Climbs l.table (λ s. alike_in s e.method) l.from (l.end - l.counter) l.next

@@ -1,0 +1,62 @@
+//! Reads what a file holds.
+
+ghost use Rattle.std.specs.Prelude.{◌↔◌, IsTrue, IfOk, IsSomeAnd};
+ghost use Rattle.std.specs.List.{All};
+ghost use Rattle.jv_class_structure.specs.Seen.{seen_method};
+ghost use Rattle.jv_class_structure.specs.Parts.{methods_of};
+ghost use Rattle.jv_meaning_world.specs.FileContent.{HasNoUnsupportedCode, IsContent};
+ghost use Rattle.jv_loader.specs.Inside.Reading.{content_of};
+
+use jv_class::{ClassFault, ClassFile, Method, is_some_class, read_class};
+use jv_code::unsupported;
+use jv_loader_system::Memory;
+use jv_meaning_world::{Content, FileClass};
+use std::alloc::Global;
+
+/// Whether the method's code, where it has any, stays within the profile.
+fn has_profile_code(method: Method<'_>) -> bool
+    ensures { IsTrue result ↔ HasNoUnsupportedCode (seen_method method.entry).code }
+{
+    match method.code {
+        Some(code) => !unsupported(code.code),
+        None => true,
+    }
+}
+
+fn each_has_profile_code(methods: &[Method<'_>]) -> bool
+    ensures { IsTrue result ↔ All (λ m. HasNoUnsupportedCode (seen_method m).code) methods.now }
+{
+    methods.iter().all(|method| has_profile_code(*method))
+}
+
+/// Whether the code of each method stays within the profile.
+fn is_within_profile(class: &ClassFile<'_>) -> bool
+    ensures { IsTrue result ↔ All (λ m. HasNoUnsupportedCode m.code) (methods_of class.now) }
+{
+    each_has_profile_code(class.methods())
+}
+
+/// What the file with these bytes holds (JVMS 4.1, 5.3.5).
+///
+/// # Errors
+///
+/// Where the host had no memory for what was read.
+pub fn read_content<'a>(alloc: Global, bytes: &'a [u8]) -> Result<FileClass<'a>, Memory>
+    ensures { IfOk result (λ found. IsSomeAnd (content_of found) (IsContent bytes.now)) }
+{
+    match read_class(alloc, bytes) {
+        Ok(class) => {
+            is_some_class();
+            class.is_well_formed();
+            if is_within_profile(&class) {
+                Ok(Content::Holds(class))
+            } else {
+                Ok(Content::MoreThanProfile)
+            }
+        }
+        Err(ClassFault::Version) => Ok(Content::OtherVersion),
+        Err(ClassFault::Format) => Ok(Content::NoClassFile),
+        Err(ClassFault::Unsupported) => Ok(Content::MoreThanProfile),
+        Err(ClassFault::Memory) => Err(Memory),
+    }
+}

@@ -1,9 +1,0 @@
-use Rattle.jv_loader_class.proofs.Loaded.{class_known, is_loaded}
-use Rattle.jv_loader_class.proofs.loaded_class.LoadedClass.from_file.Goals as goal
-
-pub invariant_of-result : goal.invariant_of-result
-invariant_of-result c =
-    is_loaded c.args.by_system c.args.file c.in_ok-kept.kept (c.is_some_class.ensures c.args.file c.is_well_formed.ensures) c.in_ok-kept.ensures
-
-pub returns-clause-class : goal.returns-clause-class
-returns-clause-class c = class_known c.args.file (c.is_some_class.ensures c.args.file c.is_well_formed.ensures)

@@ -1,5 +1,0 @@
-use Rattle.std.proofs.Common.{rules}
-use Rattle.jv_loader_class.proofs.loaded_class.LoadedClass.is_final.Goals as goal
-
-pub returns : goal.returns
-returns c = search rules

@@ -1,7 +1,0 @@
-use Rattle.jv_loader_class.proofs.OfFile.{keeps}
-use Rattle.jv_loader_class.proofs.reading.kept_of_file.Goals as goal
-
-pub returns : goal.returns
-returns c =
-    keeps c.args.file.now _ c.pool.result.now c.interfaces.result.now c.pool.ensures c.interfaces.ensures.same c.in_ok-interfaces.ensures
-    c.major.ensures c.access_flags.ensures c.name.ensures c.super_name.ensures c.in_ok-fields.ensures c.in_ok-methods.ensures

@@ -1,7 +1,0 @@
-use Rattle.std.proofs.Common.{◌≡◌, take, Some}
-use Rattle.jv_loader_world.specs.of_class.Class.{all_found}
-use Rattle.jv_loader_class.specs.Inside.Found.{method_at}
-use Rattle.jv_loader_class.proofs.reading.methods_in.Given as goal
-
-abbrev pub invariant-loop-method : goal.invariant-loop-method
-invariant-loop-method l = all_found (method_at l.pool) (take l.method-index l.methods) ≡ Some l.members

@@ -1,3 +1,0 @@
-pub mod Seen
-pub mod Found
-pub mod Kept

@@ -1,9 +1,0 @@
-pub mod Numbers
-pub mod Ways
-pub mod Chains
-pub mod Listing
-pub mod Tests
-pub mod Rows
-pub mod Told
-pub mod Followed
-pub use Rattle.jv_loader_class.proofs.laws_of_loader_world

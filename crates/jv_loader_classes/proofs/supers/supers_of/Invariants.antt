@@ -1,8 +1,0 @@
-use Rattle.std.proofs.Common.{◌≡◌, ◌++◌, map, take}
-use Rattle.jv_loader_class.specs.of_loader_world.Above.{superclass_names}
-use Rattle.jv_loader_classes.specs.Numbers.{number_named}
-use Rattle.jv_loader_classes.proofs.supers.supers_of.Given as goal
-
-abbrev pub invariant-loop-place : goal.invariant-loop-place
-invariant-loop-place l =
-    l.supers.items ≡ map (number_named l.list) (superclass_names l.class.class.super_class ++ take l.place l.class.class.interfaces)

@@ -1,7 +1,0 @@
-mod Stamped
-mod Marking
-mod Numbering
-mod Passing
-mod Upward
-mod Looking
-mod Behind

@@ -1,6 +1,0 @@
-use Rattle.std.proofs.Common.{refl}
-use Rattle.jv_loader_finals.proofs.Stamped.{marked_more}
-use Rattle.jv_loader_finals.proofs.marks.Marks.mark.Goals as goal
-
-pub returns : goal.returns
-returns c = marked_more c.self.inside.stamp c.self.inside.stamps.items _ c.args.self.now c.args.number c.self.view_is refl

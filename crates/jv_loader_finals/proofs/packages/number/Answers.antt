@@ -1,5 +1,0 @@
-use Rattle.std.proofs.Common.{rules}
-use Rattle.jv_loader_finals.proofs.packages.number.Goals as goal
-
-pub returns-then-by_system : goal.returns-then-by_system
-returns-then-by_system c = search rules

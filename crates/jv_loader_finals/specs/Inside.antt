@@ -1,5 +1,0 @@
-pub mod Stamps
-pub mod Numbers
-pub mod Fronts
-pub mod Overridden
-pub mod Steps

@@ -1,5 +1,0 @@
-use Rattle.std.proofs.Common.{rules}
-use Rattle.jv_loader_lookups.proofs.declared.is_concrete.Goals as goal
-
-pub returns : goal.returns
-returns c = search rules

@@ -1,7 +1,0 @@
-use Rattle.std.proofs.Common.{◌-◌}
-use Rattle.jv_loader_world.specs.LookUps.{method_in}
-use Rattle.jv_loader_lookups.proofs.Chain.{Climbs}
-use Rattle.jv_loader_lookups.proofs.method.superclass_method.Given as goal
-
-abbrev pub invariant-loop : goal.invariant-loop
-invariant-loop l = Climbs l.table (method_in l.name l.descriptor) l.from (l.end - l.counter) l.next

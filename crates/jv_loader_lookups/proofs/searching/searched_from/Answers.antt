@@ -1,5 +1,0 @@
-use Rattle.std.proofs.Common.{rules}
-use Rattle.jv_loader_lookups.proofs.searching.searched_from.Goals as goal
-
-pub returns-clause-found : goal.returns-clause-found
-returns-clause-found c = search rules

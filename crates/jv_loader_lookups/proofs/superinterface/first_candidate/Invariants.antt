@@ -1,7 +1,0 @@
-use Rattle.jv_loader_classes.specs.Inside.Told.{IsAt}
-use Rattle.jv_loader_lookups.specs.Inside.Members.{candidate_in}
-use Rattle.jv_loader_lookups.proofs.Found.{IsLeft}
-use Rattle.jv_loader_lookups.proofs.superinterface.first_candidate.Given as goal
-
-abbrev pub invariant-loop-class : goal.invariant-loop-class
-invariant-loop-class l = IsAt l.table l.from (λ m. IsLeft l.table (candidate_in l.name l.descriptor m) l.searched l.class-index)

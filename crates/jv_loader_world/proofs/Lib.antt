@@ -1,2 +1,0 @@
-pub mod Up
-pub mod Standing

@@ -1,5 +1,0 @@
-use Rattle.jv_loader_world.proofs.Up.{above_by_ways}
-use Rattle.jv_loader_world.proofs.law.above_by_ways.Goals as goal
-
-pub returns : goal.returns
-returns c = above_by_ways

@@ -1,5 +1,0 @@
-use Rattle.jv_loader_world.proofs.Standing.{loadable_by_all}
-use Rattle.jv_loader_world.proofs.law.loadable_by_all.Goals as goal
-
-pub returns : goal.returns
-returns c = loadable_by_all

@@ -1,0 +1,7 @@
+pub mod FinalNumbers
+pub mod Fronts
+pub mod Members
+pub mod Numbers
+pub mod Overridden
+pub mod Stamps
+pub mod Steps

@@ -1,0 +1,16 @@
+-- The part of a chain of superclasses that has to be looked at.
+use Rattle.std.specs.Prelude.{◌≡◌, ℕ, Bool, false, List, [], ◌∷◌, take, drop, get_or}
+use Rattle.std.specs.List.{All}
+use Rattle.jv_class.specs.Class.{EachIsNamed}
+use Rattle.jv_meaning_world.specs.World.{Loaded}
+
+-- each class has one method of a name and a descriptor at most
+abbrev pub AreNamed : List Loaded → Type 0
+AreNamed [] = Unit {0}
+AreNamed (l ∷ classes) = EachIsNamed l.class × AreNamed classes
+
+-- the superclasses from the direct one on, behind which no class declares a final instance method
+pub record IsUpToFinal (finals : List Bool) (chain front : List ℕ) : Type 0 where
+  pub many : ℕ
+  pub is : front ≡ take many chain
+  pub none_behind : All (λ number. get_or finals number false ≡ false) (drop many chain)

@@ -1,0 +1,89 @@
+-- Members of one class.
+use Rattle.std.specs.Prelude.{ℕ, Bool, not, ◌&&◌, List, Option, None, is_some, if◌then◌else◌, ◌≡◌, suc, codes}
+use Rattle.std.specs.List.{list_any, filter_map}
+use Rattle.std.specs.Option.{option_map}
+use Rattle.std.specs.Str.{bytes_eq}
+use Rattle.jv_class.specs.Class.{field_named}
+use Rattle.jv_meaning_world.specs.World.{Loaded, World, class_named}
+use Rattle.jv_meaning_world.specs.Above.{is_above, superclasses}
+use Rattle.jv_meaning_world.specs.Overriding.{Declared}
+use Rattle.jv_meaning_world.specs.LookUps.{DeclaredField, field_by, method_in, without_itself, is_inheritable, is_concrete, is_below, method_if, first_found, only, method_if_loaded, is_public_instance, lookup_field, searched_from, searched_within}
+use Rattle.jv_meaning_world.specs.Numbers.{classes_at, HoldsAtNumber, HoldsAtBoth}
+use Rattle.jv_lookups.specs.Places.{IsMethodFound, IsFieldFound}
+use Rattle.jv_lookups.specs.declared.place.Place.{Place}
+
+-- the field of a name and a descriptor that a class declares (JVMS 5.4.3.2)
+abbrev pub field_named_in : List ℕ → List ℕ → Loaded → Option DeclaredField
+field_named_in name descriptor l = option_map (field_by l) (field_named l.class name descriptor)
+
+-- the method that a superinterface declares and a class can inherit (JVMS 5.4.3.3)
+abbrev pub candidate_in : List ℕ → List ℕ → Loaded → Loaded → Option Declared
+candidate_in name descriptor l c = if without_itself l c then method_if is_inheritable (method_in name descriptor c) else None
+
+-- such methods of all classes with these numbers
+abbrev pub candidates_at : World → List ℕ → List ℕ → List ℕ → Loaded → List Declared
+candidates_at world searched name descriptor l = filter_map (candidate_in name descriptor l) (classes_at world searched)
+
+-- a class is below another and declares such a method
+abbrev pub below_in : World → List ℕ → List ℕ → Loaded → Loaded → Loaded → Bool
+below_in world name descriptor l by c = (not (bytes_eq by.class.name c.class.name) && is_above world by.class.name c.class) && is_some (candidate_in name descriptor l c)
+
+-- such a method that is not abstract, and has none below it
+abbrev pub is_specific : World → List Declared → Declared → Bool
+is_specific world all d = is_concrete d && not (list_any (is_below world d) all)
+
+abbrev pub specific_in : World → List Declared → List ℕ → List ℕ → Loaded → Loaded → Option Declared
+specific_in world all name descriptor l c = method_if (is_specific world all) (candidate_in name descriptor l c)
+
+abbrev pub is_specific_at : World → List Declared → List ℕ → List ℕ → Loaded → Loaded → Bool
+is_specific_at world all name descriptor l c = is_some (specific_in world all name descriptor l c)
+
+-- ---- by numbers
+
+-- such a method of the first class that has one, of those that a search meets
+abbrev pub IsFirstCandidate : World → ℕ → List ℕ → List ℕ → List ℕ → Option Place → Type 0
+IsFirstCandidate world from searched name descriptor answer =
+    HoldsAtNumber world from (λ l. IsMethodFound world answer (first_found (candidate_in name descriptor l) (classes_at world searched)))
+
+-- a class, or one of those that a search meets, is below another and declares such a method
+abbrev pub IsBelowIn : World → ℕ → ℕ → ℕ → List ℕ → List ℕ → Bool → Type 0
+IsBelowIn world from class other name descriptor answer =
+    HoldsAtBoth world from class (λ l by. HoldsAtNumber world other (λ c. answer ≡ below_in world name descriptor l by c))
+
+abbrev pub IsAnyBelowIn : World → ℕ → ℕ → List ℕ → List ℕ → List ℕ → Bool → Type 0
+IsAnyBelowIn world from class searched name descriptor answer =
+    HoldsAtBoth world from class (λ l by. answer ≡ list_any (below_in world name descriptor l by) (classes_at world searched))
+
+-- the maximally specific one that a class declares, or the only one, or whether there is one
+abbrev pub IsSpecificIn : World → ℕ → ℕ → List ℕ → List ℕ → List ℕ → Option Place → Type 0
+IsSpecificIn world from class searched name descriptor answer =
+    HoldsAtBoth world from class (λ l c. IsMethodFound world answer (specific_in world (candidates_at world searched name descriptor l) name descriptor l c))
+
+abbrev pub IsOnlySpecific : World → ℕ → List ℕ → List ℕ → List ℕ → Option Place → Type 0
+IsOnlySpecific world from searched name descriptor answer =
+    HoldsAtNumber world from (λ l. IsMethodFound world answer
+    (only (filter_map (specific_in world (candidates_at world searched name descriptor l) name descriptor l) (classes_at world searched))))
+
+abbrev pub IsAnySpecific : World → ℕ → List ℕ → List ℕ → List ℕ → Bool → Type 0
+IsAnySpecific world from searched name descriptor answer =
+    HoldsAtNumber world from (λ l. answer
+    ≡ list_any (is_specific_at world (candidates_at world searched name descriptor l) name descriptor l) (classes_at world searched))
+
+-- what a class and its superclasses declare, and what java/lang/Object gives to interfaces
+abbrev pub IsFirstAbove : World → ℕ → List ℕ → List ℕ → Option Place → Type 0
+IsFirstAbove world from name descriptor answer =
+    HoldsAtNumber world from (λ l. IsMethodFound world answer (first_found (method_in name descriptor) (superclasses world l.class)))
+
+abbrev pub method_of_object : World → List ℕ → List ℕ → Option Declared
+method_of_object world name descriptor =
+    method_if is_public_instance (method_if_loaded name descriptor (class_named world (codes "java/lang/Object")))
+
+-- the field that a class whose search goes by these numbers has or inherits
+abbrev pub FindsField : World → List ℕ → List ℕ → List ℕ → Option Place → Type 0
+FindsField world searched name descriptor answer =
+    (l : Loaded) → classes_at world searched ≡ searched_from world l → IsFieldFound world answer (lookup_field world l name descriptor)
+
+-- a search goes on with a class, behind those that it has begun
+abbrev pub SearchesOn : World → ℕ → ℕ → List ℕ → List ℕ → Type 0
+SearchesOn world deeper number old new =
+    HoldsAtNumber world number (λ l. classes_at world new ≡ searched_within world (suc deeper) (classes_at world old) l)

@@ -1,0 +1,5 @@
+pub mod Defaults
+pub mod Finals
+pub mod Inside
+pub mod Packages
+pub mod Places

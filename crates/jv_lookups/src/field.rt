@@ -1,0 +1,46 @@
+//! Where a field is found (JVMS 5.4.3.2).
+
+ghost use Rattle.std.specs.Prelude.{◌<◌, length, IfSome};
+ghost use Rattle.jv_meaning_world.specs.LookUps.{lookup_field};
+ghost use Rattle.jv_meaning_world.specs.Numbers.{HoldsAtNumber};
+ghost use Rattle.jv_meaning_world.specs.Numbers.{AreNumbers};
+ghost use Rattle.jv_lookups.specs.Places.{IsFieldPlace, IsFieldFound};
+ghost use Rattle.jv_lookups.specs.Inside.Members.{field_named_in, FindsField};
+
+use crate::place::Place;
+use jv_classes::ClassTable;
+
+/// The field of a name and a descriptor that a class declares.
+fn declared_field(
+    table: &ClassTable<'_>,
+    class: usize,
+    name: &[u8],
+    descriptor: &[u8],
+) -> Option<Place>
+    requires { class < length table.now }
+    ensures found { HoldsAtNumber table.now class (λ l. IsFieldFound table.now result (field_named_in name.now descriptor.now l)) }
+    ensures place { IfSome result (IsFieldPlace table.now) }
+{
+    let member = table.classes()[class].field_named(name, descriptor)?;
+    Some(Place { class, member })
+}
+
+/// Where the field of a name and a descriptor is found from a class, by what a search from it meets
+/// (JVMS 5.4.3.2).
+pub fn lookup_field(
+    table: &ClassTable<'_>,
+    searched: &[usize],
+    name: &[u8],
+    descriptor: &[u8],
+) -> Option<Place>
+    requires { AreNumbers table.now searched.now }
+    ensures found { FindsField table.now searched.now name.now descriptor.now result }
+    ensures place { IfSome result (IsFieldPlace table.now) }
+{
+    for class in searched {
+        if let Some(place) = declared_field(table, *class, name, descriptor) {
+            return Some(place);
+        }
+    }
+    None
+}

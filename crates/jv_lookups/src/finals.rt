@@ -1,0 +1,131 @@
+//! Classes that break a final method of a superclass.
+
+ghost use Rattle.std.specs.Prelude.{◌≡◌, ◌*◌, ◌<◌, ◌≤◌, IfOk, length, map};
+ghost use Rattle.std.specs.List.{All, list_any};
+ghost use Rattle.jv_class.specs.Class.{EachIsNamed};
+ghost use Rattle.jv_meaning_world.specs.Numbers.{classes_at, AreNumbers};
+ghost use Rattle.jv_lookups.specs.Packages.{AreNumbered};
+ghost use Rattle.jv_lookups.specs.Finals.{declares_final, AreUnlike, breaks_final_at, PassesWith};
+ghost use Rattle.jv_lookups.specs.Inside.Fronts.{AreNamed, IsUpToFinal};
+ghost use Rattle.jv_lookups.specs.Inside.Overridden.{breaks_final_by};
+
+use crate::above::breaks_final_by;
+use crate::marks::Marks;
+use crate::member::is_final_instance;
+use jv_class::one_of_each_name;
+use jv_classes::LoadedClass;
+use std::alloc::{AllocError, Global};
+
+/// Whether the class declares a final instance method.
+fn declares_final(class: &LoadedClass<'_>) -> bool
+    ensures { result ≡ declares_final class.now }
+{
+    for place in 0..class.method_count() {
+        if is_final_instance(&class.method(place)) {
+            return true;
+        }
+    }
+    false
+}
+
+/// For each class, whether it declares a final instance method (JVMS 4.6).
+///
+/// # Errors
+///
+/// Where the host had no memory for them.
+pub fn final_declarers(alloc: Global, classes: &[LoadedClass<'_>]) -> Result<Vec<bool>, AllocError>
+    ensures { IfOk result (λ finals. finals.items ≡ map declares_final classes.now) }
+{
+    classes
+        .iter()
+        .map(|class| declares_final(class))
+        .collect(alloc)
+}
+
+/// The superclasses up to the last one that declares a final instance method.
+fn up_to_final<'b>(finals: &[bool], chain: &'b [usize]) -> &'b [usize]
+    requires { All (λ number. number < length finals.now) chain.now }
+    ensures { IsUpToFinal finals.now chain.now result.now }
+{
+    let mut end = chain.len();
+    while end > 0 && !finals[chain[end - 1]] {
+        end -= 1;
+    }
+    &chain[..end]
+}
+
+/// The class has one method of a name and a descriptor at most (JVMS 4.6). The call does nothing.
+fn is_named(class: &LoadedClass<'_>)
+    ensures { EachIsNamed class.now.class }
+{
+    one_of_each_name();
+    if let Some(file) = class.file() {
+        file.is_well_formed();
+    }
+}
+
+/// So have the classes with these numbers.
+fn are_named(classes: &[LoadedClass<'_>], chain: &[usize])
+    requires { AreNumbers classes.now chain.now }
+    ensures { AreNamed (classes_at classes.now chain.now) }
+{
+    for place in chain {
+        is_named(&classes[*place]);
+    }
+}
+
+/// Whether a method of the class overrides a final one of these superclasses.
+fn some_overrides_final(
+    classes: &[LoadedClass<'_>],
+    packages: &[usize],
+    marks: &mut Marks,
+    of: usize,
+    chain: &[usize],
+) -> bool
+    requires of { of < length classes.now }
+    requires chain { AreNumbers classes.now chain.now }
+    requires packages { AreNumbered classes.now packages.now }
+    requires marks { 2 * length classes.now ≤ length marks.old }
+    ensures broken { PassesWith classes.now of chain.now (λ l up. list_any (breaks_final_by l up) l.class.methods) result }
+    ensures marks { length marks.new ≡ length marks.old }
+{
+    let class = &classes[of];
+    for place in 0..class.method_count() {
+        if breaks_final_by(classes, packages, marks, of, chain, &class.method(place)) {
+            return true;
+        }
+    }
+    false
+}
+
+/// Whether the class overrides a final method of a superclass (JVMS 4.10, 5.4.5); the superclasses are
+/// those of the chain, the direct one first. `finals` says which classes declare a final instance
+/// method, `packages` has the number of each class's package, and `marks` is room for such numbers.
+///
+/// Where no superclass declares one it looks at no method; else it looks each method of the class up
+/// once in each superclass.
+pub fn breaks_final(
+    classes: &[LoadedClass<'_>],
+    finals: &[bool],
+    packages: &[usize],
+    marks: &mut Marks,
+    of: usize,
+    chain: &[usize],
+) -> bool
+    requires of { of < length classes.now }
+    requires chain { AreNumbers classes.now chain.now }
+    requires unlike { AreUnlike classes.now of chain.now }
+    requires finals { finals.now ≡ map declares_final classes.now }
+    requires packages { AreNumbered classes.now packages.now }
+    requires marks { 2 * length classes.now ≤ length marks.old }
+    ensures broken { result ≡ breaks_final_at classes.now of chain.now }
+    ensures marks { length marks.new ≡ length marks.old }
+{
+    let chain = up_to_final(finals, chain);
+    if chain.is_empty() {
+        return false;
+    }
+    is_named(&classes[of]);
+    are_named(classes, chain);
+    some_overrides_final(classes, packages, marks, of, chain)
+}

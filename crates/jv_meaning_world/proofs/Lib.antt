@@ -1,0 +1,9 @@
+pub mod Contents
+pub mod Order
+pub mod OrderAbove
+pub mod OrderChains
+pub mod OrderNames
+pub mod OrderWorked
+pub mod OrderWorlds
+pub mod Standing
+pub mod Up

@@ -1,0 +1,3 @@
+pub mod Above
+pub mod Order
+pub mod OrderLaws

@@ -1,0 +1,12 @@
+pub mod Above
+pub mod FileContent
+pub mod Flow
+pub mod FrameFlow
+pub mod Laws
+pub mod LookUps
+pub mod Numbers
+pub mod Overriding
+pub mod Rows
+pub mod System
+pub mod Verdicts
+pub mod World

@@ -1,0 +1,4 @@
+pub mod Files
+pub mod Flow
+pub mod Order
+pub mod System

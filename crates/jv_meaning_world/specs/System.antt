@@ -1,0 +1,9 @@
+pub mod Classes
+pub mod Interfaces
+pub mod Io
+pub mod Members
+pub mod Mnemonics
+pub mod Object
+pub mod String
+pub mod Throwable
+pub mod Throwables

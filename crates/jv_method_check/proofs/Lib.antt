@@ -1,4 +1,0 @@
-pub mod EntryWords
-pub mod Environments
-pub mod Parts
-pub mod Judging

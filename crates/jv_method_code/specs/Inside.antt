@@ -1,3 +1,0 @@
-pub mod Kept
-pub mod Walk
-pub mod Settled

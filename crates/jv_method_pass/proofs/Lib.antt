@@ -1,0 +1,16 @@
+pub mod Behind
+pub mod CaughtTypes
+pub mod CodeFound
+pub mod EntriesMade
+pub mod FlowsInto
+pub mod FramesAtInstructions
+pub mod FramesSpelled
+pub mod Lists
+pub mod MapFrames
+pub mod Passing
+pub mod SameTypes
+pub mod Settings
+pub mod Settling
+pub mod Switching
+pub mod Tests
+pub mod Walking

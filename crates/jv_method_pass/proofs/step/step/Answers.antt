@@ -1,0 +1,121 @@
+use Rattle.std.proofs.Common.{refl, ap, subst, ◌∙◌}
+use Rattle.jv_code.specs.Insns.{instruction_of}
+use Rattle.jv_types.specs.Numbered.{frame_of}
+use Rattle.jv_method_pass.specs.Pass.{Pass, maps_of, names_in}
+use Rattle.jv_method_pass.specs.Inside.Kept.{IsPass}
+use Rattle.jv_method_pass.specs.Inside.Walk.{Stands}
+use Rattle.jv_method_pass.proofs.Walking.{stand, merge_broken, handler_broken, instruction_broken, target_broken, goes_on}
+use Rattle.jv_method_pass.proofs.FlowsInto.{applied, is_left, is_none_left, as_many}
+use Rattle.jv_method_pass.proofs.Settling.{if_some, now_settled, still_settled}
+use Rattle.jv_method_pass.proofs.step.step.Goals as goal
+
+pub returns-then-not-branch-clause-step : goal.returns-then-not-branch-clause-step
+returns-then-not-branch-clause-step c = λ env is at r.
+    let pass = c.args.pass.now in
+    merge_broken c.stands_in_list.ensures c.starts_apart.ensures env is.is (maps_of pass) c.args.offset (instruction_of c.args.insn.now) _ at r
+    (is_none_left (names_in pass) _ c.merge.new.frame _ c.if-not-branch.true (c.in_ok-merge.ensures.merged env is))
+
+pub returns-then-not-is_handled-clause-step : goal.returns-then-not-is_handled-clause-step
+returns-then-not-is_handled-clause-step c = λ env is at r.
+    let pass = c.args.pass.now in
+    let x = frame_of (names_in pass) c.merge.new.frame in
+    let here : Stands env (maps_of pass) c.args.offset x =
+    stand c.stands_in_list.ensures c.starts_apart.ensures env is.is (maps_of pass) c.args.offset x _ r (is_left (names_in pass) _ c.merge.new.frame _ c.if-not-branch.false (c.in_ok-merge.ensures.merged env is)) in
+    handler_broken c.stands_in_list.ensures c.starts_apart.ensures env is.is (maps_of pass) c.args.offset (instruction_of c.args.insn.now) x at here (c.if-not-is_handled.ensures env is)
+
+pub returns-then-not-branch-2-clause-step : goal.returns-then-not-branch-2-clause-step
+returns-then-not-branch-2-clause-step c = λ env is at r.
+    let pass = c.args.pass.now in
+    let entries = c.pass.inside.initial.now in
+    let count = c.pass.inside.words in
+    let kept : IsPass pass entries count = subst (λ (p : Pass). IsPass p entries count) c.pass.view_is c.pass.invariant in
+    let insn = instruction_of c.args.insn.now in
+    let x = frame_of (names_in pass) c.merge.new.frame in
+    let here : Stands env (maps_of pass) c.args.offset x =
+    stand c.stands_in_list.ensures c.starts_apart.ensures env is.is (maps_of pass) c.args.offset x _ r (is_left (names_in pass) _ c.merge.new.frame _ c.if-not-branch.false (c.in_ok-merge.ensures.merged env is)) in
+    instruction_broken c.stands_in_list.ensures c.starts_apart.ensures env is.is (maps_of pass) c.args.offset insn x at here (c.if-not-is_handled.ensures env is)
+    (is_none_left (names_in pass) _ c.apply.new.frame _ c.if-not-branch-2.true
+    (applied pass entries count kept env is c.pass.inside.context.now insn c.merge.new.frame c.apply.new.frame _ c.args.offset _ (ap (λ (p : Pass). p.context) c.pass.view_is)
+    refl c.in_ok-apply.ensures))
+
+pub targets_hold-requires : goal.targets_hold-requires
+targets_hold-requires c =
+    let pass = c.args.pass.now in
+    let entries = c.pass.inside.initial.now in
+    let count = c.pass.inside.words in
+    let kept : IsPass pass entries count = subst (λ (p : Pass). IsPass p entries count) c.pass.view_is c.pass.invariant in
+    let env = c.requires.method.0 in
+    let is = c.requires.method.1 in
+    let insn = instruction_of c.args.insn.now in
+    as_many c.keeps_local_count.ensures env c.args.offset insn (names_in pass) c.merge.new.frame c.apply.new.frame
+    (is_left (names_in pass) _ c.apply.new.frame _ c.if-not-branch-2.false
+    (applied pass entries count kept env is c.pass.inside.context.now insn c.merge.new.frame c.apply.new.frame _ c.args.offset _ (ap (λ (p : Pass). p.context) c.pass.view_is)
+    refl c.in_ok-apply.ensures))
+    ∙ c.merge.ensures.locals
+
+pub returns-then-not-targets_hold-clause-step : goal.returns-then-not-targets_hold-clause-step
+returns-then-not-targets_hold-clause-step c = λ env is at r.
+    let pass = c.args.pass.now in
+    let entries = c.pass.inside.initial.now in
+    let count = c.pass.inside.words in
+    let kept : IsPass pass entries count = subst (λ (p : Pass). IsPass p entries count) c.pass.view_is c.pass.invariant in
+    let insn = instruction_of c.args.insn.now in
+    let x = frame_of (names_in pass) c.merge.new.frame in
+    let here : Stands env (maps_of pass) c.args.offset x =
+    stand c.stands_in_list.ensures c.starts_apart.ensures env is.is (maps_of pass) c.args.offset x _ r (is_left (names_in pass) _ c.merge.new.frame _ c.if-not-branch.false (c.in_ok-merge.ensures.merged env is)) in
+    target_broken c.stands_in_list.ensures c.starts_apart.ensures env is.is (maps_of pass) c.args.offset insn x (frame_of (names_in pass) c.apply.new.frame) at here (c.if-not-is_handled.ensures env is)
+    (is_left (names_in pass) _ c.apply.new.frame _ c.if-not-branch-2.false
+    (applied pass entries count kept env is c.pass.inside.context.now insn c.merge.new.frame c.apply.new.frame _ c.args.offset _ (ap (λ (p : Pass). p.context) c.pass.view_is)
+    refl c.in_ok-apply.ensures))
+    (c.if-not-targets_hold.ensures env is)
+
+pub returns-clause-step : goal.returns-clause-step
+returns-clause-step c = λ env is at r.
+    let pass = c.args.pass.now in
+    let entries = c.pass.inside.initial.now in
+    let count = c.pass.inside.words in
+    let kept : IsPass pass entries count = subst (λ (p : Pass). IsPass p entries count) c.pass.view_is c.pass.invariant in
+    let insn = instruction_of c.args.insn.now in
+    let x = frame_of (names_in pass) c.merge.new.frame in
+    let here : Stands env (maps_of pass) c.args.offset x =
+    stand c.stands_in_list.ensures c.starts_apart.ensures env is.is (maps_of pass) c.args.offset x _ r (is_left (names_in pass) _ c.merge.new.frame _ c.if-not-branch.false (c.in_ok-merge.ensures.merged env is)) in
+    goes_on c.stands_in_list.ensures c.starts_apart.ensures env is.is (maps_of pass) c.args.offset insn x (frame_of (names_in pass) c.apply.new.frame) at here (c.if-not-is_handled.ensures env is)
+    (is_left (names_in pass) _ c.apply.new.frame _ c.if-not-branch-2.false
+    (applied pass entries count kept env is c.pass.inside.context.now insn c.merge.new.frame c.apply.new.frame _ c.args.offset _ (ap (λ (p : Pass). p.context) c.pass.view_is)
+    refl c.in_ok-apply.ensures))
+    (c.if-not-targets_hold.ensures env is)
+
+pub returns-clause-locals : goal.returns-clause-locals
+returns-clause-locals c = λ none.
+    let pass = c.args.pass.now in
+    let entries = c.pass.inside.initial.now in
+    let count = c.pass.inside.words in
+    let kept : IsPass pass entries count = subst (λ (p : Pass). IsPass p entries count) c.pass.view_is c.pass.invariant in
+    let env = c.requires.method.0 in
+    let is = c.requires.method.1 in
+    let insn = instruction_of c.args.insn.now in
+    as_many c.keeps_local_count.ensures env c.args.offset insn (names_in pass) c.merge.new.frame c.apply.new.frame
+    (is_left (names_in pass) _ c.apply.new.frame _ c.if-not-branch-2.false
+    (applied pass entries count kept env is c.pass.inside.context.now insn c.merge.new.frame c.apply.new.frame _ c.args.offset _ (ap (λ (p : Pass). p.context) c.pass.view_is)
+    refl c.in_ok-apply.ensures))
+    ∙ c.merge.ensures.locals
+
+pub is_handled-requires-clause-settled : goal.is_handled-requires-clause-settled
+is_handled-requires-clause-settled c = λ env is.
+    let pass = c.args.pass.now in
+    still_settled env (maps_of pass) c.args.settled c.settled_at-settled.result c.args.falls (frame_of (names_in pass) c.args.frame.now) (frame_of (names_in pass) c.merge.new.frame) _
+    c.settled_at-settled.ensures.same (if_some c.settled_at-settled.result (λ before there. there env is) c.settled_at-settled.ensures.map)
+    (is_left (names_in pass) _ c.merge.new.frame _ c.if-not-branch.false (c.in_ok-merge.ensures.merged env is)) (c.requires.settled env is)
+
+pub returns-clause-settled : goal.returns-clause-settled
+returns-clause-settled c = λ env is keeps none.
+    let pass = c.args.pass.now in
+    let entries = c.pass.inside.initial.now in
+    let count = c.pass.inside.words in
+    let kept : IsPass pass entries count = subst (λ (p : Pass). IsPass p entries count) c.pass.view_is c.pass.invariant in
+    let insn = instruction_of c.args.insn.now in
+    let x = frame_of (names_in pass) c.merge.new.frame in
+    now_settled env (maps_of pass) c.leaves_locals.ensures c.args.offset insn x (frame_of (names_in pass) c.apply.new.frame) keeps (c.if-not-is_handled.ensures env is)
+    (is_left (names_in pass) _ c.apply.new.frame _ c.if-not-branch-2.false
+    (applied pass entries count kept env is c.pass.inside.context.now insn c.merge.new.frame c.apply.new.frame _ c.args.offset _ (ap (λ (p : Pass). p.context) c.pass.view_is)
+    refl c.in_ok-apply.ensures))

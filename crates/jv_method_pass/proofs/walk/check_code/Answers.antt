@@ -1,0 +1,24 @@
+use Rattle.std.proofs.Common.{◌≡◌, Some, length, ap, subst, ◌∙◌}
+use Rattle.std.proofs.lemmas.List.{length-replicate}
+use Rattle.jv_frames.specs.Frames.{Frame}
+use Rattle.jv_frames.specs.declared.verification.VerificationTypeOf.TheVariants as variants
+use Rattle.jv_types.specs.Numbered.{Item, NumberFrame}
+use Rattle.jv_method_pass.specs.Pass.{Pass, maps_of}
+use Rattle.jv_method_pass.specs.Inside.Kept.{IsPass}
+use Rattle.jv_method_pass.specs.Inside.Walk.{Reaches}
+use Rattle.jv_method_pass.proofs.Walking.{begins}
+use Rattle.jv_method_pass.proofs.FlowsInto.{first_is}
+use Rattle.jv_method_pass.proofs.walk.check_code.Goals as goal
+
+pub returns : goal.returns
+returns c = λ env is.
+    let pass = c.args.pass.now in
+    let entries = c.pass.inside.initial.now in
+    let count = c.pass.inside.words in
+    let kept : IsPass pass entries count = subst (λ (p : Pass). IsPass p entries count) c.pass.view_is c.pass.invariant in
+    let many : length c.in_ok-frame.frame.locals ≡ pass.max_locals =
+    ap (λ (f : NumberFrame). length f.locals) c.in_ok-frame.ensures
+    ∙ (length-replicate {A = Item} c.pass.inside.max_locals variants.Top ∙ ap (λ (p : Pass). p.max_locals) c.pass.view_is) in
+    c.walk.ensures env is
+    (subst (λ (f : Frame). Reaches env (maps_of pass) 0 (Some f)) (first_is pass entries count kept env is c.set_to_initial.new.frame (length c.in_ok-frame.frame.locals) many c.set_to_initial.ensures.frame)
+    (begins c.stands_in_list.ensures c.starts_apart.ensures env is.is (maps_of pass)))

@@ -1,0 +1,5 @@
+pub mod Kept
+pub mod Locals
+pub mod Parts
+pub mod Settled
+pub mod Walk

@@ -1,0 +1,35 @@
+-- Handlers that are known to hold, since nothing that they ask of has changed since an instruction before.
+use Rattle.std.specs.Prelude.{ℕ, Bool, false, not, ◌||◌, List, [], Option, Some, None, IsTrue, ⊤}
+use Rattle.std.specs.List.{list_all}
+use Rattle.jv_format.specs.declared.handlers.Handler.{Handler}
+use Rattle.jv_code.specs.Insns.{Instruction}
+use Rattle.jv_frames.specs.Frames.{Frame, PlacedFrame}
+use Rattle.jv_meaning_typing.specs.Environment.{Environment}
+use Rattle.jv_meaning_typing.specs.FrameChanges.{with_stack}
+use Rattle.jv_meaning_typing.specs.Rule.{handler_frame}
+use Rattle.jv_meaning_typing.specs.Typing.{covers, handles}
+use Rattle.jv_types.specs.Numbered.{NumberFrame, frame_of}
+use Rattle.jv_method_pass.specs.Pass.{Pass, IsOfPass, maps_of, names_in}
+
+-- the handler covers the instruction at which those that cover it are known to hold
+abbrev pub is_settled : Option ℕ → Handler → Bool
+is_settled None handler = false
+is_settled (Some before) handler = covers handler before
+
+-- each handler that covers an instruction is settled, or holds
+abbrev pub hold_where_unsettled : Option ℕ → Environment → List PlacedFrame → ℕ → Instruction → Frame → Bool
+hold_where_unsettled settled env maps pc insn frame =
+    list_all (λ h. not (covers h pc) || is_settled settled h || handles env maps (handler_frame env insn frame) h) env.code.exception_table
+
+-- the handlers that cover an instruction hold with the local variables and the flag of a frame
+abbrev pub hold_with : Environment → List PlacedFrame → ℕ → Frame → Bool
+hold_with env maps pc frame = list_all (λ h. not (covers h pc) || handles env maps (with_stack frame []) h) env.code.exception_table
+
+abbrev pub AreSettled : Environment → List PlacedFrame → Option ℕ → Frame → Type 0
+AreSettled env maps None frame = ⊤
+AreSettled env maps (Some before) frame = IsTrue (hold_with env maps before frame)
+
+-- in every environment of a method
+abbrev pub AreSettledIn : Pass → Option ℕ → NumberFrame → Type 0
+AreSettledIn pass settled frame =
+    (env : Environment) → IsOfPass pass env → AreSettled env (maps_of pass) settled (frame_of (names_in pass) frame)

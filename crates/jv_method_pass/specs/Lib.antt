@@ -1,0 +1,5 @@
+pub mod Found
+pub mod Inside
+pub mod Mapped
+pub mod Pass
+pub mod Tables

@@ -1,0 +1,98 @@
+//! Handlers that cover an instruction (JVMS 4.10.1.6).
+
+ghost use Rattle.std.specs.Prelude.{◌≡◌, ◌&&◌, ◌||◌, not, length};
+ghost use Rattle.std.specs.Option.{option_map};
+ghost use Rattle.jv_code.specs.Insns.{Instruction};
+ghost use Rattle.jv_meaning_typing.specs.Environment.{Environment};
+ghost use Rattle.jv_meaning_typing.specs.Rule.{constructed_object, handler_frame};
+ghost use Rattle.jv_meaning_typing.specs.Typing.{covers, handles};
+ghost use Rattle.jv_types.specs.Typed.{typed};
+ghost use Rattle.jv_types.specs.Numbered.{frame_of};
+ghost use Rattle.jv_method_pass.specs.Pass.{IsOfPass, maps_of, names_in};
+ghost use Rattle.jv_method_pass.specs.Inside.Settled.{is_settled, hold_where_unsettled};
+
+use crate::flowing::thrown_flows;
+use crate::pass::Pass;
+use jv_format::Handler;
+use jv_types::{Item, TypeFrame};
+
+/// Whether the frame with which a handler begins, without an object that is constructed, flows to that of the map there.
+fn handles(
+    pass: &Pass<'_, '_, '_, '_, '_>,
+    frame: &TypeFrame,
+    object: Option<Item>,
+    handler: Handler,
+) -> bool
+    requires { length frame.now.locals ≡ pass.now.max_locals }
+    ensures { (env : Environment) (insn : Instruction) → IsOfPass pass.now env
+        → option_map (typed (names_in pass.now)) object ≡ constructed_object env insn (frame_of (names_in pass.now) frame.now)
+        → result ≡ handles env (maps_of pass.now) (handler_frame env insn (frame_of (names_in pass.now) frame.now)) handler }
+{
+    let Some(thrown) = pass.catch_type(handler.catch_type) else {
+        return false;
+    };
+    match pass.map_at(u32::from(handler.handler_pc)) {
+        Some(map) => thrown_flows(pass.types, frame, object, thrown, &map),
+        None => false,
+    }
+}
+
+fn covers(handler: Handler, offset: u32) -> bool
+    ensures { result ≡ covers handler offset }
+{
+    u32::from(handler.start_pc) <= offset && offset < u32::from(handler.end_pc)
+}
+
+/// Whether a handler covers the instruction at which those that cover it are known to hold.
+fn is_settled(settled: Option<u32>, handler: Handler) -> bool
+    ensures { result ≡ is_settled settled handler }
+{
+    match settled {
+        Some(before) => covers(handler, before),
+        None => false,
+    }
+}
+
+/// Whether a handler covers no instruction at an offset, is settled, or what it begins with flows to the frame of the map there.
+fn handler_holds(
+    pass: &Pass<'_, '_, '_, '_, '_>,
+    frame: &TypeFrame,
+    object: Option<Item>,
+    settled: Option<u32>,
+    offset: u32,
+    handler: Handler,
+) -> bool
+    requires { length frame.now.locals ≡ pass.now.max_locals }
+    ensures { (env : Environment) (insn : Instruction) → IsOfPass pass.now env
+        → option_map (typed (names_in pass.now)) object ≡ constructed_object env insn (frame_of (names_in pass.now) frame.now)
+        → result ≡ (not (covers handler offset) || is_settled settled handler || handles env (maps_of pass.now) (handler_frame env insn (frame_of (names_in pass.now) frame.now)) handler) }
+{
+    !covers(handler, offset)
+        || is_settled(settled, handler)
+        || handles(pass, frame, object, handler)
+}
+
+/// Whether each handler that covers an instruction, which constructs this object or none, is settled or holds.
+pub(crate) fn handlers_hold(
+    pass: &Pass<'_, '_, '_, '_, '_>,
+    frame: &TypeFrame,
+    object: Option<Item>,
+    settled: Option<u32>,
+    offset: u32,
+) -> bool
+    requires { length frame.now.locals ≡ pass.now.max_locals }
+    ensures { (env : Environment) (insn : Instruction) → IsOfPass pass.now env
+        → option_map (typed (names_in pass.now)) object ≡ constructed_object env insn (frame_of (names_in pass.now) frame.now)
+        → result ≡ hold_where_unsettled settled env (maps_of pass.now) offset insn (frame_of (names_in pass.now) frame.now) }
+{
+    let table = pass.handlers;
+    for place in 0..table.len() {
+        let Some(handler) = table.handler(place) else {
+            unreachable!();
+        };
+        if !handler_holds(pass, frame, object, settled, offset, handler) {
+            return false;
+        }
+    }
+    true
+}

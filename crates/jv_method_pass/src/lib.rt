@@ -1,0 +1,23 @@
+//! One pass over the instructions of a method (JVMS 4.10.1.6): its handlers and its stack map against the rules on the whole
+//! code, then a frame that goes from instruction to instruction, against the map's. A room of `jv_method`.
+#![tactic(auto)]
+
+mod catching;
+mod entries;
+mod fault;
+mod flowing;
+mod handlers;
+mod maps;
+mod pass;
+mod setting;
+mod standing;
+mod step;
+mod targets;
+mod walk;
+
+pub use catching::handlers_hold;
+pub use entries::EntryTypes;
+pub use fault::CodeFault;
+pub use maps::read_map;
+pub use pass::Pass;
+pub use walk::check_code;

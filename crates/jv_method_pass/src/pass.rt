@@ -1,0 +1,109 @@
+//! A method whose code is checked.
+
+ghost use Rattle.std.specs.Prelude.{◌≡◌, ◌≤◌, ℕ, List, IfSome};
+ghost use Rattle.std.specs.List.{All};
+ghost use Rattle.std.specs.Option.{option_map};
+ghost use Rattle.jv_format.specs.Handlers.{handlers_of};
+ghost use Rattle.jv_frames.specs.Types.{words};
+ghost use Rattle.jv_meaning_typing.specs.Environment.{Environment};
+ghost use Rattle.jv_meaning_typing.specs.Typing.{catch_type, frame_at};
+ghost use Rattle.jv_types.specs.Typed.{typed, typed_all};
+ghost use Rattle.jv_method_pass.specs.Pass.{IsOfPass, HasRoom, names_in, IsFrameAt};
+
+use crate::catching::catch_type;
+use crate::entries::EntryTypes;
+use jv_format::ExceptionTable;
+use jv_frames::{MapFrame, MapFrames, offsets_rise};
+use jv_rules::MethodContext;
+use jv_types::Item;
+use std::marker::Model;
+
+/// A method whose code is checked: what the rules ask of it, its initial local entries, with their words, its handlers, and
+/// the frames of its stack map.
+pub struct Pass<'p, 'm, 'e, 't, 'a> {
+    pub(crate) context: &'p MethodContext<'m, 'e, 't, 'a>,
+    pub(crate) types: &'p EntryTypes<'e, 't, 'a>,
+    pub(crate) initial: &'p [Item],
+    pub(crate) words: u16,
+    pub(crate) max_locals: u16,
+    pub(crate) handlers: ExceptionTable<'a>,
+    frames: &'p MapFrames,
+}
+
+impl<'p, 'm, 'e, 't, 'a> Model for Pass<'p, 'm, 'e, 't, 'a> {
+    ghost use Rattle.jv_format.specs.Handlers.{handlers_of};
+    ghost use Rattle.jv_method_pass.specs.Pass.{Pass};
+    ghost use Rattle.jv_method_pass.specs.Inside.Kept.{IsPass};
+
+    ghost Value = { Pass };
+
+    ghost view = { λ p. record { context = p.context.now; types = p.types.now; max_locals = p.max_locals; handlers = handlers_of p.handlers; frames = p.frames.now } };
+
+    ghost invariant = { λ p. IsPass (record { context = p.context.now; types = p.types.now; max_locals = p.max_locals; handlers = handlers_of p.handlers; frames = p.frames.now }) p.initial.now p.words };
+}
+
+impl Drop for Pass<'_, '_, '_, '_, '_> {
+    fn drop(self) {
+        let Pass {
+            context: _,
+            types: _,
+            initial: _,
+            words: _,
+            max_locals: _,
+            handlers: _,
+            frames: _,
+        } = self;
+    }
+}
+
+impl<'p, 'm, 'e, 't, 'a> Pass<'p, 'm, 'e, 't, 'a> {
+    /// A method in a context, whose initial local entries, the first first, have these types and so many words.
+    pub fn new(
+        context: &'p MethodContext<'m, 'e, 't, 'a>,
+        types: &'p EntryTypes<'e, 't, 'a>,
+        initial: &'p [Item],
+        count: u16,
+        max_locals: u16,
+        handlers: ExceptionTable<'a>,
+        frames: &'p MapFrames,
+    ) -> Pass<'p, 'm, 'e, 't, 'a>
+        requires types { types.now.constants.types ≡ context.now.class.types }
+        requires pool { types.now.constants.pool ≡ context.now.class.by.class.constant_pool }
+        requires initial { types.now.initial ≡ initial.now }
+        requires words { (names : List (List ℕ)) → count ≡ words (typed_all names initial.now) }
+        requires room { count ≤ max_locals }
+        requires frames { All (HasRoom types.now max_locals) frames.now }
+        ensures context { result.context ≡ context.now }
+        ensures types { result.types ≡ types.now }
+        ensures locals { result.max_locals ≡ max_locals }
+        ensures handlers { result.handlers ≡ handlers_of handlers.entry }
+        ensures frames { result.frames ≡ frames.now }
+    {
+        Pass {
+            context,
+            types,
+            initial,
+            words: count,
+            max_locals,
+            handlers,
+            frames,
+        }
+    }
+
+    /// The frame of the stack map at an offset, where there is one.
+    pub(crate) fn map_at(&self, offset: u32) -> Option<MapFrame<'p>>
+        ensures frame { IsFrameAt self.now offset result }
+        ensures room { IfSome result (HasRoom self.now.types self.now.max_locals) }
+    {
+        offsets_rise();
+        let place = self.frames.place_of(offset)?;
+        Some(self.frames.frame_at(place))
+    }
+
+    /// The type that a handler with this index catches; `None` where the index names none.
+    pub(crate) fn catch_type(&self, index: u16) -> Option<Item>
+        ensures { (env : Environment) → IsOfPass self.now env → option_map (typed (names_in self.now)) result ≡ catch_type env index }
+    {
+        catch_type(self.context.class().constants(), index)
+    }
+}

@@ -1,0 +1,126 @@
+//! A step over an instruction.
+
+ghost use Rattle.std.specs.Prelude.{◌≡◌, ◌<◌, None, Some, IfOk, IfSome, IsTrue, length};
+ghost use Rattle.jv_code.specs.Insns.{instruction_of};
+ghost use Rattle.jv_meaning_typing.specs.Environment.{Environment, instruction_at};
+ghost use Rattle.jv_meaning_typing.specs.Typing.{frame_at, handlers_hold};
+ghost use Rattle.jv_rules.specs.Laws.{keeps_locals};
+ghost use Rattle.jv_types.specs.Numbered.{frame_of};
+ghost use Rattle.jv_method_pass.specs.Pass.{IsOfPass, maps_of, names_in, Tests};
+ghost use Rattle.jv_method_pass.specs.Inside.Settled.{AreSettled, AreSettledIn};
+ghost use Rattle.jv_method_pass.specs.Inside.Walk.{Reaches, IsStep, merged, when_falls, IsMerged};
+
+use crate::flowing::frame_flows;
+use crate::handlers::handlers_hold;
+use crate::pass::Pass;
+use crate::setting::set_to_map;
+use crate::targets::targets_hold;
+use jv_code::{Insn, stands_in_list, starts_apart};
+use jv_meaning_typing::VerifyRule;
+use jv_rules::{apply, constructed_object, keeps_local_count, leaves_locals};
+use jv_types::{Item, TypeFrame};
+use std::alloc::AllocError;
+
+/// Makes what falls into an instruction, or none does, the frame before it, and says whether there is one.
+fn merge(
+    pass: &Pass<'_, '_, '_, '_, '_>,
+    frame: &mut TypeFrame,
+    falls: bool,
+    offset: u32,
+) -> Result<bool, AllocError>
+    requires { length frame.old.locals ≡ pass.now.max_locals }
+    ensures merged { IsMerged pass.now offset falls frame.old frame.new result }
+    ensures locals { length frame.new.locals ≡ pass.now.max_locals }
+{
+    let Some(map) = pass.map_at(offset) else {
+        return Ok(falls);
+    };
+    if falls && !frame_flows(pass.types, frame, &map) {
+        return Ok(false);
+    }
+    set_to_map(pass.types, frame, &map)?;
+    Ok(true)
+}
+
+/// The instruction before at which handlers are settled, where no frame of the map stands at an offset.
+fn settled_at(pass: &Pass<'_, '_, '_, '_, '_>, settled: Option<u32>, offset: u32) -> Option<u32>
+    ensures same { IfSome result (λ before. settled ≡ Some before) }
+    ensures map { IfSome result (λ before. (env : Environment) → IsOfPass pass.now env → frame_at (maps_of pass.now) offset ≡ None) }
+{
+    if pass.handlers.len() == 0 {
+        return None;
+    }
+    match pass.map_at(offset) {
+        Some(_) => None,
+        None => settled,
+    }
+}
+
+/// Where no object is constructed, what is settled.
+fn settled_without(object: Option<Item>, settled: Option<u32>) -> Option<u32>
+    ensures same { IfSome result (λ before. settled ≡ Some before) }
+    ensures object { IfSome result (λ before. object ≡ None) }
+{
+    match object {
+        Some(_) => None,
+        None => settled,
+    }
+}
+
+/// Whether the handlers that cover an instruction hold; those that are settled are not looked at again.
+fn is_handled(
+    pass: &Pass<'_, '_, '_, '_, '_>,
+    frame: &TypeFrame,
+    settled: Option<u32>,
+    offset: u32,
+    insn: &Insn<&[u8]>,
+) -> bool
+    requires locals { length frame.now.locals ≡ pass.now.max_locals }
+    requires settled { AreSettledIn pass.now settled frame.now }
+    ensures { Tests pass.now (λ env maps f. handlers_hold env maps offset (instruction_of insn.now) f) frame.now result }
+{
+    let object = constructed_object(pass.context, frame, insn);
+    let settled = settled_without(object, settled);
+    handlers_hold(pass, frame, object, settled, offset)
+}
+
+/// Goes over an instruction, and answers the first rule that is broken there, if one is. The frame is what falls into the
+/// instruction, where it falls, and then what is left. Handlers that cover the instruction at the settled offset hold with it.
+pub(crate) fn step(
+    pass: &Pass<'_, '_, '_, '_, '_>,
+    frame: &mut TypeFrame,
+    falls: bool,
+    settled: Option<u32>,
+    offset: u32,
+    insn: &Insn<&[u8]>,
+) -> Result<Option<VerifyRule>, AllocError>
+    requires locals { length frame.old.locals ≡ pass.now.max_locals }
+    requires settled { AreSettledIn pass.now settled frame.old }
+    requires offset { offset < 65536 }
+    requires method { (env : Environment) × IsOfPass pass.now env }
+    ensures step { (env : Environment) → IsOfPass pass.now env → instruction_at env offset ≡ Some (instruction_of insn.now)
+        → Reaches env (maps_of pass.now) offset (when_falls falls (frame_of (names_in pass.now) frame.old))
+        → IfOk result (IsStep env (maps_of pass.now) offset (instruction_of insn.now) (frame_of (names_in pass.now) frame.new)) }
+    ensures locals { IfOk result (λ found. found ≡ None → length frame.new.locals ≡ pass.now.max_locals) }
+    ensures settled { (env : Environment) → IsOfPass pass.now env → IsTrue (keeps_locals (instruction_of insn.now))
+        → IfOk result (λ found. found ≡ None → AreSettled env (maps_of pass.now) (Some offset) (frame_of (names_in pass.now) frame.new)) }
+{
+    stands_in_list();
+    starts_apart();
+    keeps_local_count();
+    leaves_locals();
+    if !merge(pass, frame, falls, offset)? {
+        return Ok(Some(VerifyRule::Merge));
+    }
+    let settled = settled_at(pass, settled, offset);
+    if !is_handled(pass, frame, settled, offset, insn) {
+        return Ok(Some(VerifyRule::CoveredHandler));
+    }
+    if !apply(pass.context, frame, offset as u16, insn)? {
+        return Ok(Some(VerifyRule::Instruction));
+    }
+    if !targets_hold(pass, frame, offset, insn) {
+        return Ok(Some(VerifyRule::BranchTarget));
+    }
+    Ok(None)
+}

@@ -1,0 +1,84 @@
+//! The pass over a method's code.
+
+ghost use Rattle.std.specs.Prelude.{◌≡◌, None, Some, IfOk, length, if◌then◌else◌};
+ghost use Rattle.jv_code.specs.Insns.{instruction_of};
+ghost use Rattle.jv_meaning_typing.specs.Environment.{Environment};
+ghost use Rattle.jv_rules.specs.Laws.{keeps_locals};
+ghost use Rattle.jv_method_pass.specs.Pass.{IsOfPass, maps_of};
+ghost use Rattle.jv_method_pass.specs.Found.{IsFound};
+ghost use Rattle.jv_method_pass.specs.Inside.Walk.{IsFoundFrom};
+
+use crate::fault::CodeFault;
+use crate::pass::Pass;
+use crate::setting::set_to_initial;
+use crate::step::step;
+use jv_code::{Insn, falls_through, stands_in_list, starts_apart};
+use jv_meaning_typing::VerifyRule;
+use jv_rules::keeps_locals;
+use jv_types::TypeFrame;
+use std::alloc::{AllocError, Global};
+
+/// The offset of an instruction that leaves handlers settled: it keeps what they ask of.
+fn settled_by(insn: &Insn<&[u8]>, offset: u32) -> Option<u32>
+    ensures { result ≡ (if keeps_locals (instruction_of insn.now) then Some offset else None) }
+{
+    if keeps_locals(insn) {
+        Some(offset)
+    } else {
+        None
+    }
+}
+
+/// Goes over all instructions from the first on, before which the frame stands.
+fn walk(
+    pass: &Pass<'_, '_, '_, '_, '_>,
+    frame: &mut TypeFrame,
+) -> Result<Option<CodeFault>, AllocError>
+    requires locals { length frame.old.locals ≡ pass.now.max_locals }
+    requires method { (env : Environment) × IsOfPass pass.now env }
+    ensures { IsFoundFrom pass.now frame.old result }
+{
+    stands_in_list();
+    starts_apart();
+    let code = pass.context.code();
+    let size = code.size();
+    let mut falls = true;
+    let mut settled = None;
+    let mut offset = 0;
+    while offset < size {
+        let (insn, next) = code.insn_at(offset);
+        if let Some(rule) = step(pass, frame, falls, settled, offset, &insn)? {
+            return Ok(Some(CodeFault { offset, rule }));
+        }
+        falls = falls_through(&insn);
+        if falls && next == size {
+            return Ok(Some(CodeFault {
+                offset,
+                rule: VerifyRule::EndOfCode,
+            }));
+        }
+        settled = settled_by(&insn, offset);
+        offset = next;
+    }
+    Ok(None)
+}
+
+/// Checks the code of a method whose handlers and stack map keep their rules: the first rule that is broken at the least
+/// offset, if one is.
+///
+/// # Errors
+///
+/// Where the host had no memory for the frame.
+pub fn check_code(
+    alloc: Global,
+    pass: &Pass<'_, '_, '_, '_, '_>,
+) -> Result<Option<CodeFault>, AllocError>
+    requires { (env : Environment) × IsOfPass pass.now env }
+    ensures { (env : Environment) → IsOfPass pass.now env → IfOk result (IsFound env (maps_of pass.now)) }
+{
+    stands_in_list();
+    starts_apart();
+    let mut frame = TypeFrame::new(alloc, pass.max_locals)?;
+    set_to_initial(&mut frame, pass.initial, pass.words);
+    walk(pass, &mut frame)
+}

@@ -1,5 +1,0 @@
-pub mod Naming
-pub mod Marking
-pub mod Guarding
-pub mod Keeping
-pub mod OfClass

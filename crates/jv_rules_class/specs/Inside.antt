@@ -1,4 +1,0 @@
-pub mod Named
-pub mod Marked
-pub mod Guarded
-pub mod Kept

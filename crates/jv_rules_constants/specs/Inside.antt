@@ -1,2 +1,0 @@
-pub mod Lasting
-pub mod Kept

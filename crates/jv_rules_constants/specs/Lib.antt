@@ -1,2 +1,0 @@
-pub mod PoolTypes
-pub mod Inside

@@ -1,5 +1,0 @@
-use Rattle.std.proofs.Common.{rules}
-use Rattle.jv_rules_members.proofs.constructors.take_constructed.Goals as goal
-
-pub returns-then-take : goal.returns-then-take
-returns-then-take c = search rules

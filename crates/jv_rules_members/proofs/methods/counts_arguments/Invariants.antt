@@ -1,9 +1,0 @@
-use Rattle.std.proofs.Common.{◌≡◌, ◌+◌, nat_eq, length}
-use Rattle.jv_rules_frames.specs.Numbered.{stack_words}
-use Rattle.jv_rules_members.proofs.methods.counts_arguments.Given as goal
-
-abbrev pub invariant-loop-item : goal.invariant-loop-item
-invariant-loop-item l = nat_eq l.rest (stack_words l.left + 1) ≡ nat_eq l.count (stack_words l.arguments + 1)
-
-abbrev pub decreases-loop-item : goal.decreases-loop-item
-decreases-loop-item l = length l.left

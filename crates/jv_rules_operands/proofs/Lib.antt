@@ -1,4 +1,0 @@
-pub mod Plain
-pub mod Members
-pub mod Called
-pub mod Arrays

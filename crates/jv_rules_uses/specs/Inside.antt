@@ -1,2 +1,0 @@
-pub mod Used
-pub mod Constructed

@@ -1,0 +1,4 @@
+pub mod Components
+pub mod Numbered
+pub mod Replacing
+pub mod Storing

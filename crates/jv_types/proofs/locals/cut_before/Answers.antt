@@ -1,0 +1,9 @@
+use Rattle.std.proofs.Common.{◌∙◌, sym}
+use Rattle.jv_types.proofs.Storing.{set_before, same_before}
+use Rattle.jv_types.proofs.locals.cut_before.Goals as goal
+
+pub returns-then-is_long-clause-cut : goal.returns-then-is_long-clause-cut
+returns-then-is_long-clause-cut c = set_before c.args.index c.args.locals.now _ c.if-index-eq0.false c.requires (sym c.is_long.ensures ∙ c.if-is_long.true)
+
+pub returns-else-is_long-clause-cut : goal.returns-else-is_long-clause-cut
+returns-else-is_long-clause-cut c = same_before c.args.index c.args.locals.now _ c.if-index-eq0.false c.requires (sym c.is_long.ensures ∙ c.if-is_long.false)

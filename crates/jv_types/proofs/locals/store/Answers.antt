@@ -1,0 +1,10 @@
+use Rattle.std.proofs.Common.{sym, subst}
+use Rattle.jv_frames.specs.Frames.{type_by_words}
+use Rattle.jv_types.specs.Typed.{typed, typed_all}
+use Rattle.jv_types.specs.Numbered.{Item, Stores}
+use Rattle.jv_types.proofs.locals.store.Goals as goal
+
+pub returns-in-Long-clause-stored : goal.returns-in-Long-clause-stored
+returns-in-Long-clause-stored c = λ names.
+    subst (λ (i : Item). Stores c.store_long.result (type_by_words (typed names i)) c.args.index (typed_all names c.args.locals.now) (typed_all names c.store_long.new.locals))
+    (sym c.in-Long.is) (c.store_long.ensures.stored names)

@@ -1,0 +1,14 @@
+use Rattle.std.proofs.Common.{◌∙◌, ap, sym, arith, [], ◌∷◌}
+use Rattle.std.specs.Prelude.{slice_set, Some}
+use Rattle.jv_types.specs.Typed.{typed, typed_all}
+use Rattle.jv_types.proofs.Storing.{stored_item, not_stored}
+use Rattle.jv_types.proofs.locals.store_item.Goals as goal
+
+pub returns-then-index-locals-clause-stored : goal.returns-then-index-locals-clause-stored
+returns-then-index-locals-clause-stored c = λ names.
+    not_stored names (typed names c.args.item ∷ []) c.args.index c.args.locals.now (omega (arith, c.if-index-locals.true)) (omega arith)
+
+pub returns-clause-stored : goal.returns-clause-stored
+returns-clause-stored c = λ names.
+    stored_item names c.args.index c.args.locals.now c.args.item c.if-index-locals.false
+    ∙ ap (λ xs. Some (typed_all names (slice_set xs c.args.index c.args.item))) (sym c.cut_before.ensures.cut)

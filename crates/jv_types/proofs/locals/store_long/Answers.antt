@@ -1,0 +1,24 @@
+use Rattle.std.proofs.Common.{◌≡◌, ◌∙◌, ◌+◌, ap, sym, arith, suc, [], ◌∷◌}
+use Rattle.std.specs.Prelude.{slice_set, Some}
+use Rattle.jv_frames.specs.declared.verification.VerificationTypeOf.TheVariants as types
+use Rattle.jv_types.specs.Typed.{typed_all}
+use Rattle.jv_types.specs.Inside.Cut.{cut_at}
+use Rattle.jv_types.proofs.Storing.{stored_long, not_stored}
+use Rattle.jv_types.proofs.locals.store_long.Goals as goal
+use Rattle.jv_types.proofs.locals.store_long.Goals.{then-index-locals-via-then-index-locals, then-index-locals-via-else-index-locals+then-index-locals-2}
+
+pub returns-clause-stored : goal.returns-clause-stored
+returns-clause-stored c = λ names.
+    let next : suc c.args.index ≡ c.args.index + 1 = omega arith in
+    stored_long names c.args.index c.args.locals.now (omega (arith, c.if-index-locals-2.false))
+    ∙ (ap (λ k. Some (typed_all names (slice_set (slice_set (cut_at c.args.index c.args.locals.now) c.args.index types.Long) k types.Top))) next
+    ∙ ap (λ xs. Some (typed_all names (slice_set (slice_set xs c.args.index types.Long) (c.args.index + 1) types.Top))) (sym c.cut_before.ensures.cut))
+
+pub returns-then-index-locals-clause-stored : goal.returns-then-index-locals-clause-stored
+returns-then-index-locals-clause-stored c = λ names.
+    not_stored names (types.Long ∷ types.Top ∷ []) c.args.index c.args.locals.now
+    (elim c.then-index-locals.branch [
+      | then-index-locals-via-then-index-locals w ↦ omega (arith, w.if-index-locals.true)
+      | then-index-locals-via-else-index-locals+then-index-locals-2 w ↦ omega (arith, w.if-index-locals-2.true)
+    ])
+    (omega arith)

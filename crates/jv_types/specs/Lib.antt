@@ -1,0 +1,4 @@
+pub mod Inside
+pub mod Numbered
+pub mod Outcomes
+pub mod Typed

@@ -1,0 +1,102 @@
+//! What flows to what, by numbers of names (JVMS 4.10.1.2).
+
+ghost use Rattle.std.specs.Prelude.{◌≡◌};
+ghost use Rattle.jv_frames.specs.declared.verification.VerificationTypeOf.TheVariants as variants;
+ghost use Rattle.jv_text.specs.Seen.{seen_field_type};
+ghost use Rattle.jv_meaning_world.specs.Flow.{class_flows, flows};
+ghost use Rattle.jv_meaning_world.specs.FrameFlow.{item_flows};
+ghost use Rattle.jv_assign.specs.Seen.{seen_type};
+ghost use Rattle.jv_types.specs.Typed.{name_at, typed_field, typed};
+
+use crate::names::{Item, TypeNames};
+use jv_assign::{flows, other_class_flows};
+use jv_frames::VerificationTypeOf;
+use jv_text::{Element, FieldType, FieldTypeOf};
+
+impl<'t, 'a> TypeNames<'t, 'a> {
+    /// Whether a class flows to another.
+    fn class_flows(&self, from: u32, to: u32) -> bool
+        ensures { result ≡ class_flows self.now.world (name_at self.now.names from) (name_at self.now.names to) }
+    {
+        self.same_name(from, to)
+            || other_class_flows(self.table(), self.class_of(from), self.class_of(to))
+    }
+
+    /// The type of a field with its class by its name.
+    fn field_by_name(&self, type_of: FieldTypeOf<u32>) -> FieldType<'a>
+        ensures { seen_field_type result ≡ typed_field self.now.names type_of }
+    {
+        let element = match type_of.element {
+            Element::Base(base) => Element::Base(base),
+            Element::Class(number) => Element::Class(self.name(number)),
+        };
+        FieldTypeOf {
+            dimensions: type_of.dimensions,
+            element,
+        }
+    }
+
+    /// The type with its class by its name.
+    pub fn by_name(&self, item: Item) -> VerificationTypeOf<&'a [u8]>
+        ensures { seen_type result ≡ typed self.now.names item }
+    {
+        match item {
+            VerificationTypeOf::Top => VerificationTypeOf::Top,
+            VerificationTypeOf::Int => VerificationTypeOf::Int,
+            VerificationTypeOf::Long => VerificationTypeOf::Long,
+            VerificationTypeOf::Null => VerificationTypeOf::Null,
+            VerificationTypeOf::UninitializedThis => VerificationTypeOf::UninitializedThis,
+            VerificationTypeOf::Class(number) => VerificationTypeOf::Class(self.name(number)),
+            VerificationTypeOf::Array(components) => {
+                VerificationTypeOf::Array(self.field_by_name(components))
+            }
+            VerificationTypeOf::Uninitialized(offset) => VerificationTypeOf::Uninitialized(offset),
+        }
+    }
+
+    /// Whether a type flows to another, where not both are classes.
+    fn other_flows(&self, from: Item, to: Item) -> bool
+        ensures { result ≡ flows self.now.world (typed self.now.names from) (typed self.now.names to) }
+    {
+        flows(self.table(), &self.by_name(from), &self.by_name(to))
+    }
+
+    /// Whether an array flows to another by the classes of their components.
+    fn components_flow(&self, from: FieldTypeOf<u32>, to: FieldTypeOf<u32>) -> bool
+        ensures { result ≡ flows self.now.world (typed self.now.names (variants.Array from)) (typed self.now.names (variants.Array to)) }
+    {
+        match (from.element, to.element) {
+            (Element::Class(x), Element::Class(y)) if from.dimensions == to.dimensions => {
+                self.class_flows(x, y)
+            }
+            _ => self.other_flows(
+                VerificationTypeOf::Array(from),
+                VerificationTypeOf::Array(to),
+            ),
+        }
+    }
+
+    /// Whether a type can stand where another is expected (JVMS 4.10.1.2). No name of a class is looked
+    /// at where both are classes, or arrays of classes of as many dimensions.
+    pub fn flows(&self, from: Item, to: Item) -> bool
+        ensures { result ≡ flows self.now.world (typed self.now.names from) (typed self.now.names to) }
+    {
+        match (from, to) {
+            (VerificationTypeOf::Class(x), VerificationTypeOf::Class(y)) => self.class_flows(x, y),
+            (VerificationTypeOf::Array(x), VerificationTypeOf::Array(y)) => {
+                self.components_flow(x, y)
+            }
+            _ => self.other_flows(from, to),
+        }
+    }
+
+    /// Whether an item of the stack can stand where another is expected: a long flows to a long alone.
+    pub fn item_flows(&self, from: Item, to: Item) -> bool
+        ensures { result ≡ item_flows self.now.world (typed self.now.names from) (typed self.now.names to) }
+    {
+        match from {
+            VerificationTypeOf::Long => matches!(to, VerificationTypeOf::Long),
+            _ => self.flows(from, to),
+        }
+    }
+}

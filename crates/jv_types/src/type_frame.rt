@@ -1,0 +1,210 @@
+//! A frame that is changed in place.
+
+ghost use Rattle.std.specs.Prelude.{◌≡◌, ℕ, List, [], length, slice_get, MatchOption, reverse, IfOk, OnOk, OnErr, IfNone};
+ghost use Rattle.std.specs.List.{list_any};
+ghost use Rattle.jv_meaning_typing.specs.FrameChanges.{is_same_object};
+ghost use Rattle.jv_types.specs.Typed.{typed, typed_all};
+ghost use Rattle.jv_types.specs.Numbered.{blank, topped, with_flag, with_locals, with_stack, without_flag, stack_words, item_words, StoresAny, ReplacesAny, words_of_item};
+
+use crate::locals::store;
+use crate::names::Item;
+use crate::objects::{has_object, replace_all};
+use jv_frames::VerificationTypeOf;
+use std::alloc::{AllocError, Global};
+use std::marker::Model;
+
+/// A frame (JVMS 4.10.1.4): local variables, a long as long and top, the stack's items, where a long is one
+/// item of two words, and whether `this` may not be initialized.
+pub struct TypeFrame {
+    locals: Vec<Item>,
+    stack: Vec<Item>,
+    words: usize,
+    flag: bool,
+}
+
+impl Model for TypeFrame {
+    ghost use Rattle.std.specs.Prelude.{◌≡◌, reverse};
+    ghost use Rattle.jv_types.specs.Numbered.{NumberFrame, stack_words};
+
+    ghost Value = { NumberFrame };
+
+    ghost view = { λ f. record { locals = f.locals.items; stack = reverse f.stack.items; flag_this_uninit = f.flag } };
+
+    ghost invariant = { λ f. f.words ≡ stack_words (reverse f.stack.items) };
+}
+
+impl Drop for TypeFrame {
+    fn drop(self) {
+        let TypeFrame {
+            locals: _,
+            stack: _,
+            words: _,
+            flag: _,
+        } = self;
+    }
+}
+
+/// The words of an item: two of a long.
+fn words_of(item: Item) -> usize
+    ensures { result ≡ item_words item }
+{
+    match item {
+        VerificationTypeOf::Long => 2,
+        _ => 1,
+    }
+}
+
+impl TypeFrame {
+    /// Local variables that hold nothing, an empty stack, and no flag.
+    ///
+    /// # Errors
+    ///
+    /// Where the host had no memory for the local variables.
+    pub fn new(alloc: Global, max_locals: u16) -> Result<TypeFrame, AllocError>
+        ensures { IfOk result (λ frame. frame ≡ blank max_locals) }
+    {
+        let mut locals = Vec::new(alloc);
+        locals.resize(usize::from(max_locals), VerificationTypeOf::Top)?;
+        Ok(TypeFrame {
+            locals,
+            stack: Vec::new(alloc),
+            words: 0,
+            flag: false,
+        })
+    }
+
+    /// Takes all from the local variables and the stack, and the flag.
+    pub fn clear(&mut self)
+        ensures { self.new ≡ blank (length self.old.locals) }
+    {
+        self.locals.fill(VerificationTypeOf::Top);
+        self.stack.clear();
+        self.words = 0;
+        self.clear_flag();
+    }
+
+    /// `this` may not be initialized, or is.
+    pub fn set_flag(&mut self, flag: bool)
+        ensures { self.new ≡ with_flag flag self.old }
+    {
+        self.flag = flag;
+    }
+
+    /// How many items the stack has.
+    pub fn height(&self) -> usize
+        ensures { result ≡ length self.now.stack }
+    {
+        self.stack.len()
+    }
+
+    /// Turns the stack over: what was on top comes to be the lowest.
+    pub fn turn_stack(&mut self)
+        ensures { self.new ≡ with_stack (reverse self.old.stack) self.old }
+    {
+        self.stack.reverse();
+    }
+
+    /// Whether `this` may not be initialized.
+    pub fn flag_this_uninit(&self) -> bool
+        ensures { result ≡ self.now.flag_this_uninit }
+    {
+        self.flag
+    }
+
+    /// The words of the stack's items.
+    pub fn stack_words(&self) -> usize
+        ensures { result ≡ stack_words self.now.stack }
+    {
+        self.words
+    }
+
+    /// How many local variables there are.
+    pub fn local_count(&self) -> usize
+        ensures { result ≡ length self.now.locals }
+    {
+        self.locals.len()
+    }
+
+    /// The type of a local variable, where there is one with the index.
+    pub fn local(&self, index: u16) -> Option<Item>
+        ensures { result ≡ slice_get self.now.locals index }
+    {
+        self.locals.get(usize::from(index)).copied()
+    }
+
+    /// Takes the item on top; `None` where the stack is empty.
+    pub fn pop(&mut self) -> Option<Item>
+        ensures taken { MatchOption result (self.new ≡ self.old) (λ item. self.old ≡ topped self.new item) }
+        ensures empty { IfNone result (self.old.stack ≡ []) }
+    {
+        let item = self.stack.pop()?;
+        self.words -= words_of(item);
+        Some(item)
+    }
+
+    /// Puts an item on top.
+    ///
+    /// # Errors
+    ///
+    /// Where the host had no memory for it; nothing has then changed.
+    pub fn push(&mut self, item: Item) -> Result<(), AllocError>
+        ensures ok { OnOk result (self.new ≡ topped self.old item) }
+        ensures refused { OnErr result (self.new ≡ self.old) }
+    {
+        let Some(words) = self.words.checked_add(words_of(item)) else {
+            return Err(AllocError);
+        };
+        self.stack.push(item)?;
+        self.words = words;
+        Ok(())
+    }
+
+    /// The item below so many others, where there is one.
+    pub fn item(&self, depth: usize) -> Option<Item>
+        ensures { result ≡ slice_get self.now.stack depth }
+    {
+        let below = self.stack.len().checked_sub(depth)?;
+        let place = below.checked_sub(1)?;
+        self.stack.get(place).copied()
+    }
+
+    /// Stores an item in a local variable, a long in this one and the next, and says whether there are as
+    /// many. A long that loses its second word to it becomes top.
+    pub fn store(&mut self, index: u16, item: Item) -> bool
+        ensures stored { StoresAny result (words_of_item item) index self.old.locals self.new.locals }
+        ensures same { self.new ≡ with_locals self.new.locals self.old }
+    {
+        store(&mut self.locals, usize::from(index), item)
+    }
+
+    /// Whether an object that is not initialized is on the stack.
+    pub fn has_on_stack(&self, object: Item) -> bool
+        ensures { (names : List (List ℕ)) → result ≡ list_any (is_same_object (typed names object)) (typed_all names self.now.stack) }
+    {
+        has_object(&self.stack, object)
+    }
+
+    /// Gives all copies of an object that is not initialized in local variables a type.
+    pub fn replace_locals(&mut self, object: Item, by: Item)
+        ensures locals { ReplacesAny object by self.old.locals self.new.locals }
+        ensures same { self.new ≡ with_locals self.new.locals self.old }
+    {
+        replace_all(&mut self.locals, object, by);
+    }
+
+    /// Gives all copies of an object that is not initialized on the stack a type of one word.
+    pub fn replace_stack(&mut self, object: Item, by: Item)
+        requires { item_words by ≡ 1 }
+        ensures stack { ReplacesAny object by self.old.stack self.new.stack }
+        ensures same { self.new ≡ with_stack self.new.stack self.old }
+    {
+        replace_all(&mut self.stack, object, by);
+    }
+
+    /// `this` is initialized from now on.
+    pub fn clear_flag(&mut self)
+        ensures { self.new ≡ without_flag self.old }
+    {
+        self.flag = false;
+    }
+}
