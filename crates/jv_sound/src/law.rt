@@ -1,0 +1,17 @@
+//! The law.
+
+ghost use Rattle.jv_sound.specs.Law.{NeverFaults};
+
+use jv_code::{next_starts, one_list, stands_in_list};
+use jv_text::types_agree;
+
+/// A guest whose files were judged meets no fault on the machine: for every budget, whatever is fed to it, and after every
+/// number of steps.
+pub fn never_faults()
+    ensures { NeverFaults }
+{
+    types_agree();
+    one_list();
+    next_starts();
+    stands_in_list();
+}

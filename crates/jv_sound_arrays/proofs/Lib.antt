@@ -1,0 +1,8 @@
+pub mod Lengths
+pub mod ArrayTypes
+pub mod ArrayLoads
+pub mod ArrayStores
+pub mod MadeArrays
+pub mod NewArrays
+pub mod Casts
+pub mod Throwing

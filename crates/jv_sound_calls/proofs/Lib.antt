@@ -1,0 +1,9 @@
+pub mod Receiving
+pub mod Special
+pub mod Copies
+pub mod Handlers
+pub mod MethodUses
+pub mod StaticCalls
+pub mod InstanceCalls
+pub mod VirtualCalls
+pub mod SuperCalls

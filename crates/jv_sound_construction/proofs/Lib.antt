@@ -1,0 +1,5 @@
+pub mod New
+pub mod Constructing
+pub mod NewObjects
+pub mod InitCalls
+pub mod ConstructorCalls

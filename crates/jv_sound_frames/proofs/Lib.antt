@@ -1,0 +1,9 @@
+pub mod Leads
+pub mod Frames
+pub mod Entering
+pub mod FirstFrame
+pub mod Room
+pub mod Replacing
+pub mod Unwinding
+pub mod EnteringAbove
+pub mod Acting

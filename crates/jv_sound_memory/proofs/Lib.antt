@@ -1,0 +1,4 @@
+pub mod Memories
+pub mod Members
+pub mod Storing
+pub mod Literals

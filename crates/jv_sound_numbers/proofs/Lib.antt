@@ -1,0 +1,9 @@
+pub mod Pure
+pub mod Ways
+pub mod Locals
+pub mod LocalInstructions
+pub mod Increments
+pub mod LongConstants
+pub mod StackForms
+pub mod Branches
+pub mod Returns

@@ -1,0 +1,9 @@
+pub mod Catching
+pub mod Beginning
+pub mod Initializing
+pub mod SettingFields
+pub mod Start
+pub mod Stepping
+pub mod Begun
+pub mod ConstructorFrame
+pub mod ConstructsActs

@@ -1,0 +1,5 @@
+pub mod Logic
+pub mod Types
+pub mod Heaps
+pub mod Taking
+pub mod Subtypes
