@@ -61,10 +61,13 @@ fn one_file(rt: HostRuntime) {
 /// The verdict on the class `C` of one file, found by its name; without one, where memory is short.
 fn verdict_on_c(alloc: Global, state: RandomState, file: &[u8]) -> Option<Verdict> {
     let system = system_files(alloc).ok()?;
-    let files = [file];
-    let classes = Classes::load(alloc, state, &system, &files).ok()?;
-    let class = classes.table().find(b"C")?;
-    check_class(alloc, state, &classes, class).ok()
+    match Classes::load(alloc, state, &system, &[file]) {
+        Ok(classes) => match classes.table().find(b"C") {
+            Some(class) => check_class(alloc, state, &classes, class).ok(),
+            None => None,
+        },
+        Err(_) => None,
+    }
 }
 
 fn is_int_as_object(verdict: Option<Verdict>) -> bool {
