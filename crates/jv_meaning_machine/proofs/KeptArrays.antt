@@ -261,4 +261,4 @@ make_arrays_kept :
 make_arrays_kept c components counts below = make_arrays_if_kept c components counts below (list_any is_negative_count counts)
 
 pub new_multi_array_kept : (c : Context) (index dimensions : ℕ) → Kept c (new_multi_array c index dimensions)
-new_multi_array_kept c index dimensions = search (bound, unless_kept, make_arrays_kept)
+new_multi_array_kept c index dimensions = search (bound, unless_kept, make_arrays_kept) depth 8

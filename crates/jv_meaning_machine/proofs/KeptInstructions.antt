@@ -1,5 +1,5 @@
 -- Memory stays over each instruction.
-use Rattle.std.proofs.Common.{◌≡◌, ℕ, ℤ, Bool, true, false, true≢false, List, [], ◌∷◌, Option, Some, None, Ok, Err, refl, sym, ap, subst, ◌∙◌, slice_get, IsSome, if◌then◌else◌}
+use Rattle.std.proofs.Common.{◌≡◌, ℕ, ℤ, Bool, true, false, not, true≢false, List, [], ◌∷◌, Option, Some, None, Ok, Err, refl, sym, ap, subst, ◌∙◌, slice_get, IsSome, if◌then◌else◌}
 use Rattle.std.specs.Option.{ok_or}
 use Rattle.jv_text.specs.declared.descriptor.Element.{Element}
 use Rattle.jv_text.specs.declared.descriptor.Element.TheVariants as elements
@@ -226,10 +226,12 @@ new_kept : (c : Context) (index : ℕ) → Kept c (new c index)
 new_kept c index =
     bound (class_constant c index) _
     (λ text e.
+    bound_tested OffsetFault (not (is_array_name text)) text _
+    (λ passed.
     unless_kept_as c (resolve_class (world_at c) (site_at c) (Some New) text) (create c)
     (λ resolved f.
     create_kept c resolved
-    (λ l g. new_is_named (world_at c) (site_at c) l text (f ∙ ap (λ (r : ResolvedClass). Ok r) g))))
+    (λ l g. new_is_named (world_at c) (site_at c) l text (f ∙ ap (λ (r : ResolvedClass). Ok r) g)))))
 
 -- ---- casts and instanceof
 

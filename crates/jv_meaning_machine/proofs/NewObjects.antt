@@ -1,9 +1,10 @@
 -- New objects stand behind all that there were, and the first of them has their count as its number.
-use Rattle.std.proofs.Common.{◌≡◌, ℕ, ◌≤◌, ◌<◌, nat_le, ℤ, pos, negsuc, Bool, true, false, List, [], ◌∷◌, map, length, replicate, Option, Some, None, Ok, Err, refl, sym, ap, subst, ◌∙◌, ◌⊎◌, inl, inr, arith, if◌then◌else◌}
+use Rattle.std.proofs.Common.{◌≡◌, ℕ, ◌≤◌, ◌<◌, nat_le, ℤ, pos, negsuc, Bool, true, false, not, List, [], ◌∷◌, map, length, replicate, Option, Some, None, Ok, Err, refl, sym, ap, subst, ◌∙◌, ◌⊎◌, inl, inr, arith, if◌then◌else◌}
 use Rattle.std.specs.List.{list_any}
 use Rattle.std.proofs.lemmas.Bool.{leb-true, leb-false}
 use Rattle.std.proofs.lemmas.List.{length-replicate}
 use Rattle.jv_text.specs.declared.descriptor.FieldTypeOf.{FieldTypeOf}
+use Rattle.jv_text.specs.Name.{is_array_name}
 use Rattle.jv_frames.specs.declared.verification.VerificationTypeOf.TheVariants as types
 use Rattle.jv_frames.specs.Types.{FrameType, component}
 use Rattle.jv_pool.specs.Constants.{at_index}
@@ -18,7 +19,7 @@ use Rattle.jv_meaning_linking.specs.ClassResolution.{ResolvedClass, resolve_clas
 use Rattle.jv_meaning_linking.specs.ClassResolution.ResolvedClass.{ClassOf, ArrayOf}
 use Rattle.jv_meaning_linking.specs.Layout.{object_cells}
 use Rattle.jv_meaning_typing.specs.Environment.{current_class}
-use Rattle.jv_meaning_machine.specs.Faults.{found, ◌>>=◌}
+use Rattle.jv_meaning_machine.specs.Faults.{found, tested, ◌>>=◌}
 use Rattle.jv_meaning_machine.specs.Faults.Fault.{OffsetFault, ReferenceFault}
 use Rattle.jv_meaning_machine.specs.Values.{Value}
 use Rattle.jv_meaning_machine.specs.Values.Value.{Int, Long}
@@ -30,7 +31,7 @@ use Rattle.jv_meaning_machine.specs.Effects.{Effect, Context, Outcome, world_at,
 use Rattle.jv_meaning_machine.specs.Effects.Effect.{Throws, Raises, Begins}
 use Rattle.jv_meaning_machine.specs.Arithmetic.{one, as_int}
 use Rattle.jv_meaning_machine.specs.Literals.{string_name, literal_in, literal_made, literal_cells, literal_or_new, string_loaded, constant_value, pushed_constant, push_value, pool_at}
-use Rattle.jv_meaning_machine.specs.Arrays.{arrays_made, push_arrays, make_array, base_of, base_components, is_negative_count, count_of, make_arrays_if, make_arrays, array_resolved}
+use Rattle.jv_meaning_machine.specs.Arrays.{arrays_made, push_arrays, make_array, base_of, base_components, is_negative_count, count_of, make_arrays_if, make_arrays, names_array, array_resolved}
 use Rattle.jv_meaning_machine.specs.Instructions.{push_object, create}
 use Rattle.jv_meaning_machine.specs.Laws.NewObjects.{LacksCells, MakesIf, NamesClass, ThrowsClassError, BeginsClass, MakesObject, NewMakes, CountsBelowZero, MakesArray, NewArrayMakes, NewReferenceArrayMakes, CountsOneBelowZero, MakesArrays, TakesCounts, NewMultiArrayMakes, PushesLiteral, MakesLiteral, LacksLiteral, PushesNumber, ConstantPushes}
 use Rattle.jv_meaning_machine.proofs.Leading.{also, Leads, leaf, failing, bound, bound_tested, chained}
@@ -72,23 +73,41 @@ push_arrays_makes c components counts cells first others below e =
 
 -- ---- what an index names
 
-module _ (c : Context) (P : Memory × Effect → Type 0) (how : Option Use) (index : ℕ) where
-  class_leads :
-      (next : ResolvedClass → Outcome) → ((effect : Effect) → ThrowsClassError c how index c.memory effect → P (c.memory, effect))
-      → ((resolved : ResolvedClass) → NamesClass c how index resolved → Leads (Memory × Effect) P (next resolved))
+module _ (c : Context) (P : Memory × Effect → Type 0) (how : Option Use) (index : ℕ) (next : ResolvedClass → Outcome)
+    (fails : (effect : Effect) → ThrowsClassError c how index c.memory effect → P (c.memory, effect))
+    (h : (resolved : ResolvedClass) → NamesClass c how index resolved → Leads (Memory × Effect) P (next resolved)) where
+  by_resolution :
+      (text : List ℕ) → class_operand (current_class (method_at c)) index ≡ Some text → (o : OrError ResolvedClass)
+      → resolve_class (world_at c) (site_at c) how text ≡ o → Leads (Memory × Effect) P (unless_error c o next)
+  by_resolution text e (Ok resolved) f = h resolved (record { text = text; operand = e; resolves = f })
+  by_resolution text e (Err error) f =
+      leaf P _
+      (fails (Raises (error_class error)) (record { text = text; operand = e; error = error; unresolved = f; same = refl; throws = refl }))
+
+  -- the text that the index names has to pass a test
+  tested_class_leads :
+      (test : List ℕ → Bool)
       → Leads (Memory × Effect) P
+      (found OffsetFault (class_operand (current_class (method_at c)) index) >>= λ text. tested OffsetFault (test text) text >>= λ text.
+      unless_error c (resolve_class (world_at c) (site_at c) how text) next)
+  tested_class_leads test = by_operand (class_operand (current_class (method_at c)) index) refl
+    where
+      by_operand :
+          (o : Option (List ℕ)) → class_operand (current_class (method_at c)) index ≡ o
+          → Leads (Memory × Effect) P
+          (found OffsetFault o >>= λ text. tested OffsetFault (test text) text >>= λ text.
+          unless_error c (resolve_class (world_at c) (site_at c) how text) next)
+      by_operand None e = failing OffsetFault
+      by_operand (Some text) e =
+          bound_tested OffsetFault (test text) text (λ text. unless_error c (resolve_class (world_at c) (site_at c) how text) next)
+          (λ passed. by_resolution text e (resolve_class (world_at c) (site_at c) how text) refl)
+
+  class_leads :
+      Leads (Memory × Effect) P
       (found OffsetFault (class_operand (current_class (method_at c)) index) >>= λ text.
       unless_error c (resolve_class (world_at c) (site_at c) how text) next)
-  class_leads next fails h = by_operand (class_operand (current_class (method_at c)) index) refl
+  class_leads = by_operand (class_operand (current_class (method_at c)) index) refl
     where
-      by_resolution :
-          (text : List ℕ) → class_operand (current_class (method_at c)) index ≡ Some text → (o : OrError ResolvedClass)
-          → resolve_class (world_at c) (site_at c) how text ≡ o → Leads (Memory × Effect) P (unless_error c o next)
-      by_resolution text e (Ok resolved) f = h resolved (record { text = text; operand = e; resolves = f })
-      by_resolution text e (Err error) f =
-          leaf P _
-          (fails (Raises (error_class error)) (record { text = text; operand = e; error = error; unresolved = f; same = refl; throws = refl }))
-
       by_operand :
           (o : Option (List ℕ)) → class_operand (current_class (method_at c)) index ≡ o
           → Leads (Memory × Effect) P
@@ -140,7 +159,9 @@ create_makes c index (ArrayOf type) names = failing OffsetFault
 
 pub new_makes : NewMakes
 new_makes c index after effect e =
-    (class_leads c (NewOf c index) (Some New) index (create c) (λ effect fails. inl fails) (create_makes c index)).at (after, effect) e
+    (tested_class_leads c (NewOf c index) (Some New) index (create c) (λ effect fails. inl fails) (create_makes c index)
+    (λ text. not (is_array_name text))).at
+    (after, effect) e
 
 -- ---- newarray, anewarray
 
@@ -246,26 +267,23 @@ multi_leads c index dimensions type names some (counts, below) e =
 resolved_leads :
     (c : Context) (index dimensions : ℕ) → 1 ≤ dimensions → (resolved : ResolvedClass) → NamesClass c None index resolved
     → Leads (Memory × Effect) (MultiOf c index dimensions)
-    (array_resolved dimensions resolved >>= λ type.
+    (array_resolved resolved >>= λ type.
     taken c.memory.objects (replicate dimensions types.Int) c.frame.stack >>= λ counts.
     make_arrays c (component type) counts.0 counts.1)
 resolved_leads c index dimensions some (ClassOf l) names = failing OffsetFault
 resolved_leads c index dimensions some (ArrayOf type) names =
-    bound_tested OffsetFault _ type
-    (λ type. taken c.memory.objects (replicate dimensions types.Int) c.frame.stack >>= λ counts. make_arrays c (component type) counts.0 counts.1)
-    (λ passed.
     bound (taken c.memory.objects (replicate dimensions types.Int) c.frame.stack)
     (λ counts. make_arrays c (component type) counts.0 counts.1)
-    (multi_leads c index dimensions type names some))
+    (multi_leads c index dimensions type names some)
 
 pub new_multi_array_makes : NewMultiArrayMakes
 new_multi_array_makes c index dimensions after effect some e =
-    (class_leads c (MultiOf c index dimensions) None index
+    (tested_class_leads c (MultiOf c index dimensions) None index
     (λ resolved.
-    array_resolved dimensions resolved >>= λ type.
+    array_resolved resolved >>= λ type.
     taken c.memory.objects (replicate dimensions types.Int) c.frame.stack >>= λ counts.
     make_arrays c (component type) counts.0 counts.1)
-    (λ effect fails. inl fails) (resolved_leads c index dimensions some)).at
+    (λ effect fails. inl fails) (resolved_leads c index dimensions some) (names_array dimensions)).at
     (after, effect) e
 
 -- ---- ldc

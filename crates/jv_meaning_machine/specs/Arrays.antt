@@ -1,12 +1,14 @@
 -- Arrays (JVMS 6.5): of the operands null comes first, then the index, then what is stored; and a negative length before
 -- anything is made.
-use Rattle.std.specs.Prelude.{ℕ, zero, ◌+◌, ◌*◌, ℤ, pos, negsuc, Bool, true, false, not, nat_lt, List, [], ◌∷◌, length, map, replicate, Option, Some, None, Ok, Err, slice_get, slice_set}
+use Rattle.std.specs.Prelude.{ℕ, zero, ◌+◌, ◌*◌, ℤ, pos, negsuc, Bool, true, false, ◌&&◌, nat_le, List, [], ◌∷◌, length, map, replicate, Option, Some, None, Ok, Err, slice_get, slice_set}
 use Rattle.std.specs.List.{flat_map, list_any, range_with_len}
 use Rattle.jv_text.specs.declared.descriptor.Base.{Base}
 use Rattle.jv_text.specs.declared.descriptor.Base.TheVariants as bases
 use Rattle.jv_text.specs.declared.descriptor.Element.{Element}
 use Rattle.jv_text.specs.declared.descriptor.Element.TheVariants as elements
 use Rattle.jv_text.specs.declared.descriptor.FieldTypeOf.{FieldTypeOf}
+use Rattle.jv_text.specs.Name.{is_array_name}
+use Rattle.jv_text.specs.Types.{field_type_of}
 use Rattle.jv_frames.specs.declared.verification.VerificationTypeOf.TheVariants as types
 use Rattle.jv_frames.specs.Types.{component, value_type}
 use Rattle.jv_code.specs.declared.kinds.ElementType.{ElementType}
@@ -221,15 +223,23 @@ make_arrays_if c components counts below false =
 abbrev pub make_arrays : Context → FieldTypeOf (List ℕ) → List Value → List Value → Outcome
 make_arrays c components counts below = make_arrays_if c components counts below (list_any is_negative_count counts)
 
--- the type that is resolved has at least as many dimensions as there are counts
-abbrev pub array_resolved : ℕ → ResolvedClass → OrFault (FieldTypeOf (List ℕ))
-array_resolved dimensions (ClassOf l) = Err OffsetFault
-array_resolved dimensions (ArrayOf type) = tested OffsetFault (not (nat_lt type.dimensions dimensions)) type
+-- a text names an array of at least as many dimensions as there are counts
+abbrev pub has_dimensions : ℕ → Option (FieldTypeOf (List ℕ)) → Bool
+has_dimensions dimensions None = false
+has_dimensions dimensions (Some type) = nat_le dimensions type.dimensions
+
+abbrev pub names_array : ℕ → List ℕ → Bool
+names_array dimensions text = is_array_name text && has_dimensions dimensions (field_type_of text)
+
+-- its type
+abbrev pub array_resolved : ResolvedClass → OrFault (FieldTypeOf (List ℕ))
+array_resolved (ClassOf l) = Err OffsetFault
+array_resolved (ArrayOf type) = Ok type
 
 abbrev pub new_multi_array : Context → ℕ → ℕ → Outcome
 new_multi_array c index dimensions =
-    class_constant c index >>= λ text.
+    class_constant c index >>= λ text. tested OffsetFault (names_array dimensions text) text >>= λ text.
     unless_error c (resolve_class (world_at c) (site_at c) None text) (λ resolved.
-    array_resolved dimensions resolved >>= λ type.
+    array_resolved resolved >>= λ type.
     taken c.memory.objects (replicate dimensions types.Int) c.frame.stack >>= λ counts.
     make_arrays c (component type) counts.0 counts.1)

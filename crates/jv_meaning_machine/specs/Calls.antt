@@ -6,6 +6,8 @@ use Rattle.std.specs.Str.{bytes_eq}
 use Rattle.jv_text.specs.Descriptor.{MethodDescriptor}
 use Rattle.jv_text.specs.Name.{is_init}
 use Rattle.jv_text.specs.Types.{method_type_of}
+use Rattle.jv_class_structure.specs.Version.{is_below_52}
+use Rattle.jv_class.specs.Class.{Class}
 use Rattle.jv_frames.specs.Types.{value_type}
 use Rattle.jv_code.specs.declared.kinds.Invocation.{Invocation}
 use Rattle.jv_code.specs.declared.kinds.Invocation.TheVariants as invocations
@@ -136,17 +138,17 @@ abbrev pub call_target : Context → Use → MethodDescriptor → MethodTarget �
 call_target c Invokestatic descriptor t = once_initialized c t.declared.by (call_static c descriptor t)
 call_target c how descriptor t = call_instance c how descriptor t
 
--- invokevirtual takes a Methodref and invokeinterface an InterfaceMethodref, of another method than an `<init>`; the others
--- take either
-abbrev pub is_constant_for : Use → MethodReference → Bool
-is_constant_for Invokevirtual reference = is_of_class reference.constant && not (is_init reference.member.name)
-is_constant_for Invokeinterface reference = not (is_of_class reference.constant) && not (is_init reference.member.name)
-is_constant_for how reference = true
+-- invokevirtual takes a Methodref and invokeinterface an InterfaceMethodref, of another method than an `<init>` (6.5); invokestatic
+-- and invokespecial take either, and below version 52.0 of the class that calls a Methodref alone (4.9.1)
+abbrev pub is_constant_for : Class → Use → MethodReference → Bool
+is_constant_for class Invokevirtual reference = is_of_class reference.constant && not (is_init reference.member.name)
+is_constant_for class Invokeinterface reference = not (is_of_class reference.constant) && not (is_init reference.member.name)
+is_constant_for class how reference = if is_below_52 class.major_version then is_of_class reference.constant else true
 
 abbrev pub call : Context → Use → ℕ → Outcome
 call c how index =
     found OffsetFault (method_operand (current_class (method_at c)) index) >>= λ reference.
-    tested OffsetFault (is_constant_for how reference) reference >>= λ reference.
+    tested OffsetFault (is_constant_for (current_class (method_at c)) how reference) reference >>= λ reference.
     found OffsetFault (method_type_of reference.member.descriptor) >>= λ descriptor.
     unless_error c (resolve_method (world_at c) (site_at c) how reference) (call_target c how descriptor)
 

@@ -21,14 +21,15 @@ use Rattle.jv_meaning_machine.specs.Throws.{raise}
 
 -- ---- words (2.5.2)
 
--- where so many are left they are given, and else a StackOverflowError is thrown, and nothing else has changed
+-- where so many are left they are given, and else a new StackOverflowError is thrown in place of what would follow
 abbrev pub within_words : World → Memory → List Frame → Control → ℕ → (Control → OrFault State) → OrFault State
 within_words world memory frames control words next = elim (given_words words control) [
   | None ↦ raise world memory frames control (codes "java/lang/StackOverflowError")
   | Some given ↦ next given
 ]
 
--- ---- entering: first the frame's words are asked for, then the verdict on the method's class, and then its local variables
+-- ---- entering: first the method's code is looked up, whose limits say the frame's words; these are asked for, then the verdict
+-- on the method's class, and then whether its local variables have room for what is passed (own)
 
 -- the receiver and the arguments, as they are passed
 abbrev pub passed_values : Option ℕ → List Value → List Value

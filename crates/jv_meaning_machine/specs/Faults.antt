@@ -3,8 +3,11 @@ use Rattle.std.specs.Prelude.{Bool, true, false, Option, Some, None, Result, Ok,
 
 pub data Fault : Type 0 where
   -- no instruction starts at the offset, or a jump leads below 0; or an instruction's constant is of another kind: that of
-  -- multianewarray names a class, or an array of fewer dimensions than there are counts, and invokevirtual's or
-  -- invokeinterface's an `<init>`; or a method without code is entered
+  -- `new` names an array, that of multianewarray a class, or an array of fewer dimensions than there are counts, that of
+  -- invokevirtual or invokeinterface an `<init>`, and that of invokestatic or invokespecial, in a class below version 52.0,
+  -- a method of an interface; or a method without code is entered. Where something is not there that each well-formed class
+  -- or each start has (the value of a static field, what a descriptor says, the units of a text, the main method), that is
+  -- this fault too (own)
   OffsetFault : Fault
   -- the stack is below empty, or above max_stack words
   StackFault : Fault
@@ -15,7 +18,10 @@ pub data Fault : Type 0 where
   -- a reference to no object, or to one without that field or that kind of elements; a receiver that is no instance of the class
   -- that declares the method, interfaces aside; or something thrown that is no Throwable
   ReferenceFault : Fault
-  -- an object that is not constructed is used, or its constructors are entered out of order
+  -- an object that is not constructed is used otherwise than by load, store, the forms of the stack, comparison, a call of
+  -- `<init>`, or, in an `<init>` whose receiver it is, a putfield that names the current class; or an `<init>` is entered on an
+  -- object that is constructed, or out of order: first that of the object's class, and then that of the class last entered or
+  -- of its direct superclass
   ConstructionFault : Fault
   -- a method of a class that was not accepted is entered
   UnverifiedFault : Fault

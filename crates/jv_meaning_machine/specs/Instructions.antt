@@ -3,6 +3,7 @@
 use Rattle.std.specs.Prelude.{ℕ, ◌+◌, ℤ, pos, Bool, true, false, not, List, [], ◌∷◌, Option, Some, None, Ok, Err, nat_eq, nat_le, codes}
 use Rattle.std.specs.Int.{w32, int_wrapping_add}
 use Rattle.std.specs.Ordering.{int_eq}
+use Rattle.jv_text.specs.Name.{is_array_name}
 use Rattle.jv_text.specs.declared.descriptor.FieldTypeOf.{FieldTypeOf}
 use Rattle.jv_frames.specs.Types.{value_type}
 use Rattle.jv_code.specs.Insns.{Instruction}
@@ -163,7 +164,7 @@ abbrev pub return_nothing : Context → Option (FieldTypeOf (List ℕ)) → Outc
 return_nothing c None = Ok (c.memory, Leaves [])
 return_nothing c (Some type) = Err ReturnFault
 
--- ---- new objects: the class is resolved and initialized, and the cells are paid
+-- ---- new objects: the constant names a class, which is resolved and initialized, and the cells are paid
 
 abbrev pub push_object : Context → Loaded → Option Memory → Outcome
 push_object c l None = lacks_memory c
@@ -175,7 +176,9 @@ create c (ClassOf l) = once_initialized c l (push_object c l (paid (object_cells
 create c (ArrayOf type) = Err OffsetFault
 
 abbrev pub new : Context → ℕ → Outcome
-new c index = class_constant c index >>= λ text. unless_error c (resolve_class (world_at c) (site_at c) (Some New) text) (create c)
+new c index =
+    class_constant c index >>= λ text. tested OffsetFault (not (is_array_name text)) text >>= λ text.
+    unless_error c (resolve_class (world_at c) (site_at c) (Some New) text) (create c)
 
 -- ---- casts and instanceof: of null they are answered without resolution
 

@@ -84,7 +84,7 @@ pub data End : Type 0 where
   NoMain : End
 
 -- the main class's name; the states of classes; the words that are left for frames; how many throws there were, up to
--- 2^64 - 1, and the class of the last one
+-- 2^64 - 1, and the class of the last one; and how the guest ended, if it did
 pub record Control : Type 0 where
   pub main : List ℕ
   pub states : ClassStates

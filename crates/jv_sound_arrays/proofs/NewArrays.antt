@@ -1,8 +1,8 @@
 -- newarray, anewarray and multianewarray (JVMS 6.5).
-use Rattle.std.proofs.Common.{◌≡◌, ◌⊎◌, inl, inr, ℕ, zero, suc, ◌+◌, ◌-◌, ◌≤◌, ℤ, Bool, true, false, not, List, [], ◌∷◌, ◌++◌, length, map, replicate, Option, Some, None, Ok, Err, refl, sym, ap, subst, ◌∙◌, arith}
+use Rattle.std.proofs.Common.{◌≡◌, ◌⊎◌, inl, inr, ℕ, zero, suc, ◌+◌, ◌-◌, ◌≤◌, ℤ, Bool, true, false, List, [], ◌∷◌, ◌++◌, length, map, replicate, Option, Some, None, Ok, Err, refl, sym, ap, subst, ◌∙◌, arith}
 use Rattle.std.specs.Prelude.{IsTrue, nat_lt, nat_le, pos, negsuc}
 use Rattle.std.specs.List.{AllByRecursion, list_any}
-use Rattle.std.proofs.Common.{leb-true, ltb-true}
+use Rattle.std.proofs.Common.{leb-true, ◌&&◌}
 use Rattle.jv_format.specs.Format as rules_format
 use Rattle.jv_text.specs.declared.descriptor.FieldTypeOf.{FieldTypeOf}
 use Rattle.jv_text.specs.Name.{is_array_name}
@@ -25,7 +25,7 @@ use Rattle.jv_meaning_typing.specs.Environment.{current_class}
 use Rattle.jv_meaning_typing.specs.FrameChanges.{with_stack, taken_as_all, exchanged}
 use Rattle.jv_meaning_typing.specs.Named.{array_with, named_type, when}
 use Rattle.jv_meaning_typing.specs.NumberRules.{new_array_type}
-use Rattle.jv_meaning_machine.specs.Faults.{found, ◌>>=◌}
+use Rattle.jv_meaning_machine.specs.Faults.{found, tested, ◌>>=◌}
 use Rattle.jv_meaning_machine.specs.Faults.Fault.{OffsetFault}
 use Rattle.jv_meaning_machine.specs.Values.{Value}
 use Rattle.jv_meaning_machine.specs.Values.Value.{Reference}
@@ -34,12 +34,12 @@ use Rattle.jv_meaning_machine.specs.Objects.Object.{ArrayWith}
 use Rattle.jv_meaning_machine.specs.State.{Memory}
 use Rattle.jv_meaning_machine.specs.Costs.{paid, array_cells, arrays_cells}
 use Rattle.jv_meaning_machine.specs.Arithmetic.{as_int}
-use Rattle.jv_meaning_machine.specs.Arrays.{arrays_made, push_arrays, make_array, base_of, base_components, is_negative_count, count_of, make_arrays_if, make_arrays, array_resolved}
+use Rattle.jv_meaning_machine.specs.Arrays.{arrays_made, push_arrays, make_array, base_of, base_components, is_negative_count, count_of, make_arrays_if, make_arrays, has_dimensions, names_array, array_resolved}
 use Rattle.jv_meaning_machine.specs.Operands.{taken, taken_as}
 use Rattle.jv_meaning_machine.specs.Effects.{Outcome, unless_error, negative_size, resolved_type}
 use Rattle.jv_sound_values.specs.Values.{Zip, Fits, Heap, HasStack}
 use Rattle.jv_sound_values.specs.Sound.{IsSort}
-use Rattle.jv_sound_values.proofs.Logic.{clash, then2, then1, then_holds, tested_holds, handed_on}
+use Rattle.jv_sound_values.proofs.Logic.{clash, then2, then1, then_holds, handed_on}
 use Rattle.jv_sound_values.proofs.Types.{sort_item}
 use Rattle.jv_sound_values.proofs.Heaps.{with_more, more_later, moved, stack_later}
 use Rattle.jv_sound_memory.proofs.Memories.{more_typed, paid_is}
@@ -233,9 +233,10 @@ module _ (x : Setting) (h : IsSet x) where
           → By x (insns.NewMultiArray index dimensions)
           (rules_format.◌>>=◌ (when b (array_with (record { dimensions = type.dimensions - 1; element = type.element })))
           (λ array. exchanged (world_of x) (replicate dimensions types.Int) (array ∷ []) x.given))
-          (unless_error (context_of x (insns.NewMultiArray index dimensions)) (resolve_text (world_of x) x.frame.method.site.by text)
+          (tested OffsetFault b text >>= λ text.
+          unless_error (context_of x (insns.NewMultiArray index dimensions)) (resolve_text (world_of x) x.frame.method.site.by text)
           (λ resolved.
-          array_resolved dimensions resolved >>= λ type. taken x.heap.objects
+          array_resolved resolved >>= λ type. taken x.heap.objects
           (replicate dimensions types.Int) x.frame.stack >>= λ counts. make_arrays (context_of x (insns.NewMultiArray index dimensions))
           (component type) counts.0 counts.1))
       by_text text type array described false e = record { by = tt }
@@ -255,17 +256,10 @@ module _ (x : Setting) (h : IsSet x) where
           deep : dimensions ≤ suc (type.dimensions - 1)
           deep = omega (arith, enough, least)
 
-          not_fewer : not (nat_lt type.dimensions dimensions) ≡ true
-          not_fewer = by_test (nat_lt type.dimensions dimensions) refl
-            where
-              by_test : (b : Bool) → nat_lt type.dimensions dimensions ≡ b → not b ≡ true
-              by_test false k = refl
-              by_test true k = absurd (omega (arith, enough, ltb-true type.dimensions dimensions k))
-
           by_class : (class : ResolvedClass) → IsResolvedArray (world_of x) text class ⊎ IsResolvedClass (world_of x) text class
               → By x (insns.NewMultiArray index dimensions) (exchanged (world_of x) (replicate dimensions types.Int)
               (array_with (component type) ∷ []) x.given)
-              (array_resolved dimensions class >>= λ type. taken x.heap.objects
+              (array_resolved class >>= λ type. taken x.heap.objects
               (replicate dimensions types.Int) x.frame.stack >>= λ counts. make_arrays (context_of x (insns.NewMultiArray index dimensions))
               (component type) counts.0 counts.1)
           by_class class (inr r) = absurd (clash (sym r.plain ∙ array))
@@ -275,19 +269,13 @@ module _ (x : Setting) (h : IsSet x) where
               let loadable = subst (λ (t : FieldTypeOf (List ℕ)). IsTrue (has_loadable_element (world_of x) t.element)) same r.loadable in
               subst (λ (c : ResolvedClass). By x (insns.NewMultiArray index dimensions)
               (exchanged (world_of x) (replicate dimensions types.Int) (array_with (component type) ∷ []) x.given)
-              (array_resolved dimensions c >>= λ type. taken x.heap.objects
+              (array_resolved c >>= λ type. taken x.heap.objects
               (replicate dimensions types.Int) x.frame.stack >>= λ counts. make_arrays (context_of x (insns.NewMultiArray index dimensions))
               (component type) counts.0 counts.1)) (sym is)
-              (then1 (tested_holds {P = λ t. t ≡ type} OffsetFault (not (nat_lt type.dimensions dimensions)) type not_fewer refl)
-              (λ t same_again.
-              subst (λ (t : FieldTypeOf (List ℕ)). By x (insns.NewMultiArray index dimensions)
-              (exchanged (world_of x) (replicate dimensions types.Int) (array_with (component type) ∷ []) x.given)
-              (taken x.heap.objects (replicate dimensions types.Int) x.frame.stack >>= λ counts. make_arrays
-              (context_of x (insns.NewMultiArray index dimensions)) (component t) counts.0 counts.1)) (sym same_again)
               (then2 (taken_all (here x) h.rooted h.loadable (replicate dimensions types.Int) x.given.stack x.frame.stack
               (ints dimensions) h.holding.stack) (λ S counts f.
               agrees_from (makes_counts (component type) S counts.0 counts.1 (counted dimensions counts.0 f.0) deep least loadable f.1
-              (list_any is_negative_count counts.0))))))
+              (list_any is_negative_count counts.0))))
             where
               same_type : (t : FieldTypeOf (List ℕ)) → Some t ≡ Some type → t ≡ type
               same_type t k = cc
@@ -297,9 +285,10 @@ module _ (x : Setting) (h : IsSet x) where
           (rules_format.◌>>=◌ (rules_format.◌>>=◌ o (λ type. when (nat_le dimensions type.dimensions)
           (array_with (record { dimensions = type.dimensions - 1; element = type.element }))))
           (λ array. exchanged (world_of x) (replicate dimensions types.Int) (array ∷ []) x.given))
-          (unless_error (context_of x (insns.NewMultiArray index dimensions)) (resolve_text (world_of x) x.frame.method.site.by text)
+          (tested OffsetFault (has_dimensions dimensions o) text >>= λ text.
+          unless_error (context_of x (insns.NewMultiArray index dimensions)) (resolve_text (world_of x) x.frame.method.site.by text)
           (λ resolved.
-          array_resolved dimensions resolved >>= λ type. taken x.heap.objects
+          array_resolved resolved >>= λ type. taken x.heap.objects
           (replicate dimensions types.Int) x.frame.stack >>= λ counts. make_arrays (context_of x (insns.NewMultiArray index dimensions))
           (component type) counts.0 counts.1))
       by_described text array None e = record { by = tt }
@@ -311,9 +300,10 @@ module _ (x : Setting) (h : IsSet x) where
           (λ type. when (nat_le dimensions type.dimensions) (array_with
           (record { dimensions = type.dimensions - 1; element = type.element }))))
           (λ array. exchanged (world_of x) (replicate dimensions types.Int) (array ∷ []) x.given))
-          (unless_error (context_of x (insns.NewMultiArray index dimensions)) (resolve_text (world_of x) x.frame.method.site.by text)
+          (tested OffsetFault (b && has_dimensions dimensions (field_type_of text)) text >>= λ text.
+          unless_error (context_of x (insns.NewMultiArray index dimensions)) (resolve_text (world_of x) x.frame.method.site.by text)
           (λ resolved.
-          array_resolved dimensions resolved >>= λ type. taken x.heap.objects
+          array_resolved resolved >>= λ type. taken x.heap.objects
           (replicate dimensions types.Int) x.frame.stack >>= λ counts. make_arrays (context_of x (insns.NewMultiArray index dimensions))
           (component type) counts.0 counts.1))
       by_array text false e = record { by = tt }
@@ -326,9 +316,9 @@ module _ (x : Setting) (h : IsSet x) where
           (λ type. when (nat_le dimensions type.dimensions) (array_with
           (record { dimensions = type.dimensions - 1; element = type.element })))))
           (λ array. exchanged (world_of x) (replicate dimensions types.Int) (array ∷ []) x.given))
-          (found OffsetFault o >>= λ text. unless_error (context_of x (insns.NewMultiArray index dimensions))
-          (resolve_text (world_of x) x.frame.method.site.by text) (λ resolved.
-          array_resolved dimensions resolved >>= λ type. taken x.heap.objects
+          (found OffsetFault o >>= λ text. tested OffsetFault (names_array dimensions text) text >>= λ text.
+          unless_error (context_of x (insns.NewMultiArray index dimensions)) (resolve_text (world_of x) x.frame.method.site.by text) (λ resolved.
+          array_resolved resolved >>= λ type. taken x.heap.objects
           (replicate dimensions types.Int) x.frame.stack >>= λ counts. make_arrays (context_of x (insns.NewMultiArray index dimensions))
           (component type) counts.0 counts.1))
       by_operand None = record { by = tt }

@@ -94,18 +94,19 @@ module _ (x : Setting) (h : IsSet x) (insn : Instruction) (how : Use) where
   -- what is called once its reference is that of the instruction
   abbrev pub calling : MethodReference → Outcome
   calling reference =
-      tested OffsetFault (is_constant_for how reference) reference >>= λ reference. found OffsetFault
+      tested OffsetFault (is_constant_for (current_class x.frame.method) how reference) reference >>= λ reference. found OffsetFault
       (method_type_of reference.member.descriptor) >>= λ descriptor.
       unless_error (context_of x insn) (resolve_method (world_of x) x.frame.method.site how reference)
       (call_target (context_of x insn) how descriptor)
 
   pub target_ok :
-      (rule : Option TypesOf) (reference : MethodReference) (descriptor : MethodDescriptor) → is_constant_for how reference ≡ true
-      → method_type_of reference.member.descriptor ≡ Some descriptor
+      (rule : Option TypesOf) (reference : MethodReference) (descriptor : MethodDescriptor)
+      → is_constant_for (current_class x.frame.method) how reference ≡ true → method_type_of reference.member.descriptor ≡ Some descriptor
       → ((t : MethodTarget) → IsCalled (world_of x) x.frame.method.site how reference t
       → By x insn rule (call_target (context_of x insn) how descriptor t)) → By x insn rule (calling reference)
   target_ok rule reference descriptor constant described each =
-      then1 (tested_holds {P = λ r. r ≡ reference} OffsetFault (is_constant_for how reference) reference constant refl) (λ r same_reference.
+      then1 (tested_holds {P = λ r. r ≡ reference} OffsetFault
+      (is_constant_for (current_class x.frame.method) how reference) reference constant refl) (λ r same_reference.
       subst (λ (r : MethodReference). By x insn rule (found OffsetFault (method_type_of r.member.descriptor) >>= λ descriptor.
       unless_error (context_of x insn) (resolve_method (world_of x) x.frame.method.site how r)
       (call_target (context_of x insn) how descriptor))) (sym same_reference)
@@ -121,10 +122,10 @@ module _ (x : Setting) (h : IsSet x) (insn : Instruction) (how : Use) where
       by_method (Err error) e = errs_any x h insn rule error
 
   -- a rule that asks more of the method first
-  pub asked : (test : Bool) (method : MethodUse) (rule : MethodUse → Option TypesOf) (done : Outcome) → By x insn (rule method) done
-      → By x insn (rules_format.◌>>=◌ (when test method) rule) done
+  pub asked : (test : Bool) (method : MethodUse) (rule : MethodUse → Option TypesOf) (done : Outcome)
+      → (test ≡ true → By x insn (rule method) done) → By x insn (rules_format.◌>>=◌ (when test method) rule) done
   asked false method rule done k = record { by = tt }
-  asked true method rule done k = k
+  asked true method rule done k = k refl
 
   pub method_ok :
       (index : ℕ) (rule : MethodUse → Option TypesOf)

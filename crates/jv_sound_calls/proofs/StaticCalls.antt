@@ -120,7 +120,7 @@ module _ (x : Setting) (h : IsSet x) (index : ℕ)
       (λ reference owner descriptor operand can type described.
       asked x h insn Invokestatic (goes_with_version x.frame.method (method_use reference owner descriptor))
       (method_use reference owner descriptor) (λ method. invoke_static x.frame.method method x.given) (calling x h insn Invokestatic reference)
-      (by_name reference owner descriptor operand described (has_plain_name (method_use reference owner descriptor)) refl))
+      (λ goes. by_name reference owner descriptor goes operand described (has_plain_name (method_use reference owner descriptor)) refl))
     where
       runs : (t : MethodTarget) (descriptor : MethodDescriptor) → class_named (world_of x) t.declared.by.class.name ≡ Some t.declared.by
           → method_named t.declared.by.class t.declared.method.name t.declared.method.descriptor ≡ Some t.declared.method
@@ -159,12 +159,12 @@ module _ (x : Setting) (h : IsSet x) (index : ℕ)
           S arguments.0 arguments.1 f.0 f.1 (is_built_in t.declared) refl)))
 
       by_name : (reference : MethodReference) (owner : FrameType) (descriptor : MethodDescriptor)
-          → method_operand (current_class x.frame.method) index ≡ Some reference
+          → goes_with_version x.frame.method (method_use reference owner descriptor) ≡ true → method_operand (current_class x.frame.method) index ≡ Some reference
           → method_type_of reference.member.descriptor ≡ Some descriptor
           → (b : Bool) → has_plain_name (method_use reference owner descriptor) ≡ b
           → By x insn (if b then exchanged (world_of x) (map value_type descriptor.parameters)
           (result_types descriptor.result) x.given else None) (calling x h insn Invokestatic reference)
-      by_name reference owner descriptor operand described false e = record { by = tt }
-      by_name reference owner descriptor operand described true e =
-          target_ok x h insn Invokestatic _ reference descriptor refl described
+      by_name reference owner descriptor goes operand described false e = record { by = tt }
+      by_name reference owner descriptor goes operand described true e =
+          target_ok x h insn Invokestatic _ reference descriptor goes described
           (λ t called. by_target reference descriptor operand (plain_name (method_use reference owner descriptor) e) described t called)

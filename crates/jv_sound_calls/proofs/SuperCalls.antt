@@ -35,7 +35,7 @@ use Rattle.jv_meaning_typing.specs.Environment.{current_class}
 use Rattle.jv_meaning_typing.specs.MemberRules.{has_plain_name, called_on, is_direct_interface, is_interface_named, is_near, invoke_super}
 use Rattle.jv_meaning_typing.specs.Named.{method_use, current_type}
 use Rattle.jv_meaning_machine.specs.Faults.{◌>>=◌}
-use Rattle.jv_meaning_machine.specs.Calls.{call_special, call_instance}
+use Rattle.jv_meaning_machine.specs.Calls.{is_constant_for, call_special, call_instance}
 use Rattle.jv_meaning_machine.specs.Operands.{taken, popped_reference}
 use Rattle.jv_meaning_machine.specs.Objects.{Object}
 use Rattle.jv_meaning_machine.specs.Initialization.{is_verified}
@@ -148,11 +148,12 @@ module _ (x : Setting) (h : IsSet x) (coded : HasCode (program_of x)) (root : Lo
 
   pub super_ok :
       (reference : MethodReference) (owner : FrameType) (descriptor : MethodDescriptor)
+      → is_constant_for (current_class x.frame.method) Invokespecial reference ≡ true
       → method_operand (current_class x.frame.method) index ≡ Some reference → reference_type reference.member.class ≡ Some owner
       → method_type_of reference.member.descriptor ≡ Some descriptor
       → By x special (invoke_super x.frame.method (method_use reference owner descriptor) x.given)
       (calling x h special Invokespecial reference)
-  super_ok reference owner descriptor operand type described =
+  super_ok reference owner descriptor constant operand type described =
       by_test (has_plain_name (method_use reference owner descriptor)) refl (flows (world_of x) (current_type x.frame.method) owner) refl
       (is_near x.frame.method reference.member.class) refl
     where
@@ -175,7 +176,7 @@ module _ (x : Setting) (h : IsSet x) (coded : HasCode (program_of x)) (root : Lo
       by_test true e true f false n = record { by = tt }
       by_test true e true f true n =
           let own = class_owner (world_of x) current.class.name reference.member.class owner type f in
-          target_ok x h special Invokespecial _ reference descriptor refl described (λ t called.
+          target_ok x h special Invokespecial _ reference descriptor constant described (λ t called.
           let named = resolved_class (world_of x) h.alone reference.member.class t.named
           (named_class (world_of x) current reference.member NoSuchMethodError t.named own.0 called.named_so) in
           let own_named : IsNamedClass (world_of x) t.named.class.name t.named = record

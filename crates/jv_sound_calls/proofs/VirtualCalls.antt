@@ -69,11 +69,11 @@ module _ (x : Setting) (h : IsSet x) (coded : HasCode (program_of x)) (root : Lo
       (λ reference owner descriptor operand can type described.
       asked x h virtual Invokevirtual (goes_with_version x.frame.method (method_use reference owner descriptor))
       (method_use reference owner descriptor) (λ method. invoke_virtual x.frame.method method x.given) (calling x h virtual Invokevirtual reference)
-      (by_constant reference owner descriptor operand type described reference.constant refl
+      (λ goes. by_constant reference owner descriptor operand type described reference.constant refl
       (has_plain_name (method_use reference owner descriptor)) refl))
     where
       is_for : (reference : MethodReference) → reference.constant ≡ Methodref → is_init reference.member.name ≡ false
-          → is_constant_for Invokevirtual reference ≡ true
+          → is_constant_for (current_class x.frame.method) Invokevirtual reference ≡ true
       is_for reference k e = rw (k, e) refl
 
       by_constant : (reference : MethodReference) (owner : FrameType) (descriptor : MethodDescriptor)
@@ -102,7 +102,7 @@ module _ (x : Setting) (h : IsSet x) (coded : HasCode (program_of x)) (root : Lo
       (has_plain_name (method_use reference owner descriptor)) refl (counts_arguments (method_use reference owner descriptor) count))
     where
       is_for : (reference : MethodReference) → reference.constant ≡ InterfaceMethodref → is_init reference.member.name ≡ false
-          → is_constant_for Invokeinterface reference ≡ true
+          → is_constant_for (current_class x.frame.method) Invokeinterface reference ≡ true
       is_for reference k e = rw (k, e) refl
 
       by_constant : (reference : MethodReference) (owner : FrameType) (descriptor : MethodDescriptor)

@@ -296,19 +296,19 @@ module _ (x : Setting) (h : IsSet x) (coded : HasCode (program_of x)) (root : Lo
       (λ reference owner descriptor operand can type described.
       asked x h insn Invokespecial (goes_with_version x.frame.method (method_use reference owner descriptor))
       (method_use reference owner descriptor) (λ method. invoke_special x.frame.method method x.given) (calling x h insn Invokespecial reference)
-      (by_name reference owner descriptor operand can type described (is_init reference.member.name) refl))
+      (λ goes. by_name reference owner descriptor goes operand can type described (is_init reference.member.name) refl))
     where
       by_name : (reference : MethodReference) (owner : FrameType) (descriptor : MethodDescriptor)
-          → method_operand (current_class x.frame.method) index ≡ Some reference
+          → goes_with_version x.frame.method (method_use reference owner descriptor) ≡ true → method_operand (current_class x.frame.method) index ≡ Some reference
           → can_be_of reference.constant reference.member.class ≡ true
           → reference_type reference.member.class ≡ Some owner → method_type_of reference.member.descriptor ≡ Some descriptor → (b : Bool)
           → is_init reference.member.name ≡ b
           → By x insn (if b then invoke_init x.frame.method (method_use reference owner descriptor) x.given else rules.invoke_super
           x.frame.method (method_use reference owner descriptor) x.given) (calling x h insn Invokespecial reference)
-      by_name reference owner descriptor operand can type described false e = super_ok x h coded root is_root accepted_is_loadable enterable
-          index sorts reference owner descriptor operand type described
-      by_name reference owner descriptor operand can type described true e =
-          target_ok x h insn Invokespecial _ reference descriptor refl described (λ t called.
+      by_name reference owner descriptor goes operand can type described false e = super_ok x h coded root is_root accepted_is_loadable enterable
+          index sorts reference owner descriptor goes operand type described
+      by_name reference owner descriptor goes operand can type described true e =
+          target_ok x h insn Invokespecial _ reference descriptor goes described (λ t called.
           then2_from (taken_all (here x) h.rooted h.loadable (map value_type descriptor.parameters) x.given.stack x.frame.stack
           (sorts_mapped descriptor.parameters (sorts reference descriptor operand described).0) h.holding.stack) (λ S arguments k f.
           on_top reference owner descriptor operand can type described e t called S arguments.0 arguments.1 k f.0 f.1))

@@ -19,7 +19,7 @@ use Rattle.jv_meaning_typing.specs.FrameChanges.{with_locals, is_same_object, re
 use Rattle.jv_meaning_typing.specs.MemberRules.{class_of_new}
 use Rattle.jv_meaning_typing.specs.Named.{when}
 use Rattle.jv_meaning_typing.specs.ValueRules.{pushed}
-use Rattle.jv_meaning_machine.specs.Faults.{found, ◌>>=◌}
+use Rattle.jv_meaning_machine.specs.Faults.{found, tested, ◌>>=◌}
 use Rattle.jv_meaning_machine.specs.Faults.Fault.{OffsetFault}
 use Rattle.jv_meaning_machine.specs.Instructions.{create}
 use Rattle.jv_meaning_machine.specs.Effects.{unless_error}
@@ -91,8 +91,8 @@ module _ (x : Setting) (h : IsSet x) (index : ℕ) (stands : instruction_at x.fr
       by_text : (text : List ℕ) → class_operand (current_class x.frame.method) index ≡ Some text → (b : Bool) → is_array_name text ≡ b
           → By x (insns.New index) (rules_format.◌>>=◌ (when (not b) text)
           (λ name. when (not (list_any (is_same_object (types.Uninitialized x.frame.offset)) x.given.stack)) given_new))
-          (unless_error (context_of x (insns.New index)) (link.◌>>=◌ (resolve_text (world_of x) x.frame.method.site.by text) creatable)
-          (create (context_of x (insns.New index))))
+          (tested OffsetFault (not b) text >>= λ text. unless_error (context_of x (insns.New index))
+          (link.◌>>=◌ (resolve_text (world_of x) x.frame.method.site.by text) creatable) (create (context_of x (insns.New index))))
       by_text text operand true e = record { by = tt }
       by_text text operand false e = by_stack text operand e (list_any
           (is_same_object (types.Uninitialized x.frame.offset)) x.given.stack) refl
@@ -100,7 +100,8 @@ module _ (x : Setting) (h : IsSet x) (index : ℕ) (stands : instruction_at x.fr
       by_operand : (o : Option (List ℕ)) → class_operand (current_class x.frame.method) index ≡ o
           → By x (insns.New index) (rules_format.◌>>=◌ (rules_format.◌>>=◌ o (λ text. when (not (is_array_name text)) text))
           (λ name. when (not (list_any (is_same_object (types.Uninitialized x.frame.offset)) x.given.stack)) given_new))
-          (found OffsetFault o >>= λ text. unless_error (context_of x (insns.New index))
+          (found OffsetFault o >>= λ text. tested OffsetFault (not (is_array_name text)) text >>= λ text.
+          unless_error (context_of x (insns.New index))
           (link.◌>>=◌ (resolve_text (world_of x) x.frame.method.site.by text) creatable) (create (context_of x (insns.New index))))
       by_operand None e = record { by = tt }
       by_operand (Some text) e = by_text text e (is_array_name text) refl

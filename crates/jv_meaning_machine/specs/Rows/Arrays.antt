@@ -13,7 +13,7 @@ use Rattle.jv_pool.specs.Constants.{Entry}
 use Rattle.jv_meaning_world.specs.Rows.Files.{object_name}
 use Rattle.jv_meaning_typing.specs.Named.{class_components}
 use Rattle.jv_meaning_machine.specs.Faults.{OrFault}
-use Rattle.jv_meaning_machine.specs.Faults.Fault.{TagFault, ReferenceFault}
+use Rattle.jv_meaning_machine.specs.Faults.Fault.{OffsetFault, TagFault, ReferenceFault}
 use Rattle.jv_meaning_machine.specs.Values.{Value}
 use Rattle.jv_meaning_machine.specs.Values.Value.{Null, Reference}
 use Rattle.jv_meaning_machine.specs.Objects.{Object}
@@ -150,11 +150,12 @@ pub record ArrayStoreRows : Type 0 where
 abbrev pub first : Object
 first = array bases.Int []
 
--- 2 java/lang/String, 4 [[I, 6 [[[I, 8 a class that is not there
+-- 2 java/lang/String, 4 [[I, 6 [[[I, 8 a class that is not there, 10 an array of it
 abbrev pub names : List Entry
 names =
     constants.Utf8 string_name ∷ constants.Class 1 ∷ constants.Utf8 (codes "[[I") ∷ constants.Class 3
-    ∷ constants.Utf8 (codes "[[[I") ∷ constants.Class 5 ∷ constants.Utf8 (codes "Gone") ∷ constants.Class 7 ∷ []
+    ∷ constants.Utf8 (codes "[[[I") ∷ constants.Class 5 ∷ constants.Utf8 (codes "Gone") ∷ constants.Class 7
+    ∷ constants.Utf8 (codes "[LGone;") ∷ constants.Class 9 ∷ []
 
 abbrev pub counting : List Value → Setting
 counting counts = record (with_objects (first ∷ []) counts) { constants = names }
@@ -212,3 +213,8 @@ pub record NewArrayRows : Type 0 where
       makes (int 2147483647 ∷ int 2147483647 ∷ int 2147483647 ∷ []) (insns.NewMultiArray 6 3) ≡ out_of_memory
   pub negative_behind_zero : makes (int 0 ∷ int_minus 1 ∷ []) (insns.NewMultiArray 4 2) ≡ negative_size
   pub negative_before_cells : makes (int 2147483647 ∷ int_minus 1 ∷ []) (insns.NewMultiArray 4 2) ≡ negative_size
+  -- the constant names a class, or too few dimensions, which is looked at before it is resolved
+  pub of_class : makes (int 1 ∷ []) (insns.NewMultiArray 2 1) ≡ Err OffsetFault
+  pub too_few_dimensions : makes (int 1 ∷ int 1 ∷ int 1 ∷ []) (insns.NewMultiArray 4 3) ≡ Err OffsetFault
+  pub too_few_of_no_class : makes (int 1 ∷ int 1 ∷ []) (insns.NewMultiArray 10 2) ≡ Err OffsetFault
+  pub of_no_class : makes (int_minus 1 ∷ []) (insns.NewMultiArray 10 1) ≡ raised (codes "NoClassDefFoundError")

@@ -36,6 +36,13 @@ run_interface insn =
     run_with (program_of (only_main [] 1 [] (calls_null insn) ∷ I (abstract_m ∷ []) ∷ []) (calls_null insn ∷ []))
     main_name [] 64 3
 
+-- the same in a class of version 51.0
+abbrev pub run_interface_of_51 : Instruction → OrFault Observed
+run_interface_of_51 insn =
+    run_with
+    (program_of (record (only_main [] 1 [] (calls_null insn)) { major_version = 51 } ∷ I (abstract_m ∷ []) ∷ []) (calls_null insn ∷ []))
+    main_name [] 64 3
+
 pub record FaultRows : Type 0 where
   pub behind_code : run 0 (insns.Nop ∷ []) 3 ≡ Err OffsetFault
   pub constant_of_class : run 1 (ldc 12 ∷ return ∷ []) 2 ≡ Err OffsetFault
@@ -44,6 +51,11 @@ pub record FaultRows : Type 0 where
   pub interface_of_class : run_interface (insns.InvokeInterface 27 1) ≡ Err OffsetFault
   -- invokespecial alone calls an `<init>`
   pub virtual_of_init : run_interface (invokevirtual 16) ≡ Err OffsetFault
+  -- invokestatic and invokespecial of a method of an interface, in a class below version 52.0
+  pub old_static_of_interface : run_interface_of_51 (invokestatic 35) ≡ Err OffsetFault
+  pub old_special_of_interface : run_interface_of_51 (invokespecial 35) ≡ Err OffsetFault
+  pub static_of_interface : run_interface (invokestatic 35) ≡ threw 3 (codes "IncompatibleClassChangeError")
+  pub special_of_interface : run_interface (invokespecial 35) ≡ threw 3 (codes "NullPointerException")
   pub static_of_init : run_interface (invokestatic 16) ≡ threw 3 (codes "IncompatibleClassChangeError")
   pub below_empty : run 0 (pop ∷ []) 2 ≡ Err StackFault
   pub above_max_stack : run 0 (iconst 0 ∷ []) 2 ≡ Err StackFault

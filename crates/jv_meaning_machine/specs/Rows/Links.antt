@@ -13,7 +13,7 @@ use Rattle.jv_meaning_world.specs.World.{loaded}
 use Rattle.jv_meaning_world.specs.Rows.Files.{object_name, class_with, public_class, package_class}
 use Rattle.jv_meaning_world.specs.System.Mnemonics.{return}
 use Rattle.jv_meaning_machine.specs.Faults.{OrFault}
-use Rattle.jv_meaning_machine.specs.Faults.Fault.{StackFault, ConstructionFault}
+use Rattle.jv_meaning_machine.specs.Faults.Fault.{OffsetFault, StackFault, ConstructionFault}
 use Rattle.jv_meaning_machine.specs.Values.{Value}
 use Rattle.jv_meaning_machine.specs.Values.Value.{Null, Reference}
 use Rattle.jv_meaning_machine.specs.State.{ClassState}
@@ -125,6 +125,9 @@ pub record LinkErrorRows : Type 0 where
   pub new_not_there : new (codes "Gone") ≡ no_class
   pub new_abstract : new (codes "A") ≡ raised (codes "InstantiationError")
   pub new_interface : new (codes "I") ≡ raised (codes "InstantiationError")
+  -- an array is no constant of `new`, whether its element is there or not
+  pub new_array : new (codes "[I") ≡ Err OffsetFault
+  pub new_array_not_there : new (codes "[LGone;") ≡ Err OffsetFault
   -- fields
   pub no_such_field : getstatic (codes "B") (codes "none") ≡ no_field
   pub private_field : getstatic (codes "B") (codes "hidden") ≡ illegal_access

@@ -29,4 +29,8 @@ returns c = record {
   greatest_counts = refl;
   negative_behind_zero = refl;
   negative_before_cells = refl;
+  of_class = refl;
+  too_few_dimensions = refl;
+  too_few_of_no_class = refl;
+  of_no_class = refl;
 }
