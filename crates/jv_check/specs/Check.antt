@@ -1,25 +1,21 @@
 -- What the program says of the files of a guest (JVMS 4.10, 5.3.5).
-use Rattle.std.specs.Prelude.{◌≡◌, ℕ, ⊤, true, false, List, None, Some, string_bytes}
+use Rattle.std.specs.Prelude.{◌≡◌, ℕ, ⊤, List, None, Some, string_bytes}
 use Rattle.jv_meaning_world.specs.FileContent.{FileContent, AreContents}
-use Rattle.jv_meaning_world.specs.System.Classes.{system_classes}
-use Rattle.jv_meaning_world.specs.World.{world_of}
 use Rattle.jv_meaning_typing.specs.declared.verdict.Verdict.{Verdict}
-use Rattle.jv_method.specs.Files.{AreVerdicts, IsSystemTold}
+use Rattle.jv_method.specs.Files.{AreVerdicts}
 use Rattle.jv_run.specs.declared.failure.Failure.{Failure}
 use Rattle.jv_run.specs.declared.failure.Failure.TheVariants.{Unreadable, Refused, Stuck, HostMemory, SystemBroken, Memory}
 use Rattle.jv_run.specs.declared.outcome.Outcome.{Outcome}
 use Rattle.jv_check.specs.Limits.{first_file_refusal}
 use Rattle.jv_check.specs.Text.{check_text, check_status}
 
--- the verdicts on the files of one guest, in their order; each class of the system is accepted beside these files
+-- the verdicts on the files of one guest, in their order
 pub record AreVerdictsOf (files : List (List ℕ)) (verdicts : List Verdict) : Type 0 where
   pub contents : List FileContent
   pub read : AreContents files contents
   pub found : AreVerdicts contents verdicts
-  pub system : IsSystemTold (world_of system_classes contents) true
 
--- The files are within the limits, and each class of the system is accepted beside them; the text has a line for each file, and the
--- status goes with the verdicts.
+-- The files are within the limits; the text has a line for each file, and the status goes with the verdicts.
 pub record IsChecked (names files : List (List ℕ)) (outcome : Outcome) : Type 0 where
   pub allowed : first_file_refusal files ≡ None
   pub verdicts : List Verdict
@@ -29,20 +25,13 @@ pub record IsChecked (names files : List (List ℕ)) (outcome : Outcome) : Type 
 
 -- ---- files that are not checked
 
--- a class of the system is not accepted beside these files
-pub record IsSystemBroken (files : List (List ℕ)) : Type 0 where
-  pub contents : List FileContent
-  pub read : AreContents files contents
-  pub refused : IsSystemTold (world_of system_classes contents) false
-
--- why files within the limits were not checked: the host's memory was refused, the system is broken, or the program's memory
--- was refused
+-- why files within the limits were not checked: the host's memory was refused, or the program's
 abbrev pub IsHostFailure : List (List ℕ) → Failure → Type 0
 IsHostFailure files (Unreadable name) = ⊥
 IsHostFailure files (Refused fault) = ⊥
 IsHostFailure files Stuck = ⊥
 IsHostFailure files HostMemory = ⊤
-IsHostFailure files SystemBroken = IsSystemBroken files
+IsHostFailure files SystemBroken = ⊥
 IsHostFailure files Memory = ⊤
 
 -- why files were not checked: they are refused, for the first reason that applies; or they are within the limits

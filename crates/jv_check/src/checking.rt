@@ -60,8 +60,7 @@ fn verified<'a>(
     Ok(verify(alloc, state, classes)?)
 }
 
-/// The verdicts on the files of one guest, where each class of the system is accepted beside them.
-#[tactic(auto, using(crate::proofs::Told::broken))]
+/// The verdicts on the files of one guest.
 fn verdicts_of(alloc: Global, state: RandomState, files: &[&[u8]]) -> Result<Vec<Verdict>, Failure>
     ensures ok { IfOk result (λ verdicts. AreVerdictsOf (map bytes_of files.now) verdicts.items) }
     ensures err { IfErr result (IsHostFailure (map bytes_of files.now)) }
@@ -72,9 +71,6 @@ fn verdicts_of(alloc: Global, state: RandomState, files: &[&[u8]]) -> Result<Vec
     let Ok(verified) = verified(alloc, state, &system, files) else {
         return Err(Failure::HostMemory);
     };
-    if !verified.system_accepted() {
-        return Err(Failure::SystemBroken);
-    }
     Ok(listed(alloc, &verified)?)
 }
 
@@ -95,8 +91,8 @@ fn outcome_of(alloc: Global, names: &[&[u8]], verdicts: &[Verdict]) -> Result<Ou
 /// # Errors
 ///
 /// `Refused` where there are no files, more than 1,024, or one of more than 4,194,304 bytes; else `HostMemory` where the
-/// host had no memory for the classes, `SystemBroken` where a class of the system is not accepted, and `Memory` where the
-/// program had none for the system's files, the verdicts or the text.
+/// host had no memory for the classes, and `Memory` where the program had none for the system's files, the verdicts or the
+/// text.
 pub fn check_files(
     alloc: Global,
     state: RandomState,

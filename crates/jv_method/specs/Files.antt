@@ -1,5 +1,5 @@
 -- The verdicts on a guest's files (JVMS 4.10, 5.3), with the classes that the guest can name.
-use Rattle.std.specs.Prelude.{◌≡◌, ℕ, Bool, true, false, List, length, Some, slice_get, IsTrue}
+use Rattle.std.specs.Prelude.{◌≡◌, ℕ, false, List, length, Some, slice_get, IsTrue}
 use Rattle.std.specs.List.{Contains}
 use Rattle.jv_class.specs.Class.{Class}
 use Rattle.jv_meaning_world.specs.FileContent.{FileContent}
@@ -7,8 +7,7 @@ use Rattle.jv_meaning_world.specs.declared.content.Content.TheVariants.{Holds}
 use Rattle.jv_meaning_world.specs.System.Classes.{system_classes}
 use Rattle.jv_meaning_world.specs.World.{Loaded, World, loaded, world_of}
 use Rattle.jv_meaning_typing.specs.declared.verdict.Verdict.{Verdict}
-use Rattle.jv_meaning_typing.specs.declared.verdict.VerifyFault.{VerifyFault}
-use Rattle.jv_meaning_typing.specs.declared.verdict.Verdict.TheVariants.{Verify, Accepted}
+use Rattle.jv_meaning_typing.specs.declared.verdict.Verdict.TheVariants.{Accepted}
 use Rattle.jv_meaning_typing.specs.Judgement.{AreTyped, IsVerdictOfClass, IsVerdictOfFile}
 
 -- ---- the system's classes
@@ -17,18 +16,20 @@ use Rattle.jv_meaning_typing.specs.Judgement.{AreTyped, IsVerdictOfClass, IsVerd
 abbrev pub IsOfSystem : World → Loaded → Type 0
 IsOfSystem world l = Contains world l × IsTrue l.by_system
 
--- each class of the system is accepted; or one of them is not
-abbrev pub IsSystemTold : World → Bool → Type 0
-IsSystemTold world true = (l : Loaded) → IsOfSystem world l → IsVerdictOfClass world l Accepted
-IsSystemTold world false = (l : Loaded) × IsOfSystem world l × ((fault : VerifyFault) × IsVerdictOfClass world l (Verify fault))
+-- each of them is accepted
+abbrev pub IsSystemAccepted : World → Type 0
+IsSystemAccepted world = (l : Loaded) → IsOfSystem world l → IsVerdictOfClass world l Accepted
+
+-- each method with code of each of them has a typing
+abbrev pub IsSystemTyped : World → Type 0
+IsSystemTyped world = (l : Loaded) → IsOfSystem world l → AreTyped world l l.class.methods
 
 -- ---- the files of a guest
 
--- the classes that the guest can name, the verdict on each of its files, and whether the system's classes are accepted
+-- the classes that the guest can name, and the verdict on each of its files
 pub record Verified : Type 0 where
   pub world : World
   pub verdicts : List Verdict
-  pub system_accepted : Bool
 
 -- these are the verdicts on files that hold this, one for each
 pub record AreVerdicts (contents : List FileContent) (verdicts : List Verdict) : Type 0 where
@@ -39,7 +40,6 @@ pub record AreVerdicts (contents : List FileContent) (verdicts : List Verdict) :
 pub record AreVerified (contents : List FileContent) (verified : Verified) : Type 0 where
   pub world : verified.world ≡ world_of system_classes contents
   pub verdicts : AreVerdicts contents verified.verdicts
-  pub system : IsSystemTold verified.world verified.system_accepted
 
 abbrev pub IsOfFiles : Verified → Type 0
 IsOfFiles verified = (contents : List FileContent) × AreVerified contents verified
@@ -49,7 +49,3 @@ abbrev pub AcceptedAreTyped : List FileContent → Verified → Type 0
 AcceptedAreTyped contents verified =
     (place : ℕ) (class : Class) → slice_get contents place ≡ Some (Holds class) → slice_get verified.verdicts place ≡ Some Accepted
     → AreTyped verified.world (loaded false class) class.methods
-
--- each method with code of a class of the system has a typing, where these classes are accepted
-abbrev pub SystemIsTyped : Verified → Type 0
-SystemIsTyped verified = IsTrue verified.system_accepted → (l : Loaded) → IsOfSystem verified.world l → AreTyped verified.world l l.class.methods

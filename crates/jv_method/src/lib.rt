@@ -9,7 +9,6 @@ mod files;
 mod known;
 mod methods;
 mod read;
-mod system;
 mod tables;
 mod verified;
 

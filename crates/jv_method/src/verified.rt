@@ -1,14 +1,14 @@
 //! A guest's classes, with the verdict on each of its files.
 
-ghost use Rattle.std.specs.Prelude.{◌≡◌, ◌<◌, ℕ, List, Some, IfOk, length, slice_get};
+ghost use Rattle.std.specs.Prelude.{◌≡◌, ◌<◌, ℕ, List, Some, IfOk, length, slice_get, true};
 ghost use Rattle.jv_loader.specs.Loading.{AreLoaded};
 ghost use Rattle.jv_meaning_world.specs.FileContent.{FileContent};
-ghost use Rattle.jv_method.specs.Files.{AreVerified, AcceptedAreTyped, IsOfFiles, SystemIsTyped};
+ghost use Rattle.jv_method.specs.Files.{AreVerified, AcceptedAreTyped, IsOfFiles, IsSystemAccepted, IsSystemTyped};
 
 use crate::files::verdicts_of;
-use crate::system::is_system_accepted;
 use jv_loader::Classes;
 use jv_meaning_typing::Verdict;
+use jv_sound_system::{system_is_accepted, system_is_typed};
 use std::alloc::{AllocError, Global};
 use std::hash::RandomState;
 use std::marker::Model;
@@ -17,7 +17,6 @@ use std::marker::Model;
 pub struct Verified<'a> {
     classes: Classes<'a>,
     verdicts: Vec<Verdict>,
-    is_system_accepted: bool,
 }
 
 impl<'a> Model for Verified<'a> {
@@ -25,9 +24,9 @@ impl<'a> Model for Verified<'a> {
 
     ghost Value = { Verified };
 
-    ghost view = { λ v. record { world = v.classes.world; verdicts = v.verdicts.items; system_accepted = v.is_system_accepted } };
+    ghost view = { λ v. record { world = v.classes.world; verdicts = v.verdicts.items } };
 
-    ghost invariant = { λ v. IsOfFiles (record { world = v.classes.world; verdicts = v.verdicts.items; system_accepted = v.is_system_accepted }) };
+    ghost invariant = { λ v. IsOfFiles (record { world = v.classes.world; verdicts = v.verdicts.items }) };
 }
 
 impl Drop for Verified<'_> {
@@ -35,7 +34,6 @@ impl Drop for Verified<'_> {
         let Verified {
             classes: _,
             verdicts: _,
-            is_system_accepted: _,
         } = self;
     }
 }
@@ -54,12 +52,7 @@ pub fn verify<'a>(
     ensures { IfOk result (λ v. (files : List (List ℕ)) (are : AreLoaded files classes.entry) → AreVerified are.contents v) }
 {
     let verdicts = verdicts_of(alloc, state, &classes)?;
-    let is_system_accepted = is_system_accepted(alloc, state, &classes)?;
-    Ok(Verified {
-        classes,
-        verdicts,
-        is_system_accepted,
-    })
+    Ok(Verified { classes, verdicts })
 }
 
 impl<'a> Verified<'a> {
@@ -85,20 +78,24 @@ impl<'a> Verified<'a> {
         self.verdicts[file]
     }
 
-    /// Whether each class of the system is accepted (JVMS 4.10).
+    /// Whether each class of the system is accepted (JVMS 4.10): so it is, whatever the guest's files are.
     pub fn system_accepted(&self) -> bool
-        ensures { result ≡ self.now.system_accepted }
+        ensures is_true { result ≡ true }
+        ensures accepted { IsSystemAccepted self.now.world }
     {
-        self.is_system_accepted
+        let _verdicts = &self.verdicts;
+        system_is_accepted();
+        true
     }
 
     /// There are files that these are the verdicts on; each method with code of a class whose file is accepted has a typing
-    /// (JVMS 4.10.1), and so has each one of the system's classes, where these are accepted. The call does nothing.
+    /// (JVMS 4.10.1), and so has each one of the system's classes. The call does nothing.
     pub fn are_typed(&self)
         ensures files { IsOfFiles self.now }
         ensures accepted { (contents : List FileContent) → AreVerified contents self.now → AcceptedAreTyped contents self.now }
-        ensures system { SystemIsTyped self.now }
+        ensures system { IsSystemTyped self.now.world }
     {
         let _verdicts = &self.verdicts;
+        system_is_typed();
     }
 }

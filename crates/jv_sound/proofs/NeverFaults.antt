@@ -1,5 +1,5 @@
 -- A judged guest meets no fault: what is proved of instructions, of effects, of initializations and of the start, put together.
-use Rattle.std.proofs.Common.{◌≡◌, ℕ, Bool, false, List, length, Option, Some, sym, ap, ◌∙◌}
+use Rattle.std.proofs.Common.{◌≡◌, ℕ, Bool, false, List, length, Option, Some, sym, subst, ap, ◌∙◌}
 use Rattle.std.specs.Prelude.{IsTrue, IsOk, codes, ◌||◌}
 use Rattle.std.specs.Str.{bytes_eq}
 use Rattle.jv_text.specs.Descriptor.{MethodDescriptor}
@@ -45,7 +45,12 @@ use Rattle.jv_sound_steps.proofs.Stepping.{running_later, step_ok, alone_ok, is_
 use Rattle.jv_sound_world.proofs.SystemFacts.{raised, system_name, makeable, out_of_memory_is_thrown, throwable_is_plain, throwable_is_not_object, string_there_in}
 use Rattle.jv_sound_files.proofs.Words.{slots_are_words}
 use Rattle.jv_sound_world.proofs.WorldFacts.{world_is_formed}
-use Rattle.jv_sound_system.proofs.Judged.{judged_system_is_accepted}
+use Rattle.jv_sound_values.specs.Sound.{IsSystemAccepted}
+use Rattle.jv_sound_system.proofs.InAnyWorld.{system_is_accepted}
+
+-- in the world of what is judged the classes of the system are accepted
+judged_system_is_accepted : (files : List (List ℕ)) (judged : Judged) → IsJudged files judged → IsSystemAccepted judged.program.world
+judged_system_is_accepted files judged right = subst IsSystemAccepted (sym right.world) (system_is_accepted right.contents)
 
 some_same : {A : Type 0} (x y : A) → Some x ≡ Some y → x ≡ y
 some_same x y e = cc

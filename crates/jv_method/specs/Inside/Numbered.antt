@@ -9,7 +9,7 @@ use Rattle.jv_meaning_world.specs.World.{Loaded, World, classes_in}
 use Rattle.jv_meaning_world.specs.Numbers.{HoldsAtNumber}
 use Rattle.jv_meaning_typing.specs.declared.verdict.Verdict.{Verdict}
 use Rattle.jv_meaning_typing.specs.declared.verdict.Verdict.TheVariants as verdicts
-use Rattle.jv_meaning_typing.specs.Judgement.{AreTyped, IsVerdictOfMethods, IsVerdictOfFile}
+use Rattle.jv_meaning_typing.specs.Judgement.{IsVerdictOfMethods, IsVerdictOfFile}
 use Rattle.jv_loader.specs.Loading.{Loading, AreLoaded}
 use Rattle.jv_method.specs.Files.{AreVerdicts}
 
@@ -45,10 +45,6 @@ pub record AreVerdictsBelow (contents : List FileContent) (below next : ℕ) (ve
 pub record IsPassed (contents : List FileContent) (file number class : ℕ) : Type 0 where
   pub number_is : number ≡ number_behind system_classes (take file contents)
   pub before : class < length system_classes ⊎ number ≤ class
-
--- each method with code of the first classes has a typing
-abbrev pub AreTypedBelow : World → ℕ → Type 0
-AreTypedBelow world below = (place : ℕ) (l : Loaded) → place < below → slice_get world place ≡ Some l → AreTyped world l l.class.methods
 
 -- the verdicts on the files that classes were loaded from
 abbrev pub AreVerdictsOn : Loading → List Verdict → Type 0

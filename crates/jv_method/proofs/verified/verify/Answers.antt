@@ -3,7 +3,7 @@ use Rattle.jv_method.proofs.verified.verify.Goals as goal
 pub invariant_of-result : goal.invariant_of-result
 invariant_of-result c =
     let are = c.requires.1 in
-    (are.contents, record { world = are.world; verdicts = c.in_ok-verdicts.ensures c.requires.0 are; system = c.in_ok-is_system_accepted.ensures })
+    (are.contents, record { world = are.world; verdicts = c.in_ok-verdicts.ensures c.requires.0 are })
 
 pub returns : goal.returns
-returns c = λ files are. record { world = are.world; verdicts = c.in_ok-verdicts.ensures files are; system = c.in_ok-is_system_accepted.ensures }
+returns c = λ files are. record { world = are.world; verdicts = c.in_ok-verdicts.ensures files are }

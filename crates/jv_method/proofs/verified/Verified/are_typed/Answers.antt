@@ -1,7 +1,6 @@
-use Rattle.std.proofs.Common.{subst}
-use Rattle.jv_method.specs.Files.{Verified, IsOfFiles}
+use Rattle.std.proofs.Common.{sym, subst}
+use Rattle.jv_method.specs.Files.{Verified, IsOfFiles, IsSystemTyped}
 use Rattle.jv_method.proofs.Placed.{accepted_are_typed}
-use Rattle.jv_method.proofs.InSystem.{system_is_typed}
 use Rattle.jv_method.proofs.verified.Verified.are_typed.Goals as goal
 
 pub returns-clause-files : goal.returns-clause-files
@@ -13,4 +12,4 @@ returns-clause-accepted c = λ contents are. accepted_are_typed contents c.args.
 pub returns-clause-system : goal.returns-clause-system
 returns-clause-system c =
     let held : IsOfFiles c.args.self.now = subst (λ (v : Verified). IsOfFiles v) c.self.view_is c.self.invariant in
-    system_is_typed c.args.self.now held.1.system
+    subst IsSystemTyped (sym held.1.world) (λ l of. c.system_is_typed.ensures held.0 l of.0 of.1)
