@@ -5,9 +5,8 @@ pub data Fault : Type 0 where
   -- no instruction starts at the offset, or a jump leads below 0; or an instruction's constant is of another kind: that of
   -- `new` names an array, that of multianewarray a class, or an array of fewer dimensions than there are counts, that of
   -- invokevirtual or invokeinterface an `<init>`, and that of invokestatic or invokespecial, in a class below version 52.0,
-  -- a method of an interface; or a method without code is entered. Where something is not there that each well-formed class
-  -- or each start has (the value of a static field, what a descriptor says, the units of a text, the main method), that is
-  -- this fault too (own)
+  -- a method of an interface; or a method without code is entered; or something lacks that each well-formed class has: a static
+  -- field's value, what a descriptor says, the units of a text, the main method (own)
   OffsetFault : Fault
   -- the stack is below empty, or above max_stack words
   StackFault : Fault

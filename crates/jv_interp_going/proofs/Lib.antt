@@ -1,0 +1,10 @@
+pub mod FramesStand
+pub mod OperandsStand
+pub mod Jumped
+pub mod IntBranches
+pub mod PushedOn
+pub mod LocalsWork
+pub mod FormsWork
+pub mod SwitchesWork
+pub mod ReferencesWork
+pub mod DivisionsWork

@@ -1,0 +1,43 @@
+-- How a guest's memory stands in the blocks of the store and in what is held beside them (JVMS 2.5.3 to 2.5.5).
+use Rattle.std.specs.Prelude.{◌≡◌, ℕ, ◌≤◌, List, Option, Some, None, drop, length, slice_get}
+use Rattle.std.specs.List.{flat_map}
+use Rattle.jv_meaning_world.specs.World.{Loaded, World}
+use Rattle.jv_meaning_world.specs.LookUps.{DeclaredField, field_by}
+use Rattle.jv_meaning_linking.specs.Kind.{is_static_field}
+use Rattle.jv_meaning_machine.specs.Literals.{literal_in}
+use Rattle.jv_meaning_machine.specs.State.{Memory}
+use Rattle.jv_interp_objects.specs.ObjectsInBlocks.{Blocks, AreFields, ObjectsStand}
+use Rattle.jv_interp_memory.specs.declared.held.Held.{Held}
+use Rattle.std.specs.Prelude.{filter, map}
+
+-- ---- static fields, those of each class behind those of the classes before it in the world
+
+abbrev pub own_static_fields : Loaded → List DeclaredField
+own_static_fields l = map (field_by l) (filter is_static_field l.class.fields)
+
+abbrev pub static_fields : World → List DeclaredField
+static_fields world = flat_map own_static_fields world
+
+-- ---- string literals: the object of each text, by the text's number, has its address there, and no other text has one
+
+abbrev pub IsLiteral : List ℕ → Option ℕ → ℕ → Type 0
+IsLiteral addresses None address = address ≡ 0
+IsLiteral addresses (Some object) address = slice_get addresses object ≡ Some address
+
+pub record AreLiterals (texts : List (List ℕ)) (addresses : List ℕ) (literals : List (List ℕ × ℕ)) (kept : List ℕ) : Type 0 where
+  pub count : length kept ≡ length texts
+  pub each :
+      (number : ℕ) (text : List ℕ) (address : ℕ) → slice_get texts number ≡ Some text → slice_get kept number ≡ Some address
+      → IsLiteral addresses (literal_in text literals) address
+
+-- ---- all of it
+
+pub record MemoryStands (world : World) (texts : List (List ℕ)) (memory : Memory) (addresses : List ℕ) (held : Held) (blocks : Blocks) : Type 0 where
+  pub objects : ObjectsStand world memory.objects addresses blocks
+  pub statics : AreFields addresses (static_fields world) memory.statics held.statics.items
+  pub literals : AreLiterals texts addresses memory.literals held.literals.items
+  pub cells : memory.cells ≡ held.cells
+  pub output_left : memory.output_left ≡ held.output_left
+  pub output : memory.output ≡ held.output.items
+  pub read_within : held.read ≤ length held.input.items
+  pub input : memory.input ≡ drop held.read held.input.items

@@ -1,0 +1,4 @@
+pub mod HeldInWords
+pub mod EffectsInWords
+pub mod Executing
+pub mod SystemNumbers

@@ -1,0 +1,3 @@
+pub mod ObjectsInBlocks
+pub mod NewBlocks
+pub mod Narrowing

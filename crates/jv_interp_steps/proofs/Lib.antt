@@ -1,0 +1,4 @@
+pub mod AtPlace
+pub mod StepsStand
+pub mod OpcodesStand
+pub mod RunsOn

@@ -1,0 +1,9 @@
+use Rattle.jv_code.specs.declared.kinds.NumberKind.TheVariants as numbers
+use Rattle.jv_meaning_machine.specs.Values.{low_byte}
+use Rattle.jv_interp_words.proofs.Computed.{one_converted}
+use Rattle.jv_interp_words.proofs.computing.to_byte.Goals as goal
+
+pub returns-clause-done : goal.returns-clause-done
+returns-clause-done c =
+    one_converted numbers.Int numbers.Int (low_byte) _ _ _ _ _ c.top_int-a.ensures c.low_byte.ensures (record { sfits = c.low_byte.type_inv })
+    c.push_int.ensures.int

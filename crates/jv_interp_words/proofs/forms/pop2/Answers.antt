@@ -1,0 +1,11 @@
+use Rattle.std.proofs.Common.{refl}
+use Rattle.jv_code.specs.declared.kinds.StackForm.TheVariants as forms
+use Rattle.jv_interp_words.proofs.Rearranged.{rearranges, one_on}
+use Rattle.jv_interp_words.proofs.forms.pop2.Goals as goal
+
+pub returns-clause-done : goal.returns-clause-done
+returns-clause-done c =
+    rearranges forms.Pop2 _ _ _ _
+    (one_on c.top_word-a.result c.top_word-a.ensures (one_on c.top_word-b.result c.top_word-b.ensures refl))
+    (refl)
+    refl

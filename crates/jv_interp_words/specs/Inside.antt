@@ -1,0 +1,6 @@
+pub mod Numbers
+pub mod Computing
+pub mod Divisions
+pub mod Locals
+pub mod Forms
+pub mod Calls

@@ -1,0 +1,4 @@
+pub mod ValuesInWords
+pub mod FramesInWords
+pub mod StatesInWords
+pub mod Inside
