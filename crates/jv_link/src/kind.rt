@@ -91,8 +91,12 @@ fn can_use_final(table: &ClassTable<'_>, how: Use, site: Site, by: usize, flags:
     flags & FINAL == 0 || can_set_final(table, how, site, by)
 }
 
-/// A field, where it is of the instruction's kind, and not final where the instruction can't set it.
-pub(crate) fn usable_field(
+/// A field, where it is of the instruction's kind, and not final where the instruction can't set it (JVMS 6.5).
+///
+/// # Errors
+///
+/// `IncompatibleClassChangeError`, and then `IllegalAccessError`.
+pub fn usable_field(
     table: &ClassTable<'_>,
     site: Site,
     how: Use,
@@ -126,8 +130,12 @@ fn is_own_init(table: &ClassTable<'_>, how: Use, target: MethodTarget, name: &[u
     }
 }
 
-/// A method, where an `<init>` is that of the named class, and the method is of the instruction's kind.
-pub(crate) fn callable_method(
+/// A method, where an `<init>` is that of the named class, and the method is of the instruction's kind (JVMS 6.5).
+///
+/// # Errors
+///
+/// `NoSuchMethodError`, and then `IncompatibleClassChangeError`.
+pub fn callable_method(
     table: &ClassTable<'_>,
     how: Use,
     target: MethodTarget,
