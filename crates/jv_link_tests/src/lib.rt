@@ -13,6 +13,8 @@ mod files;
 #[cfg(test)]
 mod guest;
 #[cfg(test)]
+mod kept;
+#[cfg(test)]
 mod layout;
 #[cfg(test)]
 mod method;
