@@ -1,1 +1,4 @@
+pub mod Going
+pub mod Ordering
+pub mod Placing
 pub mod Selecting

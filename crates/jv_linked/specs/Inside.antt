@@ -1,3 +1,5 @@
 pub mod Fields
 pub mod Methods
+pub mod Orders
 pub mod Selections
+pub mod Words

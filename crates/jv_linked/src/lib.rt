@@ -5,7 +5,9 @@
 mod fields;
 mod linked;
 mod methods;
+mod orders;
 mod places;
 mod selections;
+mod words;
 
 pub use linked::{Linked, link};

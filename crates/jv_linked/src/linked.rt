@@ -1,9 +1,15 @@
 //! What a guest's classes link to.
 
-ghost use Rattle.std.specs.Prelude.{◌≡◌, ◌<◌, IsSome, IfOk, length};
+ghost use Rattle.std.specs.Prelude.{◌≡◌, ◌<◌, Some, IsSome, IfOk, IsTrue, length};
+ghost use Rattle.jv_meaning_world.specs.World.{World};
+ghost use Rattle.jv_meaning_world.specs.LookUps.{DeclaredField};
+ghost use Rattle.jv_meaning_world.specs.Verdicts.{is_loadable};
+ghost use Rattle.jv_meaning_linking.specs.Layout.{object_words};
+ghost use Rattle.jv_link.specs.Orders.{IsOrder};
+ghost use Rattle.jv_linked.specs.Places.{IsWordOf, static_words};
 ghost use Rattle.jv_meaning_world.specs.Numbers.{HoldsAtNumber};
 ghost use Rattle.jv_meaning_linking.specs.Operands.{field_operand, method_operand};
-ghost use Rattle.jv_lookups.specs.Places.{IsFieldPlace};
+ghost use Rattle.jv_lookups.specs.Places.{field_at, IsFieldPlace};
 ghost use Rattle.jv_link.specs.Seen.{IsSite, IsMethodTarget};
 ghost use Rattle.jv_link.specs.Objects.{IsObject};
 ghost use Rattle.jv_link.specs.Answers.{IsFieldResolved, IsMethodResolved, IsSelected};
@@ -11,11 +17,13 @@ ghost use Rattle.jv_linked.specs.Linked.{IsLinked};
 
 use crate::fields::{FieldEntry, empty_fields, field_by, used_field};
 use crate::methods::{MethodEntry, called_method, empty_methods, method_by};
+use crate::orders::{ClassOrder, all_orders, order_in};
 use crate::places::{all_constants, entry_place, first_constants, selection_count};
 use crate::selections::{Selection, empty_selections, selection_by};
+use crate::words::{ClassWords, all_words, object_words_in, word_in_all};
 use jv_link::{LinkError, MethodTarget, Site, Use, select};
-use jv_loader::{Classes, Memory, Place};
-use std::alloc::{AllocError, Global};
+use jv_loader::{ClassTable, Classes, Memory, Place};
+use std::alloc::Global;
 
 /// What a guest's classes link to (JVMS 5.4), with memory for what steps ask again: what a constant of a class resolves to, and
 /// which method a call runs. It is asked with the classes that [`link`] took.
@@ -26,6 +34,9 @@ pub struct Linked {
     virtuals: Vec<Option<Selection>>,
     interfaces: Vec<Option<Selection>>,
     specials: Vec<Option<Selection>>,
+    words: Vec<ClassWords>,
+    statics: usize,
+    orders: Vec<ClassOrder>,
 }
 
 impl Drop for Linked {
@@ -37,15 +48,18 @@ impl Drop for Linked {
             virtuals: _,
             interfaces: _,
             specials: _,
+            words: _,
+            statics: _,
+            orders: _,
         } = self;
     }
 }
 
 /// The same, by the table.
-fn link_in(alloc: Global, classes: &Classes<'_>) -> Result<Linked, AllocError>
-    ensures { IfOk result (IsLinked classes.now.world) }
+fn link_in(alloc: Global, table: &ClassTable<'_>, classes: &Classes<'_>) -> Result<Linked, Memory>
+    requires { classes.now.world ≡ table.now }
+    ensures { IfOk result (IsLinked table.now) }
 {
-    let table = classes.table();
     let firsts = first_constants(alloc, table)?;
     let constants = all_constants(table);
     let selections = selection_count(table);
@@ -54,6 +68,8 @@ fn link_in(alloc: Global, classes: &Classes<'_>) -> Result<Linked, AllocError>
     let virtuals = empty_selections(alloc, selections)?;
     let interfaces = empty_selections(alloc, selections)?;
     let specials = empty_selections(alloc, selections)?;
+    let words = all_words(alloc, table)?;
+    let orders = all_orders(alloc, table, classes)?;
     Ok(Linked {
         firsts,
         fields,
@@ -61,6 +77,9 @@ fn link_in(alloc: Global, classes: &Classes<'_>) -> Result<Linked, AllocError>
         virtuals,
         interfaces,
         specials,
+        words: words.0,
+        statics: words.1,
+        orders,
     })
 }
 
@@ -72,7 +91,7 @@ fn link_in(alloc: Global, classes: &Classes<'_>) -> Result<Linked, AllocError>
 pub fn link(alloc: Global, classes: &Classes<'_>) -> Result<Linked, Memory>
     ensures { IfOk result (IsLinked classes.now.world) }
 {
-    Ok(link_in(alloc, classes)?)
+    link_in(alloc, classes.table(), classes)
 }
 
 impl Linked {
@@ -172,5 +191,35 @@ impl Linked {
             }
             _ => select(classes, site, how, target, object),
         }
+    }
+
+    /// How many words an object of a class has, those of inherited fields among them (JVMS 2.7, own).
+    pub fn object_words(&self, class: usize) -> usize
+        ensures { (world : World) → IsLinked world self.now → HoldsAtNumber world class (λ l. result ≡ object_words world l) }
+    {
+        object_words_in(&self.words, class)
+    }
+
+    /// The first word of the field at a place: in the objects that have it, or of a static field among the words of all static
+    /// fields (JVMS 2.7, own).
+    pub fn word_of(&self, place: Place) -> usize
+        ensures { (world : World) (d : DeclaredField) → IsLinked world self.now → field_at world place ≡ Some d → IsWordOf world d result }
+    {
+        word_in_all(&self.words, place)
+    }
+
+    /// How many words the static fields of all classes have (own).
+    pub fn static_words(&self) -> usize
+        ensures { (world : World) → IsLinked world self.now → result ≡ static_words world }
+    {
+        self.statics
+    }
+
+    /// The numbers of the classes and interfaces that are initialized before a class that can be loaded, in their order (JVMS
+    /// 5.5).
+    pub fn init_order(&self, class: usize) -> &[usize]
+        ensures { (world : World) → IsLinked world self.now → HoldsAtNumber world class (λ l. IsTrue (is_loadable world l) → IsOrder world result.now l) }
+    {
+        order_in(&self.orders, class)
     }
 }

@@ -3,11 +3,13 @@ use Rattle.jv_linked.proofs.linked.link_in.Goals as goal
 
 pub returns : goal.returns
 returns c =
-    let world = c.args.classes.now.world in
+    let world = c.args.table.now in
     record {
       fields = c.in_ok-fields.ensures world;
       methods = c.in_ok-methods.ensures world;
       virtuals = c.in_ok-virtuals.ensures world Invokevirtual;
       interfaces = c.in_ok-interfaces.ensures world Invokeinterface;
       specials = c.in_ok-specials.ensures world Invokespecial;
+      words = c.in_ok-words.ensures;
+      orders = c.in_ok-orders.ensures;
     }
