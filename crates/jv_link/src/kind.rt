@@ -1,9 +1,12 @@
 //! Which fields and methods an instruction can use (JVMS 6.5).
 
 ghost use Rattle.std.specs.Prelude.{◌≡◌, ◌<◌, Some, IfOk, length};
+ghost use Rattle.jv_text.specs.Name.{is_init as is_init_name};
 ghost use Rattle.jv_class.specs.Class.{Field, Method};
 ghost use Rattle.jv_class.specs.Rules.{is_clinit};
-ghost use Rattle.jv_lookups.specs.Places.{field_at, IsFieldPlace};
+ghost use Rattle.jv_meaning_world.specs.Overriding.{Declared};
+ghost use Rattle.jv_meaning_world.specs.LookUps.{DeclaredField};
+ghost use Rattle.jv_lookups.specs.Places.{field_at, method_at, IsFieldPlace};
 ghost use Rattle.jv_meaning_linking.specs.Uses.{Site as SiteOfNames};
 ghost use Rattle.jv_meaning_linking.specs.Kind.{has_field_kind, can_set_final, can_use_final, has_method_kind};
 ghost use Rattle.jv_meaning_linking.specs.MethodResolution.{is_own_init};
@@ -91,12 +94,36 @@ fn can_use_final(table: &ClassTable<'_>, how: Use, site: Site, by: usize, flags:
     flags & FINAL == 0 || can_set_final(table, how, site, by)
 }
 
-/// A field, where it is of the instruction's kind, and not final where the instruction can't set it (JVMS 6.5).
+/// A field with these access flags, where it is of the instruction's kind, and not final where the instruction can't set it
+/// (JVMS 6.5).
 ///
 /// # Errors
 ///
 /// `IncompatibleClassChangeError`, and then `IllegalAccessError`.
-pub fn usable_field(
+pub fn usable_with(
+    table: &ClassTable<'_>,
+    site: Site,
+    how: Use,
+    place: Place,
+    flags: u16,
+) -> Result<Place, LinkError>
+    requires site { IsSite table.now site }
+    requires place { IsFieldPlace table.now place }
+    requires flags { (d : DeclaredField) → field_at table.now place ≡ Some d → flags ≡ d.field.access_flags }
+    ensures found { AnswersUsable table.now site how place result }
+    ensures place { IfOk result (λ found. found ≡ place) }
+{
+    if !has_field_kind(how, flags) {
+        return Err(LinkError::IncompatibleClassChangeError);
+    }
+    if !can_use_final(table, how, site, place.class, flags) {
+        return Err(LinkError::IllegalAccessError);
+    }
+    Ok(place)
+}
+
+/// A field, where it is of the instruction's kind, and not final where the instruction can't set it.
+pub(crate) fn usable_field(
     table: &ClassTable<'_>,
     site: Site,
     how: Use,
@@ -108,34 +135,50 @@ pub fn usable_field(
     ensures place { IfOk result (IsFieldPlace table.now) }
 {
     let field = field_at(table, place);
-    if !has_field_kind(how, field.access_flags) {
-        return Err(LinkError::IncompatibleClassChangeError);
-    }
-    if !can_use_final(table, how, site, place.class, field.access_flags) {
-        return Err(LinkError::IllegalAccessError);
-    }
-    Ok(place)
+    usable_with(table, site, how, place, field.access_flags)
 }
 
 /// Whether the named class declares an `<init>` itself that invokespecial calls.
-fn is_own_init(table: &ClassTable<'_>, how: Use, target: MethodTarget, name: &[u8]) -> bool
+fn is_own_init(table: &ClassTable<'_>, how: Use, target: MethodTarget, is_init: bool) -> bool
     requires { IsMethodTarget table.now target }
-    ensures { IsOwnInit table.now target how name.now result }
+    ensures { IsOwnInit table.now target how is_init result }
 {
     match how {
-        Use::Invokespecial => {
-            !is_init(name) || same_class(table, target.named, target.declared.class)
-        }
+        Use::Invokespecial => { !is_init || same_class(table, target.named, target.declared.class) }
         _ => true,
     }
 }
 
-/// A method, where an `<init>` is that of the named class, and the method is of the instruction's kind (JVMS 6.5).
+/// A method with these access flags, where an `<init>`, if it is one, is that of the named class, and the method is of the
+/// instruction's kind (JVMS 6.5).
 ///
 /// # Errors
 ///
 /// `NoSuchMethodError`, and then `IncompatibleClassChangeError`.
-pub fn callable_method(
+pub fn callable_with(
+    table: &ClassTable<'_>,
+    how: Use,
+    target: MethodTarget,
+    flags: u16,
+    is_init: bool,
+) -> Result<MethodTarget, LinkError>
+    requires target { IsMethodTarget table.now target }
+    requires flags { (d : Declared) → method_at table.now target.declared ≡ Some d → flags ≡ d.method.access_flags }
+    requires init { (d : Declared) → method_at table.now target.declared ≡ Some d → is_init ≡ is_init_name d.method.name }
+    ensures found { HoldsAtTarget table.now target (λ t. AnswersTarget table.now result (callable_method (seen_use how) t)) }
+    ensures target { IfOk result (λ found. found ≡ target) }
+{
+    if !is_own_init(table, how, target, is_init) {
+        return Err(LinkError::NoSuchMethodError);
+    }
+    if !has_method_kind(how, flags) {
+        return Err(LinkError::IncompatibleClassChangeError);
+    }
+    Ok(target)
+}
+
+/// A method, where an `<init>` is that of the named class, and the method is of the instruction's kind.
+pub(crate) fn callable_method(
     table: &ClassTable<'_>,
     how: Use,
     target: MethodTarget,
@@ -145,11 +188,11 @@ pub fn callable_method(
     ensures target { IfOk result (IsMethodTarget table.now) }
 {
     let method = method_at(table, target.declared);
-    if !is_own_init(table, how, target, method.name) {
-        return Err(LinkError::NoSuchMethodError);
-    }
-    if !has_method_kind(how, method.access_flags) {
-        return Err(LinkError::IncompatibleClassChangeError);
-    }
-    Ok(target)
+    callable_with(
+        table,
+        how,
+        target,
+        method.access_flags,
+        is_init(method.name),
+    )
 }

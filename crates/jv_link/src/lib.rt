@@ -28,7 +28,7 @@ pub use access::same_package;
 pub use class::{resolve_class, same_class};
 pub use error::LinkError;
 pub use field::{constants_field, resolve_field};
-pub use kind::{callable_method, usable_field};
+pub use kind::{callable_with, usable_with};
 pub use laying::layout_of;
 pub use layout::{Layout, PlacedField};
 pub use member::{class_at, field_at, method_at};

@@ -154,7 +154,7 @@ fn is_found(classes: &Classes<'_>, found: Result<Place, LinkError>, row: &Row<'_
 /// Whether a field is resolved as a row says: by its names, and twice by what is kept of it.
 fn resolves(
     classes: &Classes<'_>,
-    linked: &mut Linked,
+    linked: &mut Linked<'_>,
     site: Site,
     how: Use,
     index: u16,
@@ -172,7 +172,7 @@ fn resolves(
 }
 
 /// Whether a field is resolved as a row says.
-pub(crate) fn is_right(classes: &Classes<'_>, linked: &mut Linked, row: &Row<'_>) -> bool
+pub(crate) fn is_right(classes: &Classes<'_>, linked: &mut Linked<'_>, row: &Row<'_>) -> bool
     requires { IsLinked classes.now.world linked.old }
     ensures { IsLinked classes.now.world linked.new }
 {

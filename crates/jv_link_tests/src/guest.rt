@@ -3,7 +3,7 @@
 ghost use Rattle.jv_linked.specs.Linked.{IsLinked};
 
 use crate::row::{Row, is_comment, read_row};
-use crate::{class, field, files, layout, method, order};
+use crate::{class, field, files, layout, method, order, uses};
 use jv_linked::{Linked, link};
 use jv_loader::{Classes, SystemFiles, system_files};
 use std::alloc::{AllocError, Global};
@@ -18,6 +18,8 @@ pub(crate) enum Table {
     Selections,
     Orders,
     Layouts,
+    FieldUses,
+    MethodUses,
 }
 
 /// What is answered where the host had no memory, or a line has no class.
@@ -27,7 +29,7 @@ pub(crate) const NO_MEMORY: &str = "no memory";
 fn is_right(
     alloc: Global,
     classes: &Classes<'_>,
-    linked: &mut Linked,
+    linked: &mut Linked<'_>,
     table: Table,
     row: &Row<'_>,
 ) -> Option<bool>
@@ -39,15 +41,17 @@ fn is_right(
         Table::Fields => Some(field::is_right(classes, linked, row)),
         Table::Methods => Some(method::resolves(classes, linked, row)),
         Table::Selections => Some(method::selects(classes, linked, row)),
-        Table::Orders => order::is_right(alloc, classes, row),
-        Table::Layouts => layout::is_right(alloc, classes, row),
+        Table::Orders => order::is_right(alloc, classes, linked, row),
+        Table::Layouts => layout::is_right(alloc, classes, linked, row),
+        Table::FieldUses => Some(uses::is_field_right(classes, linked, row)),
+        Table::MethodUses => Some(uses::is_method_right(classes, linked, row)),
     }
 }
 
 fn wrong_in<'r>(
     alloc: Global,
     classes: &Classes<'_>,
-    linked: &mut Linked,
+    linked: &mut Linked<'_>,
     table: Table,
     rows: &'r str,
 ) -> &'r str

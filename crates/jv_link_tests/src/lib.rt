@@ -30,3 +30,5 @@ mod row;
 mod site;
 #[cfg(test)]
 mod special;
+#[cfg(test)]
+mod uses;

@@ -225,7 +225,7 @@ fn is_found(classes: &Classes<'_>, found: Result<MethodTarget, LinkError>, row: 
 /// Whether a method is resolved as a row says: by its names, and twice by what is kept of it.
 fn is_resolved(
     classes: &Classes<'_>,
-    linked: &mut Linked,
+    linked: &mut Linked<'_>,
     site: Site,
     how: Use,
     index: u16,
@@ -243,7 +243,7 @@ fn is_resolved(
 }
 
 /// Whether a method is resolved as a row says.
-pub(crate) fn resolves(classes: &Classes<'_>, linked: &mut Linked, row: &Row<'_>) -> bool
+pub(crate) fn resolves(classes: &Classes<'_>, linked: &mut Linked<'_>, row: &Row<'_>) -> bool
     requires { IsLinked classes.now.world linked.old }
     ensures { IsLinked classes.now.world linked.new }
 {
@@ -286,7 +286,7 @@ fn object_of(classes: &Classes<'_>, row: &Row<'_>) -> Option<Option<usize>>
 /// Whether the method that a row says runs, of the one that is resolved: by its names, and twice by what is kept of it.
 fn is_selected(
     classes: &Classes<'_>,
-    linked: &mut Linked,
+    linked: &mut Linked<'_>,
     site: Site,
     how: Use,
     target: &MethodTarget,
@@ -308,7 +308,7 @@ fn is_selected(
 /// Whether the method that a row says runs.
 fn runs(
     classes: &Classes<'_>,
-    linked: &mut Linked,
+    linked: &mut Linked<'_>,
     site: Site,
     how: Use,
     index: u16,
@@ -329,7 +329,7 @@ fn runs(
 }
 
 /// Whether the method that a row says runs.
-pub(crate) fn selects(classes: &Classes<'_>, linked: &mut Linked, row: &Row<'_>) -> bool
+pub(crate) fn selects(classes: &Classes<'_>, linked: &mut Linked<'_>, row: &Row<'_>) -> bool
     requires { IsLinked classes.now.world linked.old }
     ensures { IsLinked classes.now.world linked.new }
 {

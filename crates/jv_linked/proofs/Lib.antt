@@ -1,4 +1,6 @@
+pub mod Bodied
 pub mod Going
-pub mod Ordering
+pub mod Inherited
+pub mod Eachwise
 pub mod Placing
 pub mod Selecting

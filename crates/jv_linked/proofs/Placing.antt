@@ -18,6 +18,7 @@ use Rattle.jv_lookups.specs.Places.{field_in, field_at}
 use Rattle.jv_meaning_linking.specs.Kind.{is_static_field}
 use Rattle.jv_meaning_linking.specs.Layout.{own_fields, instance_fields, field_words, object_words, Placed, laid_at, placed_from, layout}
 use Rattle.jv_meaning_linking.proofs.Places.{placed_go_on}
+use Rattle.jv_linked.proofs.Eachwise.{within_list}
 use Rattle.jv_linked.specs.declared.words.Ends.{Ends}
 use Rattle.jv_linked.specs.declared.words.ClassWords.{ClassWords}
 use Rattle.jv_linked.specs.Inside.Words.{width_of, behind, words_from, ends_from, no_words, own_words, inherited_words, first_ends, all_words, seen_words, AreWords, static_end as static_end_of}
@@ -31,12 +32,6 @@ map_found f [] zero x e = absurd cc
 map_found f [] (suc k) x e = absurd cc
 map_found f (y ∷ xs) zero x e = ap (λ z. Some (f z)) (same_some e)
 map_found f (y ∷ xs) (suc k) x e = map_found f xs k x e
-
-pub within_list : {X : Type 0} → (xs : List X) (k : ℕ) (x : X) → slice_get xs k ≡ Some x → k < length xs
-within_list [] zero x e = absurd cc
-within_list [] (suc k) x e = absurd cc
-within_list (y ∷ xs) zero x e = omega arith
-within_list (y ∷ xs) (suc k) x e = let less = within_list xs k x e in omega (arith, less)
 
 first_one : {X : Type 0} → (xs : List X) (x : X) → Contains (x ∷ xs) x
 first_one xs x = (0, omega arith, refl)
@@ -252,25 +247,25 @@ module _ (world : World) where
 
   -- ---- what is found at a number
 
-  pub object_found : (words : List ClassWords) (n k : ℕ) (d : ClassWords) (l : Loaded) → AreWords world words n → k < length words → slice_get world k ≡ Some l
+  pub object_found : (words : List ClassWords) (k : ℕ) (d : ClassWords) (l : Loaded) → AreWords world words → k < length words → slice_get world k ≡ Some l
       → (get_or words k d).object ≡ object_words world l
-  object_found words n k d l are h at =
+  object_found words k d l are h at =
       let row = map_found seen_words words k (get_or words k d) (slice_get-get_or words k d h) in
       let stands = class_stands world 0 k l (seen_words (get_or words k d)) at (ap (λ rs. slice_get rs k) (sym are.words_of) ∙ row) in
       stands.object ∙ object_is l stands.first
 
-  many_words : (words : List ClassWords) (n : ℕ) → AreWords world words n → length words ≡ length world
-  many_words words n are = sym (length-map words seen_words) ∙ (ap length are.words_of ∙ many_classes world 0)
+  many_words : (words : List ClassWords) → AreWords world words → length words ≡ length world
+  many_words words are = sym (length-map words seen_words) ∙ (ap length are.words_of ∙ many_classes world 0)
 
-  pub none_beyond : (words : List ClassWords) (n k : ℕ) (l : Loaded) → AreWords world words n → length words ≤ k → slice_get world k ≡ Some l → ⊥
-  none_beyond words n k l are h at =
+  pub none_beyond : (words : List ClassWords) (k : ℕ) (l : Loaded) → AreWords world words → length words ≤ k → slice_get world k ≡ Some l → ⊥
+  none_beyond words k l are h at =
       let less = within_list world k l at in
-      let many = many_words words n are in
+      let many = many_words words are in
       absurd (omega (arith, less, many, h))
 
-  pub word_found : (words : List ClassWords) (n : ℕ) (place : Place) (d : DeclaredField) (row : ClassWords) (w : ℕ) → AreWords world words n → field_at world place ≡ Some d
+  pub word_found : (words : List ClassWords) (place : Place) (d : DeclaredField) (row : ClassWords) (w : ℕ) → AreWords world words → field_at world place ≡ Some d
       → place.class < length words → ((word : ℕ) → slice_get (get_or words place.class row).fields.items place.member ≡ Some word → w ≡ word) → IsWordOf world d w
-  word_found words n place d row w are at h clause =
+  word_found words place d row w are at h clause =
       let p = parts place d at in
       let shown = map_found seen_words words place.class (get_or words place.class row) (slice_get-get_or words place.class row h) in
       let stands = class_stands world 0 place.class p.l (seen_words (get_or words place.class row)) p.class (ap (λ rs. slice_get rs place.class) (sym are.words_of) ∙ shown) in
@@ -281,5 +276,5 @@ module _ (world : World) where
       subst (λ v. IsWordOf world d v) (sym (clause (get_or (get_or words place.class row).fields.items place.member 0) word))
       (word_stands (map seen_words words) place d (seen_words (get_or words place.class row)) (get_or (get_or words place.class row).fields.items place.member 0) are.words_of at shown word)
 
-  pub place_beyond : (words : List ClassWords) (n : ℕ) (place : Place) (d : DeclaredField) → AreWords world words n → field_at world place ≡ Some d → length words ≤ place.class → ⊥
-  place_beyond words n place d are at h = let p = parts place d at in none_beyond words n place.class p.l are h p.class
+  pub place_beyond : (words : List ClassWords) (place : Place) (d : DeclaredField) → AreWords world words → field_at world place ≡ Some d → length words ≤ place.class → ⊥
+  place_beyond words place d are at h = let p = parts place d at in none_beyond words place.class p.l are h p.class

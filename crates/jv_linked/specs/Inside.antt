@@ -1,3 +1,5 @@
+pub mod Bodies
+pub mod Each
 pub mod Fields
 pub mod Methods
 pub mod Orders

@@ -5,13 +5,17 @@ ghost use Rattle.std.specs.List.{All};
 ghost use Rattle.jv_meaning_world.specs.World.{World};
 ghost use Rattle.jv_meaning_world.specs.Numbers.{HoldsAtNumber};
 ghost use Rattle.jv_meaning_linking.specs.Operands.{field_operand};
-ghost use Rattle.jv_lookups.specs.Places.{IsFieldPlace};
 ghost use Rattle.jv_link.specs.Seen.{IsSite};
 ghost use Rattle.jv_link.specs.Answers.{IsFieldResolved};
+ghost use Rattle.jv_link.specs.Inside.Steps.{AnswersUsable};
+ghost use Rattle.jv_linked.specs.FieldUses.{IsFieldUse, used_place};
+ghost use Rattle.jv_linked.specs.Inside.Words.{AreWords};
 ghost use Rattle.jv_linked.specs.Inside.Fields.{IsFound, IsEntry};
 
-use jv_link::{LinkError, Site, Use, constants_field, usable_field};
-use jv_loader::{ClassTable, Classes, Place};
+use crate::field_use::{FieldUse, field_used};
+use crate::words::ClassWords;
+use jv_link::{LinkError, Site, Use, constants_field, usable_with};
+use jv_loader::{ClassTable, Classes};
 use std::alloc::{AllocError, Global};
 
 /// A Fieldref constant, by the number of its class and its index there, and what it resolves to.
@@ -19,7 +23,7 @@ use std::alloc::{AllocError, Global};
 pub(crate) struct FieldEntry {
     pub(crate) class: usize,
     pub(crate) index: u16,
-    pub(crate) found: Result<Place, LinkError>,
+    pub(crate) found: Result<FieldUse, LinkError>,
 }
 
 /// What a constant resolves to, where that is known.
@@ -28,7 +32,7 @@ fn known(
     at: usize,
     class: usize,
     index: u16,
-) -> Option<Result<Place, LinkError>>
+) -> Option<Result<FieldUse, LinkError>>
     ensures { (world : World) → All (IsEntry world) entries.now → IfSome result (IsFound world class index) }
 {
     if at < entries.len()
@@ -50,24 +54,48 @@ fn keep(entries: &mut [Option<FieldEntry>], at: usize, entry: FieldEntry)
     }
 }
 
+/// What a constant resolves to, by its names.
+fn found_anew(
+    table: &ClassTable<'_>,
+    classes: &Classes<'_>,
+    words: &[ClassWords],
+    class: usize,
+    index: u16,
+) -> Result<FieldUse, LinkError>
+    requires same { classes.now.world ≡ table.now }
+    requires words { AreWords table.now words.now }
+    requires class { class < length table.now }
+    requires index { HoldsAtNumber table.now class (λ l. IsSome (field_operand l.class index)) }
+    ensures { IsFound table.now class index result }
+{
+    match constants_field(classes, class, index) {
+        Ok(place) => Ok(field_used(table, words, place)),
+        Err(error) => Err(error),
+    }
+}
+
 /// What a constant resolves to, by the entry at a place, where it is there.
 pub(crate) fn field_by(
     entries: &mut [Option<FieldEntry>],
     at: usize,
+    table: &ClassTable<'_>,
     classes: &Classes<'_>,
+    words: &[ClassWords],
     class: usize,
     index: u16,
-) -> Result<Place, LinkError>
-    requires entries { All (IsEntry classes.now.world) entries.old }
-    requires class { class < length classes.now.world }
-    requires index { HoldsAtNumber classes.now.world class (λ l. IsSome (field_operand l.class index)) }
-    ensures found { IsFound classes.now.world class index result }
-    ensures entries { All (IsEntry classes.now.world) entries.new }
+) -> Result<FieldUse, LinkError>
+    requires same { classes.now.world ≡ table.now }
+    requires entries { All (IsEntry table.now) entries.old }
+    requires words { AreWords table.now words.now }
+    requires class { class < length table.now }
+    requires index { HoldsAtNumber table.now class (λ l. IsSome (field_operand l.class index)) }
+    ensures found { IsFound table.now class index result }
+    ensures entries { All (IsEntry table.now) entries.new }
 {
     if let Some(found) = known(entries, at, class, index) {
         return found;
     }
-    let found = constants_field(classes, class, index);
+    let found = found_anew(table, classes, words, class, index);
     keep(
         entries,
         at,
@@ -94,22 +122,40 @@ pub(crate) fn empty_fields(
     Ok(entries)
 }
 
+/// A field, where an instruction at a site can use it.
+fn used_at(
+    table: &ClassTable<'_>,
+    site: Site,
+    how: Use,
+    used: FieldUse,
+) -> Result<FieldUse, LinkError>
+    requires site { IsSite table.now site }
+    requires used { IsFieldUse table.now used }
+    ensures found { AnswersUsable table.now site how used.place (used_place result) }
+    ensures used { IfOk result (IsFieldUse table.now) }
+{
+    match usable_with(table, site, how, used.place, used.access_flags) {
+        Ok(_) => Ok(used),
+        Err(error) => Err(error),
+    }
+}
+
 /// What was found, as an instruction at a site uses it.
 pub(crate) fn used_field(
     table: &ClassTable<'_>,
     site: Site,
     how: Use,
     index: u16,
-    found: Result<Place, LinkError>,
-) -> Result<Place, LinkError>
+    found: Result<FieldUse, LinkError>,
+) -> Result<FieldUse, LinkError>
     requires site { IsSite table.now site }
     requires found { IsFound table.now site.class index found }
-    ensures found { IsFieldResolved table.now site how index result }
-    ensures place { IfOk result (IsFieldPlace table.now) }
+    ensures found { IsFieldResolved table.now site how index (used_place result) }
+    ensures used { IfOk result (IsFieldUse table.now) }
 {
     let _index = index;
     match found {
-        Ok(place) => usable_field(table, site, how, place),
+        Ok(used) => used_at(table, site, how, used),
         Err(error) => Err(error),
     }
 }

@@ -2,12 +2,20 @@
 //! again, and [`Linked`] answers as the calls of `jv_link` do, and takes none.
 #![tactic(auto)]
 
+mod bodies;
+mod field_use;
 mod fields;
+mod law;
 mod linked;
+mod method_use;
 mod methods;
 mod orders;
 mod places;
 mod selections;
 mod words;
 
+pub use bodies::Body;
+pub use field_use::{FieldKind, FieldUse};
+pub use law::words_are_inherited;
 pub use linked::{Linked, link};
+pub use method_use::MethodUse;

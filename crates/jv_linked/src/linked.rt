@@ -6,16 +6,23 @@ ghost use Rattle.jv_meaning_world.specs.LookUps.{DeclaredField};
 ghost use Rattle.jv_meaning_world.specs.Verdicts.{is_loadable};
 ghost use Rattle.jv_meaning_linking.specs.Layout.{object_words};
 ghost use Rattle.jv_link.specs.Orders.{IsOrder};
+ghost use Rattle.jv_meaning_world.specs.Overriding.{Declared};
+ghost use Rattle.jv_linked.specs.Bodies.{IsBody};
 ghost use Rattle.jv_linked.specs.Places.{IsWordOf, static_words};
 ghost use Rattle.jv_meaning_world.specs.Numbers.{HoldsAtNumber};
 ghost use Rattle.jv_meaning_linking.specs.Operands.{field_operand, method_operand};
-ghost use Rattle.jv_lookups.specs.Places.{field_at, IsFieldPlace};
+ghost use Rattle.jv_lookups.specs.Places.{field_at, method_at, IsFieldPlace};
 ghost use Rattle.jv_link.specs.Seen.{IsSite, IsMethodTarget};
 ghost use Rattle.jv_link.specs.Objects.{IsObject};
 ghost use Rattle.jv_link.specs.Answers.{IsFieldResolved, IsMethodResolved, IsSelected};
+ghost use Rattle.jv_linked.specs.FieldUses.{IsFieldUse, used_place};
+ghost use Rattle.jv_linked.specs.MethodUses.{IsMethodUse, used_target};
 ghost use Rattle.jv_linked.specs.Linked.{IsLinked};
 
+use crate::bodies::{Body, ClassBodies, all_bodies, body_in};
+use crate::field_use::FieldUse;
 use crate::fields::{FieldEntry, empty_fields, field_by, used_field};
+use crate::method_use::MethodUse;
 use crate::methods::{MethodEntry, called_method, empty_methods, method_by};
 use crate::orders::{ClassOrder, all_orders, order_in};
 use crate::places::{all_constants, entry_place, first_constants, selection_count};
@@ -27,7 +34,7 @@ use std::alloc::Global;
 
 /// What a guest's classes link to (JVMS 5.4), with memory for what steps ask again: what a constant of a class resolves to, and
 /// which method a call runs. It is asked with the classes that [`link`] took.
-pub struct Linked {
+pub struct Linked<'a> {
     firsts: Vec<usize>,
     fields: Vec<Option<FieldEntry>>,
     methods: Vec<Option<MethodEntry>>,
@@ -37,9 +44,10 @@ pub struct Linked {
     words: Vec<ClassWords>,
     statics: usize,
     orders: Vec<ClassOrder>,
+    bodies: Vec<ClassBodies<'a>>,
 }
 
-impl Drop for Linked {
+impl Drop for Linked<'_> {
     fn drop(self) {
         let Linked {
             firsts: _,
@@ -51,12 +59,17 @@ impl Drop for Linked {
             words: _,
             statics: _,
             orders: _,
+            bodies: _,
         } = self;
     }
 }
 
 /// The same, by the table.
-fn link_in(alloc: Global, table: &ClassTable<'_>, classes: &Classes<'_>) -> Result<Linked, Memory>
+fn link_in<'a>(
+    alloc: Global,
+    table: &ClassTable<'a>,
+    classes: &Classes<'a>,
+) -> Result<Linked<'a>, Memory>
     requires { classes.now.world ≡ table.now }
     ensures { IfOk result (IsLinked table.now) }
 {
@@ -70,6 +83,7 @@ fn link_in(alloc: Global, table: &ClassTable<'_>, classes: &Classes<'_>) -> Resu
     let specials = empty_selections(alloc, selections)?;
     let words = all_words(alloc, table)?;
     let orders = all_orders(alloc, table, classes)?;
+    let bodies = all_bodies(alloc, table)?;
     Ok(Linked {
         firsts,
         fields,
@@ -80,6 +94,7 @@ fn link_in(alloc: Global, table: &ClassTable<'_>, classes: &Classes<'_>) -> Resu
         words: words.0,
         statics: words.1,
         orders,
+        bodies,
     })
 }
 
@@ -88,16 +103,50 @@ fn link_in(alloc: Global, table: &ClassTable<'_>, classes: &Classes<'_>) -> Resu
 /// # Errors
 ///
 /// Where the host had no memory for it; nothing is then kept.
-pub fn link(alloc: Global, classes: &Classes<'_>) -> Result<Linked, Memory>
+pub fn link<'a>(alloc: Global, classes: &Classes<'a>) -> Result<Linked<'a>, Memory>
     ensures { IfOk result (IsLinked classes.now.world) }
 {
     link_in(alloc, classes.table(), classes)
 }
 
-impl Linked {
+impl<'a> Linked<'a> {
     /// The field that the Fieldref constant at an index resolves to at a site, for an instruction, as
-    /// `jv_link`'s `resolve_field` answers it (JVMS 5.4.3.2, 5.4.4, 6.5). Asked again, it is one entry that is read; it
-    /// takes no memory.
+    /// `jv_link`'s `resolve_field` answers it (JVMS 5.4.3.2, 5.4.4, 6.5), with what a step asks of it. Asked again, it is one
+    /// entry that is read; it takes no memory.
+    ///
+    /// # Errors
+    ///
+    /// As JVMS 5.4.3.2 and 6.5 have them.
+    pub fn field_use(
+        &mut self,
+        classes: &Classes<'_>,
+        site: Site,
+        how: Use,
+        index: u16,
+    ) -> Result<FieldUse, LinkError>
+        requires linked { IsLinked classes.now.world self.old }
+        requires site { IsSite classes.now.world site }
+        requires index { HoldsAtNumber classes.now.world site.class (λ l. IsSome (field_operand l.class index)) }
+        ensures found { IsFieldResolved classes.now.world site how index (used_place result) }
+        ensures used { IfOk result (IsFieldUse classes.now.world) }
+        ensures linked { IsLinked classes.now.world self.new }
+    {
+        let at = entry_place(&self.firsts, site.class, index);
+        let table = classes.table();
+        let found = field_by(
+            &mut self.fields,
+            at,
+            table,
+            classes,
+            &self.words,
+            site.class,
+            index,
+        );
+        used_field(table, site, how, index, found)
+    }
+
+    /// The field that the Fieldref constant at an index resolves to at a site, for an instruction, as `jv_link`'s
+    /// `resolve_field` answers it.
     ///
     /// # Errors
     ///
@@ -116,14 +165,41 @@ impl Linked {
         ensures place { IfOk result (IsFieldPlace classes.now.world) }
         ensures linked { IsLinked classes.now.world self.new }
     {
-        let at = entry_place(&self.firsts, site.class, index);
-        let found = field_by(&mut self.fields, at, classes, site.class, index);
-        used_field(classes.table(), site, how, index, found)
+        match self.field_use(classes, site, how, index) {
+            Ok(used) => Ok(used.place),
+            Err(error) => Err(error),
+        }
     }
 
     /// The method that the Methodref or InterfaceMethodref constant at an index resolves to at a site, for an instruction, as
-    /// `jv_link`'s `resolve_method` answers it (JVMS 5.4.3.3, 5.4.3.4, 5.4.4, 6.5). Asked again, it is one entry that is
-    /// read; it takes no memory.
+    /// `jv_link`'s `resolve_method` answers it (JVMS 5.4.3.3, 5.4.3.4, 5.4.4, 6.5), with what a step asks of it. Asked again,
+    /// it is one entry that is read; it takes no memory.
+    ///
+    /// # Errors
+    ///
+    /// As JVMS 5.4.3.3, 5.4.3.4 and 6.5 have them.
+    pub fn method_use(
+        &mut self,
+        classes: &Classes<'_>,
+        site: Site,
+        how: Use,
+        index: u16,
+    ) -> Result<MethodUse, LinkError>
+        requires linked { IsLinked classes.now.world self.old }
+        requires site { IsSite classes.now.world site }
+        requires index { HoldsAtNumber classes.now.world site.class (λ l. IsSome (method_operand l.class index)) }
+        ensures found { IsMethodResolved classes.now.world site how index (used_target result) }
+        ensures called { IfOk result (IsMethodUse classes.now.world) }
+        ensures linked { IsLinked classes.now.world self.new }
+    {
+        let at = entry_place(&self.firsts, site.class, index);
+        let table = classes.table();
+        let found = method_by(&mut self.methods, at, table, classes, site.class, index);
+        called_method(table, site, how, index, found)
+    }
+
+    /// The method that the Methodref or InterfaceMethodref constant at an index resolves to at a site, for an instruction, as
+    /// `jv_link`'s `resolve_method` answers it.
     ///
     /// # Errors
     ///
@@ -142,9 +218,10 @@ impl Linked {
         ensures target { IfOk result (IsMethodTarget classes.now.world) }
         ensures linked { IsLinked classes.now.world self.new }
     {
-        let at = entry_place(&self.firsts, site.class, index);
-        let found = method_by(&mut self.methods, at, classes, site.class, index);
-        called_method(classes.table(), site, how, index, found)
+        match self.method_use(classes, site, how, index) {
+            Ok(called) => Ok(called.target),
+            Err(error) => Err(error),
+        }
     }
 
     /// The method that a call at a site runs, as `jv_link`'s `select` answers it (JVMS 6.5), of the target that was resolved for
@@ -221,5 +298,12 @@ impl Linked {
         ensures { (world : World) → IsLinked world self.now → HoldsAtNumber world class (λ l. IsTrue (is_loadable world l) → IsOrder world result.now l) }
     {
         order_in(&self.orders, class)
+    }
+
+    /// The method at a place with its code (JVMS 4.6, 4.7.3), where it has code.
+    pub fn body_at(&self, place: Place) -> Option<Body<'a>>
+        ensures { (world : World) (d : Declared) → IsLinked world self.now → method_at world place ≡ Some d → IsBody d.method result }
+    {
+        body_in(&self.bodies, place)
     }
 }

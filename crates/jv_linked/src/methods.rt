@@ -5,11 +5,14 @@ ghost use Rattle.std.specs.List.{All};
 ghost use Rattle.jv_meaning_world.specs.World.{World};
 ghost use Rattle.jv_meaning_world.specs.Numbers.{HoldsAtNumber};
 ghost use Rattle.jv_meaning_linking.specs.Operands.{method_operand};
-ghost use Rattle.jv_link.specs.Seen.{IsSite, IsMethodTarget};
-ghost use Rattle.jv_link.specs.Answers.{IsMethodResolved};
+ghost use Rattle.jv_link.specs.Seen.{IsSite, seen_use};
+ghost use Rattle.jv_link.specs.Answers.{AnswersTarget, HoldsAtTarget, IsMethodResolved};
+ghost use Rattle.jv_link.specs.Inside.Steps.{callable_method};
+ghost use Rattle.jv_linked.specs.MethodUses.{IsMethodUse, used_target};
 ghost use Rattle.jv_linked.specs.Inside.Methods.{IsFound, IsEntry};
 
-use jv_link::{LinkError, MethodTarget, Site, Use, callable_method, constants_method};
+use crate::method_use::{MethodUse, method_called};
+use jv_link::{LinkError, Site, Use, callable_with, constants_method};
 use jv_loader::{ClassTable, Classes};
 use std::alloc::{AllocError, Global};
 
@@ -18,7 +21,7 @@ use std::alloc::{AllocError, Global};
 pub(crate) struct MethodEntry {
     pub(crate) class: usize,
     pub(crate) index: u16,
-    pub(crate) found: Result<MethodTarget, LinkError>,
+    pub(crate) found: Result<MethodUse, LinkError>,
 }
 
 /// What a constant resolves to, where that is known.
@@ -27,7 +30,7 @@ fn known(
     at: usize,
     class: usize,
     index: u16,
-) -> Option<Result<MethodTarget, LinkError>>
+) -> Option<Result<MethodUse, LinkError>>
     ensures { (world : World) → All (IsEntry world) entries.now → IfSome result (IsFound world class index) }
 {
     if at < entries.len()
@@ -49,24 +52,44 @@ fn keep(entries: &mut [Option<MethodEntry>], at: usize, entry: MethodEntry)
     }
 }
 
+/// What a constant resolves to, by its names.
+fn found_anew(
+    table: &ClassTable<'_>,
+    classes: &Classes<'_>,
+    class: usize,
+    index: u16,
+) -> Result<MethodUse, LinkError>
+    requires same { classes.now.world ≡ table.now }
+    requires class { class < length table.now }
+    requires index { HoldsAtNumber table.now class (λ l. IsSome (method_operand l.class index)) }
+    ensures { IsFound table.now class index result }
+{
+    match constants_method(classes, class, index) {
+        Ok(target) => Ok(method_called(table, target)),
+        Err(error) => Err(error),
+    }
+}
+
 /// What a constant resolves to, by the entry at a place, where it is there.
 pub(crate) fn method_by(
     entries: &mut [Option<MethodEntry>],
     at: usize,
+    table: &ClassTable<'_>,
     classes: &Classes<'_>,
     class: usize,
     index: u16,
-) -> Result<MethodTarget, LinkError>
-    requires entries { All (IsEntry classes.now.world) entries.old }
-    requires class { class < length classes.now.world }
-    requires index { HoldsAtNumber classes.now.world class (λ l. IsSome (method_operand l.class index)) }
-    ensures found { IsFound classes.now.world class index result }
-    ensures entries { All (IsEntry classes.now.world) entries.new }
+) -> Result<MethodUse, LinkError>
+    requires same { classes.now.world ≡ table.now }
+    requires entries { All (IsEntry table.now) entries.old }
+    requires class { class < length table.now }
+    requires index { HoldsAtNumber table.now class (λ l. IsSome (method_operand l.class index)) }
+    ensures found { IsFound table.now class index result }
+    ensures entries { All (IsEntry table.now) entries.new }
 {
     if let Some(found) = known(entries, at, class, index) {
         return found;
     }
-    let found = constants_method(classes, class, index);
+    let found = found_anew(table, classes, class, index);
     keep(
         entries,
         at,
@@ -93,22 +116,40 @@ pub(crate) fn empty_methods(
     Ok(entries)
 }
 
+/// A method, where an instruction can call it.
+fn called_by(table: &ClassTable<'_>, how: Use, called: MethodUse) -> Result<MethodUse, LinkError>
+    requires { IsMethodUse table.now called }
+    ensures found { HoldsAtTarget table.now called.target (λ t. AnswersTarget table.now (used_target result) (callable_method (seen_use how) t)) }
+    ensures called { IfOk result (IsMethodUse table.now) }
+{
+    match callable_with(
+        table,
+        how,
+        called.target,
+        called.access_flags,
+        called.is_init,
+    ) {
+        Ok(_) => Ok(called),
+        Err(error) => Err(error),
+    }
+}
+
 /// What was found, as an instruction at a site calls it.
 pub(crate) fn called_method(
     table: &ClassTable<'_>,
     site: Site,
     how: Use,
     index: u16,
-    found: Result<MethodTarget, LinkError>,
-) -> Result<MethodTarget, LinkError>
+    found: Result<MethodUse, LinkError>,
+) -> Result<MethodUse, LinkError>
     requires site { IsSite table.now site }
     requires found { IsFound table.now site.class index found }
-    ensures found { IsMethodResolved table.now site how index result }
-    ensures target { IfOk result (IsMethodTarget table.now) }
+    ensures found { IsMethodResolved table.now site how index (used_target result) }
+    ensures called { IfOk result (IsMethodUse table.now) }
 {
     let _index = index;
     match found {
-        Ok(target) => callable_method(table, how, target),
+        Ok(called) => called_by(table, how, called),
         Err(error) => Err(error),
     }
 }

@@ -6,7 +6,7 @@ ghost use Rattle.std.specs.Str.{bytes_eq};
 ghost use Rattle.jv_class.specs.Class.{Field};
 ghost use Rattle.jv_classes.specs.Members.{IsField};
 ghost use Rattle.jv_meaning_world.specs.Numbers.{HoldsAtNumber};
-ghost use Rattle.jv_linked.specs.Inside.Words.{word_in, behind, words_from, ends_from, own_words, inherited_words, seen_words, AreWords};
+ghost use Rattle.jv_linked.specs.Inside.Words.{word_in, behind, words_from, ends_from, own_words, inherited_words, seen_words, static_end, AreWords};
 ghost use Rattle.jv_linked.specs.Places.{IsWordOf, static_words};
 ghost use Rattle.jv_meaning_world.specs.World.{World};
 ghost use Rattle.jv_meaning_world.specs.LookUps.{DeclaredField};
@@ -169,7 +169,8 @@ pub(crate) fn all_words(
     alloc: Global,
     table: &ClassTable<'_>,
 ) -> Result<(Vec<ClassWords>, usize), AllocError>
-    ensures { IfOk result (λ r. AreWords table.now r.0.items r.1) }
+    ensures words { IfOk result (λ r. AreWords table.now r.0.items) }
+    ensures statics { IfOk result (λ r. r.1 ≡ static_end table.now 0 table.now) }
 {
     let own = all_own_words(alloc, table)?;
     let mut all = Vec::with_capacity(alloc, table.count())?;
@@ -185,7 +186,7 @@ pub(crate) fn all_words(
 
 /// How many words an object of a class has.
 pub(crate) fn object_words_in(words: &[ClassWords], class: usize) -> usize
-    ensures { (world : World) (n : ℕ) → AreWords world words.now n → HoldsAtNumber world class (λ l. result ≡ object_words world l) }
+    ensures { (world : World) → AreWords world words.now → HoldsAtNumber world class (λ l. result ≡ object_words world l) }
 {
     if class < words.len() {
         words[class].object
@@ -207,7 +208,7 @@ fn word_at(fields: &[usize], member: usize) -> usize
 
 /// The first word of the field at a place.
 pub(crate) fn word_in_all(words: &[ClassWords], place: Place) -> usize
-    ensures { (world : World) (n : ℕ) (d : DeclaredField) → AreWords world words.now n → field_at world place ≡ Some d → IsWordOf world d result }
+    ensures { (world : World) (d : DeclaredField) → AreWords world words.now → field_at world place ≡ Some d → IsWordOf world d result }
 {
     if place.class < words.len() {
         word_at(&words[place.class].fields, place.member)

@@ -30,6 +30,7 @@ use Rattle.jv_link.specs.Inside.References.{reference_of}
 use Rattle.jv_link.specs.declared.reference.MethodName.{MethodName}
 use Rattle.std.specs.Borrow.{Bor}
 use Rattle.jv_text.specs.declared.descriptor.FieldTypeOf.{FieldTypeOf}
+use Rattle.jv_text.specs.Name.{is_init}
 use Rattle.jv_text.specs.Seen.{seen_field_type, seen_element}
 
 -- a class of the world, where it is loadable and open to the current one (JVMS 5.4.3.1)
@@ -102,10 +103,10 @@ AnswersUsable world site how place answer =
     → slice_get world place.class ≡ Some d.by → AnswersField world answer (usable_field (seen_use how) s d)
 
 -- the method that a target names is that of the class itself, where it is an `<init>`
-abbrev pub IsOwnInit : World → TargetByNumber → UseByNumber → List ℕ → Bool → Type 0
-IsOwnInit world target how name answer =
+abbrev pub IsOwnInit : World → TargetByNumber → UseByNumber → Bool → Bool → Type 0
+IsOwnInit world target how init answer =
     (t : MethodTarget) → slice_get world target.named ≡ Some t.named → slice_get world target.declared.class ≡ Some t.declared.by
-    → name ≡ t.declared.method.name → answer ≡ is_own_init (seen_use how) t
+    → init ≡ is_init t.declared.method.name → answer ≡ is_own_init (seen_use how) t
 
 -- a member that is found from the class that is named can be accessed by the current class
 abbrev pub AnswersAccessibleField : World → ℕ → ℕ → Place → Result Place LinkError → Type 0

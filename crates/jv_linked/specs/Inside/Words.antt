@@ -59,6 +59,5 @@ abbrev pub static_end : World → ℕ → List Loaded → ℕ
 static_end world statics [] = statics
 static_end world statics (l ∷ more) = static_end world (ends_from (first_ends world statics l) l.class.fields).statics more
 
-pub record AreWords (world : World) (words : List ClassWords) (statics : ℕ) : Type 0 where
+pub record AreWords (world : World) (words : List ClassWords) : Type 0 where
   pub words_of : map seen_words words ≡ all_words world 0 world
-  pub statics_of : statics ≡ static_end world 0 world

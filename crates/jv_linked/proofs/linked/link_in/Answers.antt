@@ -10,6 +10,8 @@ returns c =
       virtuals = c.in_ok-virtuals.ensures world Invokevirtual;
       interfaces = c.in_ok-interfaces.ensures world Invokeinterface;
       specials = c.in_ok-specials.ensures world Invokespecial;
-      words = c.in_ok-words.ensures;
+      words = c.in_ok-words.ensures.words;
+      statics = c.in_ok-words.ensures.statics;
       orders = c.in_ok-orders.ensures;
+      bodies = c.in_ok-bodies.ensures;
     }

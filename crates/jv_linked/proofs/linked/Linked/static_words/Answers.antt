@@ -5,5 +5,5 @@ use Rattle.jv_linked.proofs.linked.Linked.static_words.Goals as goal
 pub returns : goal.returns
 returns c = λ world is.
     let end = statics_end world world 0 in
-    let kept = is.words.statics_of in
+    let kept = is.statics in
     omega (arith, end, kept)

@@ -6,4 +6,4 @@ use Rattle.jv_linked.proofs.linked.Linked.word_of.Goals as goal
 
 pub returns : goal.returns
 returns c = λ world d is at.
-    c.word_in_all.ensures world c.args.self.now.statics d (subst (λ (ws : List ClassWords). AreWords world ws c.args.self.now.statics) (sym c.deref.ensures.value) is.words) at
+    c.word_in_all.ensures world d (subst (λ (ws : List ClassWords). AreWords world ws) (sym c.deref.ensures.value) is.words) at
