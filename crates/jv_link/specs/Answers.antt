@@ -10,8 +10,8 @@ use Rattle.jv_lookups.specs.Places.{field_at, method_at}
 use Rattle.jv_lookups.specs.declared.place.Place.{Place}
 use Rattle.jv_meaning_linking.specs.Uses.{Site as SiteOfNames}
 use Rattle.jv_meaning_linking.specs.LinkErrors.{OrError}
-use Rattle.jv_meaning_linking.specs.Operands.{MethodReference, field_operand, method_operand}
-use Rattle.jv_meaning_linking.specs.ClassResolution.{ResolvedClass, resolve_class}
+use Rattle.jv_meaning_linking.specs.Operands.{MethodReference, class_operand, field_operand, method_operand}
+use Rattle.jv_meaning_linking.specs.ClassResolution.{ResolvedClass, resolve_text, resolve_class}
 use Rattle.jv_meaning_linking.specs.FieldResolution.{resolved_field, resolve_field}
 use Rattle.jv_meaning_linking.specs.MethodResolution.{MethodTarget as TargetOfNames, resolved_method, resolve_method}
 use Rattle.jv_meaning_linking.specs.Selection.{select}
@@ -48,6 +48,17 @@ HoldsAtSite world site P = (s : SiteOfNames) → seen_site world site ≡ Some s
 -- the class or array that a text names at a site, as a use wants it (JVMS 5.4.3.1)
 abbrev pub IsClassResolved : World → Site → Option Use → List ℕ → Result ClassRef LinkError → Type 0
 IsClassResolved world site how text answer = HoldsAtSite world site (λ s. AnswersType world answer (resolve_class world s (option_map seen_use how) text))
+
+-- what the Class constant at an index of a class resolves to, before the rule of `new` (5.4.3.1)
+abbrev pub IsConstantsClass : World → ℕ → ℕ → Result ClassRef LinkError → Type 0
+IsConstantsClass world class index answer =
+    HoldsAtNumber world class (λ l. (text : List ℕ) → class_operand l.class index ≡ Some text → AnswersType world answer (resolve_text world l text))
+
+-- what it resolves to for an instruction at a site
+abbrev pub IsClassUsed : World → Site → Option Use → ℕ → Result ClassRef LinkError → Type 0
+IsClassUsed world site how index answer =
+    (s : SiteOfNames) (text : List ℕ) → seen_site world site ≡ Some s → class_operand s.by.class index ≡ Some text
+    → AnswersType world answer (resolve_class world s (option_map seen_use how) text)
 
 -- the field that the constant at an index of a class resolves to, before the rules of the instruction that uses it (5.4.3.2)
 abbrev pub IsConstantsField : World → ℕ → ℕ → Result Place LinkError → Type 0

@@ -25,7 +25,7 @@ mod special;
 mod target;
 
 pub use access::same_package;
-pub use class::{resolve_class, same_class};
+pub use class::{constants_class, created, resolve_class, same_class};
 pub use error::LinkError;
 pub use field::{constants_field, resolve_field};
 pub use kind::{callable_with, usable_with};

@@ -26,10 +26,10 @@ pub(crate) enum Table {
 pub(crate) const NO_MEMORY: &str = "no memory";
 
 /// Whether a row is right; `None` where the host had no memory.
-fn is_right(
+fn is_right<'a>(
     alloc: Global,
-    classes: &Classes<'_>,
-    linked: &mut Linked<'_>,
+    classes: &Classes<'a>,
+    linked: &mut Linked<'a>,
     table: Table,
     row: &Row<'_>,
 ) -> Option<bool>
@@ -37,7 +37,7 @@ fn is_right(
     ensures { IsLinked classes.now.world linked.new }
 {
     match table {
-        Table::Classes => Some(class::is_right(classes, row)),
+        Table::Classes => Some(class::is_right(classes, linked, row)),
         Table::Fields => Some(field::is_right(classes, linked, row)),
         Table::Methods => Some(method::resolves(classes, linked, row)),
         Table::Selections => Some(method::selects(classes, linked, row)),
@@ -48,10 +48,10 @@ fn is_right(
     }
 }
 
-fn wrong_in<'r>(
+fn wrong_in<'r, 'a>(
     alloc: Global,
-    classes: &Classes<'_>,
-    linked: &mut Linked<'_>,
+    classes: &Classes<'a>,
+    linked: &mut Linked<'a>,
     table: Table,
     rows: &'r str,
 ) -> &'r str

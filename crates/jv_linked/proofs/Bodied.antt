@@ -27,7 +27,7 @@ same_some e = cc
 
 -- ---- in a file
 
-chained : {A B : Type 0} (o : Option A) (f : A → Option B) (y : B) → (o >>= f) ≡ Some y → (a : A) × (o ≡ Some a) × (f a ≡ Some y)
+pub chained : {A B : Type 0} (o : Option A) (f : A → Option B) (y : B) → (o >>= f) ≡ Some y → (a : A) × (o ≡ Some a) × (f a ≡ Some y)
 chained None f y e = absurd cc
 chained (Some a) f y e = (a, refl, e)
 
@@ -46,7 +46,7 @@ module _ {A B : Type 0} (look : A → Option B) where
   at_first x xs b y bs first more zero at = (x, refl, first ∙ at)
   at_first x xs b y bs first more (suc k) at = more k at
 
-  all_found_at : (xs : List A) (ys : List B) (y : B) → all_found look xs ≡ Some ys → (k : ℕ) → slice_get ys k ≡ Some y → (a : A) × (slice_get xs k ≡ Some a) × (look a ≡ Some y)
+  pub all_found_at : (xs : List A) (ys : List B) (y : B) → all_found look xs ≡ Some ys → (k : ℕ) → slice_get ys k ≡ Some y → (a : A) × (slice_get xs k ≡ Some a) × (look a ≡ Some y)
   all_found_at [] ys y e k at = absurd (none k (subst (λ zs. slice_get zs k ≡ Some y) (same_some (sym e)) at))
     where
       none : (j : ℕ) → slice_get [] j ≡ Some y → ⊥
@@ -67,7 +67,7 @@ code_of_method pool info m e = by_texts (named_at pool info.name_index info.desc
     by_texts None e = absurd cc
     by_texts (Some texts) e = ap (λ (x : Method). x.code) (same_some e)
 
-map_at : {X Y : Type 0} → (f : X → Y) (xs : List X) (k : ℕ) (x : X) → slice_get xs k ≡ Some x → slice_get (map f xs) k ≡ Some (f x)
+pub map_at : {X Y : Type 0} → (f : X → Y) (xs : List X) (k : ℕ) (x : X) → slice_get xs k ≡ Some x → slice_get (map f xs) k ≡ Some (f x)
 map_at f [] zero x e = absurd cc
 map_at f [] (suc k) x e = absurd cc
 map_at f (y ∷ xs) zero x e = ap (λ z. Some (f z)) (same_some e)

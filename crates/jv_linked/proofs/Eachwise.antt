@@ -44,3 +44,8 @@ none_beyond_each P xs ys k y each h at =
     let less = within_list ys k y at in
     let many = each.count_of in
     absurd (omega (arith, less, many, h))
+
+pub some_item : {X : Type 0} → (xs : List X) (k : ℕ) → k < length xs → (x : X) × (slice_get xs k ≡ Some x)
+some_item [] k h = absurd (omega (arith, h))
+some_item (x ∷ xs) zero h = (x, refl)
+some_item (x ∷ xs) (suc k) h = let less : k < length xs = omega (arith, h) in some_item xs k less

@@ -1,3 +1,4 @@
+pub mod Begun
 pub mod Bodied
 pub mod Going
 pub mod Inherited

@@ -5,3 +5,4 @@ pub mod Laws
 pub mod Linked
 pub mod MethodUses
 pub mod Places
+pub mod Tasks

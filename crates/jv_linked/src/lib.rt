@@ -3,6 +3,7 @@
 #![tactic(auto)]
 
 mod bodies;
+mod classes;
 mod field_use;
 mod fields;
 mod law;
@@ -12,6 +13,7 @@ mod methods;
 mod orders;
 mod places;
 mod selections;
+mod tasks;
 mod words;
 
 pub use bodies::Body;
@@ -19,3 +21,4 @@ pub use field_use::{FieldKind, FieldUse};
 pub use law::words_are_inherited;
 pub use linked::{Linked, link};
 pub use method_use::MethodUse;
+pub use tasks::{InitialValue, initial_value};

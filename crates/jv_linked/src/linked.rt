@@ -10,16 +10,18 @@ ghost use Rattle.jv_meaning_world.specs.Overriding.{Declared};
 ghost use Rattle.jv_linked.specs.Bodies.{IsBody};
 ghost use Rattle.jv_linked.specs.Places.{IsWordOf, static_words};
 ghost use Rattle.jv_meaning_world.specs.Numbers.{HoldsAtNumber};
-ghost use Rattle.jv_meaning_linking.specs.Operands.{field_operand, method_operand};
+ghost use Rattle.jv_meaning_linking.specs.Operands.{class_operand, field_operand, method_operand};
 ghost use Rattle.jv_lookups.specs.Places.{field_at, method_at, IsFieldPlace};
 ghost use Rattle.jv_link.specs.Seen.{IsSite, IsMethodTarget};
 ghost use Rattle.jv_link.specs.Objects.{IsObject};
-ghost use Rattle.jv_link.specs.Answers.{IsFieldResolved, IsMethodResolved, IsSelected};
+ghost use Rattle.jv_link.specs.Answers.{IsClassUsed, IsFieldResolved, IsMethodResolved, IsSelected};
 ghost use Rattle.jv_linked.specs.FieldUses.{IsFieldUse, used_place};
 ghost use Rattle.jv_linked.specs.MethodUses.{IsMethodUse, used_target};
 ghost use Rattle.jv_linked.specs.Linked.{IsLinked};
+ghost use Rattle.jv_linked.specs.Tasks.{settings_of, IsInitializer};
 
 use crate::bodies::{Body, ClassBodies, all_bodies, body_in};
+use crate::classes::{ClassEntry, class_by, empty_classes, used_class};
 use crate::field_use::FieldUse;
 use crate::fields::{FieldEntry, empty_fields, field_by, used_field};
 use crate::method_use::MethodUse;
@@ -27,8 +29,9 @@ use crate::methods::{MethodEntry, called_method, empty_methods, method_by};
 use crate::orders::{ClassOrder, all_orders, order_in};
 use crate::places::{all_constants, entry_place, first_constants, selection_count};
 use crate::selections::{Selection, empty_selections, selection_by};
+use crate::tasks::{ClassTasks, all_tasks, initializer_at, settings_at};
 use crate::words::{ClassWords, all_words, object_words_in, word_in_all};
-use jv_link::{LinkError, MethodTarget, Site, Use, select};
+use jv_link::{ClassRef, LinkError, MethodTarget, Site, Use, select};
 use jv_loader::{ClassTable, Classes, Memory, Place};
 use std::alloc::Global;
 
@@ -36,6 +39,7 @@ use std::alloc::Global;
 /// which method a call runs. It is asked with the classes that [`link`] took.
 pub struct Linked<'a> {
     firsts: Vec<usize>,
+    classes: Vec<Option<ClassEntry<'a>>>,
     fields: Vec<Option<FieldEntry>>,
     methods: Vec<Option<MethodEntry>>,
     virtuals: Vec<Option<Selection>>,
@@ -45,12 +49,14 @@ pub struct Linked<'a> {
     statics: usize,
     orders: Vec<ClassOrder>,
     bodies: Vec<ClassBodies<'a>>,
+    tasks: Vec<ClassTasks>,
 }
 
 impl Drop for Linked<'_> {
     fn drop(self) {
         let Linked {
             firsts: _,
+            classes: _,
             fields: _,
             methods: _,
             virtuals: _,
@@ -60,6 +66,7 @@ impl Drop for Linked<'_> {
             statics: _,
             orders: _,
             bodies: _,
+            tasks: _,
         } = self;
     }
 }
@@ -76,6 +83,7 @@ fn link_in<'a>(
     let firsts = first_constants(alloc, table)?;
     let constants = all_constants(table);
     let selections = selection_count(table);
+    let class_entries = empty_classes(alloc, constants)?;
     let fields = empty_fields(alloc, constants)?;
     let methods = empty_methods(alloc, constants)?;
     let virtuals = empty_selections(alloc, selections)?;
@@ -84,8 +92,10 @@ fn link_in<'a>(
     let words = all_words(alloc, table)?;
     let orders = all_orders(alloc, table, classes)?;
     let bodies = all_bodies(alloc, table)?;
+    let tasks = all_tasks(alloc, table)?;
     Ok(Linked {
         firsts,
+        classes: class_entries,
         fields,
         methods,
         virtuals,
@@ -95,6 +105,7 @@ fn link_in<'a>(
         statics: words.1,
         orders,
         bodies,
+        tasks,
     })
 }
 
@@ -110,6 +121,31 @@ pub fn link<'a>(alloc: Global, classes: &Classes<'a>) -> Result<Linked<'a>, Memo
 }
 
 impl<'a> Linked<'a> {
+    /// The class or the array that the Class constant at an index resolves to at a site, for an instruction that has rules of its
+    /// own or for another one, as `jv_link`'s `resolve_class` answers it (JVMS 5.4.3.1; 6.5 for `new`). Asked again, it is one
+    /// entry that is read; it takes no memory.
+    ///
+    /// # Errors
+    ///
+    /// As JVMS 5.4.3.1 has them; for `new` also `InstantiationError`.
+    pub fn class_at(
+        &mut self,
+        classes: &Classes<'a>,
+        site: Site,
+        how: Option<Use>,
+        index: u16,
+    ) -> Result<ClassRef<'a>, LinkError>
+        requires linked { IsLinked classes.now.world self.old }
+        requires site { IsSite classes.now.world site }
+        requires index { HoldsAtNumber classes.now.world site.class (λ l. IsSome (class_operand l.class index)) }
+        ensures found { IsClassUsed classes.now.world site how index result }
+        ensures linked { IsLinked classes.now.world self.new }
+    {
+        let at = entry_place(&self.firsts, site.class, index);
+        let found = class_by(&mut self.classes, at, classes, site.class, index);
+        used_class(classes.table(), site, how, index, found)
+    }
+
     /// The field that the Fieldref constant at an index resolves to at a site, for an instruction, as
     /// `jv_link`'s `resolve_field` answers it (JVMS 5.4.3.2, 5.4.4, 6.5), with what a step asks of it. Asked again, it is one
     /// entry that is read; it takes no memory.
@@ -305,5 +341,19 @@ impl<'a> Linked<'a> {
         ensures { (world : World) (d : Declared) → IsLinked world self.now → method_at world place ≡ Some d → IsBody d.method result }
     {
         body_in(&self.bodies, place)
+    }
+
+    /// The places of the static fields of a class that its initialization sets to constants, in their order (JVMS 4.7.2, 5.5).
+    pub fn settings(&self, class: usize) -> &[usize]
+        ensures { (world : World) → IsLinked world self.now → HoldsAtNumber world class (λ l. result.now ≡ settings_of l) }
+    {
+        settings_at(&self.tasks, class)
+    }
+
+    /// The place of the `<clinit>` of a class, where it has one (JVMS 2.9, 5.5).
+    pub fn initializer(&self, class: usize) -> Option<usize>
+        ensures { (world : World) → IsLinked world self.now → HoldsAtNumber world class (λ l. IsInitializer l result) }
+    {
+        initializer_at(&self.tasks, class)
     }
 }

@@ -4,7 +4,7 @@ use jv_loader::{ClassTable, LoadedClass};
 use std::alloc::{AllocError, Global};
 
 /// How many constants have entries of their own; those of a larger guest share them.
-const MOST_CONSTANTS: usize = 0x10_0000;
+const MOST_CONSTANTS: usize = 0x4_0000;
 
 /// How many calls of a kind have entries: a power of two.
 const MOST_SELECTIONS: usize = 0x1000;

@@ -5,6 +5,7 @@ pub returns : goal.returns
 returns c =
     let world = c.args.table.now in
     record {
+      classes = c.in_ok-class_entries.ensures world;
       fields = c.in_ok-fields.ensures world;
       methods = c.in_ok-methods.ensures world;
       virtuals = c.in_ok-virtuals.ensures world Invokevirtual;
@@ -14,4 +15,5 @@ returns c =
       statics = c.in_ok-words.ensures.statics;
       orders = c.in_ok-orders.ensures;
       bodies = c.in_ok-bodies.ensures;
+      tasks = c.in_ok-tasks.ensures;
     }
