@@ -31,4 +31,6 @@ mod site;
 #[cfg(test)]
 mod special;
 #[cfg(test)]
+mod tasks;
+#[cfg(test)]
 mod uses;
