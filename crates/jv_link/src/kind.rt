@@ -11,7 +11,8 @@ ghost use Rattle.jv_meaning_linking.specs.Uses.{Site as SiteOfNames};
 ghost use Rattle.jv_meaning_linking.specs.Kind.{has_field_kind, can_set_final, can_use_final, has_method_kind};
 ghost use Rattle.jv_meaning_linking.specs.MethodResolution.{is_own_init};
 ghost use Rattle.jv_link.specs.Seen.{seen_use, seen_site, IsSite, IsMethodTarget};
-ghost use Rattle.jv_link.specs.Inside.Steps.{usable_field, callable_method, CanSetFinal, CanUseFinal, AnswersUsable, IsOwnInit};
+ghost use Rattle.jv_link.specs.UseRules.{usable_field, callable_method, AnswersUsable};
+ghost use Rattle.jv_link.specs.Inside.Steps.{CanSetFinal, CanUseFinal, IsOwnInit};
 ghost use Rattle.jv_link.specs.Answers.{AnswersTarget, HoldsAtTarget};
 
 use crate::class::same_class;
@@ -30,6 +31,7 @@ const FINAL: u16 = 0x0010;
 const STATIC_OR_PRIVATE: u16 = 0x000a;
 
 /// Whether an instruction uses a field of this kind, static or not.
+#[inline(always)]
 fn has_field_kind(how: Use, flags: u16) -> bool
     ensures { (f : Field) → flags ≡ f.access_flags → result ≡ has_field_kind (seen_use how) f }
 {
@@ -41,6 +43,7 @@ fn has_field_kind(how: Use, flags: u16) -> bool
 }
 
 /// Whether an instruction calls a method of this kind.
+#[inline(always)]
 fn has_method_kind(how: Use, flags: u16) -> bool
     ensures { (m : Method) → flags ≡ m.access_flags → result ≡ has_method_kind (seen_use how) m }
 {
@@ -86,6 +89,7 @@ fn can_set_final(table: &ClassTable<'_>, how: Use, site: Site, by: usize) -> boo
 }
 
 /// Whether an instruction can use a field: one that is not final, or that it can set, or that it only reads.
+#[inline(always)]
 fn can_use_final(table: &ClassTable<'_>, how: Use, site: Site, by: usize, flags: u16) -> bool
     requires site { IsSite table.now site }
     requires by { by < length table.now }
@@ -100,6 +104,7 @@ fn can_use_final(table: &ClassTable<'_>, how: Use, site: Site, by: usize, flags:
 /// # Errors
 ///
 /// `IncompatibleClassChangeError`, and then `IllegalAccessError`.
+#[inline(always)]
 pub fn usable_with(
     table: &ClassTable<'_>,
     site: Site,
@@ -139,6 +144,7 @@ pub(crate) fn usable_field(
 }
 
 /// Whether the named class declares an `<init>` itself that invokespecial calls.
+#[inline(always)]
 fn is_own_init(table: &ClassTable<'_>, how: Use, target: MethodTarget, is_init: bool) -> bool
     requires { IsMethodTarget table.now target }
     ensures { IsOwnInit table.now target how is_init result }
@@ -155,6 +161,7 @@ fn is_own_init(table: &ClassTable<'_>, how: Use, target: MethodTarget, is_init: 
 /// # Errors
 ///
 /// `NoSuchMethodError`, and then `IncompatibleClassChangeError`.
+#[inline(always)]
 pub fn callable_with(
     table: &ClassTable<'_>,
     how: Use,

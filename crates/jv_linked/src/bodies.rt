@@ -112,6 +112,7 @@ pub(crate) fn all_bodies<'a>(
 }
 
 /// The method at a place of a row.
+#[inline(always)]
 fn body_at<'a>(bodies: &[Option<Body<'a>>], member: usize) -> Option<Body<'a>>
     ensures { (body : Option BodyOfCode) → slice_get bodies.now member ≡ Some body → result ≡ body }
 {
@@ -123,6 +124,7 @@ fn body_at<'a>(bodies: &[Option<Body<'a>>], member: usize) -> Option<Body<'a>>
 }
 
 /// The method at a place, of those of each class.
+#[inline(always)]
 pub(crate) fn body_in<'a>(rows: &[ClassBodies<'a>], place: Place) -> Option<Body<'a>>
     ensures { (world : World) (d : Declared) → AreBodies world (length world) rows.now → method_at world place ≡ Some d → IsBody d.method result }
 {

@@ -7,7 +7,7 @@ ghost use Rattle.jv_meaning_world.specs.Numbers.{HoldsAtNumber};
 ghost use Rattle.jv_meaning_linking.specs.Operands.{class_operand};
 ghost use Rattle.jv_link.specs.Seen.{IsSite};
 ghost use Rattle.jv_link.specs.Answers.{IsConstantsClass, IsClassUsed};
-ghost use Rattle.jv_link.specs.Inside.Steps.{IsRefWithin};
+ghost use Rattle.jv_link.specs.UseRules.{IsRefWithin};
 ghost use Rattle.jv_linked.specs.Inside.Classes.{IsFound, IsEntry};
 
 use jv_link::{ClassRef, LinkError, Site, Use, constants_class, created};
@@ -23,6 +23,7 @@ pub(crate) struct ClassEntry<'a> {
 }
 
 /// What a constant resolves to, where that is known.
+#[inline(always)]
 fn known<'a>(
     entries: &[Option<ClassEntry<'a>>],
     at: usize,
@@ -51,6 +52,7 @@ fn keep<'a>(entries: &mut [Option<ClassEntry<'a>>], at: usize, entry: ClassEntry
 }
 
 /// What a constant resolves to, by the entry at a place, where it is there.
+#[inline(always)]
 pub(crate) fn class_by<'a>(
     entries: &mut [Option<ClassEntry<'a>>],
     at: usize,
@@ -81,6 +83,7 @@ pub(crate) fn class_by<'a>(
 }
 
 /// What was found, as an instruction at a site uses it.
+#[inline(always)]
 pub(crate) fn used_class<'a>(
     table: &ClassTable<'_>,
     site: Site,

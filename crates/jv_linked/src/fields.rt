@@ -7,7 +7,7 @@ ghost use Rattle.jv_meaning_world.specs.Numbers.{HoldsAtNumber};
 ghost use Rattle.jv_meaning_linking.specs.Operands.{field_operand};
 ghost use Rattle.jv_link.specs.Seen.{IsSite};
 ghost use Rattle.jv_link.specs.Answers.{IsFieldResolved};
-ghost use Rattle.jv_link.specs.Inside.Steps.{AnswersUsable};
+ghost use Rattle.jv_link.specs.UseRules.{AnswersUsable};
 ghost use Rattle.jv_linked.specs.FieldUses.{IsFieldUse, used_place};
 ghost use Rattle.jv_linked.specs.Inside.Words.{AreWords};
 ghost use Rattle.jv_linked.specs.Inside.Fields.{IsFound, IsEntry};
@@ -27,6 +27,7 @@ pub(crate) struct FieldEntry {
 }
 
 /// What a constant resolves to, where that is known.
+#[inline(always)]
 fn known(
     entries: &[Option<FieldEntry>],
     at: usize,
@@ -55,6 +56,7 @@ fn keep(entries: &mut [Option<FieldEntry>], at: usize, entry: FieldEntry)
 }
 
 /// What a constant resolves to, by its names.
+#[inline(never)]
 fn found_anew(
     table: &ClassTable<'_>,
     classes: &Classes<'_>,
@@ -75,6 +77,7 @@ fn found_anew(
 }
 
 /// What a constant resolves to, by the entry at a place, where it is there.
+#[inline(always)]
 pub(crate) fn field_by(
     entries: &mut [Option<FieldEntry>],
     at: usize,
@@ -123,6 +126,7 @@ pub(crate) fn empty_fields(
 }
 
 /// A field, where an instruction at a site can use it.
+#[inline(always)]
 fn used_at(
     table: &ClassTable<'_>,
     site: Site,
@@ -141,6 +145,7 @@ fn used_at(
 }
 
 /// What was found, as an instruction at a site uses it.
+#[inline(always)]
 pub(crate) fn used_field(
     table: &ClassTable<'_>,
     site: Site,

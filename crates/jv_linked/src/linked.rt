@@ -128,6 +128,7 @@ impl<'a> Linked<'a> {
     /// # Errors
     ///
     /// As JVMS 5.4.3.1 has them; for `new` also `InstantiationError`.
+    #[inline(always)]
     pub fn class_at(
         &mut self,
         classes: &Classes<'a>,
@@ -153,6 +154,7 @@ impl<'a> Linked<'a> {
     /// # Errors
     ///
     /// As JVMS 5.4.3.2 and 6.5 have them.
+    #[inline(always)]
     pub fn field_use(
         &mut self,
         classes: &Classes<'_>,
@@ -214,6 +216,7 @@ impl<'a> Linked<'a> {
     /// # Errors
     ///
     /// As JVMS 5.4.3.3, 5.4.3.4 and 6.5 have them.
+    #[inline(always)]
     pub fn method_use(
         &mut self,
         classes: &Classes<'_>,
@@ -268,6 +271,7 @@ impl<'a> Linked<'a> {
     /// # Errors
     ///
     /// As JVMS 6.5 has them.
+    #[inline(always)]
     pub fn select_at(
         &mut self,
         classes: &Classes<'_>,
@@ -307,6 +311,7 @@ impl<'a> Linked<'a> {
     }
 
     /// How many words an object of a class has, those of inherited fields among them (JVMS 2.7, own).
+    #[inline(always)]
     pub fn object_words(&self, class: usize) -> usize
         ensures { (world : World) → IsLinked world self.now → HoldsAtNumber world class (λ l. result ≡ object_words world l) }
     {
@@ -337,6 +342,7 @@ impl<'a> Linked<'a> {
     }
 
     /// The method at a place with its code (JVMS 4.6, 4.7.3), where it has code.
+    #[inline(always)]
     pub fn body_at(&self, place: Place) -> Option<Body<'a>>
         ensures { (world : World) (d : Declared) → IsLinked world self.now → method_at world place ≡ Some d → IsBody d.method result }
     {

@@ -7,7 +7,7 @@ ghost use Rattle.jv_meaning_world.specs.Numbers.{HoldsAtNumber};
 ghost use Rattle.jv_meaning_linking.specs.Operands.{method_operand};
 ghost use Rattle.jv_link.specs.Seen.{IsSite, seen_use};
 ghost use Rattle.jv_link.specs.Answers.{AnswersTarget, HoldsAtTarget, IsMethodResolved};
-ghost use Rattle.jv_link.specs.Inside.Steps.{callable_method};
+ghost use Rattle.jv_link.specs.UseRules.{callable_method};
 ghost use Rattle.jv_linked.specs.MethodUses.{IsMethodUse, used_target};
 ghost use Rattle.jv_linked.specs.Inside.Methods.{IsFound, IsEntry};
 
@@ -25,6 +25,7 @@ pub(crate) struct MethodEntry {
 }
 
 /// What a constant resolves to, where that is known.
+#[inline(always)]
 fn known(
     entries: &[Option<MethodEntry>],
     at: usize,
@@ -53,6 +54,7 @@ fn keep(entries: &mut [Option<MethodEntry>], at: usize, entry: MethodEntry)
 }
 
 /// What a constant resolves to, by its names.
+#[inline(never)]
 fn found_anew(
     table: &ClassTable<'_>,
     classes: &Classes<'_>,
@@ -71,6 +73,7 @@ fn found_anew(
 }
 
 /// What a constant resolves to, by the entry at a place, where it is there.
+#[inline(always)]
 pub(crate) fn method_by(
     entries: &mut [Option<MethodEntry>],
     at: usize,
@@ -117,6 +120,7 @@ pub(crate) fn empty_methods(
 }
 
 /// A method, where an instruction can call it.
+#[inline(always)]
 fn called_by(table: &ClassTable<'_>, how: Use, called: MethodUse) -> Result<MethodUse, LinkError>
     requires { IsMethodUse table.now called }
     ensures found { HoldsAtTarget table.now called.target (λ t. AnswersTarget table.now (used_target result) (callable_method (seen_use how) t)) }
@@ -135,6 +139,7 @@ fn called_by(table: &ClassTable<'_>, how: Use, called: MethodUse) -> Result<Meth
 }
 
 /// What was found, as an instruction at a site calls it.
+#[inline(always)]
 pub(crate) fn called_method(
     table: &ClassTable<'_>,
     site: Site,

@@ -63,6 +63,7 @@ pub(crate) fn selection_count(table: &ClassTable<'_>) -> usize {
 }
 
 /// Where the entry of a constant stands, by the first of its class.
+#[inline(always)]
 pub(crate) fn entry_place(firsts: &[usize], class: usize, index: u16) -> usize {
     let first = match firsts.get(class) {
         Some(first) => *first,

@@ -24,6 +24,7 @@ pub(crate) struct Selection {
 }
 
 /// Whether two places are one.
+#[inline(always)]
 fn is_same_place(one: Place, other: Place) -> bool
     ensures { result ≡ true → one ≡ other }
 {
@@ -31,6 +32,7 @@ fn is_same_place(one: Place, other: Place) -> bool
 }
 
 /// Whether two targets are one.
+#[inline(always)]
 fn is_same_target(one: &MethodTarget, other: &MethodTarget) -> bool
     ensures { result ≡ true → one.now ≡ other.now }
 {
@@ -38,6 +40,7 @@ fn is_same_target(one: &MethodTarget, other: &MethodTarget) -> bool
 }
 
 /// Whether two objects are of one class.
+#[inline(always)]
 fn is_same_object(one: Option<usize>, other: Option<usize>) -> bool
     ensures { result ≡ true → one ≡ other }
 {
@@ -49,6 +52,7 @@ fn is_same_object(one: Option<usize>, other: Option<usize>) -> bool
 }
 
 /// What a call runs, where that is known.
+#[inline(always)]
 fn known(
     entries: &[Option<Selection>],
     at: usize,
@@ -79,6 +83,7 @@ fn keep(entries: &mut [Option<Selection>], at: usize, entry: Selection)
 }
 
 /// Where the entry of a call stands, if it is there.
+#[inline(always)]
 fn place_in(count: usize, target: &MethodTarget, object: Option<usize>) -> usize {
     let object = match object {
         Some(class) => class,
@@ -93,6 +98,7 @@ fn place_in(count: usize, target: &MethodTarget, object: Option<usize>) -> usize
 }
 
 /// What a call at a site runs, by its entry, where that is there.
+#[inline(always)]
 pub(crate) fn selection_by(
     entries: &mut [Option<Selection>],
     classes: &Classes<'_>,

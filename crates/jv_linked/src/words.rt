@@ -185,6 +185,7 @@ pub(crate) fn all_words(
 }
 
 /// How many words an object of a class has.
+#[inline(always)]
 pub(crate) fn object_words_in(words: &[ClassWords], class: usize) -> usize
     ensures { (world : World) → AreWords world words.now → HoldsAtNumber world class (λ l. result ≡ object_words world l) }
 {
@@ -196,6 +197,7 @@ pub(crate) fn object_words_in(words: &[ClassWords], class: usize) -> usize
 }
 
 /// The word at a place of a row.
+#[inline(always)]
 fn word_at(fields: &[usize], member: usize) -> usize
     ensures { (word : ℕ) → slice_get fields.now member ≡ Some word → result ≡ word }
 {
@@ -207,6 +209,7 @@ fn word_at(fields: &[usize], member: usize) -> usize
 }
 
 /// The first word of the field at a place.
+#[inline(always)]
 pub(crate) fn word_in_all(words: &[ClassWords], place: Place) -> usize
     ensures { (world : World) (d : DeclaredField) → AreWords world words.now → field_at world place ≡ Some d → IsWordOf world d result }
 {

@@ -4,7 +4,7 @@ use Rattle.jv_meaning_world.specs.World.{World}
 use Rattle.jv_link.specs.declared.error.LinkError.{LinkError}
 use Rattle.jv_link.specs.declared.target.ClassRef.{ClassRef}
 use Rattle.jv_link.specs.Answers.{IsConstantsClass}
-use Rattle.jv_link.specs.Inside.Steps.{IsRefWithin}
+use Rattle.jv_link.specs.UseRules.{IsRefWithin}
 use Rattle.jv_linked.specs.declared.classes.ClassEntry.{ClassEntry}
 
 -- it is what the constant of a class at an index resolves to
