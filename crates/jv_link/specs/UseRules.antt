@@ -16,7 +16,8 @@ use Rattle.jv_link.specs.declared.site.Use.{Use as UseByNumber}
 use Rattle.jv_link.specs.declared.target.ClassRef.{ClassRef}
 use Rattle.jv_link.specs.declared.target.ClassRef.TheVariants as refs
 use Rattle.jv_link.specs.Seen.{answer_at, class_ref_at, seen_site, seen_use}
-use Rattle.jv_link.specs.Answers.{AnswersType, AnswersField}
+use Rattle.jv_link.specs.declared.target.MethodTarget.{MethodTarget as TargetByNumber}
+use Rattle.jv_link.specs.Answers.{AnswersType, AnswersField, AnswersTarget, HoldsAtTarget}
 
 -- a class's number is that of one
 abbrev pub IsRefWithin : World → ClassRef → Type 0
@@ -46,3 +47,6 @@ AnswersUsable world site how place answer =
 abbrev pub callable_method : Use → MethodTarget → OrError MethodTarget
 callable_method how t =
     provided (is_own_init how t) NoSuchMethodError t >>= (λ u. provided (has_method_kind how u.declared.method) IncompatibleClassChangeError u)
+
+abbrev pub AnswersCallable : World → TargetByNumber → UseByNumber → Result TargetByNumber LinkError → Type 0
+AnswersCallable world target how answer = HoldsAtTarget world target (λ t. AnswersTarget world answer (callable_method (seen_use how) t))

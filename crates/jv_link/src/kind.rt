@@ -11,9 +11,8 @@ ghost use Rattle.jv_meaning_linking.specs.Uses.{Site as SiteOfNames};
 ghost use Rattle.jv_meaning_linking.specs.Kind.{has_field_kind, can_set_final, can_use_final, has_method_kind};
 ghost use Rattle.jv_meaning_linking.specs.MethodResolution.{is_own_init};
 ghost use Rattle.jv_link.specs.Seen.{seen_use, seen_site, IsSite, IsMethodTarget};
-ghost use Rattle.jv_link.specs.UseRules.{usable_field, callable_method, AnswersUsable};
+ghost use Rattle.jv_link.specs.UseRules.{AnswersUsable, AnswersCallable};
 ghost use Rattle.jv_link.specs.Inside.Steps.{CanSetFinal, CanUseFinal, IsOwnInit};
-ghost use Rattle.jv_link.specs.Answers.{AnswersTarget, HoldsAtTarget};
 
 use crate::class::same_class;
 use crate::error::LinkError;
@@ -172,7 +171,7 @@ pub fn callable_with(
     requires target { IsMethodTarget table.now target }
     requires flags { (d : Declared) → method_at table.now target.declared ≡ Some d → flags ≡ d.method.access_flags }
     requires init { (d : Declared) → method_at table.now target.declared ≡ Some d → is_init ≡ is_init_name d.method.name }
-    ensures found { HoldsAtTarget table.now target (λ t. AnswersTarget table.now result (callable_method (seen_use how) t)) }
+    ensures found { AnswersCallable table.now target how result }
     ensures target { IfOk result (λ found. found ≡ target) }
 {
     if !is_own_init(table, how, target, is_init) {
@@ -191,7 +190,7 @@ pub(crate) fn callable_method(
     target: MethodTarget,
 ) -> Result<MethodTarget, LinkError>
     requires { IsMethodTarget table.now target }
-    ensures found { HoldsAtTarget table.now target (λ t. AnswersTarget table.now result (callable_method (seen_use how) t)) }
+    ensures found { AnswersCallable table.now target how result }
     ensures target { IfOk result (IsMethodTarget table.now) }
 {
     let method = method_at(table, target.declared);

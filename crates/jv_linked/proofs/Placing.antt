@@ -251,11 +251,11 @@ module _ (world : World) where
       → (get_or words k d).object ≡ object_words world l
   object_found words k d l are h at =
       let row = map_found seen_words words k (get_or words k d) (slice_get-get_or words k d h) in
-      let stands = class_stands world 0 k l (seen_words (get_or words k d)) at (ap (λ rs. slice_get rs k) (sym are.words_of) ∙ row) in
+      let stands = class_stands world 0 k l (seen_words (get_or words k d)) at (ap (λ rs. slice_get rs k) (sym are.all_of) ∙ row) in
       stands.object ∙ object_is l stands.first
 
   many_words : (words : List ClassWords) → AreWords world words → length words ≡ length world
-  many_words words are = sym (length-map words seen_words) ∙ (ap length are.words_of ∙ many_classes world 0)
+  many_words words are = sym (length-map words seen_words) ∙ (ap length are.all_of ∙ many_classes world 0)
 
   pub none_beyond : (words : List ClassWords) (k : ℕ) (l : Loaded) → AreWords world words → length words ≤ k → slice_get world k ≡ Some l → ⊥
   none_beyond words k l are h at =
@@ -268,13 +268,13 @@ module _ (world : World) where
   word_found words place d row w are at h clause =
       let p = parts place d at in
       let shown = map_found seen_words words place.class (get_or words place.class row) (slice_get-get_or words place.class row h) in
-      let stands = class_stands world 0 place.class p.l (seen_words (get_or words place.class row)) p.class (ap (λ rs. slice_get rs place.class) (sym are.words_of) ∙ shown) in
+      let stands = class_stands world 0 place.class p.l (seen_words (get_or words place.class row)) p.class (ap (λ rs. slice_get rs place.class) (sym are.all_of) ∙ shown) in
       let many = ap length stands.fields ∙ many_fields p.l.class.fields (first_ends world stands.first p.l) in
       let less = within_list p.l.class.fields place.member p.f p.field in
       let fits : place.member < length (get_or words place.class row).fields.items = omega (arith, many, less) in
       let word = slice_get-get_or (get_or words place.class row).fields.items place.member 0 fits in
       subst (λ v. IsWordOf world d v) (sym (clause (get_or (get_or words place.class row).fields.items place.member 0) word))
-      (word_stands (map seen_words words) place d (seen_words (get_or words place.class row)) (get_or (get_or words place.class row).fields.items place.member 0) are.words_of at shown word)
+      (word_stands (map seen_words words) place d (seen_words (get_or words place.class row)) (get_or (get_or words place.class row).fields.items place.member 0) are.all_of at shown word)
 
   pub place_beyond : (words : List ClassWords) (place : Place) (d : DeclaredField) → AreWords world words → field_at world place ≡ Some d → length words ≤ place.class → ⊥
   place_beyond words place d are at h = let p = parts place d at in none_beyond words place.class p.l are h p.class

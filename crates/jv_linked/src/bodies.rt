@@ -10,7 +10,7 @@ ghost use Rattle.jv_meaning_world.specs.Overriding.{Declared};
 ghost use Rattle.jv_lookups.specs.Places.{method_at};
 ghost use Rattle.jv_linked.specs.declared.bodies.Body.{Body as BodyOfCode};
 ghost use Rattle.jv_linked.specs.Bodies.{IsArgumentCount, IsBody};
-ghost use Rattle.jv_linked.specs.Inside.Bodies.{AreBodiesOf, AreBodies};
+ghost use Rattle.jv_linked.specs.Inside.Bodies.{AreBodiesOf, AreBodies, AreAllBodies};
 
 use jv_class::MethodCode;
 use jv_link::class_at;
@@ -126,7 +126,7 @@ fn body_at<'a>(bodies: &[Option<Body<'a>>], member: usize) -> Option<Body<'a>>
 /// The method at a place, of those of each class.
 #[inline(always)]
 pub(crate) fn body_in<'a>(rows: &[ClassBodies<'a>], place: Place) -> Option<Body<'a>>
-    ensures { (world : World) (d : Declared) → AreBodies world (length world) rows.now → method_at world place ≡ Some d → IsBody d.method result }
+    ensures { (world : World) (d : Declared) → AreAllBodies world rows.now → method_at world place ≡ Some d → IsBody d.method result }
 {
     if place.class < rows.len() {
         body_at(&rows[place.class].bodies, place.member)

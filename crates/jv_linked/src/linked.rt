@@ -18,7 +18,7 @@ ghost use Rattle.jv_link.specs.Answers.{IsClassUsed, IsFieldResolved, IsMethodRe
 ghost use Rattle.jv_linked.specs.FieldUses.{IsFieldUse, used_place};
 ghost use Rattle.jv_linked.specs.MethodUses.{IsMethodUse, used_target};
 ghost use Rattle.jv_linked.specs.Linked.{IsLinked};
-ghost use Rattle.jv_linked.specs.Tasks.{settings_of, IsInitializer};
+ghost use Rattle.jv_linked.specs.Tasks.{settings_of, IsInitializer, IsOrderOf};
 
 use crate::bodies::{Body, ClassBodies, all_bodies, body_in};
 use crate::classes::{ClassEntry, class_by, empty_classes, used_class};
@@ -336,7 +336,7 @@ impl<'a> Linked<'a> {
     /// The numbers of the classes and interfaces that are initialized before a class that can be loaded, in their order (JVMS
     /// 5.5).
     pub fn init_order(&self, class: usize) -> &[usize]
-        ensures { (world : World) → IsLinked world self.now → HoldsAtNumber world class (λ l. IsTrue (is_loadable world l) → IsOrder world result.now l) }
+        ensures { (world : World) → IsLinked world self.now → IsOrderOf world class result.now }
     {
         order_in(&self.orders, class)
     }

@@ -5,9 +5,9 @@ ghost use Rattle.std.specs.List.{All};
 ghost use Rattle.jv_meaning_world.specs.World.{World};
 ghost use Rattle.jv_meaning_world.specs.Numbers.{HoldsAtNumber};
 ghost use Rattle.jv_meaning_linking.specs.Operands.{method_operand};
-ghost use Rattle.jv_link.specs.Seen.{IsSite, seen_use};
-ghost use Rattle.jv_link.specs.Answers.{AnswersTarget, HoldsAtTarget, IsMethodResolved};
-ghost use Rattle.jv_link.specs.UseRules.{callable_method};
+ghost use Rattle.jv_link.specs.Seen.{IsSite};
+ghost use Rattle.jv_link.specs.Answers.{IsMethodResolved};
+ghost use Rattle.jv_link.specs.UseRules.{AnswersCallable};
 ghost use Rattle.jv_linked.specs.MethodUses.{IsMethodUse, used_target};
 ghost use Rattle.jv_linked.specs.Inside.Methods.{IsFound, IsEntry};
 
@@ -123,7 +123,7 @@ pub(crate) fn empty_methods(
 #[inline(always)]
 fn called_by(table: &ClassTable<'_>, how: Use, called: MethodUse) -> Result<MethodUse, LinkError>
     requires { IsMethodUse table.now called }
-    ensures found { HoldsAtTarget table.now called.target (λ t. AnswersTarget table.now (used_target result) (callable_method (seen_use how) t)) }
+    ensures found { AnswersCallable table.now called.target how (used_target result) }
     ensures called { IfOk result (IsMethodUse table.now) }
 {
     match callable_with(

@@ -5,7 +5,8 @@ ghost use Rattle.jv_meaning_world.specs.World.{World};
 ghost use Rattle.jv_meaning_world.specs.Numbers.{HoldsAtNumber};
 ghost use Rattle.jv_meaning_world.specs.Verdicts.{is_loadable};
 ghost use Rattle.jv_link.specs.Orders.{IsOrder};
-ghost use Rattle.jv_linked.specs.Inside.Orders.{IsOrderOf, AreOrders};
+ghost use Rattle.jv_linked.specs.Inside.Orders.{AreOrders};
+ghost use Rattle.jv_linked.specs.Tasks.{IsOrderOf};
 
 use jv_link::init_order;
 use jv_loader::{ClassTable, Classes, Memory};

@@ -7,7 +7,7 @@ ghost use Rattle.jv_link.specs.declared.site.Use.{Use as UseByNumber};
 ghost use Rattle.jv_link.specs.Seen.{IsSite, IsMethodTarget};
 ghost use Rattle.jv_link.specs.Objects.{IsObject};
 ghost use Rattle.jv_link.specs.Answers.{IsSelected};
-ghost use Rattle.jv_linked.specs.Inside.Selections.{IsFor, IsFound, IsEntry};
+ghost use Rattle.jv_linked.specs.Inside.Selections.{Knows, Keeps, IsFor, IsFound, IsEntry};
 
 use jv_link::{LinkError, MethodTarget, Site, Use, select};
 use jv_loader::{Classes, Place};
@@ -60,7 +60,7 @@ fn known(
     target: &MethodTarget,
     object: Option<usize>,
 ) -> Option<Result<MethodTarget, LinkError>>
-    ensures { (world : World) (how : UseByNumber) → All (IsEntry world how) entries.now → IfSome result (IsFound world how class target.now object) }
+    ensures { Knows entries.now class target.now object result }
 {
     if at < entries.len()
         && let Some(entry) = &entries[at]
@@ -75,7 +75,7 @@ fn known(
 
 /// Keeps what a call runs.
 fn keep(entries: &mut [Option<Selection>], at: usize, entry: Selection)
-    ensures { (world : World) (how : UseByNumber) → All (IsEntry world how) entries.old → IsEntry world how (Some entry) → All (IsEntry world how) entries.new }
+    ensures { Keeps entries.old entry entries.new }
 {
     if at < entries.len() {
         entries[at] = Some(entry);

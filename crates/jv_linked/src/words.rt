@@ -6,7 +6,7 @@ ghost use Rattle.std.specs.Str.{bytes_eq};
 ghost use Rattle.jv_class.specs.Class.{Field};
 ghost use Rattle.jv_classes.specs.Members.{IsField};
 ghost use Rattle.jv_meaning_world.specs.Numbers.{HoldsAtNumber};
-ghost use Rattle.jv_linked.specs.Inside.Words.{word_in, behind, words_from, ends_from, own_words, inherited_words, seen_words, static_end, AreWords};
+ghost use Rattle.jv_linked.specs.Inside.Words.{words_of as words_of_class, word_in, behind, words_from, ends_from, own_words, inherited_words, seen_words, static_end, AreWords};
 ghost use Rattle.jv_linked.specs.Places.{IsWordOf, static_words};
 ghost use Rattle.jv_meaning_world.specs.World.{World};
 ghost use Rattle.jv_meaning_world.specs.LookUps.{DeclaredField};
@@ -150,7 +150,7 @@ fn words_of(
     class: &LoadedClass<'_>,
     first: Ends,
 ) -> Result<(ClassWords, usize), AllocError>
-    ensures words { IfOk result (λ r. seen_words r.0 ≡ ((ends_from first class.now.class.fields).object, words_from first class.now.class.fields)) }
+    ensures words { IfOk result (λ r. seen_words r.0 ≡ words_of_class first class.now) }
     ensures statics { IfOk result (λ r. r.1 ≡ (ends_from first class.now.class.fields).statics) }
 {
     let ends = ends_from(class, first)?;

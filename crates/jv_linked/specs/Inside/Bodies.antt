@@ -20,3 +20,6 @@ AreBodiesAt world class row = HoldsAtNumber world class (λ l. AreBodiesOf l row
 -- of so many classes
 abbrev pub AreBodies : World → ℕ → List ClassBodies → Type 0
 AreBodies world count rows = Each (AreBodiesAt world) count rows
+
+abbrev pub AreAllBodies : World → List ClassBodies → Type 0
+AreAllBodies world rows = AreBodies world (length world) rows

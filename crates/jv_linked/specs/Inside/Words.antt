@@ -47,11 +47,15 @@ first_ends world statics l = record { object = inherited_words world l; statics 
 abbrev pub seen_words : ClassWords → ℕ × List ℕ
 seen_words words = (words.object, words.fields.items)
 
--- those of each class: how many an object has, and the first of each field
+-- how many an object of a class has, and the first of each field
+abbrev pub words_of : Ends → Loaded → ℕ × List ℕ
+words_of first l = ((ends_from first l.class.fields).object, words_from first l.class.fields)
+
+-- those of each class
 abbrev pub all_words : World → ℕ → List Loaded → List (ℕ × List ℕ)
 all_words world statics [] = []
 all_words world statics (l ∷ more) =
-    ((ends_from (first_ends world statics l) l.class.fields).object, words_from (first_ends world statics l) l.class.fields)
+    words_of (first_ends world statics l) l
     ∷ all_words world (ends_from (first_ends world statics l) l.class.fields).statics more
 
 -- and how many of static fields there are behind them
@@ -60,4 +64,4 @@ static_end world statics [] = statics
 static_end world statics (l ∷ more) = static_end world (ends_from (first_ends world statics l) l.class.fields).statics more
 
 pub record AreWords (world : World) (words : List ClassWords) : Type 0 where
-  pub words_of : map seen_words words ≡ all_words world 0 world
+  pub all_of : map seen_words words ≡ all_words world 0 world

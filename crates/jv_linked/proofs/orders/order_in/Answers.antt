@@ -1,5 +1,6 @@
 use Rattle.std.proofs.Common.{sym, subst, length}
-use Rattle.jv_linked.specs.Inside.Orders.{IsOrderOf, IsOrderAt}
+use Rattle.jv_linked.specs.Inside.Orders.{IsOrderAt}
+use Rattle.jv_linked.specs.Tasks.{IsOrderOf}
 use Rattle.jv_linked.proofs.Eachwise.{each_found, none_beyond_each}
 use Rattle.jv_linked.proofs.orders.order_in.Goals as goal
 
