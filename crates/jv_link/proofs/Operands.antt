@@ -2,7 +2,7 @@
 use Rattle.std.proofs.Common.{◌≡◌, ℕ, zero, suc, List, [], Option, Some, None, codes, refl, sym, ap, ◌∙◌, subst}
 use Rattle.std.specs.Prelude.{IsSome}
 use Rattle.std.specs.Option.{option_map, option_or}
-use Rattle.jv_pool.specs.Constants.{at_index, field_reference_in, field_reference_at, method_reference_in, interface_method_reference_in}
+use Rattle.jv_pool.specs.Constants.{at_index, class_name_in, class_name_at, field_reference_in, field_reference_at, method_reference_in, interface_method_reference_in}
 use Rattle.jv_text.specs.declared.descriptor.FieldTypeOf.{FieldTypeOf}
 use Rattle.jv_text.specs.Descriptor.{IsField}
 use Rattle.jv_text.specs.Types.{field_type_of, TypesAgree}
@@ -28,6 +28,12 @@ pub no_field : (index : ℕ) → IsSome (field_reference_at [] index) → ⊥
 no_field index h = absurd (unlike (subst (λ o. IsSome (field_reference_in [] o)) (no_entry index) h))
   where
     unlike : IsSome (field_reference_in [] None) → ⊥
+    unlike g = cc
+
+pub no_class : (index : ℕ) → IsSome (class_name_at [] index) → ⊥
+no_class index h = absurd (unlike (subst (λ o. IsSome (class_name_in [] o)) (no_entry index) h))
+  where
+    unlike : IsSome (class_name_in [] None) → ⊥
     unlike g = cc
 
 pub no_method : (index : ℕ) → IsSome (method_operand_in [] index) → ⊥

@@ -1,6 +1,6 @@
 -- The class that declares a member stands at the class's number of the member's place.
-use Rattle.std.proofs.Common.{◌≡◌, Option, Some, None, refl, sym, ap, ◌∙◌}
-use Rattle.std.specs.Prelude.{slice_get, List}
+use Rattle.std.proofs.Common.{◌≡◌, Option, Some, None, ap}
+use Rattle.std.specs.Prelude.{slice_get}
 use Rattle.std.specs.Option.{option_map}
 use Rattle.jv_format.specs.Format.{◌>>=◌}
 use Rattle.jv_class.specs.Class.{Field, Method}

@@ -1,14 +1,14 @@
 -- What is met on the way up from a class tells the first method that overrides the called one.
-use Rattle.std.proofs.Common.{◌≡◌, ℕ, zero, suc, ◌≤◌, Bool, true, false, cond, not, ◌&&◌, ◌||◌, List, [], ◌∷◌, ◌++◌, length, map, filter, Option, Some, None, refl, sym, ap, ◌∙◌, subst, arith}
-use Rattle.std.specs.Prelude.{⊤, IsTrue, IsFalse, reverse, if◌then◌else◌}
-use Rattle.std.specs.List.{Contains, list_any}
+use Rattle.std.proofs.Common.{◌≡◌, ℕ, zero, suc, ◌≤◌, Bool, true, false, not, ◌&&◌, ◌||◌, List, [], ◌∷◌, ◌++◌, length, map, filter, Option, Some, None, refl, sym, ap, ◌∙◌, subst, arith}
+use Rattle.std.specs.Prelude.{⊤, IsFalse, reverse, if◌then◌else◌}
+use Rattle.std.specs.List.{list_any}
 use Rattle.std.specs.Str.{bytes_eq}
 use Rattle.std.specs.Cmp.Lexicographic.{nat_list_eq_equiv}
 use Rattle.std.proofs.lemmas.List.{reverse-append}
 use Rattle.std.proofs.lemmas.List.Folds.{list_any-append}
 use Rattle.jv_class.specs.Class.{Method, method_named}
 use Rattle.jv_meaning_world.specs.World.{Loaded, World}
-use Rattle.jv_meaning_world.specs.Above.{above, is_above, is_circular, superclass_in, chain_within, superclasses}
+use Rattle.jv_meaning_world.specs.Above.{is_above, is_circular, superclass_in, chain_within, superclasses}
 use Rattle.jv_meaning_world.specs.Laws.Above.{AboveByWays, AboveIsTransitive}
 use Rattle.jv_meaning_world.specs.Overriding.{Declared, is_instance, overrides_itself, declared_if, alike_in, with_declared, overriding}
 use Rattle.jv_meaning_world.specs.LookUps.{first_found, else_option, method_if}
@@ -16,13 +16,13 @@ use Rattle.jv_loader.specs.Straight.{IsStraight}
 use Rattle.jv_meaning_linking.specs.Access.{same_class}
 use Rattle.jv_meaning_linking.specs.Selection.{are_alike, classes_below, has_overriding, overrides, overriding_in, first_overriding}
 use Rattle.jv_meaning_linking.specs.Inside.OneWalk.{is_open}
-use Rattle.jv_meaning_linking.specs.Inside.Upward.{is_private, is_near, opens, opened_by, opened_in, OverridingUpward}
+use Rattle.jv_meaning_linking.specs.Inside.Upward.{is_private, is_near, opened_by, opened_in, OverridingUpward}
 use Rattle.jv_meaning_linking.proofs.Found.{same_text, method_is_named}
 use Rattle.jv_meaning_linking.proofs.Chain.{IsFresh, fresh, chain_goes_on}
 use Rattle.jv_meaning_linking.proofs.Searched.{direct, superclass_is_super, superclass_is_above}
 use Rattle.jv_meaning_linking.proofs.ByRule.{in_parts}
 use Rattle.jv_meaning_linking.proofs.Unchanged.{stays}
-use Rattle.jv_link.specs.Inside.Climbing.{Meeting, met_below, met_in, meets, is_opening, hit, run_of, upward_of, met_upward}
+use Rattle.jv_link.specs.Inside.Climbing.{met_below, met_in, meets, is_opening, hit, run_of, upward_of, met_upward}
 use Rattle.jv_link.specs.Inside.Climbing.Meeting.{Nothing, Far, Sure, Opens}
 
 -- ---- an alike method

@@ -1,5 +1,5 @@
 -- A step of resolution, and what goes on with its answer.
-use Rattle.std.proofs.Common.{◌≡◌, refl, Option, Some, None, Result, Ok, Err, sym, ap, ◌∙◌, subst}
+use Rattle.std.proofs.Common.{◌≡◌, refl, Option, Some, None, Ok, Err, sym, ap, ◌∙◌}
 use Rattle.std.specs.Option.{option_map}
 use Rattle.jv_meaning_linking.specs.LinkErrors.{LinkError as ErrorOfNames, OrError}
 use Rattle.jv_link.specs.Seen.{answer}

@@ -1,12 +1,12 @@
 -- Steps on the way up.
-use Rattle.std.proofs.Common.{◌≡◌, ℕ, zero, suc, ◌<◌, Bool, true, false, ◌||◌, List, [], ◌∷◌, length, map, Option, Some, None, refl, sym, ap, ◌∙◌, subst, arith}
+use Rattle.std.proofs.Common.{◌≡◌, ℕ, ◌<◌, Bool, true, false, ◌||◌, List, [], ◌∷◌, length, map, Option, Some, None, refl, sym, ap, ◌∙◌, subst, arith}
 use Rattle.std.specs.Prelude.{IfSome, slice_get, if◌then◌else◌}
 use Rattle.std.specs.List.{list_any}
 use Rattle.std.specs.Option.{option_and_then}
 use Rattle.jv_format.specs.Format.{◌>>=◌}
 use Rattle.jv_names.specs.Ways.{IsBelowSize}
 use Rattle.jv_meaning_world.specs.World.{Loaded, World}
-use Rattle.jv_meaning_world.specs.Above.{superclass_in, superclasses}
+use Rattle.jv_meaning_world.specs.Above.{superclass_in}
 use Rattle.jv_meaning_world.specs.Laws.Above.{AboveByWays, AboveIsTransitive}
 use Rattle.jv_meaning_world.specs.Overriding.{Declared}
 use Rattle.jv_meaning_world.specs.LookUps.{else_option}
@@ -17,7 +17,7 @@ use Rattle.jv_classes.proofs.Followed.{at_superclass, some_class}
 use Rattle.jv_lookups.specs.declared.place.Place.{Place}
 use Rattle.jv_lookups.specs.Places.{method_at, IsMethodPlace}
 use Rattle.jv_loader.specs.Straight.{IsStraight}
-use Rattle.jv_link.specs.Inside.Climbing.{Meeting, meets, is_opening, hit, run_of, upward_of, met_upward, run_behind, sure_behind, sure_of, numbered, IsStraightAt}
+use Rattle.jv_link.specs.Inside.Climbing.{Meeting, meets, is_opening, run_of, upward_of, met_upward, run_behind, sure_behind, numbered, IsStraightAt}
 use Rattle.jv_link.specs.Inside.Climbing.Meeting.{Nothing, Far, Sure, Opens}
 use Rattle.jv_link.proofs.Running.{goes_up, super_is_straight}
 

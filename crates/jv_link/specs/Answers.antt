@@ -10,10 +10,10 @@ use Rattle.jv_lookups.specs.Places.{field_at, method_at}
 use Rattle.jv_lookups.specs.declared.place.Place.{Place}
 use Rattle.jv_meaning_linking.specs.Uses.{Site as SiteOfNames}
 use Rattle.jv_meaning_linking.specs.LinkErrors.{OrError}
-use Rattle.jv_meaning_linking.specs.Operands.{MethodReference, field_operand, method_operand}
-use Rattle.jv_meaning_linking.specs.ClassResolution.{ResolvedClass, resolve_class}
-use Rattle.jv_meaning_linking.specs.FieldResolution.{resolve_field}
-use Rattle.jv_meaning_linking.specs.MethodResolution.{MethodTarget as TargetOfNames, resolve_method}
+use Rattle.jv_meaning_linking.specs.Operands.{MethodReference, class_operand, field_operand, method_operand}
+use Rattle.jv_meaning_linking.specs.ClassResolution.{ResolvedClass, resolve_text, resolve_class}
+use Rattle.jv_meaning_linking.specs.FieldResolution.{resolved_field, resolve_field}
+use Rattle.jv_meaning_linking.specs.MethodResolution.{MethodTarget as TargetOfNames, resolved_method, resolve_method}
 use Rattle.jv_meaning_linking.specs.Selection.{select}
 use Rattle.jv_link.specs.Seen.{answer_at, class_ref_at, method_target_at, seen_site, seen_use}
 use Rattle.jv_link.specs.Objects.{object_class_at}
@@ -48,6 +48,29 @@ HoldsAtSite world site P = (s : SiteOfNames) → seen_site world site ≡ Some s
 -- the class or array that a text names at a site, as a use wants it (JVMS 5.4.3.1)
 abbrev pub IsClassResolved : World → Site → Option Use → List ℕ → Result ClassRef LinkError → Type 0
 IsClassResolved world site how text answer = HoldsAtSite world site (λ s. AnswersType world answer (resolve_class world s (option_map seen_use how) text))
+
+-- what the Class constant at an index of a class resolves to, before the rule of `new` (5.4.3.1)
+abbrev pub IsConstantsClass : World → ℕ → ℕ → Result ClassRef LinkError → Type 0
+IsConstantsClass world class index answer =
+    HoldsAtNumber world class (λ l. (text : List ℕ) → class_operand l.class index ≡ Some text → AnswersType world answer (resolve_text world l text))
+
+-- what it resolves to for an instruction at a site
+abbrev pub IsClassUsed : World → Site → Option Use → ℕ → Result ClassRef LinkError → Type 0
+IsClassUsed world site how index answer =
+    (s : SiteOfNames) (text : List ℕ) → seen_site world site ≡ Some s → class_operand s.by.class index ≡ Some text
+    → AnswersType world answer (resolve_class world s (option_map seen_use how) text)
+
+-- the field that the constant at an index of a class resolves to, before the rules of the instruction that uses it (5.4.3.2)
+abbrev pub IsConstantsField : World → ℕ → ℕ → Result Place LinkError → Type 0
+IsConstantsField world class index answer =
+    HoldsAtNumber world class (λ l. (reference : MemberReference) → field_operand l.class index ≡ Some reference
+    → AnswersField world answer (resolved_field world l reference))
+
+-- the method (5.4.3.3, 5.4.3.4)
+abbrev pub IsConstantsMethod : World → ℕ → ℕ → Result MethodTarget LinkError → Type 0
+IsConstantsMethod world class index answer =
+    HoldsAtNumber world class (λ l. (reference : MethodReference) → method_operand l.class index ≡ Some reference
+    → AnswersTarget world answer (resolved_method world l reference))
 
 -- the field that the constant at an index names (5.4.3.2)
 abbrev pub IsFieldResolved : World → Site → Use → ℕ → Result Place LinkError → Type 0

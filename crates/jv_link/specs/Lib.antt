@@ -4,3 +4,4 @@ pub mod Layouts
 pub mod Objects
 pub mod Orders
 pub mod Seen
+pub mod UseRules

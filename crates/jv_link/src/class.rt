@@ -1,6 +1,6 @@
 //! Resolution of classes (JVMS 5.4.3.1).
 
-ghost use Rattle.std.specs.Prelude.{◌≡◌, ◌<◌, Some, IfOk, length};
+ghost use Rattle.std.specs.Prelude.{◌≡◌, ◌<◌, Some, IsSome, IfOk, length};
 ghost use Rattle.std.specs.Option.{option_map, option_and_then};
 ghost use Rattle.jv_text.specs.Types.{field_type_of};
 ghost use Rattle.jv_meaning_world.specs.World.{can_name};
@@ -8,11 +8,14 @@ ghost use Rattle.jv_meaning_world.specs.Numbers.{HoldsAtNumber, HoldsAtBoth};
 ghost use Rattle.jv_meaning_linking.specs.ClassResolution.{ResolvedClass, loading_error, error_of_class, resolve_name, resolve_element, resolve_array, resolve_text, creatable, resolve_class, member_class};
 ghost use Rattle.jv_meaning_linking.specs.Access.{same_class};
 ghost use Rattle.jv_link.specs.Seen.{error_of, class_ref_at, IsSite};
-ghost use Rattle.jv_link.specs.Inside.Steps.{if_open, if_creatable, named_class, IsWithin, IsRefWithin, AnswersCreatable, IsResolvedBy, member_class_or, array_resolved};
-ghost use Rattle.jv_link.specs.Answers.{AnswersClass, AnswersType, IsClassResolved, HoldsAtType, AnswersClassOf, AnswersTypeOf};
+ghost use Rattle.jv_link.specs.UseRules.{if_creatable, IsRefWithin, AnswersCreatable};
+ghost use Rattle.jv_link.specs.Inside.Steps.{if_open, named_class, IsWithin, IsResolvedBy, member_class_or, array_resolved};
+ghost use Rattle.jv_meaning_linking.specs.Operands.{class_operand};
+ghost use Rattle.jv_link.specs.Answers.{AnswersClass, AnswersType, IsConstantsClass, IsClassResolved, HoldsAtType, AnswersClassOf, AnswersTypeOf};
 
 use crate::error::LinkError;
 use crate::member::class_at;
+use crate::reference::class_text;
 use crate::site::{Site, Use};
 use crate::target::ClassRef;
 use jv_loader::{ClassTable, Classes, LoadVerdict};
@@ -157,8 +160,12 @@ fn creatable<'n>(table: &ClassTable<'_>, found: ClassRef<'n>) -> Result<ClassRef
     }
 }
 
-/// The same of what may be an error.
-fn if_creatable<'n>(
+/// What a Class constant resolves to, by the rule of `new` (JVMS 6.5): neither an interface, nor abstract, nor an array.
+///
+/// # Errors
+///
+/// That of the constant, or `InstantiationError`.
+pub fn created<'n>(
     table: &ClassTable<'_>,
     found: Result<ClassRef<'n>, LinkError>,
 ) -> Result<ClassRef<'n>, LinkError>
@@ -183,7 +190,7 @@ fn resolve_in<'n>(
 {
     let found = resolve_text(table, current, text);
     match how {
-        Some(Use::New) => if_creatable(table, found),
+        Some(Use::New) => created(table, found),
         _ => found,
     }
 }
@@ -204,6 +211,39 @@ pub fn resolve_class<'n>(
     ensures { IsClassResolved classes.now.world site how text.now result }
 {
     resolve_in(classes.table(), site.class, how, text)
+}
+
+/// The class that a Class constant of a class resolves to, by the table.
+fn constants_class_in<'a>(
+    table: &ClassTable<'a>,
+    class: usize,
+    index: u16,
+) -> Result<ClassRef<'a>, LinkError>
+    requires class { class < length table.now }
+    requires index { HoldsAtNumber table.now class (λ l. IsSome (class_operand l.class index)) }
+    ensures found { IsConstantsClass table.now class index result }
+    ensures within { IfOk result (IsRefWithin table.now) }
+{
+    resolve_text(table, class, class_text(table, class, index))
+}
+
+/// The class or the array that the Class constant at an index of a class resolves to, whatever instruction uses it (JVMS
+/// 5.4.3.1): it is the same for all methods of the class. It costs one hash of a name at most.
+///
+/// # Errors
+///
+/// As JVMS 5.4.3.1 has them.
+pub fn constants_class<'a>(
+    classes: &Classes<'a>,
+    class: usize,
+    index: u16,
+) -> Result<ClassRef<'a>, LinkError>
+    requires class { class < length classes.now.world }
+    requires index { HoldsAtNumber classes.now.world class (λ l. IsSome (class_operand l.class index)) }
+    ensures found { IsConstantsClass classes.now.world class index result }
+    ensures within { IfOk result (IsRefWithin classes.now.world) }
+{
+    constants_class_in(classes.table(), class, index)
 }
 
 /// The class whose members a reference to a class or an array means, java/lang/Object for an array (JVMS

@@ -8,7 +8,7 @@ ghost use Rattle.jv_meaning_linking.specs.Operands.{field_operand};
 ghost use Rattle.jv_meaning_linking.specs.FieldResolution.{found_field, field_from, resolved_field, resolve_field};
 ghost use Rattle.jv_link.specs.Seen.{IsSite};
 ghost use Rattle.jv_link.specs.Inside.Steps.{accessible_field, AnswersAccessibleField, field_by};
-ghost use Rattle.jv_link.specs.Answers.{AnswersField, IsFieldResolved, AnswersFieldOf};
+ghost use Rattle.jv_link.specs.Answers.{AnswersField, IsConstantsField, IsFieldResolved, AnswersFieldOf};
 
 use crate::access::can_access;
 use crate::class::named_class;
@@ -95,6 +95,23 @@ fn resolved_field(
     }
 }
 
+/// The field that a constant of a class resolves to.
+fn resolved_in(
+    table: &ClassTable<'_>,
+    classes: &Classes<'_>,
+    class: usize,
+    index: u16,
+) -> Result<Place, LinkError>
+    requires same { classes.now.world ≡ table.now }
+    requires class { class < length table.now }
+    requires index { HoldsAtNumber table.now class (λ l. IsSome (field_operand l.class index)) }
+    ensures found { IsConstantsField table.now class index result }
+    ensures place { IfOk result (IsFieldPlace table.now) }
+{
+    let reference = field_name(table, class, index);
+    resolved_field(table, classes, class, &reference)
+}
+
 /// The field that an instruction uses, by its constant's index.
 fn resolve_in(
     table: &ClassTable<'_>,
@@ -109,11 +126,25 @@ fn resolve_in(
     ensures found { IsFieldResolved table.now site how index result }
     ensures place { IfOk result (IsFieldPlace table.now) }
 {
-    let reference = field_name(table, site.class, index);
-    match resolved_field(table, classes, site.class, &reference) {
+    match resolved_in(table, classes, site.class, index) {
         Ok(place) => usable_field(table, site, how, place),
         Err(error) => Err(error),
     }
+}
+
+/// The field that the Fieldref constant at an index of a class resolves to, whatever instruction uses it (JVMS
+/// 5.4.3.2, 5.4.4): it is the same for all methods of the class. It costs as much as [`resolve_field`].
+///
+/// # Errors
+///
+/// As JVMS 5.4.3.2 has them.
+pub fn constants_field(classes: &Classes<'_>, class: usize, index: u16) -> Result<Place, LinkError>
+    requires class { class < length classes.now.world }
+    requires index { HoldsAtNumber classes.now.world class (λ l. IsSome (field_operand l.class index)) }
+    ensures found { IsConstantsField classes.now.world class index result }
+    ensures place { IfOk result (IsFieldPlace classes.now.world) }
+{
+    resolved_in(classes.table(), classes, class, index)
 }
 
 /// The field that the Fieldref constant at an index resolves to at a site, for an instruction (JVMS

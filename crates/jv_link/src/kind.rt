@@ -1,15 +1,18 @@
 //! Which fields and methods an instruction can use (JVMS 6.5).
 
 ghost use Rattle.std.specs.Prelude.{◌≡◌, ◌<◌, Some, IfOk, length};
+ghost use Rattle.jv_text.specs.Name.{is_init as is_init_name};
 ghost use Rattle.jv_class.specs.Class.{Field, Method};
 ghost use Rattle.jv_class.specs.Rules.{is_clinit};
-ghost use Rattle.jv_lookups.specs.Places.{field_at, IsFieldPlace};
+ghost use Rattle.jv_meaning_world.specs.Overriding.{Declared};
+ghost use Rattle.jv_meaning_world.specs.LookUps.{DeclaredField};
+ghost use Rattle.jv_lookups.specs.Places.{field_at, method_at, IsFieldPlace};
 ghost use Rattle.jv_meaning_linking.specs.Uses.{Site as SiteOfNames};
 ghost use Rattle.jv_meaning_linking.specs.Kind.{has_field_kind, can_set_final, can_use_final, has_method_kind};
 ghost use Rattle.jv_meaning_linking.specs.MethodResolution.{is_own_init};
 ghost use Rattle.jv_link.specs.Seen.{seen_use, seen_site, IsSite, IsMethodTarget};
-ghost use Rattle.jv_link.specs.Inside.Steps.{usable_field, callable_method, CanSetFinal, CanUseFinal, AnswersUsable, IsOwnInit};
-ghost use Rattle.jv_link.specs.Answers.{AnswersTarget, HoldsAtTarget};
+ghost use Rattle.jv_link.specs.UseRules.{AnswersUsable, AnswersCallable};
+ghost use Rattle.jv_link.specs.Inside.Steps.{CanSetFinal, CanUseFinal, IsOwnInit};
 
 use crate::class::same_class;
 use crate::error::LinkError;
@@ -27,6 +30,7 @@ const FINAL: u16 = 0x0010;
 const STATIC_OR_PRIVATE: u16 = 0x000a;
 
 /// Whether an instruction uses a field of this kind, static or not.
+#[inline(always)]
 fn has_field_kind(how: Use, flags: u16) -> bool
     ensures { (f : Field) → flags ≡ f.access_flags → result ≡ has_field_kind (seen_use how) f }
 {
@@ -38,6 +42,7 @@ fn has_field_kind(how: Use, flags: u16) -> bool
 }
 
 /// Whether an instruction calls a method of this kind.
+#[inline(always)]
 fn has_method_kind(how: Use, flags: u16) -> bool
     ensures { (m : Method) → flags ≡ m.access_flags → result ≡ has_method_kind (seen_use how) m }
 {
@@ -83,12 +88,42 @@ fn can_set_final(table: &ClassTable<'_>, how: Use, site: Site, by: usize) -> boo
 }
 
 /// Whether an instruction can use a field: one that is not final, or that it can set, or that it only reads.
+#[inline(always)]
 fn can_use_final(table: &ClassTable<'_>, how: Use, site: Site, by: usize, flags: u16) -> bool
     requires site { IsSite table.now site }
     requires by { by < length table.now }
     ensures { CanUseFinal table.now site how by flags result }
 {
     flags & FINAL == 0 || can_set_final(table, how, site, by)
+}
+
+/// A field with these access flags, where it is of the instruction's kind, and not final where the instruction can't set it
+/// (JVMS 6.5).
+///
+/// # Errors
+///
+/// `IncompatibleClassChangeError`, and then `IllegalAccessError`.
+#[inline(always)]
+pub fn usable_with(
+    table: &ClassTable<'_>,
+    site: Site,
+    how: Use,
+    place: Place,
+    flags: u16,
+) -> Result<Place, LinkError>
+    requires site { IsSite table.now site }
+    requires place { IsFieldPlace table.now place }
+    requires flags { (d : DeclaredField) → field_at table.now place ≡ Some d → flags ≡ d.field.access_flags }
+    ensures found { AnswersUsable table.now site how place result }
+    ensures place { IfOk result (λ found. found ≡ place) }
+{
+    if !has_field_kind(how, flags) {
+        return Err(LinkError::IncompatibleClassChangeError);
+    }
+    if !can_use_final(table, how, site, place.class, flags) {
+        return Err(LinkError::IllegalAccessError);
+    }
+    Ok(place)
 }
 
 /// A field, where it is of the instruction's kind, and not final where the instruction can't set it.
@@ -104,26 +139,48 @@ pub(crate) fn usable_field(
     ensures place { IfOk result (IsFieldPlace table.now) }
 {
     let field = field_at(table, place);
-    if !has_field_kind(how, field.access_flags) {
-        return Err(LinkError::IncompatibleClassChangeError);
-    }
-    if !can_use_final(table, how, site, place.class, field.access_flags) {
-        return Err(LinkError::IllegalAccessError);
-    }
-    Ok(place)
+    usable_with(table, site, how, place, field.access_flags)
 }
 
 /// Whether the named class declares an `<init>` itself that invokespecial calls.
-fn is_own_init(table: &ClassTable<'_>, how: Use, target: MethodTarget, name: &[u8]) -> bool
+#[inline(always)]
+fn is_own_init(table: &ClassTable<'_>, how: Use, target: MethodTarget, is_init: bool) -> bool
     requires { IsMethodTarget table.now target }
-    ensures { IsOwnInit table.now target how name.now result }
+    ensures { IsOwnInit table.now target how is_init result }
 {
     match how {
-        Use::Invokespecial => {
-            !is_init(name) || same_class(table, target.named, target.declared.class)
-        }
+        Use::Invokespecial => { !is_init || same_class(table, target.named, target.declared.class) }
         _ => true,
     }
+}
+
+/// A method with these access flags, where an `<init>`, if it is one, is that of the named class, and the method is of the
+/// instruction's kind (JVMS 6.5).
+///
+/// # Errors
+///
+/// `NoSuchMethodError`, and then `IncompatibleClassChangeError`.
+#[inline(always)]
+pub fn callable_with(
+    table: &ClassTable<'_>,
+    how: Use,
+    target: MethodTarget,
+    flags: u16,
+    is_init: bool,
+) -> Result<MethodTarget, LinkError>
+    requires target { IsMethodTarget table.now target }
+    requires flags { (d : Declared) → method_at table.now target.declared ≡ Some d → flags ≡ d.method.access_flags }
+    requires init { (d : Declared) → method_at table.now target.declared ≡ Some d → is_init ≡ is_init_name d.method.name }
+    ensures found { AnswersCallable table.now target how result }
+    ensures target { IfOk result (λ found. found ≡ target) }
+{
+    if !is_own_init(table, how, target, is_init) {
+        return Err(LinkError::NoSuchMethodError);
+    }
+    if !has_method_kind(how, flags) {
+        return Err(LinkError::IncompatibleClassChangeError);
+    }
+    Ok(target)
 }
 
 /// A method, where an `<init>` is that of the named class, and the method is of the instruction's kind.
@@ -133,15 +190,15 @@ pub(crate) fn callable_method(
     target: MethodTarget,
 ) -> Result<MethodTarget, LinkError>
     requires { IsMethodTarget table.now target }
-    ensures found { HoldsAtTarget table.now target (λ t. AnswersTarget table.now result (callable_method (seen_use how) t)) }
+    ensures found { AnswersCallable table.now target how result }
     ensures target { IfOk result (IsMethodTarget table.now) }
 {
     let method = method_at(table, target.declared);
-    if !is_own_init(table, how, target, method.name) {
-        return Err(LinkError::NoSuchMethodError);
-    }
-    if !has_method_kind(how, method.access_flags) {
-        return Err(LinkError::IncompatibleClassChangeError);
-    }
-    Ok(target)
+    callable_with(
+        table,
+        how,
+        target,
+        method.access_flags,
+        is_init(method.name),
+    )
 }

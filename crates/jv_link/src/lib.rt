@@ -25,13 +25,14 @@ mod special;
 mod target;
 
 pub use access::same_package;
-pub use class::{resolve_class, same_class};
+pub use class::{constants_class, created, resolve_class, same_class};
 pub use error::LinkError;
-pub use field::resolve_field;
+pub use field::{constants_field, resolve_field};
+pub use kind::{callable_with, usable_with};
 pub use laying::layout_of;
 pub use layout::{Layout, PlacedField};
 pub use member::{class_at, field_at, method_at};
-pub use method::resolve_method;
+pub use method::{constants_method, resolve_method};
 pub use order::init_order;
 pub use selection::select;
 pub use site::{Site, Use};

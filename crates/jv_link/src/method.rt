@@ -9,7 +9,7 @@ ghost use Rattle.jv_meaning_linking.specs.MethodResolution.{names_its_kind, meth
 ghost use Rattle.jv_link.specs.Seen.{IsSite, IsMethodTarget};
 ghost use Rattle.jv_link.specs.Inside.References.{constant_of, reference_of};
 ghost use Rattle.jv_link.specs.Inside.Steps.{looked_up, accessible_method, AnswersAccessibleMethod, AnswersMethodFrom};
-ghost use Rattle.jv_link.specs.Answers.{IsMethodResolved, AnswersMethodOf, AnswersTargetOf};
+ghost use Rattle.jv_link.specs.Answers.{IsConstantsMethod, IsMethodResolved, AnswersMethodOf, AnswersTargetOf};
 
 use crate::access::can_access;
 use crate::class::named_class;
@@ -122,6 +122,23 @@ fn resolved_method(
     }
 }
 
+/// The method that a constant of a class resolves to.
+fn resolved_in(
+    table: &ClassTable<'_>,
+    classes: &Classes<'_>,
+    class: usize,
+    index: u16,
+) -> Result<MethodTarget, LinkError>
+    requires same { classes.now.world ≡ table.now }
+    requires class { class < length table.now }
+    requires index { HoldsAtNumber table.now class (λ l. IsSome (method_operand l.class index)) }
+    ensures found { IsConstantsMethod table.now class index result }
+    ensures target { IfOk result (IsMethodTarget table.now) }
+{
+    let reference = method_name(table, class, index);
+    resolved_method(table, classes, class, &reference)
+}
+
 /// The method that an instruction calls, by its constant's index.
 fn resolve_in(
     table: &ClassTable<'_>,
@@ -136,11 +153,30 @@ fn resolve_in(
     ensures found { IsMethodResolved table.now site how index result }
     ensures target { IfOk result (IsMethodTarget table.now) }
 {
-    let reference = method_name(table, site.class, index);
-    match resolved_method(table, classes, site.class, &reference) {
+    match resolved_in(table, classes, site.class, index) {
         Ok(target) => callable_method(table, how, target),
         Err(error) => Err(error),
     }
+}
+
+/// The method that the Methodref or InterfaceMethodref constant at an index of a class resolves to, whatever
+/// instruction calls it (JVMS 5.4.3.3, 5.4.3.4, 5.4.4): it is the same for all methods of the class. It costs as
+/// much as [`resolve_method`].
+///
+/// # Errors
+///
+/// As JVMS 5.4.3.3 and 5.4.3.4 have them.
+pub fn constants_method(
+    classes: &Classes<'_>,
+    class: usize,
+    index: u16,
+) -> Result<MethodTarget, LinkError>
+    requires class { class < length classes.now.world }
+    requires index { HoldsAtNumber classes.now.world class (λ l. IsSome (method_operand l.class index)) }
+    ensures found { IsConstantsMethod classes.now.world class index result }
+    ensures target { IfOk result (IsMethodTarget classes.now.world) }
+{
+    resolved_in(classes.table(), classes, class, index)
 }
 
 /// The method that the Methodref or InterfaceMethodref constant at an index resolves to at a site, for an

@@ -3,12 +3,12 @@
 ghost use Rattle.std.specs.Prelude.{◌≡◌, ◌<◌, [], Some, IsSome, IfSome, IfNone, length};
 ghost use Rattle.jv_pool.specs.Seen.{seen_member};
 ghost use Rattle.jv_meaning_world.specs.Numbers.{HoldsAtNumber};
-ghost use Rattle.jv_meaning_linking.specs.Operands.{field_operand, method_operand};
+ghost use Rattle.jv_meaning_linking.specs.Operands.{class_operand, field_operand, method_operand};
 ghost use Rattle.jv_link.specs.Inside.References.{method_operand_in, reference_of};
 
 use crate::member::class_at;
 use jv_loader::ClassTable;
-use jv_pool::{FieldrefIndex, InterfaceMethodrefIndex, MemberName, Pool};
+use jv_pool::{ClassIndex, FieldrefIndex, InterfaceMethodrefIndex, MemberName, Pool};
 
 /// A method as a constant names it: a Methodref, or an InterfaceMethodref.
 #[derive(Clone, Copy)]
@@ -26,6 +26,18 @@ fn pool_of<'t, 'a>(table: &'t ClassTable<'a>, class: usize) -> Option<&'t Pool<'
     match class_at(table, class).file() {
         Some(file) => Some(file.pool()),
         None => None,
+    }
+}
+
+/// The text of a Class constant of a class.
+pub(crate) fn class_text<'a>(table: &ClassTable<'a>, class: usize, index: u16) -> &'a [u8]
+    requires class { class < length table.now }
+    requires operand { HoldsAtNumber table.now class (λ l. IsSome (class_operand l.class index)) }
+    ensures { HoldsAtNumber table.now class (λ l. class_operand l.class index ≡ Some result.now) }
+{
+    match pool_of(table, class) {
+        Some(pool) => pool.class_name(ClassIndex(index)),
+        None => unreachable!(),
     }
 }
 

@@ -1,10 +1,17 @@
 //! What texts of Class constants name (JVMS 5.4.3.1, 5.3.3, and 6.5 for `new`).
 
+ghost use Rattle.std.specs.Prelude.{IsSome};
+ghost use Rattle.jv_meaning_world.specs.Numbers.{HoldsAtNumber};
+ghost use Rattle.jv_meaning_linking.specs.Operands.{class_operand};
+ghost use Rattle.jv_link.specs.Seen.{IsSite};
+ghost use Rattle.jv_linked.specs.Linked.{IsLinked};
+
 use crate::guest::{Table, wrong_row};
 use crate::named::{class_name, error_name};
 use crate::row::Row;
-use crate::site::{site_of, use_of};
-use jv_link::{ClassRef, resolve_class};
+use crate::site::{class_index, site_of, use_of};
+use jv_link::{ClassRef, LinkError, Site, Use, resolve_class};
+use jv_linked::Linked;
 use jv_loader::Classes;
 use jv_text::{Base, Element, FieldType};
 use std::hash::RandomState;
@@ -116,7 +123,7 @@ fn is_array(array: FieldType<'_>, dimensions: &str, name: &str) -> bool {
 }
 
 /// Whether what was found is what a row says.
-fn is_found(classes: &Classes<'_>, found: ClassRef<'_>, answer: &str) -> bool {
+fn is_ref(classes: &Classes<'_>, found: ClassRef<'_>, answer: &str) -> bool {
     match found {
         ClassRef::Class(number) => class_name(classes, number) == answer.as_bytes(),
         ClassRef::Array(array) => match answer.split_once(' ') {
@@ -126,13 +133,44 @@ fn is_found(classes: &Classes<'_>, found: ClassRef<'_>, answer: &str) -> bool {
     }
 }
 
+/// Whether a class was found as a row says.
+fn is_found(classes: &Classes<'_>, found: Result<ClassRef<'_>, LinkError>, row: &Row<'_>) -> bool {
+    match found {
+        Ok(found) => is_ref(classes, found, row.answer),
+        Err(error) => error_name(error) == row.answer.as_bytes(),
+    }
+}
+
+/// Whether a class is resolved as a row says: by its text, and twice by what is kept of its constant.
+fn resolves<'a>(
+    classes: &Classes<'a>,
+    linked: &mut Linked<'a>,
+    site: Site,
+    how: Option<Use>,
+    index: u16,
+    row: &Row<'_>,
+) -> bool
+    requires linked { IsLinked classes.now.world linked.old }
+    requires site { IsSite classes.now.world site }
+    requires index { HoldsAtNumber classes.now.world site.class (λ l. IsSome (class_operand l.class index)) }
+    ensures { IsLinked classes.now.world linked.new }
+{
+    let named = resolve_class(classes, site, how, row.named.as_bytes());
+    let first = linked.class_at(classes, site, how, index);
+    let again = linked.class_at(classes, site, how, index);
+    is_found(classes, named, row) && is_found(classes, first, row) && is_found(classes, again, row)
+}
+
 /// Whether a class is resolved as a row says.
-pub(crate) fn is_right(classes: &Classes<'_>, row: &Row<'_>) -> bool {
-    match site_of(classes, row) {
-        Some(site) => match resolve_class(classes, site, use_of(row.how), row.named.as_bytes()) {
-            Ok(found) => is_found(classes, found, row.answer),
-            Err(error) => error_name(error) == row.answer.as_bytes(),
-        },
+pub(crate) fn is_right<'a>(classes: &Classes<'a>, linked: &mut Linked<'a>, row: &Row<'_>) -> bool
+    requires { IsLinked classes.now.world linked.old }
+    ensures { IsLinked classes.now.world linked.new }
+{
+    let Some(site) = site_of(classes, row) else {
+        return false;
+    };
+    match class_index(classes, site.class, row) {
+        Some(index) => resolves(classes, linked, site, use_of(row.how), index, row),
         None => false,
     }
 }

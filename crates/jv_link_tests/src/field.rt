@@ -1,10 +1,17 @@
 //! What fields resolve to (JVMS 5.4.3.2, 5.4.4, 6.5).
 
+ghost use Rattle.std.specs.Prelude.{IsSome};
+ghost use Rattle.jv_meaning_world.specs.Numbers.{HoldsAtNumber};
+ghost use Rattle.jv_meaning_linking.specs.Operands.{field_operand};
+ghost use Rattle.jv_link.specs.Seen.{IsSite};
+ghost use Rattle.jv_linked.specs.Linked.{IsLinked};
+
 use crate::guest::{Table, wrong_row};
 use crate::named::{class_name, error_name, is_field_at};
 use crate::row::Row;
 use crate::site::{field_index, site_of, use_of};
-use jv_link::{LinkError, resolve_field};
+use jv_link::{LinkError, Site, Use, resolve_field};
+use jv_linked::Linked;
 use jv_loader::{Classes, Place};
 use std::hash::RandomState;
 
@@ -144,8 +151,31 @@ fn is_found(classes: &Classes<'_>, found: Result<Place, LinkError>, row: &Row<'_
     }
 }
 
+/// Whether a field is resolved as a row says: by its names, and twice by what is kept of it.
+fn resolves(
+    classes: &Classes<'_>,
+    linked: &mut Linked<'_>,
+    site: Site,
+    how: Use,
+    index: u16,
+    row: &Row<'_>,
+) -> bool
+    requires linked { IsLinked classes.now.world linked.old }
+    requires site { IsSite classes.now.world site }
+    requires index { HoldsAtNumber classes.now.world site.class (λ l. IsSome (field_operand l.class index)) }
+    ensures { IsLinked classes.now.world linked.new }
+{
+    let named = resolve_field(classes, site, how, index);
+    let first = linked.field_at(classes, site, how, index);
+    let again = linked.field_at(classes, site, how, index);
+    is_found(classes, named, row) && is_found(classes, first, row) && is_found(classes, again, row)
+}
+
 /// Whether a field is resolved as a row says.
-pub(crate) fn is_right(classes: &Classes<'_>, row: &Row<'_>) -> bool {
+pub(crate) fn is_right(classes: &Classes<'_>, linked: &mut Linked<'_>, row: &Row<'_>) -> bool
+    requires { IsLinked classes.now.world linked.old }
+    ensures { IsLinked classes.now.world linked.new }
+{
     let Some(site) = site_of(classes, row) else {
         return false;
     };
@@ -153,7 +183,7 @@ pub(crate) fn is_right(classes: &Classes<'_>, row: &Row<'_>) -> bool {
         return false;
     };
     match use_of(row.how) {
-        Some(how) => is_found(classes, resolve_field(classes, site, how, index), row),
+        Some(how) => resolves(classes, linked, site, how, index, row),
         None => false,
     }
 }

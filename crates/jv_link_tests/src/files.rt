@@ -102,6 +102,8 @@ fn add_constant<'a>(class: &mut ClassBuilder<'a>, row: &Row<'a>) -> bool {
         class.methodref(named, name, descriptor).is_ok()
     } else if row.constant == "InterfaceMethodref" {
         class.interface_methodref(named, name, descriptor).is_ok()
+    } else if row.constant == "Class" {
+        class.class(named).is_ok()
     } else {
         true
     }

@@ -1,7 +1,10 @@
 //! Guests, and which row of a table is wrong for one.
 
+ghost use Rattle.jv_linked.specs.Linked.{IsLinked};
+
 use crate::row::{Row, is_comment, read_row};
-use crate::{class, field, files, layout, method, order};
+use crate::{class, field, files, layout, method, order, uses};
+use jv_linked::{Linked, link};
 use jv_loader::{Classes, SystemFiles, system_files};
 use std::alloc::{AllocError, Global};
 use std::hash::RandomState;
@@ -15,27 +18,48 @@ pub(crate) enum Table {
     Selections,
     Orders,
     Layouts,
+    FieldUses,
+    MethodUses,
 }
 
 /// What is answered where the host had no memory, or a line has no class.
 pub(crate) const NO_MEMORY: &str = "no memory";
 
 /// Whether a row is right; `None` where the host had no memory.
-fn is_right(alloc: Global, classes: &Classes<'_>, table: Table, row: &Row<'_>) -> Option<bool> {
+fn is_right<'a>(
+    alloc: Global,
+    classes: &Classes<'a>,
+    linked: &mut Linked<'a>,
+    table: Table,
+    row: &Row<'_>,
+) -> Option<bool>
+    requires { IsLinked classes.now.world linked.old }
+    ensures { IsLinked classes.now.world linked.new }
+{
     match table {
-        Table::Classes => Some(class::is_right(classes, row)),
-        Table::Fields => Some(field::is_right(classes, row)),
-        Table::Methods => Some(method::resolves(classes, row)),
-        Table::Selections => Some(method::selects(classes, row)),
-        Table::Orders => order::is_right(alloc, classes, row),
-        Table::Layouts => layout::is_right(alloc, classes, row),
+        Table::Classes => Some(class::is_right(classes, linked, row)),
+        Table::Fields => Some(field::is_right(classes, linked, row)),
+        Table::Methods => Some(method::resolves(classes, linked, row)),
+        Table::Selections => Some(method::selects(classes, linked, row)),
+        Table::Orders => order::is_right(alloc, classes, linked, row),
+        Table::Layouts => layout::is_right(alloc, classes, linked, row),
+        Table::FieldUses => Some(uses::is_field_right(classes, linked, row)),
+        Table::MethodUses => Some(uses::is_method_right(classes, linked, row)),
     }
 }
 
-fn wrong_in<'r>(alloc: Global, classes: &Classes<'_>, table: Table, rows: &'r str) -> &'r str {
+fn wrong_in<'r, 'a>(
+    alloc: Global,
+    classes: &Classes<'a>,
+    linked: &mut Linked<'a>,
+    table: Table,
+    rows: &'r str,
+) -> &'r str
+    requires { IsLinked classes.now.world linked.old }
+{
     for line in rows.lines() {
         if !is_comment(line) {
-            match is_right(alloc, classes, table, &read_row(line)) {
+            match is_right(alloc, classes, linked, table, &read_row(line)) {
                 Some(true) => {}
                 Some(false) => return line,
                 None => return NO_MEMORY,
@@ -43,6 +67,22 @@ fn wrong_in<'r>(alloc: Global, classes: &Classes<'_>, table: Table, rows: &'r st
         }
     }
     ""
+}
+
+/// The same for classes that are linked anew.
+fn wrong_of_classes<'r>(
+    alloc: Global,
+    classes: &Classes<'_>,
+    table: Table,
+    rows: &'r str,
+) -> &'r str {
+    match link(alloc, classes) {
+        Ok(linked) => {
+            let mut linked = linked;
+            wrong_in(alloc, classes, &mut linked, table, rows)
+        }
+        Err(_) => NO_MEMORY,
+    }
 }
 
 /// The files as slices.
@@ -63,7 +103,7 @@ fn wrong_of_files<'r>(
     rows: &'r str,
 ) -> &'r str {
     match Classes::load(alloc, state, system, files) {
-        Ok(classes) => wrong_in(alloc, &classes, table, rows),
+        Ok(classes) => wrong_of_classes(alloc, &classes, table, rows),
         Err(_) => NO_MEMORY,
     }
 }

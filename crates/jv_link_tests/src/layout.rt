@@ -4,6 +4,7 @@ use crate::guest::{NO_MEMORY, Table, wrong_row};
 use crate::named::{class_name, is_field_at};
 use crate::row::Row;
 use jv_link::{Layout, PlacedField, layout_of};
+use jv_linked::Linked;
 use jv_loader::Classes;
 use std::alloc::Global;
 use std::hash::RandomState;
@@ -72,14 +73,29 @@ fn is_laid(classes: &Classes<'_>, layout: &Layout, answer: &str) -> bool {
     is_number(words.next(), layout.words) && words.next().is_none()
 }
 
+/// Whether what is kept of a class's objects is its layout.
+fn is_kept(linked: &Linked<'_>, class: usize, layout: &Layout) -> bool {
+    for placed in &layout.fields {
+        if linked.word_of(placed.field) != placed.word {
+            return false;
+        }
+    }
+    linked.object_words(class) == layout.words
+}
+
 /// Whether the objects of a class keep their fields where a row says; `None` where the host had no memory.
-pub(crate) fn is_right(alloc: Global, classes: &Classes<'_>, row: &Row<'_>) -> Option<bool> {
+pub(crate) fn is_right(
+    alloc: Global,
+    classes: &Classes<'_>,
+    linked: &Linked<'_>,
+    row: &Row<'_>,
+) -> Option<bool> {
     let table = classes.table();
     match table.find(row.class.as_bytes()) {
         Some(class) => {
             if class < table.count() && table.is_loadable(class) {
                 let layout = layout_of(alloc, classes, class).ok()?;
-                Some(is_laid(classes, &layout, row.answer))
+                Some(is_laid(classes, &layout, row.answer) && is_kept(linked, class, &layout))
             } else {
                 Some(false)
             }

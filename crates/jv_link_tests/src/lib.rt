@@ -13,6 +13,8 @@ mod files;
 #[cfg(test)]
 mod guest;
 #[cfg(test)]
+mod kept;
+#[cfg(test)]
 mod layout;
 #[cfg(test)]
 mod method;
@@ -28,3 +30,7 @@ mod row;
 mod site;
 #[cfg(test)]
 mod special;
+#[cfg(test)]
+mod tasks;
+#[cfg(test)]
+mod uses;

@@ -3,14 +3,16 @@
 ghost use Rattle.std.specs.Prelude.{IsSome, IfSome};
 ghost use Rattle.jv_meaning_world.specs.Numbers.{HoldsAtNumber};
 ghost use Rattle.jv_meaning_linking.specs.Operands.{method_operand};
-ghost use Rattle.jv_link.specs.Seen.{IsSite};
+ghost use Rattle.jv_link.specs.Seen.{IsSite, IsMethodTarget};
 ghost use Rattle.jv_link.specs.Objects.{IsObject};
+ghost use Rattle.jv_linked.specs.Linked.{IsLinked};
 
 use crate::guest::{Table, wrong_row};
 use crate::named::{class_name, error_name, is_method_at};
 use crate::row::Row;
 use crate::site::{method_index, site_of, use_of};
 use jv_link::{LinkError, MethodTarget, Site, Use, resolve_method, select};
+use jv_linked::Linked;
 use jv_loader::Classes;
 use std::hash::RandomState;
 
@@ -220,8 +222,31 @@ fn is_found(classes: &Classes<'_>, found: Result<MethodTarget, LinkError>, row: 
     }
 }
 
+/// Whether a method is resolved as a row says: by its names, and twice by what is kept of it.
+fn is_resolved(
+    classes: &Classes<'_>,
+    linked: &mut Linked<'_>,
+    site: Site,
+    how: Use,
+    index: u16,
+    row: &Row<'_>,
+) -> bool
+    requires linked { IsLinked classes.now.world linked.old }
+    requires site { IsSite classes.now.world site }
+    requires index { HoldsAtNumber classes.now.world site.class (λ l. IsSome (method_operand l.class index)) }
+    ensures { IsLinked classes.now.world linked.new }
+{
+    let named = resolve_method(classes, site, how, index);
+    let first = linked.method_at(classes, site, how, index);
+    let again = linked.method_at(classes, site, how, index);
+    is_found(classes, named, row) && is_found(classes, first, row) && is_found(classes, again, row)
+}
+
 /// Whether a method is resolved as a row says.
-pub(crate) fn resolves(classes: &Classes<'_>, row: &Row<'_>) -> bool {
+pub(crate) fn resolves(classes: &Classes<'_>, linked: &mut Linked<'_>, row: &Row<'_>) -> bool
+    requires { IsLinked classes.now.world linked.old }
+    ensures { IsLinked classes.now.world linked.new }
+{
     let Some(site) = site_of(classes, row) else {
         return false;
     };
@@ -229,7 +254,7 @@ pub(crate) fn resolves(classes: &Classes<'_>, row: &Row<'_>) -> bool {
         return false;
     };
     match use_of(row.how) {
-        Some(how) => is_found(classes, resolve_method(classes, site, how, index), row),
+        Some(how) => is_resolved(classes, linked, site, how, index, row),
         None => false,
     }
 }
@@ -258,24 +283,56 @@ fn object_of(classes: &Classes<'_>, row: &Row<'_>) -> Option<Option<usize>>
     }
 }
 
-/// Whether the method that a row says runs, of the one that is resolved.
-fn runs(classes: &Classes<'_>, site: Site, how: Use, index: u16, row: &Row<'_>) -> bool
+/// Whether the method that a row says runs, of the one that is resolved: by its names, and twice by what is kept of it.
+fn is_selected(
+    classes: &Classes<'_>,
+    linked: &mut Linked<'_>,
+    site: Site,
+    how: Use,
+    target: &MethodTarget,
+    object: Option<usize>,
+    row: &Row<'_>,
+) -> bool
+    requires linked { IsLinked classes.now.world linked.old }
+    requires site { IsSite classes.now.world site }
+    requires target { IsMethodTarget classes.now.world target.now }
+    requires object { IsObject classes.now.world object }
+    ensures { IsLinked classes.now.world linked.new }
+{
+    let named = select(classes, site, how, target, object);
+    let first = linked.select_at(classes, site, how, target, object);
+    let again = linked.select_at(classes, site, how, target, object);
+    is_found(classes, named, row) && is_found(classes, first, row) && is_found(classes, again, row)
+}
+
+/// Whether the method that a row says runs.
+fn runs(
+    classes: &Classes<'_>,
+    linked: &mut Linked<'_>,
+    site: Site,
+    how: Use,
+    index: u16,
+    row: &Row<'_>,
+) -> bool
+    requires linked { IsLinked classes.now.world linked.old }
     requires site { IsSite classes.now.world site }
     requires index { HoldsAtNumber classes.now.world site.class (λ l. IsSome (method_operand l.class index)) }
+    ensures { IsLinked classes.now.world linked.new }
 {
-    match (
-        resolve_method(classes, site, how, index),
-        object_of(classes, row),
-    ) {
+    let target = linked.method_at(classes, site, how, index);
+    match (target, object_of(classes, row)) {
         (Ok(target), Some(object)) => {
-            is_found(classes, select(classes, site, how, &target, object), row)
+            is_selected(classes, linked, site, how, &target, object, row)
         }
         _ => false,
     }
 }
 
 /// Whether the method that a row says runs.
-pub(crate) fn selects(classes: &Classes<'_>, row: &Row<'_>) -> bool {
+pub(crate) fn selects(classes: &Classes<'_>, linked: &mut Linked<'_>, row: &Row<'_>) -> bool
+    requires { IsLinked classes.now.world linked.old }
+    ensures { IsLinked classes.now.world linked.new }
+{
     let Some(site) = site_of(classes, row) else {
         return false;
     };
@@ -283,7 +340,7 @@ pub(crate) fn selects(classes: &Classes<'_>, row: &Row<'_>) -> bool {
         return false;
     };
     match use_of(row.how) {
-        Some(how) => runs(classes, site, how, index, row),
+        Some(how) => runs(classes, linked, site, how, index, row),
         None => false,
     }
 }

@@ -4,6 +4,7 @@ use crate::guest::{NO_MEMORY, Table, wrong_row};
 use crate::named::class_name;
 use crate::row::Row;
 use jv_link::init_order;
+use jv_linked::Linked;
 use jv_loader::Classes;
 use std::alloc::Global;
 use std::hash::RandomState;
@@ -87,13 +88,21 @@ fn is_order(classes: &Classes<'_>, numbers: &[usize], answer: &str) -> bool {
 }
 
 /// Whether what is initialized before a class is what a row says; `None` where the host had no memory.
-pub(crate) fn is_right(alloc: Global, classes: &Classes<'_>, row: &Row<'_>) -> Option<bool> {
+pub(crate) fn is_right(
+    alloc: Global,
+    classes: &Classes<'_>,
+    linked: &Linked<'_>,
+    row: &Row<'_>,
+) -> Option<bool> {
     let table = classes.table();
     match table.find(row.class.as_bytes()) {
         Some(class) => {
             if class < table.count() && table.is_loadable(class) {
                 let order = init_order(alloc, classes, class).ok()?;
-                Some(is_order(classes, &order, row.answer))
+                Some(
+                    is_order(classes, &order, row.answer)
+                        && is_order(classes, linked.init_order(class), row.answer),
+                )
             } else {
                 Some(false)
             }

@@ -3,7 +3,7 @@
 ghost use Rattle.std.specs.Prelude.{◌≡◌, ◌<◌, IsSome, IfSome, length};
 ghost use Rattle.jv_class.specs.Class.{Class};
 ghost use Rattle.jv_meaning_world.specs.Numbers.{HoldsAtNumber};
-ghost use Rattle.jv_meaning_linking.specs.Operands.{field_operand, method_operand};
+ghost use Rattle.jv_meaning_linking.specs.Operands.{class_operand, field_operand, method_operand};
 ghost use Rattle.jv_link.specs.Seen.{IsSite};
 
 use crate::row::Row;
@@ -95,6 +95,20 @@ fn interface_method_in(pool: &Pool<'_>, row: &Row<'_>) -> Option<u16>
     None
 }
 
+/// The class's constant that a row names.
+fn class_in(pool: &Pool<'_>, row: &Row<'_>) -> Option<u16>
+    ensures { IfSome result (λ index. (class : Class) → class.constant_pool ≡ pool.now → IsSome (class_operand class index)) }
+{
+    for index in 0..pool.count() {
+        if let Some(class) = pool.class_index(index)
+            && pool.class_name(class) == row.named.as_bytes()
+        {
+            return Some(class.0);
+        }
+    }
+    None
+}
+
 /// The method's constant that a row names.
 fn method_in(pool: &Pool<'_>, row: &Row<'_>) -> Option<u16>
     ensures { IfSome result (λ index. (class : Class) → class.constant_pool ≡ pool.now → IsSome (method_operand class index)) }
@@ -112,6 +126,13 @@ fn pool_of<'c, 'a>(classes: &'c Classes<'a>, class: usize) -> Option<&'c Pool<'a
 {
     let file = classes.table().classes().get(class)?.file()?;
     Some(file.pool())
+}
+
+/// The index of the class's constant that a row names.
+pub(crate) fn class_index(classes: &Classes<'_>, class: usize, row: &Row<'_>) -> Option<u16>
+    ensures { IfSome result (λ index. HoldsAtNumber classes.now.world class (λ l. IsSome (class_operand l.class index))) }
+{
+    class_in(pool_of(classes, class)?, row)
 }
 
 /// The index of the field's constant that a row names.

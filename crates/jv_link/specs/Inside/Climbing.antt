@@ -1,5 +1,5 @@
 -- The way up from an object's class to the method that is called: what each class has for the call, and what is run then.
-use Rattle.std.specs.Prelude.{◌≡◌, ⊤, ℕ, Bool, true, false, not, ◌&&◌, ◌||◌, List, [], ◌∷◌, map, Option, Some, None, slice_get, if◌then◌else◌}
+use Rattle.std.specs.Prelude.{◌≡◌, ⊤, ℕ, Bool, true, false, ◌&&◌, ◌||◌, List, [], ◌∷◌, map, Option, Some, None, slice_get, if◌then◌else◌}
 use Rattle.std.specs.List.{list_any}
 use Rattle.jv_format.specs.Format.{◌>>=◌}
 use Rattle.jv_meaning_world.specs.World.{Loaded, World}

@@ -1,24 +1,23 @@
 -- Steps of resolution.
-use Rattle.std.specs.Prelude.{ℕ, ◌<◌, ⊤, List, length, Result, IfOk, ◌≡◌, Bool, Option, Some, slice_get}
+use Rattle.std.specs.Prelude.{ℕ, ◌<◌, List, length, Result, IfOk, ◌≡◌, Bool, Option, Some, slice_get}
 use Rattle.std.specs.Option.{ok_or, option_map}
 use Rattle.jv_meaning_world.specs.World.{Loaded, World, can_name}
 use Rattle.jv_meaning_linking.specs.LinkErrors.{LinkError as ErrorOfNames, OrError, ◌>>=◌, provided, unless_wrong}
-use Rattle.jv_meaning_linking.specs.LinkErrors.LinkError.{IncompatibleClassChangeError, IllegalAccessError, NoSuchMethodError}
-use Rattle.jv_meaning_linking.specs.Uses.{Use, Site}
-use Rattle.jv_meaning_linking.specs.Kind.{has_field_kind, can_use_final, has_method_kind, can_set_final}
+use Rattle.jv_meaning_linking.specs.LinkErrors.LinkError.{IllegalAccessError, NoSuchMethodError}
+use Rattle.jv_meaning_linking.specs.Uses.{Site}
+use Rattle.jv_meaning_linking.specs.Kind.{can_use_final, can_set_final}
 use Rattle.jv_meaning_linking.specs.MethodResolution.{MethodTarget, target, is_own_init, method_from}
 use Rattle.jv_meaning_linking.specs.Access.{can_access, is_accessible_below}
 use Rattle.jv_pool.specs.Constants.{MemberReference}
 use Rattle.jv_meaning_world.specs.Overriding.{Declared}
 use Rattle.jv_meaning_world.specs.LookUps.{DeclaredField, lookup_method}
-use Rattle.jv_meaning_linking.specs.ClassResolution.{ResolvedClass, error_of_class, resolve_text, creatable, member_class, resolve_class, resolve_element}
+use Rattle.jv_meaning_linking.specs.ClassResolution.{ResolvedClass, error_of_class, resolve_text, member_class, resolve_class, resolve_element}
 use Rattle.jv_link.specs.declared.error.LinkError.{LinkError}
 use Rattle.jv_link.specs.declared.target.ClassRef.{ClassRef}
-use Rattle.jv_link.specs.declared.target.ClassRef.TheVariants as refs
 use Rattle.jv_meaning_world.specs.Numbers.{HoldsAtBoth, HoldsAtNumber}
 use Rattle.jv_lookups.specs.Places.{field_at, method_at}
 use Rattle.jv_lookups.specs.declared.place.Place.{Place}
-use Rattle.jv_link.specs.Seen.{answer_at, class_ref_at, seen_site, seen_use, error_of}
+use Rattle.jv_link.specs.Seen.{seen_site, seen_use, error_of}
 use Rattle.jv_link.specs.Answers.{AnswersType, AnswersField, AnswersTarget}
 use Rattle.jv_link.specs.declared.site.Site.{Site as SiteByNumber}
 use Rattle.jv_link.specs.declared.site.Use.{Use as UseByNumber}
@@ -30,15 +29,12 @@ use Rattle.jv_link.specs.Inside.References.{reference_of}
 use Rattle.jv_link.specs.declared.reference.MethodName.{MethodName}
 use Rattle.std.specs.Borrow.{Bor}
 use Rattle.jv_text.specs.declared.descriptor.FieldTypeOf.{FieldTypeOf}
+use Rattle.jv_text.specs.Name.{is_init}
 use Rattle.jv_text.specs.Seen.{seen_field_type, seen_element}
 
 -- a class of the world, where it is loadable and open to the current one (JVMS 5.4.3.1)
 abbrev pub if_open : World → Loaded → Loaded → OrError Loaded
 if_open world current l = unless_wrong (error_of_class world l) l >>= (λ m. provided (can_name current m) IllegalAccessError m)
-
--- what was found, by the rule of `new` (6.5)
-abbrev pub if_creatable : OrError ResolvedClass → OrError ResolvedClass
-if_creatable found = found >>= creatable
 
 -- the class whose members a reference means (5.4.3.2, 5.4.3.3)
 abbrev pub named_class : World → Loaded → List ℕ → ErrorOfNames → OrError Loaded
@@ -47,20 +43,6 @@ named_class world current text missing = resolve_text world current text >>= (λ
 -- numbers are those of classes
 abbrev pub IsWithin : World → Result ℕ LinkError → Type 0
 IsWithin world result = IfOk result (λ number. number < length world)
-
-abbrev pub IsRefWithin : World → ClassRef → Type 0
-IsRefWithin world (refs.Class number) = number < length world
-IsRefWithin world (refs.Array type) = ⊤
-
--- a field of the instruction's kind, which it can set or which is not final (6.5)
-abbrev pub usable_field : Use → Site → DeclaredField → OrError DeclaredField
-usable_field how site d =
-    provided (has_field_kind how d.field) IncompatibleClassChangeError d >>= (λ f. provided (can_use_final how site f) IllegalAccessError f)
-
--- a method that the instruction can call (6.5)
-abbrev pub callable_method : Use → MethodTarget → OrError MethodTarget
-callable_method how t =
-    provided (is_own_init how t) NoSuchMethodError t >>= (λ u. provided (has_method_kind how u.declared.method) IncompatibleClassChangeError u)
 
 -- the method that is looked up from a class or an interface (5.4.3.3, 5.4.3.4)
 abbrev pub looked_up : World → Loaded → MemberReference → OrError Declared
@@ -74,11 +56,6 @@ abbrev pub accessible_method : World → Loaded → Loaded → Declared → OrEr
 accessible_method world current named d = provided (can_access world current named d.by d.method.access_flags) IllegalAccessError (target named d)
 
 -- ---- steps by numbers
-
--- what was found may be made by `new`
-abbrev pub AnswersCreatable : World → Result ClassRef LinkError → Result ClassRef LinkError → Type 0
-AnswersCreatable world found answer =
-    (a : OrError ResolvedClass) → answer_at (class_ref_at world) found ≡ Some a → AnswersType world answer (if_creatable a)
 
 -- the class or array that a text names, by the class at a site
 abbrev pub IsResolvedBy : World → ℕ → Option UseByNumber → List ℕ → Result ClassRef LinkError → Type 0
@@ -96,16 +73,11 @@ CanUseFinal world site how by flags answer =
     (s : Site) (d : DeclaredField) → seen_site world site ≡ Some s → slice_get world site.class ≡ Some s.by → slice_get world by ≡ Some d.by
     → flags ≡ d.field.access_flags → answer ≡ can_use_final (seen_use how) s d
 
-abbrev pub AnswersUsable : World → SiteByNumber → UseByNumber → Place → Result Place LinkError → Type 0
-AnswersUsable world site how place answer =
-    (s : Site) (d : DeclaredField) → seen_site world site ≡ Some s → slice_get world site.class ≡ Some s.by → field_at world place ≡ Some d
-    → slice_get world place.class ≡ Some d.by → AnswersField world answer (usable_field (seen_use how) s d)
-
 -- the method that a target names is that of the class itself, where it is an `<init>`
-abbrev pub IsOwnInit : World → TargetByNumber → UseByNumber → List ℕ → Bool → Type 0
-IsOwnInit world target how name answer =
+abbrev pub IsOwnInit : World → TargetByNumber → UseByNumber → Bool → Bool → Type 0
+IsOwnInit world target how init answer =
     (t : MethodTarget) → slice_get world target.named ≡ Some t.named → slice_get world target.declared.class ≡ Some t.declared.by
-    → name ≡ t.declared.method.name → answer ≡ is_own_init (seen_use how) t
+    → init ≡ is_init t.declared.method.name → answer ≡ is_own_init (seen_use how) t
 
 -- a member that is found from the class that is named can be accessed by the current class
 abbrev pub AnswersAccessibleField : World → ℕ → ℕ → Place → Result Place LinkError → Type 0

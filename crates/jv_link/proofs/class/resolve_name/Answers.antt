@@ -1,4 +1,4 @@
-use Rattle.std.proofs.Common.{◌≡◌, ◌∙◌, ap, sym, Some}
+use Rattle.std.proofs.Common.{◌∙◌, ap, sym, Some}
 use Rattle.jv_meaning_world.specs.World.{can_name}
 use Rattle.std.specs.Option.{ok_or}
 use Rattle.jv_classes.proofs.Told.{stands_at}

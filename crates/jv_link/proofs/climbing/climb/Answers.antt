@@ -1,5 +1,4 @@
 use Rattle.std.proofs.Common.{◌<◌, ◌∙◌, length, subst, sym}
-use Rattle.jv_names.specs.Ways.{IsBelowSize}
 use Rattle.jv_classes.proofs.Followed.{some_class}
 use Rattle.jv_link.specs.Inside.Climbing.{upward_of, numbered}
 use Rattle.jv_link.proofs.Upward.{Climbs, next_below, next_straight, fewer, climbs_on, climbs_sure, climbs_open, climbs_far}

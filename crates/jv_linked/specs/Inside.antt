@@ -1,0 +1,9 @@
+pub mod Bodies
+pub mod Classes
+pub mod Each
+pub mod Fields
+pub mod Methods
+pub mod Orders
+pub mod Selections
+pub mod Tasks
+pub mod Words

@@ -1,0 +1,166 @@
+//! What Fieldref constants resolve to (JVMS 5.4.3.2), once they were asked.
+
+ghost use Rattle.std.specs.Prelude.{◌≡◌, ◌<◌, IsSome, IfOk, IfSome, length};
+ghost use Rattle.std.specs.List.{All};
+ghost use Rattle.jv_meaning_world.specs.World.{World};
+ghost use Rattle.jv_meaning_world.specs.Numbers.{HoldsAtNumber};
+ghost use Rattle.jv_meaning_linking.specs.Operands.{field_operand};
+ghost use Rattle.jv_link.specs.Seen.{IsSite};
+ghost use Rattle.jv_link.specs.Answers.{IsFieldResolved};
+ghost use Rattle.jv_link.specs.UseRules.{AnswersUsable};
+ghost use Rattle.jv_linked.specs.FieldUses.{IsFieldUse, used_place};
+ghost use Rattle.jv_linked.specs.Inside.Words.{AreWords};
+ghost use Rattle.jv_linked.specs.Inside.Fields.{IsFound, IsEntry};
+
+use crate::field_use::{FieldUse, field_used};
+use crate::words::ClassWords;
+use jv_link::{LinkError, Site, Use, constants_field, usable_with};
+use jv_loader::{ClassTable, Classes};
+use std::alloc::{AllocError, Global};
+
+/// A Fieldref constant, by the number of its class and its index there, and what it resolves to.
+#[derive(Clone, Copy)]
+pub(crate) struct FieldEntry {
+    pub(crate) class: usize,
+    pub(crate) index: u16,
+    pub(crate) found: Result<FieldUse, LinkError>,
+}
+
+/// What a constant resolves to, where that is known.
+#[inline(always)]
+fn known(
+    entries: &[Option<FieldEntry>],
+    at: usize,
+    class: usize,
+    index: u16,
+) -> Option<Result<FieldUse, LinkError>>
+    ensures { (world : World) → All (IsEntry world) entries.now → IfSome result (IsFound world class index) }
+{
+    if at < entries.len()
+        && let Some(entry) = &entries[at]
+        && entry.class == class
+        && entry.index == index
+    {
+        return Some(entry.found);
+    }
+    None
+}
+
+/// Keeps what a constant resolves to.
+fn keep(entries: &mut [Option<FieldEntry>], at: usize, entry: FieldEntry)
+    ensures { (world : World) → All (IsEntry world) entries.old → IsEntry world (Some entry) → All (IsEntry world) entries.new }
+{
+    if at < entries.len() {
+        entries[at] = Some(entry);
+    }
+}
+
+/// What a constant resolves to, by its names.
+#[inline(never)]
+fn found_anew(
+    table: &ClassTable<'_>,
+    classes: &Classes<'_>,
+    words: &[ClassWords],
+    class: usize,
+    index: u16,
+) -> Result<FieldUse, LinkError>
+    requires same { classes.now.world ≡ table.now }
+    requires words { AreWords table.now words.now }
+    requires class { class < length table.now }
+    requires index { HoldsAtNumber table.now class (λ l. IsSome (field_operand l.class index)) }
+    ensures { IsFound table.now class index result }
+{
+    match constants_field(classes, class, index) {
+        Ok(place) => Ok(field_used(table, words, place)),
+        Err(error) => Err(error),
+    }
+}
+
+/// What a constant resolves to, by the entry at a place, where it is there.
+#[inline(always)]
+pub(crate) fn field_by(
+    entries: &mut [Option<FieldEntry>],
+    at: usize,
+    table: &ClassTable<'_>,
+    classes: &Classes<'_>,
+    words: &[ClassWords],
+    class: usize,
+    index: u16,
+) -> Result<FieldUse, LinkError>
+    requires same { classes.now.world ≡ table.now }
+    requires entries { All (IsEntry table.now) entries.old }
+    requires words { AreWords table.now words.now }
+    requires class { class < length table.now }
+    requires index { HoldsAtNumber table.now class (λ l. IsSome (field_operand l.class index)) }
+    ensures found { IsFound table.now class index result }
+    ensures entries { All (IsEntry table.now) entries.new }
+{
+    if let Some(found) = known(entries, at, class, index) {
+        return found;
+    }
+    let found = found_anew(table, classes, words, class, index);
+    keep(
+        entries,
+        at,
+        FieldEntry {
+            class,
+            index,
+            found,
+        },
+    );
+    found
+}
+
+/// So many entries, all of them empty.
+pub(crate) fn empty_fields(
+    alloc: Global,
+    count: usize,
+) -> Result<Vec<Option<FieldEntry>>, AllocError>
+    ensures { (world : World) → IfOk result (λ entries. All (IsEntry world) entries.items) }
+{
+    let mut entries = Vec::with_capacity(alloc, count)?;
+    for _ in 0..count {
+        entries.push(None)?;
+    }
+    Ok(entries)
+}
+
+/// A field, where an instruction at a site can use it.
+#[inline(always)]
+fn used_at(
+    table: &ClassTable<'_>,
+    site: Site,
+    how: Use,
+    used: FieldUse,
+) -> Result<FieldUse, LinkError>
+    requires site { IsSite table.now site }
+    requires used { IsFieldUse table.now used }
+    ensures found { AnswersUsable table.now site how used.place (used_place result) }
+    ensures used { IfOk result (IsFieldUse table.now) }
+{
+    match usable_with(table, site, how, used.place, used.access_flags) {
+        Ok(_) => Ok(used),
+        Err(error) => Err(error),
+    }
+}
+
+/// What was found, as an instruction at a site uses it.
+#[inline(always)]
+pub(crate) fn used_field(
+    table: &ClassTable<'_>,
+    site: Site,
+    how: Use,
+    index: u16,
+    found: Result<FieldUse, LinkError>,
+) -> Result<FieldUse, LinkError>
+    requires site { IsSite table.now site }
+    requires found { IsFound table.now site.class index found }
+    ensures found { IsFieldResolved table.now site how index (used_place result) }
+    ensures used { IfOk result (IsFieldUse table.now) }
+{
+    let _index = index;
+    match found {
+        Ok(used) => used_at(table, site, how, used),
+        Err(error) => Err(error),
+    }
+}
