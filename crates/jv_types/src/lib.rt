@@ -3,6 +3,7 @@
 #![tactic(auto)]
 
 mod flow;
+mod items;
 mod locals;
 mod names;
 mod objects;

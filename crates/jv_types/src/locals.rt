@@ -1,8 +1,10 @@
 //! Stores to local variables (JVMS 4.10.1.9, modifyLocalVariable in 4.10.1.7).
 
-ghost use Rattle.std.specs.Prelude.{◌≡◌, ◌<◌, ◌+◌, [], ◌∷◌, length};
+ghost use Rattle.std.specs.Prelude.{◌≡◌, ◌<◌, ◌+◌, ℕ, [], ◌∷◌, length};
+ghost use Rattle.std.specs.List.{All};
 ghost use Rattle.jv_frames.specs.declared.verification.VerificationTypeOf.TheVariants as types;
 ghost use Rattle.jv_types.specs.Typed.{typed};
+ghost use Rattle.jv_types.specs.Inside.Before.{IsBefore};
 ghost use Rattle.jv_types.specs.Inside.Cut.{is_long, cut_at};
 ghost use Rattle.jv_types.specs.Numbered.{StoresAny, words_of_item};
 
@@ -20,6 +22,7 @@ fn cut_before(locals: &mut [Item], index: usize)
     requires { index < length locals.old }
     ensures cut { locals.new ≡ cut_at index locals.old }
     ensures same { length locals.new ≡ length locals.old }
+    ensures before { (end : ℕ) → All (IsBefore end) locals.old → All (IsBefore end) locals.new }
 {
     if index == 0 {
         return;
@@ -33,6 +36,7 @@ fn cut_before(locals: &mut [Item], index: usize)
 fn store_item(locals: &mut [Item], index: usize, item: Item) -> bool
     ensures stored { StoresAny result (λ names. typed names item ∷ []) index locals.old locals.new }
     ensures same { length locals.new ≡ length locals.old }
+    ensures before { (end : ℕ) → IsBefore end item → All (IsBefore end) locals.old → All (IsBefore end) locals.new }
 {
     if index >= locals.len() {
         return false;
@@ -46,6 +50,7 @@ fn store_item(locals: &mut [Item], index: usize, item: Item) -> bool
 fn store_long(locals: &mut [Item], index: usize) -> bool
     ensures stored { StoresAny result (λ names. types.Long ∷ types.Top ∷ []) index locals.old locals.new }
     ensures same { length locals.new ≡ length locals.old }
+    ensures before { (end : ℕ) → All (IsBefore end) locals.old → All (IsBefore end) locals.new }
 {
     if index >= locals.len() || index + 1 >= locals.len() {
         return false;
@@ -60,6 +65,7 @@ fn store_long(locals: &mut [Item], index: usize) -> bool
 pub(crate) fn store(locals: &mut [Item], index: usize, item: Item) -> bool
     ensures stored { StoresAny result (words_of_item item) index locals.old locals.new }
     ensures same { length locals.new ≡ length locals.old }
+    ensures before { (end : ℕ) → IsBefore end item → All (IsBefore end) locals.old → All (IsBefore end) locals.new }
 {
     match item {
         VerificationTypeOf::Long => store_long(locals, index),
