@@ -14,7 +14,7 @@ ghost use Rattle.jv_classes.specs.Members.{IsField, IsMethod};
 use crate::host_io::kept_of_io;
 use crate::kept::Kept;
 use crate::member::Member;
-use crate::package::{is_same_loader, package};
+use crate::package::is_same_loader;
 use crate::reading::kept_of_file;
 use jv_class::{ClassFile, is_some_class};
 use jv_names::Text;
@@ -272,7 +272,7 @@ impl<'a> LoadedClass<'a> {
     pub fn package(&self) -> &'a [u8]
         ensures { result.now ≡ package_of self.now.class.name }
     {
-        package(self.name())
+        self.kept.package_name
     }
 
     /// Whether two classes are in one run-time package (JVMS 5.3).

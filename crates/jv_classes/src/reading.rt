@@ -15,6 +15,7 @@ ghost use Rattle.jv_classes.specs.Inside.Found.{field_at, field_texts, interface
 use crate::hashing::{pool_hashes, text_in};
 use crate::kept::Kept;
 use crate::members::{KeptMember, Members};
+use crate::package::package;
 use jv_class::{ClassFile, Field, Method};
 use jv_names::seed_of;
 use jv_pool::{ClassIndex, Pool, Utf8Index};
@@ -161,13 +162,15 @@ pub(crate) fn kept_of_file<'a>(
 {
     let seed = seed_of(state);
     let hashes = pool_hashes(alloc, seed, file.pool())?;
+    let name = file.name();
     let interfaces = class_names(alloc, file.pool(), file.interfaces())?;
     let fields = fields_of(alloc, state, seed, &hashes, file)?;
     let methods = methods_of(alloc, state, seed, &hashes, file)?;
     Ok(Kept {
         major: file.major(),
         access_flags: file.access_flags().0,
-        name: file.name(),
+        name,
+        package_name: package(name),
         super_name: super_name(file),
         interfaces,
         fields,

@@ -22,8 +22,8 @@ const ABSTRACT: u16 = 0x0400;
 pub(crate) fn declared_method(
     table: &ClassTable<'_>,
     class: usize,
-    name: &[u8],
-    descriptor: &[u8],
+    name: &Text<'_>,
+    descriptor: &Text<'_>,
 ) -> Option<Place>
     requires { class < length table.now }
     ensures found { HoldsAtNumber table.now class (λ l. IsMethodFound table.now result (method_in name.now descriptor.now l)) }

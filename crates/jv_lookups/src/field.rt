@@ -14,8 +14,8 @@ use jv_classes::ClassTable;
 fn declared_field(
     table: &ClassTable<'_>,
     class: usize,
-    name: &[u8],
-    descriptor: &[u8],
+    name: &Text<'_>,
+    descriptor: &Text<'_>,
 ) -> Option<Place>
     requires { class < length table.now }
     ensures found { HoldsAtNumber table.now class (λ l. IsFieldFound table.now result (field_named_in name.now descriptor.now l)) }
@@ -30,8 +30,8 @@ fn declared_field(
 pub fn lookup_field(
     table: &ClassTable<'_>,
     searched: &[usize],
-    name: &[u8],
-    descriptor: &[u8],
+    name: &Text<'_>,
+    descriptor: &Text<'_>,
 ) -> Option<Place>
     requires { AreNumbers table.now searched.now }
     ensures found { FindsField table.now searched.now name.now descriptor.now result }

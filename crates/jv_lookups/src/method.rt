@@ -15,8 +15,8 @@ use jv_classes::ClassTable;
 fn superclass_method(
     table: &ClassTable<'_>,
     from: usize,
-    name: &[u8],
-    descriptor: &[u8],
+    name: &Text<'_>,
+    descriptor: &Text<'_>,
 ) -> Option<Place>
     requires { from < length table.now }
     ensures found { IsFirstAbove table.now from name.now descriptor.now result }
@@ -41,8 +41,8 @@ fn lookup_class_method(
     table: &ClassTable<'_>,
     from: usize,
     searched: &[usize],
-    name: &[u8],
-    descriptor: &[u8],
+    name: &Text<'_>,
+    descriptor: &Text<'_>,
 ) -> Option<Place>
     requires from { from < length table.now }
     requires searched { AreNumbers table.now searched.now }
@@ -81,8 +81,8 @@ fn lookup_interface_method(
     table: &ClassTable<'_>,
     from: usize,
     searched: &[usize],
-    name: &[u8],
-    descriptor: &[u8],
+    name: &Text<'_>,
+    descriptor: &Text<'_>,
 ) -> Option<Place>
     requires from { from < length table.now }
     requires searched { AreNumbers table.now searched.now }
@@ -104,8 +104,8 @@ pub fn lookup_method(
     table: &ClassTable<'_>,
     from: usize,
     searched: &[usize],
-    name: &[u8],
-    descriptor: &[u8],
+    name: &Text<'_>,
+    descriptor: &Text<'_>,
 ) -> Option<Place>
     requires from { from < length table.now }
     requires searched { AreNumbers table.now searched.now }

@@ -31,8 +31,8 @@ fn candidate(
     table: &ClassTable<'_>,
     from: usize,
     class: usize,
-    name: &[u8],
-    descriptor: &[u8],
+    name: &Text<'_>,
+    descriptor: &Text<'_>,
 ) -> Option<Place>
     requires from { from < length table.now }
     requires class { class < length table.now }
@@ -56,8 +56,8 @@ fn first_candidate(
     table: &ClassTable<'_>,
     from: usize,
     searched: &[usize],
-    name: &[u8],
-    descriptor: &[u8],
+    name: &Text<'_>,
+    descriptor: &Text<'_>,
 ) -> Option<Place>
     requires from { from < length table.now }
     requires searched { AreNumbers table.now searched.now }
@@ -78,8 +78,8 @@ fn is_below_candidate(
     from: usize,
     class: usize,
     other: usize,
-    name: &[u8],
-    descriptor: &[u8],
+    name: &Text<'_>,
+    descriptor: &Text<'_>,
 ) -> bool
     requires from { from < length table.now }
     requires class { class < length table.now }
@@ -99,8 +99,8 @@ fn has_below(
     from: usize,
     searched: &[usize],
     class: usize,
-    name: &[u8],
-    descriptor: &[u8],
+    name: &Text<'_>,
+    descriptor: &Text<'_>,
 ) -> bool
     requires from { from < length table.now }
     requires searched { AreNumbers table.now searched.now }
@@ -121,8 +121,8 @@ fn specific(
     from: usize,
     searched: &[usize],
     class: usize,
-    name: &[u8],
-    descriptor: &[u8],
+    name: &Text<'_>,
+    descriptor: &Text<'_>,
 ) -> Option<Place>
     requires from { from < length table.now }
     requires searched { AreNumbers table.now searched.now }
@@ -147,8 +147,8 @@ fn only_specific(
     table: &ClassTable<'_>,
     from: usize,
     searched: &[usize],
-    name: &[u8],
-    descriptor: &[u8],
+    name: &Text<'_>,
+    descriptor: &Text<'_>,
 ) -> Option<Place>
     requires from { from < length table.now }
     requires searched { AreNumbers table.now searched.now }
@@ -172,8 +172,8 @@ pub(crate) fn superinterface_method(
     table: &ClassTable<'_>,
     from: usize,
     searched: &[usize],
-    name: &[u8],
-    descriptor: &[u8],
+    name: &Text<'_>,
+    descriptor: &Text<'_>,
 ) -> Option<Place>
     requires from { from < length table.now }
     requires searched { AreNumbers table.now searched.now }
@@ -191,8 +191,8 @@ fn has_specific(
     table: &ClassTable<'_>,
     from: usize,
     searched: &[usize],
-    name: &[u8],
-    descriptor: &[u8],
+    name: &Text<'_>,
+    descriptor: &Text<'_>,
 ) -> bool
     requires from { from < length table.now }
     requires searched { AreNumbers table.now searched.now }
@@ -212,8 +212,8 @@ pub fn superinterface_defaults(
     table: &ClassTable<'_>,
     from: usize,
     searched: &[usize],
-    name: &[u8],
-    descriptor: &[u8],
+    name: &Text<'_>,
+    descriptor: &Text<'_>,
 ) -> Defaults
     requires from { from < length table.now }
     requires searched { AreNumbers table.now searched.now }
