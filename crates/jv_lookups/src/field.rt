@@ -9,6 +9,7 @@ ghost use Rattle.jv_lookups.specs.Inside.Members.{field_named_in, FindsField};
 
 use crate::place::Place;
 use jv_classes::ClassTable;
+use jv_names::Text;
 
 /// The field of a name and a descriptor that a class declares.
 fn declared_field(
@@ -21,7 +22,7 @@ fn declared_field(
     ensures found { HoldsAtNumber table.now class (λ l. IsFieldFound table.now result (field_named_in name.now descriptor.now l)) }
     ensures place { IfSome result (IsFieldPlace table.now) }
 {
-    let member = table.classes()[class].field_named(name, descriptor)?;
+    let member = table.classes()[class].field_of(name, descriptor)?;
     Some(Place { class, member })
 }
 

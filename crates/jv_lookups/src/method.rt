@@ -10,6 +10,7 @@ use crate::declared::{declared_method, is_public_instance};
 use crate::place::Place;
 use crate::superinterface::superinterface_method;
 use jv_classes::ClassTable;
+use jv_names::Text;
 
 /// The first method that a superclass of a class declares.
 fn superclass_method(
@@ -59,7 +60,11 @@ fn lookup_class_method(
 }
 
 /// The public instance method of a name and a descriptor that java/lang/Object declares (JVMS 5.4.3.4).
-pub fn method_of_object(table: &ClassTable<'_>, name: &[u8], descriptor: &[u8]) -> Option<Place>
+fn declared_by_object(
+    table: &ClassTable<'_>,
+    name: &Text<'_>,
+    descriptor: &Text<'_>,
+) -> Option<Place>
     ensures found { IsMethodFound table.now result (method_of_object table.now name.now descriptor.now) }
     ensures place { IfSome result (IsMethodPlace table.now) }
 {
@@ -73,6 +78,15 @@ pub fn method_of_object(table: &ClassTable<'_>, name: &[u8], descriptor: &[u8]) 
         return None;
     }
     Some(place)
+}
+
+/// The public instance method of a name and a descriptor that java/lang/Object declares (JVMS 5.4.3.4).
+pub fn method_of_object(table: &ClassTable<'_>, name: &[u8], descriptor: &[u8]) -> Option<Place>
+    ensures found { IsMethodFound table.now result (method_of_object table.now name.now descriptor.now) }
+    ensures place { IfSome result (IsMethodPlace table.now) }
+{
+    let seed = table.seed();
+    declared_by_object(table, &Text::new(seed, name), &Text::new(seed, descriptor))
 }
 
 /// Where a method is found from an interface: its own, a public instance method of java/lang/Object, and
@@ -92,7 +106,7 @@ fn lookup_interface_method(
     if let Some(place) = declared_method(table, from, name, descriptor) {
         return Some(place);
     }
-    if let Some(place) = method_of_object(table, name, descriptor) {
+    if let Some(place) = declared_by_object(table, name, descriptor) {
         return Some(place);
     }
     superinterface_method(table, from, searched, name, descriptor)
