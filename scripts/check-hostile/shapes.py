@@ -86,7 +86,6 @@ class ClassFile:
         spelled += u2(len(self.fields)) + b"".join(self.fields)
         spelled += u2(len(self.methods)) + b"".join(self.methods) + u2(0)
         assert len(self.constants) < 65535, len(self.constants)
-        self.files = getattr(self, "files", 0)
         path = f"{folder}/{self.name}.class"
         if len(os.path.basename(path)) > 200:
             path = f"{folder}/Long{abs(hash(self.name)) % 1000000007}.class"
@@ -95,7 +94,7 @@ class ClassFile:
             file.write(spelled)
 
 
-INT, OBJECT_ENTRY = u1(1), 7
+INT = u1(1)
 
 
 def full(delta, local_items, stack):
@@ -266,12 +265,9 @@ def int_frames(folder, scale):
     made = ClassFile("Main")
     made.main()
     count = scaled(scale, 21000)
-    fill = bytes([3, 59])
-    code = fill + bytes([167, 0, 3]) * count + bytes([177])
-    # The frame of ints stands where nothing falls in: behind a goto over it.
-    code = bytes([167, 0, 5, 0, 191]) + bytes([177])
+    # The frame of ints stands where nothing falls in, behind a return.
     code = bytes([177]) + bytes([0]) + bytes([167, 0, 3]) * count + bytes([177])
-    spelled = full(1, [INT] * 65535, []) + u1(4) + u1(2) * (count - 1)
+    spelled = full(1, [INT] * 65535, []) + u1(3) + u1(2) * (count - 1)
     made.method(9, "ints", "()V", 0, 65535, code, b"", (count + 1, spelled))
     made.write(folder)
 
@@ -383,10 +379,105 @@ def interface_entries(folder, scale):
     made.write(folder)
 
 
+def handlers_apart(folder, scale):
+    """As many handlers as nops, each over one."""
+    made = ClassFile("Main")
+    made.main()
+    length = 65532
+    code = bytes(length - 2) + bytes([177, 191])
+    table = b"".join(u2(k) + u2(k + 1) + u2(length - 1) + u2(0) for k in range(scaled(scale, length - 2)))
+    thrown = u1(7) + u2(made.named("java/lang/Throwable"))
+    made.method(9, "covered", "()V", 1, 1, code, table, (1, full(length - 1, [], [thrown])))
+    made.write(folder)
+
+
+def handlers_and_stores(folder, scale):
+    """65,535 handlers over 3,276 stores."""
+    made = ClassFile("Main")
+    made.main()
+    code = bytes([3, 60]) * scaled(scale, 3276)
+    length = len(code) + 2
+    code += bytes([177, 191])
+    table = (u2(0) + u2(length - 2) + u2(length - 1) + u2(0)) * scaled(scale, 65535)
+    thrown = u1(7) + u2(made.named("java/lang/Throwable"))
+    made.method(9, "covered", "()V", 1, 2, code, table, (1, full(length - 1, [], [thrown])))
+    made.write(folder)
+
+
+def handlers_and_frames(folder, scale):
+    """65,535 handlers over the first of 65,530 nops, each with a frame."""
+    made = ClassFile("Main")
+    made.main()
+    length = 65532
+    code = bytes(length - 2) + bytes([177, 191])
+    table = (u2(0) + u2(1) + u2(length - 1) + u2(0)) * scaled(scale, 65535)
+    thrown = u1(7) + u2(made.named("java/lang/Throwable"))
+    spelled = u1(1) + u1(0) * (length - 4) + full(1, [], [thrown])
+    made.method(9, "covered", "()V", 1, 1, code, table, (length - 2, spelled))
+    made.write(folder)
+
+
+def int_frames_and_stores(folder, scale):
+    """A frame of 65,535 ints, then the same 13,000 times, with a store before each."""
+    made = ClassFile("Main")
+    made.main()
+    count = scaled(scale, 13000)
+    code = bytes([177]) + bytes([0]) + bytes([3, 59, 167, 0, 3]) * count + bytes([177])
+    spelled = full(1, [INT] * 65535, []) + u1(5) + u1(4) * (count - 1)
+    made.method(9, "ints", "()V", 1, 65535, code, b"", (count + 1, spelled))
+    made.write(folder)
+
+
+def supers_chain(folder, scale):
+    count = scaled(scale, 1023)
+    chain(folder, count)
+    made = ClassFile("Main", f"C{count - 1}")
+    made.main()
+    made.write(folder)
+
+
+def interfaces(folder, count, above):
+    """Interfaces, each below those that above gives by its number."""
+    for n in range(count):
+        made = ClassFile(f"I{n}", "java/lang/Object", 0x601)
+        made.interfaces = [f"I{k}" for k in above(n)]
+        made.write(folder)
+    made = ClassFile("Main")
+    made.interfaces = [f"I{count - 1}"]
+    made.main()
+    made.write(folder)
+
+
+def supers_diamond(folder, scale):
+    interfaces(folder, scaled(scale, 998), lambda n: [k for k in (n - 1, n - 2) if k >= 0])
+
+
+def supers_dense(folder, scale):
+    interfaces(folder, scaled(scale, 512), lambda n: range(n))
+
+
+def many_finals(folder, scale):
+    """A class of 65,534 methods below one of as many finals, of other names."""
+    given = descriptors(1024)
+    left = scaled(scale, 65534)
+    above = ClassFile("C0", "java/lang/Object", 0x421)
+    made = ClassFile("Main", "C0", 0x421)
+    made.main()
+    for n in range(64):
+        for descriptor in given:
+            if left:
+                above.method(0x11, f"f{n}", descriptor, 0, 24, bytes([177]))
+                made.declare(0x401, f"m{n}", descriptor)
+                left -= 1
+    above.write(folder)
+    made.write(folder)
+
+
 SHAPES = [
     long_references, short_references, used_references, interface_often, long_methods, long_methods_final, long_fields, methods_below_final,
-    classes_below_final, blank_frames, int_frames, int_stores, int_switch, handlers_at_front, handlers_over_all, new_popped, new_left,
-    new_made, no_package, interface_entries,
+    classes_below_final, blank_frames, int_frames, int_frames_and_stores, int_stores, int_switch, handlers_at_front, handlers_and_frames,
+    handlers_over_all, handlers_apart, handlers_and_stores, new_popped, new_left, new_made, no_package, interface_entries, supers_chain,
+    supers_diamond, supers_dense, many_finals,
 ]
 
 
