@@ -1,4 +1,5 @@
 pub mod Components
+pub mod KeptTops
 pub mod MadeBefore
 pub mod Numbered
 pub mod Replacing

@@ -2,3 +2,4 @@ pub mod Before
 pub mod Cut
 pub mod Kept
 pub mod Swapped
+pub mod Tops

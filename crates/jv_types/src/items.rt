@@ -1,11 +1,12 @@
 //! Types in order, with what is known of the objects among them.
 
-ghost use Rattle.std.specs.Prelude.{◌≡◌, ◌<◌, ◌≤◌, ◌++◌, ◌∷◌, [], ℕ, length, map, replicate, reverse, slice_get, MatchOption, IfOk, OnOk, OnErr};
+ghost use Rattle.std.specs.Prelude.{◌≡◌, ◌<◌, ◌≤◌, ◌++◌, ◌∷◌, [], ℕ, List, length, map, replicate, reverse, slice_get, MatchOption, IfOk, OnOk, OnErr};
 ghost use Rattle.std.specs.List.{list_any};
 ghost use Rattle.jv_frames.specs.declared.verification.VerificationTypeOf.TheVariants as types;
 ghost use Rattle.jv_types.specs.Inside.Before.{IsBefore, is_past};
 ghost use Rattle.jv_types.specs.Inside.Swapped.{same_object, swapped};
-ghost use Rattle.jv_types.specs.Numbered.{StoresAny, words_of_item};
+ghost use Rattle.jv_types.specs.Inside.Tops.{AreTops};
+ghost use Rattle.jv_types.specs.Numbered.{Item, StoresAny, words_of_item};
 
 use crate::locals::store;
 use crate::names::Item;
@@ -64,6 +65,27 @@ fn raised(end: u32, item: Item) -> u32
     }
 }
 
+/// The place, or the count where that is less.
+fn least(used: usize, count: usize) -> usize
+    ensures within { result ≤ count }
+    ensures tops { (items : List Item) → length items ≡ count → AreTops used items → AreTops result items }
+{
+    if used < count { used } else { count }
+}
+
+/// Makes those before a place top, or all where there are fewer.
+fn make_tops(items: &mut [Item], used: usize)
+    requires { AreTops used items.old }
+    ensures tops { items.new ≡ replicate (length items.old) types.Top }
+    ensures same { length items.new ≡ length items.old }
+{
+    let mut left = least(used, items.len());
+    while left > 0 {
+        left -= 1;
+        items[left] = VerificationTypeOf::Top;
+    }
+}
+
 impl Items {
     /// No types.
     pub(crate) fn new(alloc: Global) -> Items
@@ -84,11 +106,12 @@ impl Items {
         Ok(Items { items, end: 0 })
     }
 
-    /// Makes each top.
-    pub(crate) fn make_tops(&mut self)
+    /// Makes each top, where those from a place on are.
+    pub(crate) fn make_tops_below(&mut self, used: usize)
+        requires { AreTops used self.old }
         ensures { self.new ≡ replicate (length self.old) types.Top }
     {
-        self.items.fill(VerificationTypeOf::Top);
+        make_tops(&mut self.items, used);
         self.end = 0;
     }
 
@@ -145,6 +168,7 @@ impl Items {
     pub(crate) fn store(&mut self, index: usize, item: Item) -> bool
         ensures stored { StoresAny result (words_of_item item) index self.old self.new }
         ensures same { length self.new ≡ length self.old }
+        ensures tops { (used : ℕ) → index < used → AreTops used self.old → AreTops used self.new }
     {
         self.end = raised(self.end, item);
         store(&mut self.items, index, item)

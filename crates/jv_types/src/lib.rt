@@ -10,6 +10,7 @@ mod objects;
 mod outcome;
 mod type_frame;
 mod value;
+mod variables;
 
 pub use names::{Item, TypeNames};
 pub use outcome::Outcome;

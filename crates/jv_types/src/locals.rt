@@ -6,6 +6,7 @@ ghost use Rattle.jv_frames.specs.declared.verification.VerificationTypeOf.TheVar
 ghost use Rattle.jv_types.specs.Typed.{typed};
 ghost use Rattle.jv_types.specs.Inside.Before.{IsBefore};
 ghost use Rattle.jv_types.specs.Inside.Cut.{is_long, cut_at};
+ghost use Rattle.jv_types.specs.Inside.Tops.{AreTops};
 ghost use Rattle.jv_types.specs.Numbered.{StoresAny, words_of_item};
 
 use crate::names::Item;
@@ -23,6 +24,7 @@ fn cut_before(locals: &mut [Item], index: usize)
     ensures cut { locals.new ≡ cut_at index locals.old }
     ensures same { length locals.new ≡ length locals.old }
     ensures before { (end : ℕ) → All (IsBefore end) locals.old → All (IsBefore end) locals.new }
+    ensures tops { (used : ℕ) → AreTops used locals.old → AreTops used locals.new }
 {
     if index == 0 {
         return;
@@ -37,6 +39,7 @@ fn store_item(locals: &mut [Item], index: usize, item: Item) -> bool
     ensures stored { StoresAny result (λ names. typed names item ∷ []) index locals.old locals.new }
     ensures same { length locals.new ≡ length locals.old }
     ensures before { (end : ℕ) → IsBefore end item → All (IsBefore end) locals.old → All (IsBefore end) locals.new }
+    ensures tops { (used : ℕ) → index < used → AreTops used locals.old → AreTops used locals.new }
 {
     if index >= locals.len() {
         return false;
@@ -51,6 +54,7 @@ fn store_long(locals: &mut [Item], index: usize) -> bool
     ensures stored { StoresAny result (λ names. types.Long ∷ types.Top ∷ []) index locals.old locals.new }
     ensures same { length locals.new ≡ length locals.old }
     ensures before { (end : ℕ) → All (IsBefore end) locals.old → All (IsBefore end) locals.new }
+    ensures tops { (used : ℕ) → index < used → AreTops used locals.old → AreTops used locals.new }
 {
     if index >= locals.len() || index + 1 >= locals.len() {
         return false;
@@ -66,6 +70,7 @@ pub(crate) fn store(locals: &mut [Item], index: usize, item: Item) -> bool
     ensures stored { StoresAny result (words_of_item item) index locals.old locals.new }
     ensures same { length locals.new ≡ length locals.old }
     ensures before { (end : ℕ) → IsBefore end item → All (IsBefore end) locals.old → All (IsBefore end) locals.new }
+    ensures tops { (used : ℕ) → index < used → AreTops used locals.old → AreTops used locals.new }
 {
     match item {
         VerificationTypeOf::Long => store_long(locals, index),

@@ -8,6 +8,7 @@ ghost use Rattle.jv_types.specs.Numbered.{blank, topped, with_flag, with_locals,
 
 use crate::items::Items;
 use crate::names::Item;
+use crate::variables::Variables;
 use jv_frames::VerificationTypeOf;
 use std::alloc::{AllocError, Global};
 use std::marker::Model;
@@ -15,7 +16,7 @@ use std::marker::Model;
 /// A frame (JVMS 4.10.1.4): local variables, a long as long and top, the stack's items, where a long is one
 /// item of two words, and whether `this` may not be initialized.
 pub struct TypeFrame {
-    locals: Items,
+    locals: Variables,
     stack: Items,
     words: usize,
     flag: bool,
@@ -62,7 +63,7 @@ impl TypeFrame {
     pub fn new(alloc: Global, max_locals: u16) -> Result<TypeFrame, AllocError>
         ensures { IfOk result (λ frame. frame ≡ blank max_locals) }
     {
-        let locals = Items::tops(alloc, usize::from(max_locals))?;
+        let locals = Variables::tops(alloc, usize::from(max_locals))?;
         Ok(TypeFrame {
             locals,
             stack: Items::new(alloc),
@@ -174,7 +175,7 @@ impl TypeFrame {
         ensures stored { StoresAny result (words_of_item item) index self.old.locals self.new.locals }
         ensures same { self.new ≡ with_locals self.new.locals self.old }
     {
-        self.locals.store(usize::from(index), item)
+        self.locals.store(index, item)
     }
 
     /// Whether an object that is not initialized is on the stack.
