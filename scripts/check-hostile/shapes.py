@@ -360,6 +360,7 @@ def no_package(folder, scale):
     above.field(4, "f", "I")
     above.write(folder)
     made = ClassFile("q/" + "Q" * 65533, name)
+    made.main()
     for k in range(scaled(scale, 62000)):
         made.called(name, "f", "I", 9, k)
     made.write(folder)
