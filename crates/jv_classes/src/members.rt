@@ -29,11 +29,12 @@ impl Drop for KeptMember<'_> {
 }
 
 /// The fields or the methods of a class in the order of its file. A look-up hashes no text that knows its hash, and
-/// compares texts with those of one member, however many there are.
+/// compares texts with those of one member, however many there are. The table is hashed fast, and with no key of its own: what
+/// it is of are hashes that a stranger cannot know.
 pub(crate) struct Members<'a> {
     seed: u64,
     members: Vec<KeptMember<'a>>,
-    places: HashMap<(u64, u64), usize, RandomState>,
+    places: HashMap<(u64, u64), usize>,
 }
 
 impl<'a> Model for Members<'a> {
@@ -66,7 +67,7 @@ fn hashes_of(seed: u64, name: &Text<'_>, descriptor: &Text<'_>) -> (u64, u64)
 
 /// Notes a place under hashes, where none is there under them.
 fn note(
-    places: &mut HashMap<(u64, u64), usize, RandomState>,
+    places: &mut HashMap<(u64, u64), usize>,
     hashes: (u64, u64),
     place: usize,
 ) -> Result<(), AllocError>
@@ -90,7 +91,7 @@ impl<'a> Members<'a> {
     {
         let seed = seed_of(state);
         let members = Vec::with_capacity(alloc, count)?;
-        let places = HashMap::with_capacity_and_hasher(alloc, count, state)?;
+        let places = HashMap::with_capacity(alloc, count)?;
         Ok(Members {
             seed,
             members,

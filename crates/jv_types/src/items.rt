@@ -52,6 +52,7 @@ fn is_past(end: u32, object: Item) -> bool
 }
 
 /// The least offset from there on that an object's `new` stands before.
+#[inline(always)]
 fn raised(end: u32, item: Item) -> u32
     ensures least { end ≤ result }
     ensures before { IsBefore result item }
@@ -165,6 +166,7 @@ impl Items {
     }
 
     /// Stores an item at a place, a long there and at the next, if there are as many.
+    #[inline]
     pub(crate) fn store(&mut self, index: usize, item: Item) -> bool
         ensures stored { StoresAny result (words_of_item item) index self.old self.new }
         ensures same { length self.new ≡ length self.old }

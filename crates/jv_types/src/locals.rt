@@ -12,6 +12,7 @@ ghost use Rattle.jv_types.specs.Numbered.{StoresAny, words_of_item};
 use crate::names::Item;
 use jv_frames::VerificationTypeOf;
 
+#[inline(always)]
 fn is_long(item: Item) -> bool
     ensures { result ≡ is_long item }
 {
@@ -19,6 +20,7 @@ fn is_long(item: Item) -> bool
 }
 
 /// Makes the local variable before an index top where a long begins there, which ends at the index.
+#[inline]
 fn cut_before(locals: &mut [Item], index: usize)
     requires { index < length locals.old }
     ensures cut { locals.new ≡ cut_at index locals.old }
@@ -35,6 +37,7 @@ fn cut_before(locals: &mut [Item], index: usize)
 }
 
 /// Stores an item of one word, if there is a local variable with the index.
+#[inline]
 fn store_item(locals: &mut [Item], index: usize, item: Item) -> bool
     ensures stored { StoresAny result (λ names. typed names item ∷ []) index locals.old locals.new }
     ensures same { length locals.new ≡ length locals.old }
@@ -66,6 +69,7 @@ fn store_long(locals: &mut [Item], index: usize) -> bool
 }
 
 /// Stores an item in local variables, a long in two, if there are as many.
+#[inline]
 pub(crate) fn store(locals: &mut [Item], index: usize, item: Item) -> bool
     ensures stored { StoresAny result (words_of_item item) index locals.old locals.new }
     ensures same { length locals.new ≡ length locals.old }

@@ -171,6 +171,7 @@ impl TypeFrame {
 
     /// Stores an item in a local variable, a long in this one and the next, and says whether there are as
     /// many. A long that loses its second word to it becomes top.
+    #[inline]
     pub fn store(&mut self, index: u16, item: Item) -> bool
         ensures stored { StoresAny result (words_of_item item) index self.old.locals self.new.locals }
         ensures same { self.new ≡ with_locals self.new.locals self.old }

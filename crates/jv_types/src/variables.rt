@@ -77,6 +77,7 @@ impl Variables {
     }
 
     /// Stores an item at a place, a long there and at the next, if there are as many.
+    #[inline]
     pub(crate) fn store(&mut self, index: u16, item: Item) -> bool
         ensures stored { StoresAny result (words_of_item item) index self.old self.new }
         ensures same { length self.new ≡ length self.old }
