@@ -2,6 +2,7 @@ pub mod Adding
 pub mod AllFound
 pub mod Chains
 pub mod Followed
+pub mod Hashed
 pub mod Listing
 pub mod Loaded
 pub mod Numbers

@@ -13,6 +13,7 @@ use Rattle.jv_class_structure.specs.Structure.{ClassStructure}
 use Rattle.jv_class.specs.ClassFile.{class_name}
 use Rattle.jv_class.specs.Rules.{NoTwoAlike, field_texts as field_info_texts, method_texts as method_info_texts}
 use Rattle.jv_class.specs.Class.{Class, all_found, field_of, method_of, super_of, class_of}
+use Rattle.jv_meaning_world.specs.World.{package_of}
 use Rattle.jv_classes.specs.declared.kept.Kept.{Kept}
 use Rattle.jv_classes.specs.Inside.Seen.{MemberSeen, field_seen, method_seen}
 use Rattle.jv_classes.specs.Inside.Found.{member_with, field_texts, field_at, method_texts, method_at, interface_at}
@@ -121,17 +122,19 @@ interfaces_kept c pool indices same shown names found class e =
 
 module _ (c : ClassStructure) (kept : Kept) (pool : List Entry) (indices : List ClassIndex) where
   pub keeps : pool ≡ c.constant_pool → map seen_index indices ≡ c.interfaces → all_found (interface_at pool) indices ≡ Some (map text_of kept.interfaces.items)
-      → kept.major ≡ c.major_version → kept.access_flags ≡ c.access_flags → class_name c ≡ Some kept.name.now → super_of c ≡ Some (option_copied kept.super_name)
+      → kept.major ≡ c.major_version → kept.access_flags ≡ c.access_flags → class_name c ≡ Some kept.name.now → kept.package_name.now ≡ package_of kept.name.now → super_of c ≡ Some (option_copied kept.super_name)
       → ((class : Class) → class_of c ≡ Some class → kept.fields ≡ map field_seen class.fields) → ((class : Class) → class_of c ≡ Some class → kept.methods ≡ map method_seen class.methods)
       → (class : Class) → class_of c ≡ Some class → Keeps class kept
-  keeps same shown found major flags name super_class fields methods class e =
+  keeps same shown found major flags name home super_class fields methods class e =
       let of_class = parts c class e in
       let one_name : Some kept.name.now ≡ Some class.name = sym name ∙ of_class.name in
+      let same_name : kept.name.now ≡ class.name = cc in
       let one_super : Some (option_copied kept.super_name) ≡ Some class.super_class = sym super_class ∙ of_class.super_class in
       record {
         major = major ∙ of_class.major;
         access_flags = flags ∙ of_class.access_flags;
         name = cc;
+        package_name = home ∙ ap package_of same_name;
         super_class = cc;
         interfaces = interfaces_kept c pool indices same shown (map text_of kept.interfaces.items) found class e;
         fields = fields class e;

@@ -1,6 +1,7 @@
 pub mod Direct
 pub mod Found
 pub mod Kept
+pub mod Known
 pub mod Listed
 pub mod Rows
 pub mod Seen

@@ -93,6 +93,11 @@ impl<'a> ClassTable<'a> {
         self.list.are_no_arrays();
     }
 
+    /// The seed under which the texts of members are hashed.
+    pub fn seed(&self) -> u64 {
+        self.list.seed()
+    }
+
     /// How many classes there are.
     pub fn count(&self) -> usize
         ensures { result ≡ length self.now }

@@ -6,8 +6,8 @@ ghost use Rattle.jv_classes.specs.Inside.Kept.{Keeps};
 ghost use Rattle.jv_classes.specs.Inside.Seen.{method_seen};
 
 use crate::kept::Kept;
-use crate::member::Member;
-use crate::members::Members;
+use crate::members::{KeptMember, Members};
+use jv_names::{Text, seed_of};
 use std::alloc::{AllocError, Global};
 use std::hash::RandomState;
 
@@ -18,16 +18,17 @@ const PUBLIC_FINAL_SUPER: u16 = 0x0031;
 fn io_methods<'a>(alloc: Global, state: RandomState) -> Result<Members<'a>, AllocError>
     ensures { IfOk result (λ methods. methods ≡ map method_seen io.methods) }
 {
+    let seed = seed_of(state);
     let mut methods = Members::with_capacity(alloc, state, 2)?;
-    methods.add(Member {
+    methods.add(KeptMember {
         access_flags: PUBLIC_STATIC,
-        name: b"read".as_slice(),
-        descriptor: b"()I".as_slice(),
+        name: Text::new(seed, b"read".as_slice()),
+        descriptor: Text::new(seed, b"()I".as_slice()),
     })?;
-    methods.add(Member {
+    methods.add(KeptMember {
         access_flags: PUBLIC_STATIC,
-        name: b"write".as_slice(),
-        descriptor: b"(I)V".as_slice(),
+        name: Text::new(seed, b"write".as_slice()),
+        descriptor: Text::new(seed, b"(I)V".as_slice()),
     })?;
     Ok(methods)
 }
@@ -42,6 +43,7 @@ pub(crate) fn kept_of_io<'a>(alloc: Global, state: RandomState) -> Result<Kept<'
         major: 52,
         access_flags: PUBLIC_FINAL_SUPER,
         name: b"host/Io".as_slice(),
+        package_name: b"host".as_slice(),
         super_name: Some(b"java/lang/Object".as_slice()),
         interfaces: Vec::new(alloc),
         fields,

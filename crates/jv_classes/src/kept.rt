@@ -8,6 +8,7 @@ pub(crate) struct Kept<'a> {
     pub(crate) major: u16,
     pub(crate) access_flags: u16,
     pub(crate) name: &'a [u8],
+    pub(crate) package_name: &'a [u8],
     pub(crate) super_name: Option<&'a [u8]>,
     pub(crate) interfaces: Vec<&'a [u8]>,
     pub(crate) fields: Members<'a>,

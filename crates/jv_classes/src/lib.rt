@@ -3,6 +3,7 @@
 #![tactic(auto)]
 
 mod class_table;
+mod hashing;
 mod host_io;
 mod kept;
 mod list;
@@ -15,6 +16,7 @@ mod supers;
 mod table;
 
 pub use class_table::ClassTable;
+pub use hashing::{pool_hashes, text_in};
 pub use list::ClassList;
 pub use loaded_class::LoadedClass;
 pub use member::Member;

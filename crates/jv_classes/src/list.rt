@@ -4,7 +4,7 @@ ghost use Rattle.std.specs.Prelude.{◌≡◌, ◌<◌, ◌++◌, [], ◌∷◌,
 ghost use Rattle.jv_meaning_world.specs.Numbers.{number_named, IsNumbered, AreNoArrays};
 
 use crate::loaded_class::LoadedClass;
-use jv_names::Names;
+use jv_names::{Names, seed_of};
 use std::alloc::{AllocError, Global};
 use std::hash::RandomState;
 use std::marker::Model;
@@ -12,6 +12,7 @@ use std::marker::Model;
 /// Classes, no two of one name; each has the number of those that came before it. In contracts it is
 /// the world of these classes (JVMS 5.3).
 pub struct ClassList<'a> {
+    seed: u64,
     names: Names<'a>,
     classes: Vec<LoadedClass<'a>>,
 }
@@ -32,6 +33,7 @@ impl<'a> Model for ClassList<'a> {
 impl Drop for ClassList<'_> {
     fn drop(self) {
         let ClassList {
+            seed: _,
             names: _,
             classes: _,
         } = self;
@@ -44,6 +46,7 @@ impl<'a> ClassList<'a> {
         ensures { result ≡ [] }
     {
         ClassList {
+            seed: seed_of(state),
             names: Names::new(alloc, state),
             classes: Vec::new(alloc),
         }
@@ -61,6 +64,11 @@ impl<'a> ClassList<'a> {
         ensures { AreNoArrays self.now }
     {
         let _names = &self.names;
+    }
+
+    /// The seed under which texts are hashed.
+    pub fn seed(&self) -> u64 {
+        self.seed
     }
 
     /// How many classes there are.

@@ -14,9 +14,10 @@ ghost use Rattle.jv_classes.specs.Members.{IsField, IsMethod};
 use crate::host_io::kept_of_io;
 use crate::kept::Kept;
 use crate::member::Member;
-use crate::package::{is_same_loader, package};
+use crate::package::is_same_loader;
 use crate::reading::kept_of_file;
 use jv_class::{ClassFile, is_some_class};
+use jv_names::Text;
 use std::alloc::{AllocError, Global};
 use std::hash::RandomState;
 use std::marker::Model;
@@ -180,6 +181,16 @@ impl<'a> LoadedClass<'a> {
         self.kept.fields.at(place)
     }
 
+    /// The place of the field with a name and a descriptor; `None` where there is none. No text that knows its hash is
+    /// hashed.
+    pub fn field_of(&self, name: &Text<'_>, descriptor: &Text<'_>) -> Option<usize>
+        ensures place { result ≡ position (λ f. bytes_eq f.name name.now && bytes_eq f.descriptor descriptor.now) self.now.class.fields }
+        ensures found { option_and_then (slice_get self.now.class.fields) result ≡ field_named self.now.class name.now descriptor.now }
+        ensures within { IfSome result (λ place. place < length self.now.class.fields) }
+    {
+        self.kept.fields.place_of(name, descriptor)
+    }
+
     /// The place of the field with a name and a descriptor; `None` where there is none. It costs one
     /// hash of both texts.
     pub fn field_named(&self, name: &[u8], descriptor: &[u8]) -> Option<usize>
@@ -187,7 +198,8 @@ impl<'a> LoadedClass<'a> {
         ensures found { option_and_then (slice_get self.now.class.fields) result ≡ field_named self.now.class name.now descriptor.now }
         ensures within { IfSome result (λ place. place < length self.now.class.fields) }
     {
-        self.kept.fields.place_of(name, descriptor)
+        let seed = self.kept.fields.seed();
+        self.field_of(&Text::new(seed, name), &Text::new(seed, descriptor))
     }
 
     /// How many methods there are.
@@ -205,6 +217,16 @@ impl<'a> LoadedClass<'a> {
         self.kept.methods.at(place)
     }
 
+    /// The place of the method with a name and a descriptor; `None` where there is none. No text that knows its hash is
+    /// hashed.
+    pub fn method_of(&self, name: &Text<'_>, descriptor: &Text<'_>) -> Option<usize>
+        ensures place { result ≡ position (λ m. bytes_eq m.name name.now && bytes_eq m.descriptor descriptor.now) self.now.class.methods }
+        ensures found { option_and_then (slice_get self.now.class.methods) result ≡ method_named self.now.class name.now descriptor.now }
+        ensures within { IfSome result (λ place. place < length self.now.class.methods) }
+    {
+        self.kept.methods.place_of(name, descriptor)
+    }
+
     /// The place of the method with a name and a descriptor; `None` where there is none. It costs one
     /// hash of both texts.
     pub fn method_named(&self, name: &[u8], descriptor: &[u8]) -> Option<usize>
@@ -212,7 +234,24 @@ impl<'a> LoadedClass<'a> {
         ensures found { option_and_then (slice_get self.now.class.methods) result ≡ method_named self.now.class name.now descriptor.now }
         ensures within { IfSome result (λ place. place < length self.now.class.methods) }
     {
-        self.kept.methods.place_of(name, descriptor)
+        let seed = self.kept.methods.seed();
+        self.method_of(&Text::new(seed, name), &Text::new(seed, descriptor))
+    }
+
+    /// The name of the method at a place, with its hash.
+    pub fn method_name(&self, place: usize) -> &Text<'a>
+        requires { place < length self.now.class.methods }
+        ensures { IsSomeAnd (slice_get self.now.class.methods place) (λ m. m.name ≡ result.now) }
+    {
+        self.kept.methods.name_at(place)
+    }
+
+    /// The descriptor of the method at a place, with its hash.
+    pub fn method_descriptor(&self, place: usize) -> &Text<'a>
+        requires { place < length self.now.class.methods }
+        ensures { IsSomeAnd (slice_get self.now.class.methods place) (λ m. m.descriptor ≡ result.now) }
+    {
+        self.kept.methods.descriptor_at(place)
     }
 
     /// Whether the class is an interface.
@@ -233,7 +272,7 @@ impl<'a> LoadedClass<'a> {
     pub fn package(&self) -> &'a [u8]
         ensures { result.now ≡ package_of self.now.class.name }
     {
-        package(self.name())
+        self.kept.package_name
     }
 
     /// Whether two classes are in one run-time package (JVMS 5.3).

@@ -1,32 +1,83 @@
 //! The fields or the methods of a class.
 
-ghost use Rattle.std.specs.Prelude.{◌≡◌, ◌<◌, ◌++◌, ◌∷◌, [], false, IfOk, OnOk, Some, length, position, slice_get};
-ghost use Rattle.std.specs.List.{list_any};
-ghost use Rattle.jv_classes.specs.Inside.Seen.{member_seen, declares};
+ghost use Rattle.std.specs.Prelude.{◌≡◌, ◌<◌, ◌++◌, ◌∷◌, [], IfOk, OnOk, OnErr, Some, length, position, slice_get};
+ghost use Rattle.std.specs.Option.{IsSomeAnd};
+ghost use Rattle.jv_classes.specs.Inside.Seen.{kept_seen, member_seen, declares, hashes_of, IsNoted, FindSame};
 
 use crate::member::Member;
+use jv_names::{Text, seed_of};
 use std::alloc::{AllocError, Global};
 use std::collections::HashMap;
 use std::hash::RandomState;
 use std::marker::Model;
 
-/// The fields or the methods of a class in the order of its file. A look-up costs one hash of the name
-/// and the descriptor, however many there are.
-#[derive(Drop)]
+/// A field or a method with the hashes of its texts.
+pub(crate) struct KeptMember<'a> {
+    pub(crate) access_flags: u16,
+    pub(crate) name: Text<'a>,
+    pub(crate) descriptor: Text<'a>,
+}
+
+impl Drop for KeptMember<'_> {
+    fn drop(self) {
+        let KeptMember {
+            access_flags: _,
+            name: _,
+            descriptor: _,
+        } = self;
+    }
+}
+
+/// The fields or the methods of a class in the order of its file. A look-up hashes no text that knows its hash, and
+/// compares texts with those of one member, however many there are. The table is hashed fast, and with no key of its own: what
+/// it is of are hashes that a stranger cannot know.
 pub(crate) struct Members<'a> {
-    members: Vec<Member<'a>>,
-    places: HashMap<(&'a [u8], &'a [u8]), usize, RandomState>,
+    seed: u64,
+    members: Vec<KeptMember<'a>>,
+    places: HashMap<(u64, u64), usize>,
 }
 
 impl<'a> Model for Members<'a> {
     ghost use Rattle.std.specs.Prelude.{List, map};
-    ghost use Rattle.jv_classes.specs.Inside.Seen.{MemberSeen, ArePlaces, member_seen};
+    ghost use Rattle.jv_classes.specs.Inside.Seen.{MemberSeen, ArePlaces, kept_seen};
 
     ghost Value = { List MemberSeen };
 
-    ghost view = { λ m. map member_seen m.members.items };
+    ghost view = { λ m. map kept_seen m.members.items };
 
-    ghost invariant = { λ m. ArePlaces (map member_seen m.members.items) m.places };
+    ghost invariant = { λ m. ArePlaces m.seed (map kept_seen m.members.items) m.places };
+}
+
+impl Drop for Members<'_> {
+    fn drop(self) {
+        let Members {
+            seed: _,
+            members: _,
+            places: _,
+        } = self;
+    }
+}
+
+/// The hashes of a name and of a descriptor under a seed.
+fn hashes_of(seed: u64, name: &Text<'_>, descriptor: &Text<'_>) -> (u64, u64)
+    ensures { result ≡ hashes_of seed name.now descriptor.now }
+{
+    (name.hash_under(seed), descriptor.hash_under(seed))
+}
+
+/// Notes a place under hashes, where none is there under them.
+fn note(
+    places: &mut HashMap<(u64, u64), usize>,
+    hashes: (u64, u64),
+    place: usize,
+) -> Result<(), AllocError>
+    ensures ok { OnOk result (IsNoted hashes place places.old places.new) }
+    ensures refused { OnErr result (FindSame places.old places.new) }
+{
+    if !places.contains_key(&hashes) {
+        places.insert(hashes, place)?;
+    }
+    Ok(())
 }
 
 impl<'a> Members<'a> {
@@ -38,19 +89,28 @@ impl<'a> Members<'a> {
     ) -> Result<Members<'a>, AllocError>
         ensures { IfOk result (λ m. m ≡ []) }
     {
+        let seed = seed_of(state);
         let members = Vec::with_capacity(alloc, count)?;
-        let places = HashMap::with_capacity_and_hasher(alloc, count, state)?;
-        Ok(Members { members, places })
+        let places = HashMap::with_capacity(alloc, count)?;
+        Ok(Members {
+            seed,
+            members,
+            places,
+        })
     }
 
-    /// Adds a member behind the others, none of which has its name and descriptor.
-    pub(crate) fn add(&mut self, member: Member<'a>) -> Result<(), AllocError>
-        requires { list_any (declares member.name.now member.descriptor.now) self.old ≡ false }
-        ensures { OnOk result (self.new ≡ self.old ++ member_seen member.entry ∷ []) }
+    /// The seed under which texts are hashed.
+    pub(crate) fn seed(&self) -> u64 {
+        self.seed
+    }
+
+    /// Adds a member behind the others.
+    pub(crate) fn add(&mut self, member: KeptMember<'a>) -> Result<(), AllocError>
+        ensures { OnOk result (self.new ≡ self.old ++ kept_seen member.entry ∷ []) }
     {
+        let hashes = hashes_of(self.seed, &member.name, &member.descriptor);
         self.members.reserve(1)?;
-        self.places
-            .insert((member.name, member.descriptor), self.members.len())?;
+        note(&mut self.places, hashes, self.members.len())?;
         self.members.push_reserved(member);
         Ok(())
     }
@@ -67,13 +127,67 @@ impl<'a> Members<'a> {
         requires { place < length self.now }
         ensures { slice_get self.now place ≡ Some (member_seen result) }
     {
-        self.members[place]
+        let member = &self.members[place];
+        Member {
+            access_flags: member.access_flags,
+            name: member.name.bytes(),
+            descriptor: member.descriptor.bytes(),
+        }
     }
 
-    /// The place of the member with a name and a descriptor.
-    pub(crate) fn place_of(&self, name: &[u8], descriptor: &[u8]) -> Option<usize>
+    /// The name of the member at a place.
+    pub(crate) fn name_at(&self, place: usize) -> &Text<'a>
+        requires { place < length self.now }
+        ensures { IsSomeAnd (slice_get self.now place) (λ m. m.name ≡ result.now) }
+    {
+        &self.members[place].name
+    }
+
+    /// The descriptor of the member at a place.
+    pub(crate) fn descriptor_at(&self, place: usize) -> &Text<'a>
+        requires { place < length self.now }
+        ensures { IsSomeAnd (slice_get self.now place) (λ m. m.descriptor ≡ result.now) }
+    {
+        &self.members[place].descriptor
+    }
+
+    /// Whether the member at a place has a name and a descriptor.
+    fn declares_at(&self, place: usize, name: &Text<'_>, descriptor: &Text<'_>) -> bool
+        requires { place < length self.now }
+        ensures { IsSomeAnd (slice_get self.now place) (λ m. result ≡ declares name.now descriptor.now m) }
+    {
+        let member = &self.members[place];
+        member.name.bytes() == name.bytes() && member.descriptor.bytes() == descriptor.bytes()
+    }
+
+    /// The place of the member with a name and a descriptor, by a look at each.
+    fn search(&self, name: &Text<'_>, descriptor: &Text<'_>) -> Option<usize>
         ensures { result ≡ position (declares name.now descriptor.now) self.now }
     {
-        self.places.get(&(name, descriptor)).copied()
+        for place in 0..self.members.len() {
+            if self.declares_at(place, name, descriptor) {
+                return Some(place);
+            }
+        }
+        None
+    }
+
+    /// The place of the member with a name and a descriptor. Where another has the same hashes, which a stranger cannot
+    /// bring about, each is looked at.
+    pub(crate) fn place_of(&self, name: &Text<'_>, descriptor: &Text<'_>) -> Option<usize>
+        ensures { result ≡ position (declares name.now descriptor.now) self.now }
+    {
+        let hashes = hashes_of(self.seed, name, descriptor);
+        match self.places.get(&hashes) {
+            None => None,
+            Some(place) => {
+                let place = *place;
+                if place < self.members.len() && self.declares_at(place, name, descriptor) {
+                    Some(place)
+                } else {
+                    self.search(name, descriptor)
+                }
+            }
+        }
     }
 }

@@ -7,42 +7,51 @@ ghost use Rattle.jv_pool.specs.Constants.{class_name_at, utf8_at};
 ghost use Rattle.jv_class.specs.Class.{Class, all_found, class_of, super_of};
 ghost use Rattle.jv_class.specs.Rules.{NoTwoAlike};
 ghost use Rattle.jv_names.specs.Inside.Kept.{text_of};
+ghost use Rattle.jv_classes.specs.Hashes.{AreHashes};
 ghost use Rattle.jv_classes.specs.Inside.Kept.{Keeps};
-ghost use Rattle.jv_classes.specs.Inside.Seen.{field_seen, member_seen, method_seen};
+ghost use Rattle.jv_classes.specs.Inside.Seen.{field_seen, kept_seen, method_seen};
 ghost use Rattle.jv_classes.specs.Inside.Found.{field_at, field_texts, interface_at, member_seen_at, method_at, method_texts};
 
+use crate::hashing::{pool_hashes, text_in};
 use crate::kept::Kept;
-use crate::member::Member;
-use crate::members::Members;
+use crate::members::{KeptMember, Members};
+use crate::package::package;
 use jv_class::{ClassFile, Field, Method};
+use jv_names::seed_of;
 use jv_pool::{ClassIndex, Pool, Utf8Index};
 use std::alloc::{AllocError, Global};
 use std::hash::RandomState;
 
 /// The member with these flags and texts.
 fn member_in<'a>(
+    seed: u64,
+    hashes: &[u64],
     pool: &Pool<'a>,
     access_flags: u16,
     name: Utf8Index,
     descriptor: Utf8Index,
-) -> Member<'a>
+) -> KeptMember<'a>
+    requires hashes { AreHashes seed pool.now hashes.now }
     requires name { IsSome (utf8_at pool.now name.0) }
     requires descriptor { IsSome (utf8_at pool.now descriptor.0) }
-    ensures { member_seen_at pool.now access_flags name.0 descriptor.0 ≡ Some (member_seen result) }
+    ensures { member_seen_at pool.now access_flags name.0 descriptor.0 ≡ Some (kept_seen result) }
 {
-    Member {
+    KeptMember {
         access_flags,
-        name: pool.utf8(name),
-        descriptor: pool.utf8(descriptor),
+        name: text_in(seed, hashes, pool, name),
+        descriptor: text_in(seed, hashes, pool, descriptor),
     }
 }
 
 fn fields_in<'a>(
     alloc: Global,
     state: RandomState,
+    seed: u64,
+    hashes: &[u64],
     pool: &Pool<'a>,
     fields: &[Field],
 ) -> Result<Members<'a>, AllocError>
+    requires hashes { AreHashes seed pool.now hashes.now }
     requires named { All (λ field. IsSome (utf8_at pool.now field.name.0)) fields.now }
     requires described { All (λ field. IsSome (utf8_at pool.now field.descriptor.0)) fields.now }
     requires unlike { NoTwoAlike (map (field_texts pool.now) fields.now) }
@@ -50,7 +59,14 @@ fn fields_in<'a>(
 {
     let mut members = Members::with_capacity(alloc, state, fields.len())?;
     for field in fields {
-        members.add(member_in(pool, field.access_flags.0, field.name, field.descriptor))?;
+        members.add(member_in(
+            seed,
+            hashes,
+            pool,
+            field.access_flags.0,
+            field.name,
+            field.descriptor,
+        ))?;
     }
     Ok(members)
 }
@@ -58,9 +74,12 @@ fn fields_in<'a>(
 fn methods_in<'a>(
     alloc: Global,
     state: RandomState,
+    seed: u64,
+    hashes: &[u64],
     pool: &Pool<'a>,
     methods: &[Method<'a>],
 ) -> Result<Members<'a>, AllocError>
+    requires hashes { AreHashes seed pool.now hashes.now }
     requires named { All (λ method. IsSome (utf8_at pool.now method.name.0)) methods.now }
     requires described { All (λ method. IsSome (utf8_at pool.now method.descriptor.0)) methods.now }
     requires unlike { NoTwoAlike (map (method_texts pool.now) methods.now) }
@@ -68,7 +87,14 @@ fn methods_in<'a>(
 {
     let mut members = Members::with_capacity(alloc, state, methods.len())?;
     for method in methods {
-        members.add(member_in(pool, method.access_flags.0, method.name, method.descriptor))?;
+        members.add(member_in(
+            seed,
+            hashes,
+            pool,
+            method.access_flags.0,
+            method.name,
+            method.descriptor,
+        ))?;
     }
     Ok(members)
 }
@@ -76,23 +102,29 @@ fn methods_in<'a>(
 fn fields_of<'a>(
     alloc: Global,
     state: RandomState,
+    seed: u64,
+    hashes: &[u64],
     file: &ClassFile<'a>,
 ) -> Result<Members<'a>, AllocError>
+    requires hashes { AreHashes seed file.now.constant_pool hashes.now }
     ensures { IfOk result (λ members. (class : Class) → class_of file.now ≡ Some class → members ≡ map field_seen class.fields) }
 {
     file.is_well_formed();
-    fields_in(alloc, state, file.pool(), file.fields())
+    fields_in(alloc, state, seed, hashes, file.pool(), file.fields())
 }
 
 fn methods_of<'a>(
     alloc: Global,
     state: RandomState,
+    seed: u64,
+    hashes: &[u64],
     file: &ClassFile<'a>,
 ) -> Result<Members<'a>, AllocError>
+    requires hashes { AreHashes seed file.now.constant_pool hashes.now }
     ensures { IfOk result (λ members. (class : Class) → class_of file.now ≡ Some class → members ≡ map method_seen class.methods) }
 {
     file.is_well_formed();
-    methods_in(alloc, state, file.pool(), file.methods())
+    methods_in(alloc, state, seed, hashes, file.pool(), file.methods())
 }
 
 /// The names of these classes.
@@ -128,13 +160,17 @@ pub(crate) fn kept_of_file<'a>(
 ) -> Result<Kept<'a>, AllocError>
     ensures { IfOk result (λ kept. (class : Class) → class_of file.now ≡ Some class → Keeps class kept) }
 {
+    let seed = seed_of(state);
+    let hashes = pool_hashes(alloc, seed, file.pool())?;
+    let name = file.name();
     let interfaces = class_names(alloc, file.pool(), file.interfaces())?;
-    let fields = fields_of(alloc, state, file)?;
-    let methods = methods_of(alloc, state, file)?;
+    let fields = fields_of(alloc, state, seed, &hashes, file)?;
+    let methods = methods_of(alloc, state, seed, &hashes, file)?;
     Ok(Kept {
         major: file.major(),
         access_flags: file.access_flags().0,
-        name: file.name(),
+        name,
+        package_name: package(name),
         super_name: super_name(file),
         interfaces,
         fields,

@@ -1,6 +1,6 @@
 //! The direct supers of a class (JVMS 5.3.5).
 
-ghost use Rattle.std.specs.Prelude.{◌≡◌, IfOk, map, not, true};
+ghost use Rattle.std.specs.Prelude.{◌≡◌, IfOk, Some, map, not, true};
 ghost use Rattle.std.specs.List.{list_all};
 ghost use Rattle.jv_class_structure.specs.Flags.{has, acc_final};
 ghost use Rattle.jv_meaning_world.specs.World.{World, can_name};
@@ -8,10 +8,12 @@ ghost use Rattle.jv_meaning_world.specs.Above.{superclass_names, is_circular};
 ghost use Rattle.jv_meaning_world.specs.Laws.Above.{stands_itself};
 ghost use Rattle.jv_meaning_world.specs.Verdicts.{is_interface, have_right_kind, each_super, can_name_supers};
 ghost use Rattle.jv_meaning_world.specs.Numbers.{number_named, super_numbers, superclass_number};
+ghost use Rattle.jv_classes.specs.Inside.Known.{AreFound, IsFound};
 ghost use Rattle.jv_classes.specs.Inside.Tests.{passes_at, marked_at, are_of_right_kind};
 
 use crate::list::ClassList;
 use crate::loaded_class::LoadedClass;
+use jv_pool::Constant;
 use std::alloc::{AllocError, Global};
 
 /// The number of the superclass, where the class has one and it is there.
@@ -29,6 +31,73 @@ fn first_of_supers(
     Ok(supers)
 }
 
+/// A name that was looked up, and the number of its class, where it is there.
+#[derive(Clone, Copy)]
+struct Found<'n> {
+    name: &'n [u8],
+    number: Option<usize>,
+}
+
+/// The index of the text that names the direct superinterface at a place; any number where there is none.
+fn key_of(class: &LoadedClass<'_>, place: usize) -> usize {
+    let Some(file) = class.file() else {
+        return 0;
+    };
+    let Some(index) = file.interfaces().get(place) else {
+        return 0;
+    };
+    match file.pool().constant(index.0) {
+        Some(Constant::Class(name)) => usize::from(name),
+        _ => 0,
+    }
+}
+
+/// Room for a name at each index of the class's constants, where it lists many interfaces.
+fn room_for<'n>(
+    alloc: Global,
+    class: &LoadedClass<'_>,
+) -> Result<Vec<Option<Found<'n>>>, AllocError>
+    ensures { (world : World) → IfOk result (λ known. AreFound world known.items) }
+{
+    let size = match class.file() {
+        Some(file) if class.interface_count() > 16 => usize::from(file.pool().count()),
+        _ => 0,
+    };
+    let mut known = Vec::new(alloc);
+    known.resize(size, None)?;
+    Ok(known)
+}
+
+/// Keeps what was found of a name, where there is room for it.
+fn keep<'n>(known: &mut [Option<Found<'n>>], key: usize, found: Found<'n>)
+    ensures { (world : World) → AreFound world known.old → IsFound world (Some found.entry) → AreFound world known.new }
+{
+    if key < known.len() {
+        known[key] = Some(found);
+    }
+}
+
+/// The number of the class of a name, where it is there; a name that is known under its key is not hashed.
+fn find_once<'n>(
+    list: &ClassList<'_>,
+    known: &mut [Option<Found<'n>>],
+    key: usize,
+    name: &'n [u8],
+) -> Option<usize>
+    requires { AreFound list.now known.old }
+    ensures found { result ≡ number_named list.now name.now }
+    ensures known { AreFound list.now known.new }
+{
+    if let Some(Some(found)) = known.get(key) {
+        if found.name == name {
+            return found.number;
+        }
+    }
+    let number = list.find(name);
+    keep(known, key, Found { name, number });
+    number
+}
+
 /// The numbers of the direct supers, each where it is there: that of the superclass comes first.
 pub(crate) fn supers_of(
     alloc: Global,
@@ -38,8 +107,10 @@ pub(crate) fn supers_of(
     ensures { IfOk result (λ s. s.items ≡ super_numbers list.now class.now.class) }
 {
     let mut supers = first_of_supers(alloc, list, class)?;
+    let mut known = room_for(alloc, class)?;
     for place in 0..class.interface_count() {
-        supers.push(list.find(class.interface_name(place)))?;
+        let name = class.interface_name(place);
+        supers.push(find_once(list, &mut known, key_of(class, place), name))?;
     }
     Ok(supers)
 }

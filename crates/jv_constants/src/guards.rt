@@ -3,6 +3,7 @@
 ghost use Rattle.std.specs.Prelude.{◌≡◌, ◌<◌, false, length, Some, IfOk, IfSome, IfNone};
 ghost use Rattle.std.specs.Option.{option_map};
 ghost use Rattle.jv_pool.specs.Seen.{seen_member};
+ghost use Rattle.jv_classes.specs.Hashes.{AreHashes};
 ghost use Rattle.jv_meaning_world.specs.Numbers.{HoldsAtBoth};
 ghost use Rattle.jv_meaning_world.specs.Numbers.{HoldsAtNumber};
 ghost use Rattle.jv_link.specs.Inside.References.{method_operand_in};
@@ -11,7 +12,10 @@ ghost use Rattle.jv_constants.specs.Inside.Guarded.{is_proper_subclass, is_far, 
 ghost use Rattle.jv_constants.specs.Inside.KeptClass.{AreGuardsOf};
 
 use crate::constants::ConstantTypes;
+use crate::hashed::{PoolHashes, called_indices, descriptor_index, name_index, text_with};
+use crate::indices::{MemberIndices, field_indices};
 use crate::names::class_number;
+use jv_classes::pool_hashes;
 use jv_link::{field_at, method_at, same_class, same_package};
 use jv_loader::{ClassTable, Classes};
 use jv_pool::{Constant, MemberName, Pool, kinds_name};
@@ -41,13 +45,25 @@ fn is_far(table: &ClassTable<'_>, current: usize, by: usize, flags: u16) -> bool
 }
 
 /// Whether the field that is found from a superclass is such a member.
-fn field_is_far(classes: &Classes<'_>, current: usize, named: usize, field: &MemberName<'_>) -> bool
+fn field_is_far(
+    classes: &Classes<'_>,
+    constants: &ConstantTypes<'_, '_>,
+    hashes: PoolHashes<'_>,
+    current: usize,
+    named: usize,
+    indices: Option<MemberIndices>,
+    field: &MemberName<'_>,
+) -> bool
+    requires hashes { AreHashes hashes.seed constants.now.pool hashes.hashes.now }
     requires current { current < length classes.now.world }
     requires named { named < length classes.now.world }
     ensures { HoldsAtBoth classes.now.world current named (λ c n. result ≡ field_is_far classes.now.world c n (seen_member field.now)) }
 {
     let table = classes.table();
-    match classes.lookup_field(named, field.name, field.descriptor) {
+    let pool = constants.pool();
+    let name = text_with(hashes, pool, name_index(indices), field.name);
+    let descriptor = text_with(hashes, pool, descriptor_index(indices), field.descriptor);
+    match classes.find_field(named, &name, &descriptor) {
         Some(place) => is_far(
             table,
             current,
@@ -61,16 +77,23 @@ fn field_is_far(classes: &Classes<'_>, current: usize, named: usize, field: &Mem
 /// Whether the method that is found from a superclass is such a member.
 fn method_is_far(
     classes: &Classes<'_>,
+    constants: &ConstantTypes<'_, '_>,
+    hashes: PoolHashes<'_>,
     current: usize,
     named: usize,
+    indices: Option<MemberIndices>,
     method: &MemberName<'_>,
 ) -> bool
+    requires hashes { AreHashes hashes.seed constants.now.pool hashes.hashes.now }
     requires current { current < length classes.now.world }
     requires named { named < length classes.now.world }
     ensures { HoldsAtBoth classes.now.world current named (λ c n. result ≡ method_is_far classes.now.world c n (seen_member method.now)) }
 {
     let table = classes.table();
-    match classes.lookup_method(named, method.name, method.descriptor) {
+    let pool = constants.pool();
+    let name = text_with(hashes, pool, name_index(indices), method.name);
+    let descriptor = text_with(hashes, pool, descriptor_index(indices), method.descriptor);
+    match classes.find_method(named, &name, &descriptor) {
         Some(place) => is_far(
             table,
             current,
@@ -117,10 +140,12 @@ fn superclass_at(constants: &ConstantTypes<'_, '_>, current: usize, index: u16) 
 fn is_guarded_field(
     classes: &Classes<'_>,
     constants: &ConstantTypes<'_, '_>,
+    hashes: PoolHashes<'_>,
     current: usize,
     class: u16,
     index: u16,
 ) -> bool
+    requires hashes { AreHashes hashes.seed constants.now.pool hashes.hashes.now }
     requires world { constants.now.types.world ≡ classes.now.world }
     requires current { current < length classes.now.world }
     ensures { IsFieldGuarded classes.now.world constants.now.pool class index current result }
@@ -128,12 +153,16 @@ fn is_guarded_field(
     let Some(named) = superclass_at(constants, current, class) else {
         return false;
     };
+    let indices = field_indices(constants.pool(), index);
     match constants.pool().fieldref_index(index) {
         Some(index) => {
             field_is_far(
                 classes,
+                constants,
+                hashes,
                 current,
                 named,
+                indices,
                 &constants.pool().field_reference(index),
             )
         }
@@ -158,10 +187,12 @@ fn method_in<'a>(pool: &Pool<'a>, index: u16) -> Option<MemberName<'a>>
 fn is_guarded_method(
     classes: &Classes<'_>,
     constants: &ConstantTypes<'_, '_>,
+    hashes: PoolHashes<'_>,
     current: usize,
     class: u16,
     index: u16,
 ) -> bool
+    requires hashes { AreHashes hashes.seed constants.now.pool hashes.hashes.now }
     requires world { constants.now.types.world ≡ classes.now.world }
     requires current { current < length classes.now.world }
     ensures { IsMethodGuarded classes.now.world constants.now.pool class index current result }
@@ -169,8 +200,11 @@ fn is_guarded_method(
     let Some(named) = superclass_at(constants, current, class) else {
         return false;
     };
+    let indices = called_indices(constants.pool(), index);
     match method_in(constants.pool(), index) {
-        Some(method) => method_is_far(classes, current, named, &method),
+        Some(method) => {
+            method_is_far(classes, constants, hashes, current, named, indices, &method)
+        }
         None => false,
     }
 }
@@ -179,22 +213,24 @@ fn is_guarded_method(
 fn is_guarded(
     classes: &Classes<'_>,
     constants: &ConstantTypes<'_, '_>,
+    hashes: PoolHashes<'_>,
     current: usize,
     index: u16,
 ) -> bool
+    requires hashes { AreHashes hashes.seed constants.now.pool hashes.hashes.now }
     requires world { constants.now.types.world ≡ classes.now.world }
     requires current { current < length classes.now.world }
     ensures { HoldsAtNumber classes.now.world current (λ c. IsGuard classes.now.world c constants.now.pool index result) }
 {
     match constants.pool().constant(index) {
         Some(Constant::Fieldref(class, _)) => {
-            is_guarded_field(classes, constants, current, class, index)
+            is_guarded_field(classes, constants, hashes, current, class, index)
         }
         Some(Constant::Methodref(class, _)) => {
-            is_guarded_method(classes, constants, current, class, index)
+            is_guarded_method(classes, constants, hashes, current, class, index)
         }
         Some(Constant::InterfaceMethodref(class, _)) => {
-            is_guarded_method(classes, constants, current, class, index)
+            is_guarded_method(classes, constants, hashes, current, class, index)
         }
         _ => false,
     }
@@ -211,10 +247,16 @@ pub(crate) fn guards_of(
     requires current { current < length classes.now.world }
     ensures { IfOk result (λ marks. AreGuardsOf classes.now.world current constants.now.pool marks.items) }
 {
+    let seed = classes.table().seed();
+    let kept = pool_hashes(alloc, seed, constants.pool())?;
+    let hashes = PoolHashes {
+        seed,
+        hashes: &kept,
+    };
     let count = constants.pool().count();
     let mut marks = Vec::with_capacity(alloc, usize::from(count))?;
     for index in 0..count {
-        marks.push(is_guarded(classes, constants, current, index))?;
+        marks.push(is_guarded(classes, constants, hashes, current, index))?;
     }
     Ok(marks)
 }

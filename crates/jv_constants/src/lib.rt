@@ -7,6 +7,7 @@ mod constants;
 mod current_class;
 mod fields;
 mod guards;
+mod hashed;
 mod indices;
 mod marks;
 mod methods;

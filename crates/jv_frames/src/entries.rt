@@ -34,6 +34,7 @@ impl<'m> Entries<'m> {
     }
 
     /// Goes below the first entry that is left, and gives it; `None` where none is.
+    #[inline]
     pub fn next(&mut self) -> Option<FrameEntry>
         ensures { MatchOption result (self.old ≡ []) (λ entry. self.old ≡ entry ∷ self.new) }
     {

@@ -89,6 +89,7 @@ impl Nodes {
     }
 
     /// The entry of a node, and the node below it; `None` for node 0.
+    #[inline(always)]
     pub(crate) fn at(&self, top: u32) -> Option<(FrameEntry, u32)>
         ensures entry { MatchOption result (chain self.now top ≡ []) (λ x. chain self.now top ≡ x.0 ∷ chain self.now x.1) }
         ensures below { IfSome result (λ x. x.1 < length self.now) }

@@ -18,6 +18,7 @@ use jv_classes::ClassTable;
 use jv_loader_system::{Memory, SystemFiles};
 use jv_lookups::{Defaults, Place, lookup_field, lookup_method, superinterface_defaults};
 use jv_meaning_world::{LoadVerdict, above_by_ways, loadable_by_all};
+use jv_names::Text;
 use std::alloc::Global;
 use std::hash::RandomState;
 use std::marker::Model;
@@ -132,9 +133,25 @@ impl<'a> Classes<'a> {
         &self.searches[class]
     }
 
+    /// A text with its hash, by which members are found.
+    pub fn text<'n>(&self, bytes: &'n [u8]) -> Text<'n>
+        ensures { result ≡ bytes.now }
+    {
+        Text::new(self.table.seed(), bytes)
+    }
+
     /// The field of a name and a descriptor that a search from a class finds first, without access (JVMS
-    /// 5.4.3.2). It costs one hash for each class that the search meets.
+    /// 5.4.3.2). It costs a look at each class that the search meets, and one hash of each text.
     pub fn lookup_field(&self, class: usize, name: &[u8], descriptor: &[u8]) -> Option<Place>
+        requires { class < length self.now.world }
+        ensures found { IsFieldLookedUp self.now.world class name.now descriptor.now result }
+        ensures place { IfSome result (IsFieldPlace self.now.world) }
+    {
+        self.find_field(class, &self.text(name), &self.text(descriptor))
+    }
+
+    /// The same by texts that know their hashes, so that none is hashed.
+    pub fn find_field(&self, class: usize, name: &Text<'_>, descriptor: &Text<'_>) -> Option<Place>
         requires { class < length self.now.world }
         ensures found { IsFieldLookedUp self.now.world class name.now descriptor.now result }
         ensures place { IfSome result (IsFieldPlace self.now.world) }
@@ -149,12 +166,30 @@ impl<'a> Classes<'a> {
         ensures found { IsMethodLookedUp self.now.world class name.now descriptor.now result }
         ensures place { IfSome result (IsMethodPlace self.now.world) }
     {
+        self.find_method(class, &self.text(name), &self.text(descriptor))
+    }
+
+    /// The same by texts that know their hashes, so that none is hashed.
+    pub fn find_method(&self, class: usize, name: &Text<'_>, descriptor: &Text<'_>) -> Option<Place>
+        requires { class < length self.now.world }
+        ensures found { IsMethodLookedUp self.now.world class name.now descriptor.now result }
+        ensures place { IfSome result (IsMethodPlace self.now.world) }
+    {
         lookup_method(self.table(), class, self.searched(class), name, descriptor)
     }
 
     /// The maximally specific methods of a name and a descriptor that the superinterfaces of a class
     /// declare and that are not abstract (JVMS 5.4.3.3, 6.5).
     pub fn superinterface_defaults(&self, class: usize, name: &[u8], descriptor: &[u8]) -> Defaults
+        requires { class < length self.now.world }
+        ensures found { AreDefaultsOf self.now.world class name.now descriptor.now result }
+        ensures place { IsDefaultPlace self.now.world result }
+    {
+        self.find_defaults(class, &self.text(name), &self.text(descriptor))
+    }
+
+    /// The same by texts that know their hashes.
+    fn find_defaults(&self, class: usize, name: &Text<'_>, descriptor: &Text<'_>) -> Defaults
         requires { class < length self.now.world }
         ensures found { AreDefaultsOf self.now.world class name.now descriptor.now result }
         ensures place { IsDefaultPlace self.now.world result }

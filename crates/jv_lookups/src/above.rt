@@ -10,12 +10,20 @@ ghost use Rattle.jv_lookups.specs.Finals.{PassesWith};
 use crate::marks::Marks;
 use crate::member::{FINAL, PRIVATE, can_override, is_instance, is_overridden};
 use jv_classes::{LoadedClass, Member};
+use jv_names::Text;
 
 /// The flags of the instance method of a class with the name and descriptor of another.
-fn flags_alike(class: &LoadedClass<'_>, method: &Member<'_>) -> Option<u16>
+fn flags_alike(
+    class: &LoadedClass<'_>,
+    method: &Member<'_>,
+    name: &Text<'_>,
+    descriptor: &Text<'_>,
+) -> Option<u16>
+    requires name { name.now ≡ method.now.name.now }
+    requires descriptor { descriptor.now ≡ method.now.descriptor.now }
     ensures { result ≡ flags_alike class.now (as_method method.now) }
 {
-    let place = class.method_named(method.name, method.descriptor)?;
+    let place = class.method_of(name, descriptor)?;
     let found = class.method(place);
     if is_instance(&found) {
         Some(found.access_flags)
@@ -30,13 +38,17 @@ fn overrides_final_of(
     class: &LoadedClass<'_>,
     number: usize,
     method: &Member<'_>,
+    name: &Text<'_>,
+    descriptor: &Text<'_>,
     marks: &mut Marks,
 ) -> bool
-    requires { number < length marks.old }
+    requires number { number < length marks.old }
+    requires name { name.now ≡ method.now.name.now }
+    requires descriptor { descriptor.now ≡ method.now.descriptor.now }
     ensures broken { result ≡ is_final_overridden_if (get_or marks.old number false) (flags_alike class.now (as_method method.now)) }
     ensures marks { marks.new ≡ marked_with marks.old number (flags_alike class.now (as_method method.now)) }
 {
-    let Some(access_flags) = flags_alike(class, method) else {
+    let Some(access_flags) = flags_alike(class, method, name, descriptor) else {
         return false;
     };
     if !is_overridden(marks.is_marked(number), access_flags) {
@@ -56,7 +68,11 @@ pub(crate) fn overrides_final_above(
     of: usize,
     chain: &[usize],
     method: &Member<'_>,
+    name: &Text<'_>,
+    descriptor: &Text<'_>,
 ) -> bool
+    requires name { name.now ≡ method.now.name.now }
+    requires descriptor { descriptor.now ≡ method.now.descriptor.now }
     requires of { of < length classes.now }
     requires chain { AreNumbers classes.now chain.now }
     requires packages { AreNumbered classes.now packages.now }
@@ -67,7 +83,14 @@ pub(crate) fn overrides_final_above(
     marks.clear();
     marks.mark(packages[of]);
     for place in chain {
-        if overrides_final_of(&classes[*place], packages[*place], method, marks) {
+        if overrides_final_of(
+            &classes[*place],
+            packages[*place],
+            method,
+            name,
+            descriptor,
+            marks,
+        ) {
             return true;
         }
     }
@@ -82,7 +105,11 @@ pub(crate) fn breaks_final_by(
     of: usize,
     chain: &[usize],
     method: &Member<'_>,
+    name: &Text<'_>,
+    descriptor: &Text<'_>,
 ) -> bool
+    requires name { name.now ≡ method.now.name.now }
+    requires descriptor { descriptor.now ≡ method.now.descriptor.now }
     requires of { of < length classes.now }
     requires chain { AreNumbers classes.now chain.now }
     requires packages { AreNumbered classes.now packages.now }
@@ -90,5 +117,8 @@ pub(crate) fn breaks_final_by(
     ensures broken { PassesWith classes.now of chain.now (λ l up. breaks_final_by l up (as_method method.now)) result }
     ensures marks { length marks.new ≡ length marks.old }
 {
-    can_override(method) && overrides_final_above(classes, packages, marks, of, chain, method)
+    can_override(method)
+        && overrides_final_above(
+            classes, packages, marks, of, chain, method, name, descriptor,
+        )
 }

@@ -8,6 +8,7 @@ ghost use Rattle.jv_lookups.specs.Places.{method_at, IsMethodPlace, IsMethodFoun
 
 use crate::place::Place;
 use jv_classes::ClassTable;
+use jv_names::Text;
 
 // Access flags of methods (JVMS table 4.6-A).
 const PRIVATE_OR_STATIC: u16 = 0x000a;
@@ -22,14 +23,14 @@ const ABSTRACT: u16 = 0x0400;
 pub(crate) fn declared_method(
     table: &ClassTable<'_>,
     class: usize,
-    name: &[u8],
-    descriptor: &[u8],
+    name: &Text<'_>,
+    descriptor: &Text<'_>,
 ) -> Option<Place>
     requires { class < length table.now }
     ensures found { HoldsAtNumber table.now class (λ l. IsMethodFound table.now result (method_in name.now descriptor.now l)) }
     ensures place { IfSome result (IsMethodPlace table.now) }
 {
-    let member = table.classes()[class].method_named(name, descriptor)?;
+    let member = table.classes()[class].method_of(name, descriptor)?;
     Some(Place { class, member })
 }
 

@@ -9,19 +9,20 @@ ghost use Rattle.jv_lookups.specs.Inside.Members.{field_named_in, FindsField};
 
 use crate::place::Place;
 use jv_classes::ClassTable;
+use jv_names::Text;
 
 /// The field of a name and a descriptor that a class declares.
 fn declared_field(
     table: &ClassTable<'_>,
     class: usize,
-    name: &[u8],
-    descriptor: &[u8],
+    name: &Text<'_>,
+    descriptor: &Text<'_>,
 ) -> Option<Place>
     requires { class < length table.now }
     ensures found { HoldsAtNumber table.now class (λ l. IsFieldFound table.now result (field_named_in name.now descriptor.now l)) }
     ensures place { IfSome result (IsFieldPlace table.now) }
 {
-    let member = table.classes()[class].field_named(name, descriptor)?;
+    let member = table.classes()[class].field_of(name, descriptor)?;
     Some(Place { class, member })
 }
 
@@ -30,8 +31,8 @@ fn declared_field(
 pub fn lookup_field(
     table: &ClassTable<'_>,
     searched: &[usize],
-    name: &[u8],
-    descriptor: &[u8],
+    name: &Text<'_>,
+    descriptor: &Text<'_>,
 ) -> Option<Place>
     requires { AreNumbers table.now searched.now }
     ensures found { FindsField table.now searched.now name.now descriptor.now result }

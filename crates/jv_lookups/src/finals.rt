@@ -91,7 +91,16 @@ fn some_overrides_final(
 {
     let class = &classes[of];
     for place in 0..class.method_count() {
-        if breaks_final_by(classes, packages, marks, of, chain, &class.method(place)) {
+        if breaks_final_by(
+            classes,
+            packages,
+            marks,
+            of,
+            chain,
+            &class.method(place),
+            class.method_name(place),
+            class.method_descriptor(place),
+        ) {
             return true;
         }
     }

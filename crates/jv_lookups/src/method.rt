@@ -10,13 +10,14 @@ use crate::declared::{declared_method, is_public_instance};
 use crate::place::Place;
 use crate::superinterface::superinterface_method;
 use jv_classes::ClassTable;
+use jv_names::Text;
 
 /// The first method that a superclass of a class declares.
 fn superclass_method(
     table: &ClassTable<'_>,
     from: usize,
-    name: &[u8],
-    descriptor: &[u8],
+    name: &Text<'_>,
+    descriptor: &Text<'_>,
 ) -> Option<Place>
     requires { from < length table.now }
     ensures found { IsFirstAbove table.now from name.now descriptor.now result }
@@ -41,8 +42,8 @@ fn lookup_class_method(
     table: &ClassTable<'_>,
     from: usize,
     searched: &[usize],
-    name: &[u8],
-    descriptor: &[u8],
+    name: &Text<'_>,
+    descriptor: &Text<'_>,
 ) -> Option<Place>
     requires from { from < length table.now }
     requires searched { AreNumbers table.now searched.now }
@@ -59,7 +60,11 @@ fn lookup_class_method(
 }
 
 /// The public instance method of a name and a descriptor that java/lang/Object declares (JVMS 5.4.3.4).
-pub fn method_of_object(table: &ClassTable<'_>, name: &[u8], descriptor: &[u8]) -> Option<Place>
+fn declared_by_object(
+    table: &ClassTable<'_>,
+    name: &Text<'_>,
+    descriptor: &Text<'_>,
+) -> Option<Place>
     ensures found { IsMethodFound table.now result (method_of_object table.now name.now descriptor.now) }
     ensures place { IfSome result (IsMethodPlace table.now) }
 {
@@ -75,14 +80,23 @@ pub fn method_of_object(table: &ClassTable<'_>, name: &[u8], descriptor: &[u8]) 
     Some(place)
 }
 
+/// The public instance method of a name and a descriptor that java/lang/Object declares (JVMS 5.4.3.4).
+pub fn method_of_object(table: &ClassTable<'_>, name: &[u8], descriptor: &[u8]) -> Option<Place>
+    ensures found { IsMethodFound table.now result (method_of_object table.now name.now descriptor.now) }
+    ensures place { IfSome result (IsMethodPlace table.now) }
+{
+    let seed = table.seed();
+    declared_by_object(table, &Text::new(seed, name), &Text::new(seed, descriptor))
+}
+
 /// Where a method is found from an interface: its own, a public instance method of java/lang/Object, and
 /// those of its superinterfaces (JVMS 5.4.3.4).
 fn lookup_interface_method(
     table: &ClassTable<'_>,
     from: usize,
     searched: &[usize],
-    name: &[u8],
-    descriptor: &[u8],
+    name: &Text<'_>,
+    descriptor: &Text<'_>,
 ) -> Option<Place>
     requires from { from < length table.now }
     requires searched { AreNumbers table.now searched.now }
@@ -92,7 +106,7 @@ fn lookup_interface_method(
     if let Some(place) = declared_method(table, from, name, descriptor) {
         return Some(place);
     }
-    if let Some(place) = method_of_object(table, name, descriptor) {
+    if let Some(place) = declared_by_object(table, name, descriptor) {
         return Some(place);
     }
     superinterface_method(table, from, searched, name, descriptor)
@@ -104,8 +118,8 @@ pub fn lookup_method(
     table: &ClassTable<'_>,
     from: usize,
     searched: &[usize],
-    name: &[u8],
-    descriptor: &[u8],
+    name: &Text<'_>,
+    descriptor: &Text<'_>,
 ) -> Option<Place>
     requires from { from < length table.now }
     requires searched { AreNumbers table.now searched.now }

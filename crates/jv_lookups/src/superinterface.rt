@@ -12,6 +12,7 @@ use crate::declared::{declared_method, is_concrete, is_inheritable};
 use crate::defaults::Defaults;
 use crate::place::Place;
 use jv_classes::ClassTable;
+use jv_names::Text;
 
 /// Whether a class is an interface other than that from which the search goes.
 fn is_superinterface(table: &ClassTable<'_>, from: usize, class: usize) -> bool
@@ -31,8 +32,8 @@ fn candidate(
     table: &ClassTable<'_>,
     from: usize,
     class: usize,
-    name: &[u8],
-    descriptor: &[u8],
+    name: &Text<'_>,
+    descriptor: &Text<'_>,
 ) -> Option<Place>
     requires from { from < length table.now }
     requires class { class < length table.now }
@@ -56,8 +57,8 @@ fn first_candidate(
     table: &ClassTable<'_>,
     from: usize,
     searched: &[usize],
-    name: &[u8],
-    descriptor: &[u8],
+    name: &Text<'_>,
+    descriptor: &Text<'_>,
 ) -> Option<Place>
     requires from { from < length table.now }
     requires searched { AreNumbers table.now searched.now }
@@ -78,8 +79,8 @@ fn is_below_candidate(
     from: usize,
     class: usize,
     other: usize,
-    name: &[u8],
-    descriptor: &[u8],
+    name: &Text<'_>,
+    descriptor: &Text<'_>,
 ) -> bool
     requires from { from < length table.now }
     requires class { class < length table.now }
@@ -99,8 +100,8 @@ fn has_below(
     from: usize,
     searched: &[usize],
     class: usize,
-    name: &[u8],
-    descriptor: &[u8],
+    name: &Text<'_>,
+    descriptor: &Text<'_>,
 ) -> bool
     requires from { from < length table.now }
     requires searched { AreNumbers table.now searched.now }
@@ -121,8 +122,8 @@ fn specific(
     from: usize,
     searched: &[usize],
     class: usize,
-    name: &[u8],
-    descriptor: &[u8],
+    name: &Text<'_>,
+    descriptor: &Text<'_>,
 ) -> Option<Place>
     requires from { from < length table.now }
     requires searched { AreNumbers table.now searched.now }
@@ -147,8 +148,8 @@ fn only_specific(
     table: &ClassTable<'_>,
     from: usize,
     searched: &[usize],
-    name: &[u8],
-    descriptor: &[u8],
+    name: &Text<'_>,
+    descriptor: &Text<'_>,
 ) -> Option<Place>
     requires from { from < length table.now }
     requires searched { AreNumbers table.now searched.now }
@@ -172,8 +173,8 @@ pub(crate) fn superinterface_method(
     table: &ClassTable<'_>,
     from: usize,
     searched: &[usize],
-    name: &[u8],
-    descriptor: &[u8],
+    name: &Text<'_>,
+    descriptor: &Text<'_>,
 ) -> Option<Place>
     requires from { from < length table.now }
     requires searched { AreNumbers table.now searched.now }
@@ -191,8 +192,8 @@ fn has_specific(
     table: &ClassTable<'_>,
     from: usize,
     searched: &[usize],
-    name: &[u8],
-    descriptor: &[u8],
+    name: &Text<'_>,
+    descriptor: &Text<'_>,
 ) -> bool
     requires from { from < length table.now }
     requires searched { AreNumbers table.now searched.now }
@@ -212,8 +213,8 @@ pub fn superinterface_defaults(
     table: &ClassTable<'_>,
     from: usize,
     searched: &[usize],
-    name: &[u8],
-    descriptor: &[u8],
+    name: &Text<'_>,
+    descriptor: &Text<'_>,
 ) -> Defaults
     requires from { from < length table.now }
     requires searched { AreNumbers table.now searched.now }

@@ -1,6 +1,7 @@
 pub mod Behind
 pub mod CaughtTypes
 pub mod CodeFound
+pub mod Covering
 pub mod EntriesMade
 pub mod FlowsInto
 pub mod FramesAtInstructions

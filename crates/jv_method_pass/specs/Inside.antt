@@ -1,3 +1,4 @@
+pub mod Cover
 pub mod Kept
 pub mod Locals
 pub mod Parts

@@ -55,6 +55,7 @@ impl<'e, 't, 'a> EntryTypes<'e, 't, 'a> {
     }
 
     /// The names whose numbers the types have.
+    #[inline(always)]
     pub(crate) fn names(&self) -> &'e TypeNames<'t, 'a>
         ensures { result.now ≡ self.now.constants.types }
     {
@@ -63,6 +64,7 @@ impl<'e, 't, 'a> EntryTypes<'e, 't, 'a> {
     }
 
     /// The type that an entry stands for.
+    #[inline(always)]
     pub(crate) fn item(&self, entry: FrameEntry) -> Item
         ensures { typed (names_of_types self.now) result ≡ type_of_entry self.now entry }
     {

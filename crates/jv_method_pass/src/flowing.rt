@@ -18,6 +18,7 @@ use jv_frames::{Entries, MapFrame, VerificationTypeOf};
 use jv_types::{Item, TypeFrame};
 
 /// The words of a local entry.
+#[inline(always)]
 pub(crate) fn words_of(item: Item) -> u16
     ensures { (names : List (List ℕ)) → result ≡ width (typed names item) }
 {
@@ -27,6 +28,7 @@ pub(crate) fn words_of(item: Item) -> u16
     }
 }
 
+#[inline(always)]
 fn is_same_object(one: Item, other: Item) -> bool
     ensures { (names : List (List ℕ)) → result ≡ is_same_object (typed names one) (typed names other) }
 {
@@ -40,6 +42,7 @@ fn is_same_object(one: Item, other: Item) -> bool
 }
 
 /// The type of a local variable once an object cannot be used any more.
+#[inline(always)]
 fn left_in(object: Option<Item>, local: Item) -> Item
     ensures { (names : List (List ℕ)) → typed names result ≡ left_in (option_map (typed names) object) (typed names local) }
 {

@@ -3,6 +3,7 @@
 #![tactic(auto)]
 
 mod catching;
+mod cover;
 mod entries;
 mod fault;
 mod flowing;

@@ -7,9 +7,11 @@ ghost use Rattle.jv_meaning_typing.specs.Typing.{frame_at, handlers_hold};
 ghost use Rattle.jv_rules.specs.Laws.{keeps_locals};
 ghost use Rattle.jv_types.specs.Numbered.{frame_of};
 ghost use Rattle.jv_method_pass.specs.Pass.{IsOfPass, maps_of, names_in, Tests};
+ghost use Rattle.jv_method_pass.specs.Inside.Cover.{IsCover};
 ghost use Rattle.jv_method_pass.specs.Inside.Settled.{AreSettled, AreSettledIn};
 ghost use Rattle.jv_method_pass.specs.Inside.Walk.{Reaches, IsStep, merged, when_falls, IsMerged};
 
+use crate::cover::{Cover, is_quiet};
 use crate::flowing::frame_flows;
 use crate::handlers::handlers_hold;
 use crate::pass::Pass;
@@ -70,24 +72,27 @@ fn settled_without(object: Option<Item>, settled: Option<u32>) -> Option<u32>
 /// Whether the handlers that cover an instruction hold; those that are settled are not looked at again.
 fn is_handled(
     pass: &Pass<'_, '_, '_, '_, '_>,
+    cover: &Cover,
     frame: &TypeFrame,
     settled: Option<u32>,
     offset: u32,
     insn: &Insn<&[u8]>,
 ) -> bool
     requires locals { length frame.now.locals ≡ pass.now.max_locals }
+    requires cover { IsCover pass.now.handlers cover.now.begins.items cover.now.end }
     requires settled { AreSettledIn pass.now settled frame.now }
     ensures { Tests pass.now (λ env maps f. handlers_hold env maps offset (instruction_of insn.now) f) frame.now result }
 {
     let object = constructed_object(pass.context, frame, insn);
     let settled = settled_without(object, settled);
-    handlers_hold(pass, frame, object, settled, offset)
+    is_quiet(cover, settled, offset) || handlers_hold(pass, frame, object, settled, offset)
 }
 
 /// Goes over an instruction, and answers the first rule that is broken there, if one is. The frame is what falls into the
 /// instruction, where it falls, and then what is left. Handlers that cover the instruction at the settled offset hold with it.
 pub(crate) fn step(
     pass: &Pass<'_, '_, '_, '_, '_>,
+    cover: &Cover,
     frame: &mut TypeFrame,
     falls: bool,
     settled: Option<u32>,
@@ -95,6 +100,7 @@ pub(crate) fn step(
     insn: &Insn<&[u8]>,
 ) -> Result<Option<VerifyRule>, AllocError>
     requires locals { length frame.old.locals ≡ pass.now.max_locals }
+    requires cover { IsCover pass.now.handlers cover.now.begins.items cover.now.end }
     requires settled { AreSettledIn pass.now settled frame.old }
     requires offset { offset < 65536 }
     requires method { (env : Environment) × IsOfPass pass.now env }
@@ -113,7 +119,7 @@ pub(crate) fn step(
         return Ok(Some(VerifyRule::Merge));
     }
     let settled = settled_at(pass, settled, offset);
-    if !is_handled(pass, frame, settled, offset, insn) {
+    if !is_handled(pass, cover, frame, settled, offset, insn) {
         return Ok(Some(VerifyRule::CoveredHandler));
     }
     if !apply(pass.context, frame, offset as u16, insn)? {

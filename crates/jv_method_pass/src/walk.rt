@@ -6,8 +6,10 @@ ghost use Rattle.jv_meaning_typing.specs.Environment.{Environment};
 ghost use Rattle.jv_rules.specs.Laws.{keeps_locals};
 ghost use Rattle.jv_method_pass.specs.Pass.{IsOfPass, maps_of};
 ghost use Rattle.jv_method_pass.specs.Found.{IsFound};
+ghost use Rattle.jv_method_pass.specs.Inside.Cover.{IsCover};
 ghost use Rattle.jv_method_pass.specs.Inside.Walk.{IsFoundFrom};
 
+use crate::cover::{Cover, cover_of};
 use crate::fault::CodeFault;
 use crate::pass::Pass;
 use crate::setting::set_to_initial;
@@ -32,9 +34,11 @@ fn settled_by(insn: &Insn<&[u8]>, offset: u32) -> Option<u32>
 /// Goes over all instructions from the first on, before which the frame stands.
 fn walk(
     pass: &Pass<'_, '_, '_, '_, '_>,
+    cover: &Cover,
     frame: &mut TypeFrame,
 ) -> Result<Option<CodeFault>, AllocError>
     requires locals { length frame.old.locals ≡ pass.now.max_locals }
+    requires cover { IsCover pass.now.handlers cover.now.begins.items cover.now.end }
     requires method { (env : Environment) × IsOfPass pass.now env }
     ensures { IsFoundFrom pass.now frame.old result }
 {
@@ -47,7 +51,7 @@ fn walk(
     let mut offset = 0;
     while offset < size {
         let (insn, next) = code.insn_at(offset);
-        if let Some(rule) = step(pass, frame, falls, settled, offset, &insn)? {
+        if let Some(rule) = step(pass, cover, frame, falls, settled, offset, &insn)? {
             return Ok(Some(CodeFault { offset, rule }));
         }
         falls = falls_through(&insn);
@@ -80,5 +84,6 @@ pub fn check_code(
     starts_apart();
     let mut frame = TypeFrame::new(alloc, pass.max_locals)?;
     set_to_initial(&mut frame, pass.initial, pass.words);
-    walk(pass, &mut frame)
+    let cover = cover_of(alloc, pass.handlers, pass.context.code().size())?;
+    walk(pass, &cover, &mut frame)
 }

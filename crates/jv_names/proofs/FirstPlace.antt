@@ -30,6 +30,19 @@ module _ {A : Type 0} (test : A → Bool) where
   same_from i [] y e = rw e refl
   same_from i (x ∷ xs) y e = ap (cond (test x) (Some i)) (same_from (i + 1) xs y e)
 
+  first_from : (i : ℕ) (xs ys : List A) → list_any test xs ≡ true → position_from test i (xs ++ ys) ≡ position_from test i xs
+  first_from i [] ys there = absurd cc
+  first_from i (x ∷ xs) ys there = by_test (test x) refl (λ h. first_from (i + 1) xs ys h) there
+    where
+      by_test : (b : Bool) → test x ≡ b → (list_any test xs ≡ true → position_from test (i + 1) (xs ++ ys) ≡ position_from test (i + 1) xs)
+          → (test x || list_any test xs) ≡ true → cond (test x) (Some i) (position_from test (i + 1) (xs ++ ys)) ≡ cond (test x) (Some i) (position_from test (i + 1) xs)
+      by_test true e rest h = rw e refl
+      by_test false e rest h = ap (cond (test x) (Some i)) (rest (ap (λ b. b || list_any test xs) (sym e) ∙ h))
+
+  -- the first of some is the first of more
+  pub first_stays : (xs ys : List A) → list_any test xs ≡ true → position test (xs ++ ys) ≡ position test xs
+  first_stays xs ys there = position_from-zero test (xs ++ ys) ∙ (first_from 0 xs ys there ∙ sym (position_from-zero test xs))
+
   pub some_place : (xs : List A) → is_some (position test xs) ≡ list_any test xs
   some_place xs = ap is_some (position_from-zero test xs) ∙ some_from 0 xs
 
@@ -58,3 +71,17 @@ module _ {K A S : Type 0} (same : K → K → Bool) (finds : K → A → Bool) w
           told other
           ∙ (ap (λ b. cond b (Some (length items)) (get_by (same other) old)) e
           ∙ (known other ∙ sym (same_place (finds other) items item (unlike other e))))
+
+  -- one that joins where its key is there already
+  pub joined_known : (items : List A) (item : A) (key : K) (places : HashMap K ℕ S) → AreFirstPlaces same finds items places
+      → is_some (get_by (same key) places) ≡ true → ((other : K) → same key other ≡ true → other ≡ key)
+      → ((other : K) → same key other ≡ false → finds other item ≡ false) → AreFirstPlaces same finds (items ++ item ∷ []) places
+  joined_known items item key places known there one unlike other = by_test (same key other) refl
+    where
+      by_test : (b : Bool) → same key other ≡ b → get_by (same other) places ≡ position (finds other) (items ++ item ∷ [])
+      by_test true e =
+          let is = one other e in
+          let any : list_any (finds other) items ≡ true =
+          sym (some_place (finds other) items) ∙ (ap is_some (sym (known other)) ∙ (ap (λ k. is_some (get_by (same k) places)) is ∙ there)) in
+          known other ∙ sym (first_stays (finds other) items (item ∷ []) any)
+      by_test false e = known other ∙ sym (same_place (finds other) items item (unlike other e))

@@ -1,3 +1,4 @@
 pub mod Ways
 pub mod Names
+pub mod Texts
 pub mod Inside

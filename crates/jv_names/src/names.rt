@@ -48,6 +48,7 @@ impl<'a> Names<'a> {
     }
 
     /// How many names there are.
+    #[inline]
     pub fn count(&self) -> usize
         ensures { result ≡ length self.now }
     {

@@ -119,24 +119,23 @@ written [] old n e = ap (λ k. take k old) e
 written (x ∷ new) old zero e = absurd cc
 written (x ∷ new) old (suc n) e = ap (λ xs. x ∷ xs) (written new old n (omega (arith, e)))
 
-pub replaced_in : (names : List (List ℕ)) (object by : Item) (old new rest : List Item) (n : ℕ) → n ≡ length old → new ≡ map (swapped object by) old
-    → typed_all names (take n (new ++ rest)) ≡ replaced (typed names object) (typed names by) (typed_all names old)
-replaced_in names object by old new rest n e is =
-    ap (typed_all names) (written new rest n (e ∙ (sym (length-map old (swapped object by)) ∙ ap length (sym is))) ∙ is) ∙ replaced_typed names object by old
+pub replaced_in : (names : List (List ℕ)) (object by : Item) (old new : List Item) → new ≡ map (swapped object by) old
+    → typed_all names new ≡ replaced (typed names object) (typed names by) (typed_all names old)
+replaced_in names object by old new is = ap (typed_all names) is ∙ replaced_typed names object by old
 
 -- on a stack, whose top is last
-pub replaced_on : (names : List (List ℕ)) (object by : Item) (old new rest : List Item) (n : ℕ) → n ≡ length old → new ≡ map (swapped object by) old
-    → typed_all names (reverse (take n (new ++ rest))) ≡ replaced (typed names object) (typed names by) (typed_all names (reverse old))
-replaced_on names object by old new rest n e is =
-    ap (λ xs. typed_all names (reverse xs)) (written new rest n (e ∙ (sym (length-map old (swapped object by)) ∙ ap length (sym is))) ∙ is)
+pub replaced_on : (names : List (List ℕ)) (object by : Item) (old new : List Item) → new ≡ map (swapped object by) old
+    → typed_all names (reverse new) ≡ replaced (typed names object) (typed names by) (typed_all names (reverse old))
+replaced_on names object by old new is =
+    ap (λ xs. typed_all names (reverse xs)) is
     ∙ (ap (typed_all names) (sym (map_reversed (swapped object by) old)) ∙ replaced_typed names object by (reverse old))
 
-pub words_kept : (object by : Item) (old new rest : List Item) (n : ℕ) → item_words by ≡ 1 → n ≡ length old → new ≡ map (swapped object by) old
-    → stack_words (reverse old) ≡ stack_words (reverse (take n (new ++ rest)))
-words_kept object by old new rest n one e is =
+pub words_kept : (object by : Item) (old new : List Item) → item_words by ≡ 1 → new ≡ map (swapped object by) old
+    → stack_words (reverse old) ≡ stack_words (reverse new)
+words_kept object by old new one is =
     sym (same_words object by one (reverse old))
     ∙ (ap stack_words (map_reversed (swapped object by) old)
-    ∙ ap (λ xs. stack_words (reverse xs)) (sym (written new rest n (e ∙ (sym (length-map old (swapped object by)) ∙ ap length (sym is))) ∙ is)))
+    ∙ ap (λ xs. stack_words (reverse xs)) (sym is))
 
 pub any_on : (names : List (List ℕ)) (object : Item) (stack : List Item) (b : Bool) → b ≡ list_any (same_object object) stack
     → b ≡ list_any (is_same_object (typed names object)) (typed_all names (reverse stack))

@@ -1,3 +1,5 @@
+pub mod Before
 pub mod Cut
 pub mod Kept
 pub mod Swapped
+pub mod Tops

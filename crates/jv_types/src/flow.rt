@@ -2,16 +2,51 @@
 
 ghost use Rattle.std.specs.Prelude.{◌≡◌};
 ghost use Rattle.jv_frames.specs.declared.verification.VerificationTypeOf.TheVariants as variants;
+ghost use Rattle.jv_text.specs.Descriptor.{base_letter};
 ghost use Rattle.jv_text.specs.Seen.{seen_field_type};
-ghost use Rattle.jv_meaning_world.specs.Flow.{class_flows, flows};
+ghost use Rattle.jv_meaning_world.specs.Flow.{class_flows, flows, same_base};
 ghost use Rattle.jv_meaning_world.specs.FrameFlow.{item_flows};
 ghost use Rattle.jv_assign.specs.Seen.{seen_type};
 ghost use Rattle.jv_types.specs.Typed.{name_at, typed_field, typed};
+ghost use Rattle.jv_types.specs.Inside.Swapped.{is_object_of};
 
 use crate::names::{Item, TypeNames};
 use jv_assign::{flows, other_class_flows};
 use jv_frames::VerificationTypeOf;
-use jv_text::{Element, FieldType, FieldTypeOf};
+use jv_text::{Base, Element, FieldType, FieldTypeOf};
+
+/// The letter of a primitive type (JVMS table 4.3-A).
+fn letter(base: Base) -> u8
+    ensures { result ≡ base_letter base }
+{
+    match base {
+        Base::Byte => b'B',
+        Base::Char => b'C',
+        Base::Double => b'D',
+        Base::Float => b'F',
+        Base::Int => b'I',
+        Base::Long => b'J',
+        Base::Short => b'S',
+        Base::Boolean => b'Z',
+    }
+}
+
+/// Whether two primitive types are one.
+fn same_base(one: Base, other: Base) -> bool
+    ensures { result ≡ same_base one other }
+{
+    letter(one) == letter(other)
+}
+
+/// Whether a type is an object that is not initialized, made by the `new` at an offset.
+fn is_object_of(item: Item, offset: u16) -> bool
+    ensures { result ≡ is_object_of item offset }
+{
+    match item {
+        VerificationTypeOf::Uninitialized(other) => other == offset,
+        _ => false,
+    }
+}
 
 impl<'t, 'a> TypeNames<'t, 'a> {
     /// Whether a class flows to another.
@@ -61,13 +96,16 @@ impl<'t, 'a> TypeNames<'t, 'a> {
         flows(self.table(), &self.by_name(from), &self.by_name(to))
     }
 
-    /// Whether an array flows to another by the classes of their components.
+    /// Whether an array flows to another by the elements of their components, where these have as many dimensions.
     fn components_flow(&self, from: FieldTypeOf<u32>, to: FieldTypeOf<u32>) -> bool
         ensures { result ≡ flows self.now.world (typed self.now.names (variants.Array from)) (typed self.now.names (variants.Array to)) }
     {
         match (from.element, to.element) {
             (Element::Class(x), Element::Class(y)) if from.dimensions == to.dimensions => {
                 self.class_flows(x, y)
+            }
+            (Element::Base(x), Element::Base(y)) if from.dimensions == to.dimensions => {
+                same_base(x, y)
             }
             _ => self.other_flows(
                 VerificationTypeOf::Array(from),
@@ -76,17 +114,48 @@ impl<'t, 'a> TypeNames<'t, 'a> {
         }
     }
 
+    /// Whether a type flows to a class.
+    #[inline]
+    fn flows_to_class(&self, from: Item, to: u32) -> bool
+        ensures { result ≡ flows self.now.world (typed self.now.names from) (typed self.now.names (variants.Class to)) }
+    {
+        match from {
+            VerificationTypeOf::Class(name) => self.class_flows(name, to),
+            VerificationTypeOf::Null => true,
+            VerificationTypeOf::Array(_) => self.other_flows(from, VerificationTypeOf::Class(to)),
+            _ => false,
+        }
+    }
+
+    /// Whether a type flows to an array.
+    #[inline]
+    fn flows_to_array(&self, from: Item, to: FieldTypeOf<u32>) -> bool
+        ensures { result ≡ flows self.now.world (typed self.now.names from) (typed self.now.names (variants.Array to)) }
+    {
+        match from {
+            VerificationTypeOf::Array(components) => self.components_flow(components, to),
+            VerificationTypeOf::Null => true,
+            _ => false,
+        }
+    }
+
     /// Whether a type can stand where another is expected (JVMS 4.10.1.2). No name of a class is looked
-    /// at where both are classes, or arrays of classes of as many dimensions.
+    /// at but where an array flows to a class, or to an array of other dimensions.
+    #[inline]
     pub fn flows(&self, from: Item, to: Item) -> bool
         ensures { result ≡ flows self.now.world (typed self.now.names from) (typed self.now.names to) }
     {
-        match (from, to) {
-            (VerificationTypeOf::Class(x), VerificationTypeOf::Class(y)) => self.class_flows(x, y),
-            (VerificationTypeOf::Array(x), VerificationTypeOf::Array(y)) => {
-                self.components_flow(x, y)
+        match to {
+            VerificationTypeOf::Top => true,
+            VerificationTypeOf::Int => matches!(from, VerificationTypeOf::Int),
+            VerificationTypeOf::Long => matches!(from, VerificationTypeOf::Long),
+            VerificationTypeOf::Null => matches!(from, VerificationTypeOf::Null),
+            VerificationTypeOf::UninitializedThis => {
+                matches!(from, VerificationTypeOf::UninitializedThis)
             }
-            _ => self.other_flows(from, to),
+            VerificationTypeOf::Uninitialized(offset) => is_object_of(from, offset),
+            VerificationTypeOf::Class(name) => self.flows_to_class(from, name),
+            VerificationTypeOf::Array(components) => self.flows_to_array(from, components),
         }
     }
 

@@ -3,12 +3,14 @@
 #![tactic(auto)]
 
 mod flow;
+mod items;
 mod locals;
 mod names;
 mod objects;
 mod outcome;
 mod type_frame;
 mod value;
+mod variables;
 
 pub use names::{Item, TypeNames};
 pub use outcome::Outcome;

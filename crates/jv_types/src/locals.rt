@@ -1,14 +1,18 @@
 //! Stores to local variables (JVMS 4.10.1.9, modifyLocalVariable in 4.10.1.7).
 
-ghost use Rattle.std.specs.Prelude.{◌≡◌, ◌<◌, ◌+◌, [], ◌∷◌, length};
+ghost use Rattle.std.specs.Prelude.{◌≡◌, ◌<◌, ◌+◌, ℕ, [], ◌∷◌, length};
+ghost use Rattle.std.specs.List.{All};
 ghost use Rattle.jv_frames.specs.declared.verification.VerificationTypeOf.TheVariants as types;
 ghost use Rattle.jv_types.specs.Typed.{typed};
+ghost use Rattle.jv_types.specs.Inside.Before.{IsBefore};
 ghost use Rattle.jv_types.specs.Inside.Cut.{is_long, cut_at};
+ghost use Rattle.jv_types.specs.Inside.Tops.{AreTops};
 ghost use Rattle.jv_types.specs.Numbered.{StoresAny, words_of_item};
 
 use crate::names::Item;
 use jv_frames::VerificationTypeOf;
 
+#[inline(always)]
 fn is_long(item: Item) -> bool
     ensures { result ≡ is_long item }
 {
@@ -16,10 +20,13 @@ fn is_long(item: Item) -> bool
 }
 
 /// Makes the local variable before an index top where a long begins there, which ends at the index.
+#[inline]
 fn cut_before(locals: &mut [Item], index: usize)
     requires { index < length locals.old }
     ensures cut { locals.new ≡ cut_at index locals.old }
     ensures same { length locals.new ≡ length locals.old }
+    ensures before { (end : ℕ) → All (IsBefore end) locals.old → All (IsBefore end) locals.new }
+    ensures tops { (used : ℕ) → AreTops used locals.old → AreTops used locals.new }
 {
     if index == 0 {
         return;
@@ -30,9 +37,12 @@ fn cut_before(locals: &mut [Item], index: usize)
 }
 
 /// Stores an item of one word, if there is a local variable with the index.
+#[inline]
 fn store_item(locals: &mut [Item], index: usize, item: Item) -> bool
     ensures stored { StoresAny result (λ names. typed names item ∷ []) index locals.old locals.new }
     ensures same { length locals.new ≡ length locals.old }
+    ensures before { (end : ℕ) → IsBefore end item → All (IsBefore end) locals.old → All (IsBefore end) locals.new }
+    ensures tops { (used : ℕ) → index < used → AreTops used locals.old → AreTops used locals.new }
 {
     if index >= locals.len() {
         return false;
@@ -46,6 +56,8 @@ fn store_item(locals: &mut [Item], index: usize, item: Item) -> bool
 fn store_long(locals: &mut [Item], index: usize) -> bool
     ensures stored { StoresAny result (λ names. types.Long ∷ types.Top ∷ []) index locals.old locals.new }
     ensures same { length locals.new ≡ length locals.old }
+    ensures before { (end : ℕ) → All (IsBefore end) locals.old → All (IsBefore end) locals.new }
+    ensures tops { (used : ℕ) → index < used → AreTops used locals.old → AreTops used locals.new }
 {
     if index >= locals.len() || index + 1 >= locals.len() {
         return false;
@@ -57,9 +69,12 @@ fn store_long(locals: &mut [Item], index: usize) -> bool
 }
 
 /// Stores an item in local variables, a long in two, if there are as many.
+#[inline]
 pub(crate) fn store(locals: &mut [Item], index: usize, item: Item) -> bool
     ensures stored { StoresAny result (words_of_item item) index locals.old locals.new }
     ensures same { length locals.new ≡ length locals.old }
+    ensures before { (end : ℕ) → IsBefore end item → All (IsBefore end) locals.old → All (IsBefore end) locals.new }
+    ensures tops { (used : ℕ) → index < used → AreTops used locals.old → AreTops used locals.new }
 {
     match item {
         VerificationTypeOf::Long => store_long(locals, index),

@@ -102,6 +102,7 @@ impl<'t, 'a> TypeNames<'t, 'a> {
     }
 
     /// The place of the name with a number: that of java/lang/Object where none has the number.
+    #[inline]
     pub fn place(&self, number: u32) -> usize
         ensures within { result < length self.now.names }
         ensures same { get_or self.now.names result (codes "java/lang/Object") ≡ name_at self.now.names number }
@@ -118,6 +119,7 @@ impl<'t, 'a> TypeNames<'t, 'a> {
     }
 
     /// Whether two numbers are those of one name.
+    #[inline]
     pub fn same_name(&self, one: u32, other: u32) -> bool
         ensures { result ≡ bytes_eq (name_at self.now.names one) (name_at self.now.names other) }
     {

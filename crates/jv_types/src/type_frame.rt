@@ -6,9 +6,9 @@ ghost use Rattle.jv_meaning_typing.specs.FrameChanges.{is_same_object};
 ghost use Rattle.jv_types.specs.Typed.{typed, typed_all};
 ghost use Rattle.jv_types.specs.Numbered.{blank, topped, with_flag, with_locals, with_stack, without_flag, stack_words, item_words, StoresAny, ReplacesAny, words_of_item};
 
-use crate::locals::store;
+use crate::items::Items;
 use crate::names::Item;
-use crate::objects::{has_object, replace_all};
+use crate::variables::Variables;
 use jv_frames::VerificationTypeOf;
 use std::alloc::{AllocError, Global};
 use std::marker::Model;
@@ -16,8 +16,8 @@ use std::marker::Model;
 /// A frame (JVMS 4.10.1.4): local variables, a long as long and top, the stack's items, where a long is one
 /// item of two words, and whether `this` may not be initialized.
 pub struct TypeFrame {
-    locals: Vec<Item>,
-    stack: Vec<Item>,
+    locals: Variables,
+    stack: Items,
     words: usize,
     flag: bool,
 }
@@ -28,9 +28,9 @@ impl Model for TypeFrame {
 
     ghost Value = { NumberFrame };
 
-    ghost view = { λ f. record { locals = f.locals.items; stack = reverse f.stack.items; flag_this_uninit = f.flag } };
+    ghost view = { λ f. record { locals = f.locals; stack = reverse f.stack; flag_this_uninit = f.flag } };
 
-    ghost invariant = { λ f. f.words ≡ stack_words (reverse f.stack.items) };
+    ghost invariant = { λ f. f.words ≡ stack_words (reverse f.stack) };
 }
 
 impl Drop for TypeFrame {
@@ -63,11 +63,10 @@ impl TypeFrame {
     pub fn new(alloc: Global, max_locals: u16) -> Result<TypeFrame, AllocError>
         ensures { IfOk result (λ frame. frame ≡ blank max_locals) }
     {
-        let mut locals = Vec::new(alloc);
-        locals.resize(usize::from(max_locals), VerificationTypeOf::Top)?;
+        let locals = Variables::tops(alloc, usize::from(max_locals))?;
         Ok(TypeFrame {
             locals,
-            stack: Vec::new(alloc),
+            stack: Items::new(alloc),
             words: 0,
             flag: false,
         })
@@ -77,7 +76,7 @@ impl TypeFrame {
     pub fn clear(&mut self)
         ensures { self.new ≡ blank (length self.old.locals) }
     {
-        self.locals.fill(VerificationTypeOf::Top);
+        self.locals.make_tops();
         self.stack.clear();
         self.words = 0;
         self.clear_flag();
@@ -101,7 +100,7 @@ impl TypeFrame {
     pub fn turn_stack(&mut self)
         ensures { self.new ≡ with_stack (reverse self.old.stack) self.old }
     {
-        self.stack.reverse();
+        self.stack.turn();
     }
 
     /// Whether `this` may not be initialized.
@@ -119,6 +118,7 @@ impl TypeFrame {
     }
 
     /// How many local variables there are.
+    #[inline]
     pub fn local_count(&self) -> usize
         ensures { result ≡ length self.now.locals }
     {
@@ -126,10 +126,11 @@ impl TypeFrame {
     }
 
     /// The type of a local variable, where there is one with the index.
+    #[inline]
     pub fn local(&self, index: u16) -> Option<Item>
         ensures { result ≡ slice_get self.now.locals index }
     {
-        self.locals.get(usize::from(index)).copied()
+        self.locals.get(usize::from(index))
     }
 
     /// Takes the item on top; `None` where the stack is empty.
@@ -165,23 +166,24 @@ impl TypeFrame {
     {
         let below = self.stack.len().checked_sub(depth)?;
         let place = below.checked_sub(1)?;
-        self.stack.get(place).copied()
+        self.stack.get(place)
     }
 
     /// Stores an item in a local variable, a long in this one and the next, and says whether there are as
     /// many. A long that loses its second word to it becomes top.
+    #[inline]
     pub fn store(&mut self, index: u16, item: Item) -> bool
         ensures stored { StoresAny result (words_of_item item) index self.old.locals self.new.locals }
         ensures same { self.new ≡ with_locals self.new.locals self.old }
     {
-        store(&mut self.locals, usize::from(index), item)
+        self.locals.store(index, item)
     }
 
     /// Whether an object that is not initialized is on the stack.
     pub fn has_on_stack(&self, object: Item) -> bool
         ensures { (names : List (List ℕ)) → result ≡ list_any (is_same_object (typed names object)) (typed_all names self.now.stack) }
     {
-        has_object(&self.stack, object)
+        self.stack.has(object)
     }
 
     /// Gives all copies of an object that is not initialized in local variables a type.
@@ -189,7 +191,7 @@ impl TypeFrame {
         ensures locals { ReplacesAny object by self.old.locals self.new.locals }
         ensures same { self.new ≡ with_locals self.new.locals self.old }
     {
-        replace_all(&mut self.locals, object, by);
+        self.locals.replace(object, by);
     }
 
     /// Gives all copies of an object that is not initialized on the stack a type of one word.
@@ -198,7 +200,7 @@ impl TypeFrame {
         ensures stack { ReplacesAny object by self.old.stack self.new.stack }
         ensures same { self.new ≡ with_stack self.new.stack self.old }
     {
-        replace_all(&mut self.stack, object, by);
+        self.stack.replace(object, by);
     }
 
     /// `this` is initialized from now on.

@@ -4,6 +4,7 @@ use Rattle.std.specs.Option.{option_copied}
 use Rattle.jv_class_structure.specs.Structure.{ClassStructure}
 use Rattle.jv_class.specs.Class.{Class, class_of}
 use Rattle.jv_meaning_world.specs.System.Io.{io}
+use Rattle.jv_meaning_world.specs.World.{package_of}
 use Rattle.jv_names.specs.Inside.Kept.{text_of}
 use Rattle.jv_classes.specs.declared.kept.Kept.{Kept}
 use Rattle.jv_classes.specs.Inside.Seen.{field_seen, method_seen}
@@ -13,6 +14,7 @@ pub record Keeps (class : Class) (kept : Kept) : Type 0 where
   pub major : kept.major ≡ class.major_version
   pub access_flags : kept.access_flags ≡ class.access_flags
   pub name : kept.name.now ≡ class.name
+  pub package_name : kept.package_name.now ≡ package_of class.name
   pub super_class : option_copied kept.super_name ≡ class.super_class
   pub interfaces : map text_of kept.interfaces.items ≡ class.interfaces
   pub fields : kept.fields ≡ map field_seen class.fields

@@ -1,5 +1,5 @@
 -- Objects that are not initialized, among types by number.
-use Rattle.std.specs.Prelude.{Bool, true, false, ◌==◌, if◌then◌else◌}
+use Rattle.std.specs.Prelude.{ℕ, Bool, true, false, ◌==◌, if◌then◌else◌}
 use Rattle.jv_frames.specs.declared.verification.VerificationTypeOf.TheVariants as types
 use Rattle.jv_types.specs.Numbered.{Item}
 
@@ -11,3 +11,8 @@ same_object _ _ = false
 -- a type, or another in the place of an object's
 abbrev pub swapped : Item → Item → Item → Item
 swapped object by item = if same_object object item then by else item
+
+-- what the `new` at an offset made
+abbrev pub is_object_of : Item → ℕ → Bool
+is_object_of (types.Uninitialized o) offset = o == offset
+is_object_of _ offset = false

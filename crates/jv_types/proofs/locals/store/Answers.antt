@@ -8,3 +8,6 @@ pub returns-in-Long-clause-stored : goal.returns-in-Long-clause-stored
 returns-in-Long-clause-stored c = λ names.
     subst (λ (i : Item). Stores c.store_long.result (type_by_words (typed names i)) c.args.index (typed_all names c.args.locals.now) (typed_all names c.store_long.new.locals))
     (sym c.in-Long.is) (c.store_long.ensures.stored names)
+
+pub returns-in-Long-clause-before : goal.returns-in-Long-clause-before
+returns-in-Long-clause-before c = λ end item all. c.store_long.ensures.before end all

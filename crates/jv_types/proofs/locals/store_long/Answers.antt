@@ -4,6 +4,10 @@ use Rattle.jv_frames.specs.declared.verification.VerificationTypeOf.TheVariants 
 use Rattle.jv_types.specs.Typed.{typed_all}
 use Rattle.jv_types.specs.Inside.Cut.{cut_at}
 use Rattle.jv_types.proofs.Storing.{stored_long, not_stored}
+use Rattle.std.specs.List.{All}
+use Rattle.std.proofs.lemmas.List.Elements.{All-set}
+use Rattle.jv_types.specs.Inside.Before.{IsBefore}
+use Rattle.jv_types.proofs.KeptTops.{set_top, set_used}
 use Rattle.jv_types.proofs.locals.store_long.Goals as goal
 use Rattle.jv_types.proofs.locals.store_long.Goals.{then-index-locals-via-then-index-locals, then-index-locals-via-else-index-locals+then-index-locals-2}
 
@@ -22,3 +26,13 @@ returns-then-index-locals-clause-stored c = λ names.
       | then-index-locals-via-else-index-locals+then-index-locals-2 w ↦ omega (arith, w.if-index-locals-2.true)
     ])
     (omega arith)
+
+pub returns-clause-before : goal.returns-clause-before
+returns-clause-before c = λ end all.
+    All-set (IsBefore end) (slice_set c.cut_before.new.locals c.args.index types.Long) (c.args.index + 1) types.Top tt
+    (All-set (IsBefore end) c.cut_before.new.locals c.args.index types.Long tt (c.cut_before.ensures.before end all))
+
+pub returns-clause-tops : goal.returns-clause-tops
+returns-clause-tops c = λ used lt h.
+    set_top used (slice_set c.cut_before.new.locals c.args.index types.Long) (c.args.index + 1)
+    (set_used used c.cut_before.new.locals c.args.index types.Long lt (c.cut_before.ensures.tops used h))

@@ -1,13 +1,15 @@
-use Rattle.std.proofs.Common.{◌∙◌, sym, ap, slice_get, length}
+use Rattle.std.proofs.Common.{◌∙◌, sym, ap, slice_get, length, Some}
 use Rattle.std.specs.Option.{option_map}
 use Rattle.std.proofs.lemmas.Option.{slice_get-map, slice_get_read}
 use Rattle.std.proofs.lemmas.List.{length-map}
-use Rattle.jv_classes.specs.Inside.Seen.{member_seen}
+use Rattle.jv_classes.specs.Inside.Seen.{kept_seen, member_made}
 use Rattle.jv_classes.proofs.members.Members.at.Goals as goal
 
 pub returns : goal.returns
 returns c =
     ap (λ members. slice_get members c.args.place) (sym c.self.view_is)
-    ∙ (slice_get-map member_seen c.self.inside.members.items c.args.place
-    ∙ ap (option_map member_seen) (slice_get_read c.self.inside.members.items (length c.args.self.now) c.args.place c.index.result.now
-    (ap length (sym c.self.view_is) ∙ length-map c.self.inside.members.items member_seen) c.requires c.index.ensures))
+    ∙ (slice_get-map kept_seen c.self.inside.members.items c.args.place
+    ∙ (ap (option_map kept_seen) (slice_get_read c.self.inside.members.items (length c.args.self.now) c.args.place c.index-member.result.now
+    (ap length (sym c.self.view_is) ∙ length-map c.self.inside.members.items kept_seen) c.requires c.index-member.ensures)
+    ∙ (ap (λ n. Some (member_made c.index-member.result.now.access_flags n c.index-member.result.now.descriptor)) (sym c.bytes.ensures)
+    ∙ ap (λ n. Some (member_made c.index-member.result.now.access_flags c.bytes.result.now n)) (sym c.bytes-2.ensures))))

@@ -3,11 +3,10 @@ use Rattle.std.specs.List.{list_any}
 use Rattle.jv_meaning_typing.specs.FrameChanges.{is_same_object}
 use Rattle.jv_types.specs.Typed.{typed, typed_all}
 use Rattle.jv_types.specs.Numbered.{NumberFrame}
-use Rattle.jv_types.specs.Inside.Swapped.{same_object}
 use Rattle.jv_types.proofs.Replacing.{any_on}
 use Rattle.jv_types.proofs.type_frame.TypeFrame.has_on_stack.Goals as goal
 
 pub returns : goal.returns
 returns c = λ names.
-    any_on names c.args.object c.self.inside.stack.items c.has_object.result (c.has_object.ensures ∙ ap (list_any (same_object c.args.object)) c.deref.ensures.value)
+    any_on names c.args.object c.self.inside.stack c.has.result c.has.ensures
     ∙ ap (λ (f : NumberFrame). list_any (is_same_object (typed names c.args.object)) (typed_all names f.stack)) c.self.view_is

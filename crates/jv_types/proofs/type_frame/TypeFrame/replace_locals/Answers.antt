@@ -8,6 +8,5 @@ use Rattle.jv_types.proofs.type_frame.TypeFrame.replace_locals.Goals as goal
 
 pub returns-clause-locals : goal.returns-clause-locals
 returns-clause-locals c = λ names.
-    replaced_in names c.args.object c.args.by c.self.inside.locals.items c.replace_all.new.items _ c.self.inside.locals.len c.self.inside.locals.ok.0
-    (c.replace_all.ensures ∙ ap (map (swapped c.args.object c.args.by)) c.deref_mut.ensures.value)
+    replaced_in names c.args.object c.args.by c.self.inside.locals c.replace.new.self c.replace.ensures
     ∙ ap (λ (f : NumberFrame). replaced (typed names c.args.object) (typed names c.args.by) (typed_all names f.locals)) c.self.view_is

@@ -8,12 +8,9 @@ use Rattle.jv_types.proofs.type_frame.TypeFrame.replace_stack.Goals as goal
 
 pub invariant_of-self : goal.invariant_of-self
 invariant_of-self c =
-    c.self.invariant
-    ∙ words_kept c.args.object c.args.by c.self.inside.stack.items c.replace_all.new.items _ c.self.inside.stack.len c.requires c.self.inside.stack.ok.0
-    (c.replace_all.ensures ∙ ap (map (swapped c.args.object c.args.by)) c.deref_mut.ensures.value)
+    c.self.invariant ∙ words_kept c.args.object c.args.by c.self.inside.stack c.replace.new.self c.requires c.replace.ensures
 
 pub returns-clause-stack : goal.returns-clause-stack
 returns-clause-stack c = λ names.
-    replaced_on names c.args.object c.args.by c.self.inside.stack.items c.replace_all.new.items _ c.self.inside.stack.len c.self.inside.stack.ok.0
-    (c.replace_all.ensures ∙ ap (map (swapped c.args.object c.args.by)) c.deref_mut.ensures.value)
+    replaced_on names c.args.object c.args.by c.self.inside.stack c.replace.new.self c.replace.ensures
     ∙ ap (λ (f : NumberFrame). replaced (typed names c.args.object) (typed names c.args.by) (typed_all names f.stack)) c.self.view_is

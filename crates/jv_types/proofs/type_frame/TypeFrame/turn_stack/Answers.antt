@@ -6,5 +6,5 @@ use Rattle.jv_types.proofs.type_frame.TypeFrame.turn_stack.Goals as goal
 
 pub invariant_of-self : goal.invariant_of-self
 invariant_of-self c =
-    let new = c.reverse.new.self.items in
-    c.self.invariant ∙ (ap stack_words (sym c.reverse.ensures.items) ∙ sym (sum_by-IsPermutation item_words new (reverse new) (IsPermutation-reverse new)))
+    let new = c.turn.new.self in
+    c.self.invariant ∙ (ap stack_words (sym c.turn.ensures) ∙ sym (sum_by-IsPermutation item_words new (reverse new) (IsPermutation-reverse new)))

@@ -3,7 +3,7 @@ use Rattle.jv_meaning_world.specs.Numbers.{HoldsAtNumber}
 use Rattle.jv_lookups.specs.Defaults.{defaults, AreDefaults}
 use Rattle.jv_meaning_world.specs.Numbers.{AreNumbers}
 use Rattle.jv_loader.specs.Inside.Searches.{IsSearch}
-use Rattle.jv_loader.proofs.classes.Classes.superinterface_defaults.Goals as goal
+use Rattle.jv_loader.proofs.classes.Classes.find_defaults.Goals as goal
 
 pub superinterface_defaults-requires-clause-searched : goal.superinterface_defaults-requires-clause-searched
 superinterface_defaults-requires-clause-searched c = subst (λ w. AreNumbers w c.searched.result.now) (sym c.table.ensures) c.searched.ensures.numbers

@@ -6,7 +6,7 @@ use Rattle.jv_class.specs.Class.{Field}
 use Rattle.jv_classes.specs.Inside.Kept.{class_of_file}
 use Rattle.jv_classes.specs.Inside.Seen.{field_seen, declares}
 use Rattle.jv_classes.proofs.Places.{place_seen, found_there, place_within}
-use Rattle.jv_classes.proofs.loaded_class.LoadedClass.field_named.Goals as goal
+use Rattle.jv_classes.proofs.loaded_class.LoadedClass.field_of.Goals as goal
 
 pub returns : goal.returns
 returns c =

@@ -4,7 +4,7 @@ use Rattle.jv_classes.proofs.Told.{stands_at}
 use Rattle.jv_lookups.proofs.Chain.{not_named}
 use Rattle.jv_lookups.proofs.Standing.{method_stands}
 use Rattle.jv_lookups.proofs.Tests.{kept, dropped}
-use Rattle.jv_lookups.proofs.method.method_of_object.Goals as goal
+use Rattle.jv_lookups.proofs.method.declared_by_object.Goals as goal
 
 pub returns-in_default-clause-found : goal.returns-in_default-clause-found
 returns-in_default-clause-found c =

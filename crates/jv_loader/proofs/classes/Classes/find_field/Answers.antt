@@ -5,7 +5,7 @@ use Rattle.jv_meaning_world.specs.Numbers.{HoldsAtNumber}
 use Rattle.jv_lookups.specs.Places.{field_at}
 use Rattle.jv_meaning_world.specs.Numbers.{AreNumbers}
 use Rattle.jv_loader.specs.Inside.Searches.{IsSearch}
-use Rattle.jv_loader.proofs.classes.Classes.lookup_field.Goals as goal
+use Rattle.jv_loader.proofs.classes.Classes.find_field.Goals as goal
 
 pub lookup_field-requires : goal.lookup_field-requires
 lookup_field-requires c = subst (λ w. AreNumbers w c.searched.result.now) (sym c.table.ensures) c.searched.ensures.numbers

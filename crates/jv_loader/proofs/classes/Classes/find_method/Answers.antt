@@ -5,7 +5,7 @@ use Rattle.jv_meaning_world.specs.Numbers.{HoldsAtNumber}
 use Rattle.jv_lookups.specs.Places.{method_at}
 use Rattle.jv_meaning_world.specs.Numbers.{AreNumbers}
 use Rattle.jv_loader.specs.Inside.Searches.{IsSearch}
-use Rattle.jv_loader.proofs.classes.Classes.lookup_method.Goals as goal
+use Rattle.jv_loader.proofs.classes.Classes.find_method.Goals as goal
 
 pub lookup_method-requires-clause-searched : goal.lookup_method-requires-clause-searched
 lookup_method-requires-clause-searched c = subst (λ w. AreNumbers w c.searched.result.now) (sym c.table.ensures) c.searched.ensures.numbers

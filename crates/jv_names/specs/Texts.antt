@@ -1,0 +1,9 @@
+-- Hashes of texts.
+use Rattle.std.specs.Prelude.{ℕ, List}
+use Rattle.std.specs.List.{fold}
+use Rattle.std.specs.Hash as fed
+use Rattle.std.specs.Hash.DefaultHasher as sip
+
+-- of a text behind a seed
+abbrev pub text_hash : ℕ → List ℕ → ℕ
+text_hash seed text = sip.finish (sip.write (fold sip.write sip.initial (fed.u64 seed)) text)

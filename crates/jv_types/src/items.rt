@@ -1,0 +1,196 @@
+//! Types in order, with what is known of the objects among them.
+
+ghost use Rattle.std.specs.Prelude.{◌≡◌, ◌<◌, ◌≤◌, ◌++◌, ◌∷◌, [], ℕ, List, length, map, replicate, reverse, slice_get, MatchOption, IfOk, OnOk, OnErr};
+ghost use Rattle.std.specs.List.{list_any};
+ghost use Rattle.jv_frames.specs.declared.verification.VerificationTypeOf.TheVariants as types;
+ghost use Rattle.jv_types.specs.Inside.Before.{IsBefore, is_past};
+ghost use Rattle.jv_types.specs.Inside.Swapped.{same_object, swapped};
+ghost use Rattle.jv_types.specs.Inside.Tops.{AreTops};
+ghost use Rattle.jv_types.specs.Numbered.{Item, StoresAny, words_of_item};
+
+use crate::locals::store;
+use crate::names::Item;
+use crate::objects::{has_object, replace_all};
+use jv_frames::VerificationTypeOf;
+use std::alloc::{AllocError, Global};
+use std::marker::Model;
+
+/// Types in order. Each object among them that a `new` made was made before an offset: so an object of a `new` from there on
+/// is not looked for.
+pub(crate) struct Items {
+    items: Vec<Item>,
+    end: u32,
+}
+
+impl Model for Items {
+    ghost use Rattle.std.specs.Prelude.{List};
+    ghost use Rattle.std.specs.List.{All};
+    ghost use Rattle.jv_types.specs.Numbered.{Item};
+    ghost use Rattle.jv_types.specs.Inside.Before.{IsBefore};
+
+    ghost Value = { List Item };
+
+    ghost view = { λ i. i.items.items };
+
+    ghost invariant = { λ i. All (IsBefore i.end) i.items.items };
+}
+
+impl Drop for Items {
+    fn drop(self) {
+        let Items { items: _, end: _ } = self;
+    }
+}
+
+/// Whether an object was made by a `new` at an offset or behind it.
+fn is_past(end: u32, object: Item) -> bool
+    ensures { result ≡ is_past end object }
+{
+    match object {
+        VerificationTypeOf::Uninitialized(offset) => end <= u32::from(offset),
+        _ => false,
+    }
+}
+
+/// The least offset from there on that an object's `new` stands before.
+#[inline(always)]
+fn raised(end: u32, item: Item) -> u32
+    ensures least { end ≤ result }
+    ensures before { IsBefore result item }
+{
+    match item {
+        VerificationTypeOf::Uninitialized(offset) => {
+            let offset = u32::from(offset);
+            if offset < end { end } else { offset + 1 }
+        }
+        _ => end,
+    }
+}
+
+/// The place, or the count where that is less.
+fn least(used: usize, count: usize) -> usize
+    ensures within { result ≤ count }
+    ensures tops { (items : List Item) → length items ≡ count → AreTops used items → AreTops result items }
+{
+    if used < count { used } else { count }
+}
+
+/// Makes those before a place top, or all where there are fewer.
+fn make_tops(items: &mut [Item], used: usize)
+    requires { AreTops used items.old }
+    ensures tops { items.new ≡ replicate (length items.old) types.Top }
+    ensures same { length items.new ≡ length items.old }
+{
+    let mut left = least(used, items.len());
+    while left > 0 {
+        left -= 1;
+        items[left] = VerificationTypeOf::Top;
+    }
+}
+
+impl Items {
+    /// No types.
+    pub(crate) fn new(alloc: Global) -> Items
+        ensures { result ≡ [] }
+    {
+        Items {
+            items: Vec::new(alloc),
+            end: 0,
+        }
+    }
+
+    /// So many times top.
+    pub(crate) fn tops(alloc: Global, count: usize) -> Result<Items, AllocError>
+        ensures { IfOk result (λ items. items ≡ replicate count types.Top) }
+    {
+        let mut items = Vec::new(alloc);
+        items.resize(count, VerificationTypeOf::Top)?;
+        Ok(Items { items, end: 0 })
+    }
+
+    /// Makes each top, where those from a place on are.
+    pub(crate) fn make_tops_below(&mut self, used: usize)
+        requires { AreTops used self.old }
+        ensures { self.new ≡ replicate (length self.old) types.Top }
+    {
+        make_tops(&mut self.items, used);
+        self.end = 0;
+    }
+
+    /// Takes all away.
+    pub(crate) fn clear(&mut self)
+        ensures { self.new ≡ [] }
+    {
+        self.items.clear();
+        self.end = 0;
+    }
+
+    #[inline(always)]
+    pub(crate) fn len(&self) -> usize
+        ensures { result ≡ length self.now }
+    {
+        self.items.len()
+    }
+
+    /// The type at a place.
+    #[inline(always)]
+    pub(crate) fn get(&self, place: usize) -> Option<Item>
+        ensures { result ≡ slice_get self.now place }
+    {
+        self.items.get(place).copied()
+    }
+
+    /// Puts a type behind the others; nothing has changed where there is no memory for it.
+    #[inline(always)]
+    pub(crate) fn push(&mut self, item: Item) -> Result<(), AllocError>
+        ensures ok { OnOk result (self.new ≡ self.old ++ item ∷ []) }
+        ensures refused { OnErr result (self.new ≡ self.old) }
+    {
+        self.items.push(item)?;
+        self.end = raised(self.end, item);
+        Ok(())
+    }
+
+    /// Takes the last one.
+    #[inline(always)]
+    pub(crate) fn pop(&mut self) -> Option<Item>
+        ensures { MatchOption result ((self.new ≡ self.old) × (self.old ≡ [])) (λ item. self.old ≡ self.new ++ item ∷ []) }
+    {
+        self.items.pop()
+    }
+
+    /// Turns them over.
+    pub(crate) fn turn(&mut self)
+        ensures { self.new ≡ reverse self.old }
+    {
+        self.items.reverse();
+    }
+
+    /// Stores an item at a place, a long there and at the next, if there are as many.
+    #[inline]
+    pub(crate) fn store(&mut self, index: usize, item: Item) -> bool
+        ensures stored { StoresAny result (words_of_item item) index self.old self.new }
+        ensures same { length self.new ≡ length self.old }
+        ensures tops { (used : ℕ) → index < used → AreTops used self.old → AreTops used self.new }
+    {
+        self.end = raised(self.end, item);
+        store(&mut self.items, index, item)
+    }
+
+    /// Puts a type in the place of each copy of an object.
+    pub(crate) fn replace(&mut self, object: Item, by: Item)
+        ensures { self.new ≡ map (swapped object by) self.old }
+    {
+        if is_past(self.end, object) {
+            return;
+        }
+        self.end = raised(self.end, by);
+        replace_all(&mut self.items, object, by);
+    }
+
+    /// Whether an object is among them.
+    pub(crate) fn has(&self, object: Item) -> bool
+        ensures { result ≡ list_any (same_object object) self.now }
+    {
+        !is_past(self.end, object) && has_object(&self.items, object)
+    }
+}

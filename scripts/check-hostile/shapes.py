@@ -1,0 +1,495 @@
+"""Writes lists of class files that a stranger could send to cost time or memory: a folder for each shape, with a class Main.
+
+Use: shapes.py FOLDER SCALE [NAME..]
+
+At scale 1 each shape is as large as the limits of class files, or some 4 MB, let it be; at 0.1 its counts are a tenth.
+"""
+import os
+import struct
+import sys
+
+
+def u1(value):
+    return struct.pack(">B", value)
+
+
+def u2(value):
+    return struct.pack(">H", value)
+
+
+def u4(value):
+    return struct.pack(">I", value)
+
+
+class ClassFile:
+    """A class whose constants are added as they are named."""
+
+    def __init__(self, name, above="java/lang/Object", flags=0x21):
+        self.name = name
+        self.above = above
+        self.flags = flags
+        self.constants = []
+        self.numbers = {}
+        self.interfaces = []
+        self.fields = []
+        self.methods = []
+
+    def constant(self, key, spelled):
+        if key not in self.numbers:
+            self.constants.append(spelled)
+            self.numbers[key] = len(self.constants)
+        return self.numbers[key]
+
+    def text(self, text):
+        spelled = text.encode()
+        return self.constant(("text", text), u1(1) + u2(len(spelled)) + spelled)
+
+    def named(self, name):
+        index = self.text(name)
+        return self.constant(("class", name), u1(7) + u2(index))
+
+    def member(self, name, descriptor):
+        both = u2(self.text(name)) + u2(self.text(descriptor))
+        return self.constant(("member", name, descriptor), u1(12) + both)
+
+    def called(self, owner, name, descriptor, tag=10, copy=0):
+        both = u2(self.named(owner)) + u2(self.member(name, descriptor))
+        return self.constant((tag, owner, name, descriptor, copy), u1(tag) + both)
+
+    def field(self, flags, name, descriptor):
+        self.fields.append(u2(flags) + u2(self.text(name)) + u2(self.text(descriptor)) + u2(0))
+
+    def declare(self, flags, name, descriptor):
+        """A method without code: abstract."""
+        self.methods.append(u2(flags) + u2(self.text(name)) + u2(self.text(descriptor)) + u2(0))
+
+    def method(self, flags, name, descriptor, max_stack, max_locals, code, handlers=b"", frames=None):
+        attributes = b""
+        if frames is not None:
+            contents = u2(frames[0]) + frames[1]
+            attributes = u2(self.text("StackMapTable")) + u4(len(contents)) + contents
+        body = u2(max_stack) + u2(max_locals) + u4(len(code)) + code
+        body += u2(len(handlers) // 8) + handlers
+        body += u2(0 if frames is None else 1) + attributes
+        head = u2(flags) + u2(self.text(name)) + u2(self.text(descriptor)) + u2(1)
+        self.methods.append(head + u2(self.text("Code")) + u4(len(body)) + body)
+
+    def main(self):
+        self.method(9, "main", "([Ljava/lang/String;)V", 0, 1, bytes([177]))
+
+    def write(self, folder):
+        this, above = self.named(self.name), self.named(self.above)
+        listed = b"".join(u2(self.named(name)) for name in self.interfaces)
+        spelled = u4(0xCAFEBABE) + u2(0) + u2(52) + u2(len(self.constants) + 1)
+        spelled += b"".join(self.constants) + u2(self.flags) + u2(this) + u2(above)
+        spelled += u2(len(self.interfaces)) + listed
+        spelled += u2(len(self.fields)) + b"".join(self.fields)
+        spelled += u2(len(self.methods)) + b"".join(self.methods) + u2(0)
+        assert len(self.constants) < 65535, len(self.constants)
+        path = f"{folder}/{self.name}.class"
+        if len(os.path.basename(path)) > 200:
+            path = f"{folder}/Long{abs(hash(self.name)) % 1000000007}.class"
+        os.makedirs(os.path.dirname(path), exist_ok=True)
+        with open(path, "wb") as file:
+            file.write(spelled)
+
+
+INT = u1(1)
+
+
+def full(delta, local_items, stack):
+    return u1(255) + u2(delta) + u2(len(local_items)) + b"".join(local_items) + u2(len(stack)) + b"".join(stack)
+
+
+def long_names(count, length=65535):
+    """Names of that length that differ at their ends."""
+    return ["n" * (length - 6) + f"{k:06d}" for k in range(count)]
+
+
+def descriptors(count):
+    """Descriptors of methods, no two alike."""
+    made = []
+    for k in range(count):
+        made.append("(" + "".join("IJ"[k >> bit & 1] for bit in range(11)) + ")V")
+    return made
+
+
+def chain(folder, count, members=None):
+    """Classes C0, C1, .., each below the one before; members(class, n) gives each what it declares."""
+    for n in range(count):
+        made = ClassFile(f"C{n}", f"C{n - 1}" if n else "java/lang/Object")
+        if members:
+            members(made, n)
+        made.write(folder)
+
+
+def scaled(scale, count):
+    return max(1, int(scale * count))
+
+
+def references(folder, scale, names):
+    count = scaled(scale, 1000)
+    chain(folder, count, lambda made, n: made.field(1, "f", "I"))
+    made = ClassFile("Main", f"C{count - 1}")
+    made.main()
+    made.named("java/lang/Object")
+    given = descriptors(40)
+    for k in range(scaled(scale, 62000)):
+        made.called(f"C{count - 1}", names[k % len(names)], given[k // len(names) % 40], 10, k)
+    made.write(folder)
+
+
+def long_references(folder, scale):
+    references(folder, scale, long_names(50))
+
+
+def short_references(folder, scale):
+    references(folder, scale, [f"m{k}" for k in range(50)])
+
+
+def used_references(folder, scale):
+    """The same short ones, each used by an instruction."""
+    count = scaled(scale, 1000)
+    chain(folder, count, lambda made, n: made.field(1, "f", "I"))
+    made = ClassFile("Main", f"C{count - 1}")
+    made.main()
+    made.named("java/lang/Object")
+    code, methods = b"", 0
+    for k in range(scaled(scale, 62000)):
+        index = made.called(f"C{count - 1}", f"m{k % 50}", "()V", 10, k)
+        code += bytes([42, 182]) + u2(index)
+        if len(code) > 65000 or k == scaled(scale, 62000) - 1:
+            made.method(1, f"u{methods}", "()V", 1, 1, code + bytes([177]))
+            code, methods = b"", methods + 1
+    made.write(folder)
+
+
+def interface_often(folder, scale):
+    """The name of a class that isn't there: HotSpot ends where an interface is listed twice."""
+    made = ClassFile("Main")
+    made.main()
+    made.interfaces = ["i" * 65535] * scaled(scale, 65535)
+    made.write(folder)
+
+
+def long_methods(folder, scale, final=False):
+    """65,535 abstract methods over 50 names of 65,535 bytes."""
+    above = "java/lang/Object"
+    if final:
+        for n in range(4):
+            made = ClassFile(f"C{n}", above, 0x421)
+            made.method(0x11, f"final{n}", "()V", 0, 1, bytes([177]))
+            made.write(folder)
+            above = f"C{n}"
+    made = ClassFile("Main", above, 0x421)
+    names, given = long_names(50), descriptors(1311)
+    made.main()
+    left = scaled(scale, 65534)
+    for name in names:
+        for descriptor in given:
+            if left:
+                made.declare(0x401, name, descriptor)
+                left -= 1
+    made.write(folder)
+
+
+def long_methods_final(folder, scale):
+    long_methods(folder, scale, True)
+
+
+def long_fields(folder, scale):
+    made = ClassFile("Main")
+    made.main()
+    left = scaled(scale, 65535)
+    given = ["[" * d + b for d in range(255) for b in "IJBCSZ"]
+    for name in long_names(50):
+        for descriptor in given[:1311]:
+            if left:
+                made.field(1, name, descriptor)
+                left -= 1
+    made.write(folder)
+
+
+def methods_below_final(folder, scale):
+    """65,534 methods below 1,000 classes, the highest of which has a final method."""
+    count = scaled(scale, 1000)
+
+    def members(made, n):
+        if n == 0:
+            made.method(0x11, "last", "()V", 0, 1, bytes([177]))
+        else:
+            made.method(1, "other", "()V", 0, 1, bytes([177]))
+
+    chain(folder, count, members)
+    made = ClassFile("Main", f"C{count - 1}", 0x421)
+    made.main()
+    given = descriptors(1024)
+    left = scaled(scale, 65534)
+    for n in range(64):
+        for descriptor in given:
+            if left:
+                made.declare(0x401, f"m{n}", descriptor)
+                left -= 1
+    made.write(folder)
+
+
+def classes_below_final(folder, scale):
+    """1,023 classes of 256 methods each in a chain below one with a final method."""
+    count = scaled(scale, 1024)
+    given = descriptors(256)
+    for n in range(count):
+        made = ClassFile(f"C{n}" if n < count - 1 else "Main", f"C{n - 1}" if n else "java/lang/Object")
+        if n == 0:
+            made.method(0x11, "last", "()V", 0, 1, bytes([177]))
+        else:
+            for k in range(256):
+                made.method(1, f"m{n}", given[k], 0, 24, bytes([177]))
+        if n == count - 1:
+            made.main()
+        made.write(folder)
+
+
+def blank_frames(folder, scale):
+    """Frames at each nop, over 65,535 local variables; in 31 methods 4 MB."""
+    made = ClassFile("Main")
+    made.main()
+    code = bytes(65534) + bytes([177])
+    spelled = u1(0) * 65534
+    for n in range(scaled(scale, 31)):
+        made.method(9, f"m{n}", "()V", 0, 65535, code, b"", (65534, spelled))
+    made.write(folder)
+
+
+def int_frames(folder, scale):
+    """A frame of 65,535 ints, then the same 21,000 times, behind a branch to each."""
+    made = ClassFile("Main")
+    made.main()
+    count = scaled(scale, 21000)
+    # The frame of ints stands where nothing falls in, behind a return.
+    code = bytes([177]) + bytes([0]) + bytes([167, 0, 3]) * count + bytes([177])
+    spelled = full(1, [INT] * 65535, []) + u1(3) + u1(2) * (count - 1)
+    made.method(9, "ints", "()V", 0, 65535, code, b"", (count + 1, spelled))
+    made.write(folder)
+
+
+def int_stores(folder, scale):
+    """One handler over 32,000 stores, with 65,535 ints."""
+    made = ClassFile("Main")
+    made.main()
+    count = scaled(scale, 32000)
+    code = bytes([177]) + bytes([3, 59]) * count + bytes([177, 191])
+    thrown = u1(7) + u2(made.named("java/lang/Throwable"))
+    spelled = full(1, [INT] * 65535, []) + full(2 * count, [INT] * 65535, [thrown])
+    handlers = u2(1) + u2(1 + 2 * count) + u2(2 * count + 2) + u2(0)
+    made.method(9, "ints", "()V", 1, 65535, code, handlers, (2, spelled))
+    made.write(folder)
+
+
+def int_switch(folder, scale):
+    """A tableswitch of 15,000 targets to a frame of 65,535 ints."""
+    made = ClassFile("Main")
+    made.main()
+    targets = scaled(scale, 15000)
+    # return; (frame) iconst_0; tableswitch at 2 with one byte of padding; return
+    end = 16 + 4 * targets
+    code = bytes([177, 3, 170, 0]) + u4(end - 2) + u4(0) + u4(targets - 1) + u4(end - 2) * targets + bytes([177])
+    spelled = full(1, [INT] * 65535, []) + full(end - 2, [INT] * 65535, [])
+    made.method(9, "ints", "()V", 1, 65535, code, b"", (2, spelled))
+    made.write(folder)
+
+
+def handlers_at_front(folder, scale):
+    """65,535 handlers over the first of 65,530 nops."""
+    made = ClassFile("Main")
+    made.main()
+    length = 65532
+    code = bytes(length - 2) + bytes([177, 191])
+    table = (u2(0) + u2(1) + u2(length - 1) + u2(0)) * scaled(scale, 65535)
+    thrown = u1(7) + u2(made.named("java/lang/Throwable"))
+    made.method(9, "covered", "()V", 1, 1, code, table, (1, full(length - 1, [], [thrown])))
+    made.write(folder)
+
+
+def handlers_over_all(folder, scale):
+    """65,535 handlers over 65,530 nops."""
+    made = ClassFile("Main")
+    made.main()
+    length = 65532
+    code = bytes(length - 2) + bytes([177, 191])
+    table = (u2(0) + u2(length - 2) + u2(length - 1) + u2(0)) * scaled(scale, 65535)
+    thrown = u1(7) + u2(made.named("java/lang/Throwable"))
+    made.method(9, "covered", "()V", 1, 1, code, table, (1, full(length - 1, [], [thrown])))
+    made.write(folder)
+
+
+def new_popped(folder, scale):
+    """`new` and `pop` 16,000 times over 65,535 local variables, in 63 methods."""
+    made = ClassFile("Main")
+    made.main()
+    code = (bytes([187]) + u2(made.named("Main")) + bytes([87])) * 16000 + bytes([177])
+    for n in range(scaled(scale, 63)):
+        made.method(9, f"m{n}", "()V", 1, 65535, code)
+    made.write(folder)
+
+
+def new_left(folder, scale):
+    """21,000 times `new`, left on the stack, in 63 methods."""
+    made = ClassFile("Main")
+    made.main()
+    code = (bytes([187]) + u2(made.named("Main"))) * 21000 + bytes([177])
+    for n in range(scaled(scale, 63)):
+        made.method(9, f"m{n}", "()V", 65535, 0, code)
+    made.write(folder)
+
+
+def new_made(folder, scale):
+    """`new` and `<init>` 9,000 times over 65,535 local variables, in 63 methods."""
+    made = ClassFile("Main")
+    made.main()
+    made.method(1, "<init>", "()V", 1, 1, bytes([42, 183]) + u2(made.called("java/lang/Object", "<init>", "()V")) + bytes([177]))
+    one = bytes([187]) + u2(made.named("Main")) + bytes([183]) + u2(made.called("Main", "<init>", "()V"))
+    for n in range(scaled(scale, 63)):
+        made.method(9, f"m{n}", "()V", 1, 65535, one * 10000 + bytes([177]))
+    made.write(folder)
+
+
+def no_package(folder, scale):
+    """References to a protected field of a class whose name has 65,535 bytes and no package."""
+    name = "p" * 65535
+    above = ClassFile(name)
+    above.field(4, "f", "I")
+    above.write(folder)
+    made = ClassFile("q/" + "Q" * 65533, name)
+    made.main()
+    for k in range(scaled(scale, 62000)):
+        made.called(name, "f", "I", 9, k)
+    made.write(folder)
+    made = ClassFile("Main")
+    made.main()
+    made.write(folder)
+
+
+def interface_entries(folder, scale):
+    """256 files of 65,535 interface entries each."""
+    for n in range(scaled(scale, 256)):
+        made = ClassFile(f"C{n}")
+        made.interfaces = ["I0"] * 65535
+        made.write(folder)
+    made = ClassFile("Main")
+    made.main()
+    made.write(folder)
+
+
+def handlers_apart(folder, scale):
+    """As many handlers as nops, each over one."""
+    made = ClassFile("Main")
+    made.main()
+    length = 65532
+    code = bytes(length - 2) + bytes([177, 191])
+    table = b"".join(u2(k) + u2(k + 1) + u2(length - 1) + u2(0) for k in range(scaled(scale, length - 2)))
+    thrown = u1(7) + u2(made.named("java/lang/Throwable"))
+    made.method(9, "covered", "()V", 1, 1, code, table, (1, full(length - 1, [], [thrown])))
+    made.write(folder)
+
+
+def handlers_and_stores(folder, scale):
+    """65,535 handlers over 3,276 stores."""
+    made = ClassFile("Main")
+    made.main()
+    code = bytes([3, 60]) * scaled(scale, 3276)
+    length = len(code) + 2
+    code += bytes([177, 191])
+    table = (u2(0) + u2(length - 2) + u2(length - 1) + u2(0)) * scaled(scale, 65535)
+    thrown = u1(7) + u2(made.named("java/lang/Throwable"))
+    made.method(9, "covered", "()V", 1, 2, code, table, (1, full(length - 1, [], [thrown])))
+    made.write(folder)
+
+
+def handlers_and_frames(folder, scale):
+    """65,535 handlers over the first of 65,530 nops, each with a frame."""
+    made = ClassFile("Main")
+    made.main()
+    length = 65532
+    code = bytes(length - 2) + bytes([177, 191])
+    table = (u2(0) + u2(1) + u2(length - 1) + u2(0)) * scaled(scale, 65535)
+    thrown = u1(7) + u2(made.named("java/lang/Throwable"))
+    spelled = u1(1) + u1(0) * (length - 4) + full(1, [], [thrown])
+    made.method(9, "covered", "()V", 1, 1, code, table, (length - 2, spelled))
+    made.write(folder)
+
+
+def int_frames_and_stores(folder, scale):
+    """A frame of 65,535 ints, then the same 13,000 times, with a store before each."""
+    made = ClassFile("Main")
+    made.main()
+    count = scaled(scale, 13000)
+    code = bytes([177]) + bytes([0]) + bytes([3, 59, 167, 0, 3]) * count + bytes([177])
+    spelled = full(1, [INT] * 65535, []) + u1(5) + u1(4) * (count - 1)
+    made.method(9, "ints", "()V", 1, 65535, code, b"", (count + 1, spelled))
+    made.write(folder)
+
+
+def supers_chain(folder, scale):
+    count = scaled(scale, 1023)
+    chain(folder, count)
+    made = ClassFile("Main", f"C{count - 1}")
+    made.main()
+    made.write(folder)
+
+
+def interfaces(folder, count, above):
+    """Interfaces, each below those that above gives by its number."""
+    for n in range(count):
+        made = ClassFile(f"I{n}", "java/lang/Object", 0x601)
+        made.interfaces = [f"I{k}" for k in above(n)]
+        made.write(folder)
+    made = ClassFile("Main")
+    made.interfaces = [f"I{count - 1}"]
+    made.main()
+    made.write(folder)
+
+
+def supers_diamond(folder, scale):
+    interfaces(folder, scaled(scale, 998), lambda n: [k for k in (n - 1, n - 2) if k >= 0])
+
+
+def supers_dense(folder, scale):
+    interfaces(folder, scaled(scale, 512), lambda n: range(n))
+
+
+def many_finals(folder, scale):
+    """A class of 65,534 methods below one of as many finals, of other names."""
+    given = descriptors(1024)
+    left = scaled(scale, 65534)
+    above = ClassFile("C0", "java/lang/Object", 0x421)
+    made = ClassFile("Main", "C0", 0x421)
+    made.main()
+    for n in range(64):
+        for descriptor in given:
+            if left:
+                above.method(0x11, f"f{n}", descriptor, 0, 24, bytes([177]))
+                made.declare(0x401, f"m{n}", descriptor)
+                left -= 1
+    above.write(folder)
+    made.write(folder)
+
+
+SHAPES = [
+    long_references, short_references, used_references, interface_often, long_methods, long_methods_final, long_fields, methods_below_final,
+    classes_below_final, blank_frames, int_frames, int_frames_and_stores, int_stores, int_switch, handlers_at_front, handlers_and_frames,
+    handlers_over_all, handlers_apart, handlers_and_stores, new_popped, new_left, new_made, no_package, interface_entries, supers_chain,
+    supers_diamond, supers_dense, many_finals,
+]
+
+
+def write(folder, scale, names):
+    for shape in SHAPES:
+        if names and shape.__name__ not in names:
+            continue
+        place = os.path.join(folder, shape.__name__)
+        os.makedirs(place, exist_ok=True)
+        shape(place, scale)
+
+
+if __name__ == "__main__":
+    write(sys.argv[1], float(sys.argv[2]), sys.argv[3:])
