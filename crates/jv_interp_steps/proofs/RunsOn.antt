@@ -1,11 +1,12 @@
 -- One step more.
-use Rattle.std.proofs.Common.{◌≡◌, ℕ, suc, zero, List, Ok, Err, refl, subst, ◌∙◌, IsOk}
+use Rattle.std.proofs.Common.{◌≡◌, ℕ, suc, zero, List, Ok, Err, refl, ap, subst, ◌∙◌, IsOk}
 use Rattle.jv_meaning_machine.specs.Faults.{OrFault}
 use Rattle.jv_meaning_machine.specs.State.{Program, State}
 use Rattle.jv_meaning_machine.specs.Step.{step, after_steps}
 use Rattle.jv_interp_words.specs.declared.records.FrameRecord.{FrameRecord}
 use Rattle.jv_interp_words.specs.declared.registers.Registers.{Registers}
 use Rattle.jv_interp_words.proofs.Gave.{bound_gave}
+use Rattle.jv_interp_going.specs.Going.{StaysIn}
 use Rattle.jv_interp_steps.specs.Stepping.{StepsFrom, CanStep, Stepped, StepsTo}
 use Rattle.jv_interp_steps.specs.Running.{StandsHere, CanRun, RunsTo}
 
@@ -15,12 +16,25 @@ same_state a b o e f = cc
 pub ran_none : (at : Registers) (words : List ℕ) → RunsTo zero at words at words
 ran_none at words = λ program s t addresses waiting h e.
     let same : s ≡ t = same_state s t (Ok s) refl e in
-    subst (λ (u : State). Stepped program s u addresses waiting at words) same
-    (record { running = h.running; same_memory = refl; same_control = refl })
+    subst (λ (u : State). Stepped program s u addresses waiting at at words) same
+    (record {
+      running = h.running;
+      same_memory = refl;
+      same_control = refl;
+      stays = record { same = refl; top_within = h.running.top_within };
+    })
+
+stays_on :
+    (start now after : Registers) (words words_after : List ℕ) → StaysIn start now words → StaysIn now after words_after
+    → StaysIn start after words_after
+stays_on start now after words words_after h k = record {
+  same = k.same ∙ ap (λ (a : Registers). record a { pc = after.pc; top = after.top }) h.same;
+  top_within = k.top_within;
+}
 
 steps_on :
     (program : Program) (s m t : State) (addresses : List ℕ) (waiting : List FrameRecord) (start now : Registers) (before words : List ℕ)
-    → StandsHere program s addresses waiting start before → Stepped program s m addresses waiting now words → step program m ≡ Ok t
+    → StandsHere program s addresses waiting start before → Stepped program s m addresses waiting start now words → step program m ≡ Ok t
     → StepsFrom program m t addresses waiting now words
 steps_on program s m t addresses waiting start now before words h k e =
     record { running = k.running; apart = h.apart; finds = h.finds; goes = e }
@@ -37,6 +51,7 @@ ran_more n start now after before words words_after ran took = λ program s t ad
       running = last.running;
       same_memory = last.same_memory ∙ so_far.same_memory;
       same_control = last.same_control ∙ so_far.same_control;
+      stays = stays_on start now after words words_after so_far.stays last.stays;
     }
 
 ok_gave : (o : OrFault State) → IsOk o → (t : State) × (o ≡ Ok t)

@@ -242,7 +242,7 @@ went_to insn next at after words words_after is next_is goes stays size = λ pro
       locals_count = on.count ∙ r.current.locals_count;
       stack_fits = to.0;
     } in
-    subst (λ (t : State). Stepped program s t addresses waiting after words_after) to.1
+    subst (λ (t : State). Stepped program s t addresses waiting at after words_after) to.1
     (record {
       running = record {
         frame = frame;
@@ -257,4 +257,5 @@ went_to insn next at after words words_after is next_is goes stays size = λ pro
       };
       same_memory = refl;
       same_control = refl;
+      stays = stays;
     })

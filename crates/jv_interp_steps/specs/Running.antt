@@ -28,4 +28,4 @@ pub record CanRun (at : Registers) (words : List ℕ) : Type 0 where
 abbrev pub RunsTo : ℕ → Registers → List ℕ → Registers → List ℕ → Type 0
 RunsTo n at words at_after words_after =
     (program : Program) (s t : State) (addresses : List ℕ) (waiting : List FrameRecord) → StandsHere program s addresses waiting at words
-    → after_steps program n s ≡ Ok t → Stepped program s t addresses waiting at_after words_after
+    → after_steps program n s ≡ Ok t → Stepped program s t addresses waiting at at_after words_after

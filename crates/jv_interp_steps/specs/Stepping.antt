@@ -8,6 +8,7 @@ use Rattle.jv_interp_words.specs.declared.records.FrameRecord.{FrameRecord}
 use Rattle.jv_interp_words.specs.declared.registers.Registers.{Registers}
 use Rattle.jv_interp_words.specs.ValuesInWords.{AreAddresses}
 use Rattle.jv_interp_words.specs.StatesInWords.{RunningStands}
+use Rattle.jv_interp_going.specs.Going.{StaysIn}
 
 -- The machine takes a step from a state whose frames stand here.
 pub record StepsFrom (program : Program) (s t : State) (addresses : List ℕ) (waiting : List FrameRecord) (at : Registers) (words : List ℕ) : Type 0 where
@@ -25,17 +26,20 @@ pub record CanStep (at : Registers) (words : List ℕ) : Type 0 where
   pub waiting : List FrameRecord
   pub from : StepsFrom program s t addresses waiting at words
 
--- The frames of the next state stand here, under the same addresses, above the same frames that wait; nothing else has changed.
-pub record Stepped (program : Program) (s t : State) (addresses : List ℕ) (waiting : List FrameRecord) (at : Registers) (words : List ℕ) : Type 0 where
-  pub running : RunningStands program addresses t.frames at waiting words t.control.words
+-- The frames of the next state stand here, under the same addresses, above the same records of frames that wait; its memory and control
+-- are those before. Of the registers, only the offset and the number of words in use may have changed: the code, the frame's base, the
+-- constants' first and the method's number are those before. Words beyond those in use may be any.
+pub record Stepped (program : Program) (s t : State) (addresses : List ℕ) (waiting : List FrameRecord) (at at_after : Registers) (words_after : List ℕ) : Type 0 where
+  pub running : RunningStands program addresses t.frames at_after waiting words_after t.control.words
   pub same_memory : t.memory ≡ s.memory
   pub same_control : t.control ≡ s.control
+  pub stays : StaysIn at at_after words_after
 
 -- For every such state a step was taken.
 abbrev pub StepsTo : Registers → List ℕ → Registers → List ℕ → Type 0
 StepsTo at words at_after words_after =
     (program : Program) (s t : State) (addresses : List ℕ) (waiting : List FrameRecord)
-    → StepsFrom program s t addresses waiting at words → Stepped program s t addresses waiting at_after words_after
+    → StepsFrom program s t addresses waiting at words → Stepped program s t addresses waiting at at_after words_after
 
 -- A step was taken, or nothing was done.
 abbrev pub TookStep : Bool → Registers → List ℕ → Registers → List ℕ → Type 0
