@@ -1,4 +1,4 @@
--- Instructions that work on the words of their frame alone, and go on in it (JVMS 2.11, 6.5): what the machine does where they are
+-- Instructions that work on the words of their frame alone, and go on in it, or throw (JVMS 2.11, 6.5): what the machine does where they are
 -- executed with no fault stands afterwards in the words and the registers.
 use Rattle.std.specs.Prelude.{◌≡◌, ℕ, ◌+◌, ◌≤◌, ⊤, List, Ok, length}
 use Rattle.jv_code.specs.Insns.{Instruction}

@@ -1,6 +1,8 @@
 //! Fields of objects.
 
-ghost use Rattle.std.specs.Prelude.{◌≡◌, ◌<◌};
+ghost use Rattle.std.specs.Prelude.{◌≡◌, ◌-◌, ◌<◌, slice_index};
+ghost use Rattle.jv_interp_going.specs.Going.{StaysIn};
+ghost use Rattle.jv_interp_memory.specs.Executing.{KeepsOthers};
 ghost use Rattle.jv_interp_objects.specs.declared.narrowing.Narrowing.TheVariants.{Whole};
 ghost use Rattle.jv_interp_members.specs.Fields.{CanGetField, GetsField, CanPutField, PutsField};
 
@@ -22,7 +24,8 @@ pub fn get_field<'l, S: Store>(
 ) -> Effect
     requires few { word < 1073741824 }
     requires can { CanGetField word 1 next at.old words.old held.now (S.content store.now) }
-    ensures { GetsField word 1 next at.old words.old held.now (S.content store.now) at.new words.new result }
+    ensures gets { GetsField word 1 next at.old words.old held.now (S.content store.now) at.new words.new result }
+    ensures stays { StaysIn at.old at.new words.new }
 {
     let _held = held;
     let reference = words[at.top - 1];
@@ -48,7 +51,8 @@ pub fn get_long_field<'l, S: Store>(
 ) -> Effect
     requires few { word < 1073741824 }
     requires can { CanGetField word 2 next at.old words.old held.now (S.content store.now) }
-    ensures { GetsField word 2 next at.old words.old held.now (S.content store.now) at.new words.new result }
+    ensures gets { GetsField word 2 next at.old words.old held.now (S.content store.now) at.new words.new result }
+    ensures stays { StaysIn at.old at.new words.new }
 {
     let _held = held;
     let reference = words[at.top - 1];
@@ -79,6 +83,8 @@ pub fn put_field<'l, S: Store>(
     requires few { word < 1073741824 }
     requires can { CanPutField word 1 how next at.old words.now held.now (S.content store.old) }
     ensures puts { PutsField word 1 how next words.now held.now at.old (S.content store.old) at.new (S.content store.new) result }
+    ensures stays { StaysIn at.old at.new words.now }
+    ensures others { KeepsOthers (slice_index words.now (at.old.top - 2)) (S.content store.old) (S.content store.new) }
     ensures room { S.room_left store.new ≡ S.room_left store.old }
 {
     let _held = held;
@@ -108,6 +114,8 @@ pub fn put_long_field<'l, S: Store>(
     requires few { word < 1073741824 }
     requires can { CanPutField word 2 Whole next at.old words.now held.now (S.content store.old) }
     ensures puts { PutsField word 2 Whole next words.now held.now at.old (S.content store.old) at.new (S.content store.new) result }
+    ensures stays { StaysIn at.old at.new words.now }
+    ensures others { KeepsOthers (slice_index words.now (at.old.top - 3)) (S.content store.old) (S.content store.new) }
     ensures room { S.room_left store.new ≡ S.room_left store.old }
 {
     let _held = held;

@@ -1,6 +1,7 @@
 //! Static fields, of classes that are initialized or being initialized (JVMS 5.5).
 
 ghost use Rattle.std.specs.Prelude.{◌≡◌, ◌<◌, length};
+ghost use Rattle.jv_interp_going.specs.Going.{StaysIn};
 ghost use Rattle.jv_interp_members.specs.Statics.{CanGetStatic, GetsStatic, CanPutStatic, PutsStatic};
 
 use jv_interp_memory::{Effect, Held};
@@ -17,7 +18,8 @@ pub fn get_static<'l>(
     word: usize,
 ) -> Effect
     requires { CanGetStatic word 1 next at.old words.old held.now }
-    ensures { GetsStatic word 1 next at.old words.old held.now at.new words.new result }
+    ensures gets { GetsStatic word 1 next at.old words.old held.now at.new words.new result }
+    ensures stays { StaysIn at.old at.new words.new }
 {
     words[at.top] = held.statics[word];
     at.pc = next;
@@ -35,7 +37,8 @@ pub fn get_long_static<'l>(
     word: usize,
 ) -> Effect
     requires { CanGetStatic word 2 next at.old words.old held.now }
-    ensures { GetsStatic word 2 next at.old words.old held.now at.new words.new result }
+    ensures gets { GetsStatic word 2 next at.old words.old held.now at.new words.new result }
+    ensures stays { StaysIn at.old at.new words.new }
 {
     words[at.top] = held.statics[word];
     words[at.top + 1] = held.statics[word + 1];
@@ -56,7 +59,8 @@ pub fn put_static<'l>(
     how: Narrowing,
 ) -> Effect
     requires { CanPutStatic word 1 how next at.old words.now held.old }
-    ensures { PutsStatic word 1 how next words.now at.old held.old at.new held.new result }
+    ensures puts { PutsStatic word 1 how next words.now at.old held.old at.new held.new result }
+    ensures stays { StaysIn at.old at.new words.now }
 {
     held.statics[word] = narrowed(how, words[at.top - 1]);
     at.pc = next;
@@ -74,7 +78,8 @@ pub fn put_long_static<'l>(
     word: usize,
 ) -> Effect
     requires { CanPutStatic word 2 Narrowing.Whole next at.old words.now held.old }
-    ensures { PutsStatic word 2 Narrowing.Whole next words.now at.old held.old at.new held.new result }
+    ensures puts { PutsStatic word 2 Narrowing.Whole next words.now at.old held.old at.new held.new result }
+    ensures stays { StaysIn at.old at.new words.now }
 {
     held.statics[word] = words[at.top - 2];
     held.statics[word + 1] = words[at.top - 1];

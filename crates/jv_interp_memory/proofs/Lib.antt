@@ -1,2 +1,3 @@
 pub mod Popped
 pub mod Numbered
+pub mod Raised

@@ -1,6 +1,7 @@
 -- What is executed on words, on what is held and on the store (JVMS 2.11, 6.5): where the machine meets no fault, what it does stands
 -- afterwards.
 use Rattle.std.specs.Prelude.{◌≡◌, ℕ, ◌+◌, ◌≤◌, ⊤, List, ◌++◌, Ok, length}
+use Rattle.jv_heap.specs.Content.{words_at, greatest}
 use Rattle.jv_meaning_machine.specs.Values.{words_of_values}
 use Rattle.jv_meaning_machine.specs.State.{Memory}
 use Rattle.jv_meaning_machine.specs.Effects.{Effect as EffectOfNames, Context, Outcome}
@@ -42,3 +43,10 @@ pub record Did (texts : List (List ℕ)) (here : Place) (effect : Effect) (c : C
   pub effect_stands :
       EffectStands c.program.world (addresses ++ more) c.frame done.1 effect here.at (in_use here.words here.at.top) below
   pub memory : MemoryStands c.program.world texts done.0 (addresses ++ more) here.held here.blocks
+
+-- ---- of other guests
+
+-- Only the block at an address has other words now, and no block was made or taken back: so those of other guests stand as they did.
+pub record KeepsOthers (address : ℕ) (before after : Blocks) : Type 0 where
+  pub others : (other : ℕ) → (other ≡ address → ⊥) → words_at after other ≡ words_at before other
+  pub same_greatest : greatest after ≡ greatest before

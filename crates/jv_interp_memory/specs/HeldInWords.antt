@@ -18,7 +18,8 @@ own_static_fields l = map (field_by l) (filter is_static_field l.class.fields)
 abbrev pub static_fields : World → List DeclaredField
 static_fields world = flat_map own_static_fields world
 
--- ---- string literals: the object of each text, by the text's number, has its address there, and no other text has one
+-- ---- string literals: the address of each text's object, by the text's number, and 0 where the text has none yet. Texts differ, and
+-- each that has an object is among them.
 
 abbrev pub IsLiteral : List ℕ → Option ℕ → ℕ → Type 0
 IsLiteral addresses None address = address ≡ 0
@@ -29,6 +30,8 @@ pub record AreLiterals (texts : List (List ℕ)) (addresses : List ℕ) (literal
   pub each :
       (number : ℕ) (text : List ℕ) (address : ℕ) → slice_get texts number ≡ Some text → slice_get kept number ≡ Some address
       → IsLiteral addresses (literal_in text literals) address
+  pub differ : (number other : ℕ) (text : List ℕ) → slice_get texts number ≡ Some text → slice_get texts other ≡ Some text → other ≡ number
+  pub among : (text : List ℕ) (object : ℕ) → literal_in text literals ≡ Some object → (number : ℕ) × (slice_get texts number ≡ Some text)
 
 -- ---- all of it
 

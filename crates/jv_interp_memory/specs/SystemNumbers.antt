@@ -1,4 +1,5 @@
--- The numbers of the system's classes that the machine names (own): they stand first in the world of each guest.
+-- The numbers of the system's classes whose objects the machine makes or throws, and of java/lang/Error (own): they stand first in
+-- the world of each guest.
 use Rattle.std.specs.Prelude.{◌≡◌, ℕ, ◌++◌, List, codes}
 use Rattle.jv_meaning_world.specs.FileContent.{FileContent}
 use Rattle.jv_meaning_world.specs.System.Classes.{system_classes}

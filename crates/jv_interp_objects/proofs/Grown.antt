@@ -53,6 +53,7 @@ module _ (addresses more : List ℕ) where
   object_grown world (ArrayWith components values) words h = record {
     word = h.word;
     type = h.type;
+    few = h.few;
     inside = h.inside;
     words_are = h.words_are;
     stand = components_grown components values h.inside h.stand;

@@ -80,14 +80,17 @@ instance_joined world objects addresses before after constructed l number addres
 pub array_joined :
     (world : World) (objects : List Object) (addresses : List ℕ) (before after : Blocks) (components : FieldTypeOf (List ℕ))
     (word count address : ℕ) → ObjectsStand world objects addresses before → IsArrayWord world components word
-    → Joins (word ∷ count ∷ replicate (count * width (value_type components)) 0) before after address
+    → count < 2147483648 → Joins (word ∷ count ∷ replicate (count * width (value_type components)) 0) before after address
     → ObjectsStand world (objects ++ new_array components count ∷ []) (addresses ++ address ∷ []) after
-array_joined world objects addresses before after components word count address h type new =
+array_joined world objects addresses before after components word count address h type few new =
     object_joined world objects addresses before after (new_array components count) address
     (word ∷ count ∷ replicate (count * width (value_type components)) 0) h new.above new.joins
     (record {
       word = word;
       type = type;
+      few =
+          let size = length-replicate {A = Value} count (default_of_type components) in
+          omega (arith, few, size);
       inside = replicate (count * width (value_type components)) 0;
       words_are =
           ap (λ (n : ℕ). word ∷ n ∷ replicate (count * width (value_type components)) 0)

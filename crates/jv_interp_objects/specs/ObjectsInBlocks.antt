@@ -107,6 +107,7 @@ pub record InstanceStands (world : World) (addresses : List ℕ) (instance : Ins
 pub record ArrayStands (world : World) (addresses : List ℕ) (components : FieldTypeOf (List ℕ)) (values : List Value) (words : List ℕ) : Type 0 where
   pub word : ℕ
   pub type : IsArrayWord world components word
+  pub few : length values < 2147483648
   pub inside : List ℕ
   pub words_are : words ≡ word ∷ length values ∷ inside
   pub stand : AreComponents addresses components values inside

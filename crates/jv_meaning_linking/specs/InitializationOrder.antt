@@ -11,13 +11,13 @@ use Rattle.jv_meaning_world.specs.LookUps.{is_among}
 abbrev pub interfaces_in : World → Class → List Loaded
 interfaces_in world class = filter_map (class_named world) class.interfaces
 
--- An interface behind those that were given: its superinterfaces first, and then it. One that was given is not given again.
+-- An interface behind those that were given: its superinterfaces first, and then it; none twice, where none is above itself
 abbrev pub given_within : World → ℕ → List Loaded → Loaded → List Loaded
 given_within world zero given l = given
 given_within world (suc k) given l =
     if is_among given l then given else fold (given_within world k) given (interfaces_in world l.class) ++ l ∷ []
 
--- those of a class, in the order of the file; ways up are no longer than there are classes
+-- those of a class, in the order of the file; of a class that can be loaded, ways up are no longer than there are classes
 abbrev pub enumerated : World → Class → List Loaded
 enumerated world class = fold (given_within world (length world)) [] (interfaces_in world class)
 

@@ -138,8 +138,8 @@ abbrev pub call_target : Context → Use → MethodDescriptor → MethodTarget �
 call_target c Invokestatic descriptor t = once_initialized c t.declared.by (call_static c descriptor t)
 call_target c how descriptor t = call_instance c how descriptor t
 
--- invokevirtual takes a Methodref and invokeinterface an InterfaceMethodref, of another method than an `<init>` (6.5); invokestatic
--- and invokespecial take either, and below version 52.0 of the class that calls a Methodref alone (4.9.1)
+-- invokevirtual takes a Methodref, invokeinterface an InterfaceMethodref, and neither an `<init>` (6.5); invokestatic and invokespecial
+-- take either, below version 52.0 of the calling class a Methodref alone. That none names a `<clinit>` the verifier alone asks (4.9.1).
 abbrev pub is_constant_for : Class → Use → MethodReference → Bool
 is_constant_for class Invokevirtual reference = is_of_class reference.constant && not (is_init reference.member.name)
 is_constant_for class Invokeinterface reference = not (is_of_class reference.constant) && not (is_init reference.member.name)

@@ -1,11 +1,11 @@
--- What the machine refuses to do, and what verified code is never to ask for (JVMS 4.9.2, 4.10; own), and steps that can end so.
+-- What the machine refuses to do, and what verified code is never to ask for (JVMS 4.9, 4.10; own), and steps that can end so.
 use Rattle.std.specs.Prelude.{Bool, true, false, Option, Some, None, Result, Ok, Err}
 
 pub data Fault : Type 0 where
   -- no instruction starts at the offset, or a jump leads below 0; or an instruction's constant is of another kind: that of
   -- `new` names an array, that of multianewarray a class, or an array of fewer dimensions than there are counts, that of
   -- invokevirtual or invokeinterface an `<init>`, and that of invokestatic or invokespecial, in a class below version 52.0,
-  -- a method of an interface; or a method without code is entered; or something lacks that each well-formed class has: a static
+  -- is an InterfaceMethodref; or a method without code is entered; or something lacks that each well-formed class has: a static
   -- field's value, what a descriptor says, the units of a text, the main method (own)
   OffsetFault : Fault
   -- the stack is below empty, or above max_stack words

@@ -3,8 +3,8 @@ use Rattle.jv_interp_members.specs.Fields.{place}
 use Rattle.jv_interp_members.proofs.Getting.{raises, gets, got_word, block_length}
 use Rattle.jv_interp_members.proofs.fields.get_field.Goals as goal
 
-pub returns-then-reference-eq0 : goal.returns-then-reference-eq0
-returns-then-reference-eq0 g c = λ texts x d addresses done below h.
+pub returns-then-reference-eq0-clause-gets : goal.returns-then-reference-eq0-clause-gets
+returns-then-reference-eq0-clause-gets g c = λ texts x d addresses done below h.
     raises c.args.word 1 c.args.next (place c.args.at.now c.args.words.now c.args.held.now (g.S.Store.content c.args.store.now)) texts x d
     addresses done below h c.if-reference-eq0.true
 
@@ -17,8 +17,8 @@ get-requires g c =
     let width = it.field.width ∙ r.gets.width_is in
     omega (arith, size, width)
 
-pub returns : goal.returns
-returns g c = λ texts x d addresses done below h.
+pub returns-clause-gets : goal.returns-clause-gets
+returns-clause-gets g c = λ texts x d addresses done below h.
     let here = place c.args.at.now c.args.words.now c.args.held.now (g.S.Store.content c.args.store.now) in
     let it = gets c.args.word 1 c.args.next here texts x d addresses done below h c.if-reference-eq0.false in
     rw c.get.ensures (got_word c.args.word 1 c.args.next here texts x d addresses done below h it _ refl refl refl)

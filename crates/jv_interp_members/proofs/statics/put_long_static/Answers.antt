@@ -37,7 +37,7 @@ index_mut-requires-2 c =
     let all = c.args.held.now.statics.ok.0 in
     omega (arith, size, all)
 
-pub returns : goal.returns
-returns c = λ blocks texts x d addresses done below h.
+pub returns-clause-puts : goal.returns-clause-puts
+returns-clause-puts c = λ blocks texts x d addresses done below h.
     let here = place c.args.at.now c.args.words.now c.args.held.now blocks in
     put_long c.args.word 2 Whole c.args.next here texts x d addresses done below h _ _ refl refl refl refl (search rules)

@@ -22,7 +22,7 @@ index_mut-requires c =
     let all = c.args.held.now.statics.ok.0 in
     omega (arith, size, all)
 
-pub returns : goal.returns
-returns c = λ blocks texts x d addresses done below h.
+pub returns-clause-puts : goal.returns-clause-puts
+returns-clause-puts c = λ blocks texts x d addresses done below h.
     let here = place c.args.at.now c.args.words.now c.args.held.now blocks in
     put_word c.args.word 1 c.args.how c.args.next here texts x d addresses done below h _ _ c.narrowed.result refl c.narrowed.ensures refl refl refl (search rules)
