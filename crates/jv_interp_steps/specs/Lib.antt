@@ -1,2 +1,3 @@
+pub mod Opcodes
 pub mod Stepping
 pub mod Running

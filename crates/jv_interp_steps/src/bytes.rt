@@ -1,6 +1,6 @@
 //! The opcode of an instruction, and the numbers behind it (JVMS 6.5).
 
-ghost use Rattle.std.specs.Prelude.{◌+◌, ◌<◌, ◌≤◌, [], ◌∷◌, length, IsTrue};
+ghost use Rattle.std.specs.Prelude.{◌≡◌, ◌+◌, ◌<◌, ◌≤◌, [], ◌∷◌, length, get_or, IsTrue};
 ghost use Rattle.jv_format.specs.Format.{byte, half};
 ghost use Rattle.jv_code.specs.Numbers.{signed8, signed16};
 ghost use Rattle.jv_code.specs.Places.{IsStart};
@@ -11,6 +11,7 @@ ghost use Rattle.jv_code.specs.Operands.{HasBytes, least_operands};
 pub(crate) fn opcode_at(code: &[u8], pc: usize) -> u8
     requires { IsStart code.now pc }
     ensures stands { HasBytes code.now pc (result ∷ []) }
+    ensures is { result ≡ get_or code.now pc 0 }
     ensures room { (pc + 1) + least_operands result ≤ length code.now }
 {
     code[pc]

@@ -1,5 +1,7 @@
 //! A step by the opcode at hand.
 
+ghost use Rattle.std.specs.Prelude.{◌≡◌, get_or};
+ghost use Rattle.jv_interp_steps.specs.Opcodes.{works_alone};
 ghost use Rattle.jv_interp_steps.specs.Stepping.{CanStep, TookStep};
 
 use crate::branches::{step_goto, step_if_int, step_if_ints, step_if_null, step_if_same};
@@ -16,11 +18,13 @@ use jv_code::{
 };
 use jv_interp_words::Registers;
 
-/// Takes a step where the instruction at hand works on the words of its frame alone, and goes on; else nothing is done.
+/// Takes a step where the opcode at hand is one of 96 whose instructions work on the words of their frame alone, and go on; else nothing
+/// is done. Answers which.
 #[inline(always)]
 pub fn step_in_words<'l>(words: &mut [u32], at: &mut Registers<'l>) -> bool
     requires { CanStep at.old words.old }
-    ensures { TookStep result at.old words.old at.new words.new }
+    ensures took { TookStep result at.old words.old at.new words.new }
+    ensures when { result ≡ works_alone (get_or at.old.code.now at.old.pc 0) }
 {
     match opcode_at(at.code, at.pc as usize) {
         0 => {

@@ -11,7 +11,7 @@ step_in_words-requires c =
 
 pub returns-then-not-step_in_words-clause-ran : goal.returns-then-not-step_in_words-clause-ran
 returns-then-not-step_in_words-clause-ran c =
-    let same = c.if-not-step_in_words.ensures in
+    let same = c.if-not-step_in_words.ensures.took in
     let n = c.args.n - c.loop-left.left in
     subst (λ (a : Registers). RunsTo n c.args.at.now c.args.words.now a c.step_in_words.new.words) (sym same.0)
     (subst (λ (ws : List ℕ). RunsTo n c.args.at.now c.args.words.now c.loop-left.now ws) (sym same.1) c.loop-left.invariant.ran)
@@ -25,5 +25,5 @@ loop-left-preserved c =
       ran =
           subst (λ (n : ℕ). RunsTo n c.args.at.now c.args.words.now c.step_in_words.new.at c.step_in_words.new.words) next
           (ran_more (c.args.n - c.loop-left.left) c.args.at.now c.loop-left.now c.step_in_words.new.at c.args.words.now c.loop-left.words
-          c.step_in_words.new.words c.loop-left.invariant.ran c.if-not-step_in_words.ensures);
+          c.step_in_words.new.words c.loop-left.invariant.ran c.if-not-step_in_words.ensures.took);
     }
