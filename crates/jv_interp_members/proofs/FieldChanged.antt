@@ -30,6 +30,8 @@ module _ (world : World) (texts : List (List ℕ)) (memory : Memory) (addresses 
         (field.before ++ (own ++ field.behind)) h.objects at there changes (field.stored new own stands width);
     statics = h.statics;
     literals = h.literals;
+    error_stands = h.error_stands;
+    arguments_stand = h.arguments_stand;
     cells = h.cells;
     output_left = h.output_left;
     output = h.output;

@@ -137,6 +137,8 @@ module _ (word width : ℕ) (how : Narrowing) (next : ℕ) (here : Place) (texts
                   subst (λ (ws : List ℕ). AreFields addresses (static_fields c.program.world) (with_value (key_of d) (narrowed p.type p.value) c.memory.statics) ws)
                   (sym statics_are) (there.stored (narrowed p.type p.value) own stands width);
               literals = subst (λ (g : Held). Rattle.jv_interp_memory.specs.HeldInWords.AreLiterals texts addresses c.memory.literals g.literals.items) (sym same) m.literals;
+              error_stands = m.error_stands ∙ ap Some (sym (ap (λ (g : Held). g.out_of_memory) same));
+              arguments_stand = m.arguments_stand ∙ ap Some (sym (ap (λ (g : Held). g.arguments) same));
               cells = m.cells ∙ sym (ap (λ (g : Held). g.cells) same);
               output_left = m.output_left ∙ sym (ap (λ (g : Held). g.output_left) same);
               output = m.output ∙ sym (ap (λ (g : Held). g.output.items) same);

@@ -4,6 +4,8 @@ use Rattle.std.specs.List.{flat_map}
 use Rattle.jv_meaning_world.specs.World.{Loaded, World}
 use Rattle.jv_meaning_world.specs.LookUps.{DeclaredField, field_by}
 use Rattle.jv_meaning_linking.specs.Kind.{is_static_field}
+use Rattle.jv_meaning_machine.specs.Effects.{out_of_memory}
+use Rattle.jv_meaning_machine.specs.Initialization.{main_arguments}
 use Rattle.jv_meaning_machine.specs.Literals.{literal_in}
 use Rattle.jv_meaning_machine.specs.State.{Memory}
 use Rattle.jv_interp_objects.specs.ObjectsInBlocks.{Blocks, AreFields, ObjectsStand}
@@ -39,6 +41,8 @@ pub record MemoryStands (world : World) (texts : List (List ℕ)) (memory : Memo
   pub objects : ObjectsStand world memory.objects addresses blocks
   pub statics : AreFields addresses (static_fields world) memory.statics held.statics.items
   pub literals : AreLiterals texts addresses memory.literals held.literals.items
+  pub error_stands : slice_get addresses out_of_memory ≡ Some held.out_of_memory
+  pub arguments_stand : slice_get addresses main_arguments ≡ Some held.arguments
   pub cells : memory.cells ≡ held.cells
   pub output_left : memory.output_left ≡ held.output_left
   pub output : memory.output ≡ held.output.items

@@ -1,4 +1,6 @@
+pub mod ClassStates
 pub mod HeldInWords
 pub mod EffectsInWords
 pub mod Executing
+pub mod Growing
 pub mod SystemNumbers

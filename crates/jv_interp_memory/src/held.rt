@@ -1,12 +1,17 @@
 //! What a guest holds beside its frames and its objects.
 
-/// The values of static fields, the string literals that were made, what is left of the budget, and what was read and written.
+/// The values of static fields, the string literals that were made, two objects of the start, what is left of the budget, and what was
+/// read and written.
 #[derive(Drop)]
 pub struct Held {
     /// The words of all static fields, those of each class behind those of the classes before it.
     pub statics: Vec<u32>,
     /// Of each text that a literal may have, by its number, the address of its object; 0 where it was not made.
     pub literals: Vec<u32>,
+    /// The address of the OutOfMemoryError object that was made at the start (own).
+    pub out_of_memory: u32,
+    /// The address of the array of Strings that was made at the start for main (own).
+    pub arguments: u32,
     /// The cells that are left (own).
     pub cells: u32,
     /// How many bytes of output are left (own).

@@ -2,10 +2,12 @@
 //! both stand for the machine's. A room of `jv_interp`.
 #![tactic(auto)]
 
+mod class_state;
 mod effect;
 mod held;
 mod numbers;
 
+pub use class_state::ClassState;
 pub use effect::Effect;
 pub use held::Held;
 pub use numbers::{
