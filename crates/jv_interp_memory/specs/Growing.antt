@@ -1,5 +1,5 @@
 -- What a step of a guest does to the blocks of a store that it shares with others (JVMS 2.5.3; own).
-use Rattle.std.specs.Prelude.{ℕ, ◌≡◌, ◌<◌, ◌≤◌, ⊥, List, Contains}
+use Rattle.std.specs.Prelude.{ℕ, ◌≡◌, ◌<◌, ◌≤◌, List, Contains}
 use Rattle.jv_heap.specs.Content.{words_at, greatest}
 use Rattle.jv_meaning_machine.specs.State.{Memory}
 use Rattle.jv_meaning_machine.specs.Effects.{Effect as EffectOfNames, Context}

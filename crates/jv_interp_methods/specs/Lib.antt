@@ -1,1 +1,3 @@
+pub mod Inside
 pub mod Methods
+pub mod Texts

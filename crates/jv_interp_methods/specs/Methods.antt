@@ -1,6 +1,6 @@
 -- The methods of all classes of a world, each at hand by one number (JVMS 4.6): those of a class stand behind those of the classes before
 -- it.
-use Rattle.std.specs.Prelude.{◌≡◌, ℕ, List, Some, length, slice_get, take, IsSomeAnd}
+use Rattle.std.specs.Prelude.{◌≡◌, ℕ, ◌≤◌, List, Option, Some, length, map, slice_get, take, All}
 use Rattle.jv_meaning_world.specs.World.{Loaded, World}
 use Rattle.jv_meaning_world.specs.Overriding.{Declared}
 use Rattle.jv_lookups.specs.Places.{method_at}
@@ -9,22 +9,34 @@ use Rattle.jv_interp_words.specs.FramesInWords.{methods_of}
 use Rattle.jv_interp_methods.specs.declared.methods.MethodRow.{MethodRow}
 use Rattle.jv_interp_methods.specs.declared.methods.Methods.{Methods}
 
--- a method's row has its place, and its code, where it has code
+-- the method at a row's place
+abbrev pub method_in : World → MethodRow → Option Declared
+method_in world row = method_at world row.place
+
+-- a row's code is its method's, where that has code
+abbrev pub HasBody : World → MethodRow → Type 0
+HasBody world row = (d : Declared) → method_in world row ≡ Some d → IsBody d.method row.body
+
+-- it is a method's
 pub record IsRowOf (world : World) (d : Declared) (row : MethodRow) : Type 0 where
-  pub place : method_at world row.place ≡ Some d
+  pub place : method_in world row ≡ Some d
   pub body : IsBody d.method row.body
 
--- each stands at its number
-abbrev pub AreRows : World → List Declared → List MethodRow → Type 0
-AreRows world methods rows =
-    (number : ℕ) (d : Declared) → slice_get methods number ≡ Some d → IsSomeAnd (slice_get rows number) (IsRowOf world d)
+abbrev pub known : Declared → Option Declared
+known d = Some d
 
--- the number of a class's first method
+-- they are those of these methods, in their order
+pub record AreRows (world : World) (methods : List Declared) (rows : List MethodRow) : Type 0 where
+  pub places : map (method_in world) rows ≡ map known methods
+  pub bodies : All (HasBody world) rows
+
+-- the number of each class's first method
 abbrev pub AreFirsts : World → List ℕ → Type 0
 AreFirsts world firsts =
     (class : ℕ) (l : Loaded) → slice_get world class ≡ Some l → slice_get firsts class ≡ Some (length (methods_of (take class world)))
 
+-- each method of a world is at hand by its number
 pub record AreMethods (world : World) (methods : Methods) : Type 0 where
   pub rows : AreRows world (methods_of world) methods.rows.items
-  pub count : length methods.rows.items ≡ length (methods_of world)
   pub firsts : AreFirsts world methods.firsts.items
+  pub few : length methods.rows.items ≤ 4294967295

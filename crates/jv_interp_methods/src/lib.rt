@@ -1,6 +1,8 @@
-//! The methods of all classes of a guest, each at hand by one number (JVMS 4.6). A room of `jv_interp`.
+//! What steps ask of a guest's classes by numbers: methods with their code (JVMS 4.6), and the texts of string literals (4.4.3). A room of `jv_interp`.
 #![tactic(auto)]
 
 mod methods;
+mod texts;
 
 pub use methods::{MethodRow, Methods};
+pub use texts::{ClassTexts, Texts};

@@ -1,15 +1,18 @@
 //! Methods by number.
 
-ghost use Rattle.std.specs.Prelude.{◌≡◌, ◌+◌, Some, IfOk, IsSomeAnd, length, slice_get};
+ghost use Rattle.std.specs.Prelude.{◌≡◌, ◌+◌, ◌<◌, ◌≤◌, List, ◌++◌, Some, OnOk, IfOk, length, slice_get};
+ghost use Rattle.jv_meaning_world.specs.Numbers.{HoldsAtNumber};
 ghost use Rattle.jv_meaning_world.specs.World.{World};
 ghost use Rattle.jv_meaning_world.specs.Overriding.{Declared};
 ghost use Rattle.jv_lookups.specs.Places.{method_at};
 ghost use Rattle.jv_linked.specs.Linked.{IsLinked};
 ghost use Rattle.jv_interp_words.specs.FramesInWords.{methods_of};
-ghost use Rattle.jv_interp_methods.specs.Methods.{IsRowOf, AreMethods};
+ghost use Rattle.jv_interp_methods.specs.Inside.Counted.{own_methods};
+ghost use Rattle.jv_interp_methods.specs.Methods.{IsRowOf, AreRows, AreMethods};
 
+use jv_link::class_at;
 use jv_linked::{Body, Linked};
-use jv_loader::{Classes, Place};
+use jv_loader::{ClassTable, Classes, Place};
 use std::alloc::{AllocError, Global};
 
 /// A method: where it stands, and its code, where it has code.
@@ -30,31 +33,85 @@ pub struct Methods<'a> {
     pub firsts: Vec<usize>,
 }
 
+/// Adds the methods of a class behind those of the classes before it.
+fn add_methods<'a>(
+    rows: &mut Vec<MethodRow<'a>>,
+    table: &ClassTable<'a>,
+    class: usize,
+    linked: &Linked<'a>,
+) -> Result<(), AllocError>
+    requires class { class < length table.now }
+    requires linked { IsLinked table.now linked.now }
+    ensures added { OnOk result (HoldsAtNumber table.now class (λ l. (methods : List Declared) → AreRows table.now methods rows.old.items
+        → AreRows table.now (methods ++ own_methods l) rows.new.items)) }
+    ensures count { OnOk result (HoldsAtNumber table.now class (λ l. length rows.new.items ≡ length rows.old.items + length l.class.methods)) }
+{
+    let loaded = class_at(table, class);
+    for member in 0..loaded.method_count() {
+        let place = Place { class, member };
+        let body = linked.body_at(place);
+        rows.push(MethodRow { place, body })?;
+    }
+    Ok(())
+}
+
+/// The methods of all classes.
+fn all_methods<'a>(
+    alloc: Global,
+    table: &ClassTable<'a>,
+    linked: &Linked<'a>,
+) -> Result<Methods<'a>, AllocError>
+    requires { IsLinked table.now linked.now }
+    ensures { IfOk result (AreMethods table.now) }
+{
+    let mut rows = Vec::new(alloc);
+    let mut firsts = Vec::new(alloc);
+    for class in 0..table.count() {
+        firsts.push(rows.len())?;
+        add_methods(&mut rows, table, class, linked)?;
+    }
+    if rows.len() <= 4_294_967_295 {
+        Ok(Methods { rows, firsts })
+    } else {
+        Err(AllocError)
+    }
+}
+
+/// The sum of two numbers, where it is a number of one of so many.
+#[inline(always)]
+fn number_within(first: usize, member: usize, count: usize) -> u32
+    ensures { first + member < count → count ≤ 4294967295 → result ≡ first + member }
+{
+    if first < count && member < count - first && first + member <= 4_294_967_295 {
+        (first + member) as u32
+    } else {
+        0
+    }
+}
+
 impl<'a> Methods<'a> {
     /// Those of the classes that `link` took.
     ///
     /// # Errors
     ///
-    /// Where the host had no memory for them.
-    pub fn of(alloc: Global, classes: &Classes<'a>, linked: &Linked<'a>) -> Result<Methods<'a>, AllocError>
+    /// Where the host had no memory for them, or there are 2^32 or more (own).
+    pub fn of(
+        alloc: Global,
+        classes: &Classes<'a>,
+        linked: &Linked<'a>,
+    ) -> Result<Methods<'a>, AllocError>
         requires { IsLinked classes.now.world linked.now }
-        ensures { IfOk result (λ methods. AreMethods classes.now.world methods) }
+        ensures { IfOk result (AreMethods classes.now.world) }
     {
-        let mut rows = Vec::new(alloc);
-        let mut firsts = Vec::new(alloc);
-        let table = classes.table();
-        for class in 0..table.count() {
-            firsts.push(rows.len())?;
-            add_methods(&mut rows, class, class_at(table, class), linked)?;
-        }
-        Ok(Methods { rows, firsts })
+        all_methods(alloc, classes.table(), linked)
     }
 
     /// The method with a number.
     #[inline(always)]
     pub fn method(&self, number: u32) -> MethodRow<'a>
         requires { number < length self.now.rows.items }
-        ensures { (world : World) (d : Declared) → AreMethods world self.now → slice_get (methods_of world) number ≡ Some d → IsRowOf world d result }
+        ensures { (world : World) (d : Declared) → AreMethods world self.now → slice_get (methods_of world) number ≡ Some d
+            → IsRowOf world d result }
     {
         self.rows[number as usize]
     }
@@ -62,10 +119,11 @@ impl<'a> Methods<'a> {
     /// The number of the method at a place.
     #[inline(always)]
     pub fn number_of(&self, place: Place) -> u32
-        ensures { (world : World) (d : Declared) → AreMethods world self.now → method_at world place ≡ Some d → slice_get (methods_of world) result ≡ Some d }
+        ensures { (world : World) (d : Declared) → AreMethods world self.now → method_at world place ≡ Some d
+            → slice_get (methods_of world) result ≡ Some d }
     {
         if place.class < self.firsts.len() {
-            (self.firsts[place.class] + place.member) as u32
+            number_within(self.firsts[place.class], place.member, self.rows.len())
         } else {
             0
         }

@@ -1,0 +1,10 @@
+use Rattle.jv_interp_execution.proofs.Done.{went_done, arithmetic_done}
+use Rattle.jv_interp_execution.proofs.on_words.execute_division.Goals as goal
+
+pub returns-then-divide-clause-done : goal.returns-then-divide-clause-done
+returns-then-divide-clause-done c = went_done _ _ _ _ _ _ (c.divide.ensures.went c.if-divide.true)
+
+pub returns-else-divide-clause-done : goal.returns-else-divide-clause-done
+returns-else-divide-clause-done c =
+    let same = c.divide.ensures.same c.if-divide.false in
+    rw same.0 (rw same.1 (arithmetic_done _ _ _ _ (c.divide.ensures.throws c.if-divide.false) c.system_has_numbers.ensures))
