@@ -1,14 +1,16 @@
 -- Methods that get numbers one behind the other.
-use Rattle.std.proofs.Common.{◌≡◌, ℕ, zero, suc, ◌+◌, ◌<◌, List, [], ◌∷◌, ◌++◌, length, map, get_or, Option, Some, None, refl, sym, ap, ◌∙◌, subst, arith, take, drop, slice_get, length-append, length-map, append_assoc}
+use Rattle.std.proofs.Common.{◌≡◌, ℕ, zero, suc, ◌+◌, ◌<◌, ◌≤◌, List, [], ◌∷◌, ◌++◌, length, map, get_or, Option, Some, None, refl, sym, ap, ◌∙◌, subst, arith, take, drop, slice_get, length-append, append_assoc}
 use Rattle.std.specs.Prelude.{All}
 use Rattle.std.specs.Option.{option_map}
 use Rattle.std.proofs.Math.Seq.{take-suc}
-use Rattle.std.proofs.lemmas.List.{map-append}
+use Rattle.std.proofs.lemmas.List.{map-append, length-map}
 use Rattle.std.proofs.lemmas.List.Elements.{All-append}
 use Rattle.std.proofs.lemmas.Option.{slice_get-map, slice_get-get_or, slice_get_within, get_or_from_slice_get}
 use Rattle.jv_class.specs.Class.{Method}
 use Rattle.jv_meaning_world.specs.World.{Loaded, World}
-use Rattle.jv_meaning_world.specs.Overriding.{Declared, declared_by}
+use Rattle.jv_meaning_world.specs.Overriding.{Declared}
+use Rattle.jv_meaning_world.specs.Verdicts.{declared_by}
+use Rattle.jv_format.specs.Format.{◌>>=◌}
 use Rattle.jv_lookups.specs.declared.place.Place.{Place}
 use Rattle.jv_lookups.specs.Places.{method_of, method_at}
 use Rattle.jv_linked.specs.Bodies.{IsBody}
@@ -16,7 +18,7 @@ use Rattle.jv_interp_words.specs.FramesInWords.{methods_of}
 use Rattle.jv_interp_methods.specs.declared.methods.MethodRow.{MethodRow}
 use Rattle.jv_interp_methods.specs.declared.methods.Methods.{Methods}
 use Rattle.jv_interp_methods.specs.Inside.Counted.{own_methods, firsts_from}
-use Rattle.jv_interp_methods.specs.Methods.{method_in, HasBody, IsRowOf, known, AreRows, AreFirsts, AreMethods}
+use Rattle.jv_interp_methods.specs.Methods.{method_in, HasBody, HasItsCode, IsRowOf, known, AreRows, AreFirsts, AreMethods}
 
 some_same : {A : Type 0} → {x y : A} → Some x ≡ Some y → x ≡ y
 some_same e = cc
@@ -26,16 +28,21 @@ some_same e = cc
 module _ (world : World) where
   has_one : (row : MethodRow) (d : Declared) → method_in world row ≡ Some d → IsBody d.method row.body → All (HasBody world) (row ∷ [])
   has_one row d at body zero default less e at_e = subst (λ (x : Declared). IsBody x.method row.body) (some_same (sym at ∙ at_e)) body
-  has_one row d at body (suc k) default less = absurd (omega (arith, less))
+  has_one row d at body (suc k) default less e at_e = absurd (omega (arith, less))
+
+  has_one_code : (row : MethodRow) → HasItsCode row → All HasItsCode (row ∷ [])
+  has_one_code row h zero default less = h
+  has_one_code row h (suc k) default less = absurd (omega (arith, less))
 
   pub row_joins :
       (methods : List Declared) (rows : List MethodRow) (d : Declared) (row : MethodRow) → AreRows world methods rows
-      → method_in world row ≡ Some d → IsBody d.method row.body → AreRows world (methods ++ d ∷ []) (rows ++ row ∷ [])
-  row_joins methods rows d row h at body = record {
+      → method_in world row ≡ Some d → IsBody d.method row.body → HasItsCode row → AreRows world (methods ++ d ∷ []) (rows ++ row ∷ [])
+  row_joins methods rows d row h at body code = record {
     places =
         map-append (method_in world) rows (row ∷ []) ∙ ap (λ (l : List (Option Declared)). l ++ method_in world row ∷ []) h.places
         ∙ ap (λ (o : Option Declared). map known methods ++ o ∷ []) at ∙ sym (map-append known methods (d ∷ []));
     bodies = All-append (HasBody world) rows (row ∷ []) h.bodies (has_one row d at body);
+    codes = All-append HasItsCode rows (row ∷ []) h.codes (has_one_code row code);
   }
 
   -- the method at a place of a class
@@ -64,9 +71,9 @@ module _ (world : World) where
   pub own_joins :
       (methods : List Declared) (rows : List MethodRow) (l : Loaded) (class member : ℕ) (row : MethodRow) → slice_get world class ≡ Some l
       → member < length l.class.methods → AreRows world (methods ++ take member (own_methods l)) rows
-      → row.place ≡ record { class = class; member = member } → ((d : Declared) → method_in world row ≡ Some d → IsBody d.method row.body)
+      → row.place ≡ record { class = class; member = member } → ((d : Declared) → method_in world row ≡ Some d → IsBody d.method row.body) → HasItsCode row
       → AreRows world (methods ++ take (member + 1) (own_methods l)) (rows ++ row ∷ [])
-  own_joins methods rows l class member row at less h place body =
+  own_joins methods rows l class member row at less h place body code =
       let own = own_at class member l at less in
       let here : method_in world row ≡ Some own.0 = ap (method_at world) place ∙ own.1 in
       let within : member < length (own_methods l) = slice_get_within (own_methods l) member own.0 own.2 in
@@ -76,7 +83,7 @@ module _ (world : World) where
       let joined : methods ++ take (member + 1) (own_methods l) ≡ (methods ++ take member (own_methods l)) ++ own.0 ∷ [] =
       ap (λ (ds : List Declared). methods ++ ds) longer ∙ sym (append_assoc methods (take member (own_methods l)) (own.0 ∷ [])) in
       subst (λ (ds : List Declared). AreRows world ds (rows ++ row ∷ [])) (sym joined)
-      (row_joins (methods ++ take member (own_methods l)) rows own.0 row h here (body own.0 here))
+      (row_joins (methods ++ take member (own_methods l)) rows own.0 row h here (body own.0 here) code)
 
 -- ---- firsts
 
@@ -91,7 +98,7 @@ first_at number (m ∷ more) (suc class) l e =
   where
     longer : (ds : List Declared) → number + length m.class.methods + length ds ≡ number + length (own_methods m ++ ds)
     longer ds =
-        let a = length-append (own_methods m) ds in let b = length-map (declared_by m) m.class.methods in omega (arith, a, b)
+        let a = length-append (own_methods m) ds in let b = length-map m.class.methods (declared_by m) in omega (arith, a, b)
 
 -- ---- a method's number
 
@@ -100,8 +107,11 @@ pub number_at :
     → slice_get (methods_of world) (length (methods_of (take class world)) + member) ≡ Some d
 number_at [] class member l d at e = absurd cc
 number_at (m ∷ more) zero member l d at e =
-    in_front (own_methods m) (methods_of more) member d (subst (λ (x : Loaded). slice_get (own_methods x) member ≡ Some d) (sym (some_same at)) e)
+    ap (slice_get (own_methods m ++ methods_of more)) zero_more
+    ∙ in_front (own_methods m) (methods_of more) member d (subst (λ (x : Loaded). slice_get (own_methods x) member ≡ Some d) (sym (some_same at)) e)
   where
+    zero_more : 0 + member ≡ member
+    zero_more = omega arith
     in_front : (xs ys : List Declared) (k : ℕ) (x : Declared) → slice_get xs k ≡ Some x → slice_get (xs ++ ys) k ≡ Some x
     in_front [] ys k x h = absurd cc
     in_front (y ∷ xs) ys zero x h = h
@@ -114,21 +124,23 @@ number_at (m ∷ more) (suc class) member l d at e =
         (ds : List Declared) → length (own_methods m ++ ds) + member ≡ length (own_methods m) + (length ds + member)
     place_is ds = let a = length-append (own_methods m) ds in omega (arith, a)
 
+    zero_more : (k : ℕ) → 0 + k ≡ k
+    zero_more k = omega arith
+    next_is : (n k : ℕ) → suc n + k ≡ suc (n + k)
+    next_is n k = omega arith
     behind : (xs ys : List Declared) (k : ℕ) → slice_get (xs ++ ys) (length xs + k) ≡ slice_get ys k
-    behind [] ys k = refl
-    behind (x ∷ xs) ys k = behind xs ys k
+    behind [] ys k = ap (slice_get ys) (zero_more k)
+    behind (x ∷ xs) ys k = ap (slice_get (x ∷ (xs ++ ys))) (next_is (length xs) k) ∙ behind xs ys k
 
 pub numbered :
     (world : World) (methods : Methods) (place : Place) (d : Declared) (first number : ℕ) → AreMethods world methods
     → method_at world place ≡ Some d → slice_get methods.firsts.items place.class ≡ Some first
-    → (first + place.member < length methods.rows.items → length methods.rows.items ≡ length methods.rows.items
-    → number ≡ first + place.member)
+    → (first + place.member < length methods.rows.items → length methods.rows.items ≤ 4294967295 → number ≡ first + place.member)
     → slice_get (methods_of world) number ≡ Some d
 numbered world methods place d first number h at first_is is = by_class (slice_get world place.class) refl at
   where
     count : length methods.rows.items ≡ length (methods_of world)
-    count = sym (length-map (method_in world) methods.rows.items) ∙ ap length h.rows.places ∙ length-map known (methods_of world)
-
+    count = sym (length-map methods.rows.items (method_in world)) ∙ ap length h.rows.places ∙ length-map (methods_of world) known
     by_class : (o : Option Loaded) → slice_get world place.class ≡ o → (o >>= method_of place.member) ≡ Some d → slice_get (methods_of world) number ≡ Some d
     by_class None e found = absurd cc
     by_class (Some l) e found =
@@ -139,7 +151,18 @@ numbered world methods place d first number h at first_is is = by_class (slice_g
         ap (λ (n : ℕ). slice_get (methods_of world) (n + place.member)) same ∙ there in
         let within : first + place.member < length methods.rows.items =
         subst (λ (n : ℕ). first + place.member < n) (sym count) (slice_get_within (methods_of world) (first + place.member) d here) in
-        ap (slice_get (methods_of world)) (is within refl) ∙ here
+        ap (slice_get (methods_of world)) (is within h.few) ∙ here
+
+-- a class's first method has a number
+pub no_first :
+    (world : World) (methods : Methods) (place : Place) (d : Declared) → AreMethods world methods → method_at world place ≡ Some d
+    → place.class < length methods.firsts.items
+no_first world methods place d h at = by_class (slice_get world place.class) refl at
+  where
+    by_class : (o : Option Loaded) → slice_get world place.class ≡ o → (o >>= method_of place.member) ≡ Some d → place.class < length methods.firsts.items
+    by_class None e found = absurd cc
+    by_class (Some l) e found =
+        slice_get_within methods.firsts.items place.class (length (methods_of (take place.class world))) (h.firsts place.class l e)
 
 -- ---- the method with a number
 
@@ -157,4 +180,7 @@ row_of world methods number d row h at is =
       place = here;
       body =
           subst (λ (r : MethodRow). HasBody world r) (get_or_from_slice_get methods.rows.items number row row is) body d here;
+      code =
+          subst (λ (r : MethodRow). HasItsCode r) (get_or_from_slice_get methods.rows.items number row row is)
+          (h.rows.codes number row less);
     }

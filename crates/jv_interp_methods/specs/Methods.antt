@@ -1,9 +1,13 @@
 -- The methods of all classes of a world, each at hand by one number (JVMS 4.6): those of a class stand behind those of the classes before
 -- it.
-use Rattle.std.specs.Prelude.{◌≡◌, ℕ, ◌≤◌, List, Option, Some, length, map, slice_get, take, All}
+use Rattle.std.specs.Prelude.{◌≡◌, ℕ, ◌≤◌, ⊤, List, Option, Some, None, length, map, slice_get, take, All, IsSomeAnd}
+use Rattle.jv_code.specs.Insns.{Instruction}
+use Rattle.jv_code.specs.Places.{IsCode}
+use Rattle.jv_code.specs.declared.code.Code.{Code}
 use Rattle.jv_meaning_world.specs.World.{Loaded, World}
 use Rattle.jv_meaning_world.specs.Overriding.{Declared}
 use Rattle.jv_lookups.specs.Places.{method_at}
+use Rattle.jv_linked.specs.declared.bodies.Body.{Body}
 use Rattle.jv_linked.specs.Bodies.{IsBody}
 use Rattle.jv_interp_words.specs.FramesInWords.{methods_of}
 use Rattle.jv_interp_methods.specs.declared.methods.MethodRow.{MethodRow}
@@ -17,10 +21,20 @@ method_in world row = method_at world row.place
 abbrev pub HasBody : World → MethodRow → Type 0
 HasBody world row = (d : Declared) → method_in world row ≡ Some d → IsBody d.method row.body
 
+-- and where its bytes are instructions it has these, known as such (4.9.1)
+abbrev pub HasCode : Option Body → Option Code → Type 0
+HasCode None code = ⊤
+HasCode (Some body) code =
+    (all : List Instruction) → IsCode body.code.code.now all → IsSomeAnd code (λ k. k.bytes.now ≡ body.code.code.now)
+
+abbrev pub HasItsCode : MethodRow → Type 0
+HasItsCode row = HasCode row.body row.code
+
 -- it is a method's
 pub record IsRowOf (world : World) (d : Declared) (row : MethodRow) : Type 0 where
   pub place : method_in world row ≡ Some d
   pub body : IsBody d.method row.body
+  pub code : HasItsCode row
 
 abbrev pub known : Declared → Option Declared
 known d = Some d
@@ -29,6 +43,7 @@ known d = Some d
 pub record AreRows (world : World) (methods : List Declared) (rows : List MethodRow) : Type 0 where
   pub places : map (method_in world) rows ≡ map known methods
   pub bodies : All (HasBody world) rows
+  pub codes : All HasItsCode rows
 
 -- the number of each class's first method
 abbrev pub AreFirsts : World → List ℕ → Type 0

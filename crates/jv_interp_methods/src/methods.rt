@@ -8,8 +8,9 @@ ghost use Rattle.jv_lookups.specs.Places.{method_at};
 ghost use Rattle.jv_linked.specs.Linked.{IsLinked};
 ghost use Rattle.jv_interp_words.specs.FramesInWords.{methods_of};
 ghost use Rattle.jv_interp_methods.specs.Inside.Counted.{own_methods};
-ghost use Rattle.jv_interp_methods.specs.Methods.{IsRowOf, AreRows, AreMethods};
+ghost use Rattle.jv_interp_methods.specs.Methods.{HasCode, IsRowOf, AreRows, AreMethods};
 
+use jv_code::Code;
 use jv_link::class_at;
 use jv_linked::{Body, Linked};
 use jv_loader::{ClassTable, Classes, Place};
@@ -20,8 +21,10 @@ use std::alloc::{AllocError, Global};
 pub struct MethodRow<'a> {
     /// The number of its class, and its place among the methods there.
     pub place: Place,
-    /// Its code, and what a call of it passes.
+    /// Its code attribute, and what a call of it passes.
     pub body: Option<Body<'a>>,
+    /// The bytes of its code, where they are instructions (JVMS 4.9.1).
+    pub code: Option<Code<'a>>,
 }
 
 /// The methods of all classes.
@@ -31,6 +34,19 @@ pub struct Methods<'a> {
     pub rows: Vec<MethodRow<'a>>,
     /// For each class the number of its first method.
     pub firsts: Vec<usize>,
+}
+
+/// The bytes of a method's code, where they are instructions.
+fn code_in<'a>(body: Option<Body<'a>>) -> Option<Code<'a>>
+    ensures { HasCode body.entry result }
+{
+    match body {
+        Some(body) => match Code::read(body.code.code) {
+            Ok(code) => Some(code),
+            Err(_) => None,
+        },
+        None => None,
+    }
 }
 
 /// Adds the methods of a class behind those of the classes before it.
@@ -50,7 +66,11 @@ fn add_methods<'a>(
     for member in 0..loaded.method_count() {
         let place = Place { class, member };
         let body = linked.body_at(place);
-        rows.push(MethodRow { place, body })?;
+        rows.push(MethodRow {
+            place,
+            body,
+            code: code_in(body),
+        })?;
     }
     Ok(())
 }

@@ -56,8 +56,9 @@ fn known(entries: &[Option<(u16, u32)>], text: u16) -> Option<u32>
 
 /// Keeps the number of the text at an index.
 fn keep(entries: &mut [Option<(u16, u32)>], text: u16, number: u32)
-    ensures { (texts : List (List ℕ)) (pool : List Entry) → All (IsKnown texts pool) entries.old
+    ensures known { (texts : List (List ℕ)) (pool : List Entry) → All (IsKnown texts pool) entries.old
         → IsKnown texts pool (Some (text, number)) → All (IsKnown texts pool) entries.new }
+    ensures count { length entries.new ≡ length entries.old }
 {
     let at = usize::from(text);
     if at < entries.len() {
@@ -77,6 +78,7 @@ fn number_at<'a>(
     ensures numbers { OnOk result (Numbers names.old names.new) }
     ensures number { IfOk result (λ number. IsKnown names.new pool.now (Some (text.0, number))) }
     ensures known { OnOk result (All (IsKnown names.new pool.now) entries.new) }
+    ensures count { length entries.new ≡ length entries.old }
 {
     if let Some(number) = known(entries, text.0) {
         return Ok(number);
@@ -97,6 +99,7 @@ fn number_of_string<'a>(
     ensures numbers { OnOk result (Numbers names.old names.new) }
     ensures number { IfOk result (IsNumberAt names.new pool.now index) }
     ensures known { OnOk result (All (IsKnown names.new pool.now) entries.new) }
+    ensures count { length entries.new ≡ length entries.old }
 {
     if let Some(Constant::String(text)) = pool.constant(index)
         && let Some(text) = pool.utf8_index(text)
@@ -145,11 +148,15 @@ fn texts_of<'a>(
     ensures numbers { OnOk result (Numbers names.old names.new) }
     ensures texts { IfOk result (AreTextsOf names.new class.now) }
 {
-    let numbers = match class.file() {
-        Some(file) => numbers_in(alloc, names, file.pool())?,
-        None => Vec::new(alloc),
-    };
-    Ok(ClassTexts { numbers })
+    match class.file() {
+        Some(file) => {
+            let numbers = numbers_in(alloc, names, file.pool())?;
+            Ok(ClassTexts { numbers })
+        }
+        None => Ok(ClassTexts {
+            numbers: Vec::new(alloc),
+        }),
+    }
 }
 
 /// The texts of all classes.

@@ -1,5 +1,5 @@
 -- A judged guest meets no fault: what is proved of instructions, of effects, of initializations and of the start, put together.
-use Rattle.std.proofs.Common.{◌≡◌, ℕ, Bool, false, List, length, Option, Some, sym, subst, ap, ◌∙◌}
+use Rattle.std.proofs.Common.{◌≡◌, ℕ, Bool, false, List, length, Option, Some, Ok, Err, sym, subst, ap, ◌∙◌}
 use Rattle.std.specs.Prelude.{IsTrue, IsOk, codes, ◌||◌}
 use Rattle.std.specs.Str.{bytes_eq}
 use Rattle.jv_text.specs.Descriptor.{MethodDescriptor}
@@ -23,7 +23,11 @@ use Rattle.jv_sound_values.specs.Memory.{AreLoadable}
 use Rattle.jv_sound_values.specs.Sound.{IsChecked, IsSound}
 use Rattle.jv_sound_values.specs.Frames.{Holds, HasMain, IsGood, IsRunning, AreVerified, AreWaiting, place_of, promise_by, promise_of}
 use Rattle.jv_sound_values.specs.Frames.Promise.{Gives}
-use Rattle.jv_sound.specs.Law.{NeverFaults}
+use Rattle.jv_sound.specs.Law.{NeverFaults, ObjectsAreLoadable}
+use Rattle.jv_meaning_world.specs.World.{Loaded}
+use Rattle.jv_meaning_world.specs.Verdicts.{is_loadable}
+use Rattle.jv_meaning_machine.specs.Faults.{OrFault}
+use Rattle.jv_meaning_machine.specs.Objects.Object.{InstanceOf}
 use Rattle.jv_sound_values.specs.Effects.{IsThrown, ArePassed, AreEffects}
 use Rattle.jv_sound_world.proofs.Asked.{AreFormed, tasks_ok, parameters_are_sorts, constructor_rules}
 use Rattle.jv_sound_frames.proofs.Acting.{goes, enters, throws as throws_acts, raised as raised_acts, leaves, begins_one}
@@ -162,10 +166,30 @@ module _ (one_list : OneList) (next_starts : NextStarts) (stands_in_list : Stand
   starts : (main input : List ℕ) (b : Budget) → Holds (IsGood program) (start program main input b)
   starts main input b = start_ok program sound formed units next_starts stands_in_list raises begins main input b
 
+goes_well :
+    TypesAgree → OneList → NextStarts → StandsInList → (judged : Judged) (g : GuestFiles) (b : Budget) (feeds : List Feed) (n : ℕ)
+    → IsJudged g.files judged → Holds (IsGood judged.program) (alone judged g b feeds n)
+goes_well agree one_list next_starts stands_in_list judged g b feeds n right =
+    let sound = judged_is_sound g.files judged right (judged_system_is_accepted g.files judged right) in
+    let formed : AreFormed judged.program = record { each = world_is_formed agree g.files judged right } in
+    alone_ok judged g b feeds (starts one_list next_starts stands_in_list judged.program sound formed right.units g.main g.input b)
+    (λ s good. steps one_list next_starts stands_in_list judged.program sound formed right.units s good) n
+
 -- the law: a judged guest's machine meets no fault
 pub never_faults : TypesAgree → OneList → NextStarts → StandsInList → NeverFaults
 never_faults agree one_list next_starts stands_in_list judged g b feeds n right =
-    let sound = judged_is_sound g.files judged right (judged_system_is_accepted g.files judged right) in
-    let formed : AreFormed judged.program = record { each = world_is_formed agree g.files judged right } in
-    is_ok (alone_ok judged g b feeds (starts one_list next_starts stands_in_list judged.program sound formed right.units g.main g.input b)
-    (λ s good. steps one_list next_starts stands_in_list judged.program sound formed right.units s good) n)
+    is_ok (goes_well agree one_list next_starts stands_in_list judged g b feeds n right)
+
+-- and its objects are of classes that can be loaded
+held : {A : Type 0} {P : A → Type 0} (r : OrFault A) (a : A) → Holds P r → r ≡ Ok a → P a
+held {P = P} (Ok x) a h e = let same : x ≡ a = cc in subst P same h.by
+held (Err fault) a h e = absurd h.by
+
+same_class : (a b : Loaded) → Some a ≡ Some b → a ≡ b
+same_class a b e = cc
+
+pub objects_are_loadable : TypesAgree → OneList → NextStarts → StandsInList → ObjectsAreLoadable
+objects_are_loadable agree one_list next_starts stands_in_list judged g b feeds n s right ran id instance l at named =
+    let good = held (alone judged g b feeds n) s (goes_well agree one_list next_starts stands_in_list judged g b feeds n right) ran in
+    let typed = good.memory.objects.each id (InstanceOf instance) at in
+    subst (λ (m : Loaded). IsTrue (is_loadable judged.program.world m)) (same_class typed.l l (sym typed.named ∙ named)) typed.loadable

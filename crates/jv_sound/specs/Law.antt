@@ -1,9 +1,26 @@
 -- The law: verified code meets no fault (JVMS 4.10). Whatever a guest's files hold, once they are judged, its machine has a state
 -- after every number of steps, for every budget and whatever is fed to it.
-use Rattle.std.specs.Prelude.{ℕ, List, IsOk}
+use Rattle.std.specs.Prelude.{◌≡◌, ℕ, List, Some, Ok, IsOk, IsTrue, slice_get}
+use Rattle.jv_meaning_world.specs.World.{Loaded, World, class_named}
+use Rattle.jv_meaning_world.specs.Verdicts.{is_loadable}
+use Rattle.jv_meaning_machine.specs.Objects.{Object, Instance}
+use Rattle.jv_meaning_machine.specs.Objects.Object.{InstanceOf}
+use Rattle.jv_meaning_machine.specs.State.{State}
 use Rattle.jv_meaning_machine.specs.Start.{Budget}
 use Rattle.jv_meaning_machine.specs.Alone.{Feed, GuestFiles, Judged, IsJudged, alone}
 
 abbrev pub NeverFaults : Type 0
 NeverFaults = (judged : Judged) (g : GuestFiles) (b : Budget) (feeds : List Feed) (n : ℕ) → IsJudged g.files judged
     → IsOk (alone judged g b feeds n)
+
+-- each of these objects is of a class that can be loaded (5.3.5)
+abbrev pub AreOfLoadable : World → List Object → Type 0
+AreOfLoadable world objects =
+    (id : ℕ) (instance : Instance) (l : Loaded) → slice_get objects id ≡ Some (InstanceOf instance) → class_named world instance.class ≡ Some l
+    → IsTrue (is_loadable world l)
+
+-- A law: all objects of such a guest are, after every number of steps.
+abbrev pub ObjectsAreLoadable : Type 0
+ObjectsAreLoadable =
+    (judged : Judged) (g : GuestFiles) (b : Budget) (feeds : List Feed) (n : ℕ) (s : State) → IsJudged g.files judged
+    → alone judged g b feeds n ≡ Ok s → AreOfLoadable judged.program.world s.memory.objects

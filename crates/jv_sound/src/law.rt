@@ -1,6 +1,6 @@
 //! The law.
 
-ghost use Rattle.jv_sound.specs.Law.{NeverFaults};
+ghost use Rattle.jv_sound.specs.Law.{NeverFaults, ObjectsAreLoadable};
 
 use jv_code::{next_starts, one_list, stands_in_list};
 use jv_text::types_agree;
@@ -9,6 +9,16 @@ use jv_text::types_agree;
 /// number of steps.
 pub fn never_faults()
     ensures { NeverFaults }
+{
+    types_agree();
+    one_list();
+    next_starts();
+    stands_in_list();
+}
+
+/// All objects of such a guest are of classes that can be loaded, after every number of steps.
+pub fn objects_are_loadable()
+    ensures { ObjectsAreLoadable }
 {
     types_agree();
     one_list();

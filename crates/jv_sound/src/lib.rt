@@ -3,4 +3,4 @@
 
 mod law;
 
-pub use law::never_faults;
+pub use law::{never_faults, objects_are_loadable};

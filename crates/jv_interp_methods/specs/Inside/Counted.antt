@@ -1,7 +1,8 @@
 -- The methods of a class, and the numbers of first methods, as they are counted one after the other.
 use Rattle.std.specs.Prelude.{ℕ, ◌+◌, List, [], ◌∷◌, ◌++◌, length, map}
 use Rattle.jv_meaning_world.specs.World.{Loaded, World}
-use Rattle.jv_meaning_world.specs.Overriding.{Declared, declared_by}
+use Rattle.jv_meaning_world.specs.Overriding.{Declared}
+use Rattle.jv_meaning_world.specs.Verdicts.{declared_by}
 
 abbrev pub own_methods : Loaded → List Declared
 own_methods l = map (declared_by l) l.class.methods
