@@ -1,1 +1,5 @@
 pub mod Done
+pub mod Grown
+pub mod ArraysLoaded
+pub mod ArraysMade
+pub mod Unpaid

@@ -1,1 +1,3 @@
+pub mod Components
+pub mod InGuest
 pub mod OnWords

@@ -1,6 +1,8 @@
 //! What each instruction does in a frame that stands in words, as an effect by numbers (JVMS 6.5). A room of `jv_interp`.
 #![tactic(auto)]
 
+mod array_loads;
+mod new_arrays;
 mod on_words;
 
 pub use on_words::execute_on_words;

@@ -42,7 +42,7 @@ pub use show_law::{
     ended_shows_the_same, faults_show_nothing, faults_stay, judged_by_verdicts, one_judged,
     shows_more, shows_no_main, shows_one_thing,
 };
-pub use step_law::{outcome_stays, step_acts, step_goes_on};
+pub use step_law::{execution_keeps, outcome_stays, step_acts, step_goes_on};
 pub use store_law::{
     array_store_stores, other_fields_stay, others_leave_all, others_store_nothing, putfield_stores,
     putstatic_stores, reference_array_store_stores, stored_is_there,

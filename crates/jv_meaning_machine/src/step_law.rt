@@ -1,6 +1,6 @@
 //! Laws of a step that executes an instruction: what becomes of what it did to the memory, and of its effect.
 
-ghost use Rattle.jv_meaning_machine.specs.Laws.Steps.{OutcomeStays, StepActs, StepGoesOn};
+ghost use Rattle.jv_meaning_machine.specs.Laws.Steps.{ExecutionKeeps, OutcomeStays, StepActs, StepGoesOn};
 
 /// The step is what the machine does with what the instruction left and with its effect.
 pub fn step_acts()
@@ -16,4 +16,9 @@ pub fn step_goes_on()
 /// Whatever its effect is, output, shapes and budgets of the memory stay.
 pub fn outcome_stays()
     ensures { OutcomeStays }
+{}
+
+/// And so they do over what an instruction does to the memory.
+pub fn execution_keeps()
+    ensures { ExecutionKeeps }
 {}

@@ -6,7 +6,7 @@ use Rattle.jv_meaning_machine.specs.Values.{Value, words_of_values}
 use Rattle.jv_meaning_machine.specs.Frames.{MethodFrame, Frame}
 use Rattle.jv_meaning_machine.specs.Frames.Frame.{Runs}
 use Rattle.jv_meaning_machine.specs.State.{Program, Memory, State, state_of}
-use Rattle.jv_meaning_machine.specs.Effects.{Effect}
+use Rattle.jv_meaning_machine.specs.Effects.{Effect, Context, world_at}
 use Rattle.jv_meaning_machine.specs.Effects.Effect.{Goes}
 use Rattle.jv_meaning_machine.specs.Instructions.{execute}
 use Rattle.jv_meaning_machine.specs.Step.{context, act, step}
@@ -41,3 +41,9 @@ abbrev pub OutcomeStays : Type 0
 OutcomeStays =
     (program : Program) (s next : State) (memory : Memory) (effect : Effect) → Executes program s memory effect → step program s ≡ Ok next
     → Keeps program.world memory next.memory
+
+-- And so it stays over what an instruction does to the memory.
+abbrev pub ExecutionKeeps : Type 0
+ExecutionKeeps =
+    (c : Context) (insn : Instruction) (memory : Memory) (effect : Effect) → execute c insn ≡ Ok (memory, effect)
+    → Keeps (world_at c) c.memory memory

@@ -38,8 +38,8 @@ returns-in-TableSwitch-clause-done c =
     rw c.in-TableSwitch.is (
       refl,
       insn_again _ _ _ _ _ _ _
-      (table_again _ _ _ _ _ _ _ _ (to_z-of_z w32 c.in-TableSwitch.default default) (to_z-of_z w32 c.in-TableSwitch.low low) (to_z-of_z w32 c.in-TableSwitch.high high))
-      c.table_switch.ensures.went,
+          (table_again _ _ _ _ _ _ _ _ (to_z-of_z w32 c.in-TableSwitch.default default) (to_z-of_z w32 c.in-TableSwitch.low low) (to_z-of_z w32 c.in-TableSwitch.high high))
+          c.table_switch.ensures.went,
     )
 
 pub returns-in-LookupSwitch-clause-done : goal.returns-in-LookupSwitch-clause-done
@@ -48,8 +48,8 @@ returns-in-LookupSwitch-clause-done c =
     rw c.in-LookupSwitch.is (
       refl,
       insn_again _ _ _ _ _ _ _
-      (ap (λ (d : ℤ). insns.LookupSwitch c.in-LookupSwitch.padding.now d c.in-LookupSwitch.pairs.now) (to_z-of_z w32 c.in-LookupSwitch.default fits))
-      c.lookup_switch.ensures.went,
+          (ap (λ (d : ℤ). insns.LookupSwitch c.in-LookupSwitch.padding.now d c.in-LookupSwitch.pairs.now) (to_z-of_z w32 c.in-LookupSwitch.default fits))
+          c.lookup_switch.ensures.went,
     )
 
 pub returns-in-Increment-clause-done : goal.returns-in-Increment-clause-done
@@ -58,7 +58,7 @@ returns-in-Increment-clause-done c =
     rw c.in-Increment.is (
       refl,
       increment_again _ _ _ _ _ _ _ _ _ (to_z-of_z w32 c.from.result (record { sfits = c.from.type_inv }) ∙ c.from.ensures ∙ to_z-of_z w16 c.in-Increment.by fits)
-      c.increment.ensures.went,
+          c.increment.ensures.went,
     )
 
 pub returns-in-Return-clause-done : goal.returns-in-Return-clause-done

@@ -1,0 +1,4 @@
+pub mod Known
+pub mod Resolved
+pub mod Calling
+pub mod Host

@@ -1,0 +1,10 @@
+pub mod Payments
+pub mod Exceptions
+pub mod Objects
+pub mod Arrays
+pub mod Units
+pub mod TextBlocks
+pub mod Literals
+pub mod Constants
+pub mod NestedBlocks
+pub mod NestedArrays

@@ -1,0 +1,37 @@
+-- Instructions that are executed in a guest whose classes are known (JVMS 2.11, 6.5): where the machine meets no fault, what it does stands
+-- afterwards, and the blocks of other guests stand as they did.
+use Rattle.std.specs.Prelude.{◌≡◌, ℕ, List, length}
+use Rattle.jv_code.specs.Insns.{Instruction}
+use Rattle.jv_meaning_machine.specs.Alone.{AreUnits}
+use Rattle.jv_meaning_machine.specs.State.{Memory}
+use Rattle.jv_meaning_machine.specs.Effects.{Effect as EffectOfNames, Context}
+use Rattle.jv_interp_words.specs.declared.registers.Registers.{Registers}
+use Rattle.jv_interp_objects.specs.ObjectsInBlocks.{Blocks}
+use Rattle.jv_interp_memory.specs.declared.held.Held.{Held}
+use Rattle.jv_interp_memory.specs.declared.effect.Effect.{Effect}
+use Rattle.jv_interp_memory.specs.Executing.{Place, Executes, HasRoom}
+use Rattle.jv_interp_memory.specs.Growing.{DidIn}
+use Rattle.jv_interp_calls.specs.Known.{Known, IsKnown, AreLoadable}
+use Rattle.jv_interp_execution.specs.OnWords.{place, part_of}
+
+-- An instruction is executed in a frame that stands in words, at a method that is known.
+pub record ExecutesIn (insn : Instruction) (next : ℕ) (k : Known) (texts : List (List ℕ)) (here : Place) (c : Context) (addresses : List ℕ) (done : Memory × EffectOfNames) (below : List ℕ) : Type 0 where
+  pub executes : Executes (part_of insn) texts next here c addresses done below
+  pub known : IsKnown k c
+  pub loadable : AreLoadable k.world c.memory.objects
+  pub units : AreUnits c.program.units
+
+-- There is such a frame, and what the instruction leaves on its stack has room.
+pub record CanExecute (insn : Instruction) (next : ℕ) (k : Known) (texts : List (List ℕ)) (at : Registers) (words : List ℕ) (held : Held) (blocks : Blocks) : Type 0 where
+  pub c : Context
+  pub addresses : List ℕ
+  pub done : Memory × EffectOfNames
+  pub below : List ℕ
+  pub executes : ExecutesIn insn next k texts (place at words held blocks) c addresses done below
+  pub room : HasRoom c below (length words) done
+
+-- For each such frame it was executed, with this effect.
+abbrev pub Executed : Instruction → ℕ → Known → List (List ℕ) → Place → Place → Effect → Type 0
+Executed insn next k texts before after effect =
+    (c : Context) (addresses : List ℕ) (done : Memory × EffectOfNames) (below : List ℕ)
+    → ExecutesIn insn next k texts before c addresses done below → DidIn before.blocks texts after effect c addresses done below
