@@ -1,10 +1,10 @@
 -- Counts that are taken from the stack, and the words that they stand in.
-use Rattle.std.proofs.Common.{◌≡◌, ℕ, zero, suc, ◌+◌, ◌-◌, ◌<◌, ◌≤◌, ℤ, pos, negsuc, Bool, true, false, ◌||◌, nat_lt, List, [], ◌∷◌, ◌++◌, Ok, map, length, reverse, replicate, take, drop, get_or, refl, sym, ap, subst, ◌∙◌, arith, append_assoc, append-nil, length-append}
+use Rattle.std.proofs.Common.{◌≡◌, ℕ, zero, suc, ◌+◌, ◌-◌, ◌<◌, ◌≤◌, ℤ, Bool, true, false, ◌||◌, nat_lt, List, [], ◌∷◌, ◌++◌, Ok, map, length, reverse, replicate, take, drop, get_or, refl, sym, ap, subst, ◌∙◌, arith, append_assoc, length-append}
 use Rattle.std.specs.Prelude.{⊤}
 use Rattle.std.specs.List.{list_any}
 use Rattle.std.specs.Int.{w32, cast_signed}
 use Rattle.std.proofs.lemmas.Bool.{ltb-true, ltb-false}
-use Rattle.std.proofs.lemmas.List.{reverse-append, reverse-reverse, length-reverse, length-replicate, take-take, take_at}
+use Rattle.std.proofs.lemmas.List.{reverse-append, reverse-reverse, take-take, take_at}
 use Rattle.std.proofs.Math.Seq.{drop-append_seam}
 use Rattle.std.proofs.Math.ListN.{length-take}
 use Rattle.jv_frames.specs.declared.verification.VerificationTypeOf.TheVariants as types

@@ -17,3 +17,6 @@ pub mod Nesting
 pub mod NestedObjects
 pub mod CountsTaken
 pub mod ManyMade
+pub mod Thrice
+pub mod StoredIn
+pub mod StoredThere

@@ -1,12 +1,11 @@
 -- multianewarray on words: what the machine does stands afterwards.
-use Rattle.std.proofs.Common.{◌≡◌, ℕ, zero, suc, ◌+◌, ◌-◌, ◌*◌, ◌<◌, ◌≤◌, Bool, true, false, List, [], ◌∷◌, ◌++◌, Option, Some, None, Ok, map, length, reverse, replicate, take, drop, set, get_or, slice_get, refl, sym, ap, subst, ◌∙◌, arith}
+use Rattle.std.proofs.Common.{◌≡◌, ℕ, zero, suc, ◌+◌, ◌-◌, ◌*◌, ◌<◌, ◌≤◌, Bool, true, false, List, [], ◌∷◌, ◌++◌, Some, Ok, map, length, reverse, replicate, take, drop, set, slice_get, sym, ap, subst, ◌∙◌, arith}
 use Rattle.std.specs.List.{list_any}
 use Rattle.std.proofs.lemmas.List.{length-replicate}
 use Rattle.jv_text.specs.declared.descriptor.FieldTypeOf.{FieldTypeOf}
 use Rattle.jv_frames.specs.declared.verification.VerificationTypeOf.TheVariants as types
 use Rattle.jv_frames.specs.Types.{FrameType, value_type, width, component}
 use Rattle.jv_meaning_world.specs.World.{World}
-use Rattle.jv_meaning_machine.specs.Faults.{OrFault, ◌>>=◌}
 use Rattle.jv_meaning_machine.specs.Values.{Value}
 use Rattle.jv_meaning_machine.specs.Values.Value.{Reference}
 use Rattle.jv_meaning_machine.specs.State.{Memory}
@@ -23,8 +22,7 @@ use Rattle.jv_interp_words.proofs.Gave.{bound_gave}
 use Rattle.jv_interp_words.proofs.Taken.{all_taken}
 use Rattle.jv_interp_words.proofs.Grown.{frame_grown}
 use Rattle.jv_interp_words.proofs.InUse.{in_use_pushed}
-use Rattle.jv_interp_objects.specs.ObjectsInBlocks.{Blocks, HasNumber, IsArrayWord, ObjectsStand}
-use Rattle.jv_interp_memory.specs.declared.held.Held.{Held}
+use Rattle.jv_interp_objects.specs.ObjectsInBlocks.{Blocks, HasNumber, ObjectsStand}
 use Rattle.jv_interp_memory.specs.declared.effect.Effect.TheVariants as effects
 use Rattle.jv_interp_memory.specs.Executing.{Place}
 use Rattle.jv_interp_memory.specs.Growing.{Grows, DidIn}
@@ -32,12 +30,12 @@ use Rattle.jv_interp_memory.proofs.Numbered.{system_numbers}
 use Rattle.jv_interp_memory.proofs.Popped.{frame_pushed}
 use Rattle.jv_interp_creation.specs.Payments.{IsLacking}
 use Rattle.jv_interp_creation.specs.Objects.{place}
-use Rattle.jv_interp_creation.specs.NestedBlocks.{nested_cost, NestedJoin}
+use Rattle.jv_interp_creation.specs.NestedBlocks.{nested_cost}
 use Rattle.jv_interp_creation.specs.NestedArrays.{AreCounts, AreWords, is_negative_word, NestedPaid, arrays_of, HoldsArrays, MakingArrays}
 use Rattle.jv_interp_creation.proofs.More.{memory_grown}
 use Rattle.jv_interp_creation.proofs.Went.{done_same, paid_lacks, paid_left, lacks_in, raises_in, goes_in}
 use Rattle.jv_interp_creation.proofs.Behind.{addresses_in, behind_grows, under_more, under_all, all_joined}
-use Rattle.jv_interp_creation.proofs.NestedObjects.{cost_is, PlacedAt, OneStands, nested_stand}
+use Rattle.jv_interp_creation.proofs.NestedObjects.{cost_is, PlacedAt, nested_stand}
 use Rattle.jv_interp_creation.proofs.CountsTaken.{AreInts, ints_taken, OnTop, on_top, words_count, Among, among, negatives, are_counts, counts_are}
 
 -- ---- types

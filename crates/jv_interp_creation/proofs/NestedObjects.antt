@@ -1,5 +1,5 @@
 -- Arrays of arrays in their blocks: each stands where the machine's object with its number does.
-use Rattle.std.proofs.Common.{◌≡◌, ℕ, zero, suc, ◌+◌, ◌-◌, ◌*◌, ◌<◌, ◌≤◌, List, [], ◌∷◌, ◌++◌, Some, map, length, replicate, slice_get, refl, sym, ap, subst, ◌∙◌, arith, length-append}
+use Rattle.std.proofs.Common.{◌≡◌, ℕ, zero, suc, ◌+◌, ◌-◌, ◌*◌, ◌≤◌, List, [], ◌∷◌, ◌++◌, Some, map, length, replicate, slice_get, refl, sym, ap, subst, ◌∙◌, arith, length-append}
 use Rattle.std.specs.Prelude.{⊤}
 use Rattle.std.specs.List.{flat_map, range_with_len}
 use Rattle.std.proofs.lemmas.List.{length-map, length-replicate}
@@ -10,10 +10,9 @@ use Rattle.jv_text.specs.Descriptor.{field_slots}
 use Rattle.jv_frames.specs.Types.{value_type, value_type_by, width, component}
 use Rattle.jv_meaning_world.specs.World.{World}
 use Rattle.jv_meaning_machine.specs.Values.{Value, default_of_type}
-use Rattle.jv_meaning_machine.specs.Values.Value.{Reference}
 use Rattle.jv_meaning_machine.specs.Objects.{Object, new_array}
 use Rattle.jv_meaning_machine.specs.Objects.Object.{ArrayWith}
-use Rattle.jv_meaning_machine.specs.Costs.{array_cells, arrays_cells}
+use Rattle.jv_meaning_machine.specs.Costs.{arrays_cells}
 use Rattle.jv_meaning_machine.specs.Arrays.{arrays_in, inner_numbers, reference_to, arrays_made}
 use Rattle.jv_interp_objects.specs.ObjectsInBlocks.{Blocks, AreComponents, IsArrayWord, ObjectStands}
 use Rattle.jv_interp_objects.proofs.NewObjects.{components_begin}

@@ -1,8 +1,8 @@
 -- Arrays in an array are taken back, the newest first.
-use Rattle.std.proofs.Common.{◌≡◌, ℕ, zero, suc, ◌+◌, ◌-◌, ◌*◌, ◌<◌, ◌≤◌, List, [], ◌∷◌, ◌++◌, length, get_or, drop, refl, sym, ap, subst, ◌∙◌, arith, append-nil, append_assoc, length-append}
+use Rattle.std.proofs.Common.{◌≡◌, ℕ, suc, ◌+◌, ◌-◌, ◌*◌, ◌<◌, ◌≤◌, List, [], ◌∷◌, ◌++◌, length, get_or, drop, sym, ap, subst, ◌∙◌, arith, append-nil, append_assoc, length-append}
 use Rattle.std.proofs.Math.Seq.{get_or-append_seam}
 use Rattle.std.proofs.lemmas.List.{nil_from_length}
-use Rattle.jv_heap.specs.Content.{words_at, greatest}
+use Rattle.jv_heap.specs.Content.{words_at}
 use Rattle.jv_interp_objects.specs.ObjectsInBlocks.{Blocks}
 use Rattle.jv_interp_objects.specs.NewBlocks.{Joins}
 use Rattle.jv_interp_creation.specs.NestedBlocks.{outer_slots, inner_size, Follow, AreNested, EachAbove, HasInner, CanTakeInner, TakesInner}

@@ -8,3 +8,4 @@ pub mod Literals
 pub mod Constants
 pub mod NestedBlocks
 pub mod NestedArrays
+pub mod Stores

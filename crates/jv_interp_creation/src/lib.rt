@@ -1,4 +1,5 @@
-//! The making of objects and arrays, in words (JVMS 6.5: new, newarray, anewarray, multianewarray, ldc; 2.10, 5.1). A room of `jv_interp`.
+//! Objects and arrays that are made, and numbers that are stored in arrays, in words (JVMS 6.5: new, newarray, anewarray,
+//! multianewarray, ldc, ldc2_w, iastore and its kin; 2.10, 5.1). A room of `jv_interp`.
 #![tactic(auto)]
 
 mod arrays;
@@ -9,6 +10,7 @@ mod literals;
 mod multiple;
 mod nested;
 mod objects;
+mod stores;
 mod texts;
 mod units;
 
@@ -20,5 +22,6 @@ pub use literals::literal;
 pub use multiple::{new_nested_array, pay_nested};
 pub use nested::make_nested;
 pub use objects::new_object;
+pub use stores::{store_byte, store_int, store_long};
 pub use texts::pay_text;
 pub use units::{CHARS, count_units, fill};

@@ -1,4 +1,4 @@
-use Rattle.std.proofs.Common.{◌≡◌, ℕ, ◌<◌, refl, sym, ◌∙◌, arith, get_or}
+use Rattle.std.proofs.Common.{refl, sym, ◌∙◌, arith}
 use Rattle.jv_interp_creation.specs.Objects.{place}
 use Rattle.jv_interp_creation.proofs.CountsTaken.{are_counts}
 use Rattle.jv_interp_creation.proofs.ManyMade.{within, some, few, word_fits, counts_length, raises, lacking, made}

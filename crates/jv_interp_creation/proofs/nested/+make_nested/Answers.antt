@@ -1,11 +1,9 @@
-use Rattle.std.proofs.Common.{◌≡◌, ℕ, ◌+◌, ◌-◌, ◌*◌, ◌<◌, ◌≤◌, List, length, drop, get_or, replicate, ◌∷◌, refl, sym, ap, subst, ◌∙◌, arith, length-drop}
-use Rattle.jv_heap.specs.Content.{words_at, greatest, without}
-use Rattle.jv_interp_objects.specs.ObjectsInBlocks.{Blocks}
+use Rattle.std.proofs.Common.{◌≡◌, ℕ, ◌+◌, ◌-◌, ◌*◌, ◌<◌, ◌≤◌, List, length, drop, get_or, sym, ap, subst, ◌∙◌, arith, length-drop}
 use Rattle.jv_interp_objects.proofs.NewWords.{joined_length}
-use Rattle.jv_interp_creation.specs.NestedBlocks.{nested_cost, inner_size, outer_slots, NestedJoin}
+use Rattle.jv_interp_creation.specs.NestedBlocks.{nested_cost, inner_size, NestedJoin}
 use Rattle.jv_interp_creation.proofs.TextJoined.{newest_address, taken_back}
 use Rattle.jv_interp_creation.proofs.Following.{first_of, cost_parts, inner_words, some_inner, one_at_least, costs_more}
-use Rattle.jv_interp_creation.proofs.Nesting.{Nesting, nesting_begins, words_length, has_place, nesting_goes_on, nested_can, outer_joins, nesting_ends}
+use Rattle.jv_interp_creation.proofs.Nesting.{nesting_begins, words_length, has_place, nesting_goes_on, nested_can, outer_joins}
 use Rattle.jv_interp_creation.proofs.nested.+make_nested.Goals as goal
 
 pub loop-made-init : goal.loop-made-init

@@ -1,11 +1,10 @@
-use Rattle.std.proofs.Common.{◌≡◌, ℕ, ◌+◌, ◌-◌, ◌*◌, ◌<◌, ◌≤◌, List, length, drop, get_or, refl, sym, ap, subst, ◌∙◌, arith, length-drop}
-use Rattle.jv_heap.specs.Content.{words_at, greatest, without}
-use Rattle.jv_interp_objects.specs.ObjectsInBlocks.{Blocks}
+use Rattle.std.proofs.Common.{◌≡◌, ℕ, ◌*◌, ◌<◌, ◌≤◌, List, length, drop, get_or, refl, sym, ap, subst, ◌∙◌, arith, length-drop}
+use Rattle.jv_heap.specs.Content.{words_at, without}
 use Rattle.jv_interp_objects.proofs.NewWords.{joined_length}
 use Rattle.jv_interp_creation.specs.NestedBlocks.{nested_cost, inner_size}
 use Rattle.jv_interp_creation.proofs.TextJoined.{newest_address, taken_back}
-use Rattle.jv_interp_creation.proofs.Following.{first_of, cost_parts, inner_words, one_at_least, one_less}
-use Rattle.jv_interp_creation.proofs.Taking.{Taking, taking_begins, taking_ends, l, s, o, last_word, has_place, inner_can, left_joins, left_length, taking_goes_on}
+use Rattle.jv_interp_creation.proofs.Following.{cost_parts, inner_words, one_at_least, one_less}
+use Rattle.jv_interp_creation.proofs.Taking.{Taking, taking_begins, taking_ends, o, last_word, has_place, inner_can, left_joins, left_length, taking_goes_on}
 use Rattle.jv_interp_creation.proofs.nested.+take_back_inner.Goals as goal
 
 pub loop-left-init : goal.loop-left-init
