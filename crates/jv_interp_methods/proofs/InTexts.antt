@@ -59,6 +59,7 @@ joined_differ names text absent differ number other t at other_at = by_cases (at
   where
     clash : true ≡ false → ⊥
     clash e = cc
+
     by_cases :
         (slice_get names number ≡ Some t) ⊎ ((number ≡ length names) × (text ≡ t)) → (slice_get names other ≡ Some t) ⊎ ((other ≡ length names) × (text ≡ t))
         → other ≡ number
@@ -126,6 +127,7 @@ written_back new old len same len_is =
     dropped [] (suc n) h = refl
     dropped (x ∷ xs) zero h = absurd (omega (arith, h))
     dropped (x ∷ xs) (suc n) h = dropped xs n (omega (arith, h))
+
     taken : {A : Type 0} (xs : List A) (n : ℕ) → length xs ≤ n → take n xs ≡ xs
     taken [] zero h = refl
     taken [] (suc n) h = refl
@@ -171,7 +173,7 @@ pub text_at :
     (world : World) (texts : Texts) (class index : ℕ) (l : Loaded) (text : List ℕ) → AreTexts world texts → slice_get world class ≡ Some l
     → string_at l.class.constant_pool index ≡ Some text
     → (row : ClassTexts) × (slice_get texts.classes.items class ≡ Some row)
-      × (number : ℕ) × (slice_get row.numbers.items index ≡ Some number) × HasText texts.names text number
+    × (number : ℕ) × (slice_get row.numbers.items index ≡ Some number) × HasText texts.names text number
 text_at world texts class index l text h at string =
     let row = from_found (slice_get texts.classes.items class) (AreTextsOf texts.names l) (h.classes class l at) in
     let number = from_found (slice_get row.0.numbers.items index) (HasText texts.names text) (row.2 index text string) in
@@ -198,8 +200,10 @@ one_class_more old new world classes row count extends many h own class m less a
     last : (rows : List ClassTexts) → slice_get (rows ++ row ∷ []) (length rows) ≡ Some row
     last [] = refl
     last (r ∷ rows) = last rows
+
     at_most : (a b : ℕ) → a < b + 1 → a ≤ b
     at_most a b h = omega (arith, h)
+
     by_order : (class ≡ count) ⊎ (class < count) → IsSomeAnd (slice_get (classes ++ row ∷ []) class) (AreTextsOf new m)
     by_order (inr below) =
         let r = from_found (slice_get classes class) (AreTextsOf new m) (texts_grown old new classes class m extends (h class m below at)) in
@@ -225,6 +229,7 @@ string_within pool index text e = by_order (cases_lt index (pool_count pool))
     none_there : (o : Option Entry) → o ≡ None → string_in pool o ≡ Some text → ⊥
     none_there None f g = absurd cc
     none_there (Some c) f g = absurd cc
+
     by_order : (index < pool_count pool) ⊎ (pool_count pool ≤ index) → index < pool_count pool
     by_order (inl h) = h
     by_order (inr h) = absurd (none_there (at_index pool index) (past_table pool index h) e)

@@ -112,6 +112,7 @@ number_at (m ∷ more) zero member l d at e =
   where
     zero_more : 0 + member ≡ member
     zero_more = omega arith
+
     in_front : (xs ys : List Declared) (k : ℕ) (x : Declared) → slice_get xs k ≡ Some x → slice_get (xs ++ ys) k ≡ Some x
     in_front [] ys k x h = absurd cc
     in_front (y ∷ xs) ys zero x h = h
@@ -126,8 +127,10 @@ number_at (m ∷ more) (suc class) member l d at e =
 
     zero_more : (k : ℕ) → 0 + k ≡ k
     zero_more k = omega arith
+
     next_is : (n k : ℕ) → suc n + k ≡ suc (n + k)
     next_is n k = omega arith
+
     behind : (xs ys : List Declared) (k : ℕ) → slice_get (xs ++ ys) (length xs + k) ≡ slice_get ys k
     behind [] ys k = ap (slice_get ys) (zero_more k)
     behind (x ∷ xs) ys k = ap (slice_get (x ∷ (xs ++ ys))) (next_is (length xs) k) ∙ behind xs ys k
@@ -141,6 +144,7 @@ numbered world methods place d first number h at first_is is = by_class (slice_g
   where
     count : length methods.rows.items ≡ length (methods_of world)
     count = sym (length-map methods.rows.items (method_in world)) ∙ ap length h.rows.places ∙ length-map (methods_of world) known
+
     by_class : (o : Option Loaded) → slice_get world place.class ≡ o → (o >>= method_of place.member) ≡ Some d → slice_get (methods_of world) number ≡ Some d
     by_class None e found = absurd cc
     by_class (Some l) e found =

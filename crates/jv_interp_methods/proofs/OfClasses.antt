@@ -76,6 +76,7 @@ methods_made world methods class all rows firsts few = record {
   where
     zero_more : (n : ℕ) → 0 + n ≡ n
     zero_more n = omega arith
+
     firsts_are : methods.firsts.items ≡ firsts_from 0 world
     firsts_are =
         sym (ap (λ (ls : World). methods.firsts.items ++ firsts_from (length methods.rows.items) ls) (all_dropped world class all)

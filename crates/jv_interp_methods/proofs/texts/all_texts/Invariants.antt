@@ -8,4 +8,4 @@ abbrev pub invariant-loop-class : goal.invariant-loop-class
 invariant-loop-class l =
     AreDifferent l.names × (length l.classes.items ≡ l.class)
     × ((class : ℕ) (m : Loaded) → class < l.class → slice_get l.table class ≡ Some m
-       → IsSomeAnd (slice_get l.classes.items class) (AreTextsOf l.names m))
+    → IsSomeAnd (slice_get l.classes.items class) (AreTextsOf l.names m))
