@@ -19,7 +19,7 @@ use Rattle.jv_meaning_world.proofs.Up.{same_name}
 use Rattle.jv_meaning_world.specs.World.{Loaded, World}
 use Rattle.jv_interp_methods.specs.declared.texts.ClassTexts.{ClassTexts}
 use Rattle.jv_interp_methods.specs.declared.texts.Texts.{Texts}
-use Rattle.jv_interp_methods.specs.Texts.{HasText, AreDifferent, AreNumbers, AreTextsOf, AreTexts}
+use Rattle.jv_interp_methods.specs.Texts.{HasText, AreDifferent, AreShort, AreNumbers, AreTextsOf, AreTexts}
 use Rattle.jv_interp_methods.specs.Inside.Numbering.{Extends, Numbers, IsKnown, IsNumberAt, AreBefore}
 
 pub some_same : {A : Type 0} → {x y : A} → Some x ≡ Some y → x ≡ y
@@ -68,21 +68,29 @@ joined_differ names text absent differ number other t at other_at = by_cases (at
     by_cases (inr a) (inl b) = absurd (clash (sym (has_at names text other (b ∙ ap Some (sym a.1))) ∙ absent))
     by_cases (inr a) (inr b) = b.0 ∙ sym a.0
 
-pub joined_numbers : (names : List (List ℕ)) (text : List ℕ) → Numbers names (with_name names text)
-joined_numbers names text = by_test (has_name names text) refl
+joined_short : (names : List (List ℕ)) (text : List ℕ) → length text < 2147483648 → AreShort names → AreShort (names ++ text ∷ [])
+joined_short names text few short number t at = by_cases (at_end names text t number at)
+  where
+    by_cases : (slice_get names number ≡ Some t) ⊎ ((number ≡ length names) × (text ≡ t)) → length t < 2147483648
+    by_cases (inl a) = short number t a
+    by_cases (inr b) = subst (λ (x : List ℕ). length x < 2147483648) b.1 few
+
+pub joined_numbers : (names : List (List ℕ)) (text : List ℕ) → length text < 2147483648 → Numbers names (with_name names text)
+joined_numbers names text few = by_test (has_name names text) refl
   where
     by_test : (b : Bool) → has_name names text ≡ b → Numbers names (if b then names else names ++ text ∷ [])
-    by_test true e = record { extends = λ number t at. at; differ = λ h. h }
-    by_test false e = record { extends = λ number t at. in_front names (text ∷ []) number t at; differ = λ h. joined_differ names text e h }
+    by_test true e = record { extends = λ number t at. at; differ = λ h. h; short = λ h. h }
+    by_test false e = record { extends = λ number t at. in_front names (text ∷ []) number t at; differ = λ h. joined_differ names text e h; short = λ h. joined_short names text few h }
 
 pub numbers_go_on : (a b c : List (List ℕ)) → Numbers a b → Numbers b c → Numbers a c
 numbers_go_on a b c h k = record {
   extends = λ number t at. k.extends number t (h.extends number t at);
   differ = λ d. k.differ (h.differ d);
+  short = λ s. k.short (h.short s);
 }
 
 pub same_numbers : (a : List (List ℕ)) → Numbers a a
-same_numbers a = record { extends = λ number t at. at; differ = λ d. d }
+same_numbers a = record { extends = λ number t at. at; differ = λ d. d; short = λ s. s }
 
 pub found_text : (names : List (List ℕ)) (text : List ℕ) (number : ℕ) → position (bytes_eq text) names ≡ Some number → HasText names text number
 found_text names text number e =

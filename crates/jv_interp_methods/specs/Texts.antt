@@ -1,6 +1,6 @@
 -- The texts that String constants of a guest's classes name (JVMS 4.4.3): no two are the same, and the number of one is its place among
 -- them.
-use Rattle.std.specs.Prelude.{◌≡◌, ℕ, List, Option, Some, ◌++◌, slice_get, IsSomeAnd}
+use Rattle.std.specs.Prelude.{◌≡◌, ℕ, ◌<◌, List, Some, length, slice_get, IsSomeAnd}
 use Rattle.jv_pool.specs.Constants.{Entry, string_at}
 use Rattle.jv_meaning_world.specs.World.{Loaded, World}
 use Rattle.jv_interp_methods.specs.declared.texts.ClassTexts.{ClassTexts}
@@ -11,6 +11,10 @@ HasText texts text number = slice_get texts number ≡ Some text
 
 abbrev pub AreDifferent : List (List ℕ) → Type 0
 AreDifferent texts = (number other : ℕ) (text : List ℕ) → HasText texts text number → HasText texts text other → other ≡ number
+
+-- each has fewer than 2^31 bytes (own): no file holds more
+abbrev pub AreShort : List (List ℕ) → Type 0
+AreShort texts = (number : ℕ) (text : List ℕ) → HasText texts text number → length text < 2147483648
 
 -- each String constant of a pool has its text's number
 abbrev pub AreNumbers : List (List ℕ) → List Entry → List ℕ → Type 0
@@ -23,4 +27,5 @@ AreTextsOf texts l row = AreNumbers texts l.class.constant_pool row.numbers.item
 -- and so each class's
 pub record AreTexts (world : World) (texts : Texts) : Type 0 where
   pub differ : AreDifferent texts.names
+  pub short : AreShort texts.names
   pub classes : (class : ℕ) (l : Loaded) → slice_get world class ≡ Some l → IsSomeAnd (slice_get texts.classes.items class) (AreTextsOf texts.names l)

@@ -32,6 +32,9 @@ fn number_of<'a>(names: &mut Names<'a>, text: &'a [u8]) -> Result<u32, AllocErro
     ensures numbers { OnOk result (Numbers names.old names.new) }
     ensures text { IfOk result (HasText names.new text.now) }
 {
+    if text.len() >= 2_147_483_648 {
+        return Err(AllocError);
+    }
     names.add(text)?;
     match names.place_of(text) {
         Some(place) if place <= 4_294_967_295 => Ok(place as u32),
@@ -180,7 +183,7 @@ impl<'a> Texts<'a> {
     ///
     /// # Errors
     ///
-    /// Where the host had no memory for them.
+    /// Where the host had no memory for them, or a text has 2^31 bytes or more (own).
     pub fn of(
         alloc: Global,
         state: RandomState,

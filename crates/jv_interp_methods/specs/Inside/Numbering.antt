@@ -1,16 +1,17 @@
 -- Texts that get numbers one after the other.
 use Rattle.std.specs.Prelude.{◌≡◌, ℕ, ⊤, List, ◌++◌, Option, Some, None, slice_get}
 use Rattle.jv_pool.specs.Constants.{Entry, utf8_at, string_at}
-use Rattle.jv_interp_methods.specs.Texts.{HasText, AreDifferent}
+use Rattle.jv_interp_methods.specs.Texts.{HasText, AreDifferent, AreShort}
 
 -- others may have joined behind them
 abbrev pub Extends : List (List ℕ) → List (List ℕ) → Type 0
 Extends old new = (number : ℕ) (text : List ℕ) → HasText old text number → HasText new text number
 
--- no two are the same still
+-- no two are the same still, and none is long
 pub record Numbers (old new : List (List ℕ)) : Type 0 where
   pub extends : Extends old new
   pub differ : AreDifferent old → AreDifferent new
+  pub short : AreShort old → AreShort new
 
 -- the number of the text at an index is known, or not yet
 abbrev pub IsKnown : List (List ℕ) → List Entry → Option (ℕ × ℕ) → Type 0
