@@ -1,3 +1,4 @@
 pub mod Components
 pub mod InGuest
 pub mod OnWords
+pub mod PoolConstants

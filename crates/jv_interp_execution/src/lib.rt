@@ -4,5 +4,6 @@
 mod array_loads;
 mod new_arrays;
 mod on_words;
+mod pool_constants;
 
 pub use on_words::execute_on_words;

@@ -1,0 +1,87 @@
+//! Constants of a class's pool that are pushed.
+
+ghost use Rattle.std.specs.Prelude.{◌≡◌, ◌+◌, ◌≤◌, ◌<◌, ℕ, List, length, IfOk, IsOk, IsTrue, OnOk, OnErr};
+ghost use Rattle.jv_code.specs.declared.insn.Insn.TheVariants.{PoolConstant as PoolConstantInsn};
+ghost use Rattle.jv_code.specs.declared.kinds.IndexForm.{IndexForm};
+ghost use Rattle.jv_interp_calls.specs.Known.{Known};
+ghost use Rattle.jv_interp_going.specs.Going.{StaysIn};
+ghost use Rattle.jv_interp_methods.specs.Texts.{AreTexts};
+ghost use Rattle.jv_interp_execution.specs.OnWords.{place};
+ghost use Rattle.jv_interp_execution.specs.InGuest.{CanExecute, Executed};
+ghost use Rattle.jv_interp_execution.specs.PoolConstants.{IsConstantOf, IsOfSite};
+
+use jv_heap::{Memory, Store};
+use jv_interp_creation::{push_int, push_string};
+use jv_interp_memory::{Effect, Held};
+use jv_interp_methods::Texts;
+use jv_interp_words::Registers;
+use jv_link::{Site, class_at};
+use jv_loader::Classes;
+use jv_meaning_machine::execution_keeps;
+
+/// A constant of one word that can be pushed (JVMS 6.5, ldc): an int by its bits, or the text of a string.
+#[derive(Clone, Copy)]
+pub enum PoolConstant<'a> {
+    Int(u32),
+    String(&'a [u8]),
+}
+
+/// The constant at an index of the class with a number, where it can be pushed.
+fn constant_of<'a>(classes: &Classes<'a>, class: usize, index: u16) -> Option<PoolConstant<'a>>
+    requires { class < length classes.now.world }
+    ensures { IsConstantOf classes.now.world class index result }
+{
+    let Some(file) = class_at(classes.table(), class).file() else {
+        return None;
+    };
+    let pool = file.pool();
+    if let Some(text) = pool.string_index(index) {
+        return Some(PoolConstant::String(pool.string(text)));
+    }
+    match pool.integer_index(index) {
+        Some(number) => Some(PoolConstant::Int(pool.integer(number).cast_unsigned())),
+        None => None,
+    }
+}
+
+/// `ldc` and `ldc_w`.
+///
+/// # Errors
+///
+/// Where the host had no memory for a string; all is then as it was.
+pub(crate) fn execute_pool_constant<'a, 'l, S: Store>(
+    classes: &Classes<'a>,
+    texts: &Texts<'a>,
+    site: Site,
+    store: &mut S,
+    held: &mut Held,
+    words: &mut [u32],
+    at: &mut Registers<'l>,
+    next: u32,
+    index: u16,
+) -> Result<Effect, Memory>
+    requires can { (form : IndexForm) × (k : Known) × IsOfSite classes.now.world site k × AreTexts k.world texts.now
+        × CanExecute (PoolConstantInsn index form) next k texts.now.names at.old words.old held.old (S.content store.old) }
+    requires cells { held.old.cells ≤ S.room_left store.old }
+    ensures done { IfOk result (λ effect. (form : IndexForm) (k : Known) → IsOfSite classes.now.world site k → AreTexts k.world texts.now
+        → Executed (PoolConstantInsn index form) next k texts.now.names
+        (place at.old words.old held.old (S.content store.old)) (place at.new words.new held.new (S.content store.new)) effect) }
+    ensures stays { StaysIn at.old at.new words.new }
+    ensures room { OnOk result (S.room_left store.old + held.new.cells ≡ S.room_left store.new + held.old.cells) }
+    ensures refused_at { OnErr result (at.new ≡ at.old) }
+    ensures refused_words { OnErr result (words.new ≡ words.old) }
+    ensures refused_held { OnErr result (held.new ≡ held.old) }
+    ensures refused { OnErr result (S.content store.new ≡ S.content store.old) }
+    ensures refused_room { OnErr result (S.room_left store.new ≡ S.room_left store.old) }
+    ensures sure { IsTrue S.SURE → IsOk result }
+{
+    execution_keeps();
+    match constant_of(classes, site.class, index) {
+        Some(PoolConstant::Int(bits)) => Ok(push_int(words, at, next, bits)),
+        Some(PoolConstant::String(text)) => {
+            let number = texts.number(site.class, index) as usize;
+            push_string(store, held, words, at, next, number, text)
+        }
+        None => unreachable!(),
+    }
+}
