@@ -11,3 +11,4 @@ pub mod CallsWork
 pub mod HostWork
 pub mod HostMethods
 pub mod StaticWork
+pub mod UsedAtSite

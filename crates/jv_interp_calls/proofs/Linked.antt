@@ -4,16 +4,18 @@ use Rattle.std.specs.Option.{option_map}
 use Rattle.jv_meaning_world.specs.World.{World, world_of}
 use Rattle.jv_meaning_world.specs.System.Classes.{system_classes}
 use Rattle.jv_meaning_world.specs.Overriding.{Declared}
-use Rattle.jv_lookups.specs.Places.{method_at}
+use Rattle.jv_meaning_world.specs.LookUps.{DeclaredField}
+use Rattle.jv_lookups.specs.Places.{field_at, method_at}
 use Rattle.jv_meaning_linking.specs.LinkErrors.{LinkError as ErrorOfNames, OrError, error_class}
 use Rattle.jv_meaning_linking.specs.MethodResolution.{MethodTarget}
 use Rattle.jv_link.specs.declared.error.LinkError.{LinkError}
 use Rattle.jv_link.specs.declared.target.MethodTarget.{MethodTarget as TargetByNumber}
 use Rattle.jv_link.specs.Seen.{answer, error_of, method_target_at}
+use Rattle.jv_linked.specs.declared.field_use.FieldUse.{FieldUse}
 use Rattle.jv_interp_words.specs.FramesInWords.{methods_of}
 use Rattle.jv_interp_objects.specs.ObjectsInBlocks.{HasNumber}
 use Rattle.jv_interp_memory.specs.SystemNumbers.{IsGuestsWorld, AreSystemNumbers, SystemHasNumbers}
-use Rattle.jv_interp_calls.specs.Resolved.{IsErrorOf, IsTargetOf, IsMethodOf}
+use Rattle.jv_interp_calls.specs.Resolved.{IsErrorOf, IsTargetOf, IsMethodOf, IsFieldOf}
 use Rattle.jv_interp_calls.proofs.Sites.{some_same, target_place}
 
 pub target_answered :
@@ -33,6 +35,16 @@ pub method_answered :
 method_answered world expected selected number e numbers =
     let t = target_answered world expected selected e in
     record { target = t.target; is = t.is; numbered = numbers t.target.declared (target_place world selected t.target t.at) }
+
+pub field_answered :
+    (world : World) (expected : OrError DeclaredField) (used : FieldUse) → option_map answer (field_at world used.place) ≡ Some expected
+    → IsFieldOf world expected used
+field_answered world expected used e = by_field (field_at world used.place) refl e
+  where
+    by_field :
+        (o : Option DeclaredField) → field_at world used.place ≡ o → option_map answer o ≡ Some expected → IsFieldOf world expected used
+    by_field None at e = absurd cc
+    by_field (Some d) at e = record { d = d; is = sym (some_same (answer d) expected e); at = at }
 
 pub error_answered :
     {A : Type 0} (world : World) (expected : OrError A) (error : LinkError) (number : ℕ) → Some (Err (error_of error)) ≡ Some expected

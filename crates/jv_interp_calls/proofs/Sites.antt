@@ -2,12 +2,13 @@
 use Rattle.std.proofs.Common.{◌≡◌, ℕ, ◌<◌, Option, Some, None, length, refl, sym, ap, subst, ◌∙◌, slice_get}
 use Rattle.std.specs.Option.{option_map}
 use Rattle.jv_format.specs.Format.{◌>>=◌}
-use Rattle.jv_class.specs.Class.{Method}
+use Rattle.jv_class.specs.Class.{Field, Method}
 use Rattle.jv_meaning_world.specs.World.{Loaded, World}
 use Rattle.jv_meaning_world.specs.Overriding.{Declared}
 use Rattle.jv_meaning_world.specs.Verdicts.{declared_by}
+use Rattle.jv_meaning_world.specs.LookUps.{DeclaredField, field_by}
 use Rattle.jv_lookups.specs.declared.place.Place.{Place}
-use Rattle.jv_lookups.specs.Places.{method_of, method_at, IsMethodPlace}
+use Rattle.jv_lookups.specs.Places.{field_in, field_at, method_of, method_at, IsMethodPlace}
 use Rattle.jv_meaning_linking.specs.MethodResolution.{MethodTarget, target}
 use Rattle.jv_link.specs.declared.target.MethodTarget.{MethodTarget as TargetByNumber}
 use Rattle.jv_link.specs.Seen.{method_target_at}
@@ -62,3 +63,16 @@ target_place world called t e = by_class (slice_get world called.named) e
     by_class : (o : Option Loaded) → (o >>= λ l. option_map (target l) (method_at world called.declared)) ≡ Some t → method_at world called.declared ≡ Some t.declared
     by_class None e = absurd cc
     by_class (Some l) e = by_method l (method_at world called.declared) e
+
+-- ---- fields
+
+pub field_class : (world : World) (place : Place) (d : DeclaredField) → field_at world place ≡ Some d → slice_get world place.class ≡ Some d.by
+field_class world place d e = by_class (slice_get world place.class) refl e
+  where
+    by_member : (l : Loaded) (o : Option Field) → slice_get world place.class ≡ Some l → option_map (field_by l) o ≡ Some d → slice_get world place.class ≡ Some d.by
+    by_member l None at e = absurd cc
+    by_member l (Some f) at e = at ∙ ap (λ (x : DeclaredField). Some x.by) (some_same (field_by l f) d e)
+
+    by_class : (o : Option Loaded) → slice_get world place.class ≡ o → (o >>= field_in place.member) ≡ Some d → slice_get world place.class ≡ Some d.by
+    by_class None at e = absurd cc
+    by_class (Some l) at e = by_member l (slice_get l.class.fields place.member) at e

@@ -1,5 +1,5 @@
--- What is known of a guest's classes where a method runs (JVMS 2.6, 5.4, 5.5): the classes themselves, what they link to, the methods of
--- all of them by number, the method's place among them, and how far the initialization of each class is.
+-- What is known of a guest's classes where a method runs (JVMS 2.6, 5.4): the classes themselves, what they link to, and the method's
+-- place among them.
 use Rattle.std.specs.Prelude.{◌≡◌, ℕ, ◌<◌, List, length, Some, IsTrue, slice_get}
 use Rattle.jv_meaning_world.specs.World.{Loaded, World, class_named}
 use Rattle.jv_meaning_world.specs.Verdicts.{is_loadable}
@@ -10,21 +10,15 @@ use Rattle.jv_linked.specs.Linked.{IsLinked}
 use Rattle.jv_meaning_machine.specs.Objects.{Object, Instance}
 use Rattle.jv_meaning_machine.specs.Objects.Object.{InstanceOf}
 use Rattle.jv_meaning_machine.specs.Effects.{Context}
-use Rattle.jv_interp_memory.specs.declared.class_state.ClassState.{ClassState}
-use Rattle.jv_interp_memory.specs.ClassStates.{AreClassStates}
 use Rattle.jv_interp_memory.specs.SystemNumbers.{IsGuestsWorld}
-use Rattle.jv_interp_methods.specs.declared.methods.Methods.{Methods}
-use Rattle.jv_interp_methods.specs.Methods.{AreMethods}
 
 pub record Known : Type 0 where
   pub world : World
   pub linked : Linked
-  pub methods : Methods
   pub site : Site
-  pub states : List ClassState
 
-abbrev pub known : World → Linked → Methods → Site → List ClassState → Known
-known world linked methods site states = record { world = world; linked = linked; methods = methods; site = site; states = states }
+abbrev pub known : World → Linked → Site → Known
+known world linked site = record { world = world; linked = linked; site = site }
 
 -- It is known of the classes that the machine knows, at the method that it runs. There are fewer than 2^31 classes (own).
 pub record IsKnown (k : Known) (c : Context) : Type 0 where
@@ -32,9 +26,7 @@ pub record IsKnown (k : Known) (c : Context) : Type 0 where
   pub guests : IsGuestsWorld k.world
   pub few : length k.world < 2147483648
   pub linked : IsLinked k.world k.linked
-  pub methods : AreMethods k.world k.methods
   pub site : seen_site k.world k.site ≡ Some c.frame.method.site
-  pub states : AreClassStates k.world c.states k.states
 
 -- Each object is of a class that can be loaded (5.3.5): only such a class is resolved, and the machine makes objects of no others.
 abbrev pub AreLoadable : World → List Object → Type 0

@@ -1,10 +1,14 @@
--- What linking answers, as a call needs it (JVMS 5.4.3.3, 5.4.3.4, 6.5): the method that is called or run, or the number of the class of
--- the error that is thrown.
+-- What linking answers, as instructions need it (JVMS 5.4.3.2 to 5.4.3.4, 6.5): the field that is used, or the method that is called or
+-- run, or the number of the class of the error that is thrown.
 use Rattle.std.specs.Prelude.{◌≡◌, ℕ, ◌<◌, Some, None, Option, Result, Ok, Err, slice_get, nat_lt, if◌then◌else◌}
+use Rattle.jv_pool.specs.Constants.{MemberReference}
 use Rattle.jv_meaning_world.specs.World.{World}
+use Rattle.jv_meaning_world.specs.LookUps.{DeclaredField}
+use Rattle.jv_lookups.specs.Places.{field_at}
 use Rattle.jv_meaning_linking.specs.Uses.{Site as SiteOfNames}
 use Rattle.jv_meaning_linking.specs.LinkErrors.{LinkError, OrError, error_class}
-use Rattle.jv_meaning_linking.specs.Operands.{MethodReference, method_operand}
+use Rattle.jv_meaning_linking.specs.Operands.{MethodReference, field_operand, method_operand}
+use Rattle.jv_meaning_linking.specs.FieldResolution.{resolve_field}
 use Rattle.jv_meaning_linking.specs.MethodResolution.{MethodTarget, resolve_method}
 use Rattle.jv_meaning_linking.specs.Selection.{select}
 use Rattle.jv_link.specs.declared.site.Site.{Site}
@@ -12,6 +16,7 @@ use Rattle.jv_link.specs.declared.site.Use.{Use}
 use Rattle.jv_link.specs.declared.target.MethodTarget.{MethodTarget as TargetByNumber}
 use Rattle.jv_link.specs.Seen.{method_target_at, seen_site, seen_use}
 use Rattle.jv_link.specs.Objects.{object_class_at}
+use Rattle.jv_linked.specs.declared.field_use.FieldUse.{FieldUse}
 use Rattle.jv_linked.specs.declared.method_use.MethodUse.{MethodUse}
 use Rattle.jv_interp_words.specs.FramesInWords.{methods_of}
 use Rattle.jv_interp_objects.specs.ObjectsInBlocks.{HasNumber}
@@ -57,3 +62,20 @@ abbrev pub IsRun : World → Site → Use → TargetByNumber → ℕ → Result 
 IsRun world site how called word answer =
     (s : SiteOfNames) (t : MethodTarget) → seen_site world site ≡ Some s → method_target_at world called ≡ Some t
     → Selects world (select world s (seen_use how) t (object_class_at world (class_number word))) answer
+
+-- ---- fields (5.4.3.2)
+
+pub record IsFieldOf (world : World) (expected : OrError DeclaredField) (used : FieldUse) : Type 0 where
+  pub d : DeclaredField
+  pub is : expected ≡ Ok d
+  pub at : field_at world used.place ≡ Some d
+
+abbrev pub ResolvesField : World → OrError DeclaredField → Result FieldUse ℕ → Type 0
+ResolvesField world expected (Ok used) = IsFieldOf world expected used
+ResolvesField world expected (Err number) = IsErrorOf world expected number
+
+-- the field that the constant at an index names, for an instruction at a site
+abbrev pub IsUsedField : World → Site → Use → ℕ → Result FieldUse ℕ → Type 0
+IsUsedField world site how index answer =
+    (s : SiteOfNames) (reference : MemberReference) → seen_site world site ≡ Some s → field_operand s.by.class index ≡ Some reference
+    → ResolvesField world (resolve_field world s (seen_use how) reference) answer

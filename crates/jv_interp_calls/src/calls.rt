@@ -4,6 +4,7 @@ ghost use Rattle.std.specs.Prelude.{◌≡◌, ◌+◌, ◌≤◌, length, vec_l
 ghost use Rattle.jv_link.specs.declared.site.Use.TheVariants.{Invokespecial};
 ghost use Rattle.jv_linked.specs.Linked.{IsLinked};
 ghost use Rattle.jv_interp_going.specs.Going.{StaysIn};
+ghost use Rattle.jv_interp_methods.specs.Methods.{AreMethods};
 ghost use Rattle.jv_interp_calls.specs.Known.{known};
 ghost use Rattle.jv_interp_calls.specs.Calling.{IsVirtual, CanCall, Calls, CanCallStatic, CallsStatic};
 
@@ -32,10 +33,12 @@ pub fn call_static<'a, 'l>(
     next: u32,
     index: u16,
 ) -> Effect
-    requires can { CanCallStatic index next (known classes.now.world linked.old methods.now site states.now) at.old words.old held.old }
+    requires methods { AreMethods classes.now.world methods.now }
+    requires can { CanCallStatic index next (known classes.now.world linked.old site) states.now at.old words.old held.old }
     requires reserved { vec_len held.old.output + held.old.output_left ≤ vec_capacity held.old.output }
-    ensures calls { CallsStatic index next (known classes.now.world linked.old methods.now site states.now) at.old words.old held.old at.new words.new held.new result }
+    ensures calls { CallsStatic index next (known classes.now.world linked.old site) states.now at.old words.old held.old at.new words.new held.new result }
     ensures stays { StaysIn at.old at.new words.new }
+    ensures same { held.new ≡ record held.old { output = held.new.output; output_left = held.new.output_left; read = held.new.read } }
     ensures reserved { vec_len held.new.output + held.new.output_left ≤ vec_capacity held.new.output }
     ensures linked { IsLinked classes.now.world linked.new }
 {
@@ -69,23 +72,20 @@ pub fn call_virtual<'a, 'l, S: Store>(
     linked: &mut Linked<'a>,
     methods: &Methods<'a>,
     site: Site,
-    states: &[ClassState],
     store: &S,
     held: &Held,
     words: &[u32],
     at: &Registers<'l>,
-    next: u32,
     how: Use,
     index: u16,
 ) -> Effect
     requires kind { IsVirtual how }
-    requires can { CanCall how index next (known classes.now.world linked.old methods.now site states.now) at.now words.now held.now (S.content store.now) }
-    ensures calls { Calls how index next (known classes.now.world linked.old methods.now site states.now) at.now words.now held.now (S.content store.now) result }
+    requires methods { AreMethods classes.now.world methods.now }
+    requires can { CanCall how index (known classes.now.world linked.old site) at.now words.now held.now (S.content store.now) }
+    ensures calls { Calls how index (known classes.now.world linked.old site) at.now words.now held.now (S.content store.now) result }
     ensures linked { IsLinked classes.now.world linked.new }
 {
     let _held = held;
-    let _states = states;
-    let _next = next;
     method_is_called();
     let called = match resolved(classes, linked, site, how, index) {
         Ok(called) => called,
@@ -114,21 +114,18 @@ pub fn call_special<'a, 'l, S: Store>(
     linked: &mut Linked<'a>,
     methods: &Methods<'a>,
     site: Site,
-    states: &[ClassState],
     store: &S,
     held: &Held,
     words: &[u32],
     at: &Registers<'l>,
-    next: u32,
     index: u16,
 ) -> Effect
-    requires { CanCall Invokespecial index next (known classes.now.world linked.old methods.now site states.now) at.now words.now held.now (S.content store.now) }
-    ensures calls { Calls Invokespecial index next (known classes.now.world linked.old methods.now site states.now) at.now words.now held.now (S.content store.now) result }
+    requires methods { AreMethods classes.now.world methods.now }
+    requires can { CanCall Invokespecial index (known classes.now.world linked.old site) at.now words.now held.now (S.content store.now) }
+    ensures calls { Calls Invokespecial index (known classes.now.world linked.old site) at.now words.now held.now (S.content store.now) result }
     ensures linked { IsLinked classes.now.world linked.new }
 {
     let _held = held;
-    let _states = states;
-    let _next = next;
     method_is_called();
     let called = match resolved(classes, linked, site, Use::Invokespecial, index) {
         Ok(called) => called,

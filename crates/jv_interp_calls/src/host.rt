@@ -21,6 +21,7 @@ pub fn write<'l>(held: &mut Held, words: &[u32], at: &mut Registers<'l>, next: u
     requires reserved { vec_len held.old.output + held.old.output_left ≤ vec_capacity held.old.output }
     ensures writes { Writes next at.old words.now held.old at.new held.new result }
     ensures stays { StaysIn at.old at.new words.now }
+    ensures same { held.new ≡ record held.old { output = held.new.output; output_left = held.new.output_left } }
     ensures reserved { vec_len held.new.output + held.new.output_left ≤ vec_capacity held.new.output }
 {
     if held.output_left == 0 {
@@ -42,8 +43,7 @@ pub fn read<'l>(held: &mut Held, words: &mut [u32], at: &mut Registers<'l>, next
     requires { CanRead next at.old words.old held.old }
     ensures reads { Reads next at.old words.old held.old at.new words.new held.new result }
     ensures stays { StaysIn at.old at.new words.new }
-    ensures output { held.new.output ≡ held.old.output }
-    ensures output_left { held.new.output_left ≡ held.old.output_left }
+    ensures same { held.new ≡ record held.old { read = held.new.read } }
 {
     if held.read < held.input.len() {
         let byte = held.input[held.read];

@@ -1,13 +1,15 @@
-//! Calls of methods, by what a class's constants name (JVMS 6.5: invokevirtual, invokespecial, invokestatic, invokeinterface). A room of
-//! `jv_interp`.
+//! Calls of methods and uses of fields, by what a class's constants name (JVMS 6.5: invokevirtual, invokespecial, invokestatic,
+//! invokeinterface, getstatic, putstatic, getfield, putfield). A room of `jv_interp`.
 #![tactic(auto)]
 
 mod calls;
 mod errors;
+mod fields;
 mod host;
 mod linking;
 
 pub use calls::{call_special, call_static, call_virtual};
 pub use errors::number_of_error;
+pub use fields::{getfield, getstatic, putfield, putstatic};
 pub use host::{HOST_IO, WRITE, read, write};
 pub use linking::is_ready;

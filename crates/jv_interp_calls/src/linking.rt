@@ -1,24 +1,25 @@
-//! What a call asks of the classes.
+//! What instructions ask of the classes.
 
 ghost use Rattle.std.specs.Prelude.{◌≡◌, IsSome, IfOk, Some, slice_get};
 ghost use Rattle.jv_meaning_machine.specs.State.{ClassState as StateOfNames, ClassStates, class_state, is_ready};
 ghost use Rattle.jv_meaning_world.specs.World.{World, Loaded};
 ghost use Rattle.jv_meaning_world.specs.Numbers.{HoldsAtNumber};
-ghost use Rattle.jv_meaning_linking.specs.Operands.{method_operand};
+ghost use Rattle.jv_meaning_linking.specs.Operands.{field_operand, method_operand};
 ghost use Rattle.jv_link.specs.Seen.{IsSite, IsMethodTarget};
 ghost use Rattle.jv_link.specs.Objects.{IsObject};
 ghost use Rattle.jv_linked.specs.Linked.{IsLinked};
+ghost use Rattle.jv_linked.specs.FieldUses.{IsFieldUse};
 ghost use Rattle.jv_linked.specs.MethodUses.{IsMethodUse};
 ghost use Rattle.jv_interp_memory.specs.ClassStates.{kept_state, AreClassStates};
 ghost use Rattle.jv_interp_memory.specs.SystemNumbers.{IsGuestsWorld};
 ghost use Rattle.jv_interp_methods.specs.Methods.{AreMethods};
-ghost use Rattle.jv_interp_calls.specs.Resolved.{IsResolved, class_number, IsRun};
+ghost use Rattle.jv_interp_calls.specs.Resolved.{IsUsedField, IsResolved, class_number, IsRun};
 
 use crate::errors::number_of_error;
 use jv_interp_memory::ClassState;
 use jv_interp_methods::Methods;
 use jv_link::{MethodTarget, Site, Use};
-use jv_linked::{Linked, MethodUse};
+use jv_linked::{FieldUse, Linked, MethodUse};
 use jv_loader::Classes;
 
 /// Whether a state is that of a class that is initialized or being initialized.
@@ -62,6 +63,29 @@ pub(crate) fn resolved<'a>(
 {
     match linked.method_use(classes, site, how, index) {
         Ok(called) => Ok(called),
+        Err(error) => Err(number_of_error(error)),
+    }
+}
+
+/// The field that the constant at an index names at a site, for an instruction, or the number of the error's class.
+#[inline(always)]
+pub(crate) fn used<'a>(
+    classes: &Classes<'a>,
+    linked: &mut Linked<'a>,
+    site: Site,
+    how: Use,
+    index: u16,
+) -> Result<FieldUse, u32>
+    requires guests { IsGuestsWorld classes.now.world }
+    requires linked { IsLinked classes.now.world linked.old }
+    requires site { IsSite classes.now.world site }
+    requires index { HoldsAtNumber classes.now.world site.class (λ l. IsSome (field_operand l.class index)) }
+    ensures found { IsUsedField classes.now.world site how index result }
+    ensures used { IfOk result (IsFieldUse classes.now.world) }
+    ensures linked { IsLinked classes.now.world linked.new }
+{
+    match linked.field_use(classes, site, how, index) {
+        Ok(used) => Ok(used),
         Err(error) => Err(number_of_error(error)),
     }
 }

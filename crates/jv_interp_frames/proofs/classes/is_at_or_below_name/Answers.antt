@@ -1,0 +1,15 @@
+use Rattle.std.proofs.Common.{List, ℕ, sym, ap, ◌∙◌}
+use Rattle.jv_classes.proofs.Told.{stands_at}
+use Rattle.jv_meaning_machine.specs.Objects.{is_at_or_below}
+use Rattle.jv_interp_frames.proofs.ClassesAbove.{found_is_named, by_no_number}
+use Rattle.jv_interp_frames.proofs.classes.is_at_or_below_name.Goals as goal
+
+pub returns-in-Some : goal.returns-in-Some
+returns-in-Some c = λ l at.
+    let world = c.args.table.now in
+    let to = stands_at world c.args.name.now c.in-Some.other (sym c.in-Some.ensures) in
+    c.is_at_or_below.ensures l at to.0 to.1
+    ∙ ap (λ (name : List ℕ). is_at_or_below world l.class.name name) (found_is_named world c.args.name.now to.0 to.2)
+
+pub returns-in-None : goal.returns-in-None
+returns-in-None c = λ l at. sym (by_no_number c.args.table.now c.is_numbered.ensures c.args.class l at c.args.name.now (sym c.in-None.ensures))
