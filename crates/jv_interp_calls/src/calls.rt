@@ -36,7 +36,8 @@ pub fn call_static<'a, 'l>(
     requires methods { AreMethods classes.now.world methods.now }
     requires can { CanCallStatic index next (known classes.now.world linked.old site) states.now at.old words.old held.old }
     requires reserved { vec_len held.old.output + held.old.output_left ≤ vec_capacity held.old.output }
-    ensures calls { CallsStatic index next (known classes.now.world linked.old site) states.now at.old words.old held.old at.new words.new held.new result }
+    ensures calls { CallsStatic index next (known classes.now.world linked.old site) states.now at.old words.old held.old
+        at.new words.new held.new result }
     ensures stays { StaysIn at.old at.new words.new }
     ensures same { held.new ≡ record held.old { output = held.new.output; output_left = held.new.output_left; read = held.new.read } }
     ensures reserved { vec_len held.new.output + held.new.output_left ≤ vec_capacity held.new.output }
@@ -122,7 +123,8 @@ pub fn call_special<'a, 'l, S: Store>(
 ) -> Effect
     requires methods { AreMethods classes.now.world methods.now }
     requires can { CanCall Invokespecial index (known classes.now.world linked.old site) at.now words.now held.now (S.content store.now) }
-    ensures calls { Calls Invokespecial index (known classes.now.world linked.old site) at.now words.now held.now (S.content store.now) result }
+    ensures calls { Calls Invokespecial index (known classes.now.world linked.old site) at.now words.now held.now
+        (S.content store.now) result }
     ensures linked { IsLinked classes.now.world linked.new }
 {
     let _held = held;

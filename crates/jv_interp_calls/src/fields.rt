@@ -63,7 +63,8 @@ pub fn getfield<'a, 'l, S: Store>(
     index: u16,
 ) -> Effect
     requires { CanUseField GetField index next (known classes.now.world linked.old site) at.old words.old held.now (S.content store.now) }
-    ensures uses { UsesField GetField index next (known classes.now.world linked.old site) held.now at.old words.old (S.content store.now) at.new words.new (S.content store.now) result }
+    ensures uses { UsesField GetField index next (known classes.now.world linked.old site) held.now at.old words.old
+        (S.content store.now) at.new words.new (S.content store.now) result }
     ensures stays { StaysIn at.old at.new words.new }
     ensures linked { IsLinked classes.now.world linked.new }
 {
@@ -91,7 +92,8 @@ pub fn putfield<'a, 'l, S: Store>(
     index: u16,
 ) -> Effect
     requires { CanUseField PutField index next (known classes.now.world linked.old site) at.old words.now held.now (S.content store.old) }
-    ensures uses { UsesField PutField index next (known classes.now.world linked.old site) held.now at.old words.now (S.content store.old) at.new words.now (S.content store.new) result }
+    ensures uses { UsesField PutField index next (known classes.now.world linked.old site) held.now at.old words.now
+        (S.content store.old) at.new words.now (S.content store.new) result }
     ensures stays { StaysIn at.old at.new words.now }
     ensures others { KeepsOtherObjects words.now at.old.top (S.content store.old) (S.content store.new) }
     ensures room { S.room_left store.new ≡ S.room_left store.old }
@@ -123,7 +125,8 @@ pub fn getstatic<'a, 'l>(
     index: u16,
 ) -> Effect
     requires { CanUseStatic GetStatic index next (known classes.now.world linked.old site) states.now at.old words.old held.now }
-    ensures uses { UsesStatic GetStatic index next (known classes.now.world linked.old site) states.now at.old words.old held.now at.new words.new held.now result }
+    ensures uses { UsesStatic GetStatic index next (known classes.now.world linked.old site) states.now at.old words.old held.now
+        at.new words.new held.now result }
     ensures stays { StaysIn at.old at.new words.new }
     ensures linked { IsLinked classes.now.world linked.new }
 {
@@ -157,7 +160,8 @@ pub fn putstatic<'a, 'l>(
     index: u16,
 ) -> Effect
     requires { CanUseStatic PutStatic index next (known classes.now.world linked.old site) states.now at.old words.now held.old }
-    ensures uses { UsesStatic PutStatic index next (known classes.now.world linked.old site) states.now at.old words.now held.old at.new words.now held.new result }
+    ensures uses { UsesStatic PutStatic index next (known classes.now.world linked.old site) states.now at.old words.now held.old
+        at.new words.now held.new result }
     ensures stays { StaysIn at.old at.new words.now }
     ensures linked { IsLinked classes.now.world linked.new }
 {

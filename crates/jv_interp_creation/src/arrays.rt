@@ -26,7 +26,8 @@ pub fn new_array<'l, S: Store>(
 ) -> Result<Effect, Memory>
     requires can { CanMakeArray word slots next at.old words.old held.old (S.content store.old) }
     requires cells { held.old.cells ≤ S.room_left store.old }
-    ensures makes { IfOk result (MakesArray word slots next at.old words.old held.old (S.content store.old) at.new words.new held.new (S.content store.new)) }
+    ensures makes { IfOk result (MakesArray word slots next at.old words.old held.old (S.content store.old) at.new
+        words.new held.new (S.content store.new)) }
     ensures stays { StaysIn at.old at.new words.new }
     ensures room { OnOk result (S.room_left store.old + held.new.cells ≡ S.room_left store.new + held.old.cells) }
     ensures refused_at { OnErr result (at.new ≡ at.old) }
@@ -71,7 +72,8 @@ pub fn new_base_array<'l, S: Store>(
 ) -> Result<Effect, Memory>
     requires can { CanMakeBaseArray word slots next at.old words.old held.old (S.content store.old) }
     requires cells { held.old.cells ≤ S.room_left store.old }
-    ensures makes { IfOk result (MakesBaseArray word slots next at.old words.old held.old (S.content store.old) at.new words.new held.new (S.content store.new)) }
+    ensures makes { IfOk result (MakesBaseArray word slots next at.old words.old held.old (S.content store.old) at.new
+        words.new held.new (S.content store.new)) }
     ensures stays { StaysIn at.old at.new words.new }
     ensures room { OnOk result (S.room_left store.old + held.new.cells ≡ S.room_left store.new + held.old.cells) }
     ensures refused_at { OnErr result (at.new ≡ at.old) }

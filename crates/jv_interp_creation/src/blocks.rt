@@ -19,7 +19,8 @@ pub fn pay_object<S: Store>(
     size: u32,
 ) -> Result<Option<u32>, Memory>
     requires { cells.old ≤ S.room_left store.old }
-    ensures paid { IfOk result (IsPaid (class ∷ replicate size 0) (1 + size) cells.old cells.new (S.content store.old) (S.content store.new)) }
+    ensures paid { IfOk result (IsPaid (class ∷ replicate size 0) (1 + size) cells.old cells.new (S.content store.old)
+        (S.content store.new)) }
     ensures room { OnOk result (S.room_left store.old + cells.new ≡ S.room_left store.new + cells.old) }
     ensures refused_cells { OnErr result (cells.new ≡ cells.old) }
     ensures refused { OnErr result (S.content store.new ≡ S.content store.old) }
@@ -75,7 +76,8 @@ pub fn pay_array<S: Store>(
 ) -> Result<Option<u32>, Memory>
     requires slots { slots ≤ 2 }
     requires cells { cells.old ≤ S.room_left store.old }
-    ensures paid { IfOk result (IsPaid (word ∷ count ∷ replicate (count * slots) 0) (2 + count * slots) cells.old cells.new (S.content store.old) (S.content store.new)) }
+    ensures paid { IfOk result (IsPaid (word ∷ count ∷ replicate (count * slots) 0) (2 + count * slots) cells.old cells.new
+        (S.content store.old) (S.content store.new)) }
     ensures room { OnOk result (S.room_left store.old + cells.new ≡ S.room_left store.new + cells.old) }
     ensures refused_cells { OnErr result (cells.new ≡ cells.old) }
     ensures refused { OnErr result (S.content store.new ≡ S.content store.old) }

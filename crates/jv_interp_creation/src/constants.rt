@@ -59,7 +59,8 @@ pub fn push_string<'l, S: Store>(
     requires few { length text.now < 2147483648 }
     requires can { CanPushString number text.now next at.old words.old held.old (S.content store.old) }
     requires cells { held.old.cells ≤ S.room_left store.old }
-    ensures pushes { IfOk result (PushesString number text.now next at.old words.old held.old (S.content store.old) at.new words.new held.new (S.content store.new)) }
+    ensures pushes { IfOk result (PushesString number text.now next at.old words.old held.old (S.content store.old) at.new
+        words.new held.new (S.content store.new)) }
     ensures stays { StaysIn at.old at.new words.new }
     ensures room { OnOk result (S.room_left store.old + held.new.cells ≡ S.room_left store.new + held.old.cells) }
     ensures refused_at { OnErr result (at.new ≡ at.old) }

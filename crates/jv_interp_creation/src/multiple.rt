@@ -106,7 +106,8 @@ pub fn new_nested_array<'l, S: Store>(
 ) -> Result<Effect, Memory>
     requires can { CanMakeArrays word slots dimensions next at.old words.old held.old (S.content store.old) }
     requires cells { held.old.cells ≤ S.room_left store.old }
-    ensures makes { IfOk result (MakesArrays word slots dimensions next at.old words.old held.old (S.content store.old) at.new words.new held.new (S.content store.new)) }
+    ensures makes { IfOk result (MakesArrays word slots dimensions next at.old words.old held.old (S.content store.old)
+        at.new words.new held.new (S.content store.new)) }
     ensures stays { StaysIn at.old at.new words.new }
     ensures room { OnOk result (S.room_left store.old + held.new.cells ≡ S.room_left store.new + held.old.cells) }
     ensures refused_at { OnErr result (at.new ≡ at.old) }

@@ -27,7 +27,8 @@ pub fn new_object<'l, S: Store>(
     requires few { class < 2147483648 }
     requires can { CanCreate class size next at.old words.old held.old (S.content store.old) }
     requires cells { held.old.cells ≤ S.room_left store.old }
-    ensures creates { IfOk result (Creates class size next at.old words.old held.old (S.content store.old) at.new words.new held.new (S.content store.new)) }
+    ensures creates { IfOk result (Creates class size next at.old words.old held.old (S.content store.old) at.new words.new held.new
+        (S.content store.new)) }
     ensures stays { StaysIn at.old at.new words.new }
     ensures room { OnOk result (S.room_left store.old + held.new.cells ≡ S.room_left store.new + held.old.cells) }
     ensures refused_at { OnErr result (at.new ≡ at.old) }

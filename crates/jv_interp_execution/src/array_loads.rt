@@ -23,7 +23,8 @@ pub(crate) fn execute_array_length<'l, S: Store>(
     at: &mut Registers<'l>,
     next: u32,
 ) -> Effect
-    requires { (k : Known) × (texts : List (List ℕ)) × CanExecute ArrayLengthInsn next k texts at.old words.old held.now (S.content store.now) }
+    requires { (k : Known) × (texts : List (List ℕ)) × CanExecute ArrayLengthInsn next k texts at.old words.old held.now
+        (S.content store.now) }
     ensures done { (k : Known) (texts : List (List ℕ)) → Executed ArrayLengthInsn next k texts
         (place at.old words.old held.now (S.content store.now)) (place at.new words.new held.now (S.content store.now)) result }
     ensures stays { StaysIn at.old at.new words.new }
@@ -48,7 +49,8 @@ pub(crate) fn execute_array_load<'l, S: Store>(
     next: u32,
     kind: NumberElement,
 ) -> Effect
-    requires { (k : Known) × (texts : List (List ℕ)) × CanExecute (ArrayLoadInsn kind) next k texts at.old words.old held.now (S.content store.now) }
+    requires { (k : Known) × (texts : List (List ℕ)) × CanExecute (ArrayLoadInsn kind) next k texts at.old words.old held.now
+        (S.content store.now) }
     ensures done { (k : Known) (texts : List (List ℕ)) → Executed (ArrayLoadInsn kind) next k texts
         (place at.old words.old held.now (S.content store.now)) (place at.new words.new held.now (S.content store.now)) result }
     ensures stays { StaysIn at.old at.new words.new }
@@ -69,7 +71,8 @@ pub(crate) fn execute_reference_array_load<'l, S: Store>(
     at: &mut Registers<'l>,
     next: u32,
 ) -> Effect
-    requires { (k : Known) × (texts : List (List ℕ)) × CanExecute ReferenceArrayLoadInsn next k texts at.old words.old held.now (S.content store.now) }
+    requires { (k : Known) × (texts : List (List ℕ)) × CanExecute ReferenceArrayLoadInsn next k texts at.old words.old held.now
+        (S.content store.now) }
     ensures done { (k : Known) (texts : List (List ℕ)) → Executed ReferenceArrayLoadInsn next k texts
         (place at.old words.old held.now (S.content store.now)) (place at.new words.new held.now (S.content store.now)) result }
     ensures stays { StaysIn at.old at.new words.new }

@@ -59,7 +59,8 @@ pub(crate) fn execute_new_array<'l, S: Store>(
     next: u32,
     element: ElementType,
 ) -> Result<Effect, Memory>
-    requires can { (k : Known) × (texts : List (List ℕ)) × CanExecute (NewArrayInsn element) next k texts at.old words.old held.old (S.content store.old) }
+    requires can { (k : Known) × (texts : List (List ℕ)) × CanExecute (NewArrayInsn element) next k texts at.old words.old held.old
+        (S.content store.old) }
     requires cells { held.old.cells ≤ S.room_left store.old }
     ensures done { IfOk result (λ effect. (k : Known) (texts : List (List ℕ)) → Executed (NewArrayInsn element) next k texts
         (place at.old words.old held.old (S.content store.old)) (place at.new words.new held.new (S.content store.new)) effect) }

@@ -1,4 +1,5 @@
-//! What steps ask of a guest's classes by numbers: methods with their code (JVMS 4.6), and the texts of string literals (4.4.3). A room of `jv_interp`.
+//! What steps ask of a guest's classes by numbers: methods with their code (JVMS 4.6), and the texts of string literals (4.4.3). A room
+//! of `jv_interp`.
 #![tactic(auto)]
 
 mod methods;

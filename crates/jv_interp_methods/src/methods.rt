@@ -60,7 +60,8 @@ fn add_methods<'a>(
     requires linked { IsLinked table.now linked.now }
     ensures added { OnOk result (HoldsAtNumber table.now class (λ l. (methods : List Declared) → AreRows table.now methods rows.old.items
         → AreRows table.now (methods ++ own_methods l) rows.new.items)) }
-    ensures count { OnOk result (HoldsAtNumber table.now class (λ l. length rows.new.items ≡ length rows.old.items + length l.class.methods)) }
+    ensures count { OnOk result (HoldsAtNumber table.now class
+        (λ l. length rows.new.items ≡ length rows.old.items + length l.class.methods)) }
 {
     let loaded = class_at(table, class);
     for member in 0..loaded.method_count() {
