@@ -1,12 +1,12 @@
 -- Frames that a throw passes, one by one, and the handler that takes it (JVMS 2.10).
-use Rattle.std.proofs.Common.{◌≡◌, ℕ, zero, suc, ◌+◌, ◌*◌, ◌<◌, ◌≤◌, List, [], ◌∷◌, ◌++◌, Some, drop, length, reverse, slice_get, take, refl, sym, ap, subst, ◌∙◌, arith, length-append}
+use Rattle.std.proofs.Common.{◌≡◌, ℕ, zero, suc, ◌+◌, ◌<◌, ◌≤◌, List, [], ◌∷◌, ◌++◌, Some, drop, length, reverse, slice_get, take, refl, sym, ap, subst, ◌∙◌, arith, length-append}
 use Rattle.std.proofs.lemmas.List.{length-reverse}
 use Rattle.std.proofs.lemmas.List.Sums.{sum_by-cons}
-use Rattle.std.specs.Prelude.{vec_len, vec_capacity}
+use Rattle.std.specs.Prelude.{vec_capacity}
 use Rattle.jv_classes.proofs.Numbers.{take_more}
 use Rattle.jv_meaning_world.specs.World.{World}
 use Rattle.jv_meaning_machine.specs.Frames.{MethodFrame, Frame}
-use Rattle.jv_meaning_machine.specs.Frames.Frame.{Runs, Initializes}
+use Rattle.jv_meaning_machine.specs.Frames.Frame.{Runs}
 use Rattle.jv_meaning_machine.specs.State.{Program, Control as ControlOfNames}
 use Rattle.jv_meaning_machine.specs.Throws.{at_handler}
 use Rattle.jv_meaning_machine.specs.Laws.Shapes.{frame_words, used_words}
@@ -14,14 +14,13 @@ use Rattle.jv_interp_words.specs.declared.records.MethodRecord.{MethodRecord}
 use Rattle.jv_interp_words.specs.declared.records.FrameRecord.{FrameRecord}
 use Rattle.jv_interp_words.specs.declared.records.FrameRecord.TheVariants as records
 use Rattle.jv_interp_words.specs.FramesInWords.{in_use, MethodStands, AreFrames}
-use Rattle.jv_interp_words.proofs.InUse.{length-in_use}
 use Rattle.jv_interp_words.proofs.Returned.{in_use_under}
 use Rattle.jv_interp_words.proofs.Stacks.{stack_above}
 use Rattle.jv_interp_words.proofs.Stored.{same_length}
 use Rattle.jv_interp_frames.specs.declared.frames.Frames.{Frames}
 use Rattle.jv_interp_frames.specs.declared.control.Control.{Control}
 use Rattle.jv_interp_frames.specs.FramesStand.{FramesStand}
-use Rattle.jv_interp_frames.specs.Inside.Passing.{passed, all_passed, Passing, Passed, PassingAll, PassedAll}
+use Rattle.jv_interp_frames.specs.Inside.Passing.{passed, all_passed, Passing, Passed, PassedAll}
 use Rattle.jv_interp_frames.proofs.Counted.{frames_bound, frames_count, reversed_push}
 use Rattle.jv_interp_frames.proofs.FramesPassed.{runs_there}
 use Rattle.jv_interp_frames.proofs.Walks.{all_passed-more}

@@ -1,12 +1,11 @@
 -- The initialization of a class is begun, by its state (JVMS 5.5).
-use Rattle.std.proofs.Common.{◌≡◌, ℕ, ◌+◌, ◌-◌, ◌*◌, ◌<◌, ◌≤◌, Bool, true, false, List, [], ◌∷◌, ◌++◌, Option, Some, None, Ok, codes, drop, length, reverse, slice_get, refl, sym, ap, subst, ◌∙◌, arith, append-nil}
-use Rattle.std.specs.Prelude.{vec_len, vec_capacity}
+use Rattle.std.proofs.Common.{◌≡◌, ℕ, ◌+◌, ◌-◌, ◌<◌, ◌≤◌, Bool, true, false, List, [], ◌∷◌, ◌++◌, Some, Ok, codes, length, reverse, slice_get, refl, sym, ap, subst, ◌∙◌, arith, append-nil}
+use Rattle.std.specs.Prelude.{vec_capacity}
 use Rattle.std.proofs.lemmas.List.Sums.{sum_by-cons}
 use Rattle.jv_meaning_world.specs.World.{Loaded, World}
 use Rattle.jv_meaning_linking.specs.LinkErrors.{error_class}
 use Rattle.jv_meaning_linking.specs.LinkErrors.LinkError.{NoClassDefFoundError, VerifyError}
 use Rattle.jv_meaning_machine.specs.Faults.{OrFault}
-use Rattle.jv_meaning_machine.specs.Frames.{Frame}
 use Rattle.jv_meaning_machine.specs.Frames.Frame.{Initializes}
 use Rattle.jv_meaning_machine.specs.State.{Program, Control as ControlOfNames, State, state_of, with_state, class_state, ClassState as StateOfNames}
 use Rattle.jv_meaning_machine.specs.State.ClassState.{Untouched, Begun, Initialized, Erroneous}
@@ -27,12 +26,11 @@ use Rattle.jv_interp_memory.specs.ClassStates.{kept_state, AreClassStates}
 use Rattle.jv_interp_memory.specs.SystemNumbers.{SystemHasNumbers}
 use Rattle.jv_interp_frames.specs.declared.frames.Frames.{Frames}
 use Rattle.jv_interp_frames.specs.declared.control.Control.{Control}
-use Rattle.jv_interp_frames.specs.FramesStand.{FramesStand}
 use Rattle.jv_interp_frames.specs.ControlStands.{IsClassOf, EndStands}
 use Rattle.std.specs.Option.{option_and_then}
 use Rattle.jv_interp_frames.specs.Standing.{kept, StateStands, Moves, Reaches}
 use Rattle.jv_interp_frames.specs.Moves.{Raising, Beginning}
-use Rattle.jv_interp_frames.proofs.Counted.{has_room, reversed_push}
+use Rattle.jv_interp_frames.proofs.Counted.{reversed_push}
 use Rattle.jv_interp_frames.proofs.EntersStand.{words_lack, words_given}
 use Rattle.jv_interp_frames.proofs.MemoryJoined.{grows_not}
 use Rattle.jv_interp_frames.proofs.Replacements.{numbers_in}

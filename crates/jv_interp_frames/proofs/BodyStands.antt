@@ -1,5 +1,5 @@
 -- The body of a method whose code is known.
-use Rattle.std.proofs.Common.{◌≡◌, ℕ, ◌<◌, List, Option, Some, None, length, slice_get, refl, sym, ap, ◌∙◌, subst, map, arith}
+use Rattle.std.proofs.Common.{◌≡◌, ℕ, ◌<◌, Option, Some, None, length, slice_get, refl, sym, ap, ◌∙◌, subst, map, arith}
 use Rattle.std.specs.Option.{option_map}
 use Rattle.jv_format.specs.Format.{◌>>=◌}
 use Rattle.jv_class.specs.Class.{Method}

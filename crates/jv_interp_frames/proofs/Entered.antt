@@ -1,5 +1,5 @@
 -- A method that is entered (JVMS 2.6).
-use Rattle.std.proofs.Common.{◌≡◌, ℕ, ◌+◌, ◌-◌, ◌*◌, ◌≤◌, true, false, nat_le, List, [], ◌∷◌, ◌++◌, Option, Some, Ok, length, reverse, replicate, slice_get, refl, sym, ap, subst, ◌∙◌, arith, length-append}
+use Rattle.std.proofs.Common.{◌≡◌, ℕ, ◌+◌, ◌-◌, ◌≤◌, nat_le, List, [], ◌∷◌, ◌++◌, Option, Some, Ok, length, reverse, replicate, slice_get, refl, sym, ap, subst, ◌∙◌, arith, length-append}
 use Rattle.std.proofs.lemmas.List.{length-replicate}
 use Rattle.std.proofs.lemmas.List.Sums.{sum_by-cons}
 use Rattle.std.proofs.lemmas.Grind.{common_steps}
@@ -16,9 +16,9 @@ use Rattle.jv_meaning_machine.specs.Faults.Fault.{UnverifiedFault, OffsetFault, 
 use Rattle.jv_meaning_machine.specs.Values.{Value}
 use Rattle.jv_meaning_machine.specs.Values.Value.{Unset}
 use Rattle.jv_meaning_machine.specs.Frames.{local_words, filled, MethodFrame, Frame}
-use Rattle.jv_meaning_machine.specs.Frames.Frame.{Runs, Initializes}
+use Rattle.jv_meaning_machine.specs.Frames.Frame.{Runs}
 use Rattle.jv_meaning_machine.specs.State.{Program, is_class_accepted, entered_method}
-use Rattle.jv_meaning_machine.specs.Costs.{code_words, method_words}
+use Rattle.jv_meaning_machine.specs.Costs.{code_words}
 use Rattle.jv_meaning_machine.specs.Entering.{passed_values, entered_frame, method_frame}
 use Rattle.jv_meaning_machine.specs.Laws.Shapes.{frame_words, used_words}
 use Rattle.jv_interp_words.specs.declared.records.MethodRecord.{MethodRecord}

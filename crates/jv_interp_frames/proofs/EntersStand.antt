@@ -1,12 +1,11 @@
 -- A method is entered, or its words are not left (JVMS 2.5.2, 2.6).
-use Rattle.std.proofs.Common.{◌≡◌, ℕ, ◌+◌, ◌-◌, ◌<◌, ◌≤◌, nat_le, Bool, true, false, List, [], ◌∷◌, ◌++◌, Option, Some, None, Ok, codes, length, slice_get, refl, sym, ap, subst, ◌∙◌, arith, append-nil, if◌then◌else◌}
+use Rattle.std.proofs.Common.{◌≡◌, ℕ, ◌+◌, ◌-◌, ◌<◌, ◌≤◌, nat_le, Bool, true, false, List, [], ◌∷◌, ◌++◌, Some, None, Ok, codes, sym, ap, subst, ◌∙◌, arith, append-nil, if◌then◌else◌}
 use Rattle.std.specs.Prelude.{vec_len, vec_capacity}
-use Rattle.std.proofs.lemmas.Grind.{common_steps}
 use Rattle.jv_class_structure.specs.Parts.{CodeSeen}
 use Rattle.jv_meaning_world.specs.World.{World}
-use Rattle.jv_meaning_machine.specs.Faults.{OrFault, found, ◌>>=◌}
+use Rattle.jv_meaning_machine.specs.Faults.{OrFault, found}
 use Rattle.jv_meaning_machine.specs.Faults.Fault.{OffsetFault}
-use Rattle.jv_meaning_machine.specs.Frames.{MethodFrame, Frame}
+use Rattle.jv_meaning_machine.specs.Frames.{MethodFrame}
 use Rattle.jv_meaning_machine.specs.Frames.Frame.{Runs}
 use Rattle.jv_meaning_machine.specs.State.{Program, Control as ControlOfNames, State, state_of}
 use Rattle.jv_meaning_machine.specs.Costs.{code_words}
@@ -16,7 +15,6 @@ use Rattle.jv_interp_words.specs.declared.records.FrameRecord.TheVariants as rec
 use Rattle.jv_interp_words.proofs.Gave.{bound_gave, found_gave}
 use Rattle.jv_interp_objects.specs.ObjectsInBlocks.{Blocks}
 use Rattle.jv_interp_memory.specs.declared.held.Held.{Held}
-use Rattle.jv_interp_memory.specs.HeldInWords.{MemoryStands}
 use Rattle.jv_interp_memory.specs.SystemNumbers.{SystemHasNumbers}
 use Rattle.jv_interp_methods.specs.declared.methods.Methods.{Methods}
 use Rattle.jv_interp_methods.specs.Methods.{AreMethods}
@@ -26,12 +24,12 @@ use Rattle.jv_interp_frames.specs.FramesStand.{FramesStand}
 use Rattle.jv_interp_frames.specs.ControlStands.{ControlStands}
 use Rattle.jv_interp_frames.specs.Standing.{kept, StateStands, Moves, Reaches}
 use Rattle.jv_interp_frames.specs.Moves.{Raising, Entering}
-use Rattle.jv_interp_frames.specs.Inside.Codes.{IsCodeOf, CanFind}
-use Rattle.jv_interp_frames.proofs.Counted.{top_bound, has_room}
+use Rattle.jv_interp_frames.specs.Inside.Codes.{IsCodeOf}
+use Rattle.jv_interp_frames.proofs.Counted.{has_room}
 use Rattle.jv_interp_frames.proofs.Entered.{frame_entered, is_entered, method_entered}
 use Rattle.jv_interp_frames.proofs.MemoryJoined.{grows_not}
 use Rattle.jv_interp_frames.proofs.Replacements.{numbers_in}
-use Rattle.jv_interp_frames.proofs.Unwound.{same_state, fits}
+use Rattle.jv_interp_frames.proofs.Unwound.{same_state}
 
 -- ---- words that are given, or not (2.5.2)
 

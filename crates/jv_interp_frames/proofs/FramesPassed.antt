@@ -1,12 +1,11 @@
 -- The newest frame goes, and those below it stand as they did (JVMS 2.6, 2.10).
-use Rattle.std.proofs.Common.{◌≡◌, ℕ, ◌+◌, ◌*◌, ◌<◌, ◌≤◌, List, [], ◌∷◌, ◌++◌, Some, length, reverse, refl, sym, ap, subst, ◌∙◌, arith}
+use Rattle.std.proofs.Common.{◌≡◌, ℕ, ◌+◌, ◌≤◌, List, [], ◌∷◌, ◌++◌, length, reverse, refl, sym, ap, subst, ◌∙◌, arith}
 use Rattle.std.proofs.lemmas.List.Sums.{sum_by-cons}
 use Rattle.std.specs.Prelude.{vec_capacity}
 use Rattle.jv_meaning_machine.specs.Frames.{MethodFrame, InitializationFrame, Frame}
 use Rattle.jv_meaning_machine.specs.Frames.Frame.{Runs, Initializes}
 use Rattle.jv_meaning_machine.specs.State.{Program}
-use Rattle.jv_meaning_machine.specs.Costs.{code_words, method_words}
-use Rattle.jv_meaning_machine.specs.Laws.Shapes.{frame_words, used_words}
+use Rattle.jv_meaning_machine.specs.Laws.Shapes.{frame_words}
 use Rattle.jv_interp_words.specs.declared.records.MethodRecord.{MethodRecord}
 use Rattle.jv_interp_words.specs.declared.records.InitializationRecord.{InitializationRecord}
 use Rattle.jv_interp_words.specs.declared.records.FrameRecord.{FrameRecord}

@@ -1,16 +1,14 @@
 -- The handler that is found in a method's code is the one of its frame (JVMS 2.10).
-use Rattle.std.proofs.Common.{◌≡◌, ℕ, Bool, ◌&&◌, List, Some, slice_get, sym, ap, ◌∙◌}
+use Rattle.std.proofs.Common.{◌≡◌, ℕ, ◌&&◌, List, sym, ap, ◌∙◌}
 use Rattle.std.specs.List.{find}
 use Rattle.jv_format.specs.declared.handlers.Handler.{Handler}
-use Rattle.jv_meaning_world.specs.World.{Loaded, World}
+use Rattle.jv_meaning_world.specs.World.{World}
 use Rattle.jv_meaning_world.specs.Overriding.{Declared}
-use Rattle.jv_meaning_linking.specs.Uses.{Site}
 use Rattle.jv_meaning_typing.specs.Typing.{covers}
 use Rattle.jv_meaning_machine.specs.Frames.{MethodFrame}
 use Rattle.jv_meaning_machine.specs.State.{Program}
 use Rattle.jv_meaning_machine.specs.Throws.{catches, handler_for}
 use Rattle.jv_interp_words.specs.declared.records.MethodRecord.{MethodRecord}
-use Rattle.jv_interp_objects.specs.ObjectsInBlocks.{HasNumber}
 use Rattle.jv_interp_frames.specs.Inside.Handling.{takes, Handling}
 use Rattle.jv_interp_frames.proofs.ClassesAbove.{found_is_named}
 use Rattle.jv_interp_frames.proofs.Entered.{is_entered}

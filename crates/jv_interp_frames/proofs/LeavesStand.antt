@@ -1,11 +1,11 @@
 -- A method is left, and what is below goes on (JVMS 2.6.4).
-use Rattle.std.proofs.Common.{◌≡◌, ℕ, ◌+◌, ◌-◌, ◌*◌, ◌<◌, ◌≤◌, nat_le, List, [], ◌∷◌, ◌++◌, Some, Ok, length, reverse, take, refl, sym, ap, subst, ◌∙◌, arith, length-append}
+use Rattle.std.proofs.Common.{◌≡◌, ℕ, ◌+◌, ◌<◌, ◌≤◌, nat_le, List, [], ◌∷◌, ◌++◌, Ok, length, reverse, take, refl, sym, ap, subst, ◌∙◌, arith, length-append}
 use Rattle.std.proofs.Math.Seq.{take-append_seam}
 use Rattle.std.proofs.lemmas.List.Sums.{sum_by-cons}
 use Rattle.std.specs.Prelude.{vec_capacity}
 use Rattle.jv_code.specs.Insns.{Instruction}
 use Rattle.jv_meaning_typing.specs.Environment.{instruction_at, offset_behind}
-use Rattle.jv_meaning_machine.specs.Faults.{OrFault, found, tested, ◌>>=◌}
+use Rattle.jv_meaning_machine.specs.Faults.{OrFault, found, tested}
 use Rattle.jv_meaning_machine.specs.Faults.Fault.{OffsetFault, StackFault}
 use Rattle.jv_meaning_machine.specs.Values.{Value, words_of_values}
 use Rattle.jv_meaning_machine.specs.Frames.{MethodFrame, Frame}
@@ -29,8 +29,6 @@ use Rattle.jv_interp_methods.specs.declared.methods.Methods.{Methods}
 use Rattle.jv_interp_frames.specs.declared.frames.Frames.{Frames}
 use Rattle.jv_interp_frames.specs.declared.control.Control.{Control}
 use Rattle.jv_interp_frames.specs.declared.control.End.TheVariants as ends
-use Rattle.jv_interp_frames.specs.FramesStand.{FramesStand}
-use Rattle.jv_interp_frames.specs.ControlStands.{ControlStands}
 use Rattle.jv_interp_frames.specs.Leaving.{Leaving, Left}
 use Rattle.jv_interp_frames.specs.Inside.Nexts.{Nexts}
 use Rattle.jv_interp_frames.proofs.Counted.{reversed_push}

@@ -1,21 +1,17 @@
 -- An exception that the machine makes joins the objects of a memory (JVMS 2.4; own).
-use Rattle.std.proofs.Common.{◌≡◌, ℕ, zero, suc, get_or, ◌+◌, ◌-◌, ◌<◌, ◌≤◌, nat_le, Bool, true, false, List, [], ◌∷◌, ◌++◌, Option, Some, None, Ok, length, drop, replicate, slice_get, refl, sym, ap, subst, ◌∙◌, arith, append-nil, if◌then◌else◌}
-use Rattle.std.specs.List.{Contains}
+use Rattle.std.proofs.Common.{◌≡◌, ℕ, zero, suc, get_or, ◌-◌, ◌<◌, ◌≤◌, nat_le, Bool, true, false, List, [], ◌∷◌, ◌++◌, Option, Some, None, length, drop, replicate, slice_get, refl, sym, ap, subst, ◌∙◌, arith, append-nil, if◌then◌else◌}
 use Rattle.std.specs.Prelude.{unwrap_or}
 use Rattle.std.proofs.lemmas.Grind.{common_steps}
 use Rattle.jv_heap.specs.Content.{words_at, greatest}
 use Rattle.jv_heap.proofs.LookUps.{greatest-append_above}
-use Rattle.jv_meaning_world.specs.World.{Loaded, World, class_named}
+use Rattle.jv_meaning_world.specs.World.{Loaded, World}
 use Rattle.jv_meaning_linking.specs.Layout.{object_words, object_cells}
-use Rattle.jv_meaning_machine.specs.Faults.{OrFault, found, ◌>>=◌}
-use Rattle.jv_meaning_machine.specs.Faults.Fault.{ReferenceFault}
 use Rattle.jv_meaning_machine.specs.Objects.{Object, made_object}
 use Rattle.jv_meaning_machine.specs.State.{Memory}
-use Rattle.jv_meaning_machine.specs.Costs.{paid, with_objects}
+use Rattle.jv_meaning_machine.specs.Costs.{paid}
 use Rattle.jv_meaning_machine.specs.Effects.{out_of_memory}
 use Rattle.jv_meaning_machine.specs.Literals.{literal_in}
-use Rattle.jv_meaning_machine.specs.Throws.{exception, exception_made}
-use Rattle.jv_interp_words.proofs.Gave.{bound_gave, found_gave}
+use Rattle.jv_meaning_machine.specs.Throws.{exception_made}
 use Rattle.jv_interp_objects.specs.ObjectsInBlocks.{Blocks, HasNumber, ObjectsStand}
 use Rattle.jv_interp_objects.specs.NewBlocks.{Joins}
 use Rattle.jv_interp_objects.proofs.Grown.{get_more, fields_grown}

@@ -2,12 +2,10 @@
 use Rattle.std.proofs.Common.{◌≡◌, ℕ, ◌+◌, List, Option, Some, None, length, refl, sym, ap, subst, ◌∙◌}
 use Rattle.std.specs.Prelude.{IsSomeAnd}
 use Rattle.jv_class_structure.specs.Parts.{CodeSeen}
-use Rattle.jv_class_structure.specs.Seen.{seen_code}
 use Rattle.jv_code.specs.Insns.{Instruction, insn_bytes}
 use Rattle.jv_code.specs.Places.{IsCode, IsAt}
 use Rattle.jv_code.specs.declared.code.Code.{Code}
 use Rattle.jv_code.proofs.StartLaws.{OneAtOffset-holds}
-use Rattle.jv_meaning_world.specs.World.{World}
 use Rattle.jv_meaning_world.specs.Overriding.{Declared}
 use Rattle.jv_meaning_typing.specs.Environment.{offset_behind}
 use Rattle.jv_meaning_machine.specs.Frames.{MethodFrame}

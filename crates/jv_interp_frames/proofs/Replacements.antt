@@ -1,5 +1,5 @@
 -- What is thrown behind the initialization of a class (JVMS 5.5).
-use Rattle.std.proofs.Common.{◌≡◌, ℕ, ◌+◌, ◌-◌, ◌^◌, ◌<◌, ◌≤◌, min, Bool, true, false, List, [], ◌∷◌, ◌++◌, Option, Some, None, Ok, codes, length, get_or, replicate, slice_get, refl, sym, ap, subst, ◌∙◌, arith, append-nil}
+use Rattle.std.proofs.Common.{◌≡◌, ℕ, ◌+◌, ◌-◌, ◌^◌, ◌<◌, min, Bool, true, false, List, [], ◌∷◌, ◌++◌, Option, Some, Ok, codes, length, get_or, replicate, slice_get, refl, sym, ap, subst, ◌∙◌, arith, append-nil}
 use Rattle.std.specs.Prelude.{unwrap_or}
 use Rattle.std.proofs.lemmas.Option.{slice_get_within}
 use Rattle.jv_heap.specs.Content.{words_at}
@@ -11,7 +11,7 @@ use Rattle.jv_meaning_machine.specs.Faults.Fault.{ReferenceFault}
 use Rattle.jv_meaning_machine.specs.Objects.{is_at_or_below}
 use Rattle.jv_meaning_machine.specs.State.{Program, Memory, Control}
 use Rattle.jv_meaning_machine.specs.Costs.{paid}
-use Rattle.jv_meaning_machine.specs.Throws.{Thrown, thrown, exception, exception_made, replacement, replacement_if}
+use Rattle.jv_meaning_machine.specs.Throws.{Thrown, thrown, exception, exception_made, replacement_if}
 use Rattle.jv_interp_words.proofs.Gave.{bound_gave, found_gave}
 use Rattle.jv_interp_objects.specs.ObjectsInBlocks.{Blocks, HasNumber}
 use Rattle.jv_interp_objects.specs.NewBlocks.{Joins}
@@ -21,7 +21,7 @@ use Rattle.jv_interp_memory.specs.HeldInWords.{MemoryStands}
 use Rattle.jv_interp_memory.specs.SystemNumbers.{IsGuestsWorld, AreSystemNumbers, SystemHasNumbers}
 use Rattle.jv_interp_frames.specs.declared.throwing.Thrown.{Thrown as ThrownInWords}
 use Rattle.jv_interp_frames.specs.Exceptions.{IsMade}
-use Rattle.jv_interp_frames.specs.Inside.Walking.{ThrownStands, Replacing, Replaced, with_throws}
+use Rattle.jv_interp_frames.specs.Inside.Walking.{ThrownStands, Replacing, Replaced}
 use Rattle.jv_interp_frames.proofs.ClassesAbove.{found_is_named}
 use Rattle.jv_interp_frames.proofs.MemoryJoined.{ExceptionStands, made_of, grows_not}
 use Rattle.jv_interp_frames.proofs.ThrownAgain.{initializer_error, IsThrown, is_thrown, has_word, thrown_stands, thrown_control}

@@ -1,5 +1,5 @@
 -- Frames one on the other: the one with a number from the newest on, what stands on it, and what it stands on.
-use Rattle.std.proofs.Common.{◌≡◌, ℕ, zero, suc, ◌+◌, ◌≤◌, List, [], ◌∷◌, ◌++◌, Some, drop, length, reverse, slice_get, refl, sym, ap, subst, ◌∙◌, arith, append_assoc}
+use Rattle.std.proofs.Common.{◌≡◌, ℕ, zero, suc, List, [], ◌∷◌, ◌++◌, Some, drop, length, reverse, slice_get, refl, sym, ap, subst, ◌∙◌, append_assoc}
 use Rattle.jv_meaning_machine.specs.Frames.{MethodFrame, InitializationFrame, Frame}
 use Rattle.jv_meaning_machine.specs.Frames.Frame.{Runs, Initializes}
 use Rattle.jv_meaning_machine.specs.State.{Program}

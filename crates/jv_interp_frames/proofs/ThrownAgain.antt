@@ -1,10 +1,10 @@
 -- What is thrown has a class, which its object tells (JVMS 2.10; own).
-use Rattle.std.proofs.Common.{◌≡◌, ℕ, ◌+◌, ◌-◌, ◌^◌, ◌<◌, min, Bool, true, false, List, [], ◌∷◌, ◌++◌, Some, Ok, codes, length, get_or, slice_get, refl, sym, ap, subst, ◌∙◌, arith}
+use Rattle.std.proofs.Common.{◌≡◌, ℕ, ◌+◌, ◌-◌, ◌^◌, ◌<◌, min, true, List, Some, Ok, codes, length, get_or, slice_get, refl, sym, ap, subst, ◌∙◌, arith}
 use Rattle.jv_heap.specs.Content.{words_at}
 use Rattle.jv_meaning_world.specs.FileContent.{FileContent}
 use Rattle.jv_meaning_world.specs.System.Classes.{system_classes}
-use Rattle.jv_meaning_world.specs.World.{Loaded, World, class_named, world_of}
-use Rattle.jv_meaning_machine.specs.Faults.{OrFault, found, ◌>>=◌}
+use Rattle.jv_meaning_world.specs.World.{World, world_of}
+use Rattle.jv_meaning_machine.specs.Faults.{OrFault, ◌>>=◌}
 use Rattle.jv_meaning_machine.specs.Faults.Fault.{ReferenceFault}
 use Rattle.jv_meaning_machine.specs.Objects.{Instance, Object, is_at_or_below}
 use Rattle.jv_meaning_machine.specs.Objects.Object.{InstanceOf, ArrayWith}
@@ -13,7 +13,7 @@ use Rattle.jv_meaning_machine.specs.Fields.{instance_in}
 use Rattle.jv_meaning_machine.specs.State.{Program, Memory, Control}
 use Rattle.jv_meaning_machine.specs.Throws.{Thrown, thrown, thrown_once_more}
 use Rattle.jv_interp_words.proofs.Gave.{bound_gave, found_gave}
-use Rattle.jv_interp_objects.specs.ObjectsInBlocks.{Blocks, HasNumber, InstanceStands, ObjectStands, ObjectsStand}
+use Rattle.jv_interp_objects.specs.ObjectsInBlocks.{Blocks, HasNumber, InstanceStands}
 use Rattle.jv_interp_memory.specs.declared.held.Held.{Held}
 use Rattle.jv_interp_memory.specs.HeldInWords.{MemoryStands}
 use Rattle.jv_interp_frames.specs.declared.throwing.Thrown.{Thrown as ThrownInWords}

@@ -1,5 +1,5 @@
 -- An object is thrown, and an exception that the machine makes (JVMS 2.10).
-use Rattle.std.proofs.Common.{◌≡◌, ℕ, ◌+◌, ◌-◌, ◌^◌, ◌<◌, ◌≤◌, min, List, [], ◌∷◌, ◌++◌, Option, Some, None, Ok, length, get_or, slice_get, refl, sym, ap, subst, ◌∙◌, arith, append_assoc}
+use Rattle.std.proofs.Common.{◌≡◌, ℕ, ◌+◌, ◌-◌, ◌^◌, ◌<◌, min, List, ◌++◌, Option, Some, Ok, length, get_or, sym, ap, subst, ◌∙◌, append_assoc}
 use Rattle.std.specs.Prelude.{unwrap_or}
 use Rattle.jv_heap.specs.Content.{words_at}
 use Rattle.jv_meaning_world.specs.World.{World}
@@ -8,7 +8,7 @@ use Rattle.jv_meaning_linking.specs.Layout.{object_words, object_cells}
 use Rattle.jv_meaning_machine.specs.Faults.{OrFault, ◌>>=◌}
 use Rattle.jv_meaning_machine.specs.State.{Program, Memory, State, state_of}
 use Rattle.jv_meaning_machine.specs.Costs.{paid}
-use Rattle.jv_meaning_machine.specs.Throws.{Thrown as ThrownOfNames, thrown, exception, exception_made, throw, unwound}
+use Rattle.jv_meaning_machine.specs.Throws.{Thrown as ThrownOfNames, thrown, exception, exception_made, unwound}
 use Rattle.jv_interp_words.proofs.Gave.{bound_gave}
 use Rattle.jv_interp_objects.specs.ObjectsInBlocks.{Blocks}
 use Rattle.jv_interp_memory.specs.declared.held.Held.{Held}

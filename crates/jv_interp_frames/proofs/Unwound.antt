@@ -1,18 +1,16 @@
 -- What is thrown comes to a handler, or out of all frames (JVMS 2.10).
-use Rattle.std.proofs.Common.{◌≡◌, ℕ, ◌+◌, ◌*◌, ◌<◌, ◌≤◌, nat_le, true, List, [], ◌∷◌, ◌++◌, Option, Some, None, Ok, drop, length, reverse, slice_get, take, refl, sym, ap, subst, ◌∙◌, arith}
+use Rattle.std.proofs.Common.{◌≡◌, ℕ, ◌<◌, ◌≤◌, nat_le, true, List, [], ◌∷◌, ◌++◌, Option, Some, None, Ok, drop, length, reverse, take, refl, sym, ap, subst, ◌∙◌, arith}
 use Rattle.std.proofs.lemmas.Grind.{common_steps}
 use Rattle.std.proofs.lemmas.List.{length-reverse}
 use Rattle.jv_format.specs.declared.handlers.Handler.{Handler}
 use Rattle.jv_meaning_world.specs.World.{World}
-use Rattle.jv_meaning_machine.specs.Faults.{OrFault, tested, ◌>>=◌}
+use Rattle.jv_meaning_machine.specs.Faults.{OrFault, tested}
 use Rattle.jv_meaning_machine.specs.Faults.Fault.{StackFault}
 use Rattle.jv_meaning_machine.specs.Frames.{MethodFrame, Frame}
-use Rattle.jv_meaning_machine.specs.Frames.Frame.{Runs, Initializes}
 use Rattle.jv_meaning_machine.specs.State.{Program, Control as ControlOfNames, State, state_of}
 use Rattle.jv_meaning_machine.specs.State.End.{Threw}
-use Rattle.jv_meaning_machine.specs.Throws.{Thrown as ThrownOfNames, handler_for, at_handler, caught, passed_method, unwound}
-use Rattle.jv_interp_words.specs.declared.records.FrameRecord.{FrameRecord}
-use Rattle.jv_interp_words.specs.FramesInWords.{in_use, AreFrames}
+use Rattle.jv_meaning_machine.specs.Throws.{Thrown as ThrownOfNames, at_handler, caught, passed_method, unwound}
+use Rattle.jv_interp_words.specs.FramesInWords.{in_use}
 use Rattle.jv_interp_words.proofs.Gave.{bound_gave, tested_gave}
 use Rattle.jv_interp_words.proofs.Grown.{frames_grown}
 use Rattle.jv_interp_objects.specs.ObjectsInBlocks.{Blocks}
@@ -25,10 +23,10 @@ use Rattle.jv_interp_frames.specs.declared.control.End.TheVariants as ends
 use Rattle.jv_interp_frames.specs.declared.throwing.Thrown.{Thrown}
 use Rattle.jv_interp_frames.specs.declared.throwing.Landing.{Landing}
 use Rattle.jv_interp_frames.specs.FramesStand.{FramesStand}
-use Rattle.jv_interp_frames.specs.ControlStands.{ControlStands, EndStands, IsClassOf}
-use Rattle.jv_interp_frames.specs.Standing.{Kept, kept, StateStands, Reaches}
+use Rattle.jv_interp_frames.specs.ControlStands.{ControlStands, IsClassOf}
+use Rattle.jv_interp_frames.specs.Standing.{kept, Reaches}
 use Rattle.jv_interp_frames.specs.Inside.Passing.{passed, all_passed, PassingAll, PassedAll, Catching}
-use Rattle.jv_interp_frames.specs.Inside.Walking.{with_throws, ThrownStands, Walking, Walked, StopsAt, Landed}
+use Rattle.jv_interp_frames.specs.Inside.Walking.{with_throws, Walking, StopsAt, Landed}
 use Rattle.jv_interp_frames.specs.Inside.Unwinding.{Unwinding}
 use Rattle.jv_interp_frames.proofs.Counted.{frames_count}
 use Rattle.jv_interp_frames.proofs.Walks.{passed-throws}

@@ -1,13 +1,12 @@
 -- A throw that goes up the frames, one by one (JVMS 2.10).
-use Rattle.std.proofs.Common.{◌≡◌, ℕ, suc, ◌+◌, ◌-◌, ◌<◌, ◌≤◌, List, [], ◌∷◌, ◌++◌, Option, Some, None, Ok, drop, get_or, length, reverse, slice_get, take, refl, sym, ap, subst, ◌∙◌, arith, append_assoc, append-nil}
+use Rattle.std.proofs.Common.{◌≡◌, ℕ, suc, ◌+◌, ◌-◌, ◌<◌, List, [], ◌∷◌, ◌++◌, Option, Some, None, Ok, drop, get_or, length, reverse, slice_get, take, refl, sym, ap, subst, ◌∙◌, arith, append_assoc, append-nil}
 use Rattle.std.specs.Option.{option_map}
 use Rattle.std.proofs.lemmas.List.{get_or-reverse, length-reverse}
 use Rattle.std.proofs.lemmas.Option.{slice_get-get_or, slice_get_within}
 use Rattle.jv_format.specs.declared.handlers.Handler.{Handler}
 use Rattle.jv_classes.proofs.Numbers.{take_more}
 use Rattle.jv_meaning_world.specs.World.{World}
-use Rattle.jv_meaning_machine.specs.Faults.{OrFault, ◌>>=◌}
-use Rattle.jv_meaning_machine.specs.Frames.{MethodFrame, InitializationFrame, Frame}
+use Rattle.jv_meaning_machine.specs.Frames.{MethodFrame, Frame}
 use Rattle.jv_meaning_machine.specs.Frames.Frame.{Runs, Initializes}
 use Rattle.jv_meaning_machine.specs.State.{Program, Control, State}
 use Rattle.jv_meaning_machine.specs.Throws.{Thrown, handler_for, caught, passed_method, passed_initialization, replacement, unwound}
@@ -18,12 +17,10 @@ use Rattle.jv_interp_words.specs.declared.records.FrameRecord.TheVariants as rec
 use Rattle.jv_interp_words.proofs.Gave.{bound_gave}
 use Rattle.jv_interp_objects.specs.ObjectsInBlocks.{Blocks}
 use Rattle.jv_interp_memory.specs.declared.held.Held.{Held}
-use Rattle.jv_interp_memory.specs.Growing.{Grows}
 use Rattle.jv_interp_frames.specs.declared.throwing.Thrown.{Thrown as ThrownInWords}
-use Rattle.jv_interp_frames.specs.declared.throwing.Landing.{Landing}
 use Rattle.jv_interp_frames.specs.Inside.Handling.{pc_of, Handling}
 use Rattle.jv_interp_frames.specs.Inside.Passing.{passed, all_passed}
-use Rattle.jv_interp_frames.specs.Inside.Walking.{with_throws, ThrownStands, Replacing, Replaced, Walking, Walked, StopsAt, Landed}
+use Rattle.jv_interp_frames.specs.Inside.Walking.{with_throws, ThrownStands, Replacing, Replaced, Walking, Walked, Landed}
 use Rattle.jv_interp_frames.proofs.GrownTwice.{grows_twice}
 use Rattle.jv_interp_frames.proofs.MemoryJoined.{grows_not}
 use Rattle.jv_interp_frames.proofs.Stacked.{MethodAt, InitializationAt, method_at, initialization_at, same_count}

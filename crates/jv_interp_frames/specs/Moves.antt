@@ -1,6 +1,6 @@
 -- What the machine does to frames and control (JVMS 2.6, 2.10, 5.5), by the numbers and addresses that stand for classes, methods and
 -- objects.
-use Rattle.std.specs.Prelude.{◌≡◌, ℕ, ◌+◌, ◌≤◌, Bool, List, ◌++◌, Option, Some, Ok, length, reverse, slice_get}
+use Rattle.std.specs.Prelude.{◌≡◌, ℕ, ◌+◌, ◌≤◌, Bool, List, Option, Some, Ok, length, reverse, slice_get}
 use Rattle.std.specs.List.{flat_map}
 use Rattle.jv_meaning_world.specs.World.{Loaded}
 use Rattle.jv_meaning_world.specs.Overriding.{Declared}

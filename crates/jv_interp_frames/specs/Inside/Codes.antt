@@ -1,9 +1,8 @@
 -- The code of a method that stands in a frame, by the method's number.
-use Rattle.std.specs.Prelude.{◌≡◌, ℕ, Some, Ok, slice_get}
+use Rattle.std.specs.Prelude.{◌≡◌, ℕ, Some, slice_get}
 use Rattle.jv_class_structure.specs.Parts.{CodeSeen}
 use Rattle.jv_meaning_world.specs.Overriding.{Declared}
-use Rattle.jv_meaning_typing.specs.Environment.{Environment}
-use Rattle.jv_meaning_machine.specs.State.{Program, entered_method}
+use Rattle.jv_meaning_machine.specs.State.{Program}
 use Rattle.jv_interp_words.specs.FramesInWords.{methods_of}
 use Rattle.jv_interp_methods.specs.declared.methods.Methods.{Methods}
 use Rattle.jv_interp_methods.specs.Methods.{AreMethods}

@@ -1,4 +1,4 @@
-use Rattle.jv_interp_frames.proofs.BodyStands.{number_within, no_body, body_code}
+use Rattle.jv_interp_frames.proofs.BodyStands.{number_within, body_code}
 use Rattle.jv_interp_frames.proofs.code.code_of.Goals as goal
 
 pub method-requires : goal.method-requires

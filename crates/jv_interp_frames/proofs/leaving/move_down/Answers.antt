@@ -1,5 +1,4 @@
-use Rattle.std.proofs.Common.{◌≡◌, ℕ, ◌+◌, ◌++◌, take, subst, arith}
-use Rattle.jv_interp_words.specs.FramesInWords.{in_use}
+use Rattle.std.proofs.Common.{◌≡◌, ℕ, subst, arith}
 use Rattle.jv_interp_frames.proofs.MovedDown.{MovedSoFar, none_moved, one_moved, all_moved}
 use Rattle.jv_interp_frames.proofs.leaving.move_down.Goals as goal
 

@@ -1,4 +1,3 @@
-use Rattle.jv_interp_frames.proofs.BodyStands.{number_within}
 use Rattle.jv_interp_frames.proofs.NextFound.{is_code, some_bytes, known_bytes, stands_there, next_is}
 use Rattle.jv_interp_frames.proofs.leaving.next_of.Goals as goal
 

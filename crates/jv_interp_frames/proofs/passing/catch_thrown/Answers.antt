@@ -1,4 +1,4 @@
-use Rattle.std.proofs.Common.{◌≡◌, ℕ, ◌+◌, ◌<◌, ◌≤◌, List, [], ◌∷◌, ◌++◌, Some, drop, length, take, refl, sym, ap, subst, ◌∙◌, arith}
+use Rattle.std.proofs.Common.{◌≡◌, ℕ, ◌+◌, List, [], ◌∷◌, ◌++◌, drop, length, take, refl, sym, ap, ◌∙◌, arith}
 use Rattle.std.proofs.Math.Seq.{take-append_seam}
 use Rattle.std.specs.Vec.{with_items}
 use Rattle.jv_class_structure.specs.Parts.{CodeSeen}
@@ -6,7 +6,7 @@ use Rattle.jv_interp_words.specs.declared.records.FrameRecord.{FrameRecord}
 use Rattle.jv_interp_words.specs.declared.records.FrameRecord.TheVariants as records
 use Rattle.jv_interp_words.specs.FramesInWords.{in_use}
 use Rattle.jv_interp_frames.proofs.CodeThere.{code_there}
-use Rattle.jv_interp_frames.proofs.AllPassed.{here, locals_end, rest_fits, caught_here}
+use Rattle.jv_interp_frames.proofs.AllPassed.{here, locals_end, caught_here}
 use Rattle.jv_interp_frames.proofs.passing.catch_thrown.Goals as goal
 
 pub push_word-frames-requires : goal.push_word-frames-requires

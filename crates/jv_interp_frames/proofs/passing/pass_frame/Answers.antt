@@ -1,4 +1,4 @@
-use Rattle.std.proofs.Common.{◌≡◌, ℕ, ◌+◌, ◌<◌, List, [], ◌∷◌, ◌++◌, Some, drop, length, slice_get, take, refl, sym, ap, subst, ◌∙◌, arith}
+use Rattle.std.proofs.Common.{◌≡◌, ℕ, ◌+◌, ◌<◌, List, [], ◌∷◌, ◌++◌, drop, length, slice_get, take, refl, sym, ap, subst, ◌∙◌, arith}
 use Rattle.std.proofs.lemmas.Option.{slice_get_within}
 use Rattle.std.proofs.Math.Seq.{take-append_seam}
 use Rattle.std.specs.Vec.{with_items}
@@ -8,16 +8,14 @@ use Rattle.jv_interp_memory.specs.ClassStates.{AreClassStates}
 use Rattle.jv_meaning_machine.specs.State.ClassState.{Erroneous}
 use Rattle.jv_meaning_world.specs.World.{Loaded, World}
 use Rattle.jv_meaning_machine.specs.Frames.{Frame}
-use Rattle.jv_meaning_machine.specs.Frames.Frame.{Runs, Initializes}
-use Rattle.jv_meaning_machine.specs.State.{Program, Control as ControlOfNames}
-use Rattle.jv_meaning_machine.specs.Costs.{code_words, with_words_back}
+use Rattle.jv_meaning_machine.specs.Costs.{code_words}
 use Rattle.jv_meaning_machine.specs.Laws.Shapes.{frame_words}
 use Rattle.jv_interp_words.specs.declared.records.FrameRecord.{FrameRecord}
 use Rattle.jv_interp_words.specs.declared.records.FrameRecord.TheVariants as records
 use Rattle.jv_interp_frames.specs.FramesStand.{FramesStand}
 use Rattle.jv_interp_frames.specs.Inside.Passing.{Passed}
 use Rattle.jv_interp_frames.proofs.CodeThere.{code_there, can_find}
-use Rattle.jv_interp_frames.proofs.FramesPassed.{runs_there, initializes_there, none_there, words_fit, method_gone, initialization_gone}
+use Rattle.jv_interp_frames.proofs.FramesPassed.{runs_there, initializes_there, words_fit, method_gone, initialization_gone}
 use Rattle.jv_interp_frames.proofs.passing.pass_frame.Goals as goal
 
 pub code_of-requires : goal.code_of-requires

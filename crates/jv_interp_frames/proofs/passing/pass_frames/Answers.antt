@@ -1,6 +1,6 @@
-use Rattle.std.proofs.Common.{◌≡◌, ℕ, ◌+◌, ◌≤◌, subst, arith}
+use Rattle.std.proofs.Common.{◌≡◌, ℕ, subst, arith}
 use Rattle.jv_interp_frames.specs.Inside.Passing.{PassedAll}
-use Rattle.jv_interp_frames.proofs.AllPassed.{next, passing_next, passed_next}
+use Rattle.jv_interp_frames.proofs.AllPassed.{passing_next, passed_next}
 use Rattle.jv_interp_frames.proofs.passing.pass_frames.Goals as goal
 
 pub loop-step-init : goal.loop-step-init

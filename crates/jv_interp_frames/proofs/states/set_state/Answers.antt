@@ -1,4 +1,4 @@
-use Rattle.std.proofs.Common.{◌≡◌, List, ◌∷◌, true, false, set, sym, ap, subst, ◌∙◌}
+use Rattle.std.proofs.Common.{◌∷◌, set, subst, ◌∙◌}
 use Rattle.jv_interp_memory.specs.declared.class_state.ClassState.{ClassState}
 use Rattle.jv_interp_memory.specs.ClassStates.{AreClassStates}
 use Rattle.jv_interp_frames.proofs.StatesSet.{system_stays, guests_set}

@@ -1,10 +1,8 @@
-use Rattle.std.proofs.Common.{◌≡◌, ℕ, ◌<◌, Bool, true, false, List, Option, Some, None, length, slice_get, refl, sym, ap, subst, ◌∙◌}
-use Rattle.std.specs.Prelude.{unwrap_or}
+use Rattle.std.proofs.Common.{◌≡◌, ℕ, ◌<◌, true, false, Option, Some, None, length, refl, sym, ap, subst, ◌∙◌}
 use Rattle.jv_heap.specs.Content.{words_at}
-use Rattle.jv_meaning_world.specs.World.{Loaded, World}
-use Rattle.jv_meaning_world.specs.Numbers.{HoldsAtNumber, HoldsAtBoth}
+use Rattle.jv_meaning_world.specs.World.{World}
+use Rattle.jv_meaning_world.specs.Numbers.{HoldsAtBoth}
 use Rattle.jv_meaning_machine.specs.Objects.{is_at_or_below}
-use Rattle.jv_meaning_linking.specs.Layout.{object_words}
 use Rattle.jv_interp_memory.specs.declared.held.Held.{Held}
 use Rattle.jv_linked.specs.Linked.{IsLinked}
 use Rattle.jv_interp_frames.specs.Exceptions.{IsMade}

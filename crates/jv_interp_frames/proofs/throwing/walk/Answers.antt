@@ -1,12 +1,9 @@
-use Rattle.std.proofs.Common.{◌≡◌, ℕ, ◌+◌, ◌-◌, ◌*◌, ◌<◌, ◌≤◌, Bool, true, false, List, Option, Some, None, Fits, length, get_or, reverse, slice_get, refl, sym, ap, subst, ◌∙◌, arith}
-use Rattle.std.specs.Option.{option_map}
-use Rattle.jv_interp_words.specs.declared.records.FrameRecord.{FrameRecord}
+use Rattle.std.proofs.Common.{◌≡◌, ℕ, ◌+◌, Bool, true, false, None, length, refl, sym, ap, subst, ◌∙◌, arith}
 use Rattle.jv_interp_words.specs.declared.records.FrameRecord.TheVariants as records
 use Rattle.jv_interp_memory.specs.declared.held.Held.{Held}
 use Rattle.jv_interp_frames.specs.declared.throwing.Thrown.{Thrown}
-use Rattle.jv_interp_frames.specs.Inside.Handling.{pc_of}
 use Rattle.jv_interp_frames.specs.Inside.Walking.{OnTheWay, Landed}
-use Rattle.jv_interp_frames.proofs.Walks.{turned_at, begun, count, handling, passes_method, behind_it, passes_initialization, lands_here, lands_nowhere}
+use Rattle.jv_interp_frames.proofs.Walks.{turned_at, begun, handling, passes_method, behind_it, passes_initialization, lands_here, lands_nowhere}
 use Rattle.jv_interp_frames.proofs.throwing.walk.Goals as goal
 use Rattle.jv_interp_frames.proofs.throwing.walk.Goals.{in-Runs+in_default, in-Initializes+in_ok-now-in-Initializes}
 

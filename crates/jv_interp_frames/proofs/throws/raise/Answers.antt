@@ -1,4 +1,4 @@
-use Rattle.std.proofs.Common.{◌≡◌, ℕ, ◌+◌, List, [], ◌∷◌, ◌++◌, Option, Some, None, length, refl, sym, ap, subst, ◌∙◌, replicate, arith}
+use Rattle.std.proofs.Common.{ℕ, ◌∷◌, Option, Some, None, length, refl, sym, ap, subst, ◌∙◌, replicate, arith}
 use Rattle.std.proofs.lemmas.List.{length-replicate}
 use Rattle.std.proofs.lemmas.Result.{on_ok_weaker}
 use Rattle.jv_heap.specs.Content.{words_at, greatest, without}
@@ -12,7 +12,7 @@ use Rattle.jv_interp_memory.specs.declared.held.Held.{Held}
 use Rattle.jv_interp_frames.specs.Exceptions.{IsMade}
 use Rattle.jv_interp_frames.specs.Standing.{kept, Moved}
 use Rattle.jv_interp_frames.specs.Moves.{Throwing}
-use Rattle.jv_interp_frames.proofs.ThrowsStand.{stands, then_throws, then_reaches}
+use Rattle.jv_interp_frames.proofs.ThrowsStand.{then_throws, then_reaches}
 use Rattle.jv_interp_frames.proofs.throws.raise.Goals as goal
 
 pub throw-requires-clause-can : goal.throw-requires-clause-can

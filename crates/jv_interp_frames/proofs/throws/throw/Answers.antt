@@ -1,9 +1,9 @@
-use Rattle.std.proofs.Common.{◌≡◌, ℕ, false, refl, sym}
+use Rattle.std.proofs.Common.{false, refl, sym}
 use Rattle.std.proofs.lemmas.Result.{on_ok_weaker}
 use Rattle.jv_interp_frames.specs.declared.throwing.Thrown.{Thrown}
 use Rattle.jv_interp_frames.specs.Standing.{kept}
 use Rattle.jv_interp_frames.specs.Inside.Unwinding.{Unwinds}
-use Rattle.jv_interp_frames.proofs.ThrowsStand.{is_going, word_there, unwinding}
+use Rattle.jv_interp_frames.proofs.ThrowsStand.{word_there, unwinding}
 use Rattle.jv_interp_frames.proofs.throws.throw.Goals as goal
 
 pub get-class-requires : goal.get-class-requires

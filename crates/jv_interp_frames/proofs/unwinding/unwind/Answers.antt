@@ -1,4 +1,4 @@
-use Rattle.std.proofs.Common.{◌≡◌, ℕ, ◌<◌, List, length, sym, ap, subst, ◌∙◌}
+use Rattle.std.proofs.Common.{◌<◌, List, length, sym, subst}
 use Rattle.jv_interp_words.specs.declared.records.FrameRecord.{FrameRecord}
 use Rattle.jv_interp_words.specs.FramesInWords.{in_use}
 use Rattle.jv_interp_frames.specs.Inside.Walking.{Walking}
