@@ -66,7 +66,8 @@ UsesField how index next k held at words blocks at_after words_after blocks_afte
     → Using how index next k (place at words held blocks) texts c addresses done below
     → Did texts (place at_after words_after held blocks_after) effect c addresses done below
 
--- the blocks but that of the object below the value, which has one word or two
+-- All blocks but one stand as they did: the one under the word below the value, which has one word or two. Which of both it is, this
+-- doesn't say.
 abbrev pub KeepsOtherObjects : List ℕ → ℕ → Blocks → Blocks → Type 0
 KeepsOtherObjects words top before after =
     KeepsOthers (slice_index words (top - 2)) before after ⊎ KeepsOthers (slice_index words (top - 3)) before after
