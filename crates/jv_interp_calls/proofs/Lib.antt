@@ -12,3 +12,4 @@ pub mod HostWork
 pub mod HostMethods
 pub mod StaticWork
 pub mod UsedAtSite
+pub mod OwnersAlone

@@ -1,5 +1,5 @@
 -- Fields that constants name, in words (JVMS 6.5: getstatic, putstatic, getfield, putfield).
-use Rattle.std.specs.Prelude.{◌≡◌, ◌<◌, ◌⊎◌, ℕ, ◌-◌, List, length, Some, Ok, IsSome, IsTrue, IsFalse, slice_index}
+use Rattle.std.specs.Prelude.{◌≡◌, ◌<◌, ℕ, ◌+◌, ◌-◌, List, length, Some, Ok, Err, IsSome, IsTrue, IsFalse, slice_index}
 use Rattle.jv_text.specs.Types.{field_type_of}
 use Rattle.jv_pool.specs.Constants.{MemberReference}
 use Rattle.jv_code.specs.declared.kinds.FieldAccess.{FieldAccess}
@@ -7,8 +7,13 @@ use Rattle.jv_code.specs.declared.kinds.FieldAccess.TheVariants as access
 use Rattle.jv_meaning_world.specs.World.{World}
 use Rattle.jv_meaning_world.specs.LookUps.{DeclaredField}
 use Rattle.jv_meaning_linking.specs.Uses.{Use, Site}
+use Rattle.jv_meaning_linking.specs.LinkErrors.{OrError}
 use Rattle.jv_meaning_linking.specs.Kind.{is_static_field}
+use Rattle.jv_meaning_linking.specs.Layout.{field_words}
+use Rattle.jv_meaning_linking.specs.Operands.{field_operand}
 use Rattle.jv_meaning_linking.specs.FieldResolution.{resolve_field}
+use Rattle.jv_link.specs.declared.site.Use.TheVariants as uses
+use Rattle.jv_link.specs.Seen.{seen_site, seen_use}
 use Rattle.jv_linked.specs.Places.{IsWordOf}
 use Rattle.jv_meaning_machine.specs.Objects.{key_of}
 use Rattle.jv_meaning_machine.specs.State.{Memory}
@@ -66,11 +71,17 @@ UsesField how index next k held at words blocks at_after words_after blocks_afte
     → Using how index next k (place at words held blocks) texts c addresses done below
     → Did texts (place at_after words_after held blocks_after) effect c addresses done below
 
--- All blocks but one stand as they did: the one under the word below the value, which has one word or two. Which of both it is, this
--- doesn't say.
-abbrev pub KeepsOtherObjects : List ℕ → ℕ → Blocks → Blocks → Type 0
-KeepsOtherObjects words top before after =
-    KeepsOthers (slice_index words (top - 2)) before after ⊎ KeepsOthers (slice_index words (top - 3)) before after
+-- Of the blocks, a store into a field may write that of the object below the value, which has the field's words (2.6.2); where no field
+-- is resolved, none.
+abbrev pub KeepsAllButOwner : OrError DeclaredField → List ℕ → ℕ → Blocks → Blocks → Type 0
+KeepsAllButOwner (Ok d) words top before after = KeepsOthers (slice_index words (top - (1 + field_words d))) before after
+KeepsAllButOwner (Err error) words top before after = after ≡ before
+
+-- So a putfield of the constant at an index keeps all objects but the one whose field it is.
+abbrev pub KeepsOtherObjects : ℕ → Known → List ℕ → ℕ → Blocks → Blocks → Type 0
+KeepsOtherObjects index k words top before after =
+    (s : Site) (reference : MemberReference) → seen_site k.world k.site ≡ Some s → field_operand s.by.class index ≡ Some reference
+    → KeepsAllButOwner (resolve_field k.world s (seen_use uses.Putfield) reference) words top before after
 
 -- ---- static fields, which need no store
 

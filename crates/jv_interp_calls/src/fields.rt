@@ -95,7 +95,8 @@ pub fn putfield<'a, 'l, S: Store>(
     ensures uses { UsesField PutField index next (known classes.now.world linked.old site) held.now at.old words.now
         (S.content store.old) at.new words.now (S.content store.new) result }
     ensures stays { StaysIn at.old at.new words.now }
-    ensures others { KeepsOtherObjects words.now at.old.top (S.content store.old) (S.content store.new) }
+    ensures others { KeepsOtherObjects index (known classes.now.world linked.old site) words.now at.old.top
+        (S.content store.old) (S.content store.new) }
     ensures room { S.room_left store.new ≡ S.room_left store.old }
     ensures linked { IsLinked classes.now.world linked.new }
 {
