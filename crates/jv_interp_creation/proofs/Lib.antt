@@ -1,6 +1,5 @@
 pub mod More
 pub mod Went
-pub mod Excepted
 pub mod Created
 pub mod Counted
 pub mod Spelled

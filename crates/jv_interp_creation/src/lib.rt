@@ -5,7 +5,6 @@
 mod arrays;
 mod blocks;
 mod constants;
-mod exceptions;
 mod literals;
 mod multiple;
 mod nested;
@@ -17,7 +16,6 @@ mod units;
 pub use arrays::{new_array, new_base_array};
 pub use blocks::{array_block, pay_array, pay_object};
 pub use constants::{push_int, push_long, push_string};
-pub use exceptions::make_exception;
 pub use literals::literal;
 pub use multiple::{new_nested_array, pay_nested};
 pub use nested::make_nested;

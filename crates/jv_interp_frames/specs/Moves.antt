@@ -50,8 +50,8 @@ entering program s d receiver arguments memory =
     found OffsetFault d.method.code >>= λ code.
     within_words program.world s.memory s.frames s.control (code_words code) (entered_above program s.frames d receiver arguments memory)
 
--- The method with a number is entered, and what is passed to it are so many words on those in use. The memory with which it goes on is
--- told by the same words.
+-- The method with a number is entered, and what is passed to it are so many words on those in use. The memory with which it goes on may
+-- differ in what no word tells: an <init> is noted in its object (2.9).
 pub record Entering (method : ℕ) (frames : Frames) (program : Program) (addresses : List ℕ) (s t : State) : Type 0 where
   pub d : Declared
   pub receiver : Option ℕ

@@ -46,7 +46,8 @@ pub record Did (texts : List (List ℕ)) (here : Place) (effect : Effect) (c : C
 
 -- ---- of other guests
 
--- Only the block at an address has other words now, and no block was made or taken back: so those of other guests stand as they did.
+-- Only the block at an address has other words now, and the greatest address is the same: so blocks of other guests, which have other
+-- addresses, stand as they did.
 pub record KeepsOthers (address : ℕ) (before after : Blocks) : Type 0 where
   pub others : (other : ℕ) → (other ≡ address → ⊥) → words_at after other ≡ words_at before other
   pub same_greatest : greatest after ≡ greatest before

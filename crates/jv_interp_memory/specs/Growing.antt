@@ -7,8 +7,9 @@ use Rattle.jv_interp_objects.specs.ObjectsInBlocks.{Blocks}
 use Rattle.jv_interp_memory.specs.declared.effect.Effect.{Effect}
 use Rattle.jv_interp_memory.specs.Executing.{Place, Did}
 
--- A guest has objects under these addresses, and then under more: all that stands under other addresses stands as it did, and the
--- new ones are above all that there were. So no block of another guest was written, and none is the guest's own now.
+-- A guest has objects under these addresses, and then under more: all that stood under other addresses stands as it did, and the new
+-- ones are above all that there were. So where no two guests have one address, no block of another guest was written, and none is the
+-- guest's own now.
 pub record Grows (addresses more : List ℕ) (before after : Blocks) : Type 0 where
   pub others : (other : ℕ) → other ≤ greatest before → (Contains addresses other → ⊥) → words_at after other ≡ words_at before other
   pub above : (address : ℕ) → Contains more address → greatest before < address

@@ -12,7 +12,7 @@ HasText texts text number = slice_get texts number ≡ Some text
 abbrev pub AreDifferent : List (List ℕ) → Type 0
 AreDifferent texts = (number other : ℕ) (text : List ℕ) → HasText texts text number → HasText texts text other → other ≡ number
 
--- each has fewer than 2^31 bytes (own): no file holds more
+-- each has fewer than 2^31 bytes (own): a CONSTANT_Utf8 has no more than 65,535 (4.4.7)
 abbrev pub AreShort : List (List ℕ) → Type 0
 AreShort texts = (number : ℕ) (text : List ℕ) → HasText texts text number → length text < 2147483648
 

@@ -1,6 +1,6 @@
 -- What a guest holds at its start, in words (JVMS 5.2; own): static fields are zero or null, and the machine has made an OutOfMemoryError
 -- object and an empty array of Strings.
-use Rattle.std.specs.Prelude.{◌≡◌, ℕ, List, [], ◌∷◌, Some, codes, length, slice_get, sum_by}
+use Rattle.std.specs.Prelude.{◌≡◌, ℕ, ◌+◌, List, [], ◌∷◌, Some, codes, length, slice_get, sum_by}
 use Rattle.jv_meaning_world.specs.World.{Loaded, World, class_named}
 use Rattle.jv_meaning_linking.specs.Layout.{field_words}
 use Rattle.jv_meaning_machine.specs.Start.{Budget, start_memory}
@@ -9,14 +9,16 @@ use Rattle.jv_interp_objects.specs.NewBlocks.{Joins}
 use Rattle.jv_interp_memory.specs.declared.held.Held.{Held}
 use Rattle.jv_interp_memory.specs.HeldInWords.{static_fields, MemoryStands}
 use Rattle.jv_interp_memory.specs.SystemNumbers.{IsGuestsWorld}
+use Rattle.jv_interp_memory.specs.declared.numbers.TheConstants.{STRING, OUT_OF_MEMORY}
 
 -- ---- the two objects
 
--- the OutOfMemoryError object, with a field that is null, and then an array of Strings with no component
+-- the OutOfMemoryError object, with a field that is null, and then an array of Strings with no component: an array's first word is
+-- 2^31 and more, by 8 and the class's number where its components are of a class
 pub record BothJoin (error strings : ℕ) (before after : Blocks) : Type 0 where
   pub between : Blocks
-  pub error_joins : Joins (20 ∷ 0 ∷ []) before between error
-  pub strings_join : Joins (2147483659 ∷ 0 ∷ []) between after strings
+  pub error_joins : Joins (OUT_OF_MEMORY ∷ 0 ∷ []) before between error
+  pub strings_join : Joins (2147483648 + (8 + STRING) ∷ 0 ∷ []) between after strings
 
 -- ---- all of it
 
