@@ -18,7 +18,7 @@ use Rattle.jv_interp_memory.specs.declared.numbers.TheConstants.{STRING, OUT_OF_
 pub record BothJoin (error strings : ℕ) (before after : Blocks) : Type 0 where
   pub between : Blocks
   pub error_joins : Joins (OUT_OF_MEMORY ∷ 0 ∷ []) before between error
-  pub strings_join : Joins (2147483648 + (8 + STRING) ∷ 0 ∷ []) between after strings
+  pub strings_join : Joins ((2147483648 + (8 + STRING)) ∷ 0 ∷ []) between after strings
 
 -- ---- all of it
 
