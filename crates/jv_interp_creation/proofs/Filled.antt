@@ -111,9 +111,6 @@ filling_goes_on text rest behind place address unit before now after h some b e 
       next units first second earlier rest place address now (h.each units first second earlier s j) some unit behind after b e;
 }
 
-pub gets_shorter : (rest behind : List ℕ) (unit : ℕ) → BeginsWithUnit rest unit behind → length behind < length rest
-gets_shorter rest behind unit b = let e = ap length b.spelled in let n = length-unit_bytes unit behind in omega (arith, e, n)
-
 pub filling_ends : (text rest : List ℕ) (place address : ℕ) (before now : Blocks) → IsFilling text rest place address before now → length rest ≡ 0 → Fills text before now address
 filling_ends text rest place address before now h none units first second earlier s j =
     let p = h.each units first second earlier s j in

@@ -129,15 +129,4 @@ module _ (slots : ℕ) (counts : List ℕ) (word outer made : ℕ) (before now :
   outer_joins known same between a e takes =
       let one = subst (λ (k : List ℕ). TakesInner slots k made outer same between) a takes in
       record { above = n.above; joins = one (word - 65536) (nested_has same e) }
-
   -- ---- all of them
-
-  pub nesting_ends : 1 ≤ length counts → made ≡ inner_size counts → NestedJoin slots counts word before now outer
-  nesting_ends some all = record {
-    blocks = (outer, words) ∷ n.blocks;
-    are =
-        closed slots counts word outer n.inner n.left n.blocks some (n.size_is ∙ all)
-        (let a = n.size_is in let b = n.all in omega (arith, a, b)) n.follow;
-    above = (n.above, n.each_above);
-    joins = n.are ∙ append_assoc before ((outer, words) ∷ []) n.blocks;
-  }

@@ -81,13 +81,6 @@ pub record Split (text : List ℕ) (unit : ℕ) (rest : List ℕ) : Type 0 where
   pub spelling : Spelling unit text rest
   pub spelled : text ≡ unit_bytes unit ++ rest
 
-pub some_split : (text : List ℕ) (h : IsSomeText text) → Split text h.unit (text_bytes h.units)
-some_split text h = record {
-  fits = unit_fits h.unit (and_parts (is_unit h.unit) (list_all is_unit h.units) h.spells.fit).0;
-  spelling = spelling h.unit text (text_bytes h.units) h.spells.spelled;
-  spelled = h.spells.spelled;
-}
-
 pub some_byte : (unit : ℕ) (text rest : List ℕ) → Spelling unit text rest → 1 ≤ length text
 some_byte unit text rest (One small is) = let e = ap length is in omega (arith, e)
 some_byte unit text rest (Two small is) = let e = ap length is in omega (arith, e)
@@ -115,9 +108,3 @@ pub two_at_least : (unit : ℕ) (text rest : List ℕ) → Spelling unit text re
 two_at_least unit text rest (One small is) h = absurd (let e = ap (λ (l : List ℕ). get_or l 0 0) is in omega (arith, e, h, small))
 two_at_least unit text rest (Two small is) h = let e = ap length is in omega (arith, e)
 two_at_least unit text rest (Three is) h = let e = ap length is in omega (arith, e)
-
-pub two_joined : (unit : ℕ) → (192 + unit / 64 - 192) * 64 + (128 + unit % 64 - 128) ≡ unit
-two_joined unit = omega arith
-
-pub three_joined : (unit : ℕ) → (224 + unit / 4096 - 224) * 4096 + (128 + unit / 64 % 64 - 128) * 64 + (128 + unit % 64 - 128) ≡ unit
-three_joined unit = omega arith

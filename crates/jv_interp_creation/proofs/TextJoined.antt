@@ -51,18 +51,3 @@ pub filled_joins : (text units : List ℕ) (count : ℕ) (between joined filled 
 filled_joins text units count between joined filled chars s has j fills =
     fills units 2147483649 count between s
     (subst (λ (w : List ℕ). Joins (2147483649 ∷ count ∷ w) between joined chars) (chars_words count (length units) (has units s)) j)
-
-pub text_joins :
-    (text : List ℕ) (count : ℕ) (before between joined filled after : Blocks) (string chars : ℕ) → HasUnits text count
-    → Joins (3 ∷ 0 ∷ []) before between string → Joins (2147483649 ∷ count ∷ replicate (count * 1) 0) between joined chars
-    → Fills text joined filled chars → after ≡ written filled string 1 chars → JoinsText text before after string
-text_joins text count before between joined filled after string chars has s j fills e units spells = record {
-  chars = chars;
-  between = between;
-  filled = filled;
-  string_joins = s;
-  chars_join =
-      subst (λ (n : ℕ). Joins (2147483649 ∷ n ∷ units) between filled chars) (has units spells)
-      (filled_joins text units count between joined filled chars spells has j fills);
-  linked = e;
-}

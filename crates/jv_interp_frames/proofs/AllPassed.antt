@@ -102,19 +102,6 @@ module _ (program : Program) (addresses : List ℕ) (frame : MethodFrame) (below
         omega (arith, a, bound, s.base_is, sum_by-cons frame_words (Runs frame) below),
       )
 
-  pub rest_fits : length rest < vec_capacity kept.records
-  rest_fits =
-      let a = h.room in
-      let b = h.records_fit in
-      omega (
-        arith,
-        a,
-        b,
-        frames_count program addresses below (reverse rest) here.under here.others,
-        length-reverse rest,
-        sum_by-cons frame_words (Runs frame) below,
-      )
-
   pub caught_here :
       (pc object address : ℕ) (after : Frames) → slice_get addresses object ≡ Some address → 1 ≤ frame.method.code.max_stack
       → in_use after.words.items after.top ≡ address ∷ in_use kept.words.items (own.base + frame.method.code.max_locals)

@@ -66,9 +66,6 @@ module _ (methods : Methods) (given top count : ℕ) (frames : Frames) (kept : C
         h.count_is,
       )
 
-  pub given_fits : given + frames.left < 4294967296
-  given_fits = let room = h.room in let few = h.stand.few in let left = h.stand.left_is in omega (arith, room, few, left)
-
   -- the words of the result
   pub record Upper : Type 0 where
     pub front : List ℕ
