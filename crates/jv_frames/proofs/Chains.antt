@@ -1,8 +1,9 @@
 -- Chains of nodes: what a new node leaves as it was, and what each node stands on.
-use Rattle.std.proofs.Common.{◌≡◌, ℕ, zero, suc, ◌+◌, ◌<◌, ◌≤◌, List, [], ◌∷◌, ◌++◌, length, get_or, refl, sym, ap, subst, ◌∙◌, arith}
+use Rattle.std.proofs.Common.{◌≡◌, ℕ, zero, suc, ◌+◌, ◌<◌, ◌≤◌, List, [], ◌∷◌, ◌++◌, length, get_or, refl, sym, ap, subst, ◌∙◌, inl, inr, arith}
+use Rattle.std.proofs.lemmas.Bool.{cases_lt}
 use Rattle.std.proofs.lemmas.List.{length-append, get_or_append_left, get_or_past}
 use Rattle.std.proofs.Math.Seq.{get_or-append_seam}
-use Rattle.std.specs.Prelude.{map}
+use Rattle.std.specs.Prelude.{map, ◌⊎◌}
 use Rattle.std.specs.List.{All}
 use Rattle.jv_frames.specs.declared.entry.FrameEntry.{FrameEntry}
 use Rattle.jv_frames.specs.declared.nodes.Node.{Node}
@@ -74,6 +75,34 @@ first_empty nodes = kept_on ([] ∷ []) nodes 0 (omega arith)
 
 pub past_empty : (nodes : List Node) (n : ℕ) → length nodes < n → chain (chains_on ([] ∷ []) nodes) n ≡ []
 past_empty nodes n lt = get_or_past (chains_on ([] ∷ []) nodes) n [] (omega (arith, lt, length_on ([] ∷ []) nodes))
+
+-- ---- from a node on down there are no more entries than its number
+
+abbrev pub AreShort : Chains → Type 0
+AreShort cs = (n : ℕ) → length (chain cs n) ≤ n
+
+short_more : (cs : Chains) (node : Node) → node.below < length cs → AreShort cs → AreShort (cs ++ chain_more cs node ∷ [])
+short_more cs node lt h n = by_side (cases_lt n (length cs)) (cases_lt (length cs) n)
+  where
+    by_side : (n < length cs) ⊎ (length cs ≤ n) → (length cs < n) ⊎ (n ≤ length cs) → length (chain (cs ++ chain_more cs node ∷ []) n) ≤ n
+    by_side (inl below) other = rw (chain_kept cs (chain_more cs node) n below) (h n)
+    by_side (inr above) (inl past) = rw (get_or_past (cs ++ chain_more cs node ∷ []) n [] (omega (arith, past, longer cs (chain_more cs node)))) (omega arith)
+    by_side (inr above) (inr within) =
+        let here : n ≡ length cs = omega (arith, above, within) in
+        rw (here, chain_new cs (chain_more cs node)) (omega (arith, lt, h node.below))
+
+short_on : (cs : Chains) (nodes : List Node) → AreLaid (length cs) nodes → AreShort cs → AreShort (chains_on cs nodes)
+short_on cs [] laid h = h
+short_on cs (node ∷ more) laid h =
+    let rest : AreLaid (length (cs ++ chain_more cs node ∷ [])) more = subst (λ (n : ℕ). AreLaid n more) (sym (longer cs (chain_more cs node))) laid.1 in
+    short_on (cs ++ chain_more cs node ∷ []) more rest (short_more cs node laid.0 h)
+
+nothing_short : AreShort ([] ∷ [])
+nothing_short zero = omega arith
+nothing_short (suc n) = omega arith
+
+pub are_short : (nodes : List Node) → AreLaid 1 nodes → AreShort (chains_on ([] ∷ []) nodes)
+are_short nodes laid = short_on ([] ∷ []) nodes laid nothing_short
 
 -- ---- frames
 

@@ -1,5 +1,5 @@
 -- What holds of a table, as entries are laid and frames join.
-use Rattle.std.proofs.Common.{◌≡◌, ℕ, ◌+◌, ◌-◌, ◌<◌, ◌≤◌, List, [], ◌∷◌, ◌++◌, length, true, Some, refl, sym, ap, ◌∙◌, arith}
+use Rattle.std.proofs.Common.{◌≡◌, ℕ, ◌+◌, ◌*◌, ◌-◌, ◌<◌, ◌≤◌, List, [], ◌∷◌, ◌++◌, length, true, Some, refl, sym, ap, ◌∙◌, arith}
 use Rattle.std.specs.Prelude.{map}
 use Rattle.std.proofs.lemmas.List.{length-append, map-append}
 use Rattle.std.proofs.lemmas.List.Sums.{sum_by-cons}
@@ -81,6 +81,29 @@ built_laid widths cs frames base locals pile e h =
     let two = chain_kept cs (e ∷ chain cs pile.top) locals.top h.settled.there in
     let three = chain_new cs (e ∷ chain cs pile.top) in
     rw (one, two, three) refl
+
+pub words_most : (widths : List Width) (list : List FrameEntry) → words_in widths list ≤ 2 * length list
+words_most widths [] = omega arith
+words_most widths (e ∷ more) = omega (arith, sum_by-cons (entry_words widths) e more, entry_most widths e, words_most widths more)
+
+-- an entry that is there already, on what is laid
+pub holds_shared : (widths : List Width) (cs : Chains) (frames : List KeptFrame) (base : ℕ) (locals pile : Pile) (e : FrameEntry) (top : ℕ) → Holds widths cs frames base locals pile
+    → chain cs top ≡ e ∷ chain cs pile.top → top < length cs → ((n : ℕ) → length (chain cs n) ≤ n)
+    → Holds widths cs frames base locals (record { top = top; words = pile.words + entry_words widths e })
+holds_shared widths cs frames base locals pile e top h is lt short =
+    let all : words_in widths (chain cs top) ≡ entry_words widths e + words_in widths (chain cs pile.top) = ap (words_in widths) is ∙ sum_by-cons (entry_words widths) e (chain cs pile.top) in
+    record {
+      bottom = h.bottom;
+      kept = h.kept;
+      rising = h.rising;
+      low = h.low;
+      settled = h.settled;
+      laid = record { there = lt; counted = omega (arith, all, h.laid.counted); few = omega (arith, all, h.laid.counted, words_most widths (chain cs top), short top, lt) };
+    }
+
+pub built_shared : (widths : List Width) (cs : Chains) (frames : List KeptFrame) (base locals pile top : ℕ) (e : FrameEntry) → chain cs top ≡ e ∷ chain cs pile
+    → built widths cs frames base locals top ≡ with_pile (e ∷ chain cs pile) (built widths cs frames base locals pile)
+built_shared widths cs frames base locals pile top e is = ap (λ (p : List FrameEntry). with_pile p (built widths cs frames base locals pile)) is
 
 -- the locals take the words of others
 pub holds_chopped : (widths : List Width) (cs : Chains) (frames : List KeptFrame) (base : ℕ) (locals pile other : Pile) → Holds widths cs frames base locals pile → IsPile widths cs other → Holds widths cs frames base other pile

@@ -13,8 +13,8 @@ use Rattle.std.proofs.lemmas.Bool.{cases_lt}
 use Rattle.std.proofs.lemmas.Bool.Decides.{nat_tests}
 use Rattle.jv_frames.specs.declared.entry.FrameEntry.{FrameEntry}
 use Rattle.jv_frames.specs.declared.nodes.KeptFrame.{KeptFrame}
-use Rattle.jv_frames.specs.Entries.{offset_of}
-use Rattle.jv_frames.specs.Inside.Nodes.{frame_in, RiseTo}
+use Rattle.jv_frames.specs.Entries.{offset_of, locals_in}
+use Rattle.jv_frames.specs.Inside.Nodes.{chain, frame_in, RiseTo}
 
 abbrev any : KeptFrame
 any = record { offset = 0; locals = 0; stack = 0; local_words = 0 }
@@ -35,6 +35,11 @@ offset_at : (cs : List (List FrameEntry)) (fs : List KeptFrame) (i : ℕ) (d : K
 offset_at cs [] i d lt = absurd (omega arith)
 offset_at cs (f ∷ fs) zero d lt = refl
 offset_at cs (f ∷ fs) (suc i) d lt = offset_at cs fs i d (omega arith)
+
+pub locals_at : (cs : List (List FrameEntry)) (fs : List KeptFrame) (i : ℕ) (d : KeptFrame) → i < length fs → option_map locals_in (slice_get (map (frame_in cs) fs) i) ≡ Some (chain cs (get_or fs i d).locals)
+locals_at cs [] i d lt = absurd (omega arith)
+locals_at cs (f ∷ fs) zero d lt = refl
+locals_at cs (f ∷ fs) (suc i) d lt = locals_at cs fs i d (omega arith)
 
 comparisons_rise : (base : ℕ) (fs : List KeptFrame) (k : ℕ) → RiseTo 0 fs base → IsNonDecreasingBy (λ f. ordering_index (nat_cmp f.offset k)) fs
 comparisons_rise base fs k h = IsNonDecreasingBy-from_default (λ f. ordering_index (nat_cmp f.offset k)) fs any (λ i j le lt.

@@ -39,6 +39,9 @@ pub record ReadFrame : Type 0 where
 abbrev pub offset_of : ReadFrame → ℕ
 offset_of f = f.offset
 
+abbrev pub locals_in : ReadFrame → List FrameEntry
+locals_in f = f.locals
+
 abbrev pub frame_typed : List Entry → List FrameType → ReadFrame → MapFrame FrameType
 frame_typed pool initial f = map_frame f.offset (map (entry_type pool initial) f.locals) (map (entry_type pool initial) f.stack)
 

@@ -1,6 +1,6 @@
 //! The entries of frames (JVMS 4.7.4).
 
-ghost use Rattle.std.specs.Prelude.{◌≡◌, slice_index_or};
+ghost use Rattle.std.specs.Prelude.{◌≡◌, slice_index_or, IsTrue};
 ghost use Rattle.jv_frames.specs.Entries.{word_count, entry_words};
 ghost use Rattle.jv_frames.specs.Inside.Steps.{object_at, entry_of};
 
@@ -50,6 +50,23 @@ pub(crate) fn entry_of(pool: &Pool<'_>, item: Item) -> Option<FrameEntry>
         Item::UninitializedThis => Some(FrameEntry::UninitializedThis),
         Item::Object(class) => object_at(pool, class),
         Item::Uninitialized(offset) => Some(FrameEntry::Uninitialized(offset)),
+    }
+}
+
+/// Whether two entries are one.
+#[inline(always)]
+pub(crate) fn is_same(one: FrameEntry, other: FrameEntry) -> bool
+    ensures { IsTrue result → one ≡ other }
+{
+    match (one, other) {
+        (FrameEntry::Top, FrameEntry::Top) => true,
+        (FrameEntry::Int, FrameEntry::Int) => true,
+        (FrameEntry::Long, FrameEntry::Long) => true,
+        (FrameEntry::Null, FrameEntry::Null) => true,
+        (FrameEntry::Object(one), FrameEntry::Object(other)) => one == other,
+        (FrameEntry::Uninitialized(one), FrameEntry::Uninitialized(other)) => one == other,
+        (FrameEntry::Initial(one), FrameEntry::Initial(other)) => one == other,
+        _ => false,
     }
 }
 

@@ -1,12 +1,12 @@
 //! The frames of a method (JVMS 4.7.4).
 
-ghost use Rattle.std.specs.Prelude.{◌≡◌, ◌≢◌, ◌<◌, List, [], length, map, slice_get, Some, IfOk, IfSome, IfNone, Err};
+ghost use Rattle.std.specs.Prelude.{◌≡◌, ◌≢◌, ◌<◌, List, [], length, map, slice_get, Some, IfOk, IfSome, IfNone, IsTrue, Err};
 ghost use Rattle.std.specs.List.{All};
 ghost use Rattle.std.specs.Option.{option_map};
 ghost use Rattle.jv_frames.specs.declared.fault.FrameFault.TheVariants.{BadFrames};
 ghost use Rattle.jv_frames.specs.Types.{FrameType};
 ghost use Rattle.jv_frames.specs.Frames.{PlacedFrame, Maps};
-ghost use Rattle.jv_frames.specs.Entries.{frames_placed, HaveWidths, HoldsKnown, HasItsWords, offset_of};
+ghost use Rattle.jv_frames.specs.Entries.{frames_placed, HaveWidths, HoldsKnown, HasItsWords, offset_of, locals_in};
 ghost use Rattle.jv_frames.specs.Inside.Nodes.{frame_in, AreRising};
 
 use crate::entries::MapFrame;
@@ -108,6 +108,15 @@ impl MapFrames {
         ensures { slice_get self.now place ≡ Some result }
     {
         MapFrame::of(&self.nodes, self.frames[place])
+    }
+
+    /// Whether two frames are known to have the same local entries, as one list.
+    pub fn share_locals(&self, place: usize, other: usize) -> bool
+        requires place { place < length self.now }
+        requires other { other < length self.now }
+        ensures { IsTrue result → option_map locals_in (slice_get self.now place) ≡ option_map locals_in (slice_get self.now other) }
+    {
+        self.frames[place].locals == self.frames[other].locals
     }
 
     /// The place of the frame at an offset in the code, in bytes; `None` where none stands there.

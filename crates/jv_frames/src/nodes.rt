@@ -1,9 +1,9 @@
 //! Entries as nodes, each laid on another, so that what frames share is kept once.
 
-ghost use Rattle.std.specs.Prelude.{◌≡◌, ◌<◌, ◌++◌, [], ◌∷◌, length, IfOk, IfErr, IfSome, MatchOption};
+ghost use Rattle.std.specs.Prelude.{◌≡◌, ◌<◌, ◌≤◌, ℕ, ◌++◌, [], ◌∷◌, length, IfOk, IfErr, IfSome, MatchOption};
 ghost use Rattle.jv_frames.specs.Inside.Nodes.{chain};
 
-use crate::entry::FrameEntry;
+use crate::entry::{FrameEntry, is_same};
 use std::alloc::{AllocError, Global};
 use std::marker::Model;
 
@@ -102,5 +102,23 @@ impl Nodes {
             Some(node) => Some((node.entry, node.below)),
             None => None,
         }
+    }
+
+    /// A number, where its node is this entry on that node.
+    pub(crate) fn standing(&self, number: u32, entry: FrameEntry, below: u32) -> Option<u32>
+        ensures chain { IfSome result (λ top. chain self.now top ≡ entry ∷ chain self.now below) }
+        ensures there { IfSome result (λ top. top < length self.now) }
+    {
+        match self.at(number) {
+            Some((found, under)) if under == below && is_same(found, entry) => Some(number),
+            _ => None,
+        }
+    }
+
+    /// From a node on down there are no more entries than its number. The call does nothing.
+    pub(crate) fn are_numbered(&self)
+        ensures { (top : ℕ) → length (chain self.now top) ≤ top }
+    {
+        let _nodes = &self.nodes;
     }
 }

@@ -25,6 +25,10 @@ pub(crate) struct FrameTable<'i> {
     locals: Pile,
     /// The entries that are laid for the next frame.
     pile: Pile,
+    /// Where the lowest of the last frame's local entries may be among the nodes.
+    first: u32,
+    /// Where the lowest of those that are laid may be.
+    lowest: u32,
 }
 
 impl<'i> Model for FrameTable<'i> {
@@ -37,6 +41,11 @@ impl<'i> Model for FrameTable<'i> {
     ghost view = { built_of };
 
     ghost invariant = { IsTable };
+}
+
+/// The number of the lowest node of what is laid: that of a new node where nothing was.
+fn lowest(laid: u32, top: u32, lowest: u32) -> u32 {
+    if laid == 0 { top } else { lowest }
 }
 
 impl<'i> FrameTable<'i> {
@@ -57,6 +66,8 @@ impl<'i> FrameTable<'i> {
             base: 0,
             locals: none,
             pile: none,
+            first: 0,
+            lowest: 0,
         })
     }
 
@@ -83,12 +94,38 @@ impl<'i> FrameTable<'i> {
         Ok(table)
     }
 
-    /// Lays an entry on those that are laid.
-    pub(crate) fn push(&mut self, entry: FrameEntry) -> Result<(), AllocError>
+    /// The number of the node that may have the next entry: the one behind what is laid, and first that of the lowest of
+    /// the last frame's local entries.
+    fn next(&self) -> u32 {
+        if self.pile.top == 0 {
+            self.first
+        } else {
+            self.pile.top.saturating_add(1)
+        }
+    }
+
+    /// Lays an entry on those that are laid, as a new node.
+    fn push_new(&mut self, entry: FrameEntry) -> Result<(), AllocError>
         ensures { IfOk result (λ _. self.new ≡ with_pile (entry ∷ self.old.pile) self.old) }
     {
         let top = self.nodes.push(entry, self.pile.top)?;
         let words = self.pile.words + entry_words(entry, self.widths);
+        self.lowest = lowest(self.pile.top, top, self.lowest);
+        self.pile = Pile { top, words };
+        Ok(())
+    }
+
+    /// Lays an entry on those that are laid; where the last full frame had it there, too, it is kept once.
+    pub(crate) fn push(&mut self, entry: FrameEntry) -> Result<(), AllocError>
+        ensures { IfOk result (λ _. self.new ≡ with_pile (entry ∷ self.old.pile) self.old) }
+    {
+        self.nodes.are_numbered();
+        let next = self.next();
+        let Some(top) = self.nodes.standing(next, entry, self.pile.top) else {
+            return self.push_new(entry);
+        };
+        let words = self.pile.words + entry_words(entry, self.widths);
+        self.lowest = lowest(self.pile.top, top, self.lowest);
         self.pile = Pile { top, words };
         Ok(())
     }
@@ -98,6 +135,7 @@ impl<'i> FrameTable<'i> {
         ensures { self.new ≡ resumed self.old }
     {
         self.pile = self.locals;
+        self.lowest = self.first;
     }
 
     /// Makes what is laid the local entries of the next frame, and lays nothing.
@@ -106,6 +144,7 @@ impl<'i> FrameTable<'i> {
     {
         self.locals = self.pile;
         self.pile = Pile { top: 0, words: 0 };
+        self.first = self.lowest;
     }
 
     /// Takes the last local entry away; whether there was one.
@@ -174,6 +213,8 @@ impl<'i> FrameTable<'i> {
             base: _,
             locals: _,
             pile: _,
+            first: _,
+            lowest: _,
         } = self;
         MapFrames::of(nodes, frames)
     }

@@ -1,17 +1,14 @@
-use Rattle.std.proofs.lemmas.Grind.{common_steps}
-use Rattle.std.proofs.Common.{◌∷◌, ap, ◌∙◌, arith}
-use Rattle.jv_frames.specs.Inside.Steps.{Built, with_pile}
-use Rattle.jv_frames.proofs.Piles.{built_laid}
+use Rattle.std.proofs.Common.{arith}
+use Rattle.jv_frames.specs.Inside.Nodes.{chain}
+use Rattle.jv_frames.proofs.Piles.{holds_shared, entry_most, words_most}
 use Rattle.jv_frames.proofs.table.FrameTable.push.Goals as goal
 
-pub returns : goal.returns
-returns c =
+pub overflow_add-words : goal.overflow_add-words
+overflow_add-words c =
     let i = c.self.inside in
-    rw (c.in_ok-top.ensures.top, c.in_ok-top.ensures.pushed)
-    (built_laid i.widths.now i.nodes i.frames.items i.base i.locals i.pile c.args.entry c.self.invariant ∙ ap (λ (b : Built). with_pile (c.args.entry ∷ b.pile) b) c.self.view_is)
-
-pub invariant_of-self-2 : goal.invariant_of-self-2
-invariant_of-self-2 c = grind (arith, common_steps)
+    omega (arith, c.entry_words.ensures, entry_most i.widths.now c.args.entry, c.self.invariant.laid.counted, words_most i.widths.now (chain i.nodes i.pile.top), c.are_numbered.ensures i.pile.top)
 
 pub invariant_of-self : goal.invariant_of-self
-invariant_of-self c = rw (c.in_err-top.ensures {u = tt}).same c.self.invariant
+invariant_of-self c =
+    let i = c.self.inside in
+    rw c.entry_words.ensures (holds_shared i.widths.now i.nodes i.frames.items i.base i.locals i.pile c.args.entry c.in-Some.top c.self.invariant c.in-Some.ensures.chain c.in-Some.ensures.there c.are_numbered.ensures)
