@@ -1,6 +1,6 @@
 //! Types in order, with what is known of the objects among them.
 
-ghost use Rattle.std.specs.Prelude.{◌≡◌, ◌<◌, ◌≤◌, ◌++◌, ◌∷◌, [], ℕ, List, length, map, replicate, reverse, slice_get, MatchOption, IfOk, OnOk, OnErr};
+ghost use Rattle.std.specs.Prelude.{◌≡◌, ◌<◌, ◌≤◌, ◌++◌, ◌∷◌, [], ℕ, List, length, map, replicate, reverse, set, slice_get, MatchOption, IfOk, OnOk, OnErr};
 ghost use Rattle.std.specs.List.{list_any};
 ghost use Rattle.jv_frames.specs.declared.verification.VerificationTypeOf.TheVariants as types;
 ghost use Rattle.jv_types.specs.Inside.Before.{IsBefore, is_past};
@@ -8,7 +8,7 @@ ghost use Rattle.jv_types.specs.Inside.Swapped.{same_object, swapped};
 ghost use Rattle.jv_types.specs.Inside.Tops.{AreTops};
 ghost use Rattle.jv_types.specs.Numbered.{Item, StoresAny, words_of_item};
 
-use crate::locals::store;
+use crate::locals::{put, store};
 use crate::names::Item;
 use crate::objects::{has_object, replace_all};
 use jv_frames::VerificationTypeOf;
@@ -174,6 +174,15 @@ impl Items {
     {
         self.end = raised(self.end, item);
         store(&mut self.items, index, item)
+    }
+
+    /// Puts a type at a place, where there is one, and leaves what is beside it.
+    pub(crate) fn put(&mut self, place: usize, item: Item)
+        ensures items { self.new ≡ set self.old place item }
+        ensures tops { (used : ℕ) → place < used → AreTops used self.old → AreTops used self.new }
+    {
+        self.end = raised(self.end, item);
+        put(&mut self.items, place, item);
     }
 
     /// Puts a type in the place of each copy of an object.

@@ -1,6 +1,6 @@
 //! Stores to local variables (JVMS 4.10.1.9, modifyLocalVariable in 4.10.1.7).
 
-ghost use Rattle.std.specs.Prelude.{◌≡◌, ◌<◌, ◌+◌, ℕ, [], ◌∷◌, length};
+ghost use Rattle.std.specs.Prelude.{◌≡◌, ◌<◌, ◌+◌, ℕ, [], ◌∷◌, length, set};
 ghost use Rattle.std.specs.List.{All};
 ghost use Rattle.jv_frames.specs.declared.verification.VerificationTypeOf.TheVariants as types;
 ghost use Rattle.jv_types.specs.Typed.{typed};
@@ -79,5 +79,18 @@ pub(crate) fn store(locals: &mut [Item], index: usize, item: Item) -> bool
     match item {
         VerificationTypeOf::Long => store_long(locals, index),
         _ => store_item(locals, index, item),
+    }
+}
+
+/// Puts a type at a place, where there is one, and leaves what is beside it.
+#[tactic(auto, using(std::proofs::lemmas::List::set_past))]
+pub(crate) fn put(locals: &mut [Item], place: usize, item: Item)
+    ensures items { locals.new ≡ set locals.old place item }
+    ensures same { length locals.new ≡ length locals.old }
+    ensures before { (end : ℕ) → IsBefore end item → All (IsBefore end) locals.old → All (IsBefore end) locals.new }
+    ensures tops { (used : ℕ) → place < used → AreTops used locals.old → AreTops used locals.new }
+{
+    if place < locals.len() {
+        locals[place] = item;
     }
 }

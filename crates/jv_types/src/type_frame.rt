@@ -1,6 +1,6 @@
 //! A frame that is changed in place.
 
-ghost use Rattle.std.specs.Prelude.{◌≡◌, ℕ, List, [], length, slice_get, MatchOption, reverse, IfOk, OnOk, OnErr, IfNone};
+ghost use Rattle.std.specs.Prelude.{◌≡◌, ℕ, List, [], length, set, slice_get, MatchOption, reverse, IfOk, OnOk, OnErr, IfNone};
 ghost use Rattle.std.specs.List.{list_any};
 ghost use Rattle.jv_meaning_typing.specs.FrameChanges.{is_same_object};
 ghost use Rattle.jv_types.specs.Typed.{typed, typed_all};
@@ -177,6 +177,28 @@ impl TypeFrame {
         ensures same { self.new ≡ with_locals self.new.locals self.old }
     {
         self.locals.store(index, item)
+    }
+
+    /// Gives a local variable a type, where there is one with the index, and leaves those beside it as they are.
+    pub fn put(&mut self, index: u16, item: Item)
+        ensures { self.new ≡ with_locals (set self.old.locals index item) self.old }
+    {
+        self.locals.put(index, item);
+    }
+
+    /// Takes all from the stack.
+    pub fn clear_stack(&mut self)
+        ensures { self.new ≡ with_stack [] self.old }
+    {
+        self.stack.clear();
+        self.words = 0;
+    }
+
+    /// Whether an object that is not initialized is in a local variable.
+    pub fn has_in_locals(&self, object: Item) -> bool
+        ensures { (names : List (List ℕ)) → result ≡ list_any (is_same_object (typed names object)) (typed_all names self.now.locals) }
+    {
+        self.locals.has(object)
     }
 
     /// Whether an object that is not initialized is on the stack.

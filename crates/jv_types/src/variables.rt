@@ -1,8 +1,9 @@
 //! Local variables.
 
-ghost use Rattle.std.specs.Prelude.{◌≡◌, ◌<◌, ◌≤◌, length, map, replicate, slice_get, IfOk};
+ghost use Rattle.std.specs.Prelude.{◌≡◌, ◌<◌, ◌≤◌, length, map, replicate, set, slice_get, IfOk};
+ghost use Rattle.std.specs.List.{list_any};
 ghost use Rattle.jv_frames.specs.declared.verification.VerificationTypeOf.TheVariants as types;
-ghost use Rattle.jv_types.specs.Inside.Swapped.{swapped};
+ghost use Rattle.jv_types.specs.Inside.Swapped.{same_object, swapped};
 ghost use Rattle.jv_types.specs.Numbered.{StoresAny, words_of_item};
 
 use crate::items::Items;
@@ -85,6 +86,22 @@ impl Variables {
         let index = usize::from(index);
         self.used = reaching(self.used, index);
         self.items.store(index, item)
+    }
+
+    /// Puts a type at a place, where there is one, and leaves what is beside it.
+    pub(crate) fn put(&mut self, index: u16, item: Item)
+        ensures { self.new ≡ set self.old index item }
+    {
+        let index = usize::from(index);
+        self.used = reaching(self.used, index);
+        self.items.put(index, item);
+    }
+
+    /// Whether an object is among their types.
+    pub(crate) fn has(&self, object: Item) -> bool
+        ensures { result ≡ list_any (same_object object) self.now }
+    {
+        self.items.has(object)
     }
 
     /// Puts a type in the place of each copy of an object.
