@@ -7,3 +7,4 @@ pub mod Placed
 pub mod Replacing
 pub mod Unwritten
 pub mod Using
+pub mod Written

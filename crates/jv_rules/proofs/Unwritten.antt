@@ -35,17 +35,17 @@ use Rattle.jv_rules.specs.Laws.{keeps_locals}
 -- ---- what holds of the local variables and the flag, whatever the stack
 
 module _ (G : List FrameType → Bool → Type 0) where
-  abbrev Good : Frame → Type 0
+  abbrev pub Good : Frame → Type 0
   Good frame = G frame.locals frame.flag_this_uninit
 
   -- of a frame that is left
-  abbrev Leaves : Option Frame → Type 0
+  abbrev pub Leaves : Option Frame → Type 0
   Leaves None = Unit {0}
   Leaves (Some frame) = Good frame
 
   -- ---- how rules are made of parts
 
-  bound : {A : Type 0} (o : Option A) (next : A → Option Frame) → ((a : A) → Leaves (next a)) → Leaves (o >>= next)
+  pub bound : {A : Type 0} (o : Option A) (next : A → Option Frame) → ((a : A) → Leaves (next a)) → Leaves (o >>= next)
   bound None next h = tt
   bound (Some a) next h = h a
 
@@ -135,7 +135,7 @@ module _ (G : List FrameType → Bool → Type 0) where
         (call_keeps method (method.owner ∷ []))
 
     -- an instruction that is not in the table of fixed types, and writes no local variable
-    other_keeps : (pc : ℕ) (insn : Instruction) → keeps_locals insn ≡ true → Leaves (other_rule env pc insn frame)
+    pub other_keeps : (pc : ℕ) (insn : Instruction) → keeps_locals insn ≡ true → Leaves (other_rule env pc insn frame)
     other_keeps pc (insns.PoolConstant index form) e = mapped (constant_type env index) (pushed frame) (λ type. h)
     other_keeps pc (insns.PoolLongConstant index) e = mapped (long_constant_type env index) (pushed frame) (λ type. h)
     other_keeps pc (insns.Load kind index form) e = load_keeps kind index
@@ -179,7 +179,7 @@ module _ (G : List FrameType → Bool → Type 0) where
     other_keeps pc insns.Throw e = tt
 
     -- the rule, where that of the instructions that are not in the table keeps them
-    rule_keeps : (pc : ℕ) (insn : Instruction) → Leaves (other_rule env pc insn frame) → Leaves (rule env pc insn frame)
+    pub rule_keeps : (pc : ℕ) (insn : Instruction) → Leaves (other_rule env pc insn frame) → Leaves (rule env pc insn frame)
     rule_keeps pc insn other =
         chained (effect env pc insn frame) (within_stack env) (by_table (fixed_exchange insn))
         (λ left good. tested (nat_le (words left.stack) env.code.max_stack) left good)

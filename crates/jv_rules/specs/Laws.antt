@@ -1,5 +1,5 @@
 -- Laws of the rules of instructions (JVMS 4.10.1.9).
-use Rattle.std.specs.Prelude.{◌≡◌, ℕ, Bool, true, false, length, Some, IsTrue}
+use Rattle.std.specs.Prelude.{◌≡◌, ℕ, suc, Bool, true, false, ◌&&◌, nat_le, length, slice_get, Some, IsTrue}
 use Rattle.jv_frames.specs.Frames.{Frame}
 use Rattle.jv_code.specs.Insns.{Instruction}
 use Rattle.jv_code.specs.declared.insn.Insn.TheVariants as insns
@@ -21,8 +21,27 @@ keeps_locals (insns.New index) = false
 keeps_locals (insns.Invoke invocations.Special index) = false
 keeps_locals insn = true
 
+-- a local variable is that of an index, or the one before it or behind it
+abbrev pub is_beside : ℕ → ℕ → Bool
+is_beside index k = nat_le index (suc k) && nat_le k (suc index)
+
+-- The instruction can give this local variable another type: one that stores writes a word or two from an index on, and a long that
+-- begins before it becomes top (4.10.1.7).
+abbrev pub may_write : Instruction → ℕ → Bool
+may_write (insns.Store kind index form) k = is_beside index k
+may_write (insns.StoreLong index form) k = is_beside index k
+may_write (insns.New index) k = true
+may_write (insns.Invoke invocations.Special index) k = true
+may_write insn k = false
+
 -- Such an instruction leaves the local variables and the flag as they were.
 abbrev pub KeepsLocals : Type 0
 KeepsLocals =
     (env : Environment) (pc : ℕ) (insn : Instruction) (before behind : Frame) → IsTrue (keeps_locals insn) → rule env pc insn before ≡ Some behind
     → (behind.locals ≡ before.locals) × (behind.flag_this_uninit ≡ before.flag_this_uninit)
+
+-- An instruction leaves the local variables that it can't write.
+abbrev pub WritesThere : Type 0
+WritesThere =
+    (env : Environment) (pc : ℕ) (insn : Instruction) (before behind : Frame) → rule env pc insn before ≡ Some behind
+    → (k : ℕ) → may_write insn k ≡ false → slice_get behind.locals k ≡ slice_get before.locals k

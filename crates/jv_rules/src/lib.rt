@@ -28,6 +28,6 @@ mod words;
 
 pub use constructing::constructed_object;
 pub use context::MethodContext;
-pub use law::{keeps_local_count, leaves_locals};
+pub use law::{keeps_local_count, leaves_locals, writes_there};
 pub use locals::keeps_locals;
 pub use rule::apply;
