@@ -7,10 +7,13 @@ pub mod FlowsInto
 pub mod FramesAtInstructions
 pub mod FramesSpelled
 pub mod Lists
+pub mod Holding
 pub mod MapFrames
+pub mod Opened
 pub mod Passing
 pub mod SameTypes
 pub mod Settings
+pub mod Shared
 pub mod Settling
 pub mod Switching
 pub mod Tests

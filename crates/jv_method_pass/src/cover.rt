@@ -16,7 +16,7 @@ pub(crate) struct Cover {
 
 /// Marks a place, where there is one.
 #[tactic(auto, using(std::proofs::lemmas::List::set_past))]
-fn mark(marks: &mut [bool], place: u16)
+pub(crate) fn mark(marks: &mut [bool], place: u16)
     ensures { marks.new ≡ set marks.old place true }
 {
     let place = usize::from(place);

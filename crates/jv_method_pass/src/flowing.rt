@@ -81,7 +81,11 @@ fn locals_flow(
 }
 
 /// Whether the stack's items flow to a frame's, one by one.
-fn stack_flows(types: &EntryTypes<'_, '_, '_>, frame: &TypeFrame, map: &MapFrame<'_>) -> bool
+pub(crate) fn stack_flows(
+    types: &EntryTypes<'_, '_, '_>,
+    frame: &TypeFrame,
+    map: &MapFrame<'_>,
+) -> bool
     ensures { result ≡ stack_flows_to types.now (stack_of types.now frame.now) map.now }
 {
     let height = frame.height();
@@ -130,7 +134,11 @@ pub fn frame_flows(types: &EntryTypes<'_, '_, '_>, frame: &TypeFrame, map: &MapF
 }
 
 /// Whether what was thrown alone on the stack flows to a frame's stack.
-fn thrown_stack_flows(types: &EntryTypes<'_, '_, '_>, thrown: Item, map: &MapFrame<'_>) -> bool
+pub(crate) fn thrown_stack_flows(
+    types: &EntryTypes<'_, '_, '_>,
+    thrown: Item,
+    map: &MapFrame<'_>,
+) -> bool
     ensures { result ≡ stack_flows_to types.now (typed (names_of_types types.now) thrown ∷ []) map.now }
 {
     let mut entries = map.stack();

@@ -1,6 +1,7 @@
 //! Handlers that cover an instruction (JVMS 4.10.1.6).
 
 ghost use Rattle.std.specs.Prelude.{◌≡◌, ◌&&◌, ◌||◌, not, length};
+ghost use Rattle.std.specs.List.{list_all};
 ghost use Rattle.std.specs.Option.{option_map};
 ghost use Rattle.jv_code.specs.Insns.{Instruction};
 ghost use Rattle.jv_meaning_typing.specs.Environment.{Environment};
@@ -9,9 +10,11 @@ ghost use Rattle.jv_meaning_typing.specs.Typing.{covers, handles};
 ghost use Rattle.jv_types.specs.Typed.{typed};
 ghost use Rattle.jv_types.specs.Numbered.{frame_of};
 ghost use Rattle.jv_method_pass.specs.Pass.{IsOfPass, maps_of, names_in};
-ghost use Rattle.jv_method_pass.specs.Inside.Settled.{is_settled, hold_where_unsettled};
+ghost use Rattle.jv_method_pass.specs.Inside.Held.{IsHeld};
+ghost use Rattle.jv_method_pass.specs.Inside.Opening.{passes_at};
+ghost use Rattle.jv_method_pass.specs.Inside.Settled.{is_settled, unsettled_holds};
 
-use crate::flowing::thrown_flows;
+use crate::held::{Held, thrown_flows_to_map};
 use crate::pass::Pass;
 use jv_format::Handler;
 use jv_types::{Item, TypeFrame};
@@ -19,20 +22,25 @@ use jv_types::{Item, TypeFrame};
 /// Whether the frame with which a handler begins, without an object that is constructed, flows to that of the map there.
 fn handles(
     pass: &Pass<'_, '_, '_, '_, '_>,
+    held: &Held,
     frame: &TypeFrame,
     object: Option<Item>,
     handler: Handler,
 ) -> bool
-    requires { length frame.now.locals ≡ pass.now.max_locals }
+    requires locals { length frame.now.locals ≡ pass.now.max_locals }
+    requires held { IsHeld pass.now held.now frame.now }
     ensures { (env : Environment) (insn : Instruction) → IsOfPass pass.now env
         → option_map (typed (names_in pass.now)) object ≡ constructed_object env insn (frame_of (names_in pass.now) frame.now)
         → result ≡ handles env (maps_of pass.now) (handler_frame env insn (frame_of (names_in pass.now) frame.now)) handler }
 {
+    let _types = &pass.types;
     let Some(thrown) = pass.catch_type(handler.catch_type) else {
         return false;
     };
     match pass.map_at(u32::from(handler.handler_pc)) {
-        Some(map) => thrown_flows(pass.types, frame, object, thrown, &map),
+        Some((place, map)) => {
+            thrown_flows_to_map(pass, held, frame, object, thrown, place, &map)
+        }
         None => false,
     }
 }
@@ -53,44 +61,61 @@ fn is_settled(settled: Option<u32>, handler: Handler) -> bool
     }
 }
 
+/// Whether a handler is settled, or what it begins with flows to the frame of the map there.
+fn unsettled_holds(
+    pass: &Pass<'_, '_, '_, '_, '_>,
+    held: &Held,
+    frame: &TypeFrame,
+    object: Option<Item>,
+    settled: Option<u32>,
+    handler: Handler,
+) -> bool
+    requires locals { length frame.now.locals ≡ pass.now.max_locals }
+    requires held { IsHeld pass.now held.now frame.now }
+    ensures { (env : Environment) (insn : Instruction) → IsOfPass pass.now env
+        → option_map (typed (names_in pass.now)) object ≡ constructed_object env insn (frame_of (names_in pass.now) frame.now)
+        → result ≡ unsettled_holds settled env (maps_of pass.now) insn (frame_of (names_in pass.now) frame.now) handler }
+{
+    is_settled(settled, handler) || handles(pass, held, frame, object, handler)
+}
+
 /// Whether a handler covers no instruction at an offset, is settled, or what it begins with flows to the frame of the map there.
 fn handler_holds(
     pass: &Pass<'_, '_, '_, '_, '_>,
+    held: &Held,
     frame: &TypeFrame,
     object: Option<Item>,
     settled: Option<u32>,
     offset: u32,
     handler: Handler,
 ) -> bool
-    requires { length frame.now.locals ≡ pass.now.max_locals }
+    requires locals { length frame.now.locals ≡ pass.now.max_locals }
+    requires held { IsHeld pass.now held.now frame.now }
     ensures { (env : Environment) (insn : Instruction) → IsOfPass pass.now env
         → option_map (typed (names_in pass.now)) object ≡ constructed_object env insn (frame_of (names_in pass.now) frame.now)
-        → result ≡ (not (covers handler offset) || is_settled settled handler || handles env (maps_of pass.now) (handler_frame env insn (frame_of (names_in pass.now) frame.now)) handler) }
+        → result ≡ passes_at offset (unsettled_holds settled env (maps_of pass.now) insn (frame_of (names_in pass.now) frame.now)) handler }
 {
-    !covers(handler, offset)
-        || is_settled(settled, handler)
-        || handles(pass, frame, object, handler)
+    !covers(handler, offset) || unsettled_holds(pass, held, frame, object, settled, handler)
 }
 
-/// Whether each handler that covers an instruction, which constructs this object or none, is settled or holds.
+/// Whether each of some handlers that covers an instruction, which constructs this object or none, is settled or holds.
 pub(crate) fn handlers_hold(
     pass: &Pass<'_, '_, '_, '_, '_>,
+    held: &Held,
     frame: &TypeFrame,
     object: Option<Item>,
     settled: Option<u32>,
     offset: u32,
+    handlers: &[Handler],
 ) -> bool
-    requires { length frame.now.locals ≡ pass.now.max_locals }
+    requires locals { length frame.now.locals ≡ pass.now.max_locals }
+    requires held { IsHeld pass.now held.now frame.now }
     ensures { (env : Environment) (insn : Instruction) → IsOfPass pass.now env
         → option_map (typed (names_in pass.now)) object ≡ constructed_object env insn (frame_of (names_in pass.now) frame.now)
-        → result ≡ hold_where_unsettled settled env (maps_of pass.now) offset insn (frame_of (names_in pass.now) frame.now) }
+        → result ≡ list_all (passes_at offset (unsettled_holds settled env (maps_of pass.now) insn (frame_of (names_in pass.now) frame.now))) handlers.now }
 {
-    let table = pass.handlers;
-    for place in 0..table.len() {
-        let Some(handler) = table.handler(place) else {
-            unreachable!();
-        };
-        if !handler_holds(pass, frame, object, settled, offset, handler) {
+    for k in 0..handlers.len() {
+        if !handler_holds(pass, held, frame, object, settled, offset, handlers[k]) {
             return false;
         }
     }

@@ -1,9 +1,10 @@
 //! A method whose code is checked.
 
-ghost use Rattle.std.specs.Prelude.{◌≡◌, ◌≤◌, ℕ, List, IfSome};
+ghost use Rattle.std.specs.Prelude.{◌≡◌, ◌≤◌, ℕ, List, slice_get, Some, IfSome, IsTrue};
 ghost use Rattle.std.specs.List.{All};
 ghost use Rattle.std.specs.Option.{option_map};
 ghost use Rattle.jv_format.specs.Handlers.{handlers_of};
+ghost use Rattle.jv_frames.specs.Entries.{locals_in};
 ghost use Rattle.jv_frames.specs.Types.{words};
 ghost use Rattle.jv_meaning_typing.specs.Environment.{Environment};
 ghost use Rattle.jv_meaning_typing.specs.Typing.{catch_type, frame_at};
@@ -90,14 +91,23 @@ impl<'p, 'm, 'e, 't, 'a> Pass<'p, 'm, 'e, 't, 'a> {
         }
     }
 
-    /// The frame of the stack map at an offset, where there is one.
-    pub(crate) fn map_at(&self, offset: u32) -> Option<MapFrame<'p>>
-        ensures frame { IsFrameAt self.now offset result }
-        ensures room { IfSome result (HasRoom self.now.types self.now.max_locals) }
+    /// The frame of the stack map at an offset, with its place among all, where there is one.
+    pub(crate) fn map_at(&self, offset: u32) -> Option<(usize, MapFrame<'p>)>
+        ensures frame { IsFrameAt self.now offset (option_map (λ x. x.1) result) }
+        ensures room { IfSome result (λ x. HasRoom self.now.types self.now.max_locals x.1) }
+        ensures place { IfSome result (λ x. slice_get self.now.frames x.0 ≡ Some x.1) }
     {
         offsets_rise();
         let place = self.frames.place_of(offset)?;
-        Some(self.frames.frame_at(place))
+        Some((place, self.frames.frame_at(place)))
+    }
+
+    /// Whether two frames of the stack map are known to have the same local entries.
+    pub(crate) fn share_locals(&self, place: usize, other: usize) -> bool
+        ensures { IsTrue result → option_map locals_in (slice_get self.now.frames place) ≡ option_map locals_in (slice_get self.now.frames other) }
+    {
+        let count = self.frames.count();
+        place < count && other < count && self.frames.share_locals(place, other)
     }
 
     /// The type that a handler with this index catches; `None` where the index names none.

@@ -33,7 +33,7 @@ fn set_locals(types: &EntryTypes<'_, '_, '_>, frame: &mut TypeFrame, map: &MapFr
 }
 
 /// Puts a frame's stack on the empty one, the top first.
-fn push_items(
+pub(crate) fn push_items(
     types: &EntryTypes<'_, '_, '_>,
     frame: &mut TypeFrame,
     map: &MapFrame<'_>,

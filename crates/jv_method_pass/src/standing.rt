@@ -1,12 +1,13 @@
 //! Where frames of a stack map stand, and where what is not initialized in them was made (JVMS 4.7.4).
 
-ghost use Rattle.std.specs.Prelude.{◌≡◌, Some};
+ghost use Rattle.std.specs.Prelude.{◌≡◌, ◌<◌, true, length, slice_get, take, Some, IsTrue};
 ghost use Rattle.std.specs.List.{list_all};
 ghost use Rattle.std.specs.Option.{option_map};
 ghost use Rattle.jv_code.specs.Insns.{instruction_of};
+ghost use Rattle.jv_frames.specs.Entries.{ReadFrame};
 ghost use Rattle.jv_meaning_typing.specs.Environment.{Environment, instruction_at};
 ghost use Rattle.jv_meaning_typing.specs.Typing.{is_new};
-ghost use Rattle.jv_method_pass.specs.Inside.Parts.{HasCode, is_made_by_new, frame_stands};
+ghost use Rattle.jv_method_pass.specs.Inside.Parts.{HasCode, SharesBefore, is_made_by_new, frame_stands};
 
 use jv_code::{Code, Insn, Starts};
 use jv_frames::{Entries, FrameEntry, MapFrame, MapFrames};
@@ -67,13 +68,38 @@ fn are_made_by_new(starts: &Starts<'_>, code: &Code<'_>, mut entries: Entries<'_
     true
 }
 
-/// Whether a frame stands at an instruction, and what is not initialized in it was made by a `new`.
-fn frame_stands(starts: &Starts<'_>, code: &Code<'_>, map: &MapFrame<'_>) -> bool
+/// Whether the frame at a place has the local entries of the one before it.
+fn shares_before(frames: &MapFrames, place: usize) -> bool
+    requires { place < length frames.now }
+    ensures { IsTrue result → SharesBefore frames.now place }
+{
+    place > 0 && frames.share_locals(place - 1, place)
+}
+
+/// Whether what is not initialized in the local entries of the frame at a place was made by a `new`, where the frames before it
+/// stand: the entries that the one before has, too, are not gone through again.
+fn locals_are_made(starts: &Starts<'_>, code: &Code<'_>, frames: &MapFrames, place: usize) -> bool
+    requires starts { starts.now ≡ code.now.bytes.now }
+    requires place { place < length frames.now }
+    ensures { (env : Environment) → HasCode code.now.bytes.now env → list_all (frame_stands env) (take place frames.now) ≡ true
+        → (f : ReadFrame) → slice_get frames.now place ≡ Some f → result ≡ list_all (is_made_by_new env) f.locals }
+{
+    if shares_before(frames, place) {
+        return true;
+    }
+    let map = frames.frame_at(place);
+    are_made_by_new(starts, code, map.locals())
+}
+
+/// Whether a frame stands at an instruction, and what is not initialized in it was made by a `new`, as it is known whether that in
+/// its local entries was.
+fn frame_stands(starts: &Starts<'_>, code: &Code<'_>, map: &MapFrame<'_>, are_made: bool) -> bool
     requires { starts.now ≡ code.now.bytes.now }
-    ensures { (env : Environment) → HasCode code.now.bytes.now env → result ≡ frame_stands env map.now }
+    ensures { (env : Environment) → HasCode code.now.bytes.now env → are_made ≡ list_all (is_made_by_new env) map.now.locals
+        → result ≡ frame_stands env map.now }
 {
     instruction_at(starts, code, map.offset()).is_some()
-        && are_made_by_new(starts, code, map.locals())
+        && are_made
         && are_made_by_new(starts, code, map.stack())
 }
 
@@ -83,7 +109,8 @@ pub(crate) fn frames_stand(starts: &Starts<'_>, code: &Code<'_>, frames: &MapFra
     ensures { (env : Environment) → HasCode code.now.bytes.now env → result ≡ list_all (frame_stands env) frames.now }
 {
     for place in 0..frames.count() {
-        if !frame_stands(starts, code, &frames.frame_at(place)) {
+        let are_made = locals_are_made(starts, code, frames, place);
+        if !frame_stands(starts, code, &frames.frame_at(place), are_made) {
             return false;
         }
     }

@@ -1,6 +1,6 @@
 //! A step over an instruction.
 
-ghost use Rattle.std.specs.Prelude.{◌≡◌, ◌<◌, None, Some, IfOk, IfSome, IsTrue, length};
+ghost use Rattle.std.specs.Prelude.{◌≡◌, ◌<◌, None, Some, IfOk, OnOk, IfSome, IsTrue, length};
 ghost use Rattle.jv_code.specs.Insns.{instruction_of};
 ghost use Rattle.jv_meaning_typing.specs.Environment.{Environment, instruction_at};
 ghost use Rattle.jv_meaning_typing.specs.Typing.{frame_at, handlers_hold};
@@ -8,39 +8,45 @@ ghost use Rattle.jv_rules.specs.Laws.{keeps_locals};
 ghost use Rattle.jv_types.specs.Numbered.{frame_of};
 ghost use Rattle.jv_method_pass.specs.Pass.{IsOfPass, maps_of, names_in, Tests};
 ghost use Rattle.jv_method_pass.specs.Inside.Cover.{IsCover};
+ghost use Rattle.jv_method_pass.specs.Inside.Held.{IsHeld};
+ghost use Rattle.jv_method_pass.specs.Inside.Opening.{AreOpenings};
 ghost use Rattle.jv_method_pass.specs.Inside.Settled.{AreSettled, AreSettledIn};
 ghost use Rattle.jv_method_pass.specs.Inside.Walk.{Reaches, IsStep, merged, when_falls, IsMerged};
 
 use crate::cover::{Cover, is_quiet};
-use crate::flowing::frame_flows;
 use crate::handlers::handlers_hold;
+use crate::held::{Held, flows_to_map, set_frame};
+use crate::opening::Openings;
 use crate::pass::Pass;
-use crate::setting::set_to_map;
 use crate::targets::targets_hold;
 use jv_code::{Insn, stands_in_list, starts_apart};
 use jv_meaning_typing::VerifyRule;
-use jv_rules::{apply, constructed_object, keeps_local_count, leaves_locals};
+use jv_rules::{apply, constructed_object, keeps_local_count, leaves_locals, writes_there};
 use jv_types::{Item, TypeFrame};
 use std::alloc::AllocError;
 
 /// Makes what falls into an instruction, or none does, the frame before it, and says whether there is one.
 fn merge(
     pass: &Pass<'_, '_, '_, '_, '_>,
+    held: &mut Held,
     frame: &mut TypeFrame,
     falls: bool,
     offset: u32,
 ) -> Result<bool, AllocError>
-    requires { length frame.old.locals ≡ pass.now.max_locals }
+    requires locals { length frame.old.locals ≡ pass.now.max_locals }
+    requires held { IsHeld pass.now held.old frame.old }
     ensures merged { IsMerged pass.now offset falls frame.old frame.new result }
     ensures locals { length frame.new.locals ≡ pass.now.max_locals }
+    ensures held { OnOk result (IsHeld pass.now held.new frame.new) }
 {
-    let Some(map) = pass.map_at(offset) else {
+    let _types = &pass.types;
+    let Some((place, map)) = pass.map_at(offset) else {
         return Ok(falls);
     };
-    if falls && !frame_flows(pass.types, frame, &map) {
+    if falls && !flows_to_map(pass, held, frame, place, &map) {
         return Ok(false);
     }
-    set_to_map(pass.types, frame, &map)?;
+    set_frame(pass, held, frame, place, &map)?;
     Ok(true)
 }
 
@@ -73,19 +79,29 @@ fn settled_without(object: Option<Item>, settled: Option<u32>) -> Option<u32>
 fn is_handled(
     pass: &Pass<'_, '_, '_, '_, '_>,
     cover: &Cover,
+    openings: &mut Openings,
+    held: &Held,
     frame: &TypeFrame,
     settled: Option<u32>,
     offset: u32,
     insn: &Insn<&[u8]>,
-) -> bool
+) -> Result<bool, AllocError>
     requires locals { length frame.now.locals ≡ pass.now.max_locals }
     requires cover { IsCover pass.now.handlers cover.now.begins.items cover.now.end }
+    requires openings { AreOpenings pass.now openings.old }
     requires settled { AreSettledIn pass.now settled frame.now }
-    ensures { Tests pass.now (λ env maps f. handlers_hold env maps offset (instruction_of insn.now) f) frame.now result }
+    requires held { IsHeld pass.now held.now frame.now }
+    ensures hold { IfOk result (Tests pass.now (λ env maps f. handlers_hold env maps offset (instruction_of insn.now) f) frame.now) }
+    ensures openings { openings.new.handlers ≡ openings.old.handlers }
 {
     let object = constructed_object(pass.context, frame, insn);
     let settled = settled_without(object, settled);
-    is_quiet(cover, settled, offset) || handlers_hold(pass, frame, object, settled, offset)
+    if is_quiet(cover, settled, offset) {
+        return Ok(true);
+    }
+    openings.go_to(offset)?;
+    let opened = openings.opened();
+    Ok(handlers_hold(pass, held, frame, object, settled, offset, opened))
 }
 
 /// Goes over an instruction, and answers the first rule that is broken there, if one is. The frame is what falls into the
@@ -93,6 +109,8 @@ fn is_handled(
 pub(crate) fn step(
     pass: &Pass<'_, '_, '_, '_, '_>,
     cover: &Cover,
+    openings: &mut Openings,
+    held: &mut Held,
     frame: &mut TypeFrame,
     falls: bool,
     settled: Option<u32>,
@@ -102,12 +120,16 @@ pub(crate) fn step(
     requires locals { length frame.old.locals ≡ pass.now.max_locals }
     requires cover { IsCover pass.now.handlers cover.now.begins.items cover.now.end }
     requires settled { AreSettledIn pass.now settled frame.old }
+    requires openings { AreOpenings pass.now openings.old }
+    requires held { IsHeld pass.now held.old frame.old }
     requires offset { offset < 65536 }
     requires method { (env : Environment) × IsOfPass pass.now env }
     ensures step { (env : Environment) → IsOfPass pass.now env → instruction_at env offset ≡ Some (instruction_of insn.now)
         → Reaches env (maps_of pass.now) offset (when_falls falls (frame_of (names_in pass.now) frame.old))
         → IfOk result (IsStep env (maps_of pass.now) offset (instruction_of insn.now) (frame_of (names_in pass.now) frame.new)) }
     ensures locals { IfOk result (λ found. found ≡ None → length frame.new.locals ≡ pass.now.max_locals) }
+    ensures held { IfOk result (λ found. found ≡ None → IsHeld pass.now held.new frame.new) }
+    ensures openings { openings.new.handlers ≡ openings.old.handlers }
     ensures settled { (env : Environment) → IsOfPass pass.now env → IsTrue (keeps_locals (instruction_of insn.now))
         → IfOk result (λ found. found ≡ None → AreSettled env (maps_of pass.now) (Some offset) (frame_of (names_in pass.now) frame.new)) }
 {
@@ -115,17 +137,19 @@ pub(crate) fn step(
     starts_apart();
     keeps_local_count();
     leaves_locals();
-    if !merge(pass, frame, falls, offset)? {
+    writes_there();
+    if !merge(pass, held, frame, falls, offset)? {
         return Ok(Some(VerifyRule::Merge));
     }
     let settled = settled_at(pass, settled, offset);
-    if !is_handled(pass, cover, frame, settled, offset, insn) {
+    if !is_handled(pass, cover, openings, held, frame, settled, offset, insn)? {
         return Ok(Some(VerifyRule::CoveredHandler));
     }
     if !apply(pass.context, frame, offset as u16, insn)? {
         return Ok(Some(VerifyRule::Instruction));
     }
-    if !targets_hold(pass, frame, offset, insn) {
+    held.note(frame, pass.max_locals, insn)?;
+    if !targets_hold(pass, held, frame, offset, insn) {
         return Ok(Some(VerifyRule::BranchTarget));
     }
     Ok(None)

@@ -7,20 +7,28 @@ ghost use Rattle.jv_code.specs.Switches.{distances_in, pairs_in};
 ghost use Rattle.jv_code.specs.Targets.{target_of};
 ghost use Rattle.jv_meaning_typing.specs.Typing.{flows_into, frame_at};
 ghost use Rattle.jv_method_pass.specs.Inside.Walk.{distance_holds, pair_holds, table_holds, all_hold, distances_of};
+ghost use Rattle.jv_method_pass.specs.Inside.Held.{IsHeld};
 ghost use Rattle.jv_method_pass.specs.Pass.{Tests};
 
-use crate::flowing::frame_flows;
+use crate::held::{Held, flows_to_map};
 use crate::pass::Pass;
 use jv_code::{Insn, first_distance, first_pair, target_of};
 use jv_types::TypeFrame;
 
 /// Whether a frame flows to that of the map at an offset; not where none is there.
-pub(crate) fn flows_into(pass: &Pass<'_, '_, '_, '_, '_>, frame: &TypeFrame, offset: u32) -> bool
-    requires { length frame.now.locals ≡ pass.now.max_locals }
+pub(crate) fn flows_into(
+    pass: &Pass<'_, '_, '_, '_, '_>,
+    held: &Held,
+    frame: &TypeFrame,
+    offset: u32,
+) -> bool
+    requires locals { length frame.now.locals ≡ pass.now.max_locals }
+    requires held { IsHeld pass.now held.now frame.now }
     ensures { Tests pass.now (λ env maps f. flows_into env f (frame_at maps offset)) frame.now result }
 {
+    let _types = &pass.types;
     match pass.map_at(offset) {
-        Some(map) => frame_flows(pass.types, frame, &map),
+        Some((place, map)) => flows_to_map(pass, held, frame, place, &map),
         None => false,
     }
 }
@@ -28,15 +36,17 @@ pub(crate) fn flows_into(pass: &Pass<'_, '_, '_, '_, '_>, frame: &TypeFrame, off
 /// Whether it flows to that at a distance from an instruction.
 fn distance_holds(
     pass: &Pass<'_, '_, '_, '_, '_>,
+    held: &Held,
     frame: &TypeFrame,
     offset: u32,
     distance: i32,
 ) -> bool
-    requires { length frame.now.locals ≡ pass.now.max_locals }
+    requires locals { length frame.now.locals ≡ pass.now.max_locals }
+    requires held { IsHeld pass.now held.now frame.now }
     ensures { Tests pass.now (λ env maps f. distance_holds env maps f offset distance) frame.now result }
 {
     match target_of(offset, distance) {
-        Some(target) => flows_into(pass, frame, target),
+        Some(target) => flows_into(pass, held, frame, target),
         None => false,
     }
 }
@@ -44,16 +54,18 @@ fn distance_holds(
 /// Whether it flows to those at the distances of a tableswitch.
 fn distances_hold(
     pass: &Pass<'_, '_, '_, '_, '_>,
+    held: &Held,
     frame: &TypeFrame,
     offset: u32,
     distances: &[u8],
 ) -> bool
-    requires { length frame.now.locals ≡ pass.now.max_locals }
+    requires locals { length frame.now.locals ≡ pass.now.max_locals }
+    requires held { IsHeld pass.now held.now frame.now }
     ensures { Tests pass.now (λ env maps f. list_all (distance_holds env maps f offset) (distances_in distances.now)) frame.now result }
 {
     let mut left = distances;
     while let Some((distance, more)) = first_distance(left) {
-        if !distance_holds(pass, frame, offset, distance) {
+        if !distance_holds(pass, held, frame, offset, distance) {
             return false;
         }
         left = more;
@@ -62,13 +74,20 @@ fn distances_hold(
 }
 
 /// Whether it flows to those at the distances of a lookupswitch's pairs.
-fn pairs_hold(pass: &Pass<'_, '_, '_, '_, '_>, frame: &TypeFrame, offset: u32, pairs: &[u8]) -> bool
-    requires { length frame.now.locals ≡ pass.now.max_locals }
+fn pairs_hold(
+    pass: &Pass<'_, '_, '_, '_, '_>,
+    held: &Held,
+    frame: &TypeFrame,
+    offset: u32,
+    pairs: &[u8],
+) -> bool
+    requires locals { length frame.now.locals ≡ pass.now.max_locals }
+    requires held { IsHeld pass.now held.now frame.now }
     ensures { Tests pass.now (λ env maps f. list_all (pair_holds env maps f offset) (pairs_in pairs.now)) frame.now result }
 {
     let mut left = pairs;
     while let Some(((_key, distance), more)) = first_pair(left) {
-        if !distance_holds(pass, frame, offset, distance) {
+        if !distance_holds(pass, held, frame, offset, distance) {
             return false;
         }
         left = more;
@@ -79,49 +98,57 @@ fn pairs_hold(pass: &Pass<'_, '_, '_, '_, '_>, frame: &TypeFrame, offset: u32, p
 /// Whether it flows to those of a tableswitch.
 fn table_holds(
     pass: &Pass<'_, '_, '_, '_, '_>,
+    held: &Held,
     frame: &TypeFrame,
     offset: u32,
     default: i32,
     distances: &[u8],
 ) -> bool
-    requires { length frame.now.locals ≡ pass.now.max_locals }
+    requires locals { length frame.now.locals ≡ pass.now.max_locals }
+    requires held { IsHeld pass.now held.now frame.now }
     ensures { Tests pass.now (λ env maps f. table_holds env maps f offset default (distances_in distances.now)) frame.now result }
 {
-    distance_holds(pass, frame, offset, default) && distances_hold(pass, frame, offset, distances)
+    distance_holds(pass, held, frame, offset, default)
+        && distances_hold(pass, held, frame, offset, distances)
 }
 
 /// Whether it flows to those of a lookupswitch.
 fn lookup_holds(
     pass: &Pass<'_, '_, '_, '_, '_>,
+    held: &Held,
     frame: &TypeFrame,
     offset: u32,
     default: i32,
     pairs: &[u8],
 ) -> bool
-    requires { length frame.now.locals ≡ pass.now.max_locals }
+    requires locals { length frame.now.locals ≡ pass.now.max_locals }
+    requires held { IsHeld pass.now held.now frame.now }
     ensures { Tests pass.now (λ env maps f. table_holds env maps f offset default (distances_of pairs.now)) frame.now result }
 {
-    distance_holds(pass, frame, offset, default) && pairs_hold(pass, frame, offset, pairs)
+    distance_holds(pass, held, frame, offset, default)
+        && pairs_hold(pass, held, frame, offset, pairs)
 }
 
 /// Whether what an instruction leaves flows to a frame of the map at each of its targets.
 pub(crate) fn targets_hold(
     pass: &Pass<'_, '_, '_, '_, '_>,
+    held: &Held,
     frame: &TypeFrame,
     offset: u32,
     insn: &Insn<&[u8]>,
 ) -> bool
-    requires { length frame.now.locals ≡ pass.now.max_locals }
+    requires locals { length frame.now.locals ≡ pass.now.max_locals }
+    requires held { IsHeld pass.now held.now frame.now }
     ensures { Tests pass.now (λ env maps f. all_hold env maps f offset (instruction_of insn.now)) frame.now result }
 {
     match *insn {
-        Insn::Branch(_, distance) => distance_holds(pass, frame, offset, i32::from(distance)),
-        Insn::Goto(distance, _) => distance_holds(pass, frame, offset, distance),
+        Insn::Branch(_, distance) => distance_holds(pass, held, frame, offset, i32::from(distance)),
+        Insn::Goto(distance, _) => distance_holds(pass, held, frame, offset, distance),
         Insn::TableSwitch(_, default, _, _, distances) => {
-            table_holds(pass, frame, offset, default, distances)
+            table_holds(pass, held, frame, offset, default, distances)
         }
         Insn::LookupSwitch(_, default, pairs) => {
-            lookup_holds(pass, frame, offset, default, pairs)
+            lookup_holds(pass, held, frame, offset, default, pairs)
         }
         _ => true,
     }

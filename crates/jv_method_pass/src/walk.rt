@@ -7,10 +7,14 @@ ghost use Rattle.jv_rules.specs.Laws.{keeps_locals};
 ghost use Rattle.jv_method_pass.specs.Pass.{IsOfPass, maps_of};
 ghost use Rattle.jv_method_pass.specs.Found.{IsFound};
 ghost use Rattle.jv_method_pass.specs.Inside.Cover.{IsCover};
+ghost use Rattle.jv_method_pass.specs.Inside.Held.{IsHeld};
+ghost use Rattle.jv_method_pass.specs.Inside.Opening.{AreOpenings};
 ghost use Rattle.jv_method_pass.specs.Inside.Walk.{IsFoundFrom};
 
 use crate::cover::{Cover, cover_of};
 use crate::fault::CodeFault;
+use crate::held::Held;
+use crate::opening::Openings;
 use crate::pass::Pass;
 use crate::setting::set_to_initial;
 use crate::step::step;
@@ -35,10 +39,14 @@ fn settled_by(insn: &Insn<&[u8]>, offset: u32) -> Option<u32>
 fn walk(
     pass: &Pass<'_, '_, '_, '_, '_>,
     cover: &Cover,
+    openings: &mut Openings,
+    held: &mut Held,
     frame: &mut TypeFrame,
 ) -> Result<Option<CodeFault>, AllocError>
     requires locals { length frame.old.locals ≡ pass.now.max_locals }
     requires cover { IsCover pass.now.handlers cover.now.begins.items cover.now.end }
+    requires openings { AreOpenings pass.now openings.old }
+    requires held { IsHeld pass.now held.old frame.old }
     requires method { (env : Environment) × IsOfPass pass.now env }
     ensures { IsFoundFrom pass.now frame.old result }
 {
@@ -51,7 +59,9 @@ fn walk(
     let mut offset = 0;
     while offset < size {
         let (insn, next) = code.insn_at(offset);
-        if let Some(rule) = step(pass, cover, frame, falls, settled, offset, &insn)? {
+        if let Some(rule) = step(
+            pass, cover, openings, held, frame, falls, settled, offset, &insn,
+        )? {
             return Ok(Some(CodeFault { offset, rule }));
         }
         falls = falls_through(&insn);
@@ -85,5 +95,7 @@ pub fn check_code(
     let mut frame = TypeFrame::new(alloc, pass.max_locals)?;
     set_to_initial(&mut frame, pass.initial, pass.words);
     let cover = cover_of(alloc, pass.handlers, pass.context.code().size())?;
-    walk(pass, &cover, &mut frame)
+    let mut openings = Openings::of(alloc, pass.handlers)?;
+    let mut held = Held::new(alloc)?;
+    walk(pass, &cover, &mut openings, &mut held, &mut frame)
 }

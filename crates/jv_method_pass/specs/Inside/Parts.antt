@@ -1,10 +1,11 @@
 -- Parts of the rules on a method's tables.
-use Rattle.std.specs.Prelude.{◌≡◌, ℕ, Bool, true, ◌&&◌, List, Option, Some, None, is_some}
+use Rattle.std.specs.Prelude.{◌≡◌, ◌<◌, ◌-◌, ℕ, Bool, true, ◌&&◌, List, Option, Some, None, is_some, slice_get}
 use Rattle.std.specs.List.{list_all}
+use Rattle.std.specs.Option.{option_map}
 use Rattle.jv_frames.specs.declared.entry.FrameEntry.{FrameEntry}
 use Rattle.jv_frames.specs.declared.entry.FrameEntry.TheVariants as entries
 use Rattle.jv_frames.specs.declared.limits.Limits.{Limits}
-use Rattle.jv_frames.specs.Entries.{ReadFrame, frames_placed}
+use Rattle.jv_frames.specs.Entries.{ReadFrame, frames_placed, locals_in}
 use Rattle.jv_frames.specs.Frames.{PlacedFrame, Maps}
 use Rattle.jv_code.specs.Places.{IsCode}
 use Rattle.jv_meaning_typing.specs.Environment.{Environment, current_class, instruction_at}
@@ -30,6 +31,10 @@ is_made_by_new env _ = true
 
 abbrev pub frame_stands : Environment → ReadFrame → Bool
 frame_stands env f = is_some (instruction_at env f.offset) && (list_all (is_made_by_new env) f.locals && list_all (is_made_by_new env) f.stack)
+
+-- the frame at a place has the local entries of the one before it
+abbrev pub SharesBefore : List ReadFrame → ℕ → Type 0
+SharesBefore frames place = (0 < place) × (option_map locals_in (slice_get frames (place - 1)) ≡ option_map locals_in (slice_get frames place))
 
 -- the bytes spell these frames, or none
 abbrev pub IsSpelled : EntryTypes → Limits → List ℕ → Option (List ReadFrame) → Type 0

@@ -16,6 +16,10 @@ abbrev pub is_settled : Option ℕ → Handler → Bool
 is_settled None handler = false
 is_settled (Some before) handler = covers handler before
 
+-- a handler is settled, or holds
+abbrev pub unsettled_holds : Option ℕ → Environment → List PlacedFrame → Instruction → Frame → Handler → Bool
+unsettled_holds settled env maps insn frame h = is_settled settled h || handles env maps (handler_frame env insn frame) h
+
 -- each handler that covers an instruction is settled, or holds
 abbrev pub hold_where_unsettled : Option ℕ → Environment → List PlacedFrame → ℕ → Instruction → Frame → Bool
 hold_where_unsettled settled env maps pc insn frame =

@@ -1,13 +1,9 @@
-use Rattle.std.proofs.Common.{sym, ap, subst, ◌∙◌}
+use Rattle.std.proofs.Common.{refl, ap, subst, ◌∙◌}
 use Rattle.jv_meaning_typing.specs.Typing.{frame_at}
-use Rattle.jv_method_pass.specs.Mapped.{local_entry_words}
 use Rattle.jv_method_pass.specs.Pass.{Pass, maps_of}
 use Rattle.jv_method_pass.specs.Inside.Kept.{IsPass}
 use Rattle.jv_method_pass.proofs.FlowsInto.{handles_there}
 use Rattle.jv_method_pass.proofs.handlers.handles.Goals as goal
-
-pub thrown_flows-requires : goal.thrown_flows-requires
-thrown_flows-requires c = c.in-Some-map_at.ensures.room.words ∙ ap (λ (p : Pass). local_entry_words p.types c.in-Some-map_at.map) (sym c.pass.view_is)
 
 pub returns-in-Some-map_at : goal.returns-in-Some-map_at
 returns-in-Some-map_at c = λ env insn is constructed.
@@ -15,6 +11,6 @@ returns-in-Some-map_at c = λ env insn is constructed.
     let entries = c.pass.inside.initial.now in
     let count = c.pass.inside.words in
     let kept : IsPass pass entries count = subst (λ (p : Pass). IsPass p entries count) c.pass.view_is c.pass.invariant in
-    handles_there pass entries count kept env is c.pass.inside.types.now insn c.args.frame.now c.args.object c.in-Some.thrown c.args.handler c.in-Some-map_at.map c.thrown_flows.result
-    (ap (λ (p : Pass). p.types) c.pass.view_is) c.requires c.thrown_flows.ensures constructed (c.in-Some.ensures env is)
+    handles_there pass entries count kept env is pass.types insn c.args.frame.now c.args.object c.in-Some.thrown c.args.handler c.in-Some-map_at.map c.thrown_flows_to_map.result
+    refl c.requires.locals c.thrown_flows_to_map.ensures constructed (c.in-Some.ensures env is)
     (c.in-Some-map_at.ensures.frame env is ∙ ap (frame_at (maps_of pass)) c.from.ensures)

@@ -1,4 +1,4 @@
-use Rattle.std.proofs.Common.{refl, ap, subst, ◌∙◌}
+use Rattle.std.proofs.Common.{refl, sym, ap, subst, ◌∙◌}
 use Rattle.jv_code.specs.Insns.{instruction_of}
 use Rattle.jv_types.specs.Numbered.{frame_of}
 use Rattle.jv_method_pass.specs.Pass.{Pass, maps_of, names_in}
@@ -6,6 +6,7 @@ use Rattle.jv_method_pass.specs.Inside.Kept.{IsPass}
 use Rattle.jv_method_pass.specs.Inside.Walk.{Stands}
 use Rattle.jv_method_pass.proofs.Walking.{stand, merge_broken, handler_broken, instruction_broken, target_broken, goes_on}
 use Rattle.jv_method_pass.proofs.FlowsInto.{applied, is_left, is_none_left, as_many}
+use Rattle.jv_method_pass.proofs.Holding.{held_behind}
 use Rattle.jv_method_pass.proofs.Settling.{if_some, now_settled, still_settled}
 use Rattle.jv_method_pass.proofs.step.step.Goals as goal
 
@@ -15,16 +16,16 @@ returns-then-not-branch-clause-step c = λ env is at r.
     merge_broken c.stands_in_list.ensures c.starts_apart.ensures env is.is (maps_of pass) c.args.offset (instruction_of c.args.insn.now) _ at r
     (is_none_left (names_in pass) _ c.merge.new.frame _ c.if-not-branch.true (c.in_ok-merge.ensures.merged env is))
 
-pub returns-then-not-is_handled-clause-step : goal.returns-then-not-is_handled-clause-step
-returns-then-not-is_handled-clause-step c = λ env is at r.
+pub returns-then-not-branch-2-clause-step : goal.returns-then-not-branch-2-clause-step
+returns-then-not-branch-2-clause-step c = λ env is at r.
     let pass = c.args.pass.now in
     let x = frame_of (names_in pass) c.merge.new.frame in
     let here : Stands env (maps_of pass) c.args.offset x =
     stand c.stands_in_list.ensures c.starts_apart.ensures env is.is (maps_of pass) c.args.offset x _ r (is_left (names_in pass) _ c.merge.new.frame _ c.if-not-branch.false (c.in_ok-merge.ensures.merged env is)) in
-    handler_broken c.stands_in_list.ensures c.starts_apart.ensures env is.is (maps_of pass) c.args.offset (instruction_of c.args.insn.now) x at here (c.if-not-is_handled.ensures env is)
+    handler_broken c.stands_in_list.ensures c.starts_apart.ensures env is.is (maps_of pass) c.args.offset (instruction_of c.args.insn.now) x at here (sym c.if-not-branch-2.true ∙ c.in_ok-is_handled.ensures.hold env is)
 
-pub returns-then-not-branch-2-clause-step : goal.returns-then-not-branch-2-clause-step
-returns-then-not-branch-2-clause-step c = λ env is at r.
+pub returns-then-not-branch-3-clause-step : goal.returns-then-not-branch-3-clause-step
+returns-then-not-branch-3-clause-step c = λ env is at r.
     let pass = c.args.pass.now in
     let entries = c.pass.inside.initial.now in
     let count = c.pass.inside.words in
@@ -33,13 +34,13 @@ returns-then-not-branch-2-clause-step c = λ env is at r.
     let x = frame_of (names_in pass) c.merge.new.frame in
     let here : Stands env (maps_of pass) c.args.offset x =
     stand c.stands_in_list.ensures c.starts_apart.ensures env is.is (maps_of pass) c.args.offset x _ r (is_left (names_in pass) _ c.merge.new.frame _ c.if-not-branch.false (c.in_ok-merge.ensures.merged env is)) in
-    instruction_broken c.stands_in_list.ensures c.starts_apart.ensures env is.is (maps_of pass) c.args.offset insn x at here (c.if-not-is_handled.ensures env is)
-    (is_none_left (names_in pass) _ c.apply.new.frame _ c.if-not-branch-2.true
+    instruction_broken c.stands_in_list.ensures c.starts_apart.ensures env is.is (maps_of pass) c.args.offset insn x at here (sym c.if-not-branch-2.false ∙ c.in_ok-is_handled.ensures.hold env is)
+    (is_none_left (names_in pass) _ c.apply.new.frame _ c.if-not-branch-3.true
     (applied pass entries count kept env is c.pass.inside.context.now insn c.merge.new.frame c.apply.new.frame _ c.args.offset _ (ap (λ (p : Pass). p.context) c.pass.view_is)
     refl c.in_ok-apply.ensures))
 
-pub targets_hold-requires : goal.targets_hold-requires
-targets_hold-requires c =
+pub note-requires : goal.note-requires
+note-requires c =
     let pass = c.args.pass.now in
     let entries = c.pass.inside.initial.now in
     let count = c.pass.inside.words in
@@ -48,10 +49,40 @@ targets_hold-requires c =
     let is = c.requires.method.1 in
     let insn = instruction_of c.args.insn.now in
     as_many c.keeps_local_count.ensures env c.args.offset insn (names_in pass) c.merge.new.frame c.apply.new.frame
-    (is_left (names_in pass) _ c.apply.new.frame _ c.if-not-branch-2.false
+    (is_left (names_in pass) _ c.apply.new.frame _ c.if-not-branch-3.false
+    (applied pass entries count kept env is c.pass.inside.context.now insn c.merge.new.frame c.apply.new.frame _ c.args.offset _ (ap (λ (p : Pass). p.context) c.pass.view_is)
+    refl c.in_ok-apply.ensures))
+    ∙ c.merge.ensures.locals ∙ ap (λ (p : Pass). p.max_locals) (sym c.pass.view_is)
+
+pub targets_hold-requires-clause-locals : goal.targets_hold-requires-clause-locals
+targets_hold-requires-clause-locals c =
+    let pass = c.args.pass.now in
+    let entries = c.pass.inside.initial.now in
+    let count = c.pass.inside.words in
+    let kept : IsPass pass entries count = subst (λ (p : Pass). IsPass p entries count) c.pass.view_is c.pass.invariant in
+    let env = c.requires.method.0 in
+    let is = c.requires.method.1 in
+    let insn = instruction_of c.args.insn.now in
+    as_many c.keeps_local_count.ensures env c.args.offset insn (names_in pass) c.merge.new.frame c.apply.new.frame
+    (is_left (names_in pass) _ c.apply.new.frame _ c.if-not-branch-3.false
     (applied pass entries count kept env is c.pass.inside.context.now insn c.merge.new.frame c.apply.new.frame _ c.args.offset _ (ap (λ (p : Pass). p.context) c.pass.view_is)
     refl c.in_ok-apply.ensures))
     ∙ c.merge.ensures.locals
+
+pub targets_hold-requires-clause-held : goal.targets_hold-requires-clause-held
+targets_hold-requires-clause-held c =
+    let pass = c.args.pass.now in
+    let entries = c.pass.inside.initial.now in
+    let count = c.pass.inside.words in
+    let kept : IsPass pass entries count = subst (λ (p : Pass). IsPass p entries count) c.pass.view_is c.pass.invariant in
+    let env = c.requires.method.0 in
+    let is = c.requires.method.1 in
+    let insn = instruction_of c.args.insn.now in
+    held_behind pass c.writes_there.ensures env c.args.offset insn c.merge.new.held c.note.new.self c.merge.new.frame c.apply.new.frame c.in_ok-merge.ensures.held
+    (is_left (names_in pass) _ c.apply.new.frame _ c.if-not-branch-3.false
+    (applied pass entries count kept env is c.pass.inside.context.now insn c.merge.new.frame c.apply.new.frame _ c.args.offset _ (ap (λ (p : Pass). p.context) c.pass.view_is)
+    refl c.in_ok-apply.ensures))
+    c.in_ok-note.ensures
 
 pub returns-then-not-targets_hold-clause-step : goal.returns-then-not-targets_hold-clause-step
 returns-then-not-targets_hold-clause-step c = λ env is at r.
@@ -63,8 +94,8 @@ returns-then-not-targets_hold-clause-step c = λ env is at r.
     let x = frame_of (names_in pass) c.merge.new.frame in
     let here : Stands env (maps_of pass) c.args.offset x =
     stand c.stands_in_list.ensures c.starts_apart.ensures env is.is (maps_of pass) c.args.offset x _ r (is_left (names_in pass) _ c.merge.new.frame _ c.if-not-branch.false (c.in_ok-merge.ensures.merged env is)) in
-    target_broken c.stands_in_list.ensures c.starts_apart.ensures env is.is (maps_of pass) c.args.offset insn x (frame_of (names_in pass) c.apply.new.frame) at here (c.if-not-is_handled.ensures env is)
-    (is_left (names_in pass) _ c.apply.new.frame _ c.if-not-branch-2.false
+    target_broken c.stands_in_list.ensures c.starts_apart.ensures env is.is (maps_of pass) c.args.offset insn x (frame_of (names_in pass) c.apply.new.frame) at here (sym c.if-not-branch-2.false ∙ c.in_ok-is_handled.ensures.hold env is)
+    (is_left (names_in pass) _ c.apply.new.frame _ c.if-not-branch-3.false
     (applied pass entries count kept env is c.pass.inside.context.now insn c.merge.new.frame c.apply.new.frame _ c.args.offset _ (ap (λ (p : Pass). p.context) c.pass.view_is)
     refl c.in_ok-apply.ensures))
     (c.if-not-targets_hold.ensures env is)
@@ -79,8 +110,8 @@ returns-clause-step c = λ env is at r.
     let x = frame_of (names_in pass) c.merge.new.frame in
     let here : Stands env (maps_of pass) c.args.offset x =
     stand c.stands_in_list.ensures c.starts_apart.ensures env is.is (maps_of pass) c.args.offset x _ r (is_left (names_in pass) _ c.merge.new.frame _ c.if-not-branch.false (c.in_ok-merge.ensures.merged env is)) in
-    goes_on c.stands_in_list.ensures c.starts_apart.ensures env is.is (maps_of pass) c.args.offset insn x (frame_of (names_in pass) c.apply.new.frame) at here (c.if-not-is_handled.ensures env is)
-    (is_left (names_in pass) _ c.apply.new.frame _ c.if-not-branch-2.false
+    goes_on c.stands_in_list.ensures c.starts_apart.ensures env is.is (maps_of pass) c.args.offset insn x (frame_of (names_in pass) c.apply.new.frame) at here (sym c.if-not-branch-2.false ∙ c.in_ok-is_handled.ensures.hold env is)
+    (is_left (names_in pass) _ c.apply.new.frame _ c.if-not-branch-3.false
     (applied pass entries count kept env is c.pass.inside.context.now insn c.merge.new.frame c.apply.new.frame _ c.args.offset _ (ap (λ (p : Pass). p.context) c.pass.view_is)
     refl c.in_ok-apply.ensures))
     (c.if-not-targets_hold.ensures env is)
@@ -95,7 +126,7 @@ returns-clause-locals c = λ none.
     let is = c.requires.method.1 in
     let insn = instruction_of c.args.insn.now in
     as_many c.keeps_local_count.ensures env c.args.offset insn (names_in pass) c.merge.new.frame c.apply.new.frame
-    (is_left (names_in pass) _ c.apply.new.frame _ c.if-not-branch-2.false
+    (is_left (names_in pass) _ c.apply.new.frame _ c.if-not-branch-3.false
     (applied pass entries count kept env is c.pass.inside.context.now insn c.merge.new.frame c.apply.new.frame _ c.args.offset _ (ap (λ (p : Pass). p.context) c.pass.view_is)
     refl c.in_ok-apply.ensures))
     ∙ c.merge.ensures.locals
@@ -115,7 +146,22 @@ returns-clause-settled c = λ env is keeps none.
     let kept : IsPass pass entries count = subst (λ (p : Pass). IsPass p entries count) c.pass.view_is c.pass.invariant in
     let insn = instruction_of c.args.insn.now in
     let x = frame_of (names_in pass) c.merge.new.frame in
-    now_settled env (maps_of pass) c.leaves_locals.ensures c.args.offset insn x (frame_of (names_in pass) c.apply.new.frame) keeps (c.if-not-is_handled.ensures env is)
-    (is_left (names_in pass) _ c.apply.new.frame _ c.if-not-branch-2.false
+    now_settled env (maps_of pass) c.leaves_locals.ensures c.args.offset insn x (frame_of (names_in pass) c.apply.new.frame) keeps (sym c.if-not-branch-2.false ∙ c.in_ok-is_handled.ensures.hold env is)
+    (is_left (names_in pass) _ c.apply.new.frame _ c.if-not-branch-3.false
     (applied pass entries count kept env is c.pass.inside.context.now insn c.merge.new.frame c.apply.new.frame _ c.args.offset _ (ap (λ (p : Pass). p.context) c.pass.view_is)
     refl c.in_ok-apply.ensures))
+
+pub returns-clause-held : goal.returns-clause-held
+returns-clause-held c = λ none.
+    let pass = c.args.pass.now in
+    let entries = c.pass.inside.initial.now in
+    let count = c.pass.inside.words in
+    let kept : IsPass pass entries count = subst (λ (p : Pass). IsPass p entries count) c.pass.view_is c.pass.invariant in
+    let env = c.requires.method.0 in
+    let is = c.requires.method.1 in
+    let insn = instruction_of c.args.insn.now in
+    held_behind pass c.writes_there.ensures env c.args.offset insn c.merge.new.held c.note.new.self c.merge.new.frame c.apply.new.frame c.in_ok-merge.ensures.held
+    (is_left (names_in pass) _ c.apply.new.frame _ c.if-not-branch-3.false
+    (applied pass entries count kept env is c.pass.inside.context.now insn c.merge.new.frame c.apply.new.frame _ c.args.offset _ (ap (λ (p : Pass). p.context) c.pass.view_is)
+    refl c.in_ok-apply.ensures))
+    c.in_ok-note.ensures

@@ -1,12 +1,15 @@
 use Rattle.std.proofs.Common.{◌≡◌, Some, length, ap, subst, ◌∙◌}
 use Rattle.std.proofs.lemmas.List.{length-replicate}
+use Rattle.std.specs.List.{list_all}
 use Rattle.jv_frames.specs.Frames.{Frame}
 use Rattle.jv_frames.specs.declared.verification.VerificationTypeOf.TheVariants as variants
 use Rattle.jv_types.specs.Numbered.{Item, NumberFrame}
 use Rattle.jv_method_pass.specs.Pass.{Pass, maps_of}
 use Rattle.jv_method_pass.specs.Inside.Kept.{IsPass}
+use Rattle.jv_method_pass.specs.Inside.Opening.{passes_at}
 use Rattle.jv_method_pass.specs.Inside.Walk.{Reaches}
 use Rattle.jv_method_pass.proofs.Walking.{begins}
+use Rattle.jv_method_pass.proofs.Holding.{none_held}
 use Rattle.jv_method_pass.proofs.FlowsInto.{first_is}
 use Rattle.jv_method_pass.proofs.walk.check_code.Goals as goal
 
@@ -22,3 +25,10 @@ returns c = λ env is.
     c.walk.ensures env is
     (subst (λ (f : Frame). Reaches env (maps_of pass) 0 (Some f)) (first_is pass entries count kept env is c.set_to_initial.new.frame (length c.in_ok-frame.frame.locals) many c.set_to_initial.ensures.frame)
     (begins c.stands_in_list.ensures c.starts_apart.ensures env is.is (maps_of pass)))
+
+pub walk-requires-clause-held : goal.walk-requires-clause-held
+walk-requires-clause-held c = none_held c.args.pass.now c.in_ok-held.held c.set_to_initial.new.frame.locals c.in_ok-held.ensures
+
+pub walk-requires-clause-openings : goal.walk-requires-clause-openings
+walk-requires-clause-openings c = λ offset test.
+    c.in_ok-openings.ensures offset test ∙ ap (λ (p : Pass). list_all (passes_at offset test) p.handlers) c.pass.view_is

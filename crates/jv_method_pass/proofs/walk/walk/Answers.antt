@@ -1,9 +1,11 @@
 use Rattle.std.proofs.Common.{◌≡◌, ℕ, true, false, List, sym, ap, subst, ◌∙◌}
+use Rattle.std.specs.List.{list_all}
 use Rattle.jv_code.specs.Places.{IsStartOrEnd}
 use Rattle.jv_code.specs.Insns.{instruction_of}
 use Rattle.jv_types.specs.Numbered.{frame_of}
 use Rattle.jv_method_pass.specs.Pass.{Pass, maps_of, names_in}
 use Rattle.jv_rules.specs.Laws.{keeps_locals}
+use Rattle.jv_method_pass.specs.Inside.Opening.{passes_at}
 use Rattle.jv_method_pass.proofs.Settling.{settled_by}
 use Rattle.jv_method_pass.proofs.Passing.{start_here, at_is, step_broken, at_end, goes_further, is_whole}
 use Rattle.jv_method_pass.proofs.walk.walk.Goals.{else-falls-via-then-falls+else-next-size, else-falls-via-else-falls}
@@ -54,6 +56,8 @@ loop-offset-preserved c =
           c.falls_through-falls.ensures not_last c.in_default.is (c.in_ok-rule.ensures.step env is at (c.loop-offset.invariant.2 env is r).reaches),
       λ env is. settled_by env (maps_of c.args.pass.now) (keeps_locals (instruction_of c.insn_at-next.result.0)) c.settled_by-settled.result c.loop-offset.offset
           (frame_of (names_in c.args.pass.now) c.step.new.frame) c.settled_by-settled.ensures (λ keeps. c.in_ok-rule.ensures.settled env is keeps c.in_default.is),
+      c.in_ok-rule.ensures.held c.in_default.is,
+      λ offset test. ap (list_all (passes_at offset test)) c.step.ensures.openings ∙ c.loop-offset.invariant.5 offset test,
     )
   where
     clash : false ≡ true → ⊥

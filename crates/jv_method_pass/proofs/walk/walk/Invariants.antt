@@ -3,6 +3,8 @@ use Rattle.jv_code.specs.Places.{IsStartOrEnd}
 use Rattle.jv_meaning_typing.specs.Environment.{Environment}
 use Rattle.jv_types.specs.Numbered.{frame_of}
 use Rattle.jv_method_pass.specs.Pass.{IsOfPass, maps_of, names_in}
+use Rattle.jv_method_pass.specs.Inside.Held.{IsHeld}
+use Rattle.jv_method_pass.specs.Inside.Opening.{AreOpenings}
 use Rattle.jv_method_pass.specs.Inside.Settled.{AreSettled}
 use Rattle.jv_method_pass.specs.Inside.Walk.{Reaches, Progress, when_falls}
 use Rattle.jv_method_pass.proofs.walk.walk.Given as goal
@@ -14,6 +16,8 @@ invariant-loop-offset l =
     × ((env : Environment) → IsOfPass l.pass env → Reaches env (maps_of l.pass) 0 (Some (frame_of (names_in l.pass) l.fn.frame))
     → Progress env (maps_of l.pass) l.offset (when_falls l.falls (frame_of (names_in l.pass) l.frame)))
     × ((env : Environment) → IsOfPass l.pass env → AreSettled env (maps_of l.pass) l.settled (frame_of (names_in l.pass) l.frame))
+    × IsHeld l.pass l.held l.frame
+    × AreOpenings l.pass l.openings
 
 abbrev pub decreases-loop-offset : goal.decreases-loop-offset
 decreases-loop-offset l = length l.pass.context.code - l.offset

@@ -1,0 +1,328 @@
+-- Local variables against those of a frame of the map that are held beside them.
+use Rattle.std.proofs.Common.{◌≡◌, ℕ, zero, suc, ◌+◌, ◌<◌, ◌≤◌, Bool, true, false, not, ◌&&◌, ◌||◌, List, [], ◌∷◌, length, map, drop, set, get_or, Option, Some, None, refl, sym, ap, subst, ◌∙◌, arith}
+use Rattle.std.specs.Prelude.{◌==◌, slice_get}
+use Rattle.std.specs.List.{list_all}
+use Rattle.std.specs.Option.{option_map}
+use Rattle.std.proofs.lemmas.Bool.{eqb-true, eqb-false}
+use Rattle.std.proofs.lemmas.List.{length-map, length-set}
+use Rattle.std.proofs.lemmas.Option.{slice_get-map}
+use Rattle.jv_frames.specs.declared.entry.FrameEntry.{FrameEntry}
+use Rattle.jv_frames.specs.Entries.{ReadFrame, locals_in}
+use Rattle.jv_frames.specs.Frames.{Frame}
+use Rattle.jv_frames.specs.Types.{FrameType}
+use Rattle.jv_code.specs.Insns.{Instruction}
+use Rattle.jv_meaning_world.specs.Flow.{flows}
+use Rattle.jv_meaning_world.specs.FrameFlow.{all_flow}
+use Rattle.jv_meaning_world.specs.World.{World}
+use Rattle.jv_meaning_world.proofs.Order.{flows_is_reflexive}
+use Rattle.jv_meaning_typing.specs.Environment.{Environment}
+use Rattle.jv_meaning_typing.specs.Rule.{rule}
+use Rattle.jv_rules.specs.Laws.{may_write, WritesThere}
+use Rattle.jv_types.specs.Typed.{typed, typed_all}
+use Rattle.jv_types.specs.Numbered.{Item, NumberFrame, frame_of, with_flag, with_locals, with_stack}
+use Rattle.jv_method_pass.specs.Mapped.{EntryTypes, names_of_types, world_of_types, types_of_entries, expanded_entries, frame_by_types, locals_of, stack_of, locals_flow_to, stack_flows_to, flows_to_map, thrown_flows_to_map}
+use Rattle.jv_method_pass.specs.Pass.{Pass, names_in}
+use Rattle.jv_method_pass.specs.Inside.Held.{HeldFrame, is_written, AreSameBut, HoldsLocals, IsHeldBy, Notes, NotesBy, Writes, WritesBy, both_flow, flows_at, with_item, with_held_at, held_locals_flow, held_flag_flows}
+use Rattle.jv_method_pass.proofs.Settings.{frame_made}
+
+-- ---- all flow where all that were written do
+
+all_at : (world : World) (xs ys : List FrameType) → length xs ≡ length ys → ((k : ℕ) → flows_at world xs ys k ≡ true) → all_flow (flows world) xs ys ≡ true
+all_at world [] [] e h = refl
+all_at world [] (y ∷ ys) e h = absurd (omega (arith, e))
+all_at world (x ∷ xs) [] e h = absurd (omega (arith, e))
+all_at world (x ∷ xs) (y ∷ ys) e h = ap (λ b. b && all_flow (flows world) xs ys) (h 0) ∙ all_at world xs ys (omega (arith, e)) (λ k. h (suc k))
+
+and_false : (b : Bool) → (b && false) ≡ false
+and_false true = refl
+and_false false = refl
+
+none_at : (world : World) (k : ℕ) → both_flow world (slice_get {X = FrameType} [] k) (slice_get {X = FrameType} [] k) ≡ true
+none_at world zero = refl
+none_at world (suc k) = refl
+
+not_at : (world : World) (xs ys : List FrameType) (k : ℕ) → flows_at world xs ys k ≡ false → all_flow (flows world) xs ys ≡ false
+not_at world [] [] zero h = absurd cc
+not_at world [] [] (suc k) h = absurd cc
+not_at world [] (y ∷ ys) k h = refl
+not_at world (x ∷ xs) [] k h = refl
+not_at world (x ∷ xs) (y ∷ ys) zero h = ap (λ b. b && all_flow (flows world) xs ys) h
+not_at world (x ∷ xs) (y ∷ ys) (suc k) h = ap (λ b. flows world x y && b) (not_at world xs ys k h) ∙ and_false (flows world x y)
+
+itself : (world : World) (o : Option FrameType) → both_flow world o o ≡ true
+itself world None = refl
+itself world (Some t) = flows_is_reflexive world t
+
+-- of those that were written
+clash : true ≡ false → ⊥
+clash e = cc
+
+one_written : (test : ℕ → Bool) (written : List ℕ) (k : ℕ) → list_all test written ≡ true → is_written written k ≡ true → test k ≡ true
+one_written test [] k all is = absurd cc
+one_written test (p ∷ written) k all is = by_test (test p) refl (p == k) refl (λ rest found. one_written test written k rest found)
+  where
+    by_test : (b : Bool) → test p ≡ b → (c : Bool) → (p == k) ≡ c → (list_all test written ≡ true → is_written written k ≡ true → test k ≡ true) → test k ≡ true
+    by_test false t c e more = absurd (clash (sym all ∙ ap (λ b. b && list_all test written) t))
+    by_test true t true e more = subst (λ (n : ℕ). test n ≡ true) (eqb-true p k e) t
+    by_test true t false e more = more (sym (ap (λ b. b && list_all test written) t) ∙ all) (sym (ap (λ b. b || is_written written k) e) ∙ is)
+
+one_not : (world : World) (xs ys : List FrameType) (written : List ℕ) → list_all (flows_at world xs ys) written ≡ false → all_flow (flows world) xs ys ≡ false
+one_not world xs ys [] h = absurd (clash h)
+one_not world xs ys (p ∷ written) h = by_test (flows_at world xs ys p) refl (λ rest. one_not world xs ys written rest)
+  where
+    by_test : (b : Bool) → flows_at world xs ys p ≡ b → (list_all (flows_at world xs ys) written ≡ false → all_flow (flows world) xs ys ≡ false) → all_flow (flows world) xs ys ≡ false
+    by_test false t more = not_at world xs ys p t
+    by_test true t more = more (sym (ap (λ b. b && list_all (flows_at world xs ys) written) t) ∙ h)
+
+pub flow_where_written : (world : World) (locals held : List FrameType) (written : List ℕ) → length locals ≡ length held → AreSameBut written held locals
+    → list_all (flows_at world locals held) written ≡ all_flow (flows world) locals held
+flow_where_written world locals held written many same = by_test (list_all (flows_at world locals held) written) refl
+  where
+    by_place : (k : ℕ) (b : Bool) → is_written written k ≡ b → list_all (flows_at world locals held) written ≡ true → flows_at world locals held k ≡ true
+    by_place k true e all = one_written (flows_at world locals held) written k all e
+    by_place k false e all = ap (λ o. both_flow world o (slice_get held k)) (same k e) ∙ itself world (slice_get held k)
+
+    by_test : (b : Bool) → list_all (flows_at world locals held) written ≡ b → b ≡ all_flow (flows world) locals held
+    by_test true e = sym (all_at world locals held many (λ k. by_place k (is_written written k) refl e))
+    by_test false e = sym (one_not world locals held written e)
+
+-- ---- what was written is put back
+
+-- lists that are the same at each place
+pub same_everywhere : {X : Type 0} (xs ys : List X) → ((k : ℕ) → slice_get xs k ≡ slice_get ys k) → xs ≡ ys
+same_everywhere [] [] h = refl
+same_everywhere [] (y ∷ ys) h = absurd (clash (h 0))
+  where
+    clash : None ≡ Some y → ⊥
+    clash e = cc
+same_everywhere (x ∷ xs) [] h = absurd (clash (h 0))
+  where
+    clash : Some x ≡ None → ⊥
+    clash e = cc
+same_everywhere (x ∷ xs) (y ∷ ys) h =
+    let first : Some x ≡ Some y = h 0 in
+    let one : x ≡ y = cc in
+    ap (λ z. z ∷ xs) one ∙ ap (λ zs. y ∷ zs) (same_everywhere xs ys (λ k. h (suc k)))
+
+-- ---- what is written at a place, and put back
+
+set_here : {X : Type 0} (xs : List X) (i : ℕ) (x : X) → i < length xs → slice_get (set xs i x) i ≡ Some x
+set_here [] i x lt = absurd (omega (arith, lt))
+set_here (y ∷ xs) zero x lt = refl
+set_here (y ∷ xs) (suc i) x lt = set_here xs i x (omega (arith, lt))
+
+set_elsewhere : {X : Type 0} (xs : List X) (i k : ℕ) (x : X) → (i ≡ k → ⊥) → slice_get (set xs i x) k ≡ slice_get xs k
+set_elsewhere [] zero k x e = refl
+set_elsewhere [] (suc i) k x e = refl
+set_elsewhere (y ∷ xs) zero zero x e = absurd (e refl)
+set_elsewhere (y ∷ xs) zero (suc k) x e = refl
+set_elsewhere (y ∷ xs) (suc i) zero x e = refl
+set_elsewhere (y ∷ xs) (suc i) (suc k) x e = set_elsewhere xs i k x (λ same. e (ap suc same))
+
+past_none : {X : Type 0} (xs : List X) (k : ℕ) → length xs ≤ k → slice_get xs k ≡ None
+past_none [] zero le = refl
+past_none [] (suc k) le = refl
+past_none (x ∷ xs) zero le = absurd (omega (arith, le))
+past_none (x ∷ xs) (suc k) le = past_none xs k (omega (arith, le))
+
+none_past : {X : Type 0} (xs : List X) (k : ℕ) → slice_get xs k ≡ None → length xs ≤ k
+none_past [] k e = omega arith
+none_past (x ∷ xs) zero e = absurd cc
+none_past (x ∷ xs) (suc k) e = omega (arith, none_past xs k e)
+
+within : {X : Type 0} (xs : List X) (k : ℕ) (x : X) → slice_get xs k ≡ Some x → k < length xs
+within [] zero x e = absurd cc
+within [] (suc k) x e = absurd cc
+within (y ∷ xs) zero x e = omega arith
+within (y ∷ xs) (suc k) x e = omega (arith, within xs k x e)
+
+-- local variables with what was held at a place put back there, where there is one
+pub put_back : (locals held : List FrameType) (place : ℕ) (rest : List ℕ) (t : FrameType) → length locals ≡ length held → slice_get held place ≡ Some t
+    → AreSameBut (place ∷ rest) held locals → AreSameBut rest held (set locals place t)
+put_back locals held place rest t many here same k e = by_place (place == k) refl
+  where
+    by_place : (b : Bool) → (place == k) ≡ b → slice_get (set locals place t) k ≡ slice_get held k
+    by_place true s =
+        subst (λ (n : ℕ). slice_get (set locals place t) n ≡ slice_get held n) (eqb-true place k s)
+        (set_here locals place t (omega (arith, many, within held place t here)) ∙ sym here)
+    by_place false s = set_elsewhere locals place k t (eqb-false place k s) ∙ same k (ap (λ b. b || is_written rest k) s ∙ e)
+
+pub none_there : (locals held : List FrameType) (place : ℕ) (rest : List ℕ) → length locals ≡ length held → slice_get held place ≡ None
+    → AreSameBut (place ∷ rest) held locals → AreSameBut rest held locals
+none_there locals held place rest many none same k e = by_place (place == k) refl
+  where
+    by_place : (b : Bool) → (place == k) ≡ b → slice_get locals k ≡ slice_get held k
+    by_place true s =
+        subst (λ (n : ℕ). slice_get locals n ≡ slice_get held n) (eqb-true place k s) (past_none locals place (omega (arith, many, none_past held place none)) ∙ sym none)
+    by_place false s = same k (ap (λ b. b || is_written rest k) s ∙ e)
+
+-- ---- by the numbers of names
+
+set_typed : (names : List (List ℕ)) (items : List Item) (place : ℕ) (item : Item) → typed_all names (set items place item) ≡ set (typed_all names items) place (typed names item)
+set_typed names [] zero item = refl
+set_typed names [] (suc place) item = refl
+set_typed names (x ∷ items) zero item = refl
+set_typed names (x ∷ items) (suc place) item = ap (λ ts. typed names x ∷ ts) (set_typed names items place item)
+
+typed_many : (names : List (List ℕ)) (xs ys : List Item) → length xs ≡ length ys → length (typed_all names xs) ≡ length (typed_all names ys)
+typed_many names xs ys e = length-map xs (typed names) ∙ (e ∙ sym (length-map ys (typed names)))
+
+put_back_typed : (names : List (List ℕ)) (held locals : List Item) (place : ℕ) (rest : List ℕ) → length locals ≡ length held
+    → AreSameBut (place ∷ rest) (typed_all names held) (typed_all names locals) → AreSameBut rest (typed_all names held) (typed_all names (with_held_at held locals place))
+put_back_typed names held locals place rest many same = by_item (slice_get held place) refl
+  where
+    by_item : (o : Option Item) → slice_get held place ≡ o → AreSameBut rest (typed_all names held) (typed_all names (with_item o locals place))
+    by_item None e =
+        none_there (typed_all names locals) (typed_all names held) place rest (typed_many names locals held many) (slice_get-map (typed names) held place ∙ ap (option_map (typed names)) e) same
+    by_item (Some item) e =
+        subst (AreSameBut rest (typed_all names held)) (sym (set_typed names locals place item))
+        (put_back (typed_all names locals) (typed_all names held) place rest (typed names item) (typed_many names locals held many)
+        (slice_get-map (typed names) held place ∙ ap (option_map (typed names)) e) same)
+
+pub put_length : (held locals : List Item) (place : ℕ) → length (with_held_at held locals place) ≡ length locals
+put_length held locals place = by_item (slice_get held place)
+  where
+    by_item : (o : Option Item) → length (with_item o locals place) ≡ length locals
+    by_item None = refl
+    by_item (Some item) = length-set locals place item
+
+-- the next of the places, whatever the names are
+pub put_next : (names : List (List ℕ)) (held locals : List Item) (places : List ℕ) (k d : ℕ) → k < length places → length locals ≡ length held
+    → AreSameBut (drop k places) (typed_all names held) (typed_all names locals)
+    → AreSameBut (drop (k + 1) places) (typed_all names held) (typed_all names (with_held_at held locals (get_or places k d)))
+put_next names held locals places k d lt many same =
+    let place = get_or places k d in
+    let next : suc k ≡ k + 1 = omega arith in
+    subst (λ (n : ℕ). AreSameBut (drop n places) (typed_all names held) (typed_all names (with_held_at held locals place))) next
+    (put_back_typed names held locals place (drop (suc k) places) many
+    (subst (λ (ps : List ℕ). AreSameBut ps (typed_all names held) (typed_all names locals)) (dropped places k d lt) same))
+  where
+    dropped : (xs : List ℕ) (k d : ℕ) → k < length xs → drop k xs ≡ get_or xs k d ∷ drop (suc k) xs
+    dropped [] k d lt = absurd (omega (arith, lt))
+    dropped (y ∷ xs) zero d lt = refl
+    dropped (y ∷ xs) (suc k) d lt = dropped xs k d (omega (arith, lt))
+
+-- nothing is left to put back
+pub all_put : (names : List (List ℕ)) (held locals : List Item) (places : List ℕ) (k : ℕ) → length places ≤ k
+    → AreSameBut (drop k places) (typed_all names held) (typed_all names locals) → typed_all names locals ≡ typed_all names held
+all_put names held locals places k past same =
+    same_everywhere (typed_all names locals) (typed_all names held)
+    (λ n. same n (ap (λ (ps : List ℕ). is_written ps n) (none_left places k past)))
+  where
+    none_left : (xs : List ℕ) (k : ℕ) → length xs ≤ k → drop k xs ≡ []
+    none_left [] zero le = refl
+    none_left [] (suc k) le = refl
+    none_left (x ∷ xs) zero le = absurd (omega (arith, le))
+    none_left (x ∷ xs) (suc k) le = none_left xs k (omega (arith, le))
+
+-- ---- what is held in a pass
+
+pub notes_none : (may : ℕ → Bool) (old new : HeldFrame) (frame : NumberFrame) → new.place ≡ None → Notes may old new frame
+notes_none may old new frame e = subst (λ (o : Option ℕ). NotesBy may old o new frame) (sym e) tt
+
+pub notes_all : (may : ℕ → Bool) (old new : HeldFrame) (frame : NumberFrame) → new.place ≡ old.place → new.base ≡ old.base
+    → ((names : List (List ℕ)) → AreSameBut new.written (typed_all names old.base.locals) (typed_all names frame.locals)) → Notes may old new frame
+notes_all may old new frame place base same = by_place new.place place
+  where
+    by_place : (o : Option ℕ) → o ≡ old.place → NotesBy may old o new frame
+    by_place None e = tt
+    by_place (Some p) e = (sym e, base, λ names before b s. same names)
+
+pub notes_writes : (may : ℕ → Bool) (old new : HeldFrame) (frame : NumberFrame) → Writes may old new → Notes may old new frame
+notes_writes may old new frame writes = by_place new.place writes
+  where
+    by_place : (o : Option ℕ) → WritesBy may old o new → NotesBy may old o new frame
+    by_place None w = tt
+    by_place (Some p) w = (w.0, w.1, λ names before b s k e. let not = w.2 k e in s k not.0 ∙ b k not.1)
+
+module _ (pass : Pass) where
+  -- what is held behind an instruction
+  still_held : (may : ℕ → Bool) (old new : HeldFrame) (before : List Item) (behind : NumberFrame) → IsHeldBy pass old.place old before → Notes may old new behind
+      → ((k : ℕ) → may k ≡ false → slice_get (typed_all (names_in pass) behind.locals) k ≡ slice_get (typed_all (names_in pass) before) k)
+      → IsHeldBy pass new.place new behind.locals
+  still_held may old new before behind held notes same = by_place new.place notes
+    where
+      by_place : (o : Option ℕ) → NotesBy may old o new behind → IsHeldBy pass o new behind.locals
+      by_place None w = tt
+      by_place (Some p) w = λ entries at.
+          let h : HoldsLocals pass entries old before = subst (λ (o : Option ℕ). IsHeldBy pass o old before) w.0 held entries at in
+          record {
+            made = ap (λ (f : NumberFrame). locals_of pass.types f) w.1 ∙ h.made;
+            flag = ap (λ (f : NumberFrame). f.flag_this_uninit) w.1 ∙ h.flag;
+            many = ap (λ (f : NumberFrame). length f.locals) w.1 ∙ h.many;
+            same = subst (λ (f : NumberFrame). AreSameBut new.written (locals_of pass.types f) (typed_all (names_in pass) behind.locals)) (sym w.1) (w.2 (names_in pass) before h.same same);
+          }
+
+  -- what is held behind an instruction, of which this is known in some environment
+  pub held_behind : WritesThere → (env : Environment) (pc : ℕ) (insn : Instruction) (old new : HeldFrame) (f g : NumberFrame) → IsHeldBy pass old.place old f.locals
+      → rule env pc insn (frame_of (names_in pass) f) ≡ Some (frame_of (names_in pass) g) → Notes (may_write insn) old new g → IsHeldBy pass new.place new g.locals
+  held_behind law env pc insn old new f g held left notes =
+      still_held (may_write insn) old new f.locals g held notes (law env pc insn (frame_of (names_in pass) f) (frame_of (names_in pass) g) left)
+
+  -- what flows to the local entries that are held
+  pub held_flow : (held : HeldFrame) (f : NumberFrame) (map : ReadFrame) → HoldsLocals pass map.locals held f.locals → length f.locals ≡ pass.max_locals
+      → held_locals_flow pass.types held f ≡ locals_flow_to pass.types f None map
+  held_flow held f map h room =
+      flow_where_written (world_of_types pass.types) (locals_of pass.types f) (locals_of pass.types held.base) held.written
+      (typed_many (names_in pass) f.locals held.base.locals (room ∙ sym h.many)) h.same
+      ∙ ap (all_flow (flows (world_of_types pass.types)) (locals_of pass.types f)) (h.made ∙ ap (λ (n : ℕ). expanded_entries pass.types n map.locals) (sym room))
+
+  pub flows_held : (types : EntryTypes) (held : HeldFrame) (f : NumberFrame) (map : ReadFrame) (r : Bool) → types ≡ pass.types → HoldsLocals pass map.locals held f.locals
+      → length f.locals ≡ pass.max_locals
+      → r ≡ (held_locals_flow types held f && stack_flows_to types (stack_of types f) map && held_flag_flows held f) → r ≡ flows_to_map pass.types f map
+  flows_held types held f map r e h room is =
+      is ∙ (ap (λ (t : EntryTypes). held_locals_flow t held f && stack_flows_to t (stack_of t f) map && held_flag_flows held f) e
+      ∙ (ap (λ (b : Bool). b && stack_flows_to pass.types (stack_of pass.types f) map && held_flag_flows held f) (held_flow held f map h room)
+      ∙ ap (λ (b : Bool). locals_flow_to pass.types f None map && stack_flows_to pass.types (stack_of pass.types f) map && (not f.flag_this_uninit || b)) h.flag))
+
+  pub thrown_held : (types : EntryTypes) (held : HeldFrame) (f : NumberFrame) (thrown : Item) (map : ReadFrame) (r : Bool) → types ≡ pass.types
+      → HoldsLocals pass map.locals held f.locals → length f.locals ≡ pass.max_locals
+      → r ≡ (held_locals_flow types held f && stack_flows_to types (typed (names_of_types types) thrown ∷ []) map && held_flag_flows held f)
+      → r ≡ thrown_flows_to_map pass.types f None thrown map
+  thrown_held types held f thrown map r e h room is =
+      is ∙ (ap (λ (t : EntryTypes). held_locals_flow t held f && stack_flows_to t (typed (names_of_types t) thrown ∷ []) map && held_flag_flows held f) e
+      ∙ (ap (λ (b : Bool). b && stack_flows_to pass.types (typed (names_in pass) thrown ∷ []) map && held_flag_flows held f) (held_flow held f map h room)
+      ∙ ap (λ (b : Bool). locals_flow_to pass.types f None map && stack_flows_to pass.types (typed (names_in pass) thrown ∷ []) map && (not f.flag_this_uninit || b)) h.flag))
+
+  -- the local variables are those that are held
+  pub held_again : (place : Option ℕ) (held : HeldFrame) (old new : List Item) → IsHeldBy pass place held old
+      → typed_all (names_in pass) new ≡ locals_of pass.types held.base → IsHeldBy pass place held new
+  held_again None held old new h e = tt
+  held_again (Some p) held old new h e = λ entries at.
+      let k = h entries at in
+      record { made = k.made; flag = k.flag; many = k.many; same = λ n w. ap (λ (ts : List FrameType). slice_get ts n) e }
+
+  -- a frame that was made one of the map
+  pub made_is : (types : EntryTypes) (n : ℕ) (new : NumberFrame) (map : ReadFrame) → types ≡ pass.types → n ≡ pass.max_locals
+      → frame_of (names_of_types types) new ≡ frame_by_types types n map → frame_of (names_in pass) new ≡ frame_by_types pass.types pass.max_locals map
+  made_is types n new map e count made =
+      subst (λ (m : ℕ). frame_of (names_in pass) new ≡ frame_by_types pass.types m map) count
+      (subst (λ (t : EntryTypes). frame_of (names_of_types t) new ≡ frame_by_types t n map) e made)
+
+  -- a frame that is held from now on
+  pub begins_held : (types : EntryTypes) (place n : ℕ) (held : HeldFrame) (map : ReadFrame) (locals : List Item) → types ≡ pass.types → n ≡ pass.max_locals
+      → slice_get pass.frames place ≡ Some map → frame_of (names_of_types types) held.base ≡ frame_by_types types n map → length held.base.locals ≡ n → held.written ≡ []
+      → typed_all (names_in pass) locals ≡ expanded_entries pass.types pass.max_locals map.locals → IsHeldBy pass (Some place) held locals
+  begins_held types place n held map locals e count at made many none is = λ entries found.
+      let same : map.locals ≡ entries = of_some (ap (option_map locals_in) (sym at) ∙ found) in
+      let there : frame_of (names_in pass) held.base ≡ frame_by_types pass.types pass.max_locals map = made_is types n held.base map e count made in
+      let base : locals_of pass.types held.base ≡ expanded_entries pass.types pass.max_locals map.locals = ap (λ (f : Frame). f.locals) there in
+      subst (λ (es : List FrameEntry). HoldsLocals pass es held locals) same
+      (record { made = base; flag = ap (λ (f : Frame). f.flag_this_uninit) there; many = many ∙ count; same = λ k w. ap (λ (ts : List FrameType). slice_get ts k) (is ∙ sym base) })
+    where
+      of_some : {a b : List FrameEntry} → Some a ≡ Some b → a ≡ b
+      of_some e = cc
+
+  -- a frame whose local variables are those that are held
+  pub put_is : (types : EntryTypes) (held : HeldFrame) (old put new : NumberFrame) (map : ReadFrame) → types ≡ pass.types → HoldsLocals pass map.locals held old.locals
+      → typed_all (names_in pass) put.locals ≡ typed_all (names_in pass) held.base.locals → put ≡ with_flag held.base.flag_this_uninit (with_locals put.locals old)
+      → stack_of types new ≡ types_of_entries types map.stack → new ≡ with_stack new.stack put
+      → frame_of (names_in pass) new ≡ frame_by_types pass.types pass.max_locals map
+  put_is types held old put new map e h locals is stack same =
+      frame_made (names_in pass) new _ _ _
+      (ap (λ (f : NumberFrame). typed_all (names_in pass) f.locals) same ∙ (locals ∙ h.made))
+      (subst (λ (t : EntryTypes). stack_of t new ≡ types_of_entries t map.stack) e stack)
+      (ap (λ (f : NumberFrame). f.flag_this_uninit) same ∙ (ap (λ (f : NumberFrame). f.flag_this_uninit) is ∙ h.flag))
+
+  pub none_held : (held : HeldFrame) (locals : List Item) → held.place ≡ None → IsHeldBy pass held.place held locals
+  none_held held locals e = subst (λ (o : Option ℕ). IsHeldBy pass o held locals) (sym e) tt

@@ -1,0 +1,47 @@
+-- Frames of the map that have the local entries of the one before.
+use Rattle.std.proofs.Common.{◌≡◌, ℕ, zero, suc, ◌-◌, ◌<◌, Bool, true, false, ◌&&◌, List, [], ◌∷◌, take, Option, Some, None, refl, sym, ap, subst, ◌∙◌, arith, is_some}
+use Rattle.std.specs.Prelude.{slice_get}
+use Rattle.std.specs.List.{list_all}
+use Rattle.std.specs.Option.{option_map}
+use Rattle.jv_frames.specs.declared.entry.FrameEntry.{FrameEntry}
+use Rattle.jv_frames.specs.Entries.{ReadFrame, locals_in}
+use Rattle.jv_meaning_typing.specs.Environment.{Environment, instruction_at}
+use Rattle.jv_method_pass.specs.Inside.Parts.{SharesBefore, is_made_by_new, frame_stands}
+use Rattle.jv_method_pass.proofs.Tests.{both}
+
+-- each of those before a place passes
+passes_before : {X : Type 0} (p : X → Bool) (xs : List X) (n k : ℕ) (x : X) → list_all p (take n xs) ≡ true → k < n → slice_get xs k ≡ Some x → p x ≡ true
+passes_before p [] n zero x all lt at = absurd cc
+passes_before p [] n (suc k) x all lt at = absurd cc
+passes_before p (y ∷ xs) zero k x all lt at = absurd (omega (arith, lt))
+passes_before p (y ∷ xs) (suc n) zero x all lt at =
+    let same : y ≡ x = cc in
+    ap p (sym same) ∙ (both (p y) (list_all p (take n xs)) all).0
+passes_before p (y ∷ xs) (suc n) (suc k) x all lt at = passes_before p xs n k x (both (p y) (list_all p (take n xs)) all).1 (omega (arith, lt)) at
+
+pub one_there : {X : Type 0} (xs : List X) (k : ℕ) (x y : X) → slice_get xs k ≡ Some x → slice_get xs k ≡ Some y → x ≡ y
+one_there xs k x y e f = of_some (sym e ∙ f)
+  where
+    of_some : Some x ≡ Some y → x ≡ y
+    of_some e = cc
+
+pub made_before : (env : Environment) (frames : List ReadFrame) (place : ℕ) (f : ReadFrame) → list_all (frame_stands env) (take place frames) ≡ true → SharesBefore frames place
+    → slice_get frames place ≡ Some f → true ≡ list_all (is_made_by_new env) f.locals
+made_before env frames place f before shares at = by_frame (slice_get frames (place - 1)) refl
+  where
+    there : option_map locals_in (slice_get frames (place - 1)) ≡ Some f.locals
+    there = shares.1 ∙ ap (option_map locals_in) at
+
+    of_some : (a b : List FrameEntry) → Some a ≡ Some b → a ≡ b
+    of_some a b e = cc
+
+    none_some : (b : List FrameEntry) → None ≡ Some b → ⊥
+    none_some b e = cc
+
+    by_frame : (o : Option ReadFrame) → slice_get frames (place - 1) ≡ o → true ≡ list_all (is_made_by_new env) f.locals
+    by_frame None e = absurd (none_some f.locals (sym (ap (option_map locals_in) e) ∙ there))
+    by_frame (Some g) e =
+        let stands : frame_stands env g ≡ true = passes_before (frame_stands env) frames place (place - 1) g before (omega (arith, shares.0)) e in
+        let parts = both (is_some (instruction_at env g.offset)) (list_all (is_made_by_new env) g.locals && list_all (is_made_by_new env) g.stack) stands in
+        let made = both (list_all (is_made_by_new env) g.locals) (list_all (is_made_by_new env) g.stack) parts.1 in
+        sym (ap (list_all (is_made_by_new env)) (sym (of_some g.locals f.locals (sym (ap (option_map locals_in) e) ∙ there))) ∙ made.0)

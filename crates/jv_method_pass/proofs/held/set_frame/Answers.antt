@@ -1,0 +1,48 @@
+use Rattle.std.proofs.Common.{◌≡◌, length, sym, ap, ◌∙◌, arith}
+use Rattle.std.specs.Option.{option_map}
+use Rattle.jv_frames.specs.Entries.{locals_in}
+use Rattle.jv_frames.specs.Frames.{Frame}
+use Rattle.jv_types.specs.Typed.{typed_all}
+use Rattle.jv_types.specs.Numbered.{NumberFrame}
+use Rattle.jv_method_pass.specs.Mapped.{local_entry_words, locals_of}
+use Rattle.jv_method_pass.specs.Pass.{Pass, names_in}
+use Rattle.jv_method_pass.specs.Inside.Held.{HoldsLocals}
+use Rattle.jv_method_pass.proofs.Holding.{put_is, held_again, made_is}
+use Rattle.jv_method_pass.proofs.held.set_frame.Goals as goal
+
+pub returns-then-is_of-clause-ok : goal.returns-then-is_of-clause-ok
+returns-then-is_of-clause-ok c =
+    let pass = c.args.pass.now in
+    let map = c.args.map.now in
+    let frame = c.args.frame.now in
+    let h : HoldsLocals pass map.locals c.args.held.now frame.locals =
+    c.is_of.ensures c.if-is_of.true map.locals frame.locals (ap (option_map locals_in) c.requires.at) c.requires.held in
+    put_is pass c.pass.inside.types.now c.args.held.now frame c.put_back.new.frame c.set_stack.new.frame map (ap (λ (p : Pass). p.types) c.pass.view_is) h
+    (c.put_back.ensures.locals (names_in pass) (c.requires.locals ∙ sym h.many) h.same) c.put_back.ensures.same c.in_ok-set_stack.ensures.stack c.set_stack.ensures.same
+
+pub returns-then-is_of-clause-same : goal.returns-then-is_of-clause-same
+returns-then-is_of-clause-same c = ap (λ (f : NumberFrame). length f.locals) c.set_stack.ensures.same ∙ (c.put_back.ensures.many ∙ c.requires.locals)
+
+pub returns-then-is_of-clause-held : goal.returns-then-is_of-clause-held
+returns-then-is_of-clause-held c =
+    let pass = c.args.pass.now in
+    let map = c.args.map.now in
+    let frame = c.args.frame.now in
+    let h : HoldsLocals pass map.locals c.args.held.now frame.locals =
+    c.is_of.ensures c.if-is_of.true map.locals frame.locals (ap (option_map locals_in) c.requires.at) c.requires.held in
+    held_again pass c.args.held.now.place c.args.held.now frame.locals c.set_stack.new.frame.locals c.requires.held
+    (ap (λ (f : NumberFrame). typed_all (names_in pass) f.locals) c.set_stack.ensures.same
+    ∙ c.put_back.ensures.locals (names_in pass) (c.requires.locals ∙ sym h.many) h.same)
+
+pub set_to_map-requires-clause-words : goal.set_to_map-requires-clause-words
+set_to_map-requires-clause-words c = c.requires.room.words ∙ ap (λ (p : Pass). local_entry_words p.types c.args.map.now) (sym c.pass.view_is)
+
+pub returns-clause-ok : goal.returns-clause-ok
+returns-clause-ok c =
+    made_is c.args.pass.now c.pass.inside.types.now (length c.args.frame.now.locals) c.set_to_map.new.frame c.args.map.now (ap (λ (p : Pass). p.types) c.pass.view_is) c.requires.locals c.in_ok-set_to_map.ensures.ok
+
+pub returns-clause-held : goal.returns-clause-held
+returns-clause-held c =
+    c.in_ok-begin.ensures c.set_to_map.new.frame.locals
+    (ap (λ (f : Frame). f.locals)
+    (made_is c.args.pass.now c.pass.inside.types.now (length c.args.frame.now.locals) c.set_to_map.new.frame c.args.map.now (ap (λ (p : Pass). p.types) c.pass.view_is) c.requires.locals c.in_ok-set_to_map.ensures.ok))

@@ -1,0 +1,25 @@
+use Rattle.std.proofs.Common.{◌≡◌, ◌≤◌, ℕ, List, refl, sym, ap, subst, ◌∙◌, arith}
+use Rattle.std.specs.Prelude.{nat_lt}
+use Rattle.std.specs.List.{filter}
+use Rattle.jv_format.specs.declared.handlers.Handler.{Handler}
+use Rattle.jv_method_pass.specs.Inside.Opening.{Openings, AreAsGood, AreOpen}
+use Rattle.jv_method_pass.proofs.Opened.{closed_at, one_more, rest_not_begun, all_begun}
+use Rattle.jv_method_pass.proofs.opening.Openings.go_to.Goals as goal
+
+pub loop-self-init : goal.loop-self-init
+loop-self-init c =
+    let i = c.self.inside in (
+      ap (λ (o : Openings). o.handlers) c.self.view_is ∙ c.come_to.ensures.handlers,
+      c.self.invariant.0,
+      closed_at i.sorted.items i.opened.items c.in_ok-self-inside.field-0.items i.next i.from c.args.offset
+          (subst (λ (n : ℕ). n ≤ c.args.offset) (ap (λ (o : Openings). o.from) (sym c.self.view_is)) c.come_to.ensures.from)
+          (c.in_ok-self-inside.ensures ∙ ap (filter (λ h. nat_lt c.args.offset h.end_pc)) c.deref.ensures.value) c.self.invariant.1,
+      refl,
+    )
+
+pub returns-then-not-has_begun-clause-opened : goal.returns-then-not-has_begun-clause-opened
+returns-then-not-has_begun-clause-opened c =
+    let i = c.loop-self.self-inside in
+    rest_not_begun i.sorted.items i.opened.items i.next c.args.offset c.index-handler.result.now _ c.loop-self.invariant.1 (omega (arith, c.loop-self-test.true, c.len.ensures)) c.index-handler.ensures
+    (sym c.has_begun.ensures ∙ c.if-not-has_begun.true)
+    (subst (λ (n : ℕ). AreOpen i.sorted.items i.next n i.opened.items) c.loop-self.invariant.3 c.loop-self.invariant.2)

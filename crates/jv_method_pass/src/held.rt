@@ -1,0 +1,487 @@
+//! A frame of the stack map that the local variables were made, held beside them: what flows into a frame of the same local entries
+//! is compared only where local variables were written since, and only there are they made anew (JVMS 4.10.1.4).
+
+ghost use Rattle.std.specs.Prelude.{◌≡◌, ℕ, Bool, List, [], ◌∷◌, ◌&&◌, false, Some, None, ◌==◌, length, get_or, slice_get, IsTrue, IfOk, OnOk};
+ghost use Rattle.std.specs.List.{list_all};
+ghost use Rattle.std.specs.Option.{option_map};
+ghost use Rattle.jv_code.specs.Insns.{instruction_of};
+ghost use Rattle.jv_frames.specs.declared.entry.FrameEntry.{FrameEntry};
+ghost use Rattle.jv_frames.specs.Entries.{locals_in};
+ghost use Rattle.jv_rules.specs.Laws.{is_beside, may_write};
+ghost use Rattle.jv_types.specs.Typed.{typed, typed_all};
+ghost use Rattle.jv_types.specs.Numbered.{Item, frame_of, with_flag, with_locals, with_stack};
+ghost use Rattle.jv_method_pass.specs.Mapped.{local_entry_words, expanded_entries, frame_by_types, flows_to_map, thrown_flows_to_map, names_of_types, stack_of, stack_flows_to, types_of_entries};
+ghost use Rattle.jv_method_pass.specs.Pass.{names_in, HasRoom};
+ghost use Rattle.jv_method_pass.specs.Inside.Held.{is_written, AreSameBut, HoldsLocals, IsHeldBy, IsHeld, Notes, Writes, flows_at, held_flag_flows, held_locals_flow, with_held_at};
+
+use crate::cover::mark;
+use crate::entries::EntryTypes;
+use crate::flowing::{frame_flows, stack_flows, thrown_flows, thrown_stack_flows};
+use crate::pass::Pass;
+use crate::setting::{push_items, set_to_map};
+use jv_code::{Insn, Invocation};
+use jv_frames::{MapFrame, VerificationTypeOf};
+use jv_rules::keeps_locals;
+use jv_text::{Element, FieldTypeOf};
+use jv_types::{Item, TypeFrame, TypeNames};
+use std::alloc::{AllocError, Global};
+use std::marker::Model;
+
+/// How many words of local entries a frame has at least that is held: fewer are as soon compared.
+const FEW: u16 = 16;
+
+/// A frame of the stack map as it was made, its place in the map, and where local variables may have been written since, each place
+/// once. Where there is no place, nothing is held.
+pub(crate) struct Held {
+    alloc: Global,
+    place: Option<usize>,
+    base: TypeFrame,
+    written: Vec<u16>,
+    marks: Vec<bool>,
+}
+
+impl Model for Held {
+    ghost use Rattle.jv_method_pass.specs.Inside.Held.{HeldFrame, AreMarked};
+
+    ghost Value = { HeldFrame };
+
+    ghost view = { λ h. record { place = h.place; base = h.base; written = h.written.items } };
+
+    ghost invariant = { λ h. AreMarked h.written.items h.marks.items };
+}
+
+impl Drop for Held {
+    fn drop(self) {
+        let Held {
+            alloc: _,
+            place: _,
+            base: _,
+            written: _,
+            marks: _,
+        } = self;
+    }
+}
+
+/// Whether an instruction can replace types in all local variables.
+fn may_write_anywhere(insn: &Insn<&[u8]>) -> bool {
+    matches!(insn, Insn::New(_) | Insn::Invoke(Invocation::Special, _))
+}
+
+fn is_marked(marks: &[bool], place: u16) -> bool
+    ensures { result ≡ get_or marks.now place false }
+{
+    match marks.get(usize::from(place)) {
+        Some(mark) => *mark,
+        None => false,
+    }
+}
+
+/// Whether a local variable flows to what was held at its place.
+fn flows_at(names: &TypeNames<'_, '_>, frame: &TypeFrame, base: &TypeFrame, place: u16) -> bool
+    ensures { result ≡ flows_at names.now.world (typed_all names.now.names frame.now.locals) (typed_all names.now.names base.now.locals) place }
+{
+    match (frame.local(place), base.local(place)) {
+        (Some(local), Some(held)) => names.flows(local, held),
+        _ => true,
+    }
+}
+
+/// Whether each local variable at these places flows to what was held there.
+fn all_flow_at(
+    names: &TypeNames<'_, '_>,
+    frame: &TypeFrame,
+    base: &TypeFrame,
+    places: &[u16],
+) -> bool
+    ensures { result ≡ list_all (flows_at names.now.world (typed_all names.now.names frame.now.locals) (typed_all names.now.names base.now.locals)) places.now }
+{
+    places
+        .iter()
+        .all(|place| flows_at(names, frame, base, *place))
+}
+
+/// Puts back what was held at a place.
+fn put_back_at(frame: &mut TypeFrame, base: &TypeFrame, place: u16)
+    ensures locals { frame.new.locals ≡ with_held_at base.now.locals frame.old.locals place }
+    ensures same { frame.new ≡ with_locals frame.new.locals frame.old }
+{
+    if let Some(item) = base.local(place) {
+        frame.put(place, item);
+    }
+}
+
+/// Puts back what was held at these places, which are all at which local variables differ from it.
+fn put_back(frame: &mut TypeFrame, base: &TypeFrame, places: &[u16])
+    ensures locals { (names : List (List ℕ)) → length frame.old.locals ≡ length base.now.locals
+        → AreSameBut places.now (typed_all names base.now.locals) (typed_all names frame.old.locals)
+        → typed_all names frame.new.locals ≡ typed_all names base.now.locals }
+    ensures many { length frame.new.locals ≡ length frame.old.locals }
+    ensures same { frame.new ≡ with_locals frame.new.locals frame.old }
+{
+    for k in 0..places.len() {
+        put_back_at(frame, base, places[k]);
+    }
+}
+
+fn is_same_element(one: Element<u32>, other: Element<u32>) -> bool
+    ensures { IsTrue result → one ≡ other }
+{
+    match (one, other) {
+        (Element::Class(one), Element::Class(other)) => one == other,
+        _ => false,
+    }
+}
+
+fn is_same_field(one: FieldTypeOf<u32>, other: FieldTypeOf<u32>) -> bool
+    ensures { IsTrue result → one ≡ other }
+{
+    one.dimensions == other.dimensions && is_same_element(one.element, other.element)
+}
+
+/// Whether two types are known to be one, by the numbers of their names.
+fn is_same(one: Item, other: Item) -> bool
+    ensures { IsTrue result → one ≡ other }
+{
+    match (one, other) {
+        (VerificationTypeOf::Top, VerificationTypeOf::Top) => true,
+        (VerificationTypeOf::Int, VerificationTypeOf::Int) => true,
+        (VerificationTypeOf::Long, VerificationTypeOf::Long) => true,
+        (VerificationTypeOf::Null, VerificationTypeOf::Null) => true,
+        (VerificationTypeOf::UninitializedThis, VerificationTypeOf::UninitializedThis) => true,
+        (VerificationTypeOf::Class(one), VerificationTypeOf::Class(other)) => one == other,
+        (VerificationTypeOf::Array(one), VerificationTypeOf::Array(other)) => {
+            is_same_field(one, other)
+        }
+        (VerificationTypeOf::Uninitialized(one), VerificationTypeOf::Uninitialized(other)) => {
+            one == other
+        }
+        _ => false,
+    }
+}
+
+/// Whether two frames have one type at a place, by the numbers of names.
+fn is_same_at(frame: &TypeFrame, base: &TypeFrame, place: u16) -> bool
+    ensures { IsTrue result → slice_get frame.now.locals place ≡ slice_get base.now.locals place }
+{
+    match (frame.local(place), base.local(place)) {
+        (Some(one), Some(other)) => is_same(one, other),
+        _ => false,
+    }
+}
+
+impl Held {
+    /// Nothing is held.
+    pub(crate) fn new(alloc: Global) -> Result<Held, AllocError>
+        ensures { IfOk result (λ held. held.place ≡ None) }
+    {
+        let base = TypeFrame::new(alloc, 0)?;
+        Ok(Held {
+            alloc,
+            place: None,
+            base,
+            written: Vec::new(alloc),
+            marks: Vec::new(alloc),
+        })
+    }
+
+    /// Whether the local entries of the frame of the map at a place are those that are held.
+    fn is_of(&self, pass: &Pass<'_, '_, '_, '_, '_>, place: usize) -> bool
+        ensures { IsTrue result → (entries : List FrameEntry) (locals : List Item) → option_map locals_in (slice_get pass.now.frames place) ≡ Some entries
+            → IsHeldBy pass.now self.now.place self.now locals → HoldsLocals pass.now entries self.now locals }
+    {
+        match self.place {
+            Some(held) => pass.share_locals(held, place),
+            None => false,
+        }
+    }
+
+    /// Whether no object is constructed, and the local entries of the frame of the map at a place are those that are held.
+    fn is_of_without(
+        &self,
+        pass: &Pass<'_, '_, '_, '_, '_>,
+        object: Option<Item>,
+        place: usize,
+    ) -> bool
+        ensures object { IsTrue result → object ≡ None }
+        ensures held { IsTrue result → (entries : List FrameEntry) (locals : List Item) → option_map locals_in (slice_get pass.now.frames place) ≡ Some entries
+            → IsHeldBy pass.now self.now.place self.now locals → HoldsLocals pass.now entries self.now locals }
+    {
+        match object {
+            Some(_) => false,
+            None => self.is_of(pass, place),
+        }
+    }
+
+    /// A local variable may be written.
+    fn add(&mut self, place: u16) -> Result<(), AllocError>
+        ensures place { self.new.place ≡ self.old.place }
+        ensures base { self.new.base ≡ self.old.base }
+        ensures written { IfOk result (λ _. (k : ℕ) → is_written self.new.written k ≡ false → ((place == k) ≡ false) × (is_written self.old.written k ≡ false)) }
+    {
+        if is_marked(&self.marks, place) {
+            return Ok(());
+        }
+        self.written.push(place)?;
+        mark(&mut self.marks, place);
+        Ok(())
+    }
+
+    /// Nothing is held any more.
+    fn forget(&mut self)
+        ensures { self.new.place ≡ None }
+    {
+        self.place = None;
+    }
+
+    /// The local variable of an index and those beside it may be written.
+    fn add_beside(&mut self, index: u16) -> Result<(), AllocError>
+        ensures { IfOk result (λ _. Writes (is_beside index) self.old self.new) }
+    {
+        let Some(next) = index.checked_add(1) else {
+            self.forget();
+            return Ok(());
+        };
+        self.add(index.saturating_sub(1))?;
+        self.add(index)?;
+        self.add(next)
+    }
+
+    /// Where an instruction may write.
+    fn note_writes(&mut self, insn: &Insn<&[u8]>) -> Result<(), AllocError>
+        ensures { IfOk result (λ _. Writes (may_write (instruction_of insn.now)) self.old self.new) }
+    {
+        if keeps_locals(insn) {
+            return Ok(());
+        }
+        match *insn {
+            Insn::Store(_, index, _) => self.add_beside(index),
+            Insn::StoreLong(index, _) => self.add_beside(index),
+            _ => {
+                self.forget();
+                Ok(())
+            }
+        }
+    }
+
+    /// Compares local variables, of which there are so many, with those that are held: where they differ they may have been written.
+    fn compare(&mut self, frame: &TypeFrame, count: u16) -> Result<(), AllocError>
+        requires frame { length frame.now.locals ≡ count }
+        requires base { length self.old.base.locals ≡ count }
+        ensures place { self.new.place ≡ self.old.place }
+        ensures base { self.new.base ≡ self.old.base }
+        ensures same { IfOk result (λ _. (names : List (List ℕ)) → AreSameBut self.new.written (typed_all names self.old.base.locals) (typed_all names frame.now.locals)) }
+    {
+        for place in 0..count {
+            if !is_same_at(frame, &self.base, place) {
+                self.add(place)?;
+            }
+        }
+        Ok(())
+    }
+
+    /// Looks where local variables, of which there are so many, differ from those that are held.
+    fn renew(&mut self, frame: &TypeFrame, count: u16) -> Result<(), AllocError>
+        requires { length frame.now.locals ≡ count }
+        ensures { IfOk result (λ _. (may : ℕ → Bool) → Notes may self.old self.new frame.now) }
+    {
+        if self.place.is_none() || self.base.local_count() != usize::from(count) {
+            self.forget();
+            return Ok(());
+        }
+        self.compare(frame, count)?;
+        Ok(())
+    }
+
+    /// What an instruction may have written of the local variables that it has left, of which there are so many.
+    pub(crate) fn note(
+        &mut self,
+        frame: &TypeFrame,
+        count: u16,
+        insn: &Insn<&[u8]>,
+    ) -> Result<(), AllocError>
+        requires { length frame.now.locals ≡ count }
+        ensures { IfOk result (λ _. Notes (may_write (instruction_of insn.now)) self.old self.new frame.now) }
+    {
+        if may_write_anywhere(insn) {
+            self.renew(frame, count)?;
+            return Ok(());
+        }
+        self.note_writes(insn)?;
+        Ok(())
+    }
+
+    /// Whether the local variables of a frame flow to those that are held.
+    fn locals_flow(&self, types: &EntryTypes<'_, '_, '_>, frame: &TypeFrame) -> bool
+        ensures { result ≡ held_locals_flow types.now self.now frame.now }
+    {
+        all_flow_at(types.names(), frame, &self.base, &self.written)
+    }
+
+    /// Whether `this` may be uninitialized where a frame has it so.
+    fn flag_flows(&self, frame: &TypeFrame) -> bool
+        ensures { result ≡ held_flag_flows self.now frame.now }
+    {
+        !frame.flag_this_uninit() || self.base.flag_this_uninit()
+    }
+
+    /// Whether a frame flows into a frame of the map whose local entries are held.
+    fn flows(&self, types: &EntryTypes<'_, '_, '_>, frame: &TypeFrame, map: &MapFrame<'_>) -> bool
+        ensures { result ≡ (held_locals_flow types.now self.now frame.now && stack_flows_to types.now (stack_of types.now frame.now) map.now && held_flag_flows self.now frame.now) }
+    {
+        self.locals_flow(types, frame) && stack_flows(types, frame, map) && self.flag_flows(frame)
+    }
+
+    /// Whether the frame with which a handler begins, where no object is constructed, flows into a frame of the map whose local
+    /// entries are held.
+    fn flows_thrown(
+        &self,
+        types: &EntryTypes<'_, '_, '_>,
+        frame: &TypeFrame,
+        thrown: Item,
+        map: &MapFrame<'_>,
+    ) -> bool
+        ensures { result ≡ (held_locals_flow types.now self.now frame.now && stack_flows_to types.now (typed (names_of_types types.now) thrown ∷ []) map.now && held_flag_flows self.now frame.now) }
+    {
+        self.locals_flow(types, frame)
+            && thrown_stack_flows(types, thrown, map)
+            && self.flag_flows(frame)
+    }
+
+    /// Makes the local variables and the flag of a frame those that are held.
+    fn put_back(&self, frame: &mut TypeFrame)
+        ensures locals { (names : List (List ℕ)) → length frame.old.locals ≡ length self.now.base.locals
+            → AreSameBut self.now.written (typed_all names self.now.base.locals) (typed_all names frame.old.locals)
+            → typed_all names frame.new.locals ≡ typed_all names self.now.base.locals }
+        ensures many { length frame.new.locals ≡ length frame.old.locals }
+        ensures same { frame.new ≡ with_flag self.now.base.flag_this_uninit (with_locals frame.new.locals frame.old) }
+    {
+        put_back(frame, &self.base, &self.written);
+        frame.set_flag(self.base.flag_this_uninit());
+    }
+
+    /// Room for a frame of so many local variables, where none of them was written.
+    fn make_room(&mut self, max_locals: u16) -> Result<(), AllocError>
+        ensures many { OnOk result (length self.new.base.locals ≡ max_locals) }
+        ensures written { OnOk result (self.new.written ≡ []) }
+    {
+        self.place = None;
+        if self.base.local_count() != usize::from(max_locals) {
+            self.base = TypeFrame::new(self.alloc, max_locals)?;
+        }
+        self.marks.clear();
+        self.written.clear();
+        self.marks.resize(usize::from(max_locals), false)?;
+        Ok(())
+    }
+
+    /// Holds the frame of the map at a place, if it has so many local entries that this is of use.
+    fn begin(
+        &mut self,
+        pass: &Pass<'_, '_, '_, '_, '_>,
+        place: usize,
+        map: &MapFrame<'_>,
+    ) -> Result<(), AllocError>
+        requires at { slice_get pass.now.frames place ≡ Some map.now }
+        requires room { HasRoom pass.now.types pass.now.max_locals map.now }
+        ensures { OnOk result ((locals : List Item) → typed_all (names_in pass.now) locals ≡ expanded_entries pass.now.types pass.now.max_locals map.now.locals
+            → IsHeldBy pass.now self.new.place self.new locals) }
+    {
+        if map.local_words() < FEW {
+            self.forget();
+            return Ok(());
+        }
+        self.make_room(pass.max_locals)?;
+        set_to_map(pass.types, &mut self.base, map)?;
+        self.place = Some(place);
+        Ok(())
+    }
+}
+
+/// Whether a frame flows into the frame of the map at a place.
+pub(crate) fn flows_to_map(
+    pass: &Pass<'_, '_, '_, '_, '_>,
+    held: &Held,
+    frame: &TypeFrame,
+    place: usize,
+    map: &MapFrame<'_>,
+) -> bool
+    requires at { slice_get pass.now.frames place ≡ Some map.now }
+    requires words { map.now.local_words ≡ local_entry_words pass.now.types map.now }
+    requires locals { length frame.now.locals ≡ pass.now.max_locals }
+    requires held { IsHeld pass.now held.now frame.now }
+    ensures { result ≡ flows_to_map pass.now.types frame.now map.now }
+{
+    if held.is_of(pass, place) {
+        held.flows(pass.types, frame, map)
+    } else {
+        frame_flows(pass.types, frame, map)
+    }
+}
+
+/// Whether the frame with which a handler begins flows into the frame of the map at a place.
+pub(crate) fn thrown_flows_to_map(
+    pass: &Pass<'_, '_, '_, '_, '_>,
+    held: &Held,
+    frame: &TypeFrame,
+    object: Option<Item>,
+    thrown: Item,
+    place: usize,
+    map: &MapFrame<'_>,
+) -> bool
+    requires at { slice_get pass.now.frames place ≡ Some map.now }
+    requires words { map.now.local_words ≡ local_entry_words pass.now.types map.now }
+    requires locals { length frame.now.locals ≡ pass.now.max_locals }
+    requires held { IsHeld pass.now held.now frame.now }
+    ensures { result ≡ thrown_flows_to_map pass.now.types frame.now object thrown map.now }
+{
+    if held.is_of_without(pass, object, place) {
+        held.flows_thrown(pass.types, frame, thrown, map)
+    } else {
+        thrown_flows(pass.types, frame, object, thrown, map)
+    }
+}
+
+/// Gives a frame the stack of a frame of the map.
+fn set_stack(
+    types: &EntryTypes<'_, '_, '_>,
+    frame: &mut TypeFrame,
+    map: &MapFrame<'_>,
+) -> Result<(), AllocError>
+    ensures stack { OnOk result (stack_of types.now frame.new ≡ types_of_entries types.now map.now.stack) }
+    ensures same { frame.new ≡ with_stack frame.new.stack frame.old }
+{
+    frame.clear_stack();
+    push_items(types, frame, map)?;
+    frame.turn_stack();
+    Ok(())
+}
+
+/// Makes a frame the frame of the map at a place.
+///
+/// # Errors
+///
+/// Where the host had no memory for its stack, or for what is held; the frame is then of no more use.
+pub(crate) fn set_frame(
+    pass: &Pass<'_, '_, '_, '_, '_>,
+    held: &mut Held,
+    frame: &mut TypeFrame,
+    place: usize,
+    map: &MapFrame<'_>,
+) -> Result<(), AllocError>
+    requires at { slice_get pass.now.frames place ≡ Some map.now }
+    requires room { HasRoom pass.now.types pass.now.max_locals map.now }
+    requires locals { length frame.old.locals ≡ pass.now.max_locals }
+    requires held { IsHeld pass.now held.old frame.old }
+    ensures ok { OnOk result (frame_of (names_in pass.now) frame.new ≡ frame_by_types pass.now.types pass.now.max_locals map.now) }
+    ensures same { length frame.new.locals ≡ pass.now.max_locals }
+    ensures held { OnOk result (IsHeld pass.now held.new frame.new) }
+{
+    if held.is_of(pass, place) {
+        held.put_back(frame);
+        set_stack(pass.types, frame, map)?;
+        return Ok(());
+    }
+    set_to_map(pass.types, frame, map)?;
+    held.begin(pass, place, map)?;
+    Ok(())
+}
