@@ -1,4 +1,4 @@
-use Rattle.std.proofs.Common.{rules, ◌≡◌, ◌≤◌, ◌∙◌, ◌+◌, List, Bool, true, length, take, set, ap, sym, subst, arith}
+use Rattle.std.proofs.Common.{rules, ◌≡◌, ◌≤◌, ◌∙◌, ◌+◌, List, Bool, true, length, take, set, ap, sym, subst}
 use Rattle.std.proofs.lemmas.List.{take_all, length-set}
 use Rattle.jv_format.specs.declared.handlers.Handler.{Handler}
 use Rattle.jv_format.specs.Handlers.{handlers_of}

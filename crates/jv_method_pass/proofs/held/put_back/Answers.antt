@@ -1,4 +1,4 @@
-use Rattle.std.proofs.Common.{◌≡◌, ◌+◌, List, length, drop, sym, ap, subst, ◌∙◌, arith}
+use Rattle.std.proofs.Common.{◌+◌, List, length, drop, sym, ap, subst, ◌∙◌, arith}
 use Rattle.jv_types.specs.Typed.{typed_all}
 use Rattle.jv_types.specs.Numbered.{Item, with_locals}
 use Rattle.jv_method_pass.specs.Inside.Held.{AreSameBut}

@@ -1,10 +1,10 @@
-use Rattle.std.proofs.Common.{◌≡◌, length, sym, ap, ◌∙◌, arith}
+use Rattle.std.proofs.Common.{length, sym, ap, ◌∙◌}
 use Rattle.std.specs.Option.{option_map}
 use Rattle.jv_frames.specs.Entries.{locals_in}
 use Rattle.jv_frames.specs.Frames.{Frame}
 use Rattle.jv_types.specs.Typed.{typed_all}
 use Rattle.jv_types.specs.Numbered.{NumberFrame}
-use Rattle.jv_method_pass.specs.Mapped.{local_entry_words, locals_of}
+use Rattle.jv_method_pass.specs.Mapped.{local_entry_words}
 use Rattle.jv_method_pass.specs.Pass.{Pass, names_in}
 use Rattle.jv_method_pass.specs.Inside.Held.{HoldsLocals}
 use Rattle.jv_method_pass.proofs.Holding.{put_is, held_again, made_is}

@@ -1,4 +1,4 @@
-use Rattle.std.proofs.Common.{sym, ap, ◌∙◌}
+use Rattle.std.proofs.Common.{ap, ◌∙◌}
 use Rattle.std.specs.List.{list_all}
 use Rattle.jv_frames.specs.Entries.{ReadFrame}
 use Rattle.jv_method_pass.specs.Inside.Parts.{is_made_by_new}

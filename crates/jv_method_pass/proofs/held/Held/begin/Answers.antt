@@ -1,5 +1,4 @@
-use Rattle.std.proofs.Common.{◌≡◌, length, Some, ap, ◌∙◌}
-use Rattle.jv_types.specs.Numbered.{NumberFrame}
+use Rattle.std.proofs.Common.{length, Some, ap, ◌∙◌}
 use Rattle.jv_method_pass.specs.Pass.{Pass}
 use Rattle.jv_method_pass.specs.Inside.Held.{HeldFrame}
 use Rattle.jv_method_pass.proofs.Holding.{begins_held}

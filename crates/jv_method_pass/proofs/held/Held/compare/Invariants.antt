@@ -1,6 +1,5 @@
-use Rattle.std.proofs.Common.{◌≡◌, ℕ, ◌<◌, false, List, length}
+use Rattle.std.proofs.Common.{◌≡◌, ℕ, ◌<◌, false}
 use Rattle.std.specs.Prelude.{slice_get}
-use Rattle.jv_types.specs.Typed.{typed_all}
 use Rattle.jv_method_pass.specs.Inside.Held.{is_written}
 use Rattle.jv_method_pass.proofs.held.Held.compare.Given as goal
 

@@ -1,4 +1,4 @@
-use Rattle.jv_method_pass.proofs.Holding.{notes_none, notes_all}
+use Rattle.jv_method_pass.proofs.Holding.{notes_all}
 use Rattle.jv_method_pass.proofs.held.Held.renew.Goals as goal
 
 pub returns : goal.returns

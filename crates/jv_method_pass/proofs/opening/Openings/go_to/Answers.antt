@@ -1,9 +1,8 @@
-use Rattle.std.proofs.Common.{◌≡◌, ◌≤◌, ℕ, List, refl, sym, ap, subst, ◌∙◌, arith}
+use Rattle.std.proofs.Common.{◌≤◌, ℕ, refl, sym, ap, subst, ◌∙◌, arith}
 use Rattle.std.specs.Prelude.{nat_lt}
 use Rattle.std.specs.List.{filter}
-use Rattle.jv_format.specs.declared.handlers.Handler.{Handler}
-use Rattle.jv_method_pass.specs.Inside.Opening.{Openings, AreAsGood, AreOpen}
-use Rattle.jv_method_pass.proofs.Opened.{closed_at, one_more, rest_not_begun, all_begun}
+use Rattle.jv_method_pass.specs.Inside.Opening.{Openings, AreOpen}
+use Rattle.jv_method_pass.proofs.Opened.{closed_at, rest_not_begun}
 use Rattle.jv_method_pass.proofs.opening.Openings.go_to.Goals as goal
 
 pub loop-self-init : goal.loop-self-init

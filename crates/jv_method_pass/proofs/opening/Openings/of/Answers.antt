@@ -1,4 +1,4 @@
-use Rattle.std.proofs.Common.{◌≡◌, List, subst}
+use Rattle.std.proofs.Common.{List, subst}
 use Rattle.std.specs.List.Sorted.{IsPermutation}
 use Rattle.jv_format.specs.declared.handlers.Handler.{Handler}
 use Rattle.jv_format.specs.Handlers.{handlers_of}
