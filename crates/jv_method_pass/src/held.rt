@@ -284,7 +284,7 @@ impl Held {
         requires { length frame.now.locals ≡ count }
         ensures { IfOk result (λ _. (may : ℕ → Bool) → Notes may self.old self.new frame.now) }
     {
-        if self.place.is_none() || self.base.local_count() != usize::from(count) {
+        if self.base.local_count() != usize::from(count) {
             self.forget();
             return Ok(());
         }
@@ -302,6 +302,10 @@ impl Held {
         requires { length frame.now.locals ≡ count }
         ensures { IfOk result (λ _. Notes (may_write (instruction_of insn.now)) self.old self.new frame.now) }
     {
+        if self.place.is_none() {
+            self.forget();
+            return Ok(());
+        }
         if may_write_anywhere(insn) {
             self.renew(frame, count)?;
             return Ok(());
