@@ -12,7 +12,7 @@ use Rattle.jv_interp_objects.proofs.Grown.{object_grown}
 use Rattle.jv_interp_objects.proofs.Joined.{get_cases, within, others_stay}
 use Rattle.jv_interp_memory.specs.Growing.{Grows}
 use Rattle.jv_interp_creation.specs.NestedBlocks.{EachAbove}
-use Rattle.jv_interp_creation.proofs.More.{joined_grows, same_grows, then_grows}
+use Rattle.jv_interp_memory.proofs.Growths.{joined_grows, same_grows, then_grows}
 
 -- ---- one list of blocks behind the other
 

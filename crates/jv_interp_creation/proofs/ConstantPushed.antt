@@ -1,6 +1,8 @@
 -- ldc and ldc2_w on words: what the machine does stands afterwards.
-use Rattle.std.proofs.Common.{◌≡◌, ℕ, ◌+◌, ◌*◌, ◌<◌, List, ◌∷◌, ◌++◌, Option, Some, None, Ok, length, set, refl, sym, ap, subst, ◌∙◌, arith}
+use Rattle.std.proofs.Common.{◌≡◌, ℕ, ℤ, ◌+◌, ◌*◌, ◌<◌, List, ◌∷◌, ◌++◌, Option, Some, None, Ok, length, set, refl, sym, ap, subst, ◌∙◌, arith}
 use Rattle.std.specs.Int.{w32, w64, cast_signed}
+use Rattle.std.specs.Option.{option_map}
+use Rattle.jv_pool.specs.Constants.{long_at}
 use Rattle.jv_class.specs.Class.{InitialValue}
 use Rattle.jv_class.specs.Class.InitialValue.{StringValue}
 use Rattle.jv_meaning_machine.specs.Faults.{OrFault, found, ◌>>=◌}
@@ -10,7 +12,7 @@ use Rattle.jv_meaning_machine.specs.Values.Value.{Int, Long, Reference}
 use Rattle.jv_meaning_machine.specs.State.{Memory}
 use Rattle.jv_meaning_machine.specs.Effects.{Effect, Context, goes_on, out_of_memory}
 use Rattle.jv_meaning_machine.specs.Effects.Effect.{Goes, Throws}
-use Rattle.jv_meaning_machine.specs.Literals.{literal, string_loaded, constant_value, push_value, push_constant, push_long_constant}
+use Rattle.jv_meaning_machine.specs.Literals.{pool_at, literal, string_loaded, constant_value, push_value, push_constant, push_long_constant}
 use Rattle.jv_interp_words.specs.declared.registers.Registers.{Registers}
 use Rattle.jv_interp_words.specs.FramesInWords.{in_use}
 use Rattle.jv_interp_words.proofs.Gave.{bound_gave}
@@ -65,7 +67,16 @@ module _ (low high next : ℕ) (here : Place) (texts : List (List ℕ)) (c : Con
   long_is : done ≡ (c.memory, Goes c.next c.frame.locals (Long (cast_signed w64 (high * 4294967296 + low)) ∷ c.frame.stack))
   long_is =
       done_same (c.memory, Goes c.next c.frame.locals (long_value ∷ c.frame.stack)) done
-      (sym (ap (λ (o : Option ℕ). found OffsetFault o >>= λ bits. goes_on c (Long (cast_signed w64 bits) ∷ c.frame.stack)) h.constant_is) ∙ h.executes.does)
+      (sym (goes_with (long_at (pool_at c) index) h.constant_is) ∙ h.executes.does)
+    where
+      some_same : (a b : ℤ) → Some a ≡ Some b → a ≡ b
+      some_same a b e = cc
+
+      goes_with :
+          (o : Option ℕ) → option_map (cast_signed w64) o ≡ Some (cast_signed w64 (high * 4294967296 + low))
+          → (found OffsetFault o >>= λ bits. goes_on c (Long (cast_signed w64 bits) ∷ c.frame.stack)) ≡ Ok (c.memory, Goes c.next c.frame.locals (long_value ∷ c.frame.stack))
+      goes_with None e = absurd cc
+      goes_with (Some bits) e = ap (λ (z : ℤ). Ok (c.memory, Goes c.next c.frame.locals (Long z ∷ c.frame.stack))) (some_same (cast_signed w64 bits) (cast_signed w64 (high * 4294967296 + low)) e)
 
   pub long_room : HasRoom c below (length here.words) done → here.at.top + 1 < length here.words
   long_room room =

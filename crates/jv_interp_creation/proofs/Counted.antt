@@ -40,7 +40,8 @@ use Rattle.jv_interp_memory.proofs.Popped.{Popped, frame_popped, frame_pushed, s
 use Rattle.jv_interp_creation.specs.Payments.{IsLacking, IsMade}
 use Rattle.jv_interp_creation.specs.Objects.{place}
 use Rattle.jv_interp_creation.specs.Arrays.{array_of, MakingArray, MakingBaseArray}
-use Rattle.jv_interp_creation.proofs.More.{joined_grows, memory_grown, last_place}
+use Rattle.jv_interp_memory.proofs.Growths.{joined_grows}
+use Rattle.jv_interp_creation.proofs.More.{memory_grown, last_place}
 use Rattle.jv_interp_creation.proofs.Went.{done_same, paid_lacks, paid_left, lacks_in, raises_in, goes_in}
 
 -- ---- the count, by its word

@@ -21,7 +21,8 @@ use Rattle.jv_interp_memory.specs.Growing.{DidIn}
 use Rattle.jv_interp_memory.proofs.Popped.{frame_pushed}
 use Rattle.jv_interp_creation.specs.Payments.{IsLacking, IsMade}
 use Rattle.jv_interp_creation.specs.Objects.{place, object_of, Creating}
-use Rattle.jv_interp_creation.proofs.More.{joined_grows, memory_grown, last_place}
+use Rattle.jv_interp_memory.proofs.Growths.{joined_grows}
+use Rattle.jv_interp_creation.proofs.More.{memory_grown, last_place}
 use Rattle.jv_interp_creation.proofs.Went.{done_same, paid_lacks, paid_left, lacks_in, goes_in, room_for}
 
 module _ (class size next : ℕ) (here : Place) (texts : List (List ℕ)) (c : Context) (l : Loaded) (addresses : List ℕ) (done : Memory × Effect) (below : List ℕ)

@@ -38,7 +38,8 @@ use Rattle.jv_interp_creation.specs.Payments.{IsLacking}
 use Rattle.jv_interp_creation.specs.Exceptions.{GivesObject}
 use Rattle.jv_interp_creation.specs.TextBlocks.{TextJoins, text_cost, TextPaid}
 use Rattle.jv_interp_creation.specs.Literals.{FindingLiteral, LiteralGiven}
-use Rattle.jv_interp_creation.proofs.More.{joined_grows, same_grows, then_grows, changed_grows, last_place}
+use Rattle.jv_interp_memory.proofs.Growths.{joined_grows, same_grows, then_grows, changed_grows}
+use Rattle.jv_interp_creation.proofs.More.{last_place}
 use Rattle.jv_interp_creation.proofs.Went.{paid_lacks, paid_left}
 use Rattle.jv_interp_creation.proofs.Noted.{noted}
 use Rattle.jv_interp_creation.proofs.StringClass.{HoldsChars, holds_chars, same_value}
@@ -341,6 +342,7 @@ module _ (number : ℕ) (text : List ℕ) (held : Held) (before : Blocks) (texts
           cells = let a = h.stands.cells in let b = p.paid in let e = cost_is m in omega (arith, a, b, e);
           output_left = h.stands.output_left;
           output = h.stands.output;
+          output_room = h.stands.output_room;
           read_within = h.stands.read_within;
           input = h.stands.input;
         } in

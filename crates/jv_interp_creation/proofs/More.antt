@@ -1,8 +1,5 @@
 -- A guest's memory with more objects, in new blocks.
-use Rattle.std.proofs.Common.{◌≡◌, ℕ, zero, suc, ◌+◌, ◌-◌, ◌<◌, inl, inr, List, [], ◌∷◌, ◌++◌, Option, Some, None, Contains, length, slice_get, slice_index_or, sym, ap, subst, ◌∙◌, arith}
-use Rattle.std.proofs.lemmas.List.Elements.{Contains-append_cases}
-use Rattle.jv_heap.specs.Content.{words_at, greatest}
-use Rattle.jv_heap.proofs.LookUps.{greatest-append_above}
+use Rattle.std.proofs.Common.{◌≡◌, ℕ, zero, suc, ◌+◌, ◌-◌, List, [], ◌∷◌, ◌++◌, Option, Some, None, length, slice_get, sym, ap, ◌∙◌, arith}
 use Rattle.jv_meaning_world.specs.World.{World}
 use Rattle.jv_meaning_machine.specs.Literals.{literal_in}
 use Rattle.jv_meaning_machine.specs.Objects.{Object}
@@ -10,82 +7,9 @@ use Rattle.jv_meaning_machine.specs.State.{Memory}
 use Rattle.jv_meaning_machine.specs.Initialization.{main_arguments}
 use Rattle.jv_meaning_machine.specs.Effects.{out_of_memory}
 use Rattle.jv_interp_objects.specs.ObjectsInBlocks.{Blocks, ObjectsStand}
-use Rattle.jv_interp_objects.specs.NewBlocks.{Joins}
 use Rattle.jv_interp_objects.proofs.Grown.{get_more, fields_grown}
-use Rattle.jv_interp_objects.proofs.Joined.{within, others_stay}
-use Rattle.jv_interp_objects.proofs.Changed.{Changes}
 use Rattle.jv_interp_memory.specs.declared.held.Held.{Held}
 use Rattle.jv_interp_memory.specs.HeldInWords.{static_fields, IsLiteral, AreLiterals, MemoryStands}
-use Rattle.jv_interp_memory.specs.Growing.{Grows}
-
--- ---- blocks
-
-pub one_in : (a x : ℕ) → Contains (a ∷ []) x → a ≡ x
-one_in a x h = by_place h.0 h.1 h.2
-  where
-    by_place : (k : ℕ) → k < length (a ∷ []) → slice_index_or (a ∷ []) k x ≡ x → a ≡ x
-    by_place zero less e = e
-    by_place (suc k) less e = absurd (omega (arith, less))
-
-none_in : (x : ℕ) → Contains {X = ℕ} [] x → ⊥
-none_in x h = let less = h.1 in omega (arith, less)
-
-pub joined_grows : (addresses words : List ℕ) (before after : Blocks) (address : ℕ) → Joins words before after address → Grows addresses (address ∷ []) before after
-joined_grows addresses words before after address j = record {
-  others =
-      λ other low apart. ap (λ (c : Blocks). words_at c other) j.joins ∙ others_stay before address words other j.above low;
-  above = λ a inside. subst (λ (n : ℕ). greatest before < n) (one_in address a inside) j.above;
-  no_lower = let e = ap greatest j.joins ∙ greatest-append_above before address words j.above in let a = j.above in omega (arith, e, a);
-}
-
-pub same_grows : (addresses : List ℕ) (before after : Blocks) → after ≡ before → Grows addresses [] before after
-same_grows addresses before after e = record {
-  others = λ other low apart. ap (λ (c : Blocks). words_at c other) e;
-  above = λ a inside. absurd (none_in a inside);
-  no_lower = let same = ap greatest e in omega (arith, same);
-}
-
-pub then_grows :
-    (addresses first second : List ℕ) (before between after : Blocks) → Grows addresses first before between
-    → Grows (addresses ++ first) second between after → Grows addresses (first ++ second) before after
-then_grows addresses first second before between after g h = record {
-  others =
-      λ other low apart.
-      h.others other (let n = g.no_lower in omega (arith, low, n))
-      (λ inside.
-      elim (Contains-append_cases addresses first other inside) [
-        | inl p ↦ apart p
-        | inr p ↦ let up = g.above other p in omega (arith, up, low)
-      ])
-      ∙ g.others other low apart;
-  above =
-      λ a inside.
-      elim (Contains-append_cases first second a inside) [
-        | inl p ↦ g.above a p
-        | inr p ↦ let up = h.above a p in let n = g.no_lower in omega (arith, up, n)
-      ];
-  no_lower = let n = g.no_lower in let m = h.no_lower in omega (arith, n, m);
-}
-
--- one block of the guest's own has other words
-pub there_in : (xs : List ℕ) (k x : ℕ) → slice_get xs k ≡ Some x → Contains xs x
-there_in xs k x e = (k, within xs k x e, is_there xs k x e)
-  where
-    is_there : (xs : List ℕ) (k x : ℕ) → slice_get xs k ≡ Some x → slice_index_or xs k x ≡ x
-    is_there [] k x e = absurd cc
-    is_there (y ∷ ys) zero x e = cc
-    is_there (y ∷ ys) (suc k) x e = is_there ys k x e
-
-pub changed_grows :
-    (addresses words : List ℕ) (id address : ℕ) (before after : Blocks) → slice_get addresses id ≡ Some address
-    → Changes address words before after → Grows addresses [] before after
-changed_grows addresses words id address before after at changes = record {
-  others =
-      λ other low apart.
-      changes.others other (λ same. apart (subst (λ (n : ℕ). Contains addresses n) (sym same) (there_in addresses id address at)));
-  above = λ a inside. absurd (none_in a inside);
-  no_lower = let same = changes.same_greatest in omega (arith, same);
-}
 
 -- ---- memory
 
@@ -119,6 +43,7 @@ module _ (world : World) (texts : List (List ℕ)) (memory : Memory) (addresses 
     cells = let same = h.cells in omega (arith, same, paid);
     output_left = h.output_left;
     output = h.output;
+    output_room = h.output_room;
     read_within = h.read_within;
     input = h.input;
   }

@@ -35,11 +35,13 @@ use Rattle.jv_interp_objects.proofs.Changed.{Changes, word_written, then_changed
 use Rattle.jv_interp_objects.proofs.Widths.{typed_words}
 use Rattle.jv_interp_memory.specs.declared.effect.Effect.TheVariants as effects
 use Rattle.jv_interp_memory.specs.EffectsInWords.{EffectStands}
-use Rattle.jv_interp_memory.specs.Executing.{Place, Did}
+use Rattle.jv_interp_memory.specs.Executing.{Place}
+use Rattle.jv_interp_memory.specs.Growing.{DidIn}
 use Rattle.jv_interp_memory.specs.HeldInWords.{MemoryStands}
 use Rattle.jv_interp_memory.proofs.Numbered.{system_numbers}
 use Rattle.jv_interp_memory.proofs.Popped.{Popped, frame_popped, some_used, null_word, reference_word, not_zero}
-use Rattle.jv_interp_memory.proofs.Raised.{raised}
+use Rattle.jv_interp_memory.proofs.Growths.{changed_grows}
+use Rattle.jv_interp_memory.proofs.Raised.{raised_in}
 use Rattle.jv_interp_arrays.proofs.Loaded.{index_within, index_outside}
 use Rattle.jv_interp_creation.specs.Objects.{place}
 use Rattle.jv_interp_creation.specs.Stores.{Storing, NarrowsBy}
@@ -175,15 +177,15 @@ module _ (slots next : ℕ) (here : Place) (texts : List (List ℕ)) (c : Contex
 
     -- ---- null
 
-    pub raises : address ≡ 0 → Did texts here (effects.Raises 15) c addresses done below
+    pub raises : address ≡ 0 → DidIn here.blocks texts here (effects.Raises 15) c addresses done below
     raises zero_is = by_reference t.array t.does on_top
       where
         by_reference :
             (v : Value) → store_number c kind t.index t.value v t.rest ≡ Ok done
             → IsOnTop addresses v (address ∷ in_use here.words (here.at.top - slots - 2)) third.under
-            → Did texts here (effects.Raises 15) c addresses done below
+            → DidIn here.blocks texts here (effects.Raises 15) c addresses done below
         by_reference Null does on =
-            raised (λ c. store_component c kind) texts next here c addresses done below h.executes null_pointer 15
+            raised_in (λ c. store_component c kind) texts next here c addresses done below h.executes null_pointer 15
             (done_same (c.memory, Raises null_pointer) done does)
             (subst (λ (w : World). HasNumber w null_pointer 15) (sym h.guests.1) (system_numbers h.guests.0).null_pointer)
         by_reference (Reference id) does on =
@@ -241,10 +243,10 @@ module _ (slots next : ℕ) (here : Place) (texts : List (List ℕ)) (c : Contex
         let same : length i.of.values * width (value_type i.of.components) ≡ length i.of.values * slots = ap (λ (n : ℕ). length i.of.values * n) (width_is i) in
         ap length i.stands.words_are ∙ omega (arith, size, same)
 
-    pub raises_index : (i : Inside) → length i.of.values ≤ index_word → Did texts here (effects.Raises 17) c addresses done below
+    pub raises_index : (i : Inside) → length i.of.values ≤ index_word → DidIn here.blocks texts here (effects.Raises 17) c addresses done below
     raises_index i outside =
         let none = index_outside index_word i.of.values t.index index_is outside in
-        raised (λ c. store_component c kind) texts next here c addresses done below h.executes array_index 17
+        raised_in (λ c. store_component c kind) texts next here c addresses done below h.executes array_index 17
         (done_same (c.memory, Raises array_index) done
         (sym (ap (store_at c i.id (i.of.components, i.of.values) t.index t.value t.rest) none) ∙ i.of.does))
         (subst (λ (w : World). HasNumber w array_index 17) (sym h.guests.1) (system_numbers h.guests.0).array_index)
@@ -300,7 +302,7 @@ module _ (slots next : ℕ) (here : Place) (texts : List (List ℕ)) (c : Contex
     changed :
         (i : Inside) (k : Component i) (after : Blocks) (own : List ℕ) (at : Registers) → IsIn addresses (new_value i) own → length own ≡ slots
         → Changes address (around i k ++ (own ++ k.among.at.behind)) here.blocks after → at.pc ≡ next → at.top ≡ here.at.top - slots - 2
-        → Did texts (place at here.words here.held after) effects.Goes c addresses done below
+        → DidIn here.blocks texts (place at here.words here.held after) effects.Goes c addresses done below
     changed i k after own at stands size changes pc_is top_is =
         let new = ArrayWith i.of.components (slice_set i.of.values index_word (new_value i)) in
         let same_count = length-set i.of.values index_word (new_value i) in
@@ -328,23 +330,27 @@ module _ (slots next : ℕ) (here : Place) (texts : List (List ℕ)) (c : Contex
           cells = m.cells;
           output_left = m.output_left;
           output = m.output;
+          output_room = m.output_room;
           read_within = m.read_within;
           input = m.input;
         } in
-        subst (λ (x : Memory × Effect). Did texts (place at here.words here.held after) effects.Goes c addresses x below) (sym k.is)
+        subst (λ (x : Memory × Effect). DidIn here.blocks texts (place at here.words here.held after) effects.Goes c addresses x below) (sym k.is)
         (record {
-          more = [];
-          effect_stands =
-              subst (λ (l : List ℕ). EffectStands c.program.world l c.frame (Goes c.next c.frame.locals t.rest) effects.Goes at (in_use here.words at.top) below)
-              (sym (append-nil addresses))
-              (record {
-                pc_is = pc_is ∙ h.executes.next_is;
-                count = refl;
-                stand =
-                    subst (λ (l : List ℕ). FrameStands addresses c.frame.locals t.rest l below)
-                    (sym (ap (in_use here.words) top_is ∙ i.rest_is)) third.lower;
-              });
-          memory = subst (λ (l : List ℕ). MemoryStands c.program.world texts (with_object i.id new c.memory) l here.held after) (sym (append-nil addresses)) memory;
+          did = record {
+            more = [];
+            effect_stands =
+                subst (λ (l : List ℕ). EffectStands c.program.world l c.frame (Goes c.next c.frame.locals t.rest) effects.Goes at (in_use here.words at.top) below)
+                (sym (append-nil addresses))
+                (record {
+                  pc_is = pc_is ∙ h.executes.next_is;
+                  count = refl;
+                  stand =
+                      subst (λ (l : List ℕ). FrameStands addresses c.frame.locals t.rest l below)
+                      (sym (ap (in_use here.words) top_is ∙ i.rest_is)) third.lower;
+                });
+            memory = subst (λ (l : List ℕ). MemoryStands c.program.world texts (with_object i.id new c.memory) l here.held after) (sym (append-nil addresses)) memory;
+          };
+          grows = changed_grows addresses (around i k ++ (own ++ k.among.at.behind)) i.id address here.blocks after i.at changes;
         })
 
     -- ---- one word
@@ -352,7 +358,7 @@ module _ (slots next : ℕ) (here : Place) (texts : List (List ℕ)) (c : Contex
     pub stored_word :
         (i : Inside) (k : Component i) (stored : ℕ) (at : Registers) (after : Blocks) → slots ≡ 1 → IsIn addresses (new_value i) (stored ∷ [])
         → at.pc ≡ next → at.top ≡ here.at.top - slots - 2 → after ≡ written here.blocks address (index_word + 2) stored
-        → Did texts (place at here.words here.held after) effects.Goes c addresses done below
+        → DidIn here.blocks texts (place at here.words here.held after) effects.Goes c addresses done below
     stored_word i k stored at after one stands pc_is top_is e =
         let own = one_own k.among.at.own (own_length addresses k.old k.among.at.own k.among.at.stands ∙ k.among.kind ∙ width_is i ∙ one) in
         let place_is : index_word + 2 ≡ length (around i k) =
@@ -363,7 +369,7 @@ module _ (slots next : ℕ) (here : Place) (texts : List (List ℕ)) (c : Contex
         ap (λ (l : List ℕ). set l (index_word + 2) stored) block
         ∙ ap (λ (n : ℕ). set (around i k ++ own.0 ∷ k.among.at.behind) n stored) place_is
         ∙ set-append_seam (around i k) own.0 k.among.at.behind stored in
-        subst (λ (b : Blocks). Did texts (place at here.words here.held b) effects.Goes c addresses done below) (sym e)
+        subst (λ (b : Blocks). DidIn here.blocks texts (place at here.words here.held b) effects.Goes c addresses done below) (sym e)
         (changed i k (written here.blocks address (index_word + 2) stored) (stored ∷ []) at stands (sym one)
         (subst (λ (l : List ℕ). Changes address l here.blocks (written here.blocks address (index_word + 2) stored)) now
         (word_written here.blocks address (index_word + 2) stored)) pc_is top_is)
@@ -374,7 +380,7 @@ module _ (slots next : ℕ) (here : Place) (texts : List (List ℕ)) (c : Contex
         (i : Inside) (k : Component i) (low high : ℕ) (at : Registers) (after : Blocks) → slots ≡ 2 → IsIn addresses (new_value i) (low ∷ high ∷ [])
         → at.pc ≡ next → at.top ≡ here.at.top - slots - 2
         → after ≡ written (written here.blocks address (index_word * 2 + 2) low) address (index_word * 2 + 3) high
-        → Did texts (place at here.words here.held after) effects.Goes c addresses done below
+        → DidIn here.blocks texts (place at here.words here.held after) effects.Goes c addresses done below
     stored_long i k low high at after two stands pc_is top_is e =
         let own = two_own k.among.at.own (own_length addresses k.old k.among.at.own k.among.at.stands ∙ k.among.kind ∙ width_is i ∙ two) in
         let place_is : index_word * 2 + 2 ≡ length (around i k) =
@@ -396,7 +402,7 @@ module _ (slots next : ℕ) (here : Place) (texts : List (List ℕ)) (c : Contex
         let other = word_written between address (index_word * 2 + 3) high in
         let now : set (words_at between address) (index_word * 2 + 3) high ≡ around i k ++ low ∷ high ∷ k.among.at.behind =
         ap (λ (l : List ℕ). set l (index_word * 2 + 3) high) one.own ∙ two_set in
-        subst (λ (b : Blocks). Did texts (place at here.words here.held b) effects.Goes c addresses done below) (sym e)
+        subst (λ (b : Blocks). DidIn here.blocks texts (place at here.words here.held b) effects.Goes c addresses done below) (sym e)
         (changed i k (written between address (index_word * 2 + 3) high) (low ∷ high ∷ []) at stands (sym two)
         (then_changed address (around i k ++ low ∷ own.1 ∷ k.among.at.behind) (around i k ++ low ∷ high ∷ k.among.at.behind) here.blocks between
         (written between address (index_word * 2 + 3) high) one

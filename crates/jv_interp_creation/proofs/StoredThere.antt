@@ -10,7 +10,8 @@ use Rattle.jv_interp_objects.specs.declared.narrowing.Narrowing.{Narrowing}
 use Rattle.jv_interp_objects.specs.ObjectsInBlocks.{Blocks, IsIn}
 use Rattle.jv_interp_objects.specs.Narrowing.{Narrows}
 use Rattle.jv_interp_memory.specs.declared.effect.Effect.TheVariants as effects
-use Rattle.jv_interp_memory.specs.Executing.{Place, Did}
+use Rattle.jv_interp_memory.specs.Executing.{Place}
+use Rattle.jv_interp_memory.specs.Growing.{DidIn}
 use Rattle.jv_interp_creation.specs.Objects.{place}
 use Rattle.jv_interp_creation.specs.Stores.{Storing, NarrowsBy}
 use Rattle.jv_interp_creation.proofs.StoredIn.{t, Above, enough, raises, Inside, inside, block_length, length_word, raises_index, component, value_stored, stored_word, stored_long, long_stays, value_width}
@@ -31,7 +32,7 @@ module _ (slots next : ℕ) (here : Place) (texts : List (List ℕ)) (c : Contex
   pub all_there : slots + 2 ≤ here.at.top
   all_there = enough slots next here texts c kind addresses done below h top_words u
 
-  pub null_raises : array ≡ 0 → Did texts here (effects.Raises 15) c addresses done below
+  pub null_raises : array ≡ 0 → DidIn here.blocks texts here (effects.Raises 15) c addresses done below
   null_raises zero_is = raises slots next here texts c kind addresses done below h top_words u (array_is ∙ zero_is)
 
   pub in_array : (array ≡ 0 → ⊥) → Inside slots next here texts c kind addresses done below h top_words u
@@ -51,7 +52,7 @@ module _ (slots next : ℕ) (here : Place) (texts : List (List ℕ)) (c : Contex
     pub few_values : length i.of.values < 2147483648
     few_values = i.stands.few
 
-    pub outside_raises : length i.of.values ≤ index → Did texts here (effects.Raises 17) c addresses done below
+    pub outside_raises : length i.of.values ≤ index → DidIn here.blocks texts here (effects.Raises 17) c addresses done below
     outside_raises outside =
         raises_index slots next here texts c kind addresses done below h top_words u i (omega (arith, outside, index_is))
 
@@ -60,7 +61,7 @@ module _ (slots next : ℕ) (here : Place) (texts : List (List ℕ)) (c : Contex
         → top_words ≡ get_or here.words (here.at.top - 1) 0 ∷ [] → Narrows how (get_or here.words (here.at.top - 1) 0) stored
         → NarrowsBy how kind c.program.world (get_or (words_at here.blocks (get_or here.words (here.at.top - slots - 2) 0)) 0 0) → at.pc ≡ next
         → at.top ≡ here.at.top - slots - 2 → after ≡ written here.blocks array (index + 2) stored
-        → Did texts (place at here.words here.held after) effects.Goes c addresses done below
+        → DidIn here.blocks texts (place at here.words here.held after) effects.Goes c addresses done below
     word_stored how stored at after one within top_is narrows by pc_is at_top e =
         let k = component slots next here texts c kind addresses done below h top_words u i (omega (arith, within, index_is)) in
         let value_in = value_stored slots next here texts c kind addresses done below h top_words u i how stored one narrows by top_is in
@@ -71,7 +72,7 @@ module _ (slots next : ℕ) (here : Place) (texts : List (List ℕ)) (c : Contex
     pub long_stored :
         (low high : ℕ) (at : Registers) (after : Blocks) → slots ≡ 2 → index < length i.of.values → top_words ≡ low ∷ high ∷ [] → at.pc ≡ next
         → at.top ≡ here.at.top - slots - 2 → after ≡ written (written here.blocks array (index * 2 + 2) low) array (index * 2 + 3) high
-        → Did texts (place at here.words here.held after) effects.Goes c addresses done below
+        → DidIn here.blocks texts (place at here.words here.held after) effects.Goes c addresses done below
     long_stored low high at after two within top_is pc_is at_top e =
         let k = component slots next here texts c kind addresses done below h top_words u i (omega (arith, within, index_is)) in
         let value = t slots next here texts c kind addresses done below h in

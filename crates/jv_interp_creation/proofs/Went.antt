@@ -19,7 +19,7 @@ use Rattle.jv_interp_memory.specs.Executing.{Place, Executes, HasRoom}
 use Rattle.jv_interp_memory.specs.HeldInWords.{MemoryStands}
 use Rattle.jv_interp_memory.specs.Growing.{Grows, DidIn}
 use Rattle.jv_interp_creation.specs.Objects.{place}
-use Rattle.jv_interp_creation.proofs.More.{same_grows}
+use Rattle.jv_interp_memory.proofs.Growths.{same_grows}
 
 pub done_same : (a b : Memory × Effect) → ◌≡◌ {A = OrFault (Memory × Effect)} (Ok a) (Ok b) → b ≡ a
 done_same a b e = cc

@@ -1,6 +1,7 @@
 -- Constants that are pushed in words (JVMS 6.5, ldc, ldc_w and ldc2_w), once it is known what the constant is.
-use Rattle.std.specs.Prelude.{◌≡◌, ℕ, ◌+◌, ◌*◌, List, Some, Ok, length, slice_get}
-use Rattle.std.specs.Int.{w32, cast_signed}
+use Rattle.std.specs.Prelude.{◌≡◌, ℕ, List, Some, Ok, length, slice_get}
+use Rattle.std.specs.Int.{w32, w64, cast_signed}
+use Rattle.std.specs.Option.{option_map}
 use Rattle.jv_pool.specs.Constants.{at_index, long_at}
 use Rattle.jv_class.specs.Class.{InitialValue}
 use Rattle.jv_class.specs.Class.InitialValue.{IntValue, StringValue}
@@ -10,6 +11,7 @@ use Rattle.jv_meaning_machine.specs.Effects.{Effect as EffectOfNames, Context}
 use Rattle.jv_meaning_machine.specs.Faults.{OrFault}
 use Rattle.jv_meaning_machine.specs.Literals.{pool_at, pushed_constant, push_constant, push_long_constant}
 use Rattle.jv_interp_words.specs.declared.registers.Registers.{Registers}
+use Rattle.jv_interp_words.specs.ValuesInWords.{long_of}
 use Rattle.jv_interp_objects.specs.ObjectsInBlocks.{Blocks}
 use Rattle.jv_interp_memory.specs.declared.held.Held.{Held}
 use Rattle.jv_interp_memory.specs.declared.effect.Effect.{Effect}
@@ -51,7 +53,7 @@ PushesInt bits next at words at_after words_after effect =
 
 pub record PushingLong (low high next : ℕ) (here : Place) (texts : List (List ℕ)) (c : Context) (index : ℕ) (addresses : List ℕ) (done : Memory × EffectOfNames) (below : List ℕ) : Type 0 where
   pub executes : Executes (λ c. push_long_constant c index) texts next here c addresses done below
-  pub constant_is : long_at (pool_at c) index ≡ Some (high * 4294967296 + low)
+  pub constant_is : option_map (cast_signed w64) (long_at (pool_at c) index) ≡ Some (long_of low high)
 
 pub record CanPushLong (low high next : ℕ) (at : Registers) (words : List ℕ) : Type 0 where
   pub held : Held

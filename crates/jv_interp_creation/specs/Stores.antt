@@ -16,7 +16,8 @@ use Rattle.jv_interp_objects.specs.declared.narrowing.Narrowing.{Narrowing}
 use Rattle.jv_interp_objects.specs.Narrowing.{narrowing_of}
 use Rattle.jv_interp_memory.specs.declared.held.Held.{Held}
 use Rattle.jv_interp_memory.specs.declared.effect.Effect.{Effect}
-use Rattle.jv_interp_memory.specs.Executing.{Place, Executes, Did}
+use Rattle.jv_interp_memory.specs.Executing.{Place, Executes}
+use Rattle.jv_interp_memory.specs.Growing.{DidIn}
 use Rattle.jv_interp_memory.specs.SystemNumbers.{IsGuestsWorld}
 use Rattle.jv_interp_creation.specs.Objects.{place}
 
@@ -55,7 +56,7 @@ Stores slots how next words held at blocks at_after blocks_after effect =
     (texts : List (List ℕ)) (c : Context) (kind : NumberElement) (addresses : List ℕ) (done : Memory × EffectOfNames) (below : List ℕ)
     → Storing slots next (place at words held blocks) texts c kind addresses done below
     → NarrowsBy how kind c.program.world (array_word slots at words blocks)
-    → Did texts (place at_after words held blocks_after) effect c addresses done below
+    → DidIn blocks texts (place at_after words held blocks_after) effect c addresses done below
 
 -- ---- bastore, of bytes or of booleans: which of both, the array tells
 
@@ -71,7 +72,7 @@ abbrev pub StoresByte : ℕ → List ℕ → Held → Registers → Blocks → R
 StoresByte next words held at blocks at_after blocks_after effect =
     (texts : List (List ℕ)) (c : Context) (addresses : List ℕ) (done : Memory × EffectOfNames) (below : List ℕ)
     → Storing 1 next (place at words held blocks) texts c numbers.ByteOrBoolean addresses done below
-    → Did texts (place at_after words held blocks_after) effect c addresses done below
+    → DidIn blocks texts (place at_after words held blocks_after) effect c addresses done below
 
 -- how such an array narrows, by its first word
 abbrev pub NarrowsByte : ℕ → Narrowing → Type 0

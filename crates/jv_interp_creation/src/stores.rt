@@ -1,10 +1,9 @@
 //! Stores of numbers into arrays.
 
-ghost use Rattle.std.specs.Prelude.{◌≡◌, ◌-◌, slice_index};
+ghost use Rattle.std.specs.Prelude.{◌≡◌};
 ghost use Rattle.jv_interp_going.specs.Going.{StaysIn};
-ghost use Rattle.jv_interp_memory.specs.Executing.{KeepsOthers};
 ghost use Rattle.jv_interp_objects.specs.declared.narrowing.Narrowing.TheVariants.{Whole};
-ghost use Rattle.jv_interp_creation.specs.Stores.{array_address, CanStore, Stores, CanStoreByte, StoresByte, NarrowsByte};
+ghost use Rattle.jv_interp_creation.specs.Stores.{CanStore, Stores, CanStoreByte, StoresByte, NarrowsByte};
 
 use jv_heap::Store;
 use jv_interp_memory::{ARRAY_INDEX, Effect, Held, NULL_POINTER};
@@ -27,7 +26,6 @@ pub fn store_int<'l, S: Store>(
     requires { CanStore 1 how next at.old words.now held.now (S.content store.old) }
     ensures stores { Stores 1 how next words.now held.now at.old (S.content store.old) at.new (S.content store.new) result }
     ensures stays { StaysIn at.old at.new words.now }
-    ensures others { KeepsOthers (array_address 1 at.old words.now) (S.content store.old) (S.content store.new) }
     ensures room { S.room_left store.new ≡ S.room_left store.old }
 {
     let _held = held;
@@ -60,7 +58,6 @@ pub fn store_long<'l, S: Store>(
     requires { CanStore 2 Whole next at.old words.now held.now (S.content store.old) }
     ensures stores { Stores 2 Whole next words.now held.now at.old (S.content store.old) at.new (S.content store.new) result }
     ensures stays { StaysIn at.old at.new words.now }
-    ensures others { KeepsOthers (array_address 2 at.old words.now) (S.content store.old) (S.content store.new) }
     ensures room { S.room_left store.new ≡ S.room_left store.old }
 {
     let _held = held;
@@ -104,7 +101,6 @@ pub fn store_byte<'l, S: Store>(
     requires { CanStoreByte next at.old words.now held.now (S.content store.old) }
     ensures stores { StoresByte next words.now held.now at.old (S.content store.old) at.new (S.content store.new) result }
     ensures stays { StaysIn at.old at.new words.now }
-    ensures others { KeepsOthers (array_address 1 at.old words.now) (S.content store.old) (S.content store.new) }
     ensures room { S.room_left store.new ≡ S.room_left store.old }
 {
     let array = words[at.top - 3];

@@ -35,6 +35,7 @@ module _ (world : World) (texts : List (List ℕ)) (memory : Memory) (addresses 
     cells = h.cells;
     output_left = h.output_left;
     output = h.output;
+    output_room = h.output_room;
     read_within = h.read_within;
     input = h.input;
   }

@@ -1,8 +1,10 @@
 -- The value of an object's field in the words of its block.
 use Rattle.std.proofs.Common.{◌≡◌, ℕ, suc, ◌+◌, Bool, true, false, ◌&&◌, List, [], ◌∷◌, ◌++◌, Some, codes, length, refl, sym, ap, subst, ◌∙◌, if◌then◌else◌}
+use Rattle.std.specs.Prelude.{IsTrue}
 use Rattle.std.specs.Option.{option_map}
 use Rattle.std.specs.Str.{bytes_eq}
-use Rattle.jv_meaning_world.specs.World.{World}
+use Rattle.jv_meaning_world.specs.World.{Loaded, World, class_named}
+use Rattle.jv_meaning_world.specs.Verdicts.{is_loadable}
 use Rattle.jv_meaning_world.specs.LookUps.{DeclaredField}
 use Rattle.jv_meaning_world.proofs.Up.{same_name}
 use Rattle.jv_meaning_linking.specs.Layout.{instance_fields, field_words}
@@ -83,12 +85,13 @@ pub record FieldIn (world : World) (addresses : List ℕ) (instance : Instance) 
 
 pub field_in :
     (world : World) (addresses : List ℕ) (instance : Instance) (block : List ℕ) (d : DeclaredField) (value : Value) (word : ℕ)
+    → ((l : Loaded) → class_named world instance.class ≡ Some l → IsTrue (is_loadable world l))
     → InstanceStands world addresses instance block → BeginsAt world d word → value_at (key_of d) instance.fields ≡ Some value
     → FieldIn world addresses instance d value word block
-field_in world addresses instance block d value word h begins e =
+field_in world addresses instance block d value word loadable h begins e =
     let fields = instance_fields world h.class.l in
     let place = place_there addresses (key_of d) value fields instance.fields h.fields h.stand e in
-    let is : place.0 ≡ word = begins instance.class h.class.l place.0 h.class.named place.1 in
+    let is : place.0 ≡ word = begins instance.class h.class.l place.0 h.class.named (loadable h.class.l h.class.named) place.1 in
     let there = field_stands addresses (key_of d) value fields instance.fields h.fields place.0 h.stand place.1 e in
     let at = there.at in
     record {

@@ -105,6 +105,7 @@ module _ (word width next : ℕ) (here : Place) (texts : List (List ℕ)) (c : C
             instance = got.instance;
             field =
                 field_in c.program.world addresses got.instance (words_at here.blocks top_word) d got.value word
+                (λ l named. h.loadable id got.instance l got.there named)
                 (h.executes.memory.objects.each id top_word (InstanceOf got.instance) r.0 got.there) h.begins got.holds;
             is = got.is;
             under_is = r.1;

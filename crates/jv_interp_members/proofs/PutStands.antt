@@ -1,5 +1,5 @@
 -- putfield on words: the operands, and what stands afterwards.
-use Rattle.std.proofs.Common.{◌≡◌, ℕ, zero, suc, ◌+◌, ◌-◌, ◌<◌, ◌≤◌, List, [], ◌∷◌, ◌++◌, Some, Ok, length, refl, sym, ap, subst, ◌∙◌, get_or, drop, arith, slice_get, length-append, append-nil}
+use Rattle.std.proofs.Common.{◌≡◌, ℕ, zero, suc, ◌+◌, ◌-◌, ◌<◌, ◌≤◌, List, [], ◌∷◌, ◌++◌, Some, Ok, length, refl, sym, ap, subst, ◌∙◌, get_or, drop, set, arith, slice_get, length-append, append-nil}
 use Rattle.jv_text.specs.declared.descriptor.FieldTypeOf.{FieldTypeOf}
 use Rattle.jv_text.specs.declared.descriptor.Element.{Element}
 use Rattle.jv_text.specs.declared.descriptor.Element.TheVariants as elements
@@ -15,7 +15,7 @@ use Rattle.jv_meaning_machine.specs.Objects.Object.{InstanceOf}
 use Rattle.jv_meaning_machine.specs.State.{Memory}
 use Rattle.jv_meaning_machine.specs.Effects.{Effect, Context, null_pointer}
 use Rattle.jv_meaning_machine.specs.Effects.Effect.{Goes, Raises}
-use Rattle.jv_meaning_machine.specs.Fields.{with_object, with_field_value, put_field_of}
+use Rattle.jv_meaning_machine.specs.Fields.{with_object, with_field_value, put_field_of, put_field}
 use Rattle.jv_interp_words.specs.declared.registers.Registers.{Registers}
 use Rattle.jv_interp_words.specs.ValuesInWords.{IsOnTop}
 use Rattle.jv_interp_words.specs.FramesInWords.{in_use, FrameStands}
@@ -23,14 +23,18 @@ use Rattle.jv_interp_words.proofs.InUse.{in_use_top, length-in_use}
 use Rattle.jv_interp_objects.specs.declared.narrowing.Narrowing.{Narrowing}
 use Rattle.jv_interp_objects.specs.ObjectsInBlocks.{Blocks, IsIn, HasNumber}
 use Rattle.jv_interp_objects.specs.Narrowing.{Narrows}
+use Rattle.jv_interp_objects.proofs.Changed.{Changes, word_written, then_changed}
 use Rattle.jv_interp_objects.proofs.Fields.{own_length}
 use Rattle.jv_interp_objects.proofs.Carried.{word_taken, long_taken}
 use Rattle.jv_interp_objects.proofs.Widths.{typed_words, described_words}
 use Rattle.jv_interp_memory.specs.declared.effect.Effect.TheVariants as effects
 use Rattle.jv_interp_memory.specs.EffectsInWords.{EffectStands}
-use Rattle.jv_interp_memory.specs.Executing.{Place, Did}
+use Rattle.jv_interp_memory.specs.Executing.{Place}
+use Rattle.jv_interp_memory.specs.Growing.{DidIn}
 use Rattle.jv_interp_memory.specs.HeldInWords.{MemoryStands}
 use Rattle.jv_interp_memory.proofs.Numbered.{system_numbers}
+use Rattle.jv_interp_memory.proofs.Growths.{changed_grows}
+use Rattle.jv_interp_memory.proofs.Raised.{raised_in}
 use Rattle.jv_interp_memory.proofs.Popped.{Popped, frame_popped, some_used, null_word, reference_word, not_zero}
 use Rattle.jv_interp_members.specs.Fields.{place, PuttingField}
 use Rattle.jv_interp_members.proofs.Got.{done_same}
@@ -140,27 +144,17 @@ module _ (word slots : ℕ) (how : Narrowing) (next : ℕ) (here : Place) (texts
 
     -- ---- null
 
-    pub raises : object_word ≡ 0 → Did texts here (effects.Raises 15) c addresses done below
+    pub raises : object_word ≡ 0 → DidIn here.blocks texts here (effects.Raises 15) c addresses done below
     raises zero_is = by_reference p.object p.does on_top
       where
         by_reference :
             (v : Value) → put_field_of c reference d v (narrowed p.type p.value) p.rest ≡ Ok done
             → IsOnTop addresses v (object_word ∷ in_use here.words (here.at.top - size - 1)) second.under
-            → Did texts here (effects.Raises 15) c addresses done below
+            → DidIn here.blocks texts here (effects.Raises 15) c addresses done below
         by_reference Null does t =
-            let is : done ≡ (c.memory, Raises null_pointer) = done_same (c.memory, Raises null_pointer) done does in
-            subst (λ (x : Memory × Effect). Did texts here (effects.Raises 15) c addresses x below) (sym is)
-            (record {
-              more = [];
-              effect_stands =
-                  subst (λ (l : List ℕ). EffectStands c.program.world l c.frame (Raises null_pointer) (effects.Raises 15) here.at (in_use here.words here.at.top) below)
-                  (sym (append-nil addresses)) (
-                    subst (λ (w : World). HasNumber w null_pointer 15) (sym h.guests.1) (system_numbers h.guests.0).null_pointer,
-                    record { pc_is = h.executes.pc_is; stand = h.executes.frame },
-                  );
-              memory =
-                  subst (λ (l : List ℕ). MemoryStands c.program.world texts c.memory l here.held here.blocks) (sym (append-nil addresses)) h.executes.memory;
-            })
+            raised_in (λ c. put_field c reference d) texts next here c addresses done below h.executes null_pointer 15
+            (done_same (c.memory, Raises null_pointer) done does)
+            (subst (λ (w : World). HasNumber w null_pointer 15) (sym h.guests.1) (system_numbers h.guests.0).null_pointer)
         by_reference (Reference id) does t =
             let r = reference_word addresses id object_word _ second.under t in
             absurd (not_zero addresses id object_word h.executes.memory.objects.are r.0 zero_is)
@@ -194,6 +188,7 @@ module _ (word slots : ℕ) (how : Narrowing) (next : ℕ) (here : Place) (texts
               of = of;
               field =
                   field_in c.program.world addresses of.instance (words_at here.blocks object_word) d of.old word
+                  (λ l named. h.loadable id of.instance l of.there named)
                   (h.executes.memory.objects.each id object_word (InstanceOf of.instance) r.0 of.there) h.begins of.holds;
               rest_is = r.1;
             }
@@ -206,24 +201,28 @@ module _ (word slots : ℕ) (how : Narrowing) (next : ℕ) (here : Place) (texts
     pub went :
         (i : PutsIn) (at : Registers) (after : Blocks) → at.pc ≡ next → at.top ≡ here.at.top - size - 1
         → MemoryStands c.program.world texts (with_object i.id (with_field_value (key_of d) (narrowed p.type p.value) i.of.instance) c.memory) addresses here.held after
-        → Did texts (place at here.words here.held after) effects.Goes c addresses done below
-    went i at after pc_is top_is memory =
-        subst (λ (x : Memory × Effect). Did texts (place at here.words here.held after) effects.Goes c addresses x below) (sym i.of.is)
+        → (block : List ℕ) → Changes object_word block here.blocks after
+        → DidIn here.blocks texts (place at here.words here.held after) effects.Goes c addresses done below
+    went i at after pc_is top_is memory block changes =
+        subst (λ (x : Memory × Effect). DidIn here.blocks texts (place at here.words here.held after) effects.Goes c addresses x below) (sym i.of.is)
         (record {
-          more = [];
-          effect_stands =
-              subst (λ (l : List ℕ). EffectStands c.program.world l c.frame (Goes c.next c.frame.locals p.rest) effects.Goes at (in_use here.words at.top) below)
-              (sym (append-nil addresses))
-              (record {
-                pc_is = pc_is ∙ h.executes.next_is;
-                count = refl;
-                stand =
-                    subst (λ (u : List ℕ). FrameStands addresses c.frame.locals p.rest u below)
-                    (sym (ap (in_use here.words) top_is ∙ i.rest_is)) second.lower;
-              });
-          memory =
-              subst (λ (l : List ℕ). MemoryStands c.program.world texts (with_object i.id (with_field_value (key_of d) (narrowed p.type p.value) i.of.instance) c.memory) l here.held after)
-              (sym (append-nil addresses)) memory;
+          did = record {
+            more = [];
+            effect_stands =
+                subst (λ (l : List ℕ). EffectStands c.program.world l c.frame (Goes c.next c.frame.locals p.rest) effects.Goes at (in_use here.words at.top) below)
+                (sym (append-nil addresses))
+                (record {
+                  pc_is = pc_is ∙ h.executes.next_is;
+                  count = refl;
+                  stand =
+                      subst (λ (u : List ℕ). FrameStands addresses c.frame.locals p.rest u below)
+                      (sym (ap (in_use here.words) top_is ∙ i.rest_is)) second.lower;
+                });
+            memory =
+                subst (λ (l : List ℕ). MemoryStands c.program.world texts (with_object i.id (with_field_value (key_of d) (narrowed p.type p.value) i.of.instance) c.memory) l here.held after)
+                (sym (append-nil addresses)) memory;
+          };
+          grows = changed_grows addresses block i.id object_word here.blocks after i.at changes;
         })
 
     -- the block has the field's words
@@ -243,7 +242,7 @@ module _ (word slots : ℕ) (how : Narrowing) (next : ℕ) (here : Place) (texts
       (one : slots ≡ 1) (stored : ℕ) (at : Registers) (after : Blocks) → Narrows how (get_or here.words (here.at.top - 1) 0) stored
       → (i : PutsIn 1 (one_under one).under) → at.pc ≡ next → at.top ≡ here.at.top - 2
       → after ≡ written here.blocks (get_or here.words (here.at.top - 2) 0) (word + 1) stored
-      → Did texts (place at here.words here.held after) effects.Goes c addresses done below
+      → DidIn here.blocks texts (place at here.words here.held after) effects.Goes c addresses done below
   put_word one stored at after narrows i pc_is top_is after_is =
       let u = one_under one in
       let value_in = narrows addresses p.type p.value (h.narrows p.type p.type_is) p.kind u.value_in in
@@ -253,9 +252,14 @@ module _ (word slots : ℕ) (how : Narrowing) (next : ℕ) (here : Place) (texts
       let memory =
       word_changed c.program.world texts c.memory addresses here.held here.blocks d word i.id (object_word 1 u.under) i.of.instance i.of.old
       (narrowed p.type p.value) h.executes.memory i.at i.of.there i.field (size ∙ sym old_one) stored value_in old_one in
+      let written_is : after ≡ written here.blocks (object_word 1 u.under) (word + 1) stored =
+      after_is ∙ ap (λ (n : ℕ). written here.blocks (get_or here.words n 0) (word + 1) stored) (sym minus) in
       went 1 u.under i at after pc_is (top_is ∙ sym minus)
       (subst (λ (b : Blocks). MemoryStands c.program.world texts (with_object i.id (with_field_value (key_of d) (narrowed p.type p.value) i.of.instance) c.memory) addresses here.held b)
-      (sym (after_is ∙ ap (λ (n : ℕ). written here.blocks (get_or here.words n 0) (word + 1) stored) (sym minus))) memory)
+      (sym written_is) memory)
+      (set (words_at here.blocks (object_word 1 u.under)) (word + 1) stored)
+      (subst (λ (b : Blocks). Changes (object_word 1 u.under) (set (words_at here.blocks (object_word 1 u.under)) (word + 1) stored) here.blocks b) (sym written_is)
+      (word_written here.blocks (object_word 1 u.under) (word + 1) stored))
 
   -- ---- a long, which nothing narrows
 
@@ -263,7 +267,7 @@ module _ (word slots : ℕ) (how : Narrowing) (next : ℕ) (here : Place) (texts
       (two : slots ≡ 2) (at : Registers) (after : Blocks) → IsIn addresses (narrowed p.type p.value) (get_or here.words (here.at.top - 2) 0 ∷ get_or here.words (here.at.top - 1) 0 ∷ [])
       → (i : PutsIn 2 (two_under two).under) → at.pc ≡ next → at.top ≡ here.at.top - 3
       → after ≡ written (written here.blocks (get_or here.words (here.at.top - 3) 0) (word + 1) (get_or here.words (here.at.top - 2) 0)) (get_or here.words (here.at.top - 3) 0) (word + 2) (get_or here.words (here.at.top - 1) 0)
-      → Did texts (place at here.words here.held after) effects.Goes c addresses done below
+      → DidIn here.blocks texts (place at here.words here.held after) effects.Goes c addresses done below
   put_long two at after value_in i pc_is top_is after_is =
       let u = two_under two in
       let low = get_or here.words (here.at.top - 2) 0 in
@@ -274,9 +278,17 @@ module _ (word slots : ℕ) (how : Narrowing) (next : ℕ) (here : Place) (texts
       let memory =
       long_changed c.program.world texts c.memory addresses here.held here.blocks d word i.id (object_word 2 u.under) i.of.instance i.of.old
       (narrowed p.type p.value) h.executes.memory i.at i.of.there i.field (size ∙ sym old_two) low high value_in old_two in
+      let address = object_word 2 u.under in
+      let between = written here.blocks address (word + 1) low in
+      let written_is : after ≡ written between address (word + 2) high =
+      after_is ∙ ap (λ (n : ℕ). written (written here.blocks (get_or here.words n 0) (word + 1) low) (get_or here.words n 0) (word + 2) high) (sym minus) in
       went 2 u.under i at after pc_is (top_is ∙ sym minus)
       (subst (λ (b : Blocks). MemoryStands c.program.world texts (with_object i.id (with_field_value (key_of d) (narrowed p.type p.value) i.of.instance) c.memory) addresses here.held b)
-      (sym (after_is ∙ ap (λ (n : ℕ). written (written here.blocks (get_or here.words n 0) (word + 1) low) (get_or here.words n 0) (word + 2) high) (sym minus))) memory)
+      (sym written_is) memory)
+      (set (words_at between address) (word + 2) high)
+      (subst (λ (b : Blocks). Changes address (set (words_at between address) (word + 2) high) here.blocks b) (sym written_is)
+      (then_changed address (set (words_at here.blocks address) (word + 1) low) (set (words_at between address) (word + 2) high) here.blocks between (written between address (word + 2) high)
+      (word_written here.blocks address (word + 1) low) (word_written between address (word + 2) high)))
 
   -- a long is stored as it is
   pub long_whole : slots ≡ 2 → narrowed p.type p.value ≡ p.value

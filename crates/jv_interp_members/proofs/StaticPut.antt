@@ -1,5 +1,6 @@
 -- putstatic on words: what the machine does stands afterwards.
 use Rattle.std.proofs.Common.{◌≡◌, ℕ, true, ◌+◌, ◌-◌, ◌≤◌, List, [], ◌∷◌, ◌++◌, Some, Ok, length, set, refl, sym, ap, subst, ◌∙◌, get_or, drop, arith, length-append, append-nil, append_assoc}
+use Rattle.std.specs.Prelude.{vec_capacity}
 use Rattle.std.proofs.Math.Seq.{set-append_seam}
 use Rattle.jv_text.specs.declared.descriptor.FieldTypeOf.{FieldTypeOf}
 use Rattle.jv_text.specs.Types.{field_type_of}
@@ -142,6 +143,7 @@ module _ (word width : ℕ) (how : Narrowing) (next : ℕ) (here : Place) (texts
               cells = m.cells ∙ sym (ap (λ (g : Held). g.cells) same);
               output_left = m.output_left ∙ sym (ap (λ (g : Held). g.output_left) same);
               output = m.output ∙ sym (ap (λ (g : Held). g.output.items) same);
+              output_room = subst (λ (g : Held). length g.output.items + g.output_left ≤ vec_capacity g.output) (sym same) m.output_room;
               read_within = subst (λ (g : Held). g.read ≤ length g.input.items) (sym same) m.read_within;
               input = m.input ∙ sym (ap (λ (g : Held). drop g.read g.input.items) same);
             });

@@ -9,12 +9,13 @@ use Rattle.jv_meaning_machine.specs.State.{Memory}
 use Rattle.jv_meaning_machine.specs.Effects.{Effect as EffectOfNames, Context}
 use Rattle.jv_meaning_machine.specs.Fields.{get_field, put_field}
 use Rattle.jv_interp_words.specs.declared.registers.Registers.{Registers}
-use Rattle.jv_interp_objects.specs.ObjectsInBlocks.{Blocks, BeginsAt}
+use Rattle.jv_interp_objects.specs.ObjectsInBlocks.{Blocks, BeginsAt, AreLoadable}
 use Rattle.jv_interp_objects.specs.declared.narrowing.Narrowing.{Narrowing}
 use Rattle.jv_interp_objects.specs.Narrowing.{narrowing_of}
 use Rattle.jv_interp_memory.specs.declared.held.Held.{Held}
 use Rattle.jv_interp_memory.specs.declared.effect.Effect.{Effect}
 use Rattle.jv_interp_memory.specs.Executing.{Place, Executes, HasRoom, Did}
+use Rattle.jv_interp_memory.specs.Growing.{DidIn}
 use Rattle.jv_interp_memory.specs.SystemNumbers.{IsGuestsWorld}
 
 abbrev pub place : Registers → List ℕ → Held → Blocks → Place
@@ -24,6 +25,7 @@ place at words held blocks = record { at = at; words = words; held = held; block
 pub record GettingField (word width : ℕ) (next : ℕ) (here : Place) (texts : List (List ℕ)) (c : Context) (d : DeclaredField) (addresses : List ℕ) (done : Memory × EffectOfNames) (below : List ℕ) : Type 0 where
   pub executes : Executes (λ c. get_field c d) texts next here c addresses done below
   pub begins : BeginsAt c.program.world d word
+  pub loadable : AreLoadable c.program.world c.memory.objects
   pub width_is : field_words d ≡ width
   pub guests : IsGuestsWorld c.program.world
 
@@ -49,6 +51,7 @@ GetsField word width next at words held blocks at_after words_after effect =
 pub record PuttingField (word width : ℕ) (how : Narrowing) (next : ℕ) (here : Place) (texts : List (List ℕ)) (c : Context) (reference : MemberReference) (d : DeclaredField) (addresses : List ℕ) (done : Memory × EffectOfNames) (below : List ℕ) : Type 0 where
   pub executes : Executes (λ c. put_field c reference d) texts next here c addresses done below
   pub begins : BeginsAt c.program.world d word
+  pub loadable : AreLoadable c.program.world c.memory.objects
   pub width_is : field_words d ≡ width
   pub narrows : (type : FieldTypeOf (List ℕ)) → field_type_of d.field.descriptor ≡ Some type → narrowing_of type ≡ how
   pub guests : IsGuestsWorld c.program.world
@@ -68,4 +71,4 @@ PutsField word width how next words held at blocks at_after blocks_after effect 
     (texts : List (List ℕ)) (c : Context) (reference : MemberReference) (d : DeclaredField) (addresses : List ℕ)
     (done : Memory × EffectOfNames) (below : List ℕ)
     → PuttingField word width how next (place at words held blocks) texts c reference d addresses done below
-    → Did texts (place at_after words held blocks_after) effect c addresses done below
+    → DidIn blocks texts (place at_after words held blocks_after) effect c addresses done below

@@ -1,8 +1,7 @@
 //! Fields of objects.
 
-ghost use Rattle.std.specs.Prelude.{◌≡◌, ◌-◌, ◌<◌, slice_index};
+ghost use Rattle.std.specs.Prelude.{◌≡◌, ◌<◌};
 ghost use Rattle.jv_interp_going.specs.Going.{StaysIn};
-ghost use Rattle.jv_interp_memory.specs.Executing.{KeepsOthers};
 ghost use Rattle.jv_interp_objects.specs.declared.narrowing.Narrowing.TheVariants.{Whole};
 ghost use Rattle.jv_interp_members.specs.Fields.{CanGetField, GetsField, CanPutField, PutsField};
 
@@ -84,7 +83,6 @@ pub fn put_field<'l, S: Store>(
     requires can { CanPutField word 1 how next at.old words.now held.now (S.content store.old) }
     ensures puts { PutsField word 1 how next words.now held.now at.old (S.content store.old) at.new (S.content store.new) result }
     ensures stays { StaysIn at.old at.new words.now }
-    ensures others { KeepsOthers (slice_index words.now (at.old.top - 2)) (S.content store.old) (S.content store.new) }
     ensures room { S.room_left store.new ≡ S.room_left store.old }
 {
     let _held = held;
@@ -115,7 +113,6 @@ pub fn put_long_field<'l, S: Store>(
     requires can { CanPutField word 2 Whole next at.old words.now held.now (S.content store.old) }
     ensures puts { PutsField word 2 Whole next words.now held.now at.old (S.content store.old) at.new (S.content store.new) result }
     ensures stays { StaysIn at.old at.new words.now }
-    ensures others { KeepsOthers (slice_index words.now (at.old.top - 3)) (S.content store.old) (S.content store.new) }
     ensures room { S.room_left store.new ≡ S.room_left store.old }
 {
     let _held = held;

@@ -61,6 +61,7 @@ pub fn put_static<'l>(
     requires { CanPutStatic word 1 how next at.old words.now held.old }
     ensures puts { PutsStatic word 1 how next words.now at.old held.old at.new held.new result }
     ensures stays { StaysIn at.old at.new words.now }
+    ensures same { held.new ≡ record held.old { statics = held.new.statics } }
 {
     held.statics[word] = narrowed(how, words[at.top - 1]);
     at.pc = next;
@@ -80,6 +81,7 @@ pub fn put_long_static<'l>(
     requires { CanPutStatic word 2 Narrowing.Whole next at.old words.now held.old }
     ensures puts { PutsStatic word 2 Narrowing.Whole next words.now at.old held.old at.new held.new result }
     ensures stays { StaysIn at.old at.new words.now }
+    ensures same { held.new ≡ record held.old { statics = held.new.statics } }
 {
     held.statics[word] = words[at.top - 2];
     held.statics[word + 1] = words[at.top - 1];

@@ -1,3 +1,4 @@
 pub mod Popped
 pub mod Numbered
+pub mod Growths
 pub mod Raised

@@ -6,29 +6,38 @@ use Rattle.jv_meaning_machine.specs.Effects.{Effect, Context, Outcome}
 use Rattle.jv_meaning_machine.specs.Effects.Effect.{Goes, Raises}
 use Rattle.jv_interp_words.specs.declared.registers.Registers.{Registers}
 use Rattle.jv_interp_words.specs.FramesInWords.{in_use, FrameStands}
-use Rattle.jv_heap.specs.Content.{written}
-use Rattle.jv_interp_objects.specs.ObjectsInBlocks.{Blocks, HasNumber}
-use Rattle.jv_interp_objects.proofs.Changed.{word_written}
+use Rattle.jv_interp_objects.specs.ObjectsInBlocks.{HasNumber}
 use Rattle.jv_interp_memory.specs.declared.effect.Effect.TheVariants as effects
 use Rattle.jv_interp_memory.specs.EffectsInWords.{EffectStands}
-use Rattle.jv_interp_memory.specs.Executing.{Place, Executes, Did, KeepsOthers}
+use Rattle.jv_interp_memory.specs.Executing.{Place, Executes, Did}
 use Rattle.jv_interp_memory.specs.HeldInWords.{MemoryStands}
+use Rattle.jv_interp_memory.specs.Growing.{DidIn}
+use Rattle.jv_interp_memory.proofs.Growths.{same_grows}
 
 module _ (part : Context → Outcome) (texts : List (List ℕ)) (next : ℕ) (here : Place) (c : Context) (addresses : List ℕ) (done : Memory × Effect) (below : List ℕ)
     (h : Executes part texts next here c addresses done below) where
   same_memory : MemoryStands c.program.world texts c.memory (addresses ++ []) here.held here.blocks
   same_memory = subst (λ (l : List ℕ). MemoryStands c.program.world texts c.memory l here.held here.blocks) (sym (append-nil addresses)) h.memory
 
-  pub raised : (class : List ℕ) (number : ℕ) → done ≡ (c.memory, Raises class) → HasNumber c.program.world class number → Did texts here (effects.Raises number) c addresses done below
-  raised class number is has =
-      subst (λ (x : Memory × Effect). Did texts here (effects.Raises number) c addresses x below) (sym is)
+  -- no block was written
+  pub raised_in :
+      (class : List ℕ) (number : ℕ) → done ≡ (c.memory, Raises class) → HasNumber c.program.world class number
+      → DidIn here.blocks texts here (effects.Raises number) c addresses done below
+  raised_in class number is has =
+      subst (λ (x : Memory × Effect). DidIn here.blocks texts here (effects.Raises number) c addresses x below) (sym is)
       (record {
-        more = [];
-        effect_stands =
-            subst (λ (l : List ℕ). EffectStands c.program.world l c.frame (Raises class) (effects.Raises number) here.at (in_use here.words here.at.top) below)
-            (sym (append-nil addresses)) (has, record { pc_is = h.pc_is; stand = h.frame });
-        memory = same_memory;
+        did = record {
+          more = [];
+          effect_stands =
+              subst (λ (l : List ℕ). EffectStands c.program.world l c.frame (Raises class) (effects.Raises number) here.at (in_use here.words here.at.top) below)
+              (sym (append-nil addresses)) (has, record { pc_is = h.pc_is; stand = h.frame });
+          memory = same_memory;
+        };
+        grows = same_grows addresses here.blocks here.blocks refl;
       })
+
+  pub raised : (class : List ℕ) (number : ℕ) → done ≡ (c.memory, Raises class) → HasNumber c.program.world class number → Did texts here (effects.Raises number) c addresses done below
+  raised class number is has = (raised_in class number is has).did
 
   -- it goes on with another stack
   pub went_on :
@@ -44,14 +53,3 @@ module _ (part : Context → Outcome) (texts : List (List ℕ)) (next : ℕ) (he
             (sym (append-nil addresses)) (record { pc_is = pc_is ∙ h.next_is; count = refl; stand = stands });
         memory = same_memory;
       })
-
--- ---- blocks of others
-
-pub word_keeps : (blocks : Blocks) (address place word : ℕ) → KeepsOthers address blocks (written blocks address place word)
-word_keeps blocks address place word =
-    let changes = word_written blocks address place word in
-    record { others = changes.others; same_greatest = changes.same_greatest }
-
-pub both_keep : (address : ℕ) (before between after : Blocks) → KeepsOthers address before between → KeepsOthers address between after → KeepsOthers address before after
-both_keep address before between after h k =
-    record { others = λ other apart. k.others other apart ∙ h.others other apart; same_greatest = k.same_greatest ∙ h.same_greatest }

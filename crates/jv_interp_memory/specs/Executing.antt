@@ -1,7 +1,6 @@
 -- What is executed on words, on what is held and on the store (JVMS 2.11, 6.5): where the machine meets no fault, what it does stands
 -- afterwards.
 use Rattle.std.specs.Prelude.{◌≡◌, ℕ, ◌+◌, ◌≤◌, ⊤, List, ◌++◌, Ok, length}
-use Rattle.jv_heap.specs.Content.{words_at, greatest}
 use Rattle.jv_meaning_machine.specs.Values.{words_of_values}
 use Rattle.jv_meaning_machine.specs.State.{Memory}
 use Rattle.jv_meaning_machine.specs.Effects.{Effect as EffectOfNames, Context, Outcome}
@@ -12,7 +11,7 @@ use Rattle.jv_interp_objects.specs.ObjectsInBlocks.{Blocks}
 use Rattle.jv_interp_memory.specs.declared.held.Held.{Held}
 use Rattle.jv_interp_memory.specs.declared.effect.Effect.{Effect}
 use Rattle.jv_interp_memory.specs.HeldInWords.{MemoryStands}
-use Rattle.jv_interp_memory.specs.EffectsInWords.{EffectStands}
+use Rattle.jv_interp_memory.specs.EffectsInWords.{OutcomeStands}
 
 -- What words, registers, what is held and the store's blocks are, while a method runs.
 pub record Place : Type 0 where
@@ -41,13 +40,5 @@ HasRoom c below size _ = ⊤
 pub record Did (texts : List (List ℕ)) (here : Place) (effect : Effect) (c : Context) (addresses : List ℕ) (done : Memory × EffectOfNames) (below : List ℕ) : Type 0 where
   pub more : List ℕ
   pub effect_stands :
-      EffectStands c.program.world (addresses ++ more) c.frame done.1 effect here.at (in_use here.words here.at.top) below
+      OutcomeStands c.program.world (addresses ++ more) c.frame done effect here.at (in_use here.words here.at.top) below
   pub memory : MemoryStands c.program.world texts done.0 (addresses ++ more) here.held here.blocks
-
--- ---- of other guests
-
--- Only the block at an address has other words now, and the greatest address is the same: so blocks of other guests, which have other
--- addresses, stand as they did.
-pub record KeepsOthers (address : ℕ) (before after : Blocks) : Type 0 where
-  pub others : (other : ℕ) → (other ≡ address → ⊥) → words_at after other ≡ words_at before other
-  pub same_greatest : greatest after ≡ greatest before

@@ -1,5 +1,5 @@
 -- How a guest's memory stands in the blocks of the store and in what is held beside them (JVMS 2.5.3 to 2.5.5).
-use Rattle.std.specs.Prelude.{◌≡◌, ℕ, ◌≤◌, List, Option, Some, None, drop, length, slice_get}
+use Rattle.std.specs.Prelude.{◌≡◌, ℕ, ◌+◌, ◌≤◌, List, Option, Some, None, drop, length, slice_get, vec_capacity}
 use Rattle.std.specs.List.{flat_map}
 use Rattle.jv_meaning_world.specs.World.{Loaded, World}
 use Rattle.jv_meaning_world.specs.LookUps.{DeclaredField, field_by}
@@ -35,7 +35,7 @@ pub record AreLiterals (texts : List (List ℕ)) (addresses : List ℕ) (literal
   pub differ : (number other : ℕ) (text : List ℕ) → slice_get texts number ≡ Some text → slice_get texts other ≡ Some text → other ≡ number
   pub among : (text : List ℕ) (object : ℕ) → literal_in text literals ≡ Some object → (number : ℕ) × (slice_get texts number ≡ Some text)
 
--- ---- all of it
+-- ---- all of it: and there is room for all output that may still be written, so that none of it is ever refused
 
 pub record MemoryStands (world : World) (texts : List (List ℕ)) (memory : Memory) (addresses : List ℕ) (held : Held) (blocks : Blocks) : Type 0 where
   pub objects : ObjectsStand world memory.objects addresses blocks
@@ -46,5 +46,6 @@ pub record MemoryStands (world : World) (texts : List (List ℕ)) (memory : Memo
   pub cells : memory.cells ≡ held.cells
   pub output_left : memory.output_left ≡ held.output_left
   pub output : memory.output ≡ held.output.items
+  pub output_room : length held.output.items + held.output_left ≤ vec_capacity held.output
   pub read_within : held.read ≤ length held.input.items
   pub input : memory.input ≡ drop held.read held.input.items

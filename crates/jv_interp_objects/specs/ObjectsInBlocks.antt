@@ -1,7 +1,7 @@
 -- How the objects of a guest stand in the blocks of a store (JVMS 2.4, 2.7): each in a block of its own, under an address of its own.
 -- A block's first word tells the object's class, or what the components of an array are; an array's second one is its length. Behind
 -- stand the values of the fields, or the components, one behind the other. Whether an object is constructed is told by no word.
-use Rattle.std.specs.Prelude.{◌≡◌, ℕ, ◌+◌, ◌*◌, ◌<◌, ◌≤◌, List, [], ◌∷◌, ◌++◌, length, Option, Some, None, slice_get, if◌then◌else◌}
+use Rattle.std.specs.Prelude.{◌≡◌, ℕ, ◌+◌, ◌*◌, ◌<◌, ◌≤◌, List, [], ◌∷◌, ◌++◌, length, Option, Some, None, IsTrue, slice_get, if◌then◌else◌}
 use Rattle.std.specs.Option.{option_map}
 use Rattle.std.specs.Int.{w32, cast_signed}
 use Rattle.jv_heap.specs.Content.{words_at, greatest}
@@ -13,6 +13,7 @@ use Rattle.jv_text.specs.declared.descriptor.FieldTypeOf.{FieldTypeOf}
 use Rattle.jv_frames.specs.Types.{value_type, width}
 use Rattle.jv_meaning_world.specs.World.{Loaded, World, class_named}
 use Rattle.jv_meaning_world.specs.LookUps.{DeclaredField}
+use Rattle.jv_meaning_world.specs.Verdicts.{is_loadable}
 use Rattle.jv_meaning_linking.specs.Layout.{instance_fields, field_words}
 use Rattle.jv_meaning_machine.specs.Values.{Value, value_words}
 use Rattle.jv_meaning_machine.specs.Values.Value.{Int, Long, Null, Reference, Half, Unset}
@@ -55,11 +56,17 @@ abbrev pub place_among : FieldKey → List DeclaredField → Option ℕ
 place_among key [] = None
 place_among key (d ∷ fields) = if same_key key (key_of d) then Some 0 else option_map (λ n. field_words d + n) (place_among key fields)
 
--- The values of a field begin at a word of the objects that have it, whatever their class.
+-- The values of a field begin at a word of the objects that have it, whatever their class, which is one that can be loaded (5.3.5).
 abbrev pub BeginsAt : World → DeclaredField → ℕ → Type 0
 BeginsAt world d word =
-    (name : List ℕ) (l : Loaded) (place : ℕ) → class_named world name ≡ Some l
+    (name : List ℕ) (l : Loaded) (place : ℕ) → class_named world name ≡ Some l → IsTrue (is_loadable world l)
     → place_among (key_of d) (instance_fields world l) ≡ Some place → place ≡ word
+
+-- Each object is of a class that can be loaded: only such a class is resolved, and the machine makes objects of no others.
+abbrev pub AreLoadable : World → List Object → Type 0
+AreLoadable world objects =
+    (id : ℕ) (instance : Instance) (l : Loaded) → slice_get objects id ≡ Some (InstanceOf instance) → class_named world instance.class ≡ Some l
+    → IsTrue (is_loadable world l)
 
 -- ---- the first word of a block
 

@@ -1,5 +1,6 @@
 -- What a guest holds at its start stands.
-use Rattle.std.proofs.Common.{◌≡◌, ℕ, zero, suc, true, ◌+◌, ◌*◌, List, [], ◌∷◌, ◌++◌, Some, codes, map, filter, length, replicate, slice_get, sum_by, drop, refl, sym, ap, subst, ◌∙◌, arith}
+use Rattle.std.proofs.Common.{◌≡◌, ℕ, zero, suc, true, ◌+◌, ◌*◌, ◌≤◌, List, [], ◌∷◌, ◌++◌, Some, codes, map, filter, length, replicate, slice_get, sum_by, drop, refl, sym, ap, subst, ◌∙◌, arith}
+use Rattle.std.specs.Prelude.{vec_capacity}
 use Rattle.std.specs.List.{flat_map}
 use Rattle.std.proofs.lemmas.List.{length-replicate, map-append}
 use Rattle.std.proofs.lemmas.List.Concat.{flat_map-cons}
@@ -21,7 +22,7 @@ use Rattle.jv_interp_objects.proofs.NewObjects.{fields_begin, instance_joined, a
 use Rattle.jv_interp_memory.specs.declared.held.Held.{Held}
 use Rattle.jv_interp_memory.specs.HeldInWords.{own_static_fields, static_fields, AreLiterals}
 use Rattle.jv_interp_memory.specs.Growing.{Grows}
-use Rattle.jv_interp_creation.proofs.More.{joined_grows, then_grows}
+use Rattle.jv_interp_memory.proofs.Growths.{joined_grows, then_grows}
 use Rattle.jv_interp_start.specs.Starting.{BothJoin, Differ, Starts}
 
 -- ---- the two classes
@@ -145,8 +146,9 @@ module _ (static_words literal_count cells output : ℕ) (input : List ℕ) (bef
   pub begins :
       BothJoin held.out_of_memory held.arguments before after → held.statics.items ≡ replicate static_words 0
       → held.literals.items ≡ replicate literal_count 0 → held.cells + 4 ≡ cells → held.output_left ≡ output → held.output.items ≡ []
+      → length held.output.items + held.output_left ≤ vec_capacity held.output
       → held.input.items ≡ input → held.read ≡ 0 → Starts static_words literal_count input cells output after held
-  begins both statics literals paid left none waits unread world texts budget error h =
+  begins both statics literals paid left none room waits unread world texts budget error h =
       let k = known_in world h.guests.0 error h.guests.1 h.error_named in
       let addresses = held.out_of_memory ∷ held.arguments ∷ [] in
       record {
@@ -158,6 +160,7 @@ module _ (static_words literal_count cells output : ℕ) (input : List ℕ) (bef
         cells = let cost = cost_is world error k.size in let are = h.cells_are in omega (arith, cost, are, paid);
         output_left = h.output_is ∙ sym left;
         output = sym none;
+        output_room = room;
         read_within = omega (arith, unread);
         input = sym (subst (λ (n : ℕ). ◌≡◌ {A = List ℕ} (drop n held.input.items) input) (sym unread) waits);
       }

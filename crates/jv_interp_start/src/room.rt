@@ -55,7 +55,6 @@ pub fn start_memory<S: Store>(
     requires cells { cells ≤ S.room_left store.old }
     ensures starts { IfOk result (Starts static_words literal_count input.now cells output (S.content store.new)) }
     ensures grows { IfOk result (λ held. Grows [] (held.out_of_memory ∷ held.arguments ∷ []) (S.content store.old) (S.content store.new)) }
-    ensures output { IfOk result (λ held. vec_len held.output + held.output_left ≤ vec_capacity held.output) }
     ensures paid { IfOk result (λ held. held.cells + 4 ≡ cells) }
     ensures room { OnOk result (S.room_left store.new + 4 ≡ S.room_left store.old) }
     ensures refused { OnErr result (S.content store.new ≡ S.content store.old) }

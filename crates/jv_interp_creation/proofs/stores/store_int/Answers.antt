@@ -1,7 +1,5 @@
 use Rattle.std.proofs.Common.{◌≡◌, ℕ, ◌+◌, ◌-◌, ◌<◌, [], ◌∷◌, length, refl, sym, ap, subst, get_or, arith}
 use Rattle.jv_interp_objects.specs.ObjectsInBlocks.{Blocks}
-use Rattle.jv_interp_memory.specs.Executing.{KeepsOthers}
-use Rattle.jv_interp_memory.proofs.Raised.{word_keeps}
 use Rattle.jv_interp_creation.specs.Objects.{place}
 use Rattle.jv_interp_creation.proofs.StoredIn.{one_above}
 use Rattle.jv_interp_creation.proofs.StoredThere.{below_one, all_there, null_raises, in_array, count_word, block_size, few_values, outside_raises, word_stored}
@@ -102,10 +100,3 @@ returns-clause-stores g c = λ texts x kind addresses done below h narrows.
     let low : c.args.at.now.top - 3 ≡ c.args.at.now.top - 1 - 2 = omega arith in
     word_stored 1 c.args.next here texts x kind addresses done below h (get_or c.args.words.now (c.args.at.now.top - 1) 0 ∷ []) u (get_or c.args.words.now (c.args.at.now.top - 3) 0) (get_or c.args.words.now (c.args.at.now.top - 2) 0) a b i c.args.how c.narrowed-value.result _ (g.S.Store.content c.set.new.self) refl within refl c.narrowed-value.ensures narrows refl low
     c.set.ensures.content
-
-pub returns-clause-others : goal.returns-clause-others
-returns-clause-others g c =
-    let a : get_or c.args.words.now (c.args.at.now.top - 1 - 2) 0 ≡ get_or c.args.words.now (c.args.at.now.top - 3) 0 = ap (λ (n : ℕ). get_or c.args.words.now n 0) (below_one c.args.at.now.top).0 in
-    subst (λ (n : ℕ). KeepsOthers n (g.S.Store.content c.args.store.now) (g.S.Store.content c.set.new.self)) (sym a)
-    (subst (λ (k : Blocks). KeepsOthers (get_or c.args.words.now (c.args.at.now.top - 3) 0) (g.S.Store.content c.args.store.now) k) (sym c.set.ensures.content)
-    (word_keeps (g.S.Store.content c.args.store.now) (get_or c.args.words.now (c.args.at.now.top - 3) 0) ((get_or c.args.words.now (c.args.at.now.top - 2) 0) + 2) c.narrowed-value.result))

@@ -3,8 +3,6 @@ use Rattle.std.proofs.lemmas.List.{length-set}
 use Rattle.jv_heap.specs.Content.{words_at, written}
 use Rattle.jv_interp_objects.specs.ObjectsInBlocks.{Blocks}
 use Rattle.jv_interp_objects.proofs.Changed.{word_written}
-use Rattle.jv_interp_memory.specs.Executing.{KeepsOthers}
-use Rattle.jv_interp_memory.proofs.Raised.{word_keeps, both_keep}
 use Rattle.jv_interp_creation.specs.Objects.{place}
 use Rattle.jv_interp_creation.proofs.StoredIn.{two_above}
 use Rattle.jv_interp_creation.proofs.StoredThere.{below_two, all_there, null_raises, in_array, count_word, block_size, few_values, outside_raises, long_stored}
@@ -157,14 +155,3 @@ returns-clause-stores g c = λ texts x kind addresses done below h narrows.
     let low : c.args.at.now.top - 4 ≡ c.args.at.now.top - 2 - 2 = omega arith in
     long_stored 2 c.args.next here texts x kind addresses done below h (get_or c.args.words.now (c.args.at.now.top - 2) 0 ∷ get_or c.args.words.now (c.args.at.now.top - 1) 0 ∷ []) u (get_or c.args.words.now (c.args.at.now.top - 4) 0) (get_or c.args.words.now (c.args.at.now.top - 3) 0) a b i (get_or c.args.words.now (c.args.at.now.top - 2) 0) (get_or c.args.words.now (c.args.at.now.top - 1) 0) _ (g.S.Store.content c.set-2.new.self) refl within refl refl low
     (c.set-2.ensures.content ∙ ap (λ (k : Blocks). written k (get_or c.args.words.now (c.args.at.now.top - 4) 0) ((get_or c.args.words.now (c.args.at.now.top - 3) 0) * 2 + 3) (get_or c.args.words.now (c.args.at.now.top - 1) 0)) c.set.ensures.content)
-
-pub returns-clause-others : goal.returns-clause-others
-returns-clause-others g c =
-    let a : get_or c.args.words.now (c.args.at.now.top - 2 - 2) 0 ≡ get_or c.args.words.now (c.args.at.now.top - 4) 0 = ap (λ (n : ℕ). get_or c.args.words.now n 0) (below_two c.args.at.now.top).0 in
-    let before = g.S.Store.content c.args.store.now in
-    let between = g.S.Store.content c.set.new.self in
-    let after = g.S.Store.content c.set-2.new.self in
-    subst (λ (n : ℕ). KeepsOthers n before after) (sym a)
-    (both_keep (get_or c.args.words.now (c.args.at.now.top - 4) 0) before between after
-    (subst (λ (k : Blocks). KeepsOthers (get_or c.args.words.now (c.args.at.now.top - 4) 0) before k) (sym c.set.ensures.content) (word_keeps before (get_or c.args.words.now (c.args.at.now.top - 4) 0) ((get_or c.args.words.now (c.args.at.now.top - 3) 0) * 2 + 2) (get_or c.args.words.now (c.args.at.now.top - 2) 0)))
-    (subst (λ (k : Blocks). KeepsOthers (get_or c.args.words.now (c.args.at.now.top - 4) 0) between k) (sym c.set-2.ensures.content) (word_keeps between (get_or c.args.words.now (c.args.at.now.top - 4) 0) ((get_or c.args.words.now (c.args.at.now.top - 3) 0) * 2 + 3) (get_or c.args.words.now (c.args.at.now.top - 1) 0))))

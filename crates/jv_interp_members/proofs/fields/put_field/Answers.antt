@@ -1,6 +1,3 @@
-use Rattle.jv_interp_memory.proofs.Raised.{word_keeps}
-use Rattle.jv_interp_memory.specs.Executing.{KeepsOthers}
-use Rattle.jv_interp_objects.specs.ObjectsInBlocks.{Blocks}
 use Rattle.std.proofs.Common.{◌≡◌, ℕ, ◌+◌, ◌-◌, ◌<◌, length, refl, sym, ap, subst, ◌∙◌, get_or, arith}
 use Rattle.jv_interp_members.specs.Fields.{place}
 use Rattle.jv_interp_members.proofs.PutStands.{one_under, raises, puts_in, block_length, put_word}
@@ -69,8 +66,3 @@ overflow_sub-at-2 g c =
     let u = one_under c.args.word 1 c.args.how c.args.next here r.texts r.c r.reference r.d r.addresses r.done r.below r.puts refl in
     let e = u.under.enough in
     omega (arith, e)
-
-pub returns-clause-others : goal.returns-clause-others
-returns-clause-others g c =
-    subst (λ (b : Blocks). KeepsOthers (get_or c.args.words.now (c.args.at.now.top - 2) 0) (g.S.Store.content c.args.store.now) b) (sym c.set.ensures.content)
-    (word_keeps (g.S.Store.content c.args.store.now) (get_or c.args.words.now (c.args.at.now.top - 2) 0) (c.args.word + 1) c.narrowed-value.result)

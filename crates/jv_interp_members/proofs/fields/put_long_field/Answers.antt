@@ -1,6 +1,3 @@
-use Rattle.jv_interp_memory.proofs.Raised.{word_keeps, both_keep}
-use Rattle.jv_interp_memory.specs.Executing.{KeepsOthers}
-use Rattle.jv_interp_objects.specs.ObjectsInBlocks.{Blocks}
 use Rattle.std.proofs.Common.{◌≡◌, ℕ, ◌+◌, ◌-◌, ◌<◌, List, length, refl, sym, ap, subst, ◌∙◌, get_or, arith}
 use Rattle.std.proofs.lemmas.List.{length-set}
 use Rattle.jv_heap.specs.Content.{words_at}
@@ -86,14 +83,3 @@ returns-clause-puts g c = λ texts x reference d addresses done below h.
     put_long c.args.word 2 Whole c.args.next here texts x reference d addresses done below h refl _ _
     (rw (long_whole c.args.word 2 Whole c.args.next here texts x reference d addresses done below h refl) u.value_in) i refl refl
     (rw c.set-2.ensures.content (rw c.set.ensures.content refl))
-
-pub returns-clause-others : goal.returns-clause-others
-returns-clause-others g c =
-    let address = get_or c.args.words.now (c.args.at.now.top - 3) 0 in
-    let first =
-    subst (λ (b : Blocks). KeepsOthers address (g.S.Store.content c.args.store.now) b) (sym c.set.ensures.content)
-    (word_keeps (g.S.Store.content c.args.store.now) address (c.args.word + 1) (get_or c.args.words.now (c.args.at.now.top - 2) 0)) in
-    let second =
-    subst (λ (b : Blocks). KeepsOthers address (g.S.Store.content c.set.new.self) b) (sym c.set-2.ensures.content)
-    (word_keeps (g.S.Store.content c.set.new.self) address (c.args.word + 2) (get_or c.args.words.now (c.args.at.now.top - 1) 0)) in
-    both_keep address (g.S.Store.content c.args.store.now) (g.S.Store.content c.set.new.self) (g.S.Store.content c.set-2.new.self) first second
