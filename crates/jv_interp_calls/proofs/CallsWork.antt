@@ -1,5 +1,5 @@
 -- Calls of an object's methods in words: what the machine does stands afterwards.
-use Rattle.std.proofs.Common.{◌≡◌, ℕ, suc, ◌+◌, ◌-◌, ◌<◌, ◌≤◌, Bool, true, false, not, List, [], ◌∷◌, ◌++◌, Option, Some, None, Ok, Err, length, reverse, refl, sym, ap, subst, ◌∙◌, get_or, arith, slice_get, inl, inr}
+use Rattle.std.proofs.Common.{◌≡◌, ℕ, suc, ◌+◌, ◌-◌, ◌<◌, ◌≤◌, Bool, true, false, not, List, [], ◌∷◌, ◌++◌, Option, Some, None, Ok, Err, length, reverse, refl, sym, ap, subst, ◌∙◌, get_or, arith, append_assoc, slice_get, inl, inr}
 use Rattle.std.specs.Prelude.{◌⊎◌, Result, IsTrue, if◌then◌else◌}
 use Rattle.std.specs.List.{flat_map}
 use Rattle.std.proofs.lemmas.List.{reverse-append}
@@ -54,10 +54,23 @@ use Rattle.jv_interp_calls.specs.Calling.{Calling, IsVirtual}
 use Rattle.jv_interp_calls.proofs.Sites.{some_same}
 use Rattle.jv_interp_calls.proofs.Called.{done_same, unless_raised, unless_next, CalledOn, called_on}
 use Rattle.jv_interp_calls.proofs.Arguments.{OnReceiver, on_receiver}
-use Rattle.jv_interp_calls.proofs.Entered.{Enterable, entered, constructed}
+use Rattle.jv_interp_calls.proofs.Entered.{left_within, Enterable, entered, constructed}
 use Rattle.jv_interp_calls.proofs.ObjectClasses.{HasClass, has_class}
 use Rattle.jv_interp_calls.proofs.StaticFlags.{virtual_on, special_on, interface_on}
 use Rattle.jv_interp_calls.proofs.AtSite.{it, Found, found, few_words}
+
+-- ---- an instance that is found among the objects
+
+instance_is : (object : Object) (instance : Instance) → instance_in object ≡ Ok instance → object ≡ InstanceOf instance
+instance_is (InstanceOf known) instance e = cc
+instance_is (ArrayWith components values) instance e = absurd cc
+
+instance_there :
+    (objects : List Object) (id : ℕ) (instance : Instance) → (object_at objects id >>= instance_in) ≡ Ok instance
+    → slice_get objects id ≡ Some (InstanceOf instance)
+instance_there objects id instance e =
+    let parts = bound_gave (object_at objects id) instance_in instance e in
+    found_gave ReferenceFault (slice_get objects id) parts.0 parts.1 ∙ ap Some (instance_is parts.0 instance parts.2)
 
 -- ---- instructions that call a method of an object
 
@@ -195,6 +208,9 @@ module _ (how : Use) (index next : ℕ) (k : Known) (here : Place) (texts : List
             subst (λ (vs : List Value). AreOnTop addresses vs (in_use here.words here.at.top) words.under)
             (ap (λ (v : Value). reverse on.arguments ++ v ∷ []) r.is ∙ sym (reverse-append (Reference r.id ∷ []) on.arguments)) words.on_top;
         left = words.left;
+        no_more =
+            left_within (reverse on.arguments ++ on.receiver ∷ []) on.rest c.frame.stack
+            (on.passed.stood ∙ sym (append_assoc (reverse on.arguments) (on.receiver ∷ []) on.rest));
       }
     where
       one_more : (n : ℕ) → 1 + n ≡ suc n
@@ -313,6 +329,9 @@ module _ (how : Use) (index next : ℕ) (k : Known) (here : Place) (texts : List
       (done_same (c.memory, Constructs f.target.declared r.id same.0 on.arguments on.rest) done
       (unless_next c (select (world_at c) (site_at c) Invokespecial f.target None)
       (λ t. Ok (c.memory, Constructs t.declared r.id same.0 on.arguments on.rest)) (target f.target.named f.target.declared) done itself same.2))
+      (instance_there c.memory.objects r.id instance.0 instance.1
+      ∙ ap (λ (i : Instance). Some (InstanceOf i))
+      (tested_gave ConstructionFault (can_enter (world_at c) instance.0 f.target.declared.by.class.name) instance.0 same.0 same.1).1)
       (enterable r f.target.declared number has)
 
   pub virtual_does : IsVirtualUse (seen_use how) → call_on c (seen_use how) f.target on.arguments on.receiver on.rest ≡ Ok done

@@ -1,10 +1,12 @@
 -- A method that is entered, an initialization that is begun and an object that is thrown: they stand, where all else is as it was.
-use Rattle.std.proofs.Common.{◌≡◌, ℕ, List, [], ◌∷◌, ◌++◌, Option, Some, length, reverse, refl, sym, ap, subst, ◌∙◌, append-nil, slice_get}
+use Rattle.std.proofs.Common.{◌≡◌, ℕ, ◌≤◌, List, [], ◌∷◌, ◌++◌, Option, Some, length, reverse, refl, sym, ap, subst, ◌∙◌, append-nil, arith, slice_get}
 use Rattle.std.specs.List.{flat_map}
+use Rattle.std.proofs.lemmas.List.Sums.{sum_by-append}
 use Rattle.jv_meaning_world.specs.World.{Loaded}
 use Rattle.jv_meaning_world.specs.Overriding.{Declared}
-use Rattle.jv_meaning_machine.specs.Values.{Value}
+use Rattle.jv_meaning_machine.specs.Values.{Value, value_words, words_of_values}
 use Rattle.jv_meaning_machine.specs.Objects.{Instance}
+use Rattle.jv_meaning_machine.specs.Objects.Object.{InstanceOf}
 use Rattle.jv_meaning_machine.specs.Frames.{local_words}
 use Rattle.jv_meaning_machine.specs.State.{Memory}
 use Rattle.jv_meaning_machine.specs.Effects.{Effect, Context, Outcome}
@@ -14,22 +16,28 @@ use Rattle.jv_interp_words.specs.ValuesInWords.{AreOnTop}
 use Rattle.jv_interp_words.specs.FramesInWords.{in_use, FrameStands, methods_of}
 use Rattle.jv_interp_memory.specs.declared.effect.Effect.{Effect as EffectInWords}
 use Rattle.jv_interp_memory.specs.declared.effect.Effect.TheVariants as effects
-use Rattle.jv_interp_memory.specs.EffectsInWords.{EntersWith, EffectStands}
+use Rattle.jv_interp_memory.specs.EffectsInWords.{EntersWith, OutcomeStands}
 use Rattle.jv_interp_memory.specs.Executing.{Place, Executes, Did}
 use Rattle.jv_interp_memory.specs.HeldInWords.{MemoryStands}
+
+-- what is left of a stack has no more words than all of it
+pub left_within : (front rest stack : List Value) → stack ≡ front ++ rest → words_of_values rest ≤ words_of_values stack
+left_within front rest stack e =
+    let all : words_of_values stack ≡ words_of_values (front ++ rest) = ap words_of_values e in
+    omega (arith, all, sum_by-append value_words front rest)
 
 module _ (part : Context → Outcome) (texts : List (List ℕ)) (next : ℕ) (here : Place) (c : Context) (addresses : List ℕ) (done : Memory × Effect) (below : List ℕ)
     (h : Executes part texts next here c addresses done below) where
   stands :
       (effect : Effect) (in_words : EffectInWords) → done ≡ (c.memory, effect)
-      → EffectStands c.program.world addresses c.frame effect in_words here.at (in_use here.words here.at.top) below
+      → OutcomeStands c.program.world addresses c.frame (c.memory, effect) in_words here.at (in_use here.words here.at.top) below
       → Did texts here in_words c addresses done below
   stands effect in_words is e =
       subst (λ (x : Memory × Effect). Did texts here in_words c addresses x below) (sym is)
       (record {
         more = [];
         effect_stands =
-            subst (λ (l : List ℕ). EffectStands c.program.world l c.frame effect in_words here.at (in_use here.words here.at.top) below)
+            subst (λ (l : List ℕ). OutcomeStands c.program.world l c.frame (c.memory, effect) in_words here.at (in_use here.words here.at.top) below)
             (sym (append-nil addresses)) e;
         memory =
             subst (λ (l : List ℕ). MemoryStands c.program.world texts c.memory l here.held here.blocks) (sym (append-nil addresses)) h.memory;
@@ -41,6 +49,7 @@ module _ (part : Context → Outcome) (texts : List (List ℕ)) (next : ℕ) (he
     pub under : List ℕ
     pub on_top : AreOnTop addresses (reverse passed) (in_use here.words here.at.top) under
     pub left : FrameStands addresses c.frame.locals stack under below
+    pub no_more : words_of_values stack ≤ words_of_values c.frame.stack
 
   enters_with :
       (d : Declared) (passed stack : List Value) (number words : ℕ) → Enterable d passed stack number words
@@ -53,6 +62,7 @@ module _ (part : Context → Outcome) (texts : List (List ℕ)) (next : ℕ) (he
         under = e.under;
         on_top = e.on_top;
         left = e.left;
+        no_more = e.no_more;
       }
 
   pub entered :
@@ -64,11 +74,11 @@ module _ (part : Context → Outcome) (texts : List (List ℕ)) (next : ℕ) (he
 
   pub constructed :
       (d : Declared) (object : ℕ) (instance : Instance) (arguments stack : List Value) (number words : ℕ)
-      → done ≡ (c.memory, Constructs d object instance arguments stack) → Enterable d (passed_values (Some object) arguments) stack number words
-      → Did texts here (effects.Enters number words) c addresses done below
-  constructed d object instance arguments stack number words is e =
+      → done ≡ (c.memory, Constructs d object instance arguments stack) → slice_get c.memory.objects object ≡ Some (InstanceOf instance)
+      → Enterable d (passed_values (Some object) arguments) stack number words → Did texts here (effects.Enters number words) c addresses done below
+  constructed d object instance arguments stack number words is there e =
       stands (Constructs d object instance arguments stack) (effects.Enters number words) is
-      (enters_with d (passed_values (Some object) arguments) stack number words e)
+      (there, enters_with d (passed_values (Some object) arguments) stack number words e)
 
   pub begun : (l : Loaded) (number : ℕ) → done ≡ (c.memory, Begins l) → slice_get c.program.world number ≡ Some l → Did texts here (effects.Begins number) c addresses done below
   begun l number is at = stands (Begins l) (effects.Begins number) is (at, record { pc_is = h.pc_is; stand = h.frame })

@@ -1,6 +1,6 @@
 -- host/Io's methods on words: what the machine does stands afterwards.
 use Rattle.std.proofs.Common.{◌≡◌, ℕ, zero, suc, ℤ, pos, negsuc, ◌+◌, ◌-◌, ◌*◌, ◌%◌, ◌<◌, ◌≤◌, Bool, true, false, List, [], ◌∷◌, ◌++◌, length, drop, set, Ok, refl, sym, ap, subst, ◌∙◌, get_or, arith, append-nil}
-use Rattle.std.specs.Prelude.{◌==◌, vec_len, if◌then◌else◌}
+use Rattle.std.specs.Prelude.{◌==◌, vec_len, vec_capacity, if◌then◌else◌}
 use Rattle.std.specs.Int.{w32, cast_signed, cast_unsigned}
 use Rattle.std.proofs.lemmas.Int.{of_z-to_z, to_z_pos}
 use Rattle.std.proofs.lemmas.Bool.Decides.{Decides-eqb}
@@ -65,8 +65,9 @@ module _ (next : ℕ) (here : Place) (texts : List (List ℕ)) (c : Context) (nu
       (at : Registers) (held : Held) (byte : ℕ) → (here.held.output_left ≡ 0 → ⊥) → at.pc ≡ next → at.top ≡ here.at.top - 1
       → held ≡ record here.held { output = held.output; output_left = here.held.output_left - 1 } → byte ≡ word % 256 → word < 4294967296
       → held.output.items ≡ here.held.output.items ++ byte ∷ []
+      → length held.output.items + (here.held.output_left - 1) ≤ vec_capacity held.output
       → Did texts (place at here.words held here.blocks) effects.Goes c addresses done below
-  writes at held byte other pc_is top_is held_is byte_is fits joins =
+  writes at held byte other pc_is top_is held_is byte_is fits joins room =
       let left : (c.memory.output_left ≡ 0 → ⊥) = λ e. other (sym h.executes.memory.output_left ∙ e) in
       let is : done ≡ (with_byte_written number c.memory, Goes c.next c.frame.locals rest) =
       done_same (with_byte_written number c.memory, Goes c.next c.frame.locals rest) done
@@ -105,6 +106,7 @@ module _ (next : ℕ) (here : Place) (texts : List (List ℕ)) (c : Context) (nu
                   ap (λ (l : List ℕ). l ++ cast_unsigned w32 number % 256 ∷ []) m.output
                   ∙ ap (λ (n : ℕ). here.held.output.items ++ n % 256 ∷ []) unsigned
                   ∙ ap (λ (n : ℕ). here.held.output.items ++ n ∷ []) (sym byte_is) ∙ sym joins;
+              output_room = room;
               read_within = m.read_within;
               input = m.input;
             }));
@@ -222,6 +224,7 @@ module _ (next : ℕ) (here : Place) (texts : List (List ℕ)) (c : Context) (ad
               cells = m.cells;
               output_left = m.output_left;
               output = m.output;
+              output_room = m.output_room;
               read_within = r.within;
               input = r.input_is;
             }));

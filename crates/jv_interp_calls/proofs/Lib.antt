@@ -11,5 +11,7 @@ pub mod CallsWork
 pub mod HostWork
 pub mod HostMethods
 pub mod StaticWork
+pub mod WorldNames
+pub mod FieldsOfFiles
+pub mod FieldPlaces
 pub mod UsedAtSite
-pub mod OwnersAlone

@@ -1,5 +1,6 @@
 -- Methods at places.
-use Rattle.std.proofs.Common.{◌≡◌, ℕ, ◌<◌, Option, Some, None, length, refl, sym, ap, subst, ◌∙◌, slice_get}
+use Rattle.std.proofs.Common.{◌≡◌, ℕ, zero, suc, ◌<◌, List, [], ◌∷◌, Option, Some, None, length, refl, sym, ap, subst, ◌∙◌, slice_get}
+use Rattle.std.specs.List.{Contains}
 use Rattle.std.specs.Option.{option_map}
 use Rattle.jv_format.specs.Format.{◌>>=◌}
 use Rattle.jv_class.specs.Class.{Field, Method}
@@ -7,6 +8,7 @@ use Rattle.jv_meaning_world.specs.World.{Loaded, World}
 use Rattle.jv_meaning_world.specs.Overriding.{Declared}
 use Rattle.jv_meaning_world.specs.Verdicts.{declared_by}
 use Rattle.jv_meaning_world.specs.LookUps.{DeclaredField, field_by}
+use Rattle.jv_meaning_world.proofs.Up.{first, later}
 use Rattle.jv_lookups.specs.declared.place.Place.{Place}
 use Rattle.jv_lookups.specs.Places.{field_in, field_at, method_of, method_at, IsMethodPlace}
 use Rattle.jv_meaning_linking.specs.MethodResolution.{MethodTarget, target}
@@ -76,3 +78,22 @@ field_class world place d e = by_class (slice_get world place.class) refl e
     by_class : (o : Option Loaded) → slice_get world place.class ≡ o → (o >>= field_in place.member) ≡ Some d → slice_get world place.class ≡ Some d.by
     by_class None at e = absurd cc
     by_class (Some l) at e = by_member l (slice_get l.class.fields place.member) at e
+
+-- ---- what stands at a place is contained
+
+pub stood : {A : Type 0} (xs : List A) (k : ℕ) (x : A) → slice_get xs k ≡ Some x → Contains xs x
+stood [] k x e = absurd cc
+stood (y ∷ xs) zero x e = subst (λ (z : _). Contains (y ∷ xs) z) (some_same y x e) (first y xs)
+stood (y ∷ xs) (suc k) x e = later y xs x (stood xs k x e)
+
+pub field_there : (world : World) (place : Place) (d : DeclaredField) → field_at world place ≡ Some d → Contains d.by.class.fields d.field
+field_there world place d e = by_class (slice_get world place.class) e
+  where
+    by_member : (l : Loaded) (o : Option Field) → slice_get l.class.fields place.member ≡ o → option_map (field_by l) o ≡ Some d → Contains d.by.class.fields d.field
+    by_member l None at e = absurd cc
+    by_member l (Some f) at e =
+        subst (λ (x : DeclaredField). Contains x.by.class.fields x.field) (some_same (field_by l f) d e) (stood l.class.fields place.member f at)
+
+    by_class : (o : Option Loaded) → (o >>= field_in place.member) ≡ Some d → Contains d.by.class.fields d.field
+    by_class None e = absurd cc
+    by_class (Some l) e = by_member l (slice_get l.class.fields place.member) refl e

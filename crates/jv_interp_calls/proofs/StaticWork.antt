@@ -38,7 +38,7 @@ use Rattle.jv_interp_calls.specs.Host.{Writing, Reading}
 use Rattle.jv_interp_calls.proofs.Sites.{some_same, AtPlace, at_place}
 use Rattle.jv_interp_calls.proofs.Called.{done_same, Passed, passed}
 use Rattle.jv_interp_calls.proofs.Arguments.{OnFrame, on_frame}
-use Rattle.jv_interp_calls.proofs.Entered.{Enterable, entered, begun}
+use Rattle.jv_interp_calls.proofs.Entered.{left_within, Enterable, entered, begun}
 use Rattle.jv_interp_calls.proofs.HostMethods.{io_at, other_class, write_at, read_at}
 use Rattle.jv_interp_calls.proofs.AtSite.{it, Found, found, few_words}
 
@@ -128,6 +128,7 @@ module _ (index next : ℕ) (k : Known) (here : Place) (texts : List (List ℕ))
           under = words.under;
           on_top = words.on_top;
           left = words.left;
+          no_more = left_within (reverse runs.arguments) runs.rest c.frame.stack runs.passed.stood;
         })
 
     -- ---- host/Io's

@@ -36,20 +36,23 @@ use Rattle.jv_meaning_machine.specs.Effects.{Effect, Context, Outcome, world_at,
 use Rattle.jv_meaning_machine.specs.Effects.Effect.{Begins}
 use Rattle.jv_meaning_machine.specs.Fields.{get_static, put_static, get_field, put_field, access_field, use_for, use_field}
 use Rattle.jv_interp_words.proofs.Gave.{bound_gave, found_gave}
+use Rattle.jv_interp_objects.specs.ObjectsInBlocks.{AreLoadable}
 use Rattle.jv_interp_objects.specs.Narrowing.{narrowing_at, narrowing_of}
 use Rattle.jv_interp_objects.specs.declared.narrowing.Narrowing.{Narrowing}
 use Rattle.jv_interp_objects.specs.declared.narrowing.Narrowing.TheVariants as narrowings
 use Rattle.jv_interp_objects.proofs.Widths.{described_words}
 use Rattle.jv_interp_memory.specs.declared.effect.Effect.TheVariants as effects
 use Rattle.jv_interp_memory.specs.Executing.{Place, Executes, Did}
+use Rattle.jv_interp_memory.specs.Growing.{DidIn}
 use Rattle.jv_interp_memory.specs.SystemNumbers.{IsGuestsWorld}
-use Rattle.jv_interp_memory.proofs.Raised.{raised}
+use Rattle.jv_interp_memory.proofs.Raised.{raised_in}
 use Rattle.jv_interp_members.specs.Fields.{GettingField, PuttingField}
 use Rattle.jv_interp_members.specs.Statics.{GettingStatic, PuttingStatic}
 use Rattle.jv_interp_calls.specs.Known.{Known}
 use Rattle.jv_interp_calls.specs.Resolved.{IsFieldOf, ResolvesField, IsUsedField}
-use Rattle.jv_interp_calls.specs.Using.{StandsAtItsWord, Using}
-use Rattle.jv_interp_calls.proofs.Sites.{some_same, AtPlace, at_place, is_place, field_class}
+use Rattle.jv_interp_calls.specs.Using.{Using}
+use Rattle.jv_interp_calls.proofs.FieldPlaces.{StandsAtItsWord, stands_at_word}
+use Rattle.jv_interp_calls.proofs.Sites.{some_same, AtPlace, at_place, is_place, field_class, stood, field_there}
 use Rattle.jv_interp_calls.proofs.Called.{done_same, unless_raised, unless_next}
 use Rattle.jv_interp_calls.proofs.Entered.{begun}
 
@@ -143,12 +146,17 @@ module _ (how : FieldAccess) (index next : ℕ) (k : Known) (here : Place) (text
       subst (λ (w : World). ResolvesField w (resolve_field w c.frame.method.site (use_for how) it.reference) answer) (sym h.known.world)
       (resolves answer clause)
 
-  pub failed : (number : ℕ) → IsUsedField k.world k.site (by_number how) index (Err number) → Did texts here (effects.Raises number) c addresses done below
-  failed number clause =
+  pub failed_in :
+      (number : ℕ) → IsUsedField k.world k.site (by_number how) index (Err number)
+      → DidIn here.blocks texts here (effects.Raises number) c addresses done below
+  failed_in number clause =
       let e = resolves_here (Err number) clause in
-      raised part texts next here c addresses done below h.executes (error_class e.error) number
+      raised_in part texts next here c addresses done below h.executes (error_class e.error) number
       (unless_raised c (resolve_field c.program.world c.frame.method.site (use_for how) it.reference) (access_field c how it.reference)
       e.error done e.is it.does) e.numbered
+
+  pub failed : (number : ℕ) → IsUsedField k.world k.site (by_number how) index (Err number) → Did texts here (effects.Raises number) c addresses done below
+  failed number clause = (failed_in number clause).did
 
   -- ---- a field
 
@@ -191,7 +199,8 @@ module _ (how : FieldAccess) (index next : ℕ) (k : Known) (here : Place) (text
     stands : StandsAtItsWord c.program.world d using_it.word
     stands =
         subst (λ (w : World). StandsAtItsWord w d using_it.word) (sym h.known.world)
-        (h.fields c.frame.method.site (use_for how) it.reference d using_it.word is (use_of.word d at))
+        (stands_at_word k.world h.known.guests d using_it.word (stood k.world using_it.place.class d.by class_at)
+        (field_there k.world using_it.place d at) (use_of.word d at) h.known.few)
 
     type : (t : FieldTypeOf (List ℕ)) × (field_type_of d.field.descriptor ≡ Some t)
     type = some_type (field_type_of d.field.descriptor) stands.typed
@@ -223,6 +232,7 @@ module _ (how : FieldAccess) (index next : ℕ) (k : Known) (here : Place) (text
         record {
           executes = executed (λ c. get_field c d) (subst (λ (a : FieldAccess). access_field c a it.reference d ≡ Ok done) e does);
           begins = stands.instance (not_static_get e);
+          loadable = subst (λ (w : World). AreLoadable w c.memory.objects) (sym h.known.world) h.loadable;
           width_is = wide;
           guests = guests;
         }
@@ -235,6 +245,7 @@ module _ (how : FieldAccess) (index next : ℕ) (k : Known) (here : Place) (text
         record {
           executes = executed (λ c. put_field c it.reference d) (subst (λ (a : FieldAccess). access_field c a it.reference d ≡ Ok done) e does);
           begins = stands.instance (not_static_put e);
+          loadable = subst (λ (w : World). AreLoadable w c.memory.objects) (sym h.known.world) h.loadable;
           width_is = wide;
           narrows = by_type;
           guests = guests;

@@ -7,13 +7,13 @@ use Rattle.jv_link.specs.declared.site.Use.{Use}
 use Rattle.jv_link.specs.declared.site.Use.TheVariants as uses
 use Rattle.jv_link.specs.Seen.{seen_use}
 use Rattle.jv_interp_words.specs.declared.registers.Registers.{Registers}
-use Rattle.jv_interp_objects.specs.ObjectsInBlocks.{Blocks}
+use Rattle.jv_interp_objects.specs.ObjectsInBlocks.{Blocks, AreLoadable}
 use Rattle.jv_interp_memory.specs.declared.class_state.ClassState.{ClassState}
 use Rattle.jv_interp_memory.specs.ClassStates.{AreClassStates}
 use Rattle.jv_interp_memory.specs.declared.held.Held.{Held}
 use Rattle.jv_interp_memory.specs.declared.effect.Effect.{Effect}
 use Rattle.jv_interp_memory.specs.Executing.{Place, Executes, HasRoom, Did}
-use Rattle.jv_interp_calls.specs.Known.{Known, IsKnown, AreLoadable}
+use Rattle.jv_interp_calls.specs.Known.{Known, IsKnown}
 
 abbrev pub place : Registers → List ℕ → Held → Blocks → Place
 place at words held blocks = record { at = at; words = words; held = held; blocks = blocks }

@@ -1,6 +1,6 @@
 //! Calls.
 
-ghost use Rattle.std.specs.Prelude.{◌≡◌, ◌+◌, ◌≤◌, length, vec_len, vec_capacity};
+ghost use Rattle.std.specs.Prelude.{◌≡◌};
 ghost use Rattle.jv_link.specs.declared.site.Use.TheVariants.{Invokespecial};
 ghost use Rattle.jv_linked.specs.Linked.{IsLinked};
 ghost use Rattle.jv_interp_going.specs.Going.{StaysIn};
@@ -35,12 +35,10 @@ pub fn call_static<'a, 'l>(
 ) -> Effect
     requires methods { AreMethods classes.now.world methods.now }
     requires can { CanCallStatic index next (known classes.now.world linked.old site) states.now at.old words.old held.old }
-    requires reserved { vec_len held.old.output + held.old.output_left ≤ vec_capacity held.old.output }
     ensures calls { CallsStatic index next (known classes.now.world linked.old site) states.now at.old words.old held.old
         at.new words.new held.new result }
     ensures stays { StaysIn at.old at.new words.new }
     ensures same { held.new ≡ record held.old { output = held.new.output; output_left = held.new.output_left; read = held.new.read } }
-    ensures reserved { vec_len held.new.output + held.new.output_left ≤ vec_capacity held.new.output }
     ensures linked { IsLinked classes.now.world linked.new }
 {
     method_is_called();

@@ -9,7 +9,7 @@ ghost use Rattle.jv_linked.specs.Linked.{IsLinked};
 ghost use Rattle.jv_interp_going.specs.Going.{StaysIn};
 ghost use Rattle.jv_interp_objects.specs.Narrowing.{narrowing_of};
 ghost use Rattle.jv_interp_calls.specs.Known.{known};
-ghost use Rattle.jv_interp_calls.specs.Using.{CanUseField, UsesField, KeepsOtherObjects, CanUseStatic, UsesStatic};
+ghost use Rattle.jv_interp_calls.specs.Using.{CanUseField, UsesField, PutsInField, CanUseStatic, UsesStatic};
 
 use crate::linking::{is_ready, used};
 use jv_heap::Store;
@@ -64,7 +64,7 @@ pub fn getfield<'a, 'l, S: Store>(
 ) -> Effect
     requires { CanUseField GetField index next (known classes.now.world linked.old site) at.old words.old held.now (S.content store.now) }
     ensures uses { UsesField GetField index next (known classes.now.world linked.old site) held.now at.old words.old
-        (S.content store.now) at.new words.new (S.content store.now) result }
+        (S.content store.now) at.new words.new result }
     ensures stays { StaysIn at.old at.new words.new }
     ensures linked { IsLinked classes.now.world linked.new }
 {
@@ -92,11 +92,9 @@ pub fn putfield<'a, 'l, S: Store>(
     index: u16,
 ) -> Effect
     requires { CanUseField PutField index next (known classes.now.world linked.old site) at.old words.now held.now (S.content store.old) }
-    ensures uses { UsesField PutField index next (known classes.now.world linked.old site) held.now at.old words.now
-        (S.content store.old) at.new words.now (S.content store.new) result }
+    ensures puts { PutsInField index next (known classes.now.world linked.old site) held.now words.now at.old
+        (S.content store.old) at.new (S.content store.new) result }
     ensures stays { StaysIn at.old at.new words.now }
-    ensures others { KeepsOtherObjects index (known classes.now.world linked.old site) words.now at.old.top
-        (S.content store.old) (S.content store.new) }
     ensures room { S.room_left store.new ≡ S.room_left store.old }
     ensures linked { IsLinked classes.now.world linked.new }
 {
@@ -164,6 +162,7 @@ pub fn putstatic<'a, 'l>(
     ensures uses { UsesStatic PutStatic index next (known classes.now.world linked.old site) states.now at.old words.now held.old
         at.new words.now held.new result }
     ensures stays { StaysIn at.old at.new words.now }
+    ensures same { held.new ≡ record held.old { statics = held.new.statics } }
     ensures linked { IsLinked classes.now.world linked.new }
 {
     field_is_used();

@@ -1,7 +1,7 @@
 //! host/Io, whose methods are built in (own): `write(int)` appends the low eight bits to what was written, and `read()` gives the next
 //! byte that came in and was not read, or -1.
 
-ghost use Rattle.std.specs.Prelude.{◌≡◌, ◌+◌, ◌≤◌, length, vec_len, vec_capacity};
+ghost use Rattle.std.specs.Prelude.{◌≡◌};
 ghost use Rattle.jv_interp_going.specs.Going.{StaysIn};
 ghost use Rattle.jv_interp_calls.specs.Host.{CanWrite, Writes, CanRead, Reads};
 
@@ -17,12 +17,10 @@ pub const WRITE: usize = 1;
 /// The low eight bits of the int on top are written; where no byte of output is left, the OutOfMemoryError of the start is thrown.
 #[inline(always)]
 pub fn write<'l>(held: &mut Held, words: &[u32], at: &mut Registers<'l>, next: u32) -> Effect
-    requires can { CanWrite next at.old words.now held.old }
-    requires reserved { vec_len held.old.output + held.old.output_left ≤ vec_capacity held.old.output }
+    requires { CanWrite next at.old words.now held.old }
     ensures writes { Writes next at.old words.now held.old at.new held.new result }
     ensures stays { StaysIn at.old at.new words.now }
     ensures same { held.new ≡ record held.old { output = held.new.output; output_left = held.new.output_left } }
-    ensures reserved { vec_len held.new.output + held.new.output_left ≤ vec_capacity held.new.output }
 {
     if held.output_left == 0 {
         return Effect::Throws {

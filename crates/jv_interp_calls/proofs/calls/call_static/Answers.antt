@@ -19,8 +19,8 @@ returns-then-not-is_ready-clause-calls c = λ blocks texts x addresses done belo
     begins c.args.index c.args.next k here texts x addresses done below h.calls c.method_is_called.ensures c.in-Ok.called c.in-Ok.ensures.found c.in-Ok.ensures.called
     (sym (c.is_ready.ensures k.world x.states (f c.args.index c.args.next k here texts x addresses done below h.calls c.method_is_called.ensures c.in-Ok.called c.in-Ok.ensures.found c.in-Ok.ensures.called).target.declared.by h.states_are (at c.args.index c.args.next k here texts x addresses done below h.calls c.method_is_called.ensures c.in-Ok.called c.in-Ok.ensures.found c.in-Ok.ensures.called).class) ∙ c.if-not-is_ready.true)
 
-pub write-requires-clause-can : goal.write-requires-clause-can
-write-requires-clause-can c =
+pub write-requires : goal.write-requires
+write-requires c =
     let k = known c.args.classes.now.world c.args.linked.now c.args.site in
     let w = c.requires.can in
     let here = place c.args.at.now c.args.words.now c.args.held.now w.blocks in

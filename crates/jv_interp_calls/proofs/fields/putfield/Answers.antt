@@ -1,21 +1,16 @@
-use Rattle.std.proofs.Common.{◌≡◌, ℕ, ◌+◌, ◌-◌, Bool, refl, sym, ap, subst, ◌∙◌, arith, slice_index, if◌then◌else◌}
+use Rattle.std.proofs.Common.{◌≡◌, ℕ, Bool, refl, sym, ap, ◌∙◌, arith, if◌then◌else◌}
 use Rattle.jv_interp_objects.specs.declared.narrowing.Narrowing.TheVariants as narrowings
 use Rattle.jv_code.specs.declared.kinds.FieldAccess.TheVariants as access
 use Rattle.jv_interp_calls.specs.Known.{known}
 use Rattle.jv_interp_calls.specs.Calling.{place}
-use Rattle.jv_interp_calls.proofs.UsedAtSite.{it, failed, d, words_are, few, not_static_put, putting, narrows, long_whole}
-use Rattle.jv_meaning_linking.specs.FieldResolution.{resolve_field}
-use Rattle.jv_link.specs.declared.site.Use.TheVariants as uses
-use Rattle.jv_link.specs.Seen.{seen_use}
-use Rattle.jv_interp_memory.specs.Executing.{KeepsOthers}
-use Rattle.jv_interp_calls.proofs.OwnersAlone.{owner_alone, none_written}
+use Rattle.jv_interp_calls.proofs.UsedAtSite.{it, failed_in, d, words_are, few, not_static_put, putting, narrows, long_whole}
 use Rattle.jv_interp_calls.proofs.fields.putfield.Goals as goal
 
-pub returns-in-Err-clause-uses : goal.returns-in-Err-clause-uses
-returns-in-Err-clause-uses g c = λ texts x addresses done below h.
+pub returns-in-Err-clause-puts : goal.returns-in-Err-clause-puts
+returns-in-Err-clause-puts g c = λ texts x addresses done below h.
     let k = known c.args.classes.now.world c.args.linked.now c.args.site in
     let here = place c.args.at.now c.args.words.now c.args.held.now (g.S.Store.content c.args.store.now) in
-    failed access.PutField c.args.index c.args.next k here texts x addresses done below h c.in-Err.class c.in-Err.ensures.found
+    failed_in access.PutField c.args.index c.args.next k here texts x addresses done below h c.in-Err.class c.in-Err.ensures.found
 
 pub overflow_cast-field : goal.overflow_cast-field
 overflow_cast-field g c =
@@ -39,8 +34,8 @@ put_long_field-requires-clause-can g c =
     let w = c.requires in
     record { texts = w.texts; c = w.c; reference = (it access.PutField c.args.index c.args.next k here w.texts w.c w.addresses w.done w.below w.uses).reference; d = d access.PutField c.args.index c.args.next k here w.texts w.c w.addresses w.done w.below w.uses c.field_is_used.ensures c.in-Ok.field c.in-Ok.ensures.found c.in-Ok.ensures.used; addresses = w.addresses; done = w.done; below = w.below; puts = putting access.PutField c.args.index c.args.next k here w.texts w.c w.addresses w.done w.below w.uses c.field_is_used.ensures c.in-Ok.field c.in-Ok.ensures.found c.in-Ok.ensures.used refl 2 (words_are access.PutField c.args.index c.args.next k here w.texts w.c w.addresses w.done w.below w.uses c.field_is_used.ensures c.in-Ok.field c.in-Ok.ensures.found c.in-Ok.ensures.used c.is_long.result c.is_long.ensures ∙ ap (λ (b : Bool). if b then 2 else 1) c.if-is_long.true) narrowings.Whole (long_whole access.PutField c.args.index c.args.next k here w.texts w.c w.addresses w.done w.below w.uses c.field_is_used.ensures c.in-Ok.field c.in-Ok.ensures.found c.in-Ok.ensures.used (words_are access.PutField c.args.index c.args.next k here w.texts w.c w.addresses w.done w.below w.uses c.field_is_used.ensures c.in-Ok.field c.in-Ok.ensures.found c.in-Ok.ensures.used c.is_long.result c.is_long.ensures ∙ ap (λ (b : Bool). if b then 2 else 1) c.if-is_long.true)) }
 
-pub returns-then-is_long-clause-uses : goal.returns-then-is_long-clause-uses
-returns-then-is_long-clause-uses g c = λ texts x addresses done below h.
+pub returns-then-is_long-clause-puts : goal.returns-then-is_long-clause-puts
+returns-then-is_long-clause-puts g c = λ texts x addresses done below h.
     let k = known c.args.classes.now.world c.args.linked.now c.args.site in
     let here = place c.args.at.now c.args.words.now c.args.held.now (g.S.Store.content c.args.store.now) in
     c.put_long_field.ensures.puts texts x (it access.PutField c.args.index c.args.next k here texts x addresses done below h).reference (d access.PutField c.args.index c.args.next k here texts x addresses done below h c.field_is_used.ensures c.in-Ok.field c.in-Ok.ensures.found c.in-Ok.ensures.used) addresses done below (putting access.PutField c.args.index c.args.next k here texts x addresses done below h c.field_is_used.ensures c.in-Ok.field c.in-Ok.ensures.found c.in-Ok.ensures.used refl 2 (words_are access.PutField c.args.index c.args.next k here texts x addresses done below h c.field_is_used.ensures c.in-Ok.field c.in-Ok.ensures.found c.in-Ok.ensures.used c.is_long.result c.is_long.ensures ∙ ap (λ (b : Bool). if b then 2 else 1) c.if-is_long.true) narrowings.Whole (long_whole access.PutField c.args.index c.args.next k here texts x addresses done below h c.field_is_used.ensures c.in-Ok.field c.in-Ok.ensures.found c.in-Ok.ensures.used (words_are access.PutField c.args.index c.args.next k here texts x addresses done below h c.field_is_used.ensures c.in-Ok.field c.in-Ok.ensures.found c.in-Ok.ensures.used c.is_long.result c.is_long.ensures ∙ ap (λ (b : Bool). if b then 2 else 1) c.if-is_long.true)))
@@ -67,30 +62,8 @@ put_field-requires-clause-can g c =
     let w = c.requires in
     record { texts = w.texts; c = w.c; reference = (it access.PutField c.args.index c.args.next k here w.texts w.c w.addresses w.done w.below w.uses).reference; d = d access.PutField c.args.index c.args.next k here w.texts w.c w.addresses w.done w.below w.uses c.field_is_used.ensures c.in-Ok.field c.in-Ok.ensures.found c.in-Ok.ensures.used; addresses = w.addresses; done = w.done; below = w.below; puts = putting access.PutField c.args.index c.args.next k here w.texts w.c w.addresses w.done w.below w.uses c.field_is_used.ensures c.in-Ok.field c.in-Ok.ensures.found c.in-Ok.ensures.used refl 1 (words_are access.PutField c.args.index c.args.next k here w.texts w.c w.addresses w.done w.below w.uses c.field_is_used.ensures c.in-Ok.field c.in-Ok.ensures.found c.in-Ok.ensures.used c.is_long.result c.is_long.ensures ∙ ap (λ (b : Bool). if b then 2 else 1) c.if-is_long.false) c.narrowing_by-how.result (narrows access.PutField c.args.index c.args.next k here w.texts w.c w.addresses w.done w.below w.uses c.field_is_used.ensures c.in-Ok.field c.in-Ok.ensures.found c.in-Ok.ensures.used c.narrowing_by-how.result c.narrowing_by-how.ensures) }
 
-pub returns-clause-uses : goal.returns-clause-uses
-returns-clause-uses g c = λ texts x addresses done below h.
+pub returns-clause-puts : goal.returns-clause-puts
+returns-clause-puts g c = λ texts x addresses done below h.
     let k = known c.args.classes.now.world c.args.linked.now c.args.site in
     let here = place c.args.at.now c.args.words.now c.args.held.now (g.S.Store.content c.args.store.now) in
     c.put_field.ensures.puts texts x (it access.PutField c.args.index c.args.next k here texts x addresses done below h).reference (d access.PutField c.args.index c.args.next k here texts x addresses done below h c.field_is_used.ensures c.in-Ok.field c.in-Ok.ensures.found c.in-Ok.ensures.used) addresses done below (putting access.PutField c.args.index c.args.next k here texts x addresses done below h c.field_is_used.ensures c.in-Ok.field c.in-Ok.ensures.found c.in-Ok.ensures.used refl 1 (words_are access.PutField c.args.index c.args.next k here texts x addresses done below h c.field_is_used.ensures c.in-Ok.field c.in-Ok.ensures.found c.in-Ok.ensures.used c.is_long.result c.is_long.ensures ∙ ap (λ (b : Bool). if b then 2 else 1) c.if-is_long.false) c.narrowing_by-how.result (narrows access.PutField c.args.index c.args.next k here texts x addresses done below h c.field_is_used.ensures c.in-Ok.field c.in-Ok.ensures.found c.in-Ok.ensures.used c.narrowing_by-how.result c.narrowing_by-how.ensures))
-
-pub returns-in-Err-clause-others : goal.returns-in-Err-clause-others
-returns-in-Err-clause-others g c = λ s reference seen operand.
-    let found = c.in-Err.ensures.found s reference seen operand in
-    none_written c.args.classes.now.world (resolve_field c.args.classes.now.world s (seen_use uses.Putfield) reference) c.in-Err.class found
-    c.args.words.now c.args.at.now.top (g.S.Store.content c.args.store.now)
-
-pub returns-then-is_long-clause-others : goal.returns-then-is_long-clause-others
-returns-then-is_long-clause-others g c = λ s reference seen operand.
-    let found = c.in-Ok.ensures.found s reference seen operand in
-    owner_alone c.args.classes.now.world c.requires.uses.fields s (seen_use uses.Putfield) reference c.in-Ok.field found c.in-Ok.ensures.used
-    c.is_long.result c.is_long.ensures c.args.words.now c.args.at.now.top
-    (g.S.Store.content c.args.store.now) (g.S.Store.content c.put_long_field.new.store)
-    (subst (λ (b : Bool). KeepsOthers (slice_index c.args.words.now (c.args.at.now.top - (1 + (if b then 2 else 1)))) (g.S.Store.content c.args.store.now) (g.S.Store.content c.put_long_field.new.store)) (sym c.if-is_long.true) c.put_long_field.ensures.others)
-
-pub returns-clause-others : goal.returns-clause-others
-returns-clause-others g c = λ s reference seen operand.
-    let found = c.in-Ok.ensures.found s reference seen operand in
-    owner_alone c.args.classes.now.world c.requires.uses.fields s (seen_use uses.Putfield) reference c.in-Ok.field found c.in-Ok.ensures.used
-    c.is_long.result c.is_long.ensures c.args.words.now c.args.at.now.top
-    (g.S.Store.content c.args.store.now) (g.S.Store.content c.put_field.new.store)
-    (subst (λ (b : Bool). KeepsOthers (slice_index c.args.words.now (c.args.at.now.top - (1 + (if b then 2 else 1)))) (g.S.Store.content c.args.store.now) (g.S.Store.content c.put_field.new.store)) (sym c.if-is_long.false) c.put_field.ensures.others)
