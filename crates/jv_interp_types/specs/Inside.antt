@@ -1,0 +1,4 @@
+pub mod Elements
+pub mod Refs
+pub mod Standing
+pub mod Slots
