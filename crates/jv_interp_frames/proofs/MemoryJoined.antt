@@ -1,6 +1,6 @@
 -- An exception that the machine makes joins the objects of a memory (JVMS 2.4; own).
-use Rattle.std.proofs.Common.{◌≡◌, ℕ, zero, suc, get_or, ◌-◌, ◌<◌, ◌≤◌, nat_le, Bool, true, false, List, [], ◌∷◌, ◌++◌, Option, Some, None, length, drop, replicate, slice_get, refl, sym, ap, subst, ◌∙◌, arith, append-nil, if◌then◌else◌}
-use Rattle.std.specs.Prelude.{unwrap_or}
+use Rattle.std.proofs.Common.{◌≡◌, ℕ, zero, suc, get_or, ◌+◌, ◌-◌, ◌<◌, ◌≤◌, nat_le, Bool, true, false, List, [], ◌∷◌, ◌++◌, Option, Some, None, length, drop, replicate, slice_get, refl, sym, ap, subst, ◌∙◌, arith, append-nil, if◌then◌else◌}
+use Rattle.std.specs.Prelude.{unwrap_or, vec_capacity}
 use Rattle.std.proofs.lemmas.Grind.{common_steps}
 use Rattle.jv_heap.specs.Content.{words_at, greatest}
 use Rattle.jv_heap.proofs.LookUps.{greatest-append_above}
@@ -76,6 +76,7 @@ memory_joined world texts memory addresses more held after before blocks objects
   cells = cells_are;
   output_left = h.output_left ∙ sym (ap (λ (g : Held). g.output_left) same);
   output = h.output ∙ sym (ap (λ (g : Held). g.output.items) same);
+  output_room = subst (λ (g : Held). length g.output.items + g.output_left ≤ vec_capacity g.output) (sym same) h.output_room;
   read_within = subst (λ (g : Held). g.read ≤ length g.input.items) (sym same) h.read_within;
   input = h.input ∙ sym (ap (λ (g : Held). drop g.read g.input.items) same);
 }

@@ -13,7 +13,7 @@ use jv_interp_methods::Methods;
 
 /// The code of the method with a number, which can be entered.
 #[inline(always)]
-pub(crate) fn code_of<'a>(methods: &Methods<'a>, number: u32) -> MethodCode<'a>
+pub fn code_of<'a>(methods: &Methods<'a>, number: u32) -> MethodCode<'a>
     requires { CanFind methods.now number }
     ensures { (program : Program) (d : Declared) (code : CodeSeen) → IsCodeOf methods.now number program d code → seen_code result ≡ code }
 {
@@ -25,7 +25,7 @@ pub(crate) fn code_of<'a>(methods: &Methods<'a>, number: u32) -> MethodCode<'a>
 
 /// The words that a frame of it is given (own).
 #[inline(always)]
-pub(crate) fn words_of(code: &MethodCode<'_>) -> u32
+pub fn words_of(code: &MethodCode<'_>) -> u32
     ensures { result ≡ code_words (seen_code code.now) }
 {
     u32::from(code.max_locals) + u32::from(code.max_stack) + 4

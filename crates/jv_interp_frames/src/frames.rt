@@ -19,7 +19,7 @@ pub struct Frames {
 
 /// A frame comes above the others.
 #[inline(always)]
-pub(crate) fn push_record(records: &mut Vec<FrameRecord>, frame: FrameRecord)
+pub fn push_record(records: &mut Vec<FrameRecord>, frame: FrameRecord)
     requires { vec_len records.old < vec_capacity records.old }
     ensures items { records.new.items ≡ records.old.items ++ frame ∷ [] }
     ensures capacity { vec_capacity records.new ≡ vec_capacity records.old }

@@ -19,9 +19,10 @@ mod throws;
 mod unwinding;
 
 pub use beginning::begin;
+pub use code::{code_of, words_of};
 pub use control::{Control, End};
 pub use entering::enter;
-pub use frames::Frames;
+pub use frames::{Frames, push_record};
 pub use leaving::leave;
 pub use suspending::{suspend, take_out};
 pub use throws::{raise, throw};

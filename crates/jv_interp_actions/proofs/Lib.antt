@@ -1,0 +1,13 @@
+pub mod GivenEffects
+pub mod Noted
+pub mod Acts
+pub mod Waits
+pub mod Resumes
+pub mod TaskLists
+pub mod NextTasks
+pub mod ConstantStored
+pub mod ConstantSet
+pub mod Initializers
+pub mod Tasked
+pub mod ClassInitialized
+pub mod Finished

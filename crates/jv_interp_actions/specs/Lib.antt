@@ -1,0 +1,5 @@
+pub mod Running
+pub mod Acting
+pub mod Resuming
+pub mod Inside
+pub mod Initializing

@@ -1,0 +1,17 @@
+//! What a guest's step makes of frames (JVMS 2.6, 2.11, 5.5): an instruction's effect, once it is executed, and the tasks of an initialization. A
+//! room of `jv_interp`.
+#![tactic(auto)]
+
+mod above;
+mod acting;
+mod constants;
+mod finishing;
+mod initialization;
+mod leaving;
+mod resuming;
+mod statics;
+mod tasks;
+
+pub use acting::act;
+pub use initialization::initialization_step;
+pub use resuming::resume;
