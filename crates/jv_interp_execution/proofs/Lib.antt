@@ -4,3 +4,7 @@ pub mod ArraysLoaded
 pub mod ArraysMade
 pub mod Constants
 pub mod Unpaid
+pub mod ArraysStored
+pub mod FieldsUsed
+pub mod CallsMade
+pub mod LongsPushed

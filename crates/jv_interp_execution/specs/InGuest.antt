@@ -6,12 +6,14 @@ use Rattle.jv_meaning_machine.specs.Alone.{AreUnits}
 use Rattle.jv_meaning_machine.specs.State.{Memory}
 use Rattle.jv_meaning_machine.specs.Effects.{Effect as EffectOfNames, Context}
 use Rattle.jv_interp_words.specs.declared.registers.Registers.{Registers}
-use Rattle.jv_interp_objects.specs.ObjectsInBlocks.{Blocks}
+use Rattle.jv_interp_objects.specs.ObjectsInBlocks.{Blocks, AreLoadable}
+use Rattle.jv_interp_memory.specs.declared.class_state.ClassState.{ClassState}
+use Rattle.jv_interp_memory.specs.ClassStates.{AreClassStates}
 use Rattle.jv_interp_memory.specs.declared.held.Held.{Held}
 use Rattle.jv_interp_memory.specs.declared.effect.Effect.{Effect}
 use Rattle.jv_interp_memory.specs.Executing.{Place, Executes, HasRoom}
 use Rattle.jv_interp_memory.specs.Growing.{DidIn}
-use Rattle.jv_interp_calls.specs.Known.{Known, IsKnown, AreLoadable}
+use Rattle.jv_interp_calls.specs.Known.{Known, IsKnown}
 use Rattle.jv_interp_execution.specs.OnWords.{place, part_of}
 
 -- An instruction is executed in a frame that stands in words, at a method that is known.
@@ -35,3 +37,15 @@ abbrev pub Executed : Instruction → ℕ → Known → List (List ℕ) → Plac
 Executed insn next k texts before after effect =
     (c : Context) (addresses : List ℕ) (done : Memory × EffectOfNames) (below : List ℕ)
     → ExecutesIn insn next k texts before c addresses done below → DidIn before.blocks texts after effect c addresses done below
+
+-- ---- where it is known how far the initialization of each class is
+
+pub record CanExecuteAt (states : List ClassState) (insn : Instruction) (next : ℕ) (k : Known) (texts : List (List ℕ)) (at : Registers) (words : List ℕ) (held : Held) (blocks : Blocks) : Type 0 where
+  pub can : CanExecute insn next k texts at words held blocks
+  pub states_are : AreClassStates k.world can.c.states states
+
+abbrev pub ExecutedAt : List ClassState → Instruction → ℕ → Known → List (List ℕ) → Place → Place → Effect → Type 0
+ExecutedAt states insn next k texts before after effect =
+    (c : Context) (addresses : List ℕ) (done : Memory × EffectOfNames) (below : List ℕ)
+    → ExecutesIn insn next k texts before c addresses done below → AreClassStates k.world c.states states
+    → DidIn before.blocks texts after effect c addresses done below

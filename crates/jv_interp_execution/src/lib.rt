@@ -2,6 +2,10 @@
 #![tactic(auto)]
 
 mod array_loads;
+mod array_stores;
+mod calls;
+mod fields;
+mod long_constants;
 mod new_arrays;
 mod on_words;
 mod pool_constants;

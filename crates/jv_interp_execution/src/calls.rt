@@ -1,0 +1,105 @@
+//! Calls of methods.
+
+ghost use Rattle.std.specs.Prelude.{◌≡◌, ℕ, List};
+ghost use Rattle.jv_code.specs.declared.insn.Insn.TheVariants.{Invoke as InvokeInsn, InvokeInterface as InvokeInterfaceInsn};
+ghost use Rattle.jv_linked.specs.Linked.{IsLinked};
+ghost use Rattle.jv_interp_calls.specs.Known.{known};
+ghost use Rattle.jv_interp_going.specs.Going.{StaysIn};
+ghost use Rattle.jv_interp_methods.specs.Methods.{AreMethods};
+ghost use Rattle.jv_interp_execution.specs.OnWords.{place};
+ghost use Rattle.jv_interp_execution.specs.InGuest.{CanExecute, Executed, CanExecuteAt, ExecutedAt};
+
+use jv_code::Invocation;
+use jv_heap::Store;
+use jv_interp_calls::{call_special, call_static, call_virtual};
+use jv_interp_memory::{ClassState, Effect, Held};
+use jv_interp_methods::Methods;
+use jv_interp_words::Registers;
+use jv_link::{Site, Use};
+use jv_linked::Linked;
+use jv_loader::Classes;
+use jv_meaning_machine::execution_keeps;
+
+/// `invokevirtual`, `invokespecial` and `invokestatic`.
+pub(crate) fn execute_invocation<'a, 'l, S: Store>(
+    classes: &Classes<'a>,
+    linked: &mut Linked<'a>,
+    methods: &Methods<'a>,
+    site: Site,
+    states: &[ClassState],
+    store: &S,
+    held: &mut Held,
+    words: &mut [u32],
+    at: &mut Registers<'l>,
+    next: u32,
+    how: Invocation,
+    index: u16,
+) -> Effect
+    requires methods { AreMethods classes.now.world methods.now }
+    requires can { (texts : List (List ℕ)) × CanExecuteAt states.now (InvokeInsn how index) next (known classes.now.world linked.old site)
+        texts at.old words.old held.old (S.content store.now) }
+    ensures done { (texts : List (List ℕ)) → ExecutedAt states.now (InvokeInsn how index) next (known classes.now.world linked.old site)
+        texts (place at.old words.old held.old (S.content store.now)) (place at.new words.new held.new (S.content store.now)) result }
+    ensures stays { StaysIn at.old at.new words.new }
+    ensures cells { held.new.cells ≡ held.old.cells }
+    ensures linked { IsLinked classes.now.world linked.new }
+{
+    execution_keeps();
+    match how {
+        Invocation::Virtual => call_virtual(
+            classes,
+            linked,
+            methods,
+            site,
+            store,
+            held,
+            words,
+            at,
+            Use::Invokevirtual,
+            index,
+        ),
+        Invocation::Special => {
+            call_special(
+                classes, linked, methods, site, store, held, words, at, index,
+            )
+        }
+        Invocation::Static => call_static(
+            classes, linked, methods, site, states, held, words, at, next, index,
+        ),
+    }
+}
+
+/// `invokeinterface`.
+pub(crate) fn execute_interface_invocation<'a, 'l, S: Store>(
+    classes: &Classes<'a>,
+    linked: &mut Linked<'a>,
+    methods: &Methods<'a>,
+    site: Site,
+    store: &S,
+    held: &Held,
+    words: &[u32],
+    at: &Registers<'l>,
+    index: u16,
+) -> Effect
+    requires methods { AreMethods classes.now.world methods.now }
+    requires can { (next : ℕ) × (count : ℕ) × (texts : List (List ℕ)) × CanExecute (InvokeInterfaceInsn index count) next
+        (known classes.now.world linked.old site) texts at.now words.now held.now (S.content store.now) }
+    ensures done { (next : ℕ) (count : ℕ) (texts : List (List ℕ)) → Executed (InvokeInterfaceInsn index count) next
+        (known classes.now.world linked.old site) texts (place at.now words.now held.now (S.content store.now))
+        (place at.now words.now held.now (S.content store.now)) result }
+    ensures linked { IsLinked classes.now.world linked.new }
+{
+    execution_keeps();
+    call_virtual(
+        classes,
+        linked,
+        methods,
+        site,
+        store,
+        held,
+        words,
+        at,
+        Use::Invokeinterface,
+        index,
+    )
+}

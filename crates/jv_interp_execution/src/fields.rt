@@ -1,0 +1,60 @@
+//! Fields.
+
+ghost use Rattle.std.specs.Prelude.{◌≡◌, ℕ, List};
+ghost use Rattle.jv_code.specs.declared.insn.Insn.TheVariants.{Field as FieldInsn};
+ghost use Rattle.jv_linked.specs.Linked.{IsLinked};
+ghost use Rattle.jv_interp_calls.specs.Known.{known};
+ghost use Rattle.jv_interp_going.specs.Going.{StaysIn};
+ghost use Rattle.jv_interp_execution.specs.OnWords.{place};
+ghost use Rattle.jv_interp_execution.specs.InGuest.{CanExecuteAt, ExecutedAt};
+
+use jv_code::FieldAccess;
+use jv_heap::Store;
+use jv_interp_calls::{getfield, getstatic, putfield, putstatic};
+use jv_interp_memory::{ClassState, Effect, Held};
+use jv_interp_words::Registers;
+use jv_link::Site;
+use jv_linked::Linked;
+use jv_loader::Classes;
+use jv_meaning_machine::execution_keeps;
+
+/// `getstatic`, `putstatic`, `getfield` and `putfield`.
+pub(crate) fn execute_field<'a, 'l, S: Store>(
+    classes: &Classes<'a>,
+    linked: &mut Linked<'a>,
+    site: Site,
+    states: &[ClassState],
+    store: &mut S,
+    held: &mut Held,
+    words: &mut [u32],
+    at: &mut Registers<'l>,
+    next: u32,
+    access: FieldAccess,
+    index: u16,
+) -> Effect
+    requires { (texts : List (List ℕ)) × CanExecuteAt states.now (FieldInsn access index) next (known classes.now.world linked.old site)
+        texts at.old words.old held.old (S.content store.old) }
+    ensures done { (texts : List (List ℕ)) → ExecutedAt states.now (FieldInsn access index) next
+        (known classes.now.world linked.old site) texts
+        (place at.old words.old held.old (S.content store.old)) (place at.new words.new held.new (S.content store.new)) result }
+    ensures stays { StaysIn at.old at.new words.new }
+    ensures cells { held.new.cells ≡ held.old.cells }
+    ensures room { S.room_left store.new ≡ S.room_left store.old }
+    ensures linked { IsLinked classes.now.world linked.new }
+{
+    execution_keeps();
+    match access {
+        FieldAccess::GetStatic => {
+            getstatic(classes, linked, site, states, held, words, at, next, index)
+        }
+        FieldAccess::PutStatic => {
+            putstatic(classes, linked, site, states, held, words, at, next, index)
+        }
+        FieldAccess::GetField => getfield(
+            classes, linked, site, store, held, words, at, next, index,
+        ),
+        FieldAccess::PutField => putfield(
+            classes, linked, site, store, held, words, at, next, index,
+        ),
+    }
+}
