@@ -217,9 +217,6 @@ all_put names held locals places k past same =
 
 -- ---- what is held in a pass
 
-pub notes_none : (may : ℕ → Bool) (old new : HeldFrame) (frame : NumberFrame) → new.place ≡ None → Notes may old new frame
-notes_none may old new frame e = subst (λ (o : Option ℕ). NotesBy may old o new frame) (sym e) tt
-
 pub notes_all : (may : ℕ → Bool) (old new : HeldFrame) (frame : NumberFrame) → new.place ≡ old.place → new.base ≡ old.base
     → ((names : List (List ℕ)) → AreSameBut new.written (typed_all names old.base.locals) (typed_all names frame.locals)) → Notes may old new frame
 notes_all may old new frame place base same = by_place new.place place

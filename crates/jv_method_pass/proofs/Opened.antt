@@ -169,3 +169,14 @@ filter_step test xs k d b old left lt is so_far e =
     is
     ∙ (ap (λ l. if b then l ++ get_or xs k d ∷ [] else l) so_far
     ∙ filter_more test xs k (get_or xs k d) b lt (same_get xs k d (get_or xs k d) lt) e)
+
+pub none_ended : (test : Handler → Bool) (xs : List Handler) → list_all test xs ≡ true → xs ≡ filter test xs
+none_ended test [] all = refl
+none_ended test (x ∷ xs) all = by_test (test x) refl (λ rest. none_ended test xs rest)
+  where
+    clash : true ≡ false → ⊥
+    clash e = cc
+
+    by_test : (b : Bool) → test x ≡ b → (list_all test xs ≡ true → xs ≡ filter test xs) → x ∷ xs ≡ (if b then x ∷ filter test xs else filter test xs)
+    by_test true t more = ap (λ zs. x ∷ zs) (more (sym (ap (λ b. b && list_all test xs) t) ∙ all))
+    by_test false t more = absurd (clash (sym all ∙ ap (λ b. b && list_all test xs) t))

@@ -1,6 +1,6 @@
 //! Handlers that cover an instruction, found as offsets rise (JVMS 4.7.3): each is met where it begins and where it has ended.
 
-ghost use Rattle.std.specs.Prelude.{◌≡◌, ◌≤◌, ◌+◌, ◌++◌, ◌∷◌, ℕ, [], nat_lt, nat_le, length, get_or, IsTrue, IfOk, OnOk, if◌then◌else◌};
+ghost use Rattle.std.specs.Prelude.{◌≡◌, ◌≤◌, ◌+◌, ◌++◌, ◌∷◌, ℕ, [], nat_lt, nat_le, length, get_or, IsTrue, IfOk, OnOk, OnErr, if◌then◌else◌};
 ghost use Rattle.std.specs.List.{filter, list_all};
 ghost use Rattle.std.specs.List.Sorted.{IsPermutation};
 ghost use Rattle.jv_format.specs.Handlers.{handlers_of};
@@ -98,6 +98,25 @@ fn still_open(alloc: Global, opened: &[Handler], offset: u32) -> Result<Vec<Hand
     Ok(left)
 }
 
+fn all_end_behind(handlers: &[Handler], offset: u32) -> bool
+    ensures { result ≡ list_all (λ h. nat_lt offset h.end_pc) handlers.now }
+{
+    handlers.iter().all(|handler| ends_behind(*handler, offset))
+}
+
+/// Takes those away that have ended at an offset, if any has.
+fn close(alloc: Global, opened: &mut Vec<Handler>, offset: u32) -> Result<(), AllocError>
+    ensures closed { OnOk result (opened.new.items ≡ filter (λ h. nat_lt offset h.end_pc) opened.old.items) }
+    ensures refused { OnErr result (opened.new ≡ opened.old) }
+{
+    if all_end_behind(opened, offset) {
+        return Ok(());
+    }
+    let left = still_open(alloc, opened, offset)?;
+    *opened = left;
+    Ok(())
+}
+
 impl Openings {
     /// Those of a table, of which none has begun.
     pub(crate) fn of(alloc: Global, handlers: ExceptionTable<'_>) -> Result<Openings, AllocError>
@@ -136,7 +155,7 @@ impl Openings {
         ensures opened { OnOk result (AreAsGood offset self.new.opened self.new.handlers) }
     {
         self.come_to(offset);
-        self.opened = still_open(self.alloc, &self.opened, offset)?;
+        close(self.alloc, &mut self.opened, offset)?;
         self.from = offset;
         while self.next < self.sorted.len() {
             let handler = self.sorted[self.next];

@@ -1,6 +1,4 @@
 use Rattle.std.proofs.Common.{◌≤◌, ℕ, refl, sym, ap, subst, ◌∙◌, arith}
-use Rattle.std.specs.Prelude.{nat_lt}
-use Rattle.std.specs.List.{filter}
 use Rattle.jv_method_pass.specs.Inside.Opening.{Openings, AreOpen}
 use Rattle.jv_method_pass.proofs.Opened.{closed_at, rest_not_begun}
 use Rattle.jv_method_pass.proofs.opening.Openings.go_to.Goals as goal
@@ -10,9 +8,9 @@ loop-self-init c =
     let i = c.self.inside in (
       ap (λ (o : Openings). o.handlers) c.self.view_is ∙ c.come_to.ensures.handlers,
       c.self.invariant.0,
-      closed_at i.sorted.items i.opened.items c.in_ok-self-inside.field-0.items i.next i.from c.args.offset
+      closed_at i.sorted.items i.opened.items c.close.new.opened.items i.next i.from c.args.offset
           (subst (λ (n : ℕ). n ≤ c.args.offset) (ap (λ (o : Openings). o.from) (sym c.self.view_is)) c.come_to.ensures.from)
-          (c.in_ok-self-inside.ensures ∙ ap (filter (λ h. nat_lt c.args.offset h.end_pc)) c.deref.ensures.value) c.self.invariant.1,
+          c.in_ok-close.ensures.closed c.self.invariant.1,
       refl,
     )
 
