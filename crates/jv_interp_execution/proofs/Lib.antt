@@ -8,3 +8,5 @@ pub mod ArraysStored
 pub mod FieldsUsed
 pub mod CallsMade
 pub mod LongsPushed
+pub mod TypesNamed
+pub mod AllInstructions

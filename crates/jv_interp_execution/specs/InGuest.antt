@@ -1,7 +1,9 @@
 -- Instructions that are executed in a guest whose classes are known (JVMS 2.11, 6.5): where the machine meets no fault, what it does stands
 -- afterwards, and the blocks of other guests stand as they did.
-use Rattle.std.specs.Prelude.{◌≡◌, ℕ, List, length}
+use Rattle.std.specs.Prelude.{◌≡◌, ◌≤◌, ℕ, ⊤, IsTrue, List, length}
 use Rattle.jv_code.specs.Insns.{Instruction}
+use Rattle.jv_code.specs.Switches.{pairs_in, keys_rise}
+use Rattle.jv_code.specs.declared.insn.Insn.TheVariants as insns
 use Rattle.jv_meaning_machine.specs.Alone.{AreUnits}
 use Rattle.jv_meaning_machine.specs.State.{Memory}
 use Rattle.jv_meaning_machine.specs.Effects.{Effect as EffectOfNames, Context}
@@ -49,3 +51,10 @@ ExecutedAt states insn next k texts before after effect =
     (c : Context) (addresses : List ℕ) (done : Memory × EffectOfNames) (below : List ℕ)
     → ExecutesIn insn next k texts before c addresses done below → AreClassStates k.world c.states states
     → DidIn before.blocks texts after effect c addresses done below
+
+-- ---- what code keeps (JVMS 4.9.1, 6.5): the keys of a lookupswitch rise, and multianewarray has a dimension
+
+abbrev pub KeepsCodeRules : Instruction → Type 0
+KeepsCodeRules (insns.LookupSwitch padding default pairs) = IsTrue (keys_rise (pairs_in pairs))
+KeepsCodeRules (insns.NewMultiArray index dimensions) = 1 ≤ dimensions
+KeepsCodeRules _ = ⊤

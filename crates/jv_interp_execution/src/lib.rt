@@ -4,10 +4,12 @@
 mod array_loads;
 mod array_stores;
 mod calls;
+mod executing;
 mod fields;
 mod long_constants;
 mod new_arrays;
 mod on_words;
 mod pool_constants;
 
+pub use executing::execute;
 pub use on_words::execute_on_words;
