@@ -33,8 +33,8 @@ pub record RunsIn (program : Program) (frame : MethodFrame) (at : Registers) (be
   pub stack_fits : words_of_values frame.stack ≤ frame.method.code.max_stack
   pub code_is : at.code.now ≡ frame.method.code.code
 
--- An instruction was executed in the current frame of a state; what it did to the memory stands, and its effect stands in registers and words,
--- on those of the frames below; and the machine makes this state of it.
+-- In the current frame of a state something was done to the memory, with an effect, as an instruction does: what it did to the memory stands, and
+-- its effect stands in registers and words, on those of the frames below; and the machine makes this state of it.
 pub record Acting (world : World) (at : Registers) (effect : Effect) (program : Program) (texts : List (List ℕ)) (s t : State) (addresses : List ℕ) (before : Kept) : Type 0 where
   pub world_is : program.world ≡ world
   pub guests : IsGuestsWorld program.world

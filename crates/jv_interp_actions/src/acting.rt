@@ -1,7 +1,8 @@
 //! Instructions' effects on frames (JVMS 2.11).
 
-ghost use Rattle.std.specs.Prelude.{◌≡◌, ◌+◌, ◌<◌, ◌≤◌, IfOk, IsOk, IsTrue, OnOk, OnErr, length};
+ghost use Rattle.std.specs.Prelude.{◌≡◌, ◌↔◌, ◌+◌, ◌<◌, ◌≤◌, IfOk, IsOk, IsTrue, OnOk, OnErr, length};
 ghost use Rattle.jv_linked.specs.Linked.{IsLinked};
+ghost use Rattle.jv_interp_memory.specs.declared.effect.Effect.TheVariants.{Goes};
 ghost use Rattle.jv_interp_methods.specs.Methods.{AreMethods};
 ghost use Rattle.jv_interp_frames.specs.Standing.{kept};
 ghost use Rattle.jv_interp_actions.specs.Acting.{CanAct, Acted, AreAsBefore};
@@ -44,6 +45,7 @@ pub fn act<'l, S: Store>(
     ensures acted { IfOk result (Acted classes.now.world verified.now at.entry effect
         (kept frames.old control.old held.old (S.content store.old))
         (kept frames.new control.new held.new (S.content store.new))) }
+    ensures goes { IfOk result (λ goes_on. IsTrue goes_on ↔ (effect ≡ Goes)) }
     ensures fewer { held.new.cells ≤ held.old.cells }
     ensures room { OnOk result (S.room_left store.old + held.new.cells ≡ S.room_left store.new + held.old.cells) }
     ensures refused_frames { OnErr result (AreAsBefore frames.old frames.new) }

@@ -12,4 +12,3 @@ mod on_words;
 mod pool_constants;
 
 pub use executing::execute;
-pub use on_words::execute_on_words;

@@ -63,7 +63,7 @@ fn execute_return<'l>(words: &[u32], at: &Registers<'l>, kind: ValueKind) -> Eff
 }
 
 /// Executes an instruction where it works on words alone, and answers its effect; else nothing is done.
-pub fn execute_on_words<'l>(
+pub(crate) fn execute_on_words<'l>(
     words: &mut [u32],
     at: &mut Registers<'l>,
     next: u32,

@@ -28,7 +28,7 @@ const LONG: u32 = 5;
 ///
 /// # Errors
 ///
-/// Where the host had no memory for it; all is then as it was.
+/// Where the host had no memory for it; all is then as it was, but for what linking has found.
 pub fn create<'a, 'l, S: Store>(
     classes: &Classes<'a>,
     linked: &mut Linked<'a>,
@@ -79,7 +79,7 @@ pub fn create<'a, 'l, S: Store>(
 ///
 /// # Errors
 ///
-/// Where the host had no memory for it; all is then as it was.
+/// Where the host had no memory for it; all is then as it was, but for what linking has found.
 pub fn anewarray<'a, 'l, S: Store>(
     classes: &Classes<'a>,
     linked: &mut Linked<'a>,
@@ -129,7 +129,7 @@ fn inner_slots(array: NumberedType, dimensions: u32) -> u32
 ///
 /// # Errors
 ///
-/// Where the host had no memory for them; all is then as it was.
+/// Where the host had no memory for them; all is then as it was, but for what linking has found.
 pub fn multianewarray<'a, 'l, S: Store>(
     classes: &Classes<'a>,
     linked: &mut Linked<'a>,

@@ -1,4 +1,4 @@
-use Rattle.std.proofs.Common.{◌≡◌, ℕ, refl, subst}
+use Rattle.std.proofs.Common.{◌≡◌, ℕ, refl, subst, rules}
 use Rattle.jv_interp_memory.specs.declared.effect.Effect.{Effect}
 use Rattle.jv_interp_memory.specs.declared.effect.Effect.TheVariants as effects
 use Rattle.jv_interp_frames.specs.Standing.{kept}
@@ -66,3 +66,17 @@ returns-in-Leaves-clause-acted g c = λ program texts s t addresses are h.
     let r = returns world c.args.at c.in-Leaves.words program texts s t addresses c.args.frames.now c.args.control.now c.args.held.now blocks k c.args.methods.now c.requires.methods in
     left_reaches world c.args.at c.in-Leaves.words program texts s t addresses c.args.frames.now c.args.control.now c.args.held.now blocks k c.args.methods.now c.requires.methods
     c.return_from.new.frames c.return_from.new.control (c.return_from.ensures program addresses _ _ _ _ r.result t r.returning)
+
+pub returns-in_ok-act_above-in_default : goal.returns-in_ok-act_above-in_default
+returns-in_ok-act_above-in_default g c = record {
+  acted = c.in_ok-act_above-in_default.ensures.acted;
+  goes = (λ on. absurd cc, λ e. absurd (c.in_default.not-Goes e));
+  fewer = c.act_above.ensures.fewer;
+  room = c.in_ok-act_above-in_default.ensures.room;
+  refused_frames = tt;
+  refused_control = tt;
+  refused = tt;
+  refused_content = tt;
+  refused_room = tt;
+  sure = search rules;
+}
