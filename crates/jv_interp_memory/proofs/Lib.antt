@@ -2,3 +2,4 @@ pub mod Popped
 pub mod Numbered
 pub mod Growths
 pub mod Raised
+pub mod Unmoved

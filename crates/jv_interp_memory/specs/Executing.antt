@@ -10,6 +10,7 @@ use Rattle.jv_interp_words.specs.FramesInWords.{in_use, FrameStands}
 use Rattle.jv_interp_objects.specs.ObjectsInBlocks.{Blocks}
 use Rattle.jv_interp_memory.specs.declared.held.Held.{Held}
 use Rattle.jv_interp_memory.specs.declared.effect.Effect.{Effect}
+use Rattle.jv_interp_memory.specs.declared.effect.Effect.TheVariants as effects
 use Rattle.jv_interp_memory.specs.HeldInWords.{MemoryStands}
 use Rattle.jv_interp_memory.specs.EffectsInWords.{OutcomeStands}
 
@@ -19,6 +20,15 @@ pub record Place : Type 0 where
   pub words : List ℕ
   pub held : Held
   pub blocks : Blocks
+
+abbrev pub place : Registers → List ℕ → Held → Blocks → Place
+place at words held blocks = record { at = at; words = words; held = held; blocks = blocks }
+
+-- An instruction that doesn't go on has changed nothing (own): what its effect asks for comes after it, and the host may lack memory for
+-- that.
+abbrev pub IsUnmoved : Effect → Place → Place → Type 0
+IsUnmoved effects.Goes before after = ⊤
+IsUnmoved _ before after = after ≡ before
 
 -- A part of the machine is executed in a frame that stands in words, on others, over a memory that stands: what it does, where the
 -- registers tell its offset and the place of the frame's words, and the next instruction's offset is known.
