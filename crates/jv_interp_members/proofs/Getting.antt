@@ -22,12 +22,12 @@ use Rattle.jv_interp_objects.specs.ObjectsInBlocks.{IsIn, HasNumber}
 use Rattle.jv_interp_objects.proofs.Carried.{word_pushed, long_pushed, one_own, two_own}
 use Rattle.jv_interp_objects.proofs.Fields.{own_length}
 use Rattle.jv_interp_memory.specs.declared.effect.Effect.TheVariants as effects
-use Rattle.jv_interp_memory.specs.Executing.{Place, HasRoom, Did}
+use Rattle.jv_interp_memory.specs.Executing.{Place, place, HasRoom, Did}
 use Rattle.jv_interp_memory.specs.HeldInWords.{MemoryStands}
 use Rattle.jv_interp_memory.specs.EffectsInWords.{EffectStands}
 use Rattle.jv_interp_memory.proofs.Numbered.{system_numbers}
 use Rattle.jv_interp_memory.proofs.Popped.{Popped, frame_popped, frame_pushed, some_used, null_word, reference_word, not_zero}
-use Rattle.jv_interp_members.specs.Fields.{place, GettingField}
+use Rattle.jv_interp_members.specs.Fields.{GettingField}
 use Rattle.jv_interp_members.proofs.Got.{done_same, got_of, TakesTop, takes_top}
 use Rattle.jv_interp_members.proofs.FieldStands.{FieldIn, field_in}
 

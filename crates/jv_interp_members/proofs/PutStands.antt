@@ -29,14 +29,14 @@ use Rattle.jv_interp_objects.proofs.Carried.{word_taken, long_taken}
 use Rattle.jv_interp_objects.proofs.Widths.{typed_words, described_words}
 use Rattle.jv_interp_memory.specs.declared.effect.Effect.TheVariants as effects
 use Rattle.jv_interp_memory.specs.EffectsInWords.{EffectStands}
-use Rattle.jv_interp_memory.specs.Executing.{Place}
+use Rattle.jv_interp_memory.specs.Executing.{Place, place}
 use Rattle.jv_interp_memory.specs.Growing.{DidIn}
 use Rattle.jv_interp_memory.specs.HeldInWords.{MemoryStands}
 use Rattle.jv_interp_memory.proofs.Numbered.{system_numbers}
 use Rattle.jv_interp_memory.proofs.Growths.{changed_grows}
 use Rattle.jv_interp_memory.proofs.Raised.{raised_in}
 use Rattle.jv_interp_memory.proofs.Popped.{Popped, frame_popped, some_used, null_word, reference_word, not_zero}
-use Rattle.jv_interp_members.specs.Fields.{place, PuttingField}
+use Rattle.jv_interp_members.specs.Fields.{PuttingField}
 use Rattle.jv_interp_members.proofs.Got.{done_same}
 use Rattle.jv_interp_members.proofs.Putting.{Puts, puts, PutOf, put_of}
 use Rattle.jv_interp_members.proofs.FieldStands.{FieldIn, field_in}

@@ -21,10 +21,9 @@ use Rattle.jv_interp_objects.proofs.Carried.{word_pushed, long_pushed, one_own, 
 use Rattle.jv_interp_objects.proofs.Fields.{StandsIn, field_stands, own_length}
 use Rattle.jv_interp_memory.specs.declared.effect.Effect.TheVariants as effects
 use Rattle.jv_interp_memory.specs.EffectsInWords.{EffectStands}
-use Rattle.jv_interp_memory.specs.Executing.{Place, HasRoom, Did}
+use Rattle.jv_interp_memory.specs.Executing.{Place, place, HasRoom, Did}
 use Rattle.jv_interp_memory.specs.HeldInWords.{static_fields, MemoryStands}
 use Rattle.jv_interp_memory.proofs.Popped.{frame_pushed}
-use Rattle.jv_interp_members.specs.Fields.{place}
 use Rattle.jv_interp_members.specs.Statics.{GettingStatic}
 use Rattle.jv_interp_members.proofs.Got.{done_same}
 use Rattle.jv_interp_members.proofs.FieldStands.{value_width}

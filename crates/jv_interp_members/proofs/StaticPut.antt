@@ -29,10 +29,9 @@ use Rattle.jv_interp_objects.proofs.Fields.{StandsIn, field_stands, own_length}
 use Rattle.jv_interp_memory.specs.declared.held.Held.{Held}
 use Rattle.jv_interp_memory.specs.declared.effect.Effect.TheVariants as effects
 use Rattle.jv_interp_memory.specs.EffectsInWords.{EffectStands}
-use Rattle.jv_interp_memory.specs.Executing.{Place, Did}
+use Rattle.jv_interp_memory.specs.Executing.{Place, place, Did}
 use Rattle.jv_interp_memory.specs.HeldInWords.{static_fields, MemoryStands}
 use Rattle.jv_interp_memory.proofs.Popped.{Popped, frame_popped, some_used}
-use Rattle.jv_interp_members.specs.Fields.{place}
 use Rattle.jv_interp_members.specs.Statics.{PuttingStatic}
 use Rattle.jv_interp_members.proofs.Got.{done_same}
 use Rattle.jv_interp_members.proofs.Putting.{taken_kind}

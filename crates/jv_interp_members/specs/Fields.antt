@@ -14,12 +14,9 @@ use Rattle.jv_interp_objects.specs.declared.narrowing.Narrowing.{Narrowing}
 use Rattle.jv_interp_objects.specs.Narrowing.{narrowing_of}
 use Rattle.jv_interp_memory.specs.declared.held.Held.{Held}
 use Rattle.jv_interp_memory.specs.declared.effect.Effect.{Effect}
-use Rattle.jv_interp_memory.specs.Executing.{Place, Executes, HasRoom, Did}
+use Rattle.jv_interp_memory.specs.Executing.{Place, place, Executes, HasRoom, Did}
 use Rattle.jv_interp_memory.specs.Growing.{DidIn}
 use Rattle.jv_interp_memory.specs.SystemNumbers.{IsGuestsWorld}
-
-abbrev pub place : Registers → List ℕ → Held → Blocks → Place
-place at words held blocks = record { at = at; words = words; held = held; blocks = blocks }
 
 -- The machine gets the value of a field, whose values begin at this word of an object's fields and have so many words.
 pub record GettingField (word width : ℕ) (next : ℕ) (here : Place) (texts : List (List ℕ)) (c : Context) (d : DeclaredField) (addresses : List ℕ) (done : Memory × EffectOfNames) (below : List ℕ) : Type 0 where

@@ -17,8 +17,7 @@ use Rattle.jv_interp_objects.specs.ObjectsInBlocks.{Blocks, place_among}
 use Rattle.jv_interp_memory.specs.declared.held.Held.{Held}
 use Rattle.jv_interp_memory.specs.declared.effect.Effect.{Effect}
 use Rattle.jv_interp_memory.specs.HeldInWords.{static_fields}
-use Rattle.jv_interp_memory.specs.Executing.{Place, Executes, HasRoom, Did}
-use Rattle.jv_interp_members.specs.Fields.{place}
+use Rattle.jv_interp_memory.specs.Executing.{Place, place, Executes, HasRoom, Did}
 
 -- the value of a static field stands at a word of all of them, and has so many words
 pub record StandsAtWord (world : World) (d : DeclaredField) (word width : ℕ) : Type 0 where

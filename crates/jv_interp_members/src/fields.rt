@@ -3,6 +3,7 @@
 ghost use Rattle.std.specs.Prelude.{◌≡◌, ◌<◌};
 ghost use Rattle.jv_interp_going.specs.Going.{StaysIn};
 ghost use Rattle.jv_interp_objects.specs.declared.narrowing.Narrowing.TheVariants.{Whole};
+ghost use Rattle.jv_interp_memory.specs.Executing.{IsUnmoved, place};
 ghost use Rattle.jv_interp_members.specs.Fields.{CanGetField, GetsField, CanPutField, PutsField};
 
 use jv_heap::Store;
@@ -25,6 +26,8 @@ pub fn get_field<'l, S: Store>(
     requires can { CanGetField word 1 next at.old words.old held.now (S.content store.now) }
     ensures gets { GetsField word 1 next at.old words.old held.now (S.content store.now) at.new words.new result }
     ensures stays { StaysIn at.old at.new words.new }
+    ensures unmoved { IsUnmoved result (place at.old words.old held.now (S.content store.now))
+        (place at.new words.new held.now (S.content store.now)) }
 {
     let _held = held;
     let reference = words[at.top - 1];
@@ -52,6 +55,8 @@ pub fn get_long_field<'l, S: Store>(
     requires can { CanGetField word 2 next at.old words.old held.now (S.content store.now) }
     ensures gets { GetsField word 2 next at.old words.old held.now (S.content store.now) at.new words.new result }
     ensures stays { StaysIn at.old at.new words.new }
+    ensures unmoved { IsUnmoved result (place at.old words.old held.now (S.content store.now))
+        (place at.new words.new held.now (S.content store.now)) }
 {
     let _held = held;
     let reference = words[at.top - 1];
@@ -84,6 +89,8 @@ pub fn put_field<'l, S: Store>(
     ensures puts { PutsField word 1 how next words.now held.now at.old (S.content store.old) at.new (S.content store.new) result }
     ensures stays { StaysIn at.old at.new words.now }
     ensures room { S.room_left store.new ≡ S.room_left store.old }
+    ensures unmoved { IsUnmoved result (place at.old words.now held.now (S.content store.old))
+        (place at.new words.now held.now (S.content store.new)) }
 {
     let _held = held;
     let reference = words[at.top - 2];
@@ -114,6 +121,8 @@ pub fn put_long_field<'l, S: Store>(
     ensures puts { PutsField word 2 Whole next words.now held.now at.old (S.content store.old) at.new (S.content store.new) result }
     ensures stays { StaysIn at.old at.new words.now }
     ensures room { S.room_left store.new ≡ S.room_left store.old }
+    ensures unmoved { IsUnmoved result (place at.old words.now held.now (S.content store.old))
+        (place at.new words.now held.now (S.content store.new)) }
 {
     let _held = held;
     let reference = words[at.top - 3];

@@ -2,6 +2,8 @@
 
 ghost use Rattle.std.specs.Prelude.{◌≡◌, ◌<◌, length};
 ghost use Rattle.jv_interp_going.specs.Going.{StaysIn};
+ghost use Rattle.jv_interp_objects.specs.ObjectsInBlocks.{Blocks};
+ghost use Rattle.jv_interp_memory.specs.Executing.{IsUnmoved, place};
 ghost use Rattle.jv_interp_members.specs.Statics.{CanGetStatic, GetsStatic, CanPutStatic, PutsStatic};
 
 use jv_interp_memory::{Effect, Held};
@@ -20,6 +22,8 @@ pub fn get_static<'l>(
     requires { CanGetStatic word 1 next at.old words.old held.now }
     ensures gets { GetsStatic word 1 next at.old words.old held.now at.new words.new result }
     ensures stays { StaysIn at.old at.new words.new }
+    ensures unmoved { (blocks : Blocks) → IsUnmoved result (place at.old words.old held.now blocks)
+        (place at.new words.new held.now blocks) }
 {
     words[at.top] = held.statics[word];
     at.pc = next;
@@ -39,6 +43,8 @@ pub fn get_long_static<'l>(
     requires { CanGetStatic word 2 next at.old words.old held.now }
     ensures gets { GetsStatic word 2 next at.old words.old held.now at.new words.new result }
     ensures stays { StaysIn at.old at.new words.new }
+    ensures unmoved { (blocks : Blocks) → IsUnmoved result (place at.old words.old held.now blocks)
+        (place at.new words.new held.now blocks) }
 {
     words[at.top] = held.statics[word];
     words[at.top + 1] = held.statics[word + 1];
@@ -62,6 +68,8 @@ pub fn put_static<'l>(
     ensures puts { PutsStatic word 1 how next words.now at.old held.old at.new held.new result }
     ensures stays { StaysIn at.old at.new words.now }
     ensures same { held.new ≡ record held.old { statics = held.new.statics } }
+    ensures unmoved { (blocks : Blocks) → IsUnmoved result (place at.old words.now held.old blocks)
+        (place at.new words.now held.new blocks) }
 {
     held.statics[word] = narrowed(how, words[at.top - 1]);
     at.pc = next;
@@ -82,6 +90,8 @@ pub fn put_long_static<'l>(
     ensures puts { PutsStatic word 2 Narrowing.Whole next words.now at.old held.old at.new held.new result }
     ensures stays { StaysIn at.old at.new words.now }
     ensures same { held.new ≡ record held.old { statics = held.new.statics } }
+    ensures unmoved { (blocks : Blocks) → IsUnmoved result (place at.old words.now held.old blocks)
+        (place at.new words.now held.new blocks) }
 {
     held.statics[word] = words[at.top - 2];
     held.statics[word + 1] = words[at.top - 1];

@@ -1,5 +1,5 @@
 use Rattle.std.proofs.Common.{refl, ◌∙◌, arith}
-use Rattle.jv_interp_members.specs.Fields.{place}
+use Rattle.jv_interp_memory.specs.Executing.{place}
 use Rattle.jv_interp_members.proofs.Getting.{raises, gets, got_word, block_length}
 use Rattle.jv_interp_members.proofs.fields.get_field.Goals as goal
 

@@ -1,6 +1,6 @@
 use Rattle.std.proofs.Common.{◌-◌, refl, ◌∙◌, arith, set}
 use Rattle.std.proofs.lemmas.List.{length-set}
-use Rattle.jv_interp_members.specs.Fields.{place}
+use Rattle.jv_interp_memory.specs.Executing.{place}
 use Rattle.jv_interp_members.proofs.Getting.{raises, gets, got_long, block_length, has_room}
 use Rattle.jv_interp_members.proofs.fields.get_long_field.Goals as goal
 

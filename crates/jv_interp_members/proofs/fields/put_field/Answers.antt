@@ -1,5 +1,5 @@
 use Rattle.std.proofs.Common.{◌≡◌, ℕ, ◌+◌, ◌-◌, ◌<◌, length, refl, sym, ap, subst, ◌∙◌, get_or, arith}
-use Rattle.jv_interp_members.specs.Fields.{place}
+use Rattle.jv_interp_memory.specs.Executing.{place}
 use Rattle.jv_interp_members.proofs.PutStands.{one_under, raises, puts_in, block_length, put_word}
 use Rattle.jv_interp_members.proofs.fields.put_field.Goals as goal
 

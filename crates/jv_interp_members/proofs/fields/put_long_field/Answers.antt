@@ -3,7 +3,7 @@ use Rattle.std.proofs.lemmas.List.{length-set}
 use Rattle.jv_heap.specs.Content.{words_at}
 use Rattle.jv_interp_objects.specs.declared.narrowing.Narrowing.TheVariants.{Whole}
 use Rattle.jv_interp_objects.proofs.Changed.{word_written}
-use Rattle.jv_interp_members.specs.Fields.{place}
+use Rattle.jv_interp_memory.specs.Executing.{place}
 use Rattle.jv_interp_members.proofs.PutStands.{two_under, raises, puts_in, block_length, put_long, long_whole}
 use Rattle.jv_interp_members.proofs.fields.put_long_field.Goals as goal
 

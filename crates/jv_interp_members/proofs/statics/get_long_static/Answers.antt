@@ -1,6 +1,6 @@
 use Rattle.std.proofs.Common.{refl, arith, rules, set, ◌+◌}
 use Rattle.std.proofs.lemmas.List.{length-set}
-use Rattle.jv_interp_members.specs.Fields.{place}
+use Rattle.jv_interp_memory.specs.Executing.{place}
 use Rattle.jv_interp_members.proofs.StaticGot.{statics_length, has_room, got_long}
 use Rattle.jv_interp_members.proofs.statics.get_long_static.Goals as goal
 

@@ -1,6 +1,6 @@
 use Rattle.std.proofs.Common.{refl, arith, rules}
 use Rattle.jv_interp_objects.specs.declared.narrowing.Narrowing.TheVariants.{Whole}
-use Rattle.jv_interp_members.specs.Fields.{place}
+use Rattle.jv_interp_memory.specs.Executing.{place}
 use Rattle.jv_interp_members.proofs.StaticPut.{statics_length, two_used, put_long}
 use Rattle.jv_interp_members.proofs.statics.put_long_static.Goals as goal
 

@@ -1,5 +1,5 @@
 use Rattle.std.proofs.Common.{refl, arith, rules}
-use Rattle.jv_interp_members.specs.Fields.{place}
+use Rattle.jv_interp_memory.specs.Executing.{place}
 use Rattle.jv_interp_members.proofs.StaticPut.{statics_length, has_top, put_word}
 use Rattle.jv_interp_members.proofs.statics.put_static.Goals as goal
 
