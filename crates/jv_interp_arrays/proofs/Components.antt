@@ -23,11 +23,11 @@ use Rattle.jv_interp_objects.proofs.Carried.{word_pushed, long_pushed, one_own, 
 use Rattle.jv_interp_objects.proofs.Fields.{own_length}
 use Rattle.jv_interp_objects.proofs.Components.{StandsAmong, component_stands, components_length}
 use Rattle.jv_interp_memory.specs.declared.effect.Effect.TheVariants as effects
-use Rattle.jv_interp_memory.specs.Executing.{Place, Did}
+use Rattle.jv_interp_memory.specs.Executing.{Place, place, Did}
 use Rattle.jv_interp_memory.proofs.Numbered.{system_numbers}
 use Rattle.jv_interp_memory.proofs.Popped.{Popped, frame_popped, frame_pushed, some_used, null_word, reference_word, not_zero}
 use Rattle.jv_interp_memory.proofs.Raised.{raised, went_on}
-use Rattle.jv_interp_arrays.specs.Loads.{place, Loading}
+use Rattle.jv_interp_arrays.specs.Loads.{Loading}
 use Rattle.jv_interp_arrays.proofs.Loaded.{done_same, TakesBoth, takes_both, load_of, index_within, index_outside}
 
 module _ (slots next : ℕ) (here : Place) (texts : List (List ℕ)) (c : Context) (test : FieldTypeOf (List ℕ) → Rattle.std.specs.Prelude.Bool) (addresses : List ℕ) (done : Memory × Effect) (below : List ℕ)

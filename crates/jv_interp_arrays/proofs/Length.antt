@@ -23,11 +23,11 @@ use Rattle.jv_interp_words.proofs.Taken.{taken_gave}
 use Rattle.jv_interp_words.proofs.InUse.{in_use_top, in_use_pushed}
 use Rattle.jv_interp_objects.specs.ObjectsInBlocks.{HasNumber, ArrayStands}
 use Rattle.jv_interp_memory.specs.declared.effect.Effect.TheVariants as effects
-use Rattle.jv_interp_memory.specs.Executing.{Place, Did}
+use Rattle.jv_interp_memory.specs.Executing.{Place, place, Did}
 use Rattle.jv_interp_memory.proofs.Numbered.{system_numbers}
 use Rattle.jv_interp_memory.proofs.Popped.{Popped, frame_popped, frame_pushed, some_used, null_word, reference_word, not_zero}
 use Rattle.jv_interp_memory.proofs.Raised.{raised, went_on}
-use Rattle.jv_interp_arrays.specs.Loads.{place, Measuring}
+use Rattle.jv_interp_arrays.specs.Loads.{Measuring}
 use Rattle.jv_interp_arrays.proofs.Loaded.{done_same, array_there}
 
 -- ---- in the machine

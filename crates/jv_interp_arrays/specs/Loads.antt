@@ -9,11 +9,8 @@ use Rattle.jv_interp_words.specs.declared.registers.Registers.{Registers}
 use Rattle.jv_interp_objects.specs.ObjectsInBlocks.{Blocks}
 use Rattle.jv_interp_memory.specs.declared.held.Held.{Held}
 use Rattle.jv_interp_memory.specs.declared.effect.Effect.{Effect}
-use Rattle.jv_interp_memory.specs.Executing.{Place, Executes, Did}
+use Rattle.jv_interp_memory.specs.Executing.{Place, place, Executes, Did}
 use Rattle.jv_interp_memory.specs.SystemNumbers.{IsGuestsWorld}
-
-abbrev pub place : Registers → List ℕ → Held → Blocks → Place
-place at words held blocks = record { at = at; words = words; held = held; blocks = blocks }
 
 -- ---- arraylength
 

@@ -1,6 +1,7 @@
 //! What arrays hold.
 
 ghost use Rattle.jv_interp_going.specs.Going.{StaysIn};
+ghost use Rattle.jv_interp_memory.specs.Executing.{IsUnmoved, place};
 ghost use Rattle.jv_interp_arrays.specs.Loads.{CanMeasure, Measures, CanLoad, Loads};
 
 use jv_heap::Store;
@@ -19,6 +20,8 @@ pub fn array_length<'l, S: Store>(
     requires { CanMeasure next at.old words.old held.now (S.content store.now) }
     ensures measures { Measures next at.old words.old held.now (S.content store.now) at.new words.new result }
     ensures stays { StaysIn at.old at.new words.new }
+    ensures unmoved { IsUnmoved result (place at.old words.old held.now (S.content store.now))
+        (place at.new words.new held.now (S.content store.now)) }
 {
     let _held = held;
     let array = words[at.top - 1];
@@ -44,6 +47,8 @@ pub fn load<'l, S: Store>(
     requires { CanLoad 1 next at.old words.old held.now (S.content store.now) }
     ensures loads { Loads 1 next at.old words.old held.now (S.content store.now) at.new words.new result }
     ensures stays { StaysIn at.old at.new words.new }
+    ensures unmoved { IsUnmoved result (place at.old words.old held.now (S.content store.now))
+        (place at.new words.new held.now (S.content store.now)) }
 {
     let _held = held;
     let array = words[at.top - 2];
@@ -74,6 +79,8 @@ pub fn load_long<'l, S: Store>(
     requires { CanLoad 2 next at.old words.old held.now (S.content store.now) }
     ensures loads { Loads 2 next at.old words.old held.now (S.content store.now) at.new words.new result }
     ensures stays { StaysIn at.old at.new words.new }
+    ensures unmoved { IsUnmoved result (place at.old words.old held.now (S.content store.now))
+        (place at.new words.new held.now (S.content store.now)) }
 {
     let _held = held;
     let array = words[at.top - 2];

@@ -1,5 +1,5 @@
 use Rattle.std.proofs.Common.{refl}
-use Rattle.jv_interp_arrays.specs.Loads.{place}
+use Rattle.jv_interp_memory.specs.Executing.{place}
 use Rattle.jv_interp_arrays.proofs.Length.{raises, measured, block_length, goes}
 use Rattle.jv_interp_arrays.proofs.loads.array_length.Goals as goal
 

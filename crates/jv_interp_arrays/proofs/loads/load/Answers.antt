@@ -1,5 +1,5 @@
 use Rattle.std.proofs.Common.{refl, arith}
-use Rattle.jv_interp_arrays.specs.Loads.{place}
+use Rattle.jv_interp_memory.specs.Executing.{place}
 use Rattle.jv_interp_arrays.proofs.Components.{raises, inside, block_length, length_word, raises_index, component, got_word}
 use Rattle.jv_interp_arrays.proofs.loads.load.Goals as goal
 
