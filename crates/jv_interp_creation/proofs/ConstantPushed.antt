@@ -21,14 +21,14 @@ use Rattle.jv_interp_words.proofs.InUse.{in_use_pushed, in_use_two}
 use Rattle.jv_interp_objects.specs.ObjectsInBlocks.{Blocks}
 use Rattle.jv_interp_memory.specs.declared.held.Held.{Held}
 use Rattle.jv_interp_memory.specs.declared.effect.Effect.TheVariants as effects
-use Rattle.jv_interp_memory.specs.Executing.{Place, HasRoom, Did}
+use Rattle.jv_interp_memory.specs.Executing.{Place, place, HasRoom, Did}
 use Rattle.jv_interp_memory.specs.Growing.{DidIn}
 use Rattle.jv_interp_memory.proofs.Popped.{frame_pushed}
 use Rattle.jv_interp_memory.proofs.Raised.{went_on}
-use Rattle.jv_interp_creation.specs.Objects.{place}
 use Rattle.jv_interp_creation.specs.Literals.{FindingLiteral, LiteralGiven}
 use Rattle.jv_interp_creation.specs.Constants.{PushingInt, PushingLong, PushingString}
 use Rattle.jv_interp_creation.proofs.Went.{done_same, room_for, lacks_in, goes_in}
+use Rattle.jv_interp_creation.proofs.Lacking.{nothing_unmoved}
 
 -- ---- an int
 
@@ -185,3 +185,14 @@ module _ (number : ℕ) (text : List ℕ) (next : ℕ) (here : Place) (texts : L
           (done_same (c.memory, Throws out_of_memory) done
           (sym (ap (λ (o : Option (Memory × ℕ)). push_value c (string_loaded o)) e) ∙ loads.does))
           refl g.same)
+
+  pub string_unmoved :
+      (held : Held) (after : Blocks) → LiteralGiven c.program.world texts addresses here.held here.blocks loads.made held after None
+      → place here.at here.words held after ≡ here
+  string_unmoved held after g = by_made loads.made g
+    where
+      by_made :
+          (o : Option (Memory × ℕ)) → LiteralGiven c.program.world texts addresses here.held here.blocks o held after None
+          → place here.at here.words held after ≡ here
+      by_made (Some m) g = absurd g
+      by_made None g = nothing_unmoved here.at here.words here.held held here.blocks after g

@@ -33,12 +33,11 @@ use Rattle.jv_interp_objects.specs.ObjectsInBlocks.{Blocks, HasNumber}
 use Rattle.jv_interp_objects.proofs.NewObjects.{array_joined}
 use Rattle.jv_interp_objects.specs.NewBlocks.{Joins}
 use Rattle.jv_interp_memory.specs.declared.effect.Effect.TheVariants as effects
-use Rattle.jv_interp_memory.specs.Executing.{Place}
+use Rattle.jv_interp_memory.specs.Executing.{Place, place}
 use Rattle.jv_interp_memory.specs.Growing.{DidIn}
 use Rattle.jv_interp_memory.proofs.Numbered.{system_numbers}
 use Rattle.jv_interp_memory.proofs.Popped.{Popped, frame_popped, frame_pushed, some_used}
 use Rattle.jv_interp_creation.specs.Payments.{IsLacking, IsMade}
-use Rattle.jv_interp_creation.specs.Objects.{place}
 use Rattle.jv_interp_creation.specs.Arrays.{array_of, MakingArray, MakingBaseArray}
 use Rattle.jv_interp_memory.proofs.Growths.{joined_grows}
 use Rattle.jv_interp_creation.proofs.More.{memory_grown, last_place}

@@ -16,11 +16,11 @@ use Rattle.jv_interp_words.proofs.InUse.{in_use_pushed}
 use Rattle.jv_interp_objects.specs.ObjectsInBlocks.{Blocks}
 use Rattle.jv_interp_objects.proofs.NewObjects.{instance_joined}
 use Rattle.jv_interp_memory.specs.declared.effect.Effect.TheVariants as effects
-use Rattle.jv_interp_memory.specs.Executing.{Place, HasRoom}
+use Rattle.jv_interp_memory.specs.Executing.{Place, place, HasRoom}
 use Rattle.jv_interp_memory.specs.Growing.{DidIn}
 use Rattle.jv_interp_memory.proofs.Popped.{frame_pushed}
 use Rattle.jv_interp_creation.specs.Payments.{IsLacking, IsMade}
-use Rattle.jv_interp_creation.specs.Objects.{place, object_of, Creating}
+use Rattle.jv_interp_creation.specs.Objects.{object_of, Creating}
 use Rattle.jv_interp_memory.proofs.Growths.{joined_grows}
 use Rattle.jv_interp_creation.proofs.More.{memory_grown, last_place}
 use Rattle.jv_interp_creation.proofs.Went.{done_same, paid_lacks, paid_left, lacks_in, goes_in, room_for}

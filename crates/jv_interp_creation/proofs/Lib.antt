@@ -1,5 +1,6 @@
 pub mod More
 pub mod Went
+pub mod Lacking
 pub mod Created
 pub mod Counted
 pub mod Spelled

@@ -24,12 +24,11 @@ use Rattle.jv_interp_words.proofs.Grown.{frame_grown}
 use Rattle.jv_interp_words.proofs.InUse.{in_use_pushed}
 use Rattle.jv_interp_objects.specs.ObjectsInBlocks.{Blocks, HasNumber, ObjectsStand}
 use Rattle.jv_interp_memory.specs.declared.effect.Effect.TheVariants as effects
-use Rattle.jv_interp_memory.specs.Executing.{Place}
+use Rattle.jv_interp_memory.specs.Executing.{Place, place}
 use Rattle.jv_interp_memory.specs.Growing.{Grows, DidIn}
 use Rattle.jv_interp_memory.proofs.Numbered.{system_numbers}
 use Rattle.jv_interp_memory.proofs.Popped.{frame_pushed}
 use Rattle.jv_interp_creation.specs.Payments.{IsLacking}
-use Rattle.jv_interp_creation.specs.Objects.{place}
 use Rattle.jv_interp_creation.specs.NestedBlocks.{nested_cost}
 use Rattle.jv_interp_creation.specs.NestedArrays.{AreCounts, AreWords, is_negative_word, NestedPaid, arrays_of, HoldsArrays, MakingArrays}
 use Rattle.jv_interp_creation.proofs.More.{memory_grown}

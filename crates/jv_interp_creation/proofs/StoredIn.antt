@@ -35,7 +35,7 @@ use Rattle.jv_interp_objects.proofs.Changed.{Changes, word_written, then_changed
 use Rattle.jv_interp_objects.proofs.Widths.{typed_words}
 use Rattle.jv_interp_memory.specs.declared.effect.Effect.TheVariants as effects
 use Rattle.jv_interp_memory.specs.EffectsInWords.{EffectStands}
-use Rattle.jv_interp_memory.specs.Executing.{Place}
+use Rattle.jv_interp_memory.specs.Executing.{Place, place}
 use Rattle.jv_interp_memory.specs.Growing.{DidIn}
 use Rattle.jv_interp_memory.specs.HeldInWords.{MemoryStands}
 use Rattle.jv_interp_memory.proofs.Numbered.{system_numbers}
@@ -43,7 +43,6 @@ use Rattle.jv_interp_memory.proofs.Popped.{Popped, frame_popped, some_used, null
 use Rattle.jv_interp_memory.proofs.Growths.{changed_grows}
 use Rattle.jv_interp_memory.proofs.Raised.{raised_in}
 use Rattle.jv_interp_arrays.proofs.Loaded.{index_within, index_outside}
-use Rattle.jv_interp_creation.specs.Objects.{place}
 use Rattle.jv_interp_creation.specs.Stores.{Storing, NarrowsBy}
 use Rattle.jv_interp_creation.proofs.Went.{done_same}
 use Rattle.jv_interp_creation.proofs.Thrice.{TakesThree, takes_three, StoreOf, store_of, held_type}

@@ -10,9 +10,8 @@ use Rattle.jv_interp_objects.specs.declared.narrowing.Narrowing.{Narrowing}
 use Rattle.jv_interp_objects.specs.ObjectsInBlocks.{Blocks, IsIn}
 use Rattle.jv_interp_objects.specs.Narrowing.{Narrows}
 use Rattle.jv_interp_memory.specs.declared.effect.Effect.TheVariants as effects
-use Rattle.jv_interp_memory.specs.Executing.{Place}
+use Rattle.jv_interp_memory.specs.Executing.{Place, place}
 use Rattle.jv_interp_memory.specs.Growing.{DidIn}
-use Rattle.jv_interp_creation.specs.Objects.{place}
 use Rattle.jv_interp_creation.specs.Stores.{Storing, NarrowsBy}
 use Rattle.jv_interp_creation.proofs.StoredIn.{t, Above, enough, raises, Inside, inside, block_length, length_word, raises_index, component, value_stored, stored_word, stored_long, long_stays, value_width}
 

@@ -15,10 +15,9 @@ use Rattle.jv_interp_objects.specs.ObjectsInBlocks.{Blocks, HasNumber}
 use Rattle.jv_interp_memory.specs.declared.held.Held.{Held}
 use Rattle.jv_interp_memory.specs.declared.effect.Effect.TheVariants as effects
 use Rattle.jv_interp_memory.specs.EffectsInWords.{EffectStands}
-use Rattle.jv_interp_memory.specs.Executing.{Place, Executes, HasRoom}
+use Rattle.jv_interp_memory.specs.Executing.{Place, place, Executes, HasRoom}
 use Rattle.jv_interp_memory.specs.HeldInWords.{MemoryStands}
 use Rattle.jv_interp_memory.specs.Growing.{Grows, DidIn}
-use Rattle.jv_interp_creation.specs.Objects.{place}
 use Rattle.jv_interp_memory.proofs.Growths.{same_grows}
 
 pub done_same : (a b : Memory × Effect) → ◌≡◌ {A = OrFault (Memory × Effect)} (Ok a) (Ok b) → b ≡ a

@@ -18,10 +18,9 @@ use Rattle.jv_interp_words.specs.declared.registers.Registers.{Registers}
 use Rattle.jv_interp_objects.specs.ObjectsInBlocks.{Blocks, IsArrayWord}
 use Rattle.jv_interp_memory.specs.declared.held.Held.{Held}
 use Rattle.jv_interp_memory.specs.declared.effect.Effect.{Effect}
-use Rattle.jv_interp_memory.specs.Executing.{Place, Executes}
+use Rattle.jv_interp_memory.specs.Executing.{Place, place, Executes}
 use Rattle.jv_interp_memory.specs.Growing.{DidIn}
 use Rattle.jv_interp_memory.specs.SystemNumbers.{IsGuestsWorld}
-use Rattle.jv_interp_creation.specs.Objects.{place}
 
 -- what is left of `anewarray`: the count is taken, and an array is made
 abbrev pub array_of : FieldTypeOf (List ℕ) → Context → Outcome

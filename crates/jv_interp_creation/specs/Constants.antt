@@ -15,10 +15,9 @@ use Rattle.jv_interp_words.specs.ValuesInWords.{long_of}
 use Rattle.jv_interp_objects.specs.ObjectsInBlocks.{Blocks}
 use Rattle.jv_interp_memory.specs.declared.held.Held.{Held}
 use Rattle.jv_interp_memory.specs.declared.effect.Effect.{Effect}
-use Rattle.jv_interp_memory.specs.Executing.{Place, Executes, HasRoom, Did}
+use Rattle.jv_interp_memory.specs.Executing.{Place, place, Executes, HasRoom, Did}
 use Rattle.jv_interp_memory.specs.Growing.{DidIn}
 use Rattle.jv_interp_memory.specs.SystemNumbers.{IsGuestsWorld}
-use Rattle.jv_interp_creation.specs.Objects.{place}
 
 -- what the constant is, to which an index leads
 abbrev pub constant_at : Context → ℕ → OrFault InitialValue

@@ -14,12 +14,11 @@ use Rattle.jv_interp_words.specs.declared.registers.Registers.{Registers}
 use Rattle.jv_interp_objects.specs.ObjectsInBlocks.{Blocks, IsArrayWord}
 use Rattle.jv_interp_memory.specs.declared.held.Held.{Held}
 use Rattle.jv_interp_memory.specs.declared.effect.Effect.{Effect}
-use Rattle.jv_interp_memory.specs.Executing.{Place, Executes}
+use Rattle.jv_interp_memory.specs.Executing.{Place, place, Executes}
 use Rattle.jv_interp_memory.specs.Growing.{DidIn}
 use Rattle.jv_interp_memory.specs.SystemNumbers.{IsGuestsWorld}
 use Rattle.jv_interp_creation.specs.Payments.{IsLacking}
 use Rattle.jv_interp_creation.specs.NestedBlocks.{nested_cost, NestedJoin}
-use Rattle.jv_interp_creation.specs.Objects.{place}
 
 -- counts that are not negative
 abbrev pub AreCounts : List ℕ → Type 0

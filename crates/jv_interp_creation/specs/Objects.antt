@@ -10,11 +10,8 @@ use Rattle.jv_interp_words.specs.declared.registers.Registers.{Registers}
 use Rattle.jv_interp_objects.specs.ObjectsInBlocks.{Blocks}
 use Rattle.jv_interp_memory.specs.declared.held.Held.{Held}
 use Rattle.jv_interp_memory.specs.declared.effect.Effect.{Effect}
-use Rattle.jv_interp_memory.specs.Executing.{Place, Executes, HasRoom}
+use Rattle.jv_interp_memory.specs.Executing.{Place, place, Executes, HasRoom}
 use Rattle.jv_interp_memory.specs.Growing.{DidIn}
-
-abbrev pub place : Registers → List ℕ → Held → Blocks → Place
-place at words held blocks = record { at = at; words = words; held = held; blocks = blocks }
 
 -- what is left of `new`
 abbrev pub object_of : Loaded → Context → Outcome

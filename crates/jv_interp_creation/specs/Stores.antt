@@ -16,10 +16,9 @@ use Rattle.jv_interp_objects.specs.declared.narrowing.Narrowing.{Narrowing}
 use Rattle.jv_interp_objects.specs.Narrowing.{narrowing_of}
 use Rattle.jv_interp_memory.specs.declared.held.Held.{Held}
 use Rattle.jv_interp_memory.specs.declared.effect.Effect.{Effect}
-use Rattle.jv_interp_memory.specs.Executing.{Place, Executes}
+use Rattle.jv_interp_memory.specs.Executing.{Place, place, Executes}
 use Rattle.jv_interp_memory.specs.Growing.{DidIn}
 use Rattle.jv_interp_memory.specs.SystemNumbers.{IsGuestsWorld}
-use Rattle.jv_interp_creation.specs.Objects.{place}
 
 -- The machine stores a number of a kind, of so many words, into an array.
 pub record Storing (slots next : ℕ) (here : Place) (texts : List (List ℕ)) (c : Context) (kind : NumberElement) (addresses : List ℕ) (done : Memory × EffectOfNames) (below : List ℕ) : Type 0 where

@@ -2,6 +2,9 @@
 
 ghost use Rattle.std.specs.Prelude.{◌≡◌, ◌+◌, ◌<◌, ◌≤◌, length, IfOk, IsOk, IsTrue, OnOk, OnErr};
 ghost use Rattle.jv_interp_going.specs.Going.{StaysIn};
+ghost use Rattle.jv_interp_objects.specs.ObjectsInBlocks.{Blocks};
+ghost use Rattle.jv_interp_memory.specs.Executing.{IsUnmoved, place};
+ghost use Rattle.jv_interp_memory.specs.declared.held.Held.{Held};
 ghost use Rattle.jv_interp_creation.specs.Constants.{CanPushInt, PushesInt, CanPushLong, PushesLong, CanPushString, PushesString};
 
 use crate::literals::literal;
@@ -15,6 +18,8 @@ pub fn push_int<'l>(words: &mut [u32], at: &mut Registers<'l>, next: u32, bits: 
     requires { CanPushInt bits next at.old words.old }
     ensures pushes { PushesInt bits next at.old words.old at.new words.new result }
     ensures stays { StaysIn at.old at.new words.new }
+    ensures unmoved { (held : Held) (blocks : Blocks) → IsUnmoved result (place at.old words.old held blocks)
+        (place at.new words.new held blocks) }
 {
     words[at.top] = bits;
     at.pc = next;
@@ -34,6 +39,8 @@ pub fn push_long<'l>(
     requires { CanPushLong low high next at.old words.old }
     ensures pushes { PushesLong low high next at.old words.old at.new words.new result }
     ensures stays { StaysIn at.old at.new words.new }
+    ensures unmoved { (held : Held) (blocks : Blocks) → IsUnmoved result (place at.old words.old held blocks)
+        (place at.new words.new held blocks) }
 {
     words[at.top] = low;
     words[at.top + 1] = high;
@@ -62,6 +69,8 @@ pub fn push_string<'l, S: Store>(
     ensures pushes { IfOk result (PushesString number text.now next at.old words.old held.old (S.content store.old) at.new
         words.new held.new (S.content store.new)) }
     ensures stays { StaysIn at.old at.new words.new }
+    ensures unmoved { IfOk result (λ effect. IsUnmoved effect (place at.old words.old held.old (S.content store.old))
+        (place at.new words.new held.new (S.content store.new))) }
     ensures room { OnOk result (S.room_left store.old + held.new.cells ≡ S.room_left store.new + held.old.cells) }
     ensures refused_at { OnErr result (at.new ≡ at.old) }
     ensures refused_words { OnErr result (words.new ≡ words.old) }

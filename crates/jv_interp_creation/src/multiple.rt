@@ -3,6 +3,7 @@
 ghost use Rattle.std.specs.Prelude.{◌≡◌, ◌+◌, ◌*◌, ◌<◌, ◌≤◌, drop, take, min, length, IfOk, IsOk, IsTrue, OnOk, OnErr};
 ghost use Rattle.std.specs.List.{list_any};
 ghost use Rattle.jv_interp_going.specs.Going.{StaysIn};
+ghost use Rattle.jv_interp_memory.specs.Executing.{IsUnmoved, place};
 ghost use Rattle.jv_interp_creation.specs.NestedBlocks.{nested_cost, outer_slots as slots_of_outer, inner_size as size_of_inner};
 ghost use Rattle.jv_interp_creation.specs.NestedArrays.{AreCounts, AreWords, is_negative_word, PaysNested, CanMakeArrays, MakesArrays};
 
@@ -109,6 +110,8 @@ pub fn new_nested_array<'l, S: Store>(
     ensures makes { IfOk result (MakesArrays word slots dimensions next at.old words.old held.old (S.content store.old)
         at.new words.new held.new (S.content store.new)) }
     ensures stays { StaysIn at.old at.new words.new }
+    ensures unmoved { IfOk result (λ effect. IsUnmoved effect (place at.old words.old held.old (S.content store.old))
+        (place at.new words.new held.new (S.content store.new))) }
     ensures room { OnOk result (S.room_left store.old + held.new.cells ≡ S.room_left store.new + held.old.cells) }
     ensures refused_at { OnErr result (at.new ≡ at.old) }
     ensures refused_words { OnErr result (words.new ≡ words.old) }

@@ -2,6 +2,7 @@
 
 ghost use Rattle.std.specs.Prelude.{◌≡◌, ◌+◌, ◌<◌, ◌≤◌, IfOk, IsOk, IsTrue, OnOk, OnErr};
 ghost use Rattle.jv_interp_going.specs.Going.{StaysIn};
+ghost use Rattle.jv_interp_memory.specs.Executing.{IsUnmoved, place};
 ghost use Rattle.jv_interp_creation.specs.Objects.{CanCreate, Creates};
 
 use crate::blocks::pay_object;
@@ -30,6 +31,8 @@ pub fn new_object<'l, S: Store>(
     ensures creates { IfOk result (Creates class size next at.old words.old held.old (S.content store.old) at.new words.new held.new
         (S.content store.new)) }
     ensures stays { StaysIn at.old at.new words.new }
+    ensures unmoved { IfOk result (λ effect. IsUnmoved effect (place at.old words.old held.old (S.content store.old))
+        (place at.new words.new held.new (S.content store.new))) }
     ensures room { OnOk result (S.room_left store.old + held.new.cells ≡ S.room_left store.new + held.old.cells) }
     ensures refused_at { OnErr result (at.new ≡ at.old) }
     ensures refused_words { OnErr result (words.new ≡ words.old) }

@@ -3,6 +3,7 @@
 ghost use Rattle.std.specs.Prelude.{◌≡◌};
 ghost use Rattle.jv_interp_going.specs.Going.{StaysIn};
 ghost use Rattle.jv_interp_objects.specs.declared.narrowing.Narrowing.TheVariants.{Whole};
+ghost use Rattle.jv_interp_memory.specs.Executing.{IsUnmoved, place};
 ghost use Rattle.jv_interp_creation.specs.Stores.{CanStore, Stores, CanStoreByte, StoresByte, NarrowsByte};
 
 use jv_heap::Store;
@@ -26,6 +27,8 @@ pub fn store_int<'l, S: Store>(
     requires { CanStore 1 how next at.old words.now held.now (S.content store.old) }
     ensures stores { Stores 1 how next words.now held.now at.old (S.content store.old) at.new (S.content store.new) result }
     ensures stays { StaysIn at.old at.new words.now }
+    ensures unmoved { IsUnmoved result (place at.old words.now held.now (S.content store.old))
+        (place at.new words.now held.now (S.content store.new)) }
     ensures room { S.room_left store.new ≡ S.room_left store.old }
 {
     let _held = held;
@@ -58,6 +61,8 @@ pub fn store_long<'l, S: Store>(
     requires { CanStore 2 Whole next at.old words.now held.now (S.content store.old) }
     ensures stores { Stores 2 Whole next words.now held.now at.old (S.content store.old) at.new (S.content store.new) result }
     ensures stays { StaysIn at.old at.new words.now }
+    ensures unmoved { IsUnmoved result (place at.old words.now held.now (S.content store.old))
+        (place at.new words.now held.now (S.content store.new)) }
     ensures room { S.room_left store.new ≡ S.room_left store.old }
 {
     let _held = held;
@@ -101,6 +106,8 @@ pub fn store_byte<'l, S: Store>(
     requires { CanStoreByte next at.old words.now held.now (S.content store.old) }
     ensures stores { StoresByte next words.now held.now at.old (S.content store.old) at.new (S.content store.new) result }
     ensures stays { StaysIn at.old at.new words.now }
+    ensures unmoved { IsUnmoved result (place at.old words.now held.now (S.content store.old))
+        (place at.new words.now held.now (S.content store.new)) }
     ensures room { S.room_left store.new ≡ S.room_left store.old }
 {
     let array = words[at.top - 3];

@@ -1,6 +1,7 @@
 use Rattle.std.proofs.Common.{◌-◌, refl, arith}
-use Rattle.jv_interp_creation.specs.Objects.{place}
+use Rattle.jv_interp_memory.specs.Executing.{place}
 use Rattle.jv_interp_creation.proofs.Counted.{raises, lacking, made}
+use Rattle.jv_interp_creation.proofs.Lacking.{lacking_unmoved}
 use Rattle.jv_interp_creation.proofs.arrays.new_array.Goals as goal
 
 pub returns-then-count-gt2147483647-clause-makes : goal.returns-then-count-gt2147483647-clause-makes
@@ -22,3 +23,9 @@ returns-in-Some-clause-makes g c = λ texts x components addresses done below h.
     let paid = rw c.in-Some.is at c.in_ok-made.ensures.paid in
     made c.args.word c.args.slots c.args.next here texts x components addresses done below h
     c.pay_array.new.cells (g.S.Store.content c.pay_array.new.store) c.in-Some.address _ c.if-count-gt2147483647.false paid refl refl
+
+pub returns-in-None-clause-unmoved : goal.returns-in-None-clause-unmoved
+returns-in-None-clause-unmoved g c =
+    let paid = rw c.in-None.is at c.in_ok-made.ensures.paid in
+    lacking_unmoved c.args.at.now c.args.words.now c.args.held.now _ c.pay_array.new.cells (g.S.Store.content c.args.store.now)
+    (g.S.Store.content c.pay_array.new.store) paid

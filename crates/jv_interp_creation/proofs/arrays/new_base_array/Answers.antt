@@ -1,7 +1,7 @@
 use Rattle.std.proofs.lemmas.Result.{IfOk-weaker}
 use Rattle.jv_meaning_machine.specs.Arrays.{base_of, base_components}
 use Rattle.jv_interp_memory.specs.declared.effect.Effect.{Effect}
-use Rattle.jv_interp_creation.specs.Objects.{place}
+use Rattle.jv_interp_memory.specs.Executing.{place}
 use Rattle.jv_interp_creation.specs.Arrays.{MakesArray, MakesBaseArray}
 use Rattle.jv_interp_creation.proofs.Counted.{base_array}
 use Rattle.jv_interp_creation.proofs.arrays.new_base_array.Goals as goal

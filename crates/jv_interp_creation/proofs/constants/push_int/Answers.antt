@@ -1,6 +1,6 @@
 use Rattle.std.proofs.Common.{refl, arith}
 use Rattle.std.proofs.lemmas.List.{length-set}
-use Rattle.jv_interp_creation.specs.Objects.{place}
+use Rattle.jv_interp_memory.specs.Executing.{place}
 use Rattle.jv_interp_creation.proofs.ConstantPushed.{int_room, int_pushed}
 use Rattle.jv_interp_creation.proofs.constants.push_int.Goals as goal
 

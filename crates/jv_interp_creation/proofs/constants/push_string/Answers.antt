@@ -1,7 +1,7 @@
 use Rattle.std.proofs.Common.{refl, arith}
 use Rattle.std.proofs.lemmas.List.{length-set}
-use Rattle.jv_interp_creation.specs.Objects.{place}
-use Rattle.jv_interp_creation.proofs.ConstantPushed.{loads, string_room, string_pushed, string_lacks}
+use Rattle.jv_interp_memory.specs.Executing.{place}
+use Rattle.jv_interp_creation.proofs.ConstantPushed.{loads, string_room, string_pushed, string_lacks, string_unmoved}
 use Rattle.jv_interp_creation.proofs.constants.push_string.Goals as goal
 
 pub literal-requires-clause-can : goal.literal-requires-clause-can
@@ -51,3 +51,12 @@ returns-in-None-clause-pushes g c = λ texts x index addresses done below h.
     let k = loads c.args.number c.args.text.now c.args.next here texts x index addresses done below h in
     string_lacks c.args.number c.args.text.now c.args.next here texts x index addresses done below h
     c.literal.new.held (g.S.Store.content c.literal.new.store) (finds texts x.program x.memory addresses k.made k.finds)
+
+pub returns-in-None-clause-unmoved : goal.returns-in-None-clause-unmoved
+returns-in-None-clause-unmoved g c =
+    let here = place c.args.at.now c.args.words.now c.args.held.now (g.S.Store.content c.args.store.now) in
+    let q = c.requires.can in
+    let l = loads c.args.number c.args.text.now c.args.next here q.texts q.c q.index q.addresses q.done q.below q.pushes in
+    let finds = rw c.in-None.is at c.in_ok-found.ensures.finds in
+    string_unmoved c.args.number c.args.text.now c.args.next here q.texts q.c q.index q.addresses q.done q.below q.pushes
+    c.literal.new.held (g.S.Store.content c.literal.new.store) (finds q.texts q.c.program q.c.memory q.addresses l.made l.finds)

@@ -1,7 +1,8 @@
 use Rattle.std.proofs.Common.{refl, sym, ◌∙◌, arith}
-use Rattle.jv_interp_creation.specs.Objects.{place}
+use Rattle.jv_interp_memory.specs.Executing.{place}
 use Rattle.jv_interp_creation.proofs.CountsTaken.{are_counts}
 use Rattle.jv_interp_creation.proofs.ManyMade.{within, some, few, word_fits, counts_length, raises, lacking, made}
+use Rattle.jv_interp_creation.proofs.Lacking.{lacking_unmoved}
 use Rattle.jv_interp_creation.proofs.multiple.new_nested_array.Goals as goal
 
 pub overflow_sub-first : goal.overflow_sub-first
@@ -60,3 +61,9 @@ returns-in-None-clause-makes g c = λ texts x components addresses done below h.
     let paid = rw c.in-None.is at c.in_ok-made.ensures.paid in
     lacking c.args.word c.args.slots c.args.dimensions c.args.next here texts x components addresses done below h known c.words_between-counts.ensures
     c.has_negative.ensures.words (sym c.has_negative.ensures.negative ∙ c.if-has_negative.false) c.pay_nested.new.cells (g.S.Store.content c.pay_nested.new.store) paid
+
+pub returns-in-None-clause-unmoved : goal.returns-in-None-clause-unmoved
+returns-in-None-clause-unmoved g c =
+    let paid = rw c.in-None.is at c.in_ok-made.ensures.paid in
+    lacking_unmoved c.args.at.now c.args.words.now c.args.held.now _ c.pay_nested.new.cells (g.S.Store.content c.args.store.now)
+    (g.S.Store.content c.pay_nested.new.store) paid

@@ -1,7 +1,8 @@
 use Rattle.std.proofs.Common.{◌+◌, ◌≤◌, refl, arith}
 use Rattle.std.proofs.lemmas.List.{length-set}
-use Rattle.jv_interp_creation.specs.Objects.{place}
+use Rattle.jv_interp_memory.specs.Executing.{place}
 use Rattle.jv_interp_creation.proofs.Created.{lacking, has_room, created}
+use Rattle.jv_interp_creation.proofs.Lacking.{lacking_unmoved}
 use Rattle.jv_interp_creation.proofs.objects.new_object.Goals as goal
 
 pub returns-in-None-clause-creates : goal.returns-in-None-clause-creates
@@ -37,3 +38,9 @@ returns-in-Some-clause-stays g c =
     let enough : 1 + c.args.size ≤ c.args.held.now.cells = let e = made.paid in omega (arith, e) in
     let room = has_room c.args.class c.args.size c.args.next here q.texts q.c q.l q.addresses q.done q.below q.creates enough q.room in
     record { same = refl; top_within = omega (arith, room, length-set c.args.words.now c.args.at.now.top c.in-Some.address) }
+
+pub returns-in-None-clause-unmoved : goal.returns-in-None-clause-unmoved
+returns-in-None-clause-unmoved g c =
+    let paid = rw c.in-None.is at c.in_ok-made.ensures.paid in
+    lacking_unmoved c.args.at.now c.args.words.now c.args.held.now _ c.pay_object.new.cells (g.S.Store.content c.args.store.now)
+    (g.S.Store.content c.pay_object.new.store) paid

@@ -1,7 +1,7 @@
 use Rattle.std.proofs.Common.{◌≡◌, ℕ, ◌-◌, [], ◌∷◌, refl, sym, ap, subst, ◌∙◌, get_or, arith}
 use Rattle.jv_code.specs.declared.kinds.NumberElement.TheVariants as numbers
 use Rattle.jv_heap.specs.Content.{words_at}
-use Rattle.jv_interp_creation.specs.Objects.{place}
+use Rattle.jv_interp_memory.specs.Executing.{place}
 use Rattle.jv_interp_creation.specs.Stores.{NarrowsBy}
 use Rattle.jv_interp_creation.proofs.StoredIn.{one_above}
 use Rattle.jv_interp_creation.proofs.StoredThere.{below_one, null_raises, in_array, block_size}
