@@ -19,10 +19,9 @@ use Rattle.jv_interp_going.proofs.FramesStand.{frame_length}
 use Rattle.jv_interp_memory.specs.declared.held.Held.{Held}
 use Rattle.jv_interp_memory.specs.declared.effect.Effect.TheVariants as effects
 use Rattle.jv_interp_memory.specs.EffectsInWords.{EffectStands}
-use Rattle.jv_interp_memory.specs.Executing.{Place, HasRoom, Did}
+use Rattle.jv_interp_memory.specs.Executing.{Place, place, HasRoom, Did}
 use Rattle.jv_interp_memory.specs.HeldInWords.{MemoryStands}
 use Rattle.jv_interp_memory.proofs.Popped.{Popped, frame_popped, frame_pushed, some_used}
-use Rattle.jv_interp_calls.specs.Calling.{place}
 use Rattle.jv_interp_calls.specs.Host.{Writing, Reading}
 use Rattle.jv_interp_calls.proofs.Called.{done_same}
 use Rattle.jv_interp_calls.proofs.Entered.{thrown}

@@ -12,11 +12,8 @@ use Rattle.jv_interp_memory.specs.declared.class_state.ClassState.{ClassState}
 use Rattle.jv_interp_memory.specs.ClassStates.{AreClassStates}
 use Rattle.jv_interp_memory.specs.declared.held.Held.{Held}
 use Rattle.jv_interp_memory.specs.declared.effect.Effect.{Effect}
-use Rattle.jv_interp_memory.specs.Executing.{Place, Executes, HasRoom, Did}
+use Rattle.jv_interp_memory.specs.Executing.{Place, place, Executes, HasRoom, Did}
 use Rattle.jv_interp_calls.specs.Known.{Known, IsKnown}
-
-abbrev pub place : Registers → List ℕ → Held → Blocks → Place
-place at words held blocks = record { at = at; words = words; held = held; blocks = blocks }
 
 -- The machine calls the method that the constant at an index names.
 pub record Calling (how : Use) (index next : ℕ) (k : Known) (here : Place) (texts : List (List ℕ)) (c : Context) (addresses : List ℕ) (done : Memory × EffectOfNames) (below : List ℕ) : Type 0 where

@@ -9,8 +9,7 @@ use Rattle.jv_interp_words.specs.declared.registers.Registers.{Registers}
 use Rattle.jv_interp_objects.specs.ObjectsInBlocks.{Blocks}
 use Rattle.jv_interp_memory.specs.declared.held.Held.{Held}
 use Rattle.jv_interp_memory.specs.declared.effect.Effect.{Effect}
-use Rattle.jv_interp_memory.specs.Executing.{Place, Executes, HasRoom, Did}
-use Rattle.jv_interp_calls.specs.Calling.{place}
+use Rattle.jv_interp_memory.specs.Executing.{Place, place, Executes, HasRoom, Did}
 
 -- The machine writes a byte of the int on top of the stack.
 pub record Writing (next : ℕ) (here : Place) (texts : List (List ℕ)) (c : Context) (number : ℤ) (rest : List Value) (addresses : List ℕ) (done : Memory × EffectOfNames) (below : List ℕ) : Type 0 where

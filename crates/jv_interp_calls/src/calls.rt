@@ -4,6 +4,8 @@ ghost use Rattle.std.specs.Prelude.{◌≡◌};
 ghost use Rattle.jv_link.specs.declared.site.Use.TheVariants.{Invokespecial};
 ghost use Rattle.jv_linked.specs.Linked.{IsLinked};
 ghost use Rattle.jv_interp_going.specs.Going.{StaysIn};
+ghost use Rattle.jv_interp_objects.specs.ObjectsInBlocks.{Blocks};
+ghost use Rattle.jv_interp_memory.specs.Executing.{IsUnmoved, place};
 ghost use Rattle.jv_interp_methods.specs.Methods.{AreMethods};
 ghost use Rattle.jv_interp_calls.specs.Known.{known};
 ghost use Rattle.jv_interp_calls.specs.Calling.{IsVirtual, CanCall, Calls, CanCallStatic, CallsStatic};
@@ -38,6 +40,8 @@ pub fn call_static<'a, 'l>(
     ensures calls { CallsStatic index next (known classes.now.world linked.old site) states.now at.old words.old held.old
         at.new words.new held.new result }
     ensures stays { StaysIn at.old at.new words.new }
+    ensures unmoved { (blocks : Blocks) → IsUnmoved result (place at.old words.old held.old blocks)
+        (place at.new words.new held.new blocks) }
     ensures same { held.new ≡ record held.old { output = held.new.output; output_left = held.new.output_left; read = held.new.read } }
     ensures linked { IsLinked classes.now.world linked.new }
 {

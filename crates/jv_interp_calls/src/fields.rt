@@ -8,6 +8,8 @@ ghost use Rattle.jv_linked.specs.FieldUses.{kind_of};
 ghost use Rattle.jv_linked.specs.Linked.{IsLinked};
 ghost use Rattle.jv_interp_going.specs.Going.{StaysIn};
 ghost use Rattle.jv_interp_objects.specs.Narrowing.{narrowing_of};
+ghost use Rattle.jv_interp_objects.specs.ObjectsInBlocks.{Blocks};
+ghost use Rattle.jv_interp_memory.specs.Executing.{IsUnmoved, place};
 ghost use Rattle.jv_interp_calls.specs.Known.{known};
 ghost use Rattle.jv_interp_calls.specs.Using.{CanUseField, UsesField, PutsInField, CanUseStatic, UsesStatic};
 
@@ -66,6 +68,8 @@ pub fn getfield<'a, 'l, S: Store>(
     ensures uses { UsesField GetField index next (known classes.now.world linked.old site) held.now at.old words.old
         (S.content store.now) at.new words.new result }
     ensures stays { StaysIn at.old at.new words.new }
+    ensures unmoved { IsUnmoved result (place at.old words.old held.now (S.content store.now))
+        (place at.new words.new held.now (S.content store.now)) }
     ensures linked { IsLinked classes.now.world linked.new }
 {
     field_is_used();
@@ -95,6 +99,8 @@ pub fn putfield<'a, 'l, S: Store>(
     ensures puts { PutsInField index next (known classes.now.world linked.old site) held.now words.now at.old
         (S.content store.old) at.new (S.content store.new) result }
     ensures stays { StaysIn at.old at.new words.now }
+    ensures unmoved { IsUnmoved result (place at.old words.now held.now (S.content store.old))
+        (place at.new words.now held.now (S.content store.new)) }
     ensures room { S.room_left store.new ≡ S.room_left store.old }
     ensures linked { IsLinked classes.now.world linked.new }
 {
@@ -127,6 +133,8 @@ pub fn getstatic<'a, 'l>(
     ensures uses { UsesStatic GetStatic index next (known classes.now.world linked.old site) states.now at.old words.old held.now
         at.new words.new held.now result }
     ensures stays { StaysIn at.old at.new words.new }
+    ensures unmoved { (blocks : Blocks) → IsUnmoved result (place at.old words.old held.now blocks)
+        (place at.new words.new held.now blocks) }
     ensures linked { IsLinked classes.now.world linked.new }
 {
     field_is_used();
@@ -162,6 +170,8 @@ pub fn putstatic<'a, 'l>(
     ensures uses { UsesStatic PutStatic index next (known classes.now.world linked.old site) states.now at.old words.now held.old
         at.new words.now held.new result }
     ensures stays { StaysIn at.old at.new words.now }
+    ensures unmoved { (blocks : Blocks) → IsUnmoved result (place at.old words.now held.old blocks)
+        (place at.new words.now held.new blocks) }
     ensures same { held.new ≡ record held.old { statics = held.new.statics } }
     ensures linked { IsLinked classes.now.world linked.new }
 {

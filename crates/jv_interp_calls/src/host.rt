@@ -3,6 +3,8 @@
 
 ghost use Rattle.std.specs.Prelude.{◌≡◌};
 ghost use Rattle.jv_interp_going.specs.Going.{StaysIn};
+ghost use Rattle.jv_interp_objects.specs.ObjectsInBlocks.{Blocks};
+ghost use Rattle.jv_interp_memory.specs.Executing.{IsUnmoved, place};
 ghost use Rattle.jv_interp_calls.specs.Host.{CanWrite, Writes, CanRead, Reads};
 
 use jv_interp_memory::{Effect, Held};
@@ -20,6 +22,8 @@ pub fn write<'l>(held: &mut Held, words: &[u32], at: &mut Registers<'l>, next: u
     requires { CanWrite next at.old words.now held.old }
     ensures writes { Writes next at.old words.now held.old at.new held.new result }
     ensures stays { StaysIn at.old at.new words.now }
+    ensures unmoved { (blocks : Blocks) → IsUnmoved result (place at.old words.now held.old blocks)
+        (place at.new words.now held.new blocks) }
     ensures same { held.new ≡ record held.old { output = held.new.output; output_left = held.new.output_left } }
 {
     if held.output_left == 0 {
@@ -41,6 +45,8 @@ pub fn read<'l>(held: &mut Held, words: &mut [u32], at: &mut Registers<'l>, next
     requires { CanRead next at.old words.old held.old }
     ensures reads { Reads next at.old words.old held.old at.new words.new held.new result }
     ensures stays { StaysIn at.old at.new words.new }
+    ensures unmoved { (blocks : Blocks) → IsUnmoved result (place at.old words.old held.old blocks)
+        (place at.new words.new held.new blocks) }
     ensures same { held.new ≡ record held.old { read = held.new.read } }
 {
     if held.read < held.input.len() {

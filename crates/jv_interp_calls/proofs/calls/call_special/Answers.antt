@@ -4,7 +4,7 @@ use Rattle.jv_link.specs.declared.site.Use.TheVariants as uses
 use Rattle.jv_link.specs.Objects.{IsObject}
 use Rattle.jv_interp_calls.specs.Known.{known}
 use Rattle.jv_interp_calls.specs.Resolved.{class_number, IsRun}
-use Rattle.jv_interp_calls.specs.Calling.{place}
+use Rattle.jv_interp_memory.specs.Executing.{place}
 use Rattle.jv_interp_calls.proofs.AtSite.{is_site, failed}
 use Rattle.jv_interp_calls.proofs.CallsWork.{of_special, enough, some, few, raises_null, receives, has, is_object, runs, refused, special_does, entered_init}
 use Rattle.jv_interp_calls.proofs.calls.call_special.Goals as goal

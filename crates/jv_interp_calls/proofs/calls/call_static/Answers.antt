@@ -1,7 +1,7 @@
 use Rattle.std.proofs.Common.{◌≡◌, ℕ, Bool, sym, ◌∙◌, arith}
 use Rattle.jv_link.specs.declared.site.Use.TheVariants as uses
 use Rattle.jv_interp_calls.specs.Known.{known}
-use Rattle.jv_interp_calls.specs.Calling.{place}
+use Rattle.jv_interp_memory.specs.Executing.{place}
 use Rattle.jv_interp_calls.proofs.AtSite.{failed}
 use Rattle.jv_interp_calls.proofs.StaticWork.{f, at, few_classes, begins, few, enters, writes, reads}
 use Rattle.jv_interp_calls.proofs.calls.call_static.Goals as goal

@@ -3,7 +3,7 @@ use Rattle.std.specs.Prelude.{Result, Ok, Err}
 use Rattle.jv_link.specs.Objects.{IsObject}
 use Rattle.jv_interp_calls.specs.Known.{known}
 use Rattle.jv_interp_calls.specs.Resolved.{class_number, IsRun}
-use Rattle.jv_interp_calls.specs.Calling.{place}
+use Rattle.jv_interp_memory.specs.Executing.{place}
 use Rattle.jv_interp_calls.proofs.AtSite.{is_site, failed}
 use Rattle.jv_interp_calls.proofs.CallsWork.{instance_use, virtual_use, enough, some, few, raises_null, receives, has, is_object, runs, refused, virtual_does}
 use Rattle.jv_interp_calls.proofs.calls.call_virtual.Goals as goal

@@ -1,7 +1,7 @@
 use Rattle.std.proofs.Common.{◌≡◌, ℕ, Bool, refl, sym, ap, ◌∙◌, arith, if◌then◌else◌}
 use Rattle.jv_code.specs.declared.kinds.FieldAccess.TheVariants as access
 use Rattle.jv_interp_calls.specs.Known.{known}
-use Rattle.jv_interp_calls.specs.Calling.{place}
+use Rattle.jv_interp_memory.specs.Executing.{place}
 use Rattle.jv_interp_calls.proofs.UsedAtSite.{failed, d, class_at, words_are, begins_get, getting_static}
 use Rattle.jv_interp_calls.proofs.fields.getstatic.Goals as goal
 

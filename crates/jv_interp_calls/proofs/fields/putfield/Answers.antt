@@ -2,7 +2,7 @@ use Rattle.std.proofs.Common.{◌≡◌, ℕ, Bool, refl, sym, ap, ◌∙◌, ar
 use Rattle.jv_interp_objects.specs.declared.narrowing.Narrowing.TheVariants as narrowings
 use Rattle.jv_code.specs.declared.kinds.FieldAccess.TheVariants as access
 use Rattle.jv_interp_calls.specs.Known.{known}
-use Rattle.jv_interp_calls.specs.Calling.{place}
+use Rattle.jv_interp_memory.specs.Executing.{place}
 use Rattle.jv_interp_calls.proofs.UsedAtSite.{it, failed_in, d, words_are, few, not_static_put, putting, narrows, long_whole}
 use Rattle.jv_interp_calls.proofs.fields.putfield.Goals as goal
 

@@ -2,7 +2,7 @@ use Rattle.std.proofs.Common.{◌≡◌, ℕ, Bool, refl, sym, ap, ◌∙◌, ar
 use Rattle.jv_interp_objects.specs.declared.narrowing.Narrowing.TheVariants as narrowings
 use Rattle.jv_code.specs.declared.kinds.FieldAccess.TheVariants as access
 use Rattle.jv_interp_calls.specs.Known.{known}
-use Rattle.jv_interp_calls.specs.Calling.{place}
+use Rattle.jv_interp_memory.specs.Executing.{place}
 use Rattle.jv_interp_calls.proofs.UsedAtSite.{failed, d, class_at, words_are, begins_put, putting_static, narrows, long_whole}
 use Rattle.jv_interp_calls.proofs.fields.putstatic.Goals as goal
 

@@ -1,6 +1,6 @@
 use Rattle.std.proofs.Common.{◌+◌, ◌<◌, length, refl, arith, set}
 use Rattle.std.proofs.lemmas.List.{length-set}
-use Rattle.jv_interp_calls.specs.Calling.{place}
+use Rattle.jv_interp_memory.specs.Executing.{place}
 use Rattle.jv_interp_calls.proofs.HostWork.{reads_byte, reads_end, has_room, reads}
 use Rattle.jv_interp_calls.proofs.host.read.Goals as goal
 

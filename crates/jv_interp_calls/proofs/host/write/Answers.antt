@@ -1,6 +1,6 @@
 use Rattle.std.proofs.Common.{◌+◌, ◌-◌, ◌%◌, ◌<◌, ◌≤◌, [], ◌∷◌, length, refl, ap, arith, get_or, length-append}
 use Rattle.std.specs.Prelude.{vec_len, vec_capacity}
-use Rattle.jv_interp_calls.specs.Calling.{place}
+use Rattle.jv_interp_memory.specs.Executing.{place}
 use Rattle.jv_interp_calls.proofs.HostWork.{throws, writes}
 use Rattle.jv_interp_calls.proofs.host.write.Goals as goal
 
