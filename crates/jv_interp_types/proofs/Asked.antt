@@ -27,7 +27,7 @@ use Rattle.jv_interp_words.proofs.Taken.{taken_gave}
 use Rattle.jv_interp_words.proofs.InUse.{in_use_pushed}
 use Rattle.jv_interp_objects.specs.ObjectsInBlocks.{HasNumber, ObjectStands}
 use Rattle.jv_interp_memory.specs.declared.effect.Effect.TheVariants as effects
-use Rattle.jv_interp_memory.specs.Executing.{Place, Did}
+use Rattle.jv_interp_memory.specs.Executing.{Place, place, Did}
 use Rattle.jv_interp_memory.proofs.Numbered.{system_numbers}
 use Rattle.jv_interp_memory.proofs.Popped.{frame_pushed}
 use Rattle.jv_interp_memory.proofs.Raised.{raised, went_on}
@@ -37,7 +37,7 @@ use Rattle.jv_interp_creation.proofs.Thrice.{taken_kind}
 use Rattle.jv_interp_types.specs.declared.types.NumberedType.{NumberedType}
 use Rattle.jv_interp_types.specs.Types.{IsOfType, HasWord}
 use Rattle.jv_interp_types.specs.Named.{NamesClass, Names, IsNamed}
-use Rattle.jv_interp_types.specs.Asking.{place, Asking}
+use Rattle.jv_interp_types.specs.Asking.{Asking}
 use Rattle.jv_interp_types.proofs.TypeWords.{first_word, some_word}
 use Rattle.jv_interp_types.proofs.TopReference.{OnTop, reference_on_top}
 

@@ -29,7 +29,7 @@ use Rattle.jv_interp_objects.proofs.Carried.{one_own}
 use Rattle.jv_interp_objects.proofs.Components.{StandsAmong, component_stands, components_length}
 use Rattle.jv_interp_objects.proofs.Changed.{Changes, word_written, object_changed}
 use Rattle.jv_interp_memory.specs.declared.effect.Effect.TheVariants as effects
-use Rattle.jv_interp_memory.specs.Executing.{Place}
+use Rattle.jv_interp_memory.specs.Executing.{Place, place}
 use Rattle.jv_interp_memory.specs.HeldInWords.{MemoryStands}
 use Rattle.jv_interp_memory.specs.Growing.{DidIn}
 use Rattle.jv_interp_memory.specs.SystemNumbers.{AreSystemNumbers}
@@ -40,7 +40,6 @@ use Rattle.jv_interp_calls.proofs.Called.{done_same}
 use Rattle.jv_interp_creation.proofs.Went.{raises_in, goes_in}
 use Rattle.jv_interp_types.specs.declared.types.NumberedType.{NumberedType}
 use Rattle.jv_interp_types.specs.Types.{IsOfType, HasWord}
-use Rattle.jv_interp_types.specs.Asking.{place}
 use Rattle.jv_interp_types.specs.Storing.{Storing}
 use Rattle.jv_interp_types.specs.Inside.Standing.{IsReference, TellsStanding}
 use Rattle.jv_interp_types.proofs.TypeWords.{first_word, some_word}

@@ -6,11 +6,8 @@ use Rattle.jv_interp_words.specs.declared.registers.Registers.{Registers}
 use Rattle.jv_interp_objects.specs.ObjectsInBlocks.{Blocks}
 use Rattle.jv_interp_memory.specs.declared.held.Held.{Held}
 use Rattle.jv_interp_memory.specs.declared.effect.Effect.{Effect}
-use Rattle.jv_interp_memory.specs.Executing.{Place, Executes, Did}
+use Rattle.jv_interp_memory.specs.Executing.{Place, place, Executes, Did}
 use Rattle.jv_interp_calls.specs.Known.{Known, IsKnown}
-
-abbrev pub place : Registers → List ℕ → Held → Blocks → Place
-place at words held blocks = record { at = at; words = words; held = held; blocks = blocks }
 
 -- The machine executes such an instruction in a method that is known.
 pub record Asking (part : Context → Outcome) (next : ℕ) (k : Known) (here : Place) (texts : List (List ℕ)) (c : Context) (addresses : List ℕ) (done : Memory × EffectOfNames) (below : List ℕ) : Type 0 where

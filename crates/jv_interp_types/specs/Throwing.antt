@@ -8,9 +8,8 @@ use Rattle.jv_interp_words.specs.declared.registers.Registers.{Registers}
 use Rattle.jv_interp_objects.specs.ObjectsInBlocks.{Blocks}
 use Rattle.jv_interp_memory.specs.declared.held.Held.{Held}
 use Rattle.jv_interp_memory.specs.declared.effect.Effect.{Effect}
-use Rattle.jv_interp_memory.specs.Executing.{Place, Executes, Did}
+use Rattle.jv_interp_memory.specs.Executing.{Place, place, Executes, Did}
 use Rattle.jv_interp_memory.specs.SystemNumbers.{IsGuestsWorld}
-use Rattle.jv_interp_types.specs.Asking.{place}
 
 -- The machine throws the object on top, or an exception in the place of null.
 pub record Throwing (next : ℕ) (here : Place) (texts : List (List ℕ)) (c : Context) (addresses : List ℕ) (done : Memory × EffectOfNames) (below : List ℕ) : Type 0 where

@@ -4,6 +4,7 @@ ghost use Rattle.std.specs.Prelude.{◌≡◌, if◌then◌else◌};
 ghost use Rattle.jv_linked.specs.Linked.{IsLinked};
 ghost use Rattle.jv_meaning_machine.specs.Instructions.{check_cast, instance_of};
 ghost use Rattle.jv_interp_going.specs.Going.{StaysIn};
+ghost use Rattle.jv_interp_memory.specs.Executing.{IsUnmoved, place};
 ghost use Rattle.jv_interp_calls.specs.Known.{known};
 ghost use Rattle.jv_interp_types.specs.Asking.{CanAsk, Asks};
 
@@ -41,6 +42,8 @@ pub fn instanceof<'a, 'l, S: Store>(
     ensures asks { Asks (λ c. instance_of c index) next (known classes.now.world linked.old site) held.now (S.content store.now)
         at.old words.old at.new words.new result }
     ensures stays { StaysIn at.old at.new words.new }
+    ensures unmoved { IsUnmoved result (place at.old words.old held.now (S.content store.now))
+        (place at.new words.new held.now (S.content store.now)) }
     ensures linked { IsLinked classes.now.world linked.new }
 {
     let _held = held;
@@ -76,6 +79,8 @@ pub fn checkcast<'a, 'l, S: Store>(
     ensures asks { Asks (λ c. check_cast c index) next (known classes.now.world linked.old site) held.now (S.content store.now)
         at.old words.now at.new words.now result }
     ensures stays { StaysIn at.old at.new words.now }
+    ensures unmoved { IsUnmoved result (place at.old words.now held.now (S.content store.now))
+        (place at.new words.now held.now (S.content store.now)) }
     ensures linked { IsLinked classes.now.world linked.new }
 {
     let _held = held;

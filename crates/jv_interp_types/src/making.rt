@@ -4,7 +4,7 @@ ghost use Rattle.std.specs.Prelude.{◌≡◌, ◌+◌, ◌<◌, ◌≤◌, IfOk
 ghost use Rattle.jv_linked.specs.Linked.{IsLinked};
 ghost use Rattle.jv_interp_going.specs.Going.{StaysIn};
 ghost use Rattle.jv_interp_calls.specs.Known.{known};
-ghost use Rattle.jv_interp_types.specs.Asking.{place};
+ghost use Rattle.jv_interp_memory.specs.Executing.{IsUnmoved, place};
 ghost use Rattle.jv_interp_types.specs.Making.{CanMakeObject, MakesObject, CanMakeArray, MakesArray, CanMakeArrays, MakesArrays};
 ghost use Rattle.jv_interp_types.specs.Inside.Slots.{IsSlots};
 
@@ -47,6 +47,8 @@ pub fn create<'a, 'l, S: Store>(
     ensures makes { IfOk result (MakesObject index next (known classes.now.world linked.old site) states.now
         (place at.old words.old held.old (S.content store.old)) (place at.new words.new held.new (S.content store.new))) }
     ensures stays { StaysIn at.old at.new words.new }
+    ensures unmoved { IfOk result (λ effect. IsUnmoved effect (place at.old words.old held.old (S.content store.old))
+        (place at.new words.new held.new (S.content store.new))) }
     ensures room { OnOk result (S.room_left store.old + held.new.cells ≡ S.room_left store.new + held.old.cells) }
     ensures refused_at { OnErr result (at.new ≡ at.old) }
     ensures refused_words { OnErr result (words.new ≡ words.old) }
@@ -96,6 +98,8 @@ pub fn anewarray<'a, 'l, S: Store>(
     ensures makes { IfOk result (MakesArray index next (known classes.now.world linked.old site)
         (place at.old words.old held.old (S.content store.old)) (place at.new words.new held.new (S.content store.new))) }
     ensures stays { StaysIn at.old at.new words.new }
+    ensures unmoved { IfOk result (λ effect. IsUnmoved effect (place at.old words.old held.old (S.content store.old))
+        (place at.new words.new held.new (S.content store.new))) }
     ensures room { OnOk result (S.room_left store.old + held.new.cells ≡ S.room_left store.new + held.old.cells) }
     ensures refused_at { OnErr result (at.new ≡ at.old) }
     ensures refused_words { OnErr result (words.new ≡ words.old) }
@@ -149,6 +153,8 @@ pub fn multianewarray<'a, 'l, S: Store>(
     ensures makes { IfOk result (MakesArrays index dimensions next (known classes.now.world linked.old site)
         (place at.old words.old held.old (S.content store.old)) (place at.new words.new held.new (S.content store.new))) }
     ensures stays { StaysIn at.old at.new words.new }
+    ensures unmoved { IfOk result (λ effect. IsUnmoved effect (place at.old words.old held.old (S.content store.old))
+        (place at.new words.new held.new (S.content store.new))) }
     ensures room { OnOk result (S.room_left store.old + held.new.cells ≡ S.room_left store.new + held.old.cells) }
     ensures refused_at { OnErr result (at.new ≡ at.old) }
     ensures refused_words { OnErr result (words.new ≡ words.old) }

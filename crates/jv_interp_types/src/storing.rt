@@ -4,6 +4,7 @@ ghost use Rattle.std.specs.Prelude.{◌≡◌, ℕ, List};
 ghost use Rattle.jv_text.specs.declared.descriptor.FieldTypeOf.{FieldTypeOf};
 ghost use Rattle.jv_interp_going.specs.Going.{StaysIn};
 ghost use Rattle.jv_interp_memory.specs.SystemNumbers.{IsGuestsWorld};
+ghost use Rattle.jv_interp_memory.specs.Executing.{IsUnmoved, place};
 ghost use Rattle.jv_interp_types.specs.Types.{IsOfType};
 ghost use Rattle.jv_interp_types.specs.Storing.{CanStore, Stores};
 ghost use Rattle.jv_interp_types.specs.Inside.Standing.{IsReference, TellsStanding};
@@ -45,6 +46,8 @@ pub fn aastore<'l, S: Store>(
     requires { CanStore classes.now.world next at.old words.now held.now (S.content store.old) }
     ensures stores { Stores classes.now.world next words.now held.now at.old (S.content store.old) at.new (S.content store.new) result }
     ensures stays { StaysIn at.old at.new words.now }
+    ensures unmoved { IsUnmoved result (place at.old words.now held.now (S.content store.old))
+        (place at.new words.now held.now (S.content store.new)) }
     ensures room { S.room_left store.new ≡ S.room_left store.old }
 {
     let _held = held;

@@ -1,7 +1,7 @@
 use Rattle.std.proofs.Common.{ℕ, ◌-◌, sym, subst, refl, arith}
 use Rattle.jv_interp_calls.specs.Known.{known}
 use Rattle.jv_interp_types.specs.Types.{HasWord}
-use Rattle.jv_interp_types.specs.Asking.{place}
+use Rattle.jv_interp_memory.specs.Executing.{place}
 use Rattle.jv_interp_types.proofs.Asked.{top, tested, has_word, some_block, failed, of_type, does_so, cast_step, cast_tail, cast_tests, null_stays, object_stays, cast_raises}
 use Rattle.jv_interp_types.proofs.asking.checkcast.Goals as goal
 

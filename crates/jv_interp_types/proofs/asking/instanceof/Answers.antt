@@ -1,9 +1,8 @@
 use Rattle.std.proofs.Common.{ℕ, ◌-◌, set, sym, subst, refl, arith}
 use Rattle.jv_interp_memory.specs.declared.effect.Effect.TheVariants as effects
-use Rattle.jv_interp_memory.specs.Executing.{Did}
+use Rattle.jv_interp_memory.specs.Executing.{Did, place}
 use Rattle.jv_interp_calls.specs.Known.{known}
 use Rattle.jv_interp_types.specs.Types.{HasWord}
-use Rattle.jv_interp_types.specs.Asking.{place}
 use Rattle.jv_interp_types.proofs.Asked.{top, tested, has_word, some_block, failed, of_type, does_so, instance_step, instance_tail, instance_tests, null_answers, object_answers}
 use Rattle.jv_interp_types.proofs.asking.instanceof.Goals as goal
 

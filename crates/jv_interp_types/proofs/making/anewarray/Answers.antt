@@ -3,7 +3,7 @@ use Rattle.std.proofs.lemmas.Result.{IfOk-weaker}
 use Rattle.jv_interp_memory.specs.declared.effect.Effect.{Effect}
 use Rattle.jv_interp_calls.specs.Known.{known}
 use Rattle.jv_interp_creation.specs.Arrays.{MakesArray as MakesOne}
-use Rattle.jv_interp_types.specs.Asking.{place}
+use Rattle.jv_interp_memory.specs.Executing.{place}
 use Rattle.jv_interp_types.specs.Making.{MakesArray}
 use Rattle.jv_interp_types.proofs.ArraysMade.{names, failed, made}
 use Rattle.jv_interp_types.proofs.making.anewarray.Goals as goal

@@ -3,7 +3,7 @@ use Rattle.std.proofs.lemmas.Result.{IfOk-weaker}
 use Rattle.jv_interp_memory.specs.declared.effect.Effect.{Effect}
 use Rattle.jv_interp_calls.specs.Known.{known}
 use Rattle.jv_interp_creation.specs.Objects.{Creates}
-use Rattle.jv_interp_types.specs.Asking.{place}
+use Rattle.jv_interp_memory.specs.Executing.{place}
 use Rattle.jv_interp_types.specs.Making.{MakesObject}
 use Rattle.jv_interp_types.proofs.ObjectMade.{names, failed, l, at, few, begins, lacks, creating}
 use Rattle.jv_interp_types.proofs.making.create.Goals as goal

@@ -3,7 +3,7 @@ use Rattle.std.proofs.lemmas.Result.{IfOk-weaker}
 use Rattle.jv_interp_memory.specs.declared.effect.Effect.{Effect}
 use Rattle.jv_interp_calls.specs.Known.{known}
 use Rattle.jv_interp_creation.specs.NestedArrays.{MakesArrays as MakesMany}
-use Rattle.jv_interp_types.specs.Asking.{place}
+use Rattle.jv_interp_memory.specs.Executing.{place}
 use Rattle.jv_interp_types.specs.Making.{MakesArrays}
 use Rattle.jv_interp_types.proofs.ArraysMade.{many_names, many_failed, some_array, many_made}
 use Rattle.jv_interp_types.proofs.making.multianewarray.Goals as goal

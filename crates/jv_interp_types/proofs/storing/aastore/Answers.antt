@@ -1,6 +1,6 @@
 use Rattle.std.proofs.Common.{ℕ, ◌-◌, ◌<◌, length, get_or, refl, sym, subst, arith}
 use Rattle.jv_interp_objects.specs.ObjectsInBlocks.{IsArrayWord}
-use Rattle.jv_interp_types.specs.Asking.{place}
+use Rattle.jv_interp_memory.specs.Executing.{place}
 use Rattle.jv_interp_types.proofs.StoredReference.{top, null_raises, of, length_word, block_length, few_values, array_word, large_word, outside_raises, value_refers, store_raises, stored}
 use Rattle.jv_interp_types.proofs.storing.aastore.Goals as goal
 

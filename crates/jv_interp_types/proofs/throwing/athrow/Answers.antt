@@ -1,4 +1,4 @@
-use Rattle.jv_interp_types.specs.Asking.{place}
+use Rattle.jv_interp_memory.specs.Executing.{place}
 use Rattle.jv_interp_types.proofs.Thrown.{null_raises, object_thrown}
 use Rattle.jv_interp_types.proofs.throwing.athrow.Goals as goal
 
