@@ -13,7 +13,7 @@ use Rattle.jv_interp_memory.specs.declared.held.Held.{Held}
 use Rattle.jv_interp_memory.specs.declared.effect.Effect.{Effect}
 use Rattle.jv_interp_creation.specs.Arrays.{CanMakeBaseArray, MakesBaseArray}
 use Rattle.jv_interp_calls.specs.Known.{Known}
-use Rattle.jv_interp_execution.specs.OnWords.{place}
+use Rattle.jv_interp_memory.specs.Executing.{place}
 use Rattle.jv_interp_execution.specs.InGuest.{CanExecute, Executed}
 use Rattle.jv_interp_execution.proofs.Grown.{guests}
 

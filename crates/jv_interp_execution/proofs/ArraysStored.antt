@@ -22,7 +22,7 @@ use Rattle.jv_interp_memory.specs.declared.effect.Effect.{Effect}
 use Rattle.jv_interp_memory.specs.SystemNumbers.{IsGuestsWorld}
 use Rattle.jv_interp_creation.specs.Stores.{Storing, NarrowsBy, CanStore, Stores, CanStoreByte, StoresByte}
 use Rattle.jv_interp_calls.specs.Known.{Known}
-use Rattle.jv_interp_execution.specs.OnWords.{place}
+use Rattle.jv_interp_memory.specs.Executing.{place}
 use Rattle.jv_interp_execution.specs.InGuest.{ExecutesIn, CanExecute, Executed}
 
 -- what is left of a number that is stored, where the instruction tells it

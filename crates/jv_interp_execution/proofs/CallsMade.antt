@@ -20,7 +20,7 @@ use Rattle.jv_interp_memory.specs.declared.effect.Effect.{Effect}
 use Rattle.jv_interp_memory.specs.Growing.{DidIn}
 use Rattle.jv_interp_calls.specs.Known.{Known}
 use Rattle.jv_interp_calls.specs.Calling.{Calling, CanCall, Calls, CanCallStatic, CallsStatic}
-use Rattle.jv_interp_execution.specs.OnWords.{place}
+use Rattle.jv_interp_memory.specs.Executing.{place}
 use Rattle.jv_interp_execution.specs.InGuest.{ExecutesIn, CanExecute, Executed, CanExecuteAt, ExecutedAt}
 use Rattle.jv_interp_execution.proofs.Grown.{did_same}
 

@@ -20,7 +20,7 @@ use Rattle.jv_meaning_machine.specs.Laws.Steps.{ExecutionKeeps}
 use Rattle.jv_interp_words.specs.declared.registers.Registers.{Registers}
 use Rattle.jv_interp_words.proofs.Gave.{bound_gave}
 use Rattle.jv_interp_objects.specs.ObjectsInBlocks.{Blocks}
-use Rattle.jv_interp_memory.specs.Executing.{Place}
+use Rattle.jv_interp_memory.specs.Executing.{Place, place}
 use Rattle.jv_interp_memory.specs.declared.held.Held.{Held}
 use Rattle.jv_interp_memory.specs.declared.effect.Effect.{Effect}
 use Rattle.jv_link.specs.declared.site.Site.{Site}
@@ -32,7 +32,6 @@ use Rattle.jv_interp_calls.specs.Known.{Known}
 use Rattle.jv_interp_calls.proofs.Sites.{AtPlace, at_place}
 use Rattle.jv_interp_execution.specs.declared.pool_constants.PoolConstant.{PoolConstant}
 use Rattle.jv_interp_execution.specs.declared.pool_constants.PoolConstant.TheVariants as pushed
-use Rattle.jv_interp_execution.specs.OnWords.{place}
 use Rattle.jv_interp_execution.specs.InGuest.{ExecutesIn, CanExecute, Executed}
 use Rattle.jv_interp_execution.specs.PoolConstants.{IsPushed, IsConstantOf, IsOfSite}
 use Rattle.jv_interp_execution.proofs.Grown.{guests, did_same}

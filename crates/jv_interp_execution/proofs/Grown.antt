@@ -11,11 +11,11 @@ use Rattle.jv_interp_words.specs.declared.registers.Registers.{Registers}
 use Rattle.jv_interp_objects.specs.ObjectsInBlocks.{Blocks}
 use Rattle.jv_interp_memory.specs.declared.held.Held.{Held}
 use Rattle.jv_interp_memory.specs.declared.effect.Effect.{Effect}
-use Rattle.jv_interp_memory.specs.Executing.{Place, Did}
+use Rattle.jv_interp_memory.specs.Executing.{Place, place, Did}
 use Rattle.jv_interp_memory.specs.Growing.{Grows, DidIn}
 use Rattle.jv_interp_memory.specs.SystemNumbers.{IsGuestsWorld}
 use Rattle.jv_interp_calls.specs.Known.{Known}
-use Rattle.jv_interp_execution.specs.OnWords.{place, part_of, ExecutesInsn, DoneOnWords}
+use Rattle.jv_interp_execution.specs.OnWords.{part_of, ExecutesInsn, DoneOnWords}
 use Rattle.jv_interp_execution.specs.InGuest.{ExecutesIn, Executed}
 use Rattle.jv_interp_execution.proofs.Unpaid.{no_more}
 

@@ -23,7 +23,7 @@ use Rattle.jv_interp_memory.specs.declared.effect.Effect.{Effect}
 use Rattle.jv_interp_creation.specs.Constants.{PushingLong, CanPushLong, PushesLong}
 use Rattle.jv_interp_calls.specs.Known.{Known}
 use Rattle.jv_interp_calls.proofs.Sites.{AtPlace, at_place}
-use Rattle.jv_interp_execution.specs.OnWords.{place}
+use Rattle.jv_interp_memory.specs.Executing.{place}
 use Rattle.jv_interp_execution.specs.InGuest.{ExecutesIn, CanExecute, Executed}
 use Rattle.jv_interp_execution.specs.PoolConstants.{IsLongOf, IsOfSite}
 use Rattle.jv_interp_execution.proofs.Grown.{did_same}

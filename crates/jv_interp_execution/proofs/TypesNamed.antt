@@ -9,13 +9,13 @@ use Rattle.jv_interp_objects.specs.ObjectsInBlocks.{Blocks}
 use Rattle.jv_interp_memory.specs.declared.class_state.ClassState.{ClassState}
 use Rattle.jv_interp_memory.specs.declared.held.Held.{Held}
 use Rattle.jv_interp_memory.specs.declared.effect.Effect.{Effect}
-use Rattle.jv_interp_memory.specs.Executing.{Place}
+use Rattle.jv_interp_memory.specs.Executing.{Place, place}
 use Rattle.jv_interp_calls.specs.Known.{Known}
 use Rattle.jv_interp_types.specs.Asking.{Asks}
 use Rattle.jv_interp_types.specs.Throwing.{Throws}
 use Rattle.jv_interp_types.specs.Storing.{Stores}
 use Rattle.jv_interp_types.specs.Making.{MakesObject, MakesArray, MakesArrays}
-use Rattle.jv_interp_execution.specs.OnWords.{place, part_of}
+use Rattle.jv_interp_execution.specs.OnWords.{part_of}
 use Rattle.jv_interp_execution.specs.InGuest.{ExecutesIn, Executed, ExecutedAt}
 use Rattle.jv_interp_execution.proofs.Grown.{did_same, guests}
 

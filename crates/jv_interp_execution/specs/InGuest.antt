@@ -13,10 +13,10 @@ use Rattle.jv_interp_memory.specs.declared.class_state.ClassState.{ClassState}
 use Rattle.jv_interp_memory.specs.ClassStates.{AreClassStates}
 use Rattle.jv_interp_memory.specs.declared.held.Held.{Held}
 use Rattle.jv_interp_memory.specs.declared.effect.Effect.{Effect}
-use Rattle.jv_interp_memory.specs.Executing.{Place, Executes, HasRoom}
+use Rattle.jv_interp_memory.specs.Executing.{Place, place, Executes, HasRoom}
 use Rattle.jv_interp_memory.specs.Growing.{DidIn}
 use Rattle.jv_interp_calls.specs.Known.{Known, IsKnown}
-use Rattle.jv_interp_execution.specs.OnWords.{place, part_of}
+use Rattle.jv_interp_execution.specs.OnWords.{part_of}
 
 -- An instruction is executed in a frame that stands in words, at a method that is known.
 pub record ExecutesIn (insn : Instruction) (next : ℕ) (k : Known) (texts : List (List ℕ)) (here : Place) (c : Context) (addresses : List ℕ) (done : Memory × EffectOfNames) (below : List ℕ) : Type 0 where

@@ -12,10 +12,7 @@ use Rattle.jv_interp_objects.specs.ObjectsInBlocks.{Blocks}
 use Rattle.jv_interp_memory.specs.declared.held.Held.{Held}
 use Rattle.jv_interp_memory.specs.declared.effect.Effect.{Effect}
 use Rattle.jv_interp_memory.specs.SystemNumbers.{IsGuestsWorld}
-use Rattle.jv_interp_memory.specs.Executing.{Place, Executes, Did}
-
-abbrev pub place : Registers → List ℕ → Held → Blocks → Place
-place at words held blocks = record { at = at; words = words; held = held; blocks = blocks }
+use Rattle.jv_interp_memory.specs.Executing.{Place, place, Executes, Did}
 
 abbrev pub part_of : Instruction → Context → Outcome
 part_of insn c = execute c insn

@@ -5,7 +5,7 @@ ghost use Rattle.jv_code.specs.declared.insn.Insn.TheVariants.{ArrayLength as Ar
 ghost use Rattle.jv_interp_calls.specs.Known.{Known};
 ghost use Rattle.jv_interp_going.specs.Going.{StaysIn};
 ghost use Rattle.jv_interp_execution.specs.Components.{number_words};
-ghost use Rattle.jv_interp_execution.specs.OnWords.{place};
+ghost use Rattle.jv_interp_memory.specs.Executing.{IsUnmoved, place};
 ghost use Rattle.jv_interp_execution.specs.InGuest.{CanExecute, Executed};
 
 use jv_code::NumberElement;
@@ -28,6 +28,8 @@ pub(crate) fn execute_array_length<'l, S: Store>(
     ensures done { (k : Known) (texts : List (List ℕ)) → Executed ArrayLengthInsn next k texts
         (place at.old words.old held.now (S.content store.now)) (place at.new words.new held.now (S.content store.now)) result }
     ensures stays { StaysIn at.old at.new words.new }
+    ensures unmoved { IsUnmoved result (place at.old words.old held.now (S.content store.now))
+        (place at.new words.new held.now (S.content store.now)) }
 {
     execution_keeps();
     array_length(store, held, words, at, next)
@@ -54,6 +56,8 @@ pub(crate) fn execute_array_load<'l, S: Store>(
     ensures done { (k : Known) (texts : List (List ℕ)) → Executed (ArrayLoadInsn kind) next k texts
         (place at.old words.old held.now (S.content store.now)) (place at.new words.new held.now (S.content store.now)) result }
     ensures stays { StaysIn at.old at.new words.new }
+    ensures unmoved { IsUnmoved result (place at.old words.old held.now (S.content store.now))
+        (place at.new words.new held.now (S.content store.now)) }
 {
     execution_keeps();
     if is_long(kind) {
@@ -76,6 +80,8 @@ pub(crate) fn execute_reference_array_load<'l, S: Store>(
     ensures done { (k : Known) (texts : List (List ℕ)) → Executed ReferenceArrayLoadInsn next k texts
         (place at.old words.old held.now (S.content store.now)) (place at.new words.new held.now (S.content store.now)) result }
     ensures stays { StaysIn at.old at.new words.new }
+    ensures unmoved { IsUnmoved result (place at.old words.old held.now (S.content store.now))
+        (place at.new words.new held.now (S.content store.now)) }
 {
     execution_keeps();
     load(store, held, words, at, next)

@@ -4,7 +4,7 @@ ghost use Rattle.std.specs.Prelude.{◌≡◌, ℕ, List};
 ghost use Rattle.jv_code.specs.declared.insn.Insn.TheVariants.{ArrayStore as ArrayStoreInsn};
 ghost use Rattle.jv_interp_calls.specs.Known.{Known};
 ghost use Rattle.jv_interp_going.specs.Going.{StaysIn};
-ghost use Rattle.jv_interp_execution.specs.OnWords.{place};
+ghost use Rattle.jv_interp_memory.specs.Executing.{IsUnmoved, place};
 ghost use Rattle.jv_interp_execution.specs.InGuest.{CanExecute, Executed};
 
 use jv_code::NumberElement;
@@ -28,6 +28,8 @@ pub(crate) fn execute_array_store<'l, S: Store>(
     ensures done { (k : Known) (texts : List (List ℕ)) → Executed (ArrayStoreInsn kind) next k texts
         (place at.old words.now held.now (S.content store.old)) (place at.new words.now held.now (S.content store.new)) result }
     ensures stays { StaysIn at.old at.new words.now }
+    ensures unmoved { IsUnmoved result (place at.old words.now held.now (S.content store.old))
+        (place at.new words.now held.now (S.content store.new)) }
     ensures room { S.room_left store.new ≡ S.room_left store.old }
 {
     match kind {

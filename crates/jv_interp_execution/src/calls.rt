@@ -6,7 +6,7 @@ ghost use Rattle.jv_linked.specs.Linked.{IsLinked};
 ghost use Rattle.jv_interp_calls.specs.Known.{known};
 ghost use Rattle.jv_interp_going.specs.Going.{StaysIn};
 ghost use Rattle.jv_interp_methods.specs.Methods.{AreMethods};
-ghost use Rattle.jv_interp_execution.specs.OnWords.{place};
+ghost use Rattle.jv_interp_memory.specs.Executing.{IsUnmoved, place};
 ghost use Rattle.jv_interp_execution.specs.InGuest.{CanExecute, Executed, CanExecuteAt, ExecutedAt};
 
 use jv_code::Invocation;
@@ -41,6 +41,8 @@ pub(crate) fn execute_invocation<'a, 'l, S: Store>(
     ensures done { (texts : List (List ℕ)) → ExecutedAt states.now (InvokeInsn how index) next (known classes.now.world linked.old site)
         texts (place at.old words.old held.old (S.content store.now)) (place at.new words.new held.new (S.content store.now)) result }
     ensures stays { StaysIn at.old at.new words.new }
+    ensures unmoved { IsUnmoved result (place at.old words.old held.old (S.content store.now))
+        (place at.new words.new held.new (S.content store.now)) }
     ensures cells { held.new.cells ≡ held.old.cells }
     ensures linked { IsLinked classes.now.world linked.new }
 {

@@ -5,9 +5,12 @@ ghost use Rattle.jv_code.specs.Insns.{instruction_of};
 ghost use Rattle.jv_linked.specs.Linked.{IsLinked};
 ghost use Rattle.jv_interp_calls.specs.Known.{known};
 ghost use Rattle.jv_interp_going.specs.Going.{CanWork, StaysIn};
+ghost use Rattle.jv_interp_objects.specs.ObjectsInBlocks.{Blocks};
 ghost use Rattle.jv_interp_methods.specs.Methods.{AreMethods};
 ghost use Rattle.jv_interp_methods.specs.Texts.{AreTexts};
-ghost use Rattle.jv_interp_execution.specs.OnWords.{place, works_on_words, DoneOnWords, KeysRise};
+ghost use Rattle.jv_interp_memory.specs.Executing.{IsUnmoved, place};
+ghost use Rattle.jv_interp_memory.specs.declared.held.Held.{Held};
+ghost use Rattle.jv_interp_execution.specs.OnWords.{works_on_words, DoneOnWords, KeysRise};
 ghost use Rattle.jv_interp_execution.specs.InGuest.{CanExecuteAt, ExecutedAt, KeepsCodeRules};
 
 use crate::array_loads::{execute_array_length, execute_array_load, execute_reference_array_load};
@@ -42,6 +45,8 @@ fn execute_in_words<'l>(
     requires keys { KeysRise (instruction_of insn) }
     ensures done { DoneOnWords (instruction_of insn.entry) next at.old words.old at.new words.new result }
     ensures stays { StaysIn at.old at.new words.new }
+    ensures unmoved { (held : Held) (blocks : Blocks) → IsUnmoved result (place at.old words.old held blocks)
+        (place at.new words.new held blocks) }
 {
     match execute_on_words(words, at, next, insn) {
         Some(effect) => effect,
@@ -87,6 +92,8 @@ pub fn execute<'a, 'l, S: Store>(
     ensures refused { OnErr result (S.content store.new ≡ S.content store.old) }
     ensures refused_room { OnErr result (S.room_left store.new ≡ S.room_left store.old) }
     ensures sure { IsTrue S.SURE → IsOk result }
+    ensures unmoved { IfOk result (λ effect. IsUnmoved effect (place at.old words.old held.old (S.content store.old))
+        (place at.new words.new held.new (S.content store.new))) }
 {
     execution_keeps();
     match insn {

@@ -5,7 +5,7 @@ ghost use Rattle.jv_code.specs.declared.insn.Insn.TheVariants.{Field as FieldIns
 ghost use Rattle.jv_linked.specs.Linked.{IsLinked};
 ghost use Rattle.jv_interp_calls.specs.Known.{known};
 ghost use Rattle.jv_interp_going.specs.Going.{StaysIn};
-ghost use Rattle.jv_interp_execution.specs.OnWords.{place};
+ghost use Rattle.jv_interp_memory.specs.Executing.{IsUnmoved, place};
 ghost use Rattle.jv_interp_execution.specs.InGuest.{CanExecuteAt, ExecutedAt};
 
 use jv_code::FieldAccess;
@@ -38,6 +38,8 @@ pub(crate) fn execute_field<'a, 'l, S: Store>(
         (known classes.now.world linked.old site) texts
         (place at.old words.old held.old (S.content store.old)) (place at.new words.new held.new (S.content store.new)) result }
     ensures stays { StaysIn at.old at.new words.new }
+    ensures unmoved { IsUnmoved result (place at.old words.old held.old (S.content store.old))
+        (place at.new words.new held.new (S.content store.new)) }
     ensures cells { held.new.cells ≡ held.old.cells }
     ensures room { S.room_left store.new ≡ S.room_left store.old }
     ensures linked { IsLinked classes.now.world linked.new }

@@ -5,7 +5,7 @@ ghost use Rattle.jv_code.specs.declared.insn.Insn.TheVariants.{PoolLongConstant 
 ghost use Rattle.jv_interp_calls.specs.Known.{Known};
 ghost use Rattle.jv_interp_going.specs.Going.{StaysIn};
 ghost use Rattle.jv_interp_words.specs.ValuesInWords.{long_of};
-ghost use Rattle.jv_interp_execution.specs.OnWords.{place};
+ghost use Rattle.jv_interp_memory.specs.Executing.{IsUnmoved, place};
 ghost use Rattle.jv_interp_execution.specs.InGuest.{CanExecute, Executed};
 ghost use Rattle.jv_interp_execution.specs.PoolConstants.{IsLongOf, IsOfSite};
 
@@ -56,6 +56,8 @@ pub(crate) fn execute_pool_long_constant<'a, 'l, S: Store>(
     ensures done { (k : Known) (texts : List (List ℕ)) → IsOfSite classes.now.world site k → Executed (PoolLongConstantInsn index) next
         k texts (place at.old words.old held.now (S.content store.now)) (place at.new words.new held.now (S.content store.now)) result }
     ensures stays { StaysIn at.old at.new words.new }
+    ensures unmoved { IsUnmoved result (place at.old words.old held.now (S.content store.now))
+        (place at.new words.new held.now (S.content store.now)) }
 {
     execution_keeps();
     let _store = store;

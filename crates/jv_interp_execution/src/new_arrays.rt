@@ -8,7 +8,7 @@ ghost use Rattle.jv_meaning_world.specs.World.{World};
 ghost use Rattle.jv_interp_objects.specs.ObjectsInBlocks.{IsArrayWord};
 ghost use Rattle.jv_interp_calls.specs.Known.{Known};
 ghost use Rattle.jv_interp_going.specs.Going.{StaysIn};
-ghost use Rattle.jv_interp_execution.specs.OnWords.{place};
+ghost use Rattle.jv_interp_memory.specs.Executing.{IsUnmoved, place};
 ghost use Rattle.jv_interp_execution.specs.InGuest.{CanExecute, Executed};
 
 use jv_code::ElementType;
@@ -65,6 +65,8 @@ pub(crate) fn execute_new_array<'l, S: Store>(
     ensures done { IfOk result (λ effect. (k : Known) (texts : List (List ℕ)) → Executed (NewArrayInsn element) next k texts
         (place at.old words.old held.old (S.content store.old)) (place at.new words.new held.new (S.content store.new)) effect) }
     ensures stays { StaysIn at.old at.new words.new }
+    ensures unmoved { IfOk result (λ effect. IsUnmoved effect (place at.old words.old held.old (S.content store.old))
+        (place at.new words.new held.new (S.content store.new))) }
     ensures room { OnOk result (S.room_left store.old + held.new.cells ≡ S.room_left store.new + held.old.cells) }
     ensures refused_at { OnErr result (at.new ≡ at.old) }
     ensures refused_words { OnErr result (words.new ≡ words.old) }

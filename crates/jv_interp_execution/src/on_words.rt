@@ -1,11 +1,14 @@
 //! Instructions that work on a frame's words alone.
 
-ghost use Rattle.std.specs.Prelude.{ℕ};
+ghost use Rattle.std.specs.Prelude.{ℕ, IfSome};
 ghost use Rattle.jv_code.specs.Insns.{instruction_of};
 ghost use Rattle.jv_code.specs.declared.insn.Insn.TheVariants.{Branch as BranchInsn, Division as DivisionInsn, ReturnValue as ReturnValueInsn};
 ghost use Rattle.jv_interp_going.specs.Going.{CanWork, StaysIn};
+ghost use Rattle.jv_interp_objects.specs.ObjectsInBlocks.{Blocks};
 ghost use Rattle.jv_interp_execution.specs.OnWords.{AnswersOnWords, DoneOnWords, KeysRise};
 ghost use Rattle.jv_interp_memory.specs.declared.effect.Effect.TheVariants.{Goes};
+ghost use Rattle.jv_interp_memory.specs.Executing.{IsUnmoved, place};
+ghost use Rattle.jv_interp_memory.specs.declared.held.Held.{Held};
 
 use jv_code::{DivisionOperator, Insn, NumberKind, Test, ValueKind};
 use jv_interp_going::{
@@ -40,6 +43,8 @@ fn execute_division<'l>(
     requires { CanWork (DivisionInsn kind operator) next at.old words.old }
     ensures done { DoneOnWords (DivisionInsn kind operator) next at.old words.old at.new words.new result }
     ensures stays { StaysIn at.old at.new words.new }
+    ensures unmoved { (held : Held) (blocks : Blocks) → IsUnmoved result (place at.old words.old held blocks)
+        (place at.new words.new held blocks) }
 {
     system_has_numbers();
     if divide(words, at, next, kind, operator) {
@@ -73,6 +78,8 @@ pub(crate) fn execute_on_words<'l>(
     requires keys { KeysRise (instruction_of insn) }
     ensures done { AnswersOnWords (instruction_of insn.entry) next at.old words.old at.new words.new result }
     ensures stays { StaysIn at.old at.new words.new }
+    ensures unmoved { IfSome result (λ effect. (held : Held) (blocks : Blocks) → IsUnmoved effect (place at.old words.old held blocks)
+        (place at.new words.new held blocks)) }
 {
     match insn {
         Insn::Nop => {

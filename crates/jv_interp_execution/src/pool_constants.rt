@@ -6,7 +6,7 @@ ghost use Rattle.jv_code.specs.declared.kinds.IndexForm.{IndexForm};
 ghost use Rattle.jv_interp_calls.specs.Known.{Known};
 ghost use Rattle.jv_interp_going.specs.Going.{StaysIn};
 ghost use Rattle.jv_interp_methods.specs.Texts.{AreTexts};
-ghost use Rattle.jv_interp_execution.specs.OnWords.{place};
+ghost use Rattle.jv_interp_memory.specs.Executing.{IsUnmoved, place};
 ghost use Rattle.jv_interp_execution.specs.InGuest.{CanExecute, Executed};
 ghost use Rattle.jv_interp_execution.specs.PoolConstants.{IsConstantOf, IsOfSite};
 
@@ -67,6 +67,8 @@ pub(crate) fn execute_pool_constant<'a, 'l, S: Store>(
         → Executed (PoolConstantInsn index form) next k texts.now.names
         (place at.old words.old held.old (S.content store.old)) (place at.new words.new held.new (S.content store.new)) effect) }
     ensures stays { StaysIn at.old at.new words.new }
+    ensures unmoved { IfOk result (λ effect. IsUnmoved effect (place at.old words.old held.old (S.content store.old))
+        (place at.new words.new held.new (S.content store.new))) }
     ensures room { OnOk result (S.room_left store.old + held.new.cells ≡ S.room_left store.new + held.old.cells) }
     ensures refused_at { OnErr result (at.new ≡ at.old) }
     ensures refused_words { OnErr result (words.new ≡ words.old) }

@@ -7,6 +7,7 @@ use Rattle.jv_interp_memory.specs.declared.held.Held.{Held}
 use Rattle.jv_interp_calls.specs.Known.{known}
 use Rattle.jv_interp_execution.specs.InGuest.{CanExecuteAt}
 use Rattle.jv_interp_execution.proofs.CallsMade.{can_call, called, called_static}
+use Rattle.jv_interp_memory.proofs.Unmoved.{stays_unmoved}
 use Rattle.jv_interp_execution.proofs.calls.execute_invocation.Goals as goal
 
 pub call_virtual-requires-clause-can : goal.call_virtual-requires-clause-can
@@ -41,3 +42,9 @@ pub returns-in-Static-clause-done : goal.returns-in-Static-clause-done
 returns-in-Static-clause-done g c =
     rw c.in-Static.is (λ texts. called_static c.execution_keeps.ensures _ _ _ _ texts _ _ _ _ _ _ _ _
     (ap (λ (h : Held). h.cells) c.call_static.ensures.same) c.call_static.ensures.calls)
+
+pub returns-in-Virtual-clause-unmoved : goal.returns-in-Virtual-clause-unmoved
+returns-in-Virtual-clause-unmoved g c = stays_unmoved c.call_virtual.result _
+
+pub returns-in-Special-clause-unmoved : goal.returns-in-Special-clause-unmoved
+returns-in-Special-clause-unmoved g c = stays_unmoved c.call_special.result _

@@ -4,6 +4,7 @@ use Rattle.jv_interp_calls.specs.Known.{known}
 use Rattle.jv_interp_execution.proofs.AllInstructions.{can_at, settled, keys_kept, works_else}
 use Rattle.jv_interp_execution.proofs.Grown.{executed_on_words, guests}
 use Rattle.jv_interp_execution.proofs.TypesNamed.{instance_asked, cast_asked, thrown, reference_stored, object_made, array_made, arrays_made}
+use Rattle.jv_interp_memory.proofs.Unmoved.{stays_unmoved}
 use Rattle.jv_interp_execution.proofs.executing.execute.Goals as goal
 
 pub execute_pool_constant-requires-clause-can : goal.execute_pool_constant-requires-clause-can
@@ -146,3 +147,9 @@ execute_in_words-requires-clause-works g c =
     c.in_default.not-Throw
     c.in_default.not-CheckCast
     c.in_default.not-InstanceOf
+
+pub returns-in-Throw-clause-unmoved : goal.returns-in-Throw-clause-unmoved
+returns-in-Throw-clause-unmoved g c = stays_unmoved c.athrow.result _
+
+pub returns-in-InvokeInterface-clause-unmoved : goal.returns-in-InvokeInterface-clause-unmoved
+returns-in-InvokeInterface-clause-unmoved g c = stays_unmoved c.execute_interface_invocation.result _

@@ -2,6 +2,7 @@ use Rattle.std.proofs.Common.{◌≡◌, ◌∙◌, ℤ, ap, refl, rules, FitsSi
 use Rattle.jv_code.specs.declared.insn.Insn.TheVariants as insns
 use Rattle.std.proofs.lemmas.Int.{to_z-of_z}
 use Rattle.jv_interp_execution.proofs.Done.{went_done, value_done, nothing_done, branch_done_again, increment_again, insn_again, table_again}
+use Rattle.jv_interp_memory.proofs.Unmoved.{stays_unmoved}
 use Rattle.jv_interp_execution.proofs.on_words.execute_on_words.Goals as goal
 
 pub returns-in-Nop-clause-done : goal.returns-in-Nop-clause-done
@@ -66,3 +67,6 @@ returns-in-Return-clause-done c = rw c.in-Return.is (refl, nothing_done _ _ _)
 
 pub returns-in-ReturnValue-clause-done : goal.returns-in-ReturnValue-clause-done
 returns-in-ReturnValue-clause-done c = rw c.in-ReturnValue.is (refl, c.execute_return.ensures c.args.next)
+
+pub returns-in-ReturnValue-clause-unmoved : goal.returns-in-ReturnValue-clause-unmoved
+returns-in-ReturnValue-clause-unmoved c held blocks = stays_unmoved c.execute_return.result _
