@@ -1,6 +1,7 @@
 -- A judged guest meets no fault: what is proved of instructions, of effects, of initializations and of the start, put together.
-use Rattle.std.proofs.Common.{◌≡◌, ℕ, Bool, false, List, length, Option, Some, Ok, Err, sym, subst, ap, ◌∙◌}
-use Rattle.std.specs.Prelude.{IsTrue, IsOk, codes, ◌||◌}
+use Rattle.std.proofs.Common.{◌≡◌, inl, inr, ℕ, Bool, false, List, [], ◌∷◌, length, Option, Some, Ok, Err, sym, subst, ap, ◌∙◌}
+use Rattle.std.specs.Prelude.{IsTrue, codes, ◌||◌}
+use Rattle.std.specs.List.{Contains, list_all}
 use Rattle.std.specs.Str.{bytes_eq}
 use Rattle.jv_text.specs.Descriptor.{MethodDescriptor}
 use Rattle.jv_text.specs.Name.{is_init}
@@ -12,20 +13,25 @@ use Rattle.jv_meaning_typing.specs.Rule.{rule}
 use Rattle.jv_meaning_machine.specs.Alone.{Feed, GuestFiles, Judged, IsJudged, AreUnits, alone}
 use Rattle.jv_meaning_machine.specs.Effects.{Effect}
 use Rattle.jv_meaning_machine.specs.Effects.Effect.{Goes, Enters, Constructs, Leaves, Throws, Raises, Begins}
-use Rattle.jv_meaning_machine.specs.Frames.{MethodFrame, Frame}
+use Rattle.jv_meaning_machine.specs.Frames.{MethodFrame, InitializationFrame, Frame}
+use Rattle.jv_meaning_machine.specs.Frames.Frame.{Runs, Initializes}
 use Rattle.jv_meaning_machine.specs.Start.{Budget, start}
-use Rattle.jv_meaning_machine.specs.State.{Program, Memory, Control, State}
+use Rattle.jv_meaning_machine.specs.State.{Program, is_class_accepted, Memory, Control, State}
 use Rattle.jv_meaning_machine.specs.Step.{act, step}
 use Rattle.jv_meaning_machine.specs.Throws.{Thrown, unwound}
 use Rattle.jv_meaning_machine.specs.Values.{Value}
 use Rattle.jv_sound_values.specs.Values.{Heap}
 use Rattle.jv_sound_values.specs.Memory.{AreLoadable}
 use Rattle.jv_sound_values.specs.Sound.{IsChecked, IsSound}
-use Rattle.jv_sound_values.specs.Frames.{Holds, HasMain, IsGood, IsRunning, AreVerified, AreWaiting, place_of, promise_by, promise_of}
-use Rattle.jv_sound_values.specs.Frames.Promise.{Gives}
-use Rattle.jv_sound.specs.Law.{NeverFaults, ObjectsAreLoadable}
+use Rattle.jv_sound_values.specs.Frames.{Holds, HasMain, IsGood, IsRunning, IsBegun, AreVerified, AreWaiting, AreFrames, Promise, place_of, promise_by, promise_of}
+use Rattle.jv_sound_values.specs.Frames.Promise.{Gives, Again}
+use Rattle.jv_sound.specs.Law.{NeverFaults, ObjectsAreLoadable, InitializationsAreLoadable}
 use Rattle.jv_meaning_world.specs.World.{Loaded}
+use Rattle.jv_meaning_world.specs.Above.{above}
 use Rattle.jv_meaning_world.specs.Verdicts.{is_loadable}
+use Rattle.jv_meaning_world.proofs.Up.{none}
+use Rattle.jv_meaning_linking.proofs.Found.{split}
+use Rattle.jv_sound_values.proofs.Taking.{and_parts}
 use Rattle.jv_meaning_machine.specs.Faults.{OrFault}
 use Rattle.jv_meaning_machine.specs.Objects.Object.{InstanceOf}
 use Rattle.jv_sound_values.specs.Effects.{IsThrown, ArePassed, AreEffects}
@@ -193,3 +199,48 @@ objects_are_loadable agree one_list next_starts stands_in_list judged g b feeds 
     let good = held (alone judged g b feeds n) s (goes_well agree one_list next_starts stands_in_list judged g b feeds n right) ran in
     let typed = good.memory.objects.each id (InstanceOf instance) at in
     subst (λ (m : Loaded). IsTrue (is_loadable judged.program.world m)) (same_class typed.l l (sym typed.named ∙ named)) typed.loadable
+
+-- and its initializations are of classes that can be loaded: each was begun, so it and all above it were accepted
+same_initialization : (a b : InitializationFrame) → Initializes a ≡ Initializes b → a ≡ b
+same_initialization a b e = cc
+
+no_initialization : (frame : MethodFrame) (other : InitializationFrame) → Runs frame ≡ Initializes other → ⊥
+no_initialization frame other e = absurd cc
+
+module _ (program : Program) (heap : Heap) (frame : InitializationFrame) where
+  begun_here : (other : InitializationFrame) → IsBegun program other.class → Initializes other ≡ Initializes frame → IsBegun program frame.class
+  begun_here other begun e = subst (λ (f : InitializationFrame). IsBegun program f.class) (same_initialization other frame e) begun
+
+  begun_below : (promise : Promise) (fs : List Frame) → AreWaiting program heap promise fs → Contains fs (Initializes frame) → IsBegun program frame.class
+  begun_below promise [] waiting h = absurd (none (Initializes frame) h)
+  begun_below promise (Runs other ∷ fs) waiting h =
+      elim (split (Runs other) fs (Initializes frame) h) [
+        | inl is ↦ absurd (no_initialization other frame is)
+        | inr k ↦ begun_below (promise_of other) fs waiting.2 k
+      ]
+  begun_below promise (Initializes other ∷ fs) waiting h =
+      elim (split (Initializes other) fs (Initializes frame) h) [
+        | inl is ↦ begun_here other waiting.0 is
+        | inr k ↦ begun_below Again fs waiting.2 k
+      ]
+
+  begun_among : (fs : List Frame) → AreFrames program heap fs → Contains fs (Initializes frame) → IsBegun program frame.class
+  begun_among [] are h = absurd (none (Initializes frame) h)
+  begun_among (Runs other ∷ fs) are h =
+      elim (split (Runs other) fs (Initializes frame) h) [
+        | inl is ↦ absurd (no_initialization other frame is)
+        | inr k ↦ begun_below (promise_of other) fs are.1 k
+      ]
+  begun_among (Initializes other ∷ fs) are h =
+      elim (split (Initializes other) fs (Initializes frame) h) [
+        | inl is ↦ begun_here other are.0 is
+        | inr k ↦ begun_below Again fs are.2 k
+      ]
+
+pub initializations_are_loadable : TypesAgree → OneList → NextStarts → StandsInList → InitializationsAreLoadable
+initializations_are_loadable agree one_list next_starts stands_in_list judged g b feeds n s right ran frame among =
+    let good = held (alone judged g b feeds n) s (goes_well agree one_list next_starts stands_in_list judged g b feeds n right) ran in
+    let begun = begun_among judged.program good.heap frame s.frames good.frames among in
+    let sound = judged_is_sound g.files judged right (judged_system_is_accepted g.files judged right) in
+    sound.loadable frame.class begun.here
+    (and_parts (is_class_accepted judged.program frame.class) (list_all (is_class_accepted judged.program) (above judged.program.world frame.class.class)) begun.verified).0

@@ -1,10 +1,13 @@
 -- The law: verified code meets no fault (JVMS 4.10). Whatever a guest's files hold, once they are judged, its machine has a state
 -- after every number of steps, for every budget and whatever is fed to it.
 use Rattle.std.specs.Prelude.{◌≡◌, ℕ, List, Some, Ok, IsOk, IsTrue, slice_get}
+use Rattle.std.specs.List.{Contains}
 use Rattle.jv_meaning_world.specs.World.{Loaded, World, class_named}
 use Rattle.jv_meaning_world.specs.Verdicts.{is_loadable}
 use Rattle.jv_meaning_machine.specs.Objects.{Object, Instance}
 use Rattle.jv_meaning_machine.specs.Objects.Object.{InstanceOf}
+use Rattle.jv_meaning_machine.specs.Frames.{InitializationFrame}
+use Rattle.jv_meaning_machine.specs.Frames.Frame.{Initializes}
 use Rattle.jv_meaning_machine.specs.State.{State}
 use Rattle.jv_meaning_machine.specs.Start.{Budget}
 use Rattle.jv_meaning_machine.specs.Alone.{Feed, GuestFiles, Judged, IsJudged, alone}
@@ -24,3 +27,10 @@ abbrev pub ObjectsAreLoadable : Type 0
 ObjectsAreLoadable =
     (judged : Judged) (g : GuestFiles) (b : Budget) (feeds : List Feed) (n : ℕ) (s : State) → IsJudged g.files judged
     → alone judged g b feeds n ≡ Ok s → AreOfLoadable judged.program.world s.memory.objects
+
+-- A law: each initialization among its frames is of a class that can be loaded (5.3.5), after every number of steps.
+abbrev pub InitializationsAreLoadable : Type 0
+InitializationsAreLoadable =
+    (judged : Judged) (g : GuestFiles) (b : Budget) (feeds : List Feed) (n : ℕ) (s : State) → IsJudged g.files judged
+    → alone judged g b feeds n ≡ Ok s → (frame : InitializationFrame) → Contains s.frames (Initializes frame)
+    → IsTrue (is_loadable judged.program.world frame.class)

@@ -1,6 +1,6 @@
 //! The law.
 
-ghost use Rattle.jv_sound.specs.Law.{NeverFaults, ObjectsAreLoadable};
+ghost use Rattle.jv_sound.specs.Law.{NeverFaults, ObjectsAreLoadable, InitializationsAreLoadable};
 
 use jv_code::{next_starts, one_list, stands_in_list};
 use jv_text::types_agree;
@@ -19,6 +19,16 @@ pub fn never_faults()
 /// All objects of such a guest are of classes that can be loaded, after every number of steps.
 pub fn objects_are_loadable()
     ensures { ObjectsAreLoadable }
+{
+    types_agree();
+    one_list();
+    next_starts();
+    stands_in_list();
+}
+
+/// Each initialization among its frames is of a class that can be loaded, after every number of steps.
+pub fn initializations_are_loadable()
+    ensures { InitializationsAreLoadable }
 {
     types_agree();
     one_list();

@@ -3,4 +3,4 @@
 
 mod law;
 
-pub use law::{never_faults, objects_are_loadable};
+pub use law::{initializations_are_loadable, never_faults, objects_are_loadable};
