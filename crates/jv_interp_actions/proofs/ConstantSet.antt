@@ -37,6 +37,7 @@ use Rattle.jv_interp_frames.proofs.Unwound.{stand_grown, same_state}
 use Rattle.jv_interp_actions.specs.Initializing.{ConstantFits}
 use Rattle.jv_interp_actions.specs.Inside.Constants.{Putting, HasPut}
 use Rattle.jv_interp_actions.specs.Inside.DoingTasks.{Setting}
+use Rattle.jv_interp_actions.proofs.ConstantsOfFiles.{constants_fit}
 
 same_some : {A : Type 0} (x y : A) → Some x ≡ Some y → x ≡ y
 same_some x y e = cc
@@ -70,7 +71,7 @@ module _ (world : World) (names : List (List ℕ)) (class member : ℕ) (program
   module _ (word : ℕ) (is_word : (w : World) (x : DeclaredField) → w ≡ world → field_at w (record { class = class; member = member }) ≡ Some x → IsWordOf w x word) where
     pub fit : ConstantFits program.world d h.does.constant word
     fit =
-        h.does.constants class member h.does.l h.does.f h.does.constant word h.does.class_is h.does.field_is h.does.initial (is_word program.world d h.world_is at_known)
+        constants_fit program.world h.guests class member h.does.l h.does.f h.does.constant word h.does.class_is h.does.field_is h.does.initial (is_word program.world d h.world_is at_known)
 
     pub goes : (constant_value program h.does.constant s.memory >>= set_field program.world s.frames s.control d fit.type s.memory) ≡ Ok t
     goes =

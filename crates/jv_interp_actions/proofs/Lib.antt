@@ -6,8 +6,10 @@ pub mod Resumes
 pub mod TaskLists
 pub mod NextTasks
 pub mod ConstantStored
+pub mod ConstantsOfFiles
 pub mod ConstantSet
 pub mod Initializers
+pub mod FewTasks
 pub mod Tasked
 pub mod ClassInitialized
 pub mod Finished

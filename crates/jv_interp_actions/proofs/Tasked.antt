@@ -23,12 +23,14 @@ use Rattle.jv_interp_frames.specs.FramesStand.{FramesStand}
 use Rattle.jv_interp_frames.specs.Standing.{kept, Moves}
 use Rattle.jv_interp_frames.proofs.Counted.{frames_count, reversed_push}
 use Rattle.jv_interp_frames.proofs.FramesPassed.{NewestInitializes, initializes_there}
+use Rattle.jv_interp_calls.proofs.Sites.{stood}
 use Rattle.jv_interp_actions.specs.declared.tasks.Task.{Task}
 use Rattle.jv_interp_actions.specs.declared.tasks.Task.TheVariants as tasks
 use Rattle.jv_interp_actions.specs.Initializing.{Initializing}
 use Rattle.jv_interp_actions.specs.Inside.Tasks.{Asking, IsTask}
 use Rattle.jv_interp_actions.specs.Inside.DoingTasks.{DoingTask, CanTake}
 use Rattle.jv_interp_actions.specs.Inside.Finishing.{Finishing}
+use Rattle.jv_interp_actions.proofs.FewTasks.{few_tasks}
 
 same_frame : (a b : InitializationFrame) → Initializes a ≡ Initializes b → a ≡ b
 same_frame a b e = cc
@@ -70,7 +72,9 @@ module _ (world : World) (names : List (List ℕ)) (verified : List Bool) (progr
     stands = own_stands;
     states_are = h.stands.control.states;
     loadable = h.does.loadable;
-    few = h.does.few;
+    few =
+        few_tasks program.world h.guests frame.class (stood program.world own.class frame.class own_stands.has_number) h.does.loadable
+        (subst (λ (w : World). length w < 2147483648) (sym h.world_is) few);
     few_classes = subst (λ (w : World). length w < 2147483648) (sym h.world_is) few;
   }
 
@@ -142,7 +146,6 @@ module _ (world : World) (names : List (List ℕ)) (verified : List Bool) (progr
     field_is = is.4;
     initial = is.5;
     units = h.does.units;
-    constants = h.does.constants;
     does = subst (λ (k : TaskOfNames). do_task program s.memory (Initializes (frame_then done) ∷ below) s.control k ≡ Ok t) is.6 e;
   }
   does_task (tasks.Begins number) done task is e = record {

@@ -1,6 +1,6 @@
 -- One step of the initialization that is on top (JVMS 5.5): a static field gets its constant, a class or interface is initialized first,
 -- `<clinit>` is entered, or the class is initialized; where it was the last frame, main is entered.
-use Rattle.std.specs.Prelude.{◌≡◌, ℕ, ◌<◌, Bool, true, List, ◌∷◌, Some, Ok, IsTrue, length, slice_get}
+use Rattle.std.specs.Prelude.{◌≡◌, ℕ, Bool, true, List, ◌∷◌, Some, Ok, IsTrue, slice_get}
 use Rattle.jv_text.specs.declared.descriptor.FieldTypeOf.{FieldTypeOf}
 use Rattle.jv_text.specs.Types.{field_type_of}
 use Rattle.jv_frames.specs.Types.{FrameType, value_type}
@@ -17,7 +17,7 @@ use Rattle.jv_meaning_machine.specs.Frames.{InitializationFrame, Frame}
 use Rattle.jv_meaning_machine.specs.Frames.Frame.{Initializes}
 use Rattle.jv_meaning_machine.specs.State.{Program, State}
 use Rattle.jv_meaning_machine.specs.Alone.{AreUnits}
-use Rattle.jv_meaning_machine.specs.Initialization.{tasks_of, initialization_step}
+use Rattle.jv_meaning_machine.specs.Initialization.{initialization_step}
 use Rattle.jv_interp_objects.specs.ObjectsInBlocks.{place_among}
 use Rattle.jv_interp_memory.specs.HeldInWords.{static_fields}
 use Rattle.jv_interp_frames.specs.declared.control.Control.{Control}
@@ -49,16 +49,14 @@ ConstantsFit world =
 
 -- ---- the step
 
--- The class of the initialization can be loaded (5.3.5): no other is begun. It has fewer tasks than 2^32 (own).
+-- The class of the initialization can be loaded (5.3.5): no other is begun.
 pub record Initializing (verified : List Bool) (program : Program) (addresses : List ℕ) (s t : State) : Type 0 where
   pub frame : InitializationFrame
   pub below : List Frame
   pub frames_are : s.frames ≡ Initializes frame ∷ below
   pub are : AreVerified program verified
   pub units : AreUnits program.units
-  pub constants : ConstantsFit program.world
   pub loadable : IsTrue (is_loadable program.world frame.class)
-  pub few : length (tasks_of program.world frame.class) < 4294967296
   pub does : initialization_step program s.memory frame below s.control ≡ Ok t
 
 -- ---- what is done to a state whose literals are of these texts

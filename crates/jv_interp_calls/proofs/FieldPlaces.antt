@@ -321,7 +321,7 @@ module _ (world : World) (guests : IsGuestsWorld world) where
       ]
 
   module _ (d : DeclaredField) (word : ℕ) (by : Contains world d.by) (among : Contains d.by.class.fields d.field) (is_word : IsWordOf world d word) where
-    static_place : IsTrue (is_static_field d.field) → place_among (key_of d) (static_fields world) ≡ Some word
+    pub static_place : IsTrue (is_static_field d.field) → place_among (key_of d) (static_fields world) ≡ Some word
     static_place static =
         let laid = subst (λ (b : Bool). Contains (if b then static_layout world else layout world d.by) (laid_at d word)) static is_word in
         let found = placed_among 0 (static_fields world) (laid_at d word) (all_apart is_static_field world names rules) laid in

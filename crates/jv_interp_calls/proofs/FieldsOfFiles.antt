@@ -16,7 +16,7 @@ use Rattle.jv_class_structure.specs.Structure.{FieldInfo, ClassStructure, body_f
 use Rattle.jv_class.specs.Class.{Class, Field, field_of, method_of, initial_value, all_found, super_of, class_of}
 use Rattle.jv_class.specs.ClassFile.{IsWellFormed, class_name}
 use Rattle.jv_class.specs.Rules.{KeepsRulesAsField, KeepsFieldRules, field_texts, NoTwoAlike}
-use Rattle.jv_meaning_world.specs.FileContent.{FileContent, IsContent, AreContents}
+use Rattle.jv_meaning_world.specs.FileContent.{FileContent, IsProfileClass, IsContent, AreContents}
 use Rattle.jv_meaning_world.specs.declared.content.Content.TheVariants.{OtherVersion, NoClassFile, MoreThanProfile, Holds}
 use Rattle.jv_meaning_world.specs.System.Classes.{system_classes}
 use Rattle.jv_meaning_world.specs.World.{Loaded, World, loaded, is_reserved, has_class, with_class_of, joined_all, classes_in, world_of}
@@ -38,7 +38,7 @@ pub record FieldsKeepRules (class : Class) : Type 0 where
 
 -- ---- by tests, which the system's classes pass
 
-both : (a b : Bool) → (a && b) ≡ true → (a ≡ true) × (b ≡ true)
+pub both : (a b : Bool) → (a && b) ≡ true → (a ≡ true) × (b ≡ true)
 both true b e = (refl, e)
 both false b e = absurd cc
 
@@ -46,10 +46,10 @@ is_false : (b : Bool) → not b ≡ true → b ≡ false
 is_false true e = absurd cc
 is_false false e = refl
 
-clash : {A : Type 0} → true ≡ false → A
+pub clash : {A : Type 0} → true ≡ false → A
 clash e = absurd cc
 
-each_passes : {A : Type 0} (test : A → Bool) (xs : List A) → list_all test xs ≡ true → (x : A) → Contains xs x → test x ≡ true
+pub each_passes : {A : Type 0} (test : A → Bool) (xs : List A) → list_all test xs ≡ true → (x : A) → Contains xs x → test x ≡ true
 each_passes test [] e x h = absurd (none x h)
 each_passes {A = A} test (y ∷ xs) e x h =
     let parts = both (test y) (list_all test xs) e in
@@ -100,15 +100,15 @@ system_passes = refl
 
 -- ---- by the rules of a file
 
-chained : {A B : Type 0} (o : Option A) (f : A → Option B) (y : B) → (o >>= f) ≡ Some y → (a : A) × (o ≡ Some a) × (f a ≡ Some y)
+pub chained : {A B : Type 0} (o : Option A) (f : A → Option B) (y : B) → (o >>= f) ≡ Some y → (a : A) × (o ≡ Some a) × (f a ≡ Some y)
 chained None f y e = absurd cc
 chained (Some a) f y e = (a, refl, e)
 
-some_same : {A : Type 0} (x y : A) → Some x ≡ Some y → x ≡ y
+pub some_same : {A : Type 0} (x y : A) → Some x ≡ Some y → x ≡ y
 some_same x y e = cc
 
 -- what is found of each of a list
-found_each : {A B : Type 0} (find : A → Option B) (infos : List A) (bs : List B) → all_found find infos ≡ Some bs
+pub found_each : {A B : Type 0} (find : A → Option B) (infos : List A) (bs : List B) → all_found find infos ≡ Some bs
     → (b : B) → Contains bs b → (a : A) × Contains infos a × (find a ≡ Some b)
 found_each {B = B} find [] bs e b h = absurd (none b (subst (λ (xs : List B). Contains xs b) (sym (some_same [] bs e)) h))
 found_each {B = B} find (a ∷ infos) bs e b h =
@@ -129,25 +129,34 @@ as_many {B = B} find (a ∷ infos) bs e =
     let rest = as_many find infos y.0 y.1 in
     omega (arith, same, rest)
 
--- a field has the texts that its structure's indices name
+-- a field has the texts that its structure's indices name, its flags, and the constant that it names
 pub record Named (pool : List Entry) (info : FieldInfo) (f : Field) : Type 0 where
   pub texts : NameAndDescriptor
   pub are : field_texts pool info ≡ Some texts
   pub name : f.name ≡ texts.name
   pub descriptor : f.descriptor ≡ texts.descriptor
+  pub flags : f.access_flags ≡ info.access_flags
+  pub initial : f.initial ≡ initial_value pool info
 
 abbrev made : List Entry → FieldInfo → NameAndDescriptor → Field
 made pool info texts =
     record { access_flags = info.access_flags; name = texts.name; descriptor = texts.descriptor; initial = initial_value pool info }
 
-field_named : (pool : List Entry) (info : FieldInfo) (f : Field) → field_of pool info ≡ Some f → Named pool info f
+pub field_named : (pool : List Entry) (info : FieldInfo) (f : Field) → field_of pool info ≡ Some f → Named pool info f
 field_named pool info f e = by_texts (named_at pool info.name_index info.descriptor_index) refl e
   where
     by_texts : (o : Option NameAndDescriptor) → named_at pool info.name_index info.descriptor_index ≡ o → option_map (made pool info) o ≡ Some f → Named pool info f
     by_texts None at e = absurd cc
     by_texts (Some texts) at e =
         let same : made pool info texts ≡ f = some_same (made pool info texts) f e in
-        record { texts = texts; are = at; name = ap (λ (x : Field). x.name) (sym same); descriptor = ap (λ (x : Field). x.descriptor) (sym same) }
+        record {
+          texts = texts;
+          are = at;
+          name = ap (λ (x : Field). x.name) (sym same);
+          descriptor = ap (λ (x : Field). x.descriptor) (sym same);
+          flags = ap (λ (x : Field). x.access_flags) (sym same);
+          initial = ap (λ (x : Field). x.initial) (sym same);
+        }
 
 is_described : (pool : List Entry) (flags : ℕ) (info : FieldInfo) (f : Field) → KeepsFieldRules pool flags info → field_of pool info ≡ Some f
     → IsSome (field_type_of f.descriptor)
@@ -197,15 +206,20 @@ fields_fit c e =
     let f = both _ (table_fits field_fits c.fields) m.0 in
     ltb-true (length c.fields) 65536 (both (nat_lt (length c.fields) 65536) _ f.1).0
 
-structure_keeps : (c : ClassStructure) (class : Class) → IsWellFormed c → class_of c ≡ Some class → FieldsKeepRules class
-structure_keeps c class formed e =
+-- the fields that a class's structure names are its own
+pub fields_found : (c : ClassStructure) (class : Class) → class_of c ≡ Some class → all_found (field_of c.constant_pool) c.fields ≡ Some class.fields
+fields_found c class e =
     let name = chained (class_name c) _ class e in
     let above = chained (super_of c) _ class name.2 in
     let interfaces = chained (all_found (class_name_at c.constant_pool) c.interfaces) _ class above.2 in
     let fields = chained (all_found (field_of c.constant_pool) c.fields) _ class interfaces.2 in
     let methods = chained (all_found (method_of c.constant_pool) c.methods) _ class fields.2 in
     let same : fields.0 ≡ class.fields = ap (λ (x : Class). x.fields) (some_same _ class methods.2) in
-    let found = fields.1 ∙ ap Some same in
+    fields.1 ∙ ap Some same
+
+structure_keeps : (c : ClassStructure) (class : Class) → IsWellFormed c → class_of c ≡ Some class → FieldsKeepRules class
+structure_keeps c class formed e =
+    let found = fields_found c class e in
     record {
       described =
           λ f h.
@@ -253,33 +267,40 @@ joined_from classes (file ∷ files) class h =
       | inr k ↦ inr (later file files (Holds class) k)
     ]
 
-held_keeps : (files : List (List ℕ)) (contents : List FileContent) → AreContents files contents → (class : Class) → Contains contents (Holds class) → FieldsKeepRules class
-held_keeps [] [] are class h = absurd (none (Holds class) h)
-held_keeps [] (file ∷ contents) are class h = absurd are
-held_keeps (bytes ∷ files) [] are class h = absurd are
-held_keeps (bytes ∷ files) (file ∷ contents) are class h =
-    elim (split file contents (Holds class) h) [
-      | inl is ↦ by_content (subst (λ (x : FileContent). IsContent bytes x) is are.0)
-      | inr k ↦ held_keeps files contents are.1 class k
-    ]
-  where
-    by_content : IsContent bytes (Holds class) → FieldsKeepRules class
-    by_content k = structure_keeps k.0 class k.1.well_formed k.2.named
+-- ---- what holds of the system's classes, and of each that a file may hold, holds in the world of a guest
 
--- ---- all of them
+module _ (P : Class → Type 0) (of_structure : (c : ClassStructure) (class : Class) → IsWellFormed c → IsProfileClass c class → P class) where
+  held_keeps : (files : List (List ℕ)) (contents : List FileContent) → AreContents files contents → (class : Class) → Contains contents (Holds class) → P class
+  held_keeps [] [] are class h = absurd (none (Holds class) h)
+  held_keeps [] (file ∷ contents) are class h = absurd are
+  held_keeps (bytes ∷ files) [] are class h = absurd are
+  held_keeps (bytes ∷ files) (file ∷ contents) are class h =
+      elim (split file contents (Holds class) h) [
+        | inl is ↦ by_content (subst (λ (x : FileContent). IsContent bytes x) is are.0)
+        | inr k ↦ held_keeps files contents are.1 class k
+      ]
+    where
+      by_content : IsContent bytes (Holds class) → P class
+      by_content k = of_structure k.0 class k.1.well_formed k.2
+
+  pub each_keeps :
+      ((c : Class) → Contains system_classes c → P c) → (world : World) → IsGuestsWorld world → (l : Loaded) → Contains world l → P l.class
+  each_keeps of_system world guests l h =
+      elim (Contains-append_cases (map (loaded true) system_classes) (map (loaded false) (classes_in guests.0)) l
+      (subst (λ (w : World). Contains w l) guests.1 h)) [
+        | inl k ↦
+            let c = in_loaded true system_classes l k in
+            subst (λ (x : Loaded). P x.class) c.2 (of_system c.0 c.1)
+        | inr k ↦
+            let c = in_loaded false (classes_in guests.0) l k in
+            subst (λ (x : Loaded). P x.class) c.2
+            (elim (joined_from [] guests.0 c.0 c.1) [
+              | inl j ↦ absurd (none c.0 j)
+              | inr j ↦ held_keeps guests.2 guests.0 guests.3 c.0 j
+            ])
+      ]
 
 pub fields_keep_rules : (world : World) → IsGuestsWorld world → (l : Loaded) → Contains world l → FieldsKeepRules l.class
-fields_keep_rules world guests l h =
-    elim (Contains-append_cases (map (loaded true) system_classes) (map (loaded false) (classes_in guests.0)) l
-    (subst (λ (w : World). Contains w l) guests.1 h)) [
-      | inl k ↦
-          let c = in_loaded true system_classes l k in
-          subst (λ (x : Loaded). FieldsKeepRules x.class) c.2 (passed_keep c.0 (each_passes class_passes system_classes system_passes c.0 c.1))
-      | inr k ↦
-          let c = in_loaded false (classes_in guests.0) l k in
-          subst (λ (x : Loaded). FieldsKeepRules x.class) c.2
-          (elim (joined_from [] guests.0 c.0 c.1) [
-            | inl j ↦ absurd (none c.0 j)
-            | inr j ↦ held_keeps guests.2 guests.0 guests.3 c.0 j
-          ])
-    ]
+fields_keep_rules =
+    each_keeps FieldsKeepRules (λ c class formed is. structure_keeps c class formed is.named)
+    (λ c h. passed_keep c (each_passes class_passes system_classes system_passes c h))

@@ -17,7 +17,6 @@ use Rattle.jv_interp_frames.specs.FramesStand.{FramesStand}
 use Rattle.jv_interp_frames.specs.Moves.{Beginning}
 use Rattle.jv_interp_actions.specs.declared.tasks.Task.{Task}
 use Rattle.jv_interp_actions.specs.declared.tasks.Task.TheVariants as tasks
-use Rattle.jv_interp_actions.specs.Initializing.{ConstantsFit}
 
 -- the static field at a place of a class gets its constant
 pub record Setting (class member : ℕ) (program : Program) (addresses : List ℕ) (s t : State) : Type 0 where
@@ -28,7 +27,6 @@ pub record Setting (class member : ℕ) (program : Program) (addresses : List �
   pub field_is : slice_get l.class.fields member ≡ Some f
   pub initial : f.initial ≡ Some constant
   pub units : AreUnits program.units
-  pub constants : ConstantsFit program.world
   pub does : do_task program s.memory s.frames s.control (SetsField (field_by l f) constant) ≡ Ok t
 
 -- the `<clinit>` at a place of a class runs

@@ -9,15 +9,9 @@ use Rattle.jv_meaning_machine.specs.Frames.Task.{RunsInitializer}
 use Rattle.jv_meaning_machine.specs.Initialization.{initializer_of}
 use Rattle.jv_linked.specs.Tasks.{IsInitializer}
 use Rattle.jv_interp_objects.proofs.Joined.{within}
+use Rattle.jv_interp_actions.proofs.FewTasks.{few_initializers}
 use Rattle.jv_interp_actions.proofs.NextTasks.{fits_more, sets, none_behind, fits_place, begins, runs, fits_end, finishes}
 use Rattle.jv_interp_actions.proofs.tasks.next_task.Goals as goal
-
-few_initializers : (l : Loaded) → length (initializer_of l) ≤ 1
-few_initializers l = by_method (method_named l.class (codes "<clinit>") (codes "()V"))
-  where
-    by_method : (o : Option Method) → length (map RunsInitializer (option_to_list (option_map (declared_by l) o))) ≤ 1
-    by_method None = omega arith
-    by_method (Some m) = omega arith
 
 none_there : (l : Loaded) → None ≡ method_named l.class (codes "<clinit>") (codes "()V") → initializer_of l ≡ []
 none_there l e = ap (λ (o : Option Method). map RunsInitializer (option_to_list (option_map (declared_by l) o))) (sym e)
