@@ -34,10 +34,9 @@ use Rattle.jv_interp_frames.specs.Moves.{Throwing}
 use Rattle.jv_interp_frames.specs.Standing.{kept, Moves, Reaches}
 use Rattle.jv_interp_frames.proofs.MemoryJoined.{grows_not}
 use Rattle.jv_interp_frames.proofs.Unwound.{stand_grown, same_state}
-use Rattle.jv_interp_actions.specs.Initializing.{ConstantFits}
 use Rattle.jv_interp_actions.specs.Inside.Constants.{Putting, HasPut}
 use Rattle.jv_interp_actions.specs.Inside.DoingTasks.{Setting}
-use Rattle.jv_interp_actions.proofs.ConstantsOfFiles.{constants_fit}
+use Rattle.jv_interp_actions.proofs.ConstantsOfFiles.{IsOfType, ConstantFits, constants_fit}
 
 same_some : {A : Type 0} (x y : A) → Some x ≡ Some y → x ≡ y
 same_some x y e = cc
@@ -118,7 +117,7 @@ module _ (world : World) (names : List (List ℕ)) (class member : ℕ) (program
       typed = fit.typed;
       begins = fit.begins;
       kind =
-          subst (λ (k : InitialValue). Rattle.jv_interp_actions.specs.Initializing.IsOfType (value_type fit.type) k)
+          subst (λ (k : InitialValue). IsOfType (value_type fit.type) k)
           (same_some h.does.constant (IntValue number) (sym h.does.initial ∙ sym is)) fit.fits;
     }
 
@@ -128,7 +127,7 @@ module _ (world : World) (names : List (List ℕ)) (class member : ℕ) (program
       typed = fit.typed;
       begins = fit.begins;
       kind =
-          subst (λ (k : InitialValue). Rattle.jv_interp_actions.specs.Initializing.IsOfType (value_type fit.type) k)
+          subst (λ (k : InitialValue). IsOfType (value_type fit.type) k)
           (same_some h.does.constant (LongValue number) (sym h.does.initial ∙ sym is)) fit.fits;
     }
 
@@ -140,7 +139,7 @@ module _ (world : World) (names : List (List ℕ)) (class member : ℕ) (program
     module _ (number : ℕ) (text : List ℕ) (is : Some (StringValue text) ≡ h.does.f.initial) (number_is : slice_get names number ≡ Some text) where
       of_type : (object : ℕ) → has_type (value_type fit.type) (Reference object) ≡ true
       of_type =
-          subst (λ (k : InitialValue). Rattle.jv_interp_actions.specs.Initializing.IsOfType (value_type fit.type) k)
+          subst (λ (k : InitialValue). IsOfType (value_type fit.type) k)
           (same_some h.does.constant (StringValue text) (sym h.does.initial ∙ sym is)) fit.fits
 
       pub record Finds : Type 0 where

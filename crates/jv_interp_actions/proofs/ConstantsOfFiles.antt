@@ -1,6 +1,6 @@
 -- In the world of a guest's files a field with a constant is static, the constant is of its type, and its value stands at its word among those
 -- of all static fields (JVMS 4.5, 4.7.2).
-use Rattle.std.proofs.Common.{◌≡◌, ℕ, zero, suc, Bool, true, false, not, ◌&&◌, ◌==◌, List, Option, Some, None, refl, sym, ap, subst, ◌∙◌, arith, if◌then◌else◌}
+use Rattle.std.proofs.Common.{◌≡◌, ℕ, zero, suc, Bool, true, false, not, ◌&&◌, ◌==◌, List, Option, Some, None, refl, sym, ap, subst, ◌∙◌, arith, if◌then◌else◌, slice_get}
 use Rattle.std.specs.Prelude.{IsTrue, codes}
 use Rattle.std.specs.List.{Contains, list_all}
 use Rattle.std.specs.Option.{IsSomeAnd, option_map}
@@ -27,18 +27,48 @@ use Rattle.jv_class_structure.specs.Structure.{FieldInfo, ClassStructure}
 use Rattle.jv_class.specs.Class.{Class, Field, InitialValue, field_of, value_of_constant}
 use Rattle.jv_class.specs.Class.InitialValue.{IntValue, LongValue, StringValue}
 use Rattle.jv_class.specs.ClassFile.{IsWellFormed}
-use Rattle.jv_class.specs.Rules.{KeepsRulesAsField, KeepsFieldRules, is_integer, is_long, is_string, takes}
+use Rattle.jv_class.specs.Rules.{KeepsRulesAsField, KeepsFieldRules, is_integer, is_long, is_string, takes, value_keeps_rules}
 use Rattle.jv_class.specs.Supported.{HasNoFloating, IsSupportedType}
 use Rattle.jv_meaning_world.specs.FileContent.{IsProfileClass}
 use Rattle.jv_meaning_world.specs.System.Classes.{system_classes}
-use Rattle.jv_meaning_world.specs.World.{World}
-use Rattle.jv_meaning_world.specs.LookUps.{field_by}
+use Rattle.jv_meaning_world.specs.World.{Loaded, World}
+use Rattle.jv_meaning_world.specs.LookUps.{DeclaredField, field_by}
 use Rattle.jv_meaning_linking.specs.Kind.{is_static_field}
+use Rattle.jv_linked.specs.Places.{IsWordOf}
+use Rattle.jv_meaning_machine.specs.Values.{has_type}
+use Rattle.jv_meaning_machine.specs.Values.Value.{Int, Long, Reference}
+use Rattle.jv_meaning_machine.specs.Objects.{key_of}
+use Rattle.jv_interp_objects.specs.ObjectsInBlocks.{place_among}
+use Rattle.jv_interp_memory.specs.HeldInWords.{static_fields}
 use Rattle.jv_interp_memory.specs.SystemNumbers.{IsGuestsWorld}
 use Rattle.jv_interp_calls.proofs.Sites.{stood}
 use Rattle.jv_interp_calls.proofs.FieldsOfFiles.{both, clash, each_passes, chained, some_same, found_each, field_named, fields_found, each_keeps}
 use Rattle.jv_interp_calls.proofs.FieldPlaces.{static_place}
-use Rattle.jv_interp_actions.specs.Initializing.{IsOfType, ConstantsFit}
+
+-- ---- what is to be shown
+
+-- a constant is of a field's type (4.7.2)
+abbrev pub IsOfType : FrameType → InitialValue → Type 0
+IsOfType type (IntValue number) = has_type type (Int number) ≡ true
+IsOfType type (LongValue number) = has_type type (Long number) ≡ true
+IsOfType type (StringValue text) = (object : ℕ) → has_type type (Reference object) ≡ true
+
+-- A field has a type, of which its constant is, and its value is at its word among those of all static fields.
+pub record ConstantFits (world : World) (d : DeclaredField) (constant : InitialValue) (word : ℕ) : Type 0 where
+  pub type : FieldTypeOf (List ℕ)
+  pub typed : field_type_of d.field.descriptor ≡ Some type
+  pub fits : IsOfType (value_type type) constant
+  pub begins : place_among (key_of d) (static_fields world) ≡ Some word
+
+-- So it is for each field with a constant: where no class has two fields of one name and descriptor (4.5), and constants are of their fields'
+-- types and stand at static fields alone (4.7.2).
+abbrev pub ConstantsFit : World → Type 0
+ConstantsFit world =
+    (class place : ℕ) (l : Loaded) (f : Field) (constant : InitialValue) (word : ℕ) → slice_get world class ≡ Some l
+    → slice_get l.class.fields place ≡ Some f → f.initial ≡ Some constant → IsWordOf world (field_by l f) word
+    → ConstantFits world (field_by l f) constant word
+
+-- ---- a field with a constant
 
 -- a static field, and of its type
 record IsConstantOf (f : Field) (constant : InitialValue) : Type 0 where
@@ -174,7 +204,7 @@ is_constant_of pool flags info f constant rules supported e initial =
     let entry = chained (at_index pool index.0) (value_of_constant pool) constant index.2 in
     let static = static_by (has info.access_flags acc_static) (sole (constant_values pool info) >>= value_index) index.0 index.1 in
     let taken : takes (value_of_type kept.type) (option_map kind_of (at_index pool index.0)) ≡ true =
-    subst (λ (o : Option ℕ). Rattle.jv_class.specs.Rules.value_keeps_rules pool (value_of_type kept.type) o ≡ true) index.1 kept.value_kind in
+    subst (λ (o : Option ℕ). value_keeps_rules pool (value_of_type kept.type) o ≡ true) index.1 kept.value_kind in
     record {
       static = ap (λ (n : ℕ). has n acc_static) n.flags ∙ static;
       type = kept.type;
