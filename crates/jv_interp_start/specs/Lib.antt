@@ -1,2 +1,5 @@
 pub mod Starting
 pub mod StartStates
+pub mod VerifiedClasses
+pub mod Opening
+pub mod Started

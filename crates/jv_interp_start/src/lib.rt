@@ -1,10 +1,23 @@
-//! What a guest holds at its start (JVMS 5.2): its static fields, two objects that the machine makes, and the states of its classes. A
+//! The start of a guest (JVMS 5.2): what it holds, its static fields and two objects that the machine makes; the states of its classes, and
+//! which of them were accepted with all above them; its main method, and the first frame, in which the class of that is initialized. A
 //! room of `jv_interp`.
 #![tactic(auto)]
 
+mod accepted;
+mod budget;
+mod first;
+mod main_method;
 mod objects;
+mod opening;
 mod room;
+mod starting;
 mod states;
+mod verified;
 
+pub use budget::Budget;
+pub use first::Started;
+pub use main_method::main_number;
 pub use room::start_memory;
+pub use starting::start;
 pub use states::start_states;
+pub use verified::verified_classes;

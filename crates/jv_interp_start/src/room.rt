@@ -2,7 +2,7 @@
 
 ghost use Rattle.std.specs.Prelude.{◌≡◌, ◌+◌, ◌≤◌, [], ◌∷◌, replicate, vec_len, vec_capacity, IfOk, OnOk, OnErr};
 ghost use Rattle.jv_interp_memory.specs.Growing.{Grows};
-ghost use Rattle.jv_interp_start.specs.Starting.{Starts};
+ghost use Rattle.jv_interp_start.specs.Starting.{BothJoin, Starts};
 
 use crate::objects::start_objects;
 use jv_heap::{Memory, Store};
@@ -53,6 +53,7 @@ pub fn start_memory<S: Store>(
 ) -> Result<Held, Memory>
     requires some { 4 ≤ cells }
     requires cells { cells ≤ S.room_left store.old }
+    ensures made { IfOk result (λ held. BothJoin held.out_of_memory held.arguments (S.content store.old) (S.content store.new)) }
     ensures starts { IfOk result (Starts static_words literal_count input.now cells output (S.content store.new)) }
     ensures grows { IfOk result (λ held. Grows [] (held.out_of_memory ∷ held.arguments ∷ []) (S.content store.old) (S.content store.new)) }
     ensures paid { IfOk result (λ held. held.cells + 4 ≡ cells) }
