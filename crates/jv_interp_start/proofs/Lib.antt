@@ -6,3 +6,5 @@ pub mod VerifiedTold
 pub mod MainFound
 pub mod Opened
 pub mod StartedStands
+pub mod FewClasses
+pub mod CanStartJudged

@@ -5,6 +5,7 @@
 
 mod accepted;
 mod budget;
+mod counts;
 mod first;
 mod main_method;
 mod objects;
@@ -15,6 +16,7 @@ mod states;
 mod verified;
 
 pub use budget::Budget;
+pub use counts::classes_are_few;
 pub use first::Started;
 pub use main_method::main_number;
 pub use room::start_memory;

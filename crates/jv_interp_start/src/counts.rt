@@ -1,0 +1,12 @@
+//! How many classes a guest has.
+
+ghost use Rattle.std.specs.Prelude.{◌+◌, ◌≤◌, length};
+
+use jv_method::Verified;
+
+/// A guest has no more classes than the system's 33 and one of each of its files. The call does nothing.
+pub fn classes_are_few(verified: &Verified<'_>)
+    ensures { length verified.now.world ≤ 33 + length verified.now.verdicts }
+{
+    verified.are_typed();
+}
