@@ -44,23 +44,8 @@ fn are_told_above(table: &ClassTable<'_>, flags: &[bool], class: usize) -> bool
     true
 }
 
-/// Of each class whether flags tell true of it and of all above it.
+/// Of each class, which is the one of its name, whether flags tell true of it and of all above it.
 fn told_with_above(
-    alloc: Global,
-    table: &ClassTable<'_>,
-    flags: &[bool],
-) -> Result<Vec<bool>, AllocError>
-    ensures { IfOk result (λ all. TellWithAbove table.now flags.now all.items) }
-{
-    let mut all = Vec::with_capacity(alloc, table.count())?;
-    for class in 0..table.count() {
-        all.push(is_told(flags, class) && are_told_above(table, flags, class))?;
-    }
-    Ok(all)
-}
-
-/// The same of the classes of some table.
-fn verified_in(
     alloc: Global,
     table: &ClassTable<'_>,
     flags: &[bool],
@@ -69,7 +54,11 @@ fn verified_in(
     ensures told { IfOk result (λ all. TellWithAbove table.now flags.now all.items) }
 {
     table.is_numbered();
-    told_with_above(alloc, table, flags)
+    let mut all = Vec::with_capacity(alloc, table.count())?;
+    for class in 0..table.count() {
+        all.push(is_told(flags, class) && are_told_above(table, flags, class))?;
+    }
+    Ok(all)
 }
 
 /// Of each class of a guest, by its number, whether it and all classes and interfaces above it were accepted (JVMS 4.10, 5.4.1).
@@ -81,6 +70,6 @@ pub fn verified_classes(alloc: Global, verified: &Verified<'_>) -> Result<Vec<bo
     ensures { IfOk result (λ all. AreVerifiedClasses verified.now all.items) }
 {
     let flags = accepted_classes(alloc, verified)?;
-    let all = verified_in(alloc, verified.classes().table(), &flags)?;
+    let all = told_with_above(alloc, verified.classes().table(), &flags)?;
     Ok(all)
 }
