@@ -1,10 +1,11 @@
 -- The method of the newest frame goes on in registers (JVMS 2.5.1, 2.6).
-use Rattle.std.specs.Prelude.{ℕ, ⊤, List, [], ◌∷◌, Option, Some, None}
+use Rattle.std.specs.Prelude.{◌≡◌, ℕ, ⊤, List, [], ◌∷◌, ◌++◌, Option, Some, None, vec_capacity}
 use Rattle.jv_meaning_machine.specs.Frames.{Frame}
 use Rattle.jv_meaning_machine.specs.Frames.Frame.{Runs, Initializes}
 use Rattle.jv_meaning_machine.specs.State.{Program}
 use Rattle.jv_interp_words.specs.declared.registers.Registers.{Registers}
-use Rattle.jv_interp_words.specs.StatesInWords.{RunningStands}
+use Rattle.jv_interp_words.specs.declared.records.FrameRecord.TheVariants as records
+use Rattle.jv_interp_words.specs.StatesInWords.{record_of, RunningStands}
 use Rattle.jv_interp_methods.specs.declared.methods.Methods.{Methods}
 use Rattle.jv_interp_methods.specs.Methods.{AreMethods}
 use Rattle.jv_interp_frames.specs.declared.frames.Frames.{Frames}
@@ -43,3 +44,10 @@ Resumes methods frames after None =
     AreAsBefore frames after
     × ((program : Program) (addresses : List ℕ) (all : List Frame) (left : ℕ) → Resuming methods frames program addresses all left
     → NoneRuns all)
+
+-- The newest record was taken out; it is the one that the registers would be kept in.
+pub record IsTakenOut (before after : Frames) (at : Registers) : Type 0 where
+  pub record_is : before.records.items ≡ after.records.items ++ records.Runs (record_of at) ∷ []
+  pub capacity : vec_capacity after.records ≡ vec_capacity before.records
+  pub top_is : at.top ≡ before.top
+  pub others : after ≡ record before { records = after.records }

@@ -46,6 +46,7 @@ pub fn act<'l, S: Store>(
         (kept frames.old control.old held.old (S.content store.old))
         (kept frames.new control.new held.new (S.content store.new))) }
     ensures goes { IfOk result (λ goes_on. IsTrue goes_on ↔ (effect ≡ Goes)) }
+    ensures going { effect ≡ Goes → IsOk result }
     ensures fewer { held.new.cells ≤ held.old.cells }
     ensures room { OnOk result (S.room_left store.old + held.new.cells ≡ S.room_left store.new + held.old.cells) }
     ensures refused_frames { OnErr result (AreAsBefore frames.old frames.new) }

@@ -1,6 +1,7 @@
 //! The method of the newest frame, in registers (JVMS 2.5.1).
 
-ghost use Rattle.jv_interp_actions.specs.Resuming.{CanResume, Resumes};
+ghost use Rattle.std.specs.Prelude.{IfSome};
+ghost use Rattle.jv_interp_actions.specs.Resuming.{CanResume, Resumes, IsTakenOut};
 
 use jv_interp_frames::{Frames, code_of, push_record};
 use jv_interp_methods::Methods;
@@ -10,7 +11,8 @@ use jv_interp_words::{FrameRecord, Registers};
 /// frame. Where the constants of its class begin nobody asks yet, so that is 0.
 pub fn resume<'a>(methods: &Methods<'a>, frames: &mut Frames) -> Option<Registers<'a>>
     requires { CanResume methods.now frames.old }
-    ensures { Resumes methods.now frames.old frames.new result }
+    ensures resumes { Resumes methods.now frames.old frames.new result }
+    ensures taken_out { IfSome result (λ at. IsTakenOut frames.old frames.new at) }
 {
     match frames.records.pop() {
         Some(FrameRecord::Runs(own)) => Some(Registers {

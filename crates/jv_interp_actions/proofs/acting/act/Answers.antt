@@ -71,6 +71,7 @@ pub returns-in_ok-act_above-in_default : goal.returns-in_ok-act_above-in_default
 returns-in_ok-act_above-in_default g c = record {
   acted = c.in_ok-act_above-in_default.ensures.acted;
   goes = (λ on. absurd cc, λ e. absurd (c.in_default.not-Goes e));
+  going = λ e. absurd (c.in_default.not-Goes e);
   fewer = c.act_above.ensures.fewer;
   room = c.in_ok-act_above-in_default.ensures.room;
   refused_frames = tt;

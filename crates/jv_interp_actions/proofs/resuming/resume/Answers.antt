@@ -19,8 +19,8 @@ code_of-requires c =
       is = code_now c.args.methods.now c.args.frames.now w.program w.addresses w.all w.left w.resuming rest own there;
     }
 
-pub returns-in-Some-Runs : goal.returns-in-Some-Runs
-returns-in-Some-Runs c = λ program addresses all left h.
+pub returns-in-Some-Runs-clause-resumes : goal.returns-in-Some-Runs-clause-resumes
+returns-in-Some-Runs-clause-resumes c = λ program addresses all left h.
     let own = c.in-Some-Runs.own in
     let rest = c.pop.new.self.items in
     let frames = c.args.frames.now in
@@ -30,3 +30,11 @@ returns-in-Some-Runs c = λ program addresses all left h.
     let code = c.code_of.ensures program _ _ (code_now c.args.methods.now frames program addresses all left h rest own there) in
     resumed c.args.methods.now frames program addresses all left h rest own there _ (record frames { records = c.pop.new.self }) refl refl
     (ap (λ (x : CodeSeen). x.code) code) refl refl c.in-Some-Runs.ensures.capacity
+
+pub returns-in-Some-Runs-clause-taken_out : goal.returns-in-Some-Runs-clause-taken_out
+returns-in-Some-Runs-clause-taken_out c = record {
+  record_is = c.in-Some-Runs.ensures.items ∙ ap (λ (r : FrameRecord). c.pop.new.self.items ++ r ∷ []) c.in-Some-Runs.field-0-is;
+  capacity = c.in-Some-Runs.ensures.capacity;
+  top_is = refl;
+  others = refl;
+}

@@ -1,0 +1,133 @@
+use Rattle.std.proofs.Common.{◌≡◌, ℕ, suc, Bool, ◌+◌, ◌-◌, ◌<◌, ◌≤◌, List, ◌++◌, refl, sym, ap, subst, arith}
+use Rattle.jv_interp_frames.specs.Standing.{kept}
+use Rattle.jv_interp_runs.specs.Stepping.{SteppedTo}
+use Rattle.jv_interp_runs.specs.Running.{RanOn, Ran}
+use Rattle.jv_interp_runs.proofs.Records.{can_suspend, stands, runs_again}
+use Rattle.jv_interp_runs.proofs.Runs.{runs_not, steps_in, next, ran_on, ran_out, ran_stands}
+use Rattle.jv_interp_runs.proofs.running.run_method.Goals as goal
+
+pub loop-left-init : goal.loop-left-init
+loop-left-init g c =
+    let none : 0 ≡ c.args.n - c.args.n = omega arith in
+    let before = kept c.args.frames.now c.args.control.now c.args.held.now (g.S.Store.content c.args.store.now) in
+    record {
+      few = omega arith;
+      ran =
+          λ program s addresses h.
+          subst (λ (k : ℕ). RanOn k program c.args.texts.now.names s addresses c.args.at before before) none
+          (runs_not c.args.classes.now.world c.args.verified.now c.args.at program c.args.texts.now.names s addresses before h);
+      linked = c.requires.linked;
+      fewer = omega arith;
+      room = refl;
+    }
+
+pub step_in_method-requires-clause-can : goal.step_in_method-requires-clause-can
+step_in_method-requires-clause-can g c =
+    let w = c.requires.can in
+    let k = c.args.n - c.loop-left.left in
+    let before = kept c.args.frames.now c.args.control.now c.args.held.now (g.S.Store.content c.args.store.now) in
+    let now = kept c.loop-left.frames c.loop-left.control c.loop-left.held (g.S.Store.content c.loop-left.store) in
+    let r = c.loop-left.invariant.ran w.program w.s w.addresses w.runs in
+    record {
+      program = w.program;
+      s = r.t;
+      t =
+          next c.args.classes.now.world c.args.verified.now c.args.at w.program c.args.texts.now.names w.s w.addresses before w.runs k c.loop-left.now now r;
+      addresses = w.addresses ++ r.runs.more;
+      steps =
+          steps_in c.args.classes.now.world c.args.verified.now c.args.at w.program c.args.texts.now.names w.s w.addresses before w.runs k c.loop-left.now now r;
+    }
+
+pub loop-left-preserved : goal.loop-left-preserved
+loop-left-preserved g c =
+    let k = c.args.n - c.loop-left.left in
+    let before = kept c.args.frames.now c.args.control.now c.args.held.now (g.S.Store.content c.args.store.now) in
+    let now = kept c.loop-left.frames c.loop-left.control c.loop-left.held (g.S.Store.content c.loop-left.store) in
+    let after = kept c.step_in_method.new.frames c.step_in_method.new.control c.step_in_method.new.held (g.S.Store.content c.step_in_method.new.store) in
+    let e = c.in-Ok-true.ensures {u = tt} in
+    let few = c.loop-left.invariant.few in
+    let some = c.loop-left-test.true in
+    let up : suc k ≡ c.args.n - (c.loop-left.left - 1) = omega (arith, few, some) in
+    record {
+      few = omega (arith, few);
+      ran =
+          λ program s addresses h.
+          let r = c.loop-left.invariant.ran program s addresses h in
+          let t = next c.args.classes.now.world c.args.verified.now c.args.at program c.args.texts.now.names s addresses before h k c.loop-left.now now r in
+          let q = e.stepped program r.t t (addresses ++ r.runs.more)
+          (steps_in c.args.classes.now.world c.args.verified.now c.args.at program c.args.texts.now.names s addresses before h k c.loop-left.now now r) in
+          subst (λ (j : ℕ). RanOn j program c.args.texts.now.names s addresses c.step_in_method.new.at before after) up
+          (ran_on c.args.classes.now.world c.args.verified.now c.args.at program c.args.texts.now.names s addresses before h k c.loop-left.now now r c.step_in_method.new.at after
+          (subst (λ (b : Bool). SteppedTo b program c.args.texts.now.names t (addresses ++ r.runs.more) c.step_in_method.new.at now after) c.in-Ok-true.field-0-test q));
+      linked = c.step_in_method.ensures.linked;
+      fewer = let a = e.fewer in let b = c.loop-left.invariant.fewer in omega (arith, a, b);
+      room = let a = e.room in let b = c.loop-left.invariant.room in omega (arith, a, b);
+    }
+
+pub returns-in-Ok-false-clause-ran : goal.returns-in-Ok-false-clause-ran
+returns-in-Ok-false-clause-ran g c = λ program s addresses h.
+    let k = c.args.n - c.loop-left.left in
+    let before = kept c.args.frames.now c.args.control.now c.args.held.now (g.S.Store.content c.args.store.now) in
+    let now = kept c.loop-left.frames c.loop-left.control c.loop-left.held (g.S.Store.content c.loop-left.store) in
+    let after = kept c.step_in_method.new.frames c.step_in_method.new.control c.step_in_method.new.held (g.S.Store.content c.step_in_method.new.store) in
+    let e = c.in-Ok-false.ensures {u = tt} in
+    let few = c.loop-left.invariant.few in
+    let some = c.loop-left-test.true in
+    let up : suc k ≡ c.args.n - (c.loop-left.left - 1) = omega (arith, few, some) in
+    let r = c.loop-left.invariant.ran program s addresses h in
+    let t = next c.args.classes.now.world c.args.verified.now c.args.at program c.args.texts.now.names s addresses before h k c.loop-left.now now r in
+    let q = e.stepped program r.t t (addresses ++ r.runs.more)
+    (steps_in c.args.classes.now.world c.args.verified.now c.args.at program c.args.texts.now.names s addresses before h k c.loop-left.now now r) in
+    subst (λ (j : ℕ). Ran j program c.args.texts.now.names s addresses before after) up
+    (ran_out c.args.classes.now.world c.args.verified.now c.args.at program c.args.texts.now.names s addresses before h k c.loop-left.now now r after
+    (subst (λ (b : Bool). SteppedTo b program c.args.texts.now.names t (addresses ++ r.runs.more) c.step_in_method.new.at now after) c.in-Ok-false.field-0-test q))
+
+pub suspend-requires : goal.suspend-requires
+suspend-requires g c =
+    let w = c.requires.can in
+    let e = c.in-Err.ensures {u = tt} in
+    let r = c.loop-left.invariant.ran w.program w.s w.addresses w.runs in
+    can_suspend w.program c.args.texts.now.names r.t (w.addresses ++ r.runs.more) c.step_in_method.new.at c.step_in_method.new.frames c.step_in_method.new.control
+    c.step_in_method.new.held (g.S.Store.content c.step_in_method.new.store)
+    (runs_again w.program c.args.texts.now.names r.t (w.addresses ++ r.runs.more) c.loop-left.now c.step_in_method.new.at c.loop-left.frames c.step_in_method.new.frames
+    c.loop-left.control c.step_in_method.new.control c.loop-left.held c.step_in_method.new.held (g.S.Store.content c.loop-left.store)
+    (g.S.Store.content c.step_in_method.new.store) r.runs.runs e.refused_at e.refused_frames e.refused_control e.refused e.refused_content)
+
+pub returns-in-Err-clause-ran : goal.returns-in-Err-clause-ran
+returns-in-Err-clause-ran g c = λ program s addresses h.
+    let k = c.args.n - c.loop-left.left in
+    let before = kept c.args.frames.now c.args.control.now c.args.held.now (g.S.Store.content c.args.store.now) in
+    let now = kept c.loop-left.frames c.loop-left.control c.loop-left.held (g.S.Store.content c.loop-left.store) in
+    let after = kept c.suspend.new.frames c.step_in_method.new.control c.step_in_method.new.held (g.S.Store.content c.step_in_method.new.store) in
+    let e = c.in-Err.ensures {u = tt} in
+    let r = c.loop-left.invariant.ran program s addresses h in
+    let again =
+    runs_again program c.args.texts.now.names r.t (addresses ++ r.runs.more) c.loop-left.now c.step_in_method.new.at c.loop-left.frames c.step_in_method.new.frames
+    c.loop-left.control c.step_in_method.new.control c.loop-left.held c.step_in_method.new.held (g.S.Store.content c.loop-left.store)
+    (g.S.Store.content c.step_in_method.new.store) r.runs.runs e.refused_at e.refused_frames e.refused_control e.refused e.refused_content in
+    ran_stands k program c.args.texts.now.names s addresses c.loop-left.now before now after r
+    (stands program c.args.texts.now.names r.t (addresses ++ r.runs.more) c.step_in_method.new.at c.step_in_method.new.frames c.step_in_method.new.control
+    c.step_in_method.new.held (g.S.Store.content c.step_in_method.new.store) again c.suspend.new.frames c.suspend.ensures.suspends)
+    e.refused_content
+
+pub suspend-requires-2 : goal.suspend-requires-2
+suspend-requires-2 g c =
+    let w = c.requires.can in
+    let r = c.loop-left.invariant.ran w.program w.s w.addresses w.runs in
+    can_suspend w.program c.args.texts.now.names r.t (w.addresses ++ r.runs.more) c.loop-left.now c.loop-left.frames c.loop-left.control c.loop-left.held
+    (g.S.Store.content c.loop-left.store) r.runs.runs
+
+pub returns-clause-ran : goal.returns-clause-ran
+returns-clause-ran g c = λ program s addresses h.
+    let k = c.args.n - c.loop-left.left in
+    let before = kept c.args.frames.now c.args.control.now c.args.held.now (g.S.Store.content c.args.store.now) in
+    let now = kept c.loop-left.frames c.loop-left.control c.loop-left.held (g.S.Store.content c.loop-left.store) in
+    let after = kept c.suspend-2.new.frames c.loop-left.control c.loop-left.held (g.S.Store.content c.loop-left.store) in
+    let none = c.loop-left-test.false in
+    let all : k ≡ c.args.n - 0 = omega (arith, none) in
+    let r = c.loop-left.invariant.ran program s addresses h in
+    subst (λ (j : ℕ). Ran j program c.args.texts.now.names s addresses before after) all
+    (ran_stands k program c.args.texts.now.names s addresses c.loop-left.now before now after r
+    (stands program c.args.texts.now.names r.t (addresses ++ r.runs.more) c.loop-left.now c.loop-left.frames c.loop-left.control c.loop-left.held
+    (g.S.Store.content c.loop-left.store) r.runs.runs c.suspend-2.new.frames c.suspend-2.ensures.suspends)
+    refl)

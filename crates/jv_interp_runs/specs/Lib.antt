@@ -1,0 +1,4 @@
+pub mod Guests
+pub mod Stepping
+pub mod Running
+pub mod Inside

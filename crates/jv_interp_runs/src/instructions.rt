@@ -1,0 +1,82 @@
+//! Instructions of the method that runs.
+
+ghost use Rattle.std.specs.Prelude.{◌≡◌, ◌+◌, ◌<◌, ◌≤◌, IfOk, IsOk, IsTrue, OnOk, OnErr};
+ghost use Rattle.jv_linked.specs.Linked.{IsLinked};
+ghost use Rattle.jv_interp_methods.specs.Methods.{AreMethods};
+ghost use Rattle.jv_interp_methods.specs.Texts.{AreTexts};
+ghost use Rattle.jv_interp_frames.specs.Standing.{kept};
+ghost use Rattle.jv_interp_actions.specs.Acting.{AreAsBefore};
+ghost use Rattle.jv_interp_runs.specs.Stepping.{CanStepIn, SteppedIn};
+
+use crate::decoding::decode;
+use jv_heap::{Memory, Store};
+use jv_interp_actions::act;
+use jv_interp_execution::execute;
+use jv_interp_frames::{Control, Frames};
+use jv_interp_memory::Held;
+use jv_interp_methods::{Methods, Texts};
+use jv_interp_words::Registers;
+use jv_linked::Linked;
+use jv_loader::Classes;
+use jv_meaning_machine::execution_keeps;
+
+/// Executes the instruction at which the method in the registers stands (JVMS 2.11), and does what its effect asks for. Answers whether the method
+/// goes on in the registers; where it doesn't, all frames stand in their records, from which the newest goes on.
+///
+/// # Errors
+///
+/// Where the host had no memory for what is made; all is then as it was, but for what linking has found.
+#[inline(always)]
+pub(crate) fn step_in_method<'a, 'l, S: Store>(
+    classes: &Classes<'a>,
+    linked: &mut Linked<'a>,
+    methods: &Methods<'a>,
+    texts: &Texts<'a>,
+    verified: &[bool],
+    frames: &mut Frames,
+    control: &mut Control,
+    held: &mut Held,
+    store: &mut S,
+    at: &mut Registers<'l>,
+) -> Result<bool, Memory>
+    requires can { CanStepIn classes.now.world verified.now texts.now.names at.old
+        (kept frames.old control.old held.old (S.content store.old)) }
+    requires linked { IsLinked classes.now.world linked.old }
+    requires methods { AreMethods classes.now.world methods.now }
+    requires texts { AreTexts classes.now.world texts.now }
+    requires cells { held.old.cells ≤ S.room_left store.old }
+    requires few { held.old.cells < 2147483648 }
+    ensures stepped { IfOk result (SteppedIn classes.now.world verified.now texts.now.names at.old
+        (kept frames.old control.old held.old (S.content store.old)) at.new
+        (kept frames.new control.new held.new (S.content store.new))) }
+    ensures fewer { held.new.cells ≤ held.old.cells }
+    ensures room { OnOk result (S.room_left store.old + held.new.cells ≡ S.room_left store.new + held.old.cells) }
+    ensures linked { IsLinked classes.now.world linked.new }
+    ensures refused_at { OnErr result (at.new ≡ at.old) }
+    ensures refused_frames { OnErr result (AreAsBefore frames.old frames.new) }
+    ensures refused_control { OnErr result (control.new ≡ control.old) }
+    ensures refused { OnErr result (held.new ≡ held.old) }
+    ensures refused_content { OnErr result (S.content store.new ≡ S.content store.old) }
+    ensures refused_room { OnErr result (S.room_left store.new ≡ S.room_left store.old) }
+    ensures sure { IsTrue S.SURE → IsOk result }
+{
+    execution_keeps();
+    let (site, insn, next) = decode(methods, at.method, at.pc);
+    let effect = execute(
+        classes,
+        linked,
+        methods,
+        texts,
+        site,
+        &control.states,
+        store,
+        held,
+        &mut frames.words,
+        at,
+        next,
+        insn,
+    )?;
+    act(
+        classes, linked, methods, verified, frames, control, held, store, *at, effect,
+    )
+}

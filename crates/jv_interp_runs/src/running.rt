@@ -1,0 +1,160 @@
+//! Steps one after the other, with the registers of the method that runs in a local variable.
+
+ghost use Rattle.std.specs.Prelude.{◌≡◌, ◌+◌, ◌-◌, ◌<◌, ◌≤◌, IsTrue, [], false};
+ghost use Rattle.jv_linked.specs.Linked.{IsLinked};
+ghost use Rattle.jv_interp_methods.specs.Methods.{AreMethods};
+ghost use Rattle.jv_interp_methods.specs.Texts.{AreTexts};
+ghost use Rattle.jv_interp_frames.specs.Standing.{kept};
+ghost use Rattle.jv_interp_runs.specs.Running.{CanRun, RanTo, CanRunIn, RanFrom};
+
+use crate::instructions::step_in_method;
+use jv_heap::Store;
+use jv_interp_actions::{initialization_step, resume};
+use jv_interp_frames::{Control, Frames, suspend};
+use jv_interp_memory::Held;
+use jv_interp_methods::{Methods, Texts};
+use jv_interp_words::Registers;
+use jv_linked::Linked;
+use jv_loader::Classes;
+use jv_meaning_machine::step_keeps;
+
+/// What came of a number of steps that were to be taken.
+#[derive(Clone, Copy)]
+pub struct Turn {
+    /// How many of them are left.
+    pub left: u64,
+    /// Whether the host had no memory for the next one.
+    pub refused: bool,
+}
+
+/// Takes at most so many steps, from that of the method in the registers on, until another frame goes on. Then all frames stand in their records.
+fn run_method<'a, 'l, S: Store>(
+    classes: &Classes<'a>,
+    linked: &mut Linked<'a>,
+    methods: &Methods<'a>,
+    texts: &Texts<'a>,
+    verified: &[bool],
+    frames: &mut Frames,
+    control: &mut Control,
+    held: &mut Held,
+    store: &mut S,
+    at: Registers<'l>,
+    n: u64,
+) -> Turn
+    requires can { CanRunIn classes.now.world verified.now texts.now.names at
+        (kept frames.old control.old held.old (S.content store.old)) }
+    requires linked { IsLinked classes.now.world linked.old }
+    requires methods { AreMethods classes.now.world methods.now }
+    requires texts { AreTexts classes.now.world texts.now }
+    requires cells { held.old.cells ≤ S.room_left store.old }
+    requires few { held.old.cells < 2147483648 }
+    ensures ran { RanFrom (n - result.left) classes.now.world verified.now texts.now.names at.entry
+        (kept frames.old control.old held.old (S.content store.old))
+        (kept frames.new control.new held.new (S.content store.new)) }
+    ensures most { result.left ≤ n }
+    ensures some { 0 < n → result.refused ≡ false → result.left < n }
+    ensures some_left { IsTrue result.refused → 0 < result.left }
+    ensures running { IsTrue result.refused → frames.new.records.items ≡ [] → ⊥ }
+    ensures fewer { held.new.cells ≤ held.old.cells }
+    ensures room { S.room_left store.old + held.new.cells ≡ S.room_left store.new + held.old.cells }
+    ensures linked { IsLinked classes.now.world linked.new }
+    ensures sure { IsTrue S.SURE → result.refused ≡ false }
+{
+    let mut now = at;
+    let mut left = n;
+    while left > 0 {
+        match step_in_method(
+            classes, linked, methods, texts, verified, frames, control, held, store, &mut now,
+        ) {
+            Ok(true) => {
+                left -= 1;
+            }
+            Ok(false) => {
+                return Turn {
+                    left: left - 1,
+                    refused: false,
+                };
+            }
+            Err(_) => {
+                suspend(frames, now, now.top);
+                return Turn {
+                    left,
+                    refused: true,
+                };
+            }
+        }
+    }
+    suspend(frames, now, now.top);
+    Turn {
+        left: 0,
+        refused: false,
+    }
+}
+
+/// Takes at most so many steps of a guest (JVMS 2.11, 5.5), fewer only where it ends, which is where no frame is left, or where the host had no memory
+/// for the next one: that step is then not taken, and all is as it was before it, but for what linking has found.
+pub fn run<'a, S: Store>(
+    classes: &Classes<'a>,
+    linked: &mut Linked<'a>,
+    methods: &Methods<'a>,
+    texts: &Texts<'a>,
+    verified: &[bool],
+    frames: &mut Frames,
+    control: &mut Control,
+    held: &mut Held,
+    store: &mut S,
+    n: u64,
+) -> Turn
+    requires can { CanRun classes.now.world verified.now texts.now.names
+        (kept frames.old control.old held.old (S.content store.old)) }
+    requires linked { IsLinked classes.now.world linked.old }
+    requires methods { AreMethods classes.now.world methods.now }
+    requires texts { AreTexts classes.now.world texts.now }
+    requires cells { held.old.cells ≤ S.room_left store.old }
+    requires few { held.old.cells < 2147483648 }
+    ensures ran { RanTo (n - result.left) classes.now.world verified.now texts.now.names
+        (kept frames.old control.old held.old (S.content store.old))
+        (kept frames.new control.new held.new (S.content store.new)) }
+    ensures most { result.left ≤ n }
+    ensures ended { 0 < result.left → result.refused ≡ false → frames.new.records.items ≡ [] }
+    ensures some_left { IsTrue result.refused → 0 < result.left }
+    ensures running { IsTrue result.refused → frames.new.records.items ≡ [] → ⊥ }
+    ensures fewer { held.new.cells ≤ held.old.cells }
+    ensures room { S.room_left store.old + held.new.cells ≡ S.room_left store.new + held.old.cells }
+    ensures linked { IsLinked classes.now.world linked.new }
+    ensures sure { IsTrue S.SURE → result.refused ≡ false }
+{
+    step_keeps();
+    let mut left = n;
+    while left > 0 && !frames.records.is_empty() {
+        match resume(methods, frames) {
+            Some(at) => {
+                let turn = run_method(
+                    classes, linked, methods, texts, verified, frames, control, held, store, at,
+                    left,
+                );
+                if turn.refused {
+                    return turn;
+                }
+                left = turn.left;
+            }
+            None => match initialization_step(
+                classes, linked, methods, texts, verified, frames, control, held, store,
+            ) {
+                Ok(()) => {
+                    left -= 1;
+                }
+                Err(_) => {
+                    return Turn {
+                        left,
+                        refused: true,
+                    };
+                }
+            },
+        }
+    }
+    Turn {
+        left,
+        refused: false,
+    }
+}
