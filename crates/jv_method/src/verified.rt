@@ -70,6 +70,13 @@ impl<'a> Verified<'a> {
         self.verdicts.len()
     }
 
+    /// The verdicts on the files, in their order.
+    pub fn verdicts(&self) -> &[Verdict]
+        ensures { result.now ≡ self.now.verdicts }
+    {
+        &self.verdicts
+    }
+
     /// The verdict on the file at a place, the first at 0.
     pub fn verdict(&self, file: usize) -> Verdict
         requires { file < length self.now.verdicts }

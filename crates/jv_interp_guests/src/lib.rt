@@ -1,0 +1,12 @@
+//! A guest (JVMS 2.5, 5.2): made at its start, run, fed, and what it shows. A room of `jv_interp`.
+#![tactic(auto)]
+
+mod beginning;
+mod feeding;
+mod guest;
+mod observation;
+mod turns;
+
+pub use guest::Guest;
+pub use jv_interp_runs::Turn;
+pub use observation::{GuestEnd, Observation};
