@@ -4,10 +4,10 @@ use Rattle.std.proofs.lemmas.List.{get_or-map, length-map}
 use Rattle.std.proofs.lemmas.List.Elements.{Contains-get_or}
 use Rattle.std.specs.List.{Contains}
 use Rattle.std.specs.Prelude.{IfErr, IsErrAnd, Result, Ok, Err}
-use Rattle.jv_meaning.specs.Guest.{bytes_of}
+use Rattle.jv_run.specs.Bytes.{bytes_of}
 use Rattle.jv_run.specs.declared.failure.Failure.{Failure}
 use Rattle.jv_run.specs.Failure.{IsUnread}
-use Rattle.jv_run.specs.declared.failure.Failure.TheVariants.{Unreadable, Refused, Stuck, HostMemory, SystemBroken, Memory}
+use Rattle.jv_run.specs.declared.failure.Failure.TheVariants.{Unreadable, Refused, TooManyFolders, HostMemory, Memory}
 use Rattle.jv_check.specs.Named.{IsOneUnread}
 
 -- an error that is handed on
@@ -23,7 +23,6 @@ one_unread names place d (Unreadable unread) within same =
     let found = get_or-map bytes_of names place d unread.items within in
     subst (Contains (map bytes_of names)) (found ∙ sym same) (Contains-get_or (map bytes_of names) place unread.items (omega arith))
 one_unread names place d (Refused fault) within none = none
-one_unread names place d Stuck within none = none
+one_unread names place d TooManyFolders within none = none
 one_unread names place d HostMemory within none = none
-one_unread names place d SystemBroken within none = none
 one_unread names place d Memory within any = any

@@ -4,7 +4,7 @@ use Rattle.jv_meaning_world.specs.FileContent.{FileContent, AreContents}
 use Rattle.jv_meaning_typing.specs.declared.verdict.Verdict.{Verdict}
 use Rattle.jv_method.specs.Files.{AreVerdicts}
 use Rattle.jv_run.specs.declared.failure.Failure.{Failure}
-use Rattle.jv_run.specs.declared.failure.Failure.TheVariants.{Unreadable, Refused, Stuck, HostMemory, SystemBroken, Memory}
+use Rattle.jv_run.specs.declared.failure.Failure.TheVariants.{Unreadable, Refused, TooManyFolders, HostMemory, Memory}
 use Rattle.jv_run.specs.declared.outcome.Outcome.{Outcome}
 use Rattle.jv_check.specs.Limits.{first_file_refusal}
 use Rattle.jv_check.specs.Text.{check_text, check_status}
@@ -29,9 +29,8 @@ pub record IsChecked (names files : List (List ℕ)) (outcome : Outcome) : Type 
 abbrev pub IsHostFailure : List (List ℕ) → Failure → Type 0
 IsHostFailure files (Unreadable name) = ⊥
 IsHostFailure files (Refused fault) = ⊥
-IsHostFailure files Stuck = ⊥
+IsHostFailure files TooManyFolders = ⊥
 IsHostFailure files HostMemory = ⊤
-IsHostFailure files SystemBroken = ⊥
 IsHostFailure files Memory = ⊤
 
 -- why files were not checked: they are refused, for the first reason that applies; or they are within the limits

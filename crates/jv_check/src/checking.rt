@@ -1,7 +1,7 @@
 //! The verdicts on files, and what is said of them.
 ghost use Rattle.std.specs.Prelude.{◌≡◌, IfErr, IfOk, length, map, string_bytes};
 ghost use Rattle.std.specs.List.{list_all};
-ghost use Rattle.jv_meaning.specs.Guest.{bytes_of};
+ghost use Rattle.jv_run.specs.Bytes.{bytes_of};
 ghost use Rattle.jv_check.specs.Check.{AreVerdictsOf, IsChecked, IsCheckFailure, IsHostFailure};
 ghost use Rattle.jv_check.specs.Inside.Verified.{AreFilesOf};
 ghost use Rattle.jv_check.specs.Text.{check_status, check_text, is_accepted};

@@ -2,7 +2,7 @@
 ghost use Rattle.std.specs.Prelude.{◌≡◌, ◌==◌, length, map, nat_lt};
 ghost use Rattle.std.specs.List.{list_any};
 ghost use Rattle.jv_host.specs.Limits.{is_long_file};
-ghost use Rattle.jv_meaning.specs.Guest.{bytes_of};
+ghost use Rattle.jv_run.specs.Bytes.{bytes_of};
 ghost use Rattle.jv_check.specs.Limits.{first_file_refusal};
 
 use jv_host::AdmitFault;

@@ -1,15 +1,13 @@
 //! Files that are named, read, and checked.
 ghost use Rattle.std.specs.Prelude.{◌≡◌, IfErr, IfOk, length, map};
-ghost use Rattle.jv_meaning.specs.Guest.{bytes_of};
+ghost use Rattle.jv_run.specs.Bytes.{bytes_of};
 ghost use Rattle.jv_check.specs.Check.{IsChecked, IsCheckFailure};
-ghost use Rattle.jv_run.specs.declared.failure.Failure.TheVariants.{HostMemory};
 ghost use Rattle.jv_check.specs.Named.{IsCheckedAs, IsNamedFailure, IsOneUnread, IsReadFailure};
 
 use crate::checking::check_files;
 use crate::limits::first_file_refusal;
-use jv_run::{Failure, Outcome, read_class};
+use jv_run::{Failure, Outcome, hashing_state, read_class};
 use std::alloc::{AllocError, Global};
-use std::hash::RandomState;
 use std::random::RandomSource;
 use std::rt::Files;
 
@@ -46,16 +44,6 @@ fn bytes_of_files<'a>(alloc: Global, files: &'a [Vec<u8>]) -> Result<Vec<&'a [u8
         found.push(file.as_slice())?;
     }
     Ok(found)
-}
-
-/// The state with which names are hashed; a system that gives none is short of memory.
-fn hashing_state<R: RandomSource>(rt: &R) -> Result<RandomState, Failure>
-    ensures { IfErr result (λ failure. failure ≡ HostMemory) }
-{
-    match RandomState::new(rt) {
-        Ok(state) => Ok(state),
-        Err(_) => Err(Failure::HostMemory),
-    }
 }
 
 /// Checks files of these names, as many as there are names, as those of one guest. Those that are refused are so before the

@@ -1,3 +1,9 @@
-pub mod Files
-pub mod Room
-pub mod Runs
+pub mod Beginnings
+pub mod Feeding
+pub mod Holdings
+pub mod LongFiles
+pub mod MayBegin
+pub mod Places
+pub mod Rounding
+pub mod RunsNow
+pub mod Turning

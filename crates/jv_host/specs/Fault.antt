@@ -4,6 +4,8 @@ use Rattle.jv_host.specs.declared.fault.AdmitFault.{AdmitFault}
 use Rattle.jv_host.specs.declared.fault.AdmitFault.TheVariants as refusals
 use Rattle.jv_host.specs.declared.fault.TurnFault.{TurnFault}
 use Rattle.jv_host.specs.declared.fault.TurnFault.TheVariants as stops
+use Rattle.jv_host.specs.declared.fault.FeedFault.{FeedFault}
+use Rattle.jv_host.specs.declared.fault.FeedFault.TheVariants as feeds
 
 abbrev pub admit_fault_name : AdmitFault → List ℕ
 admit_fault_name refusals.NoFiles = codes "NoFiles"
@@ -16,5 +18,9 @@ admit_fault_name refusals.HostMemory = codes "HostMemory"
 
 abbrev pub turn_fault_name : TurnFault → List ℕ
 turn_fault_name stops.NoGuest = codes "NoGuest"
-turn_fault_name (stops.Stuck steps) = codes "Stuck"
 turn_fault_name (stops.HostMemory steps) = codes "HostMemory"
+
+abbrev pub feed_fault_name : FeedFault → List ℕ
+feed_fault_name feeds.NoGuest = codes "NoGuest"
+feed_fault_name feeds.InputTooLong = codes "InputTooLong"
+feed_fault_name feeds.HostMemory = codes "HostMemory"

@@ -1,1 +1,1 @@
-pub mod Admission
+pub mod Holding

@@ -1,11 +1,16 @@
--- The limits of the host, and the order in which it refuses a guest (own).
-use Rattle.std.specs.Prelude.{ℕ, Bool, ◌&&◌, not, nat_le, nat_lt, ◌==◌, if◌then◌else◌, List, length, Option, Some, None, ◌≡◌, ◌≢◌}
+-- The limits of the host, and the order in which it refuses a guest, or bytes for one (own).
+use Rattle.std.specs.Prelude.{ℕ, ◌+◌, Bool, ◌&&◌, not, nat_le, nat_lt, ◌==◌, if◌then◌else◌, List, length, Option, Some, None, ◌≡◌, ◌≢◌, slice_get}
 use Rattle.std.specs.List.{list_any}
 use Rattle.jv_format.specs.Numbers.{is_from_to}
-use Rattle.jv_meaning.specs.declared.guest.Budget.{Budget}
-use Rattle.jv_meaning.specs.Guest.{Guest}
+use Rattle.jv_meaning_machine.specs.Start.{Budget}
+use Rattle.jv_meaning_machine.specs.Alone.{GuestFiles}
 use Rattle.jv_host.specs.declared.fault.AdmitFault.{AdmitFault}
 use Rattle.jv_host.specs.declared.fault.AdmitFault.TheVariants.{NoFiles, TooManyFiles, FileTooLong, InputTooLong, BudgetOutOfRange, TooManyGuests, HostMemory}
+use Rattle.jv_host.specs.declared.fault.FeedFault.{FeedFault}
+use Rattle.jv_host.specs.declared.fault.FeedFault.TheVariants as feeds
+use Rattle.jv_host.specs.Host.{Admission, input_bytes}
+
+-- ---- admissions
 
 -- a file longer than 4,194,304 bytes
 abbrev pub is_long_file : List ℕ → Bool
@@ -15,17 +20,31 @@ is_long_file file = nat_lt 4194304 (length file)
 abbrev pub is_in_range : Budget → Bool
 is_in_range b = is_from_to 64 16777216 b.cells && is_from_to 64 1048576 b.words && nat_le b.output 1048576
 
--- the first reason to refuse a guest, where the host holds so many: it takes one guest, of one file
-abbrev pub first_refusal : Guest → Budget → ℕ → Option AdmitFault
+-- the first reason to refuse a guest, where the host holds so many: 64 is the most, and 1,024 the most files of one
+abbrev pub first_refusal : GuestFiles → Budget → ℕ → Option AdmitFault
 first_refusal g b guests =
     if length g.files == 0 then Some NoFiles
-    else if nat_lt 1 (length g.files) then Some TooManyFiles
+    else if nat_lt 1024 (length g.files) then Some TooManyFiles
     else if list_any is_long_file g.files then Some FileTooLong
     else if nat_lt 16777216 (length g.input) then Some InputTooLong
     else if not (is_in_range b) then Some BudgetOutOfRange
-    else if nat_le 1 guests then Some TooManyGuests
+    else if nat_le 64 guests then Some TooManyGuests
     else None
 
 -- the refusal is the first that applies, but for want of memory
-abbrev pub IsRefused : Guest → Budget → ℕ → AdmitFault → Type 0
+abbrev pub IsRefused : GuestFiles → Budget → ℕ → AdmitFault → Type 0
 IsRefused g b guests fault = fault ≢ HostMemory → first_refusal g b guests ≡ Some fault
+
+-- ---- feeds
+
+-- so many bytes more would be more than 16,777,216, with the input at admission and all that was fed
+abbrev pub feed_refusal_of : Option Admission → ℕ → Option FeedFault
+feed_refusal_of None count = Some feeds.NoGuest
+feed_refusal_of (Some a) count = if nat_lt 16777216 (input_bytes a + count) then Some feeds.InputTooLong else None
+
+-- the first reason to refuse bytes for a guest
+abbrev pub feed_refusal : List Admission → (id : ℕ) → List ℕ → Option FeedFault
+feed_refusal guests id bytes = feed_refusal_of (slice_get guests id) (length bytes)
+
+abbrev pub IsFeedRefused : List Admission → (id : ℕ) → List ℕ → FeedFault → Type 0
+IsFeedRefused guests id bytes fault = fault ≢ feeds.HostMemory → feed_refusal guests id bytes ≡ Some fault

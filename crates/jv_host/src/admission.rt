@@ -1,128 +1,217 @@
 //! A guest that was admitted.
 
-ghost use Rattle.std.specs.Prelude.{◌≡◌, ◌≤◌, ◌<◌, ◌+◌, ◌-◌, ◌^◌, Ok, Err, None, IfOk, IfErr, OnErr, length};
-ghost use Rattle.jv_meaning.specs.declared.guest.GuestFiles.{GuestFiles};
-ghost use Rattle.jv_meaning.specs.Guest.{Observed, guest_of, observed_of};
-ghost use Rattle.jv_meaning.specs.Thin.Alone.{Shows, IsRunningAfter};
-ghost use Rattle.jv_interp.specs.declared.thin.fault.StepFault.TheVariants.{Stuck};
-ghost use Rattle.jv_host.specs.Host.{Admission, WasRunning, IsFullTurn, IsStuckAfter};
-ghost use Rattle.jv_host.specs.Inside.Admission.{IsFoundVerdict};
+ghost use Rattle.std.specs.Prelude.{◌≡◌, ◌≢◌, ◌+◌, ◌-◌, ◌<◌, ◌≤◌, [], Some, None, Err, true, false, length, map, IfOk, IfErr, IsOk, OnOk, OnErr, IsTrue};
+ghost use Rattle.jv_heap.specs.Content.{words_held};
+ghost use Rattle.jv_interp_objects.specs.ObjectsInBlocks.{Blocks};
+ghost use Rattle.jv_interp_start.specs.Started.{budget_of};
+ghost use Rattle.jv_interp.specs.Beginning.{AreFilesOf};
+ghost use Rattle.jv_host.specs.declared.fault.FeedFault.TheVariants.{HostMemory};
+ghost use Rattle.jv_host.specs.Files.{bytes_of, guest_of};
+ghost use Rattle.jv_host.specs.Host.{stepped, fed_now};
+ghost use Rattle.jv_host.specs.Limits.{feed_refusal_of};
+ghost use Rattle.jv_host.specs.Calls.{admission, HadTurn, HadCutTurn};
+ghost use Rattle.jv_host.specs.Inside.Holding.{admission_of, IsSomeHeld, GoesOn, HasBegun, StaysHeld};
 
-use crate::run::{Stopped, take_steps};
-use jv_class::{ClassFault, ClassFile, read_class};
-use jv_interp::thin::{Guest, is_accepted};
-use jv_meaning::{Budget, GuestFiles, Observation, Verdict};
-use std::alloc::Global;
-use std::marker::Model;
+use crate::fault::FeedFault;
+use crate::files::GuestFiles;
+use crate::limits::INPUT_BYTES;
+use jv_heap::{MOST_WORDS, Memory, Store};
+use jv_interp::Guest;
+use jv_interp_start::Budget;
+use jv_loader::{Classes, SystemFiles};
+use jv_meaning_machine::{ended_guest_stays, one_judged};
+use jv_method::{Verified, verify};
+use std::alloc::{AllocError, Global};
+use std::hash::RandomState;
 
-/// A guest: what it brought, what it may use, what was found of its file, and where it is.
+/// Bytes that came to a guest's input, after so many of its own steps.
 #[derive(Drop)]
+pub(crate) struct Fed {
+    pub(crate) own_step: u64,
+    pub(crate) bytes: Vec<u8>,
+}
+
+/// A guest: what it brought, what it may use, what came to its input while it ran, how many bytes came in all, and where it is.
 pub(crate) struct Admitted<'a> {
+    pub(crate) files: GuestFiles<'a>,
+    pub(crate) budget: Budget,
+    pub(crate) feeds: Vec<Fed>,
+    pub(crate) came: usize,
+    pub(crate) guest: Guest<'a>,
+}
+
+// By hand, so that a drop of a guest is one call for those who hold one.
+impl Drop for Admitted<'_> {
+    fn drop(self) {
+        let Admitted {
+            files: _,
+            budget: _,
+            feeds: _,
+            came: _,
+            guest: _,
+        } = self;
+    }
+}
+
+/// Steps that were taken, and whether the host had no memory for the next one.
+#[derive(Clone, Copy)]
+pub(crate) struct Taken {
+    pub(crate) steps: u64,
+    pub(crate) refused: bool,
+}
+
+/// The classes of a guest's files, with the verdicts on them.
+fn judge<'a>(
+    alloc: Global,
+    state: RandomState,
+    system: &'a SystemFiles,
+    files: &'a [&'a [u8]],
+) -> Result<Verified<'a>, Memory>
+    ensures { IfOk result (AreFilesOf (map bytes_of files.now)) }
+{
+    let Ok(classes) = Classes::load(alloc, state, system, files) else {
+        return Err(Memory);
+    };
+    Ok(verify(alloc, state, classes)?)
+}
+
+/// A copy of bytes.
+fn copy_of(alloc: Global, bytes: &[u8]) -> Result<Vec<u8>, AllocError>
+    ensures { IfOk result (λ copy. copy.items ≡ bytes.now) }
+{
+    let mut copy = Vec::new(alloc);
+    copy.extend_from_slice(bytes)?;
+    Ok(copy)
+}
+
+/// Whether a store may have so many words more. 64 guests have 1,073,741,824 cells at most, so it may; but that a guest's steps keep the
+/// store's total is no clause of theirs.
+fn has_place<S: Store>(store: &S, words: u32) -> bool
+    ensures { IsTrue result → S.room_left store.now + words_held (S.content store.now) + words ≤ 4294967294 }
+{
+    store.total() + u64::from(words) <= MOST_WORDS
+}
+
+/// Judges the files of a guest, and begins it.
+///
+/// # Errors
+///
+/// Where the host had no memory for it; nothing has then changed.
+pub(crate) fn begin<'a, S: Store>(
+    alloc: Global,
+    state: RandomState,
+    system: &'a SystemFiles,
     files: GuestFiles<'a>,
     budget: Budget,
-    verdicts: [Verdict; 1],
-    guest: Guest<'a>,
-    steps: u64,
-}
-
-impl<'a> Model for Admitted<'a> {
-    ghost use Rattle.jv_meaning.specs.Guest.{guest_of};
-    ghost use Rattle.jv_host.specs.Host.{Admission};
-    ghost use Rattle.jv_host.specs.Inside.Admission.{IsAdmitted};
-
-    ghost Value = { Admission };
-
-    ghost view = { λ a. record { guest = guest_of a.files; budget = a.budget; steps = a.steps } };
-
-    ghost invariant = { λ a. IsAdmitted (guest_of a.files) a.budget a.verdicts a.guest a.steps };
-}
-
-/// The host's memory was refused.
-#[derive(Clone, Copy)]
-pub(crate) struct Refused;
-
-/// The verdict of a file, and its class where that is accepted.
-fn judge<'a>(alloc: Global, bytes: &'a [u8]) -> Result<(Verdict, Option<ClassFile<'a>>), Refused>
-    ensures { IfOk result (λ x. IsFoundVerdict bytes.now x.0 x.1) }
+    store: &mut S,
+) -> Result<Admitted<'a>, Memory>
+    requires few { length files.files.now ≤ 1024 }
+    requires input { length files.input.now ≤ 16777216 }
+    requires some { 64 ≤ budget.cells }
+    requires most { budget.cells ≤ 16777216 }
+    ensures begun { IfOk result (λ a.
+        HasBegun (admission (guest_of files.entry) (budget_of budget)) a (S.content store.old) (S.content store.new)) }
+    ensures room { IfOk result (λ a. S.room_left store.new ≡ S.room_left store.old + a.guest.held.cells) }
+    ensures refused { OnErr result (S.content store.new ≡ S.content store.old) }
+    ensures refused_room { OnErr result (S.room_left store.new ≡ S.room_left store.old) }
 {
-    let class = match read_class(alloc, bytes) {
-        Ok(class) => class,
-        Err(ClassFault::Version) => return Ok((Verdict::Version, None)),
-        Err(ClassFault::Format) => return Ok((Verdict::Format, None)),
-        Err(ClassFault::Unsupported) => return Ok((Verdict::Unsupported, None)),
-        Err(ClassFault::Memory) => return Err(Refused),
-    };
-    if is_accepted(&class) {
-        return Ok((Verdict::Accepted, Some(class)));
+    let judged = judge(alloc, state, system, files.files)?;
+    if !has_place(store, budget.cells) {
+        return Err(Memory);
     }
-    Ok((Verdict::Unsupported, None))
+    let guest = Guest::new(alloc, state, judged, files.main, files.input, budget, store)?;
+    Ok(Admitted {
+        files,
+        budget,
+        feeds: Vec::new(alloc),
+        came: files.input.len(),
+        guest,
+    })
 }
 
-impl<'a> Admitted<'a> {
-    /// Judges the file of a guest and starts the guest.
-    pub(crate) fn new(
-        alloc: Global,
-        files: GuestFiles<'a>,
-        budget: Budget,
-    ) -> Result<Admitted<'a>, Refused>
-        requires { length files.files.now ≡ 1 }
-        ensures { IfOk result (λ a. a ≡ record { guest = guest_of files.entry; budget = budget; steps = 0 }) }
-    {
-        let (verdict, class) = judge(alloc, files.files[0])?;
-        let guest = Guest::new(alloc, class, files.main, budget.output);
-        Ok(Admitted {
-            files,
-            budget,
-            verdicts: [verdict],
-            guest,
-            steps: 0,
-        })
-    }
+/// Whether a turn is cut: steps are left, and the guest takes steps.
+fn is_cut(left: u64, running: bool) -> bool
+    ensures left { IsTrue result → 0 < left }
+    ensures running { IsTrue result → running ≡ true }
+    ensures over { result ≡ false → 0 < left → running ≡ false }
+{
+    left > 0 && running
+}
 
+impl Admitted<'_> {
     /// Takes at most so many steps.
-    pub(crate) fn turn(&mut self, n: u32) -> Result<u64, Stopped>
-        ensures ok { IfOk result (λ k. self.new ≡ record self.old { steps = self.old.steps + k }) }
-        ensures most { IfOk result (λ k. k ≤ n) }
-        ensures before { IfOk result (λ k. WasRunning self.old k) }
-        ensures full { IfOk result (λ k. IsFullTurn self.old n k) }
-        ensures countable { IfOk result (λ k. self.old.steps + k < 2 ^ 64) }
-        ensures err { IfErr result (λ e. self.new ≡ record self.old { steps = self.old.steps + e.taken }) }
-        ensures early { IfErr result (λ e. e.taken < n) }
-        ensures running { IfErr result (λ e. WasRunning self.old (e.taken + 1)) }
-        ensures counted { IfErr result (λ e. self.old.steps + e.taken < 2 ^ 64 - 1) }
-        ensures stuck { IfErr result (λ e. e.fault ≡ Stuck → IsStuckAfter self.old e.taken) }
+    pub(crate) fn turn<S: Store>(&mut self, store: &mut S, n: u32) -> Taken
+        requires held { IsSomeHeld self.old (S.content store.old) }
+        requires cells { self.old.guest.held.cells ≤ S.room_left store.old }
+        ensures goes { GoesOn self.old self.new (S.content store.old) (S.content store.new) }
+        ensures after { admission_of self.new ≡ stepped result.steps (admission_of self.old) }
+        ensures had { result.refused ≡ false → HadTurn (admission_of self.old) n result.steps }
+        ensures cut { IsTrue result.refused → HadCutTurn (admission_of self.old) n result.steps }
+        ensures room { S.room_left store.old + self.new.guest.held.cells ≡ S.room_left store.new + self.old.guest.held.cells }
+        ensures sure { IsTrue S.SURE → result.refused ≡ false }
     {
-        let most = u64::from(n).min(u64::MAX - self.steps);
-        match take_steps(&mut self.guest, most) {
-            Ok(taken) => {
-                self.steps += taken;
-                Ok(taken)
-            }
-            Err(stopped) => {
-                self.steps += stopped.taken;
-                Err(stopped)
-            }
+        one_judged();
+        ended_guest_stays();
+        let most = u64::from(n).min(u64::MAX - self.guest.steps());
+        let turn = self.guest.turn(store, most);
+        Taken {
+            steps: most - turn.left,
+            refused: is_cut(turn.left, self.guest.is_running()),
         }
     }
 
-    /// The verdicts of its files.
-    pub(crate) fn verdicts(&self) -> &[Verdict]
-        ensures { (o : Observed) × Shows self.now.guest self.now.budget self.now.steps o × (result.now ≡ o.verdicts) }
+    /// The bytes join behind its input.
+    ///
+    /// # Errors
+    ///
+    /// Where the host had no memory for them; nothing has then changed.
+    fn join(&mut self, alloc: Global, bytes: &[u8]) -> Result<(), AllocError>
+        requires held { (blocks : Blocks) × IsSomeHeld self.old blocks }
+        requires some { 0 < length bytes.now }
+        requires few { self.old.came + length bytes.now ≤ 16777216 }
+        ensures fed { OnOk result (admission_of self.new ≡ fed_now bytes.now (admission_of self.old)) }
+        ensures held { StaysHeld self.old self.new }
+        ensures cells { self.new.guest.held.cells ≡ self.old.guest.held.cells }
+        ensures same { OnErr result (admission_of self.new ≡ admission_of self.old) }
     {
-        &self.verdicts
+        let copy = copy_of(alloc, bytes)?;
+        self.feeds.reserve(1)?;
+        let own_step = self.guest.steps();
+        self.guest.feed(bytes)?;
+        self.feeds.push_reserved(Fed {
+            own_step,
+            bytes: copy,
+        });
+        self.came += bytes.len();
+        Ok(())
     }
 
-    /// What it shows.
-    pub(crate) fn observe(&self) -> Observation<'_>
-        ensures { Shows self.now.guest self.now.budget self.now.steps (observed_of result) }
+    /// The bytes come to its input.
+    ///
+    /// # Errors
+    ///
+    /// The refusals come in the order of `FeedFault`; nothing has then changed.
+    pub(crate) fn feed(&mut self, alloc: Global, bytes: &[u8]) -> Result<(), FeedFault>
+        requires { (blocks : Blocks) × IsSomeHeld self.old blocks }
+        ensures fed { OnOk result (admission_of self.new ≡ fed_now bytes.now (admission_of self.old)) }
+        ensures allowed { OnOk result (feed_refusal_of (Some (admission_of self.old)) (length bytes.now) ≡ None) }
+        ensures refused { IfErr result (λ fault. fault ≢ HostMemory
+            → feed_refusal_of (Some (admission_of self.old)) (length bytes.now) ≡ Some fault) }
+        ensures memory { result ≡ Err HostMemory → feed_refusal_of (Some (admission_of self.old)) (length bytes.now) ≡ None }
+        ensures nothing { bytes.now ≡ [] → IsOk result }
+        ensures held { StaysHeld self.old self.new }
+        ensures cells { self.new.guest.held.cells ≡ self.old.guest.held.cells }
+        ensures same { OnErr result (admission_of self.new ≡ admission_of self.old) }
     {
-        Observation {
-            verdicts: &self.verdicts,
-            steps: self.steps,
-            output: self.guest.output(),
-            throws: self.guest.throws(),
-            last: self.guest.last(),
-            end: self.guest.end(),
+        if bytes.len() > INPUT_BYTES - self.came {
+            return Err(FeedFault::InputTooLong);
+        }
+        if bytes.is_empty() {
+            return Ok(());
+        }
+        match self.join(alloc, bytes) {
+            Ok(()) => Ok(()),
+            Err(_) => Err(FeedFault::HostMemory),
         }
     }
 }

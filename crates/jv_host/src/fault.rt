@@ -1,7 +1,7 @@
 //! Why the host refused a call.
 
 ghost use Rattle.std.specs.Prelude.{◌≡◌, Some, codes};
-ghost use Rattle.jv_host.specs.Fault.{admit_fault_name, turn_fault_name};
+ghost use Rattle.jv_host.specs.Fault.{admit_fault_name, turn_fault_name, feed_fault_name};
 
 use std::fmt;
 
@@ -11,7 +11,7 @@ use std::fmt;
 pub enum AdmitFault {
     /// There is no file.
     NoFiles,
-    /// There is more than one file.
+    /// There are more than 1,024 files.
     TooManyFiles,
     /// A file has more than 4,194,304 bytes.
     FileTooLong,
@@ -20,7 +20,7 @@ pub enum AdmitFault {
     /// The cells are not 64 to 16,777,216, the words not 64 to 1,048,576, or the output bytes more
     /// than 1,048,576.
     BudgetOutOfRange,
-    /// The host holds a guest.
+    /// The host holds 64 guests.
     TooManyGuests,
     /// The host's memory was refused.
     HostMemory,
@@ -31,10 +31,21 @@ pub enum AdmitFault {
 pub enum TurnFault {
     /// No guest has this number.
     NoGuest,
-    /// The guest's machine meets a fault in the next step.
-    Stuck(u64),
     /// The host's memory was refused in the next step.
     HostMemory(u64),
+}
+
+/// Why bytes did not come to a guest's input, the first that applies. A refused feed leaves the host
+/// as it was.
+#[derive(Clone, Copy)]
+pub enum FeedFault {
+    /// No guest has this number.
+    NoGuest,
+    /// With these there would be more than 16,777,216 bytes, the input at admission and all feeds
+    /// together.
+    InputTooLong,
+    /// The host's memory was refused.
+    HostMemory,
 }
 
 /// No guest has this number.
@@ -65,8 +76,20 @@ impl TurnFault {
     {
         match self {
             TurnFault::NoGuest => "NoGuest",
-            TurnFault::Stuck(_) => "Stuck",
             TurnFault::HostMemory(_) => "HostMemory",
+        }
+    }
+}
+
+impl FeedFault {
+    /// Its name, which is also what `Display` writes.
+    pub fn name(self) -> &'static str
+        ensures { result.now ≡ feed_fault_name self }
+    {
+        match self {
+            FeedFault::NoGuest => "NoGuest",
+            FeedFault::InputTooLong => "InputTooLong",
+            FeedFault::HostMemory => "HostMemory",
         }
     }
 }
@@ -82,6 +105,15 @@ impl fmt::Display for AdmitFault {
 
 impl fmt::Display for TurnFault {
     ghost output = { λ fault. Some (turn_fault_name fault) };
+
+    fn fmt<W: fmt::Write>(&self, f: &mut fmt::Formatter<W>) -> fmt::Result {
+        let name = self.name();
+        write!(f, "{name}")
+    }
+}
+
+impl fmt::Display for FeedFault {
+    ghost output = { λ fault. Some (feed_fault_name fault) };
 
     fn fmt<W: fmt::Write>(&self, f: &mut fmt::Formatter<W>) -> fmt::Result {
         let name = self.name();

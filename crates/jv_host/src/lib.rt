@@ -1,15 +1,18 @@
-//! The host: it admits guests, gives them turns, and shows what they show.
+//! The host: it admits guests that don't trust each other, gives them turns, feeds them, and shows what they show.
 //!
-//! What it shows of a guest is what that guest's own files, main class name and budget give on the
-//! machine alone, after as many of its own steps. Until the machine is whole, that is the thin
-//! machine, and the host takes one guest of one class file.
+//! What it shows of a guest is what that guest's own files, main class name, input, feeds and budget give on the machine alone, after as
+//! many of its own steps: whatever the other guests are and do, and whenever they do it.
 #![tactic(auto)]
 
 mod admission;
 mod fault;
+mod files;
 mod host;
 mod limits;
-mod run;
+mod rounds;
 
-pub use fault::{AdmitFault, NoGuest, TurnFault};
+pub use fault::{AdmitFault, FeedFault, NoGuest, TurnFault};
+pub use files::GuestFiles;
 pub use host::{GuestId, Host};
+pub use jv_interp::{GuestEnd, Observation};
+pub use jv_interp_start::Budget;

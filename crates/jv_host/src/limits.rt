@@ -2,24 +2,26 @@
 
 ghost use Rattle.std.specs.Prelude.{◌≡◌, ◌==◌, nat_lt, length};
 ghost use Rattle.std.specs.List.{list_any};
-ghost use Rattle.jv_meaning.specs.Guest.{guest_of};
+ghost use Rattle.jv_host.specs.Files.{guest_of};
+ghost use Rattle.jv_interp_start.specs.Started.{budget_of};
 ghost use Rattle.jv_format.specs.Numbers.{is_from_to};
 ghost use Rattle.jv_host.specs.Limits.{first_refusal, is_long_file, is_in_range};
 
 use crate::fault::AdmitFault;
-use jv_meaning::{Budget, GuestFiles};
+use crate::files::GuestFiles;
+use jv_interp_start::Budget;
 
 /// The most files of a guest.
-const FILES: usize = 1;
+const FILES: usize = 1_024;
 
 /// The most bytes of a file.
 const FILE_BYTES: usize = 4_194_304;
 
-/// The most bytes of a guest's input.
-const INPUT_BYTES: usize = 16_777_216;
+/// The most bytes of a guest's input, at admission and by all feeds together.
+pub(crate) const INPUT_BYTES: usize = 16_777_216;
 
 /// The most guests.
-const GUESTS: usize = 1;
+const GUESTS: usize = 64;
 
 fn is_from_to(least: u32, most: u32, n: u32) -> bool
     ensures { result ≡ is_from_to least most n }
@@ -29,7 +31,7 @@ fn is_from_to(least: u32, most: u32, n: u32) -> bool
 
 /// Whether each number of a budget is one that a guest may have.
 fn is_in_range(budget: Budget) -> bool
-    ensures { result ≡ is_in_range budget }
+    ensures { result ≡ is_in_range (budget_of budget) }
 {
     is_from_to(64, 16_777_216, budget.cells)
         && is_from_to(64, 1_048_576, budget.words)
@@ -57,12 +59,12 @@ fn has_no_files(files: &GuestFiles<'_>) -> bool
 }
 
 fn has_too_many_files(files: &GuestFiles<'_>) -> bool
-    ensures { result ≡ nat_lt 1 (length (guest_of files.now).files) }
+    ensures { result ≡ nat_lt 1024 (length (guest_of files.now).files) }
 {
     files.files.len() > FILES
 }
 
-#[tactic(auto, using(crate::proofs::Files::any_long_file))]
+#[tactic(auto, using(crate::proofs::LongFiles::any_long_file))]
 fn has_long_file(files: &GuestFiles<'_>) -> bool
     ensures { result ≡ list_any is_long_file (guest_of files.now).files }
 {
@@ -81,7 +83,7 @@ pub(crate) fn first_refusal(
     budget: Budget,
     guests: usize,
 ) -> Option<AdmitFault>
-    ensures { result ≡ first_refusal (guest_of files.now) budget guests }
+    ensures { result ≡ first_refusal (guest_of files.now) (budget_of budget) guests }
 {
     if has_no_files(files) {
         Some(AdmitFault::NoFiles)

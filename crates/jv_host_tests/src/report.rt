@@ -1,6 +1,7 @@
 //! What no clause says: that the definitions of the printed text are those that are meant.
 
-use jv_meaning::{End, Observation, Verdict};
+use jv_interp::{GuestEnd, Observation};
+use jv_meaning_typing::{Verdict, VerifyFault, VerifyRule};
 use jv_run::{Escaped, Report};
 use std::alloc::{AllocError, Global};
 
@@ -37,10 +38,15 @@ fn report_with(
     alloc: Global,
     throws: u64,
     last: Option<&[u8]>,
-    end: End<&[u8]>,
+    end: GuestEnd<'_>,
 ) -> Result<String, AllocError> {
     let names: [&[u8]; 2] = [b"A.class", b"\xc3.class"];
-    let verdicts = [Verdict::Accepted, Verdict::Unsupported];
+    let fault = VerifyFault {
+        method: 2,
+        offset: 17,
+        rule: VerifyRule::Instruction,
+    };
+    let verdicts = [Verdict::Accepted, Verdict::Verify(fault)];
     let seen = Observation {
         verdicts: verdicts.as_slice(),
         steps: 18_446_744_073_709_551_615,
@@ -50,7 +56,8 @@ fn report_with(
         end,
     };
     let report = Report {
-        folder: b"a\\b",
+        number: 12,
+        word: b"a\\b",
         names: names.as_slice(),
         seen,
     };
@@ -59,9 +66,10 @@ fn report_with(
 
 /// The report that is wanted there.
 fn wanted(alloc: Global, throws: &str, end: &str) -> Result<String, AllocError> {
-    let head = "guest 1 a\\x5cb\n  A.class: Accepted\n  \\xc3.class: Unsupported\n";
+    let head = "guest 12 a\\x5cb\n  A.class: Accepted\n";
+    let verdict = "  \\xc3.class: Verify method 2 offset 17 rule 6\n";
     let steps = "  steps 18446744073709551615\n";
-    format!(in alloc; "{head}{steps}  throws {throws}\n  output 0:\n  end {end}\n")
+    format!(in alloc; "{head}{verdict}{steps}  throws {throws}\n  output 0:\n  end {end}\n")
 }
 
 /// Whether the report on such a guest has these texts.
@@ -69,7 +77,7 @@ fn is_reported(
     alloc: Global,
     throws: u64,
     last: Option<&[u8]>,
-    end: End<&[u8]>,
+    end: GuestEnd<'_>,
     texts: (&str, &str),
 ) -> bool {
     let (throws_text, end_text) = texts;
@@ -85,11 +93,11 @@ fn is_reported(
 #[test]
 fn reports(rt: HostRuntime) {
     let alloc = rt.alloc();
-    assert!(rt; is_reported(alloc, 0, None, End::Running, ("0", "Running")));
+    assert!(rt; is_reported(alloc, 0, None, GuestEnd::Running, ("0", "Running")));
     let texts = (
         "12 last java/lang/OutOfMemoryError",
         "Threw java/lang/OutOfMemoryError",
     );
-    assert!(rt; is_reported(alloc, 12, Some(ERROR), End::Threw(ERROR), texts));
-    assert!(rt; is_reported(alloc, 0, None, End::NoMain, ("0", "NoMain")));
+    assert!(rt; is_reported(alloc, 12, Some(ERROR), GuestEnd::Threw(ERROR), texts));
+    assert!(rt; is_reported(alloc, 0, None, GuestEnd::NoMain, ("0", "NoMain")));
 }

@@ -1,3 +1,6 @@
-pub mod Stacks
-pub mod Steps
-pub mod Lines
+pub mod Safe
+pub mod Later
+pub mod Fed
+pub mod Shown
+pub mod Elsewhere
+pub mod Begun

@@ -1,2 +1,3 @@
-pub mod Inside
-pub mod Thin
+pub mod Standing
+pub mod Beginning
+pub mod Showing

@@ -1,6 +1,13 @@
-//! The interpreter, over words without tags.
-//!
-//! Until the machine is whole, `thin` runs the classes of the thin machine.
+//! A guest (JVMS 2.5, 5.2): made at its start, run, fed, and what it shows.
 #![tactic(auto)]
 
-pub mod thin;
+mod beginning;
+mod feeding;
+mod guest;
+mod observation;
+mod turns;
+
+pub use guest::Guest;
+pub use jv_interp_runs::Turn;
+pub use jv_interp_start::Budget;
+pub use observation::{GuestEnd, Observation};

@@ -1,4 +1,8 @@
+pub mod Admitted
+pub mod Alone
 pub mod ClassFileNames
 pub mod Lines
-pub mod Outcomes
-pub mod Turns
+pub mod Places
+pub mod Read
+pub mod Reports
+pub mod Rounds

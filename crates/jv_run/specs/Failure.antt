@@ -4,25 +4,23 @@ use Rattle.jv_host.specs.declared.fault.AdmitFault.{AdmitFault}
 use Rattle.jv_host.specs.declared.fault.AdmitFault.TheVariants as refusals
 use Rattle.jv_host.specs.Fault.{admit_fault_name}
 use Rattle.jv_run.specs.declared.failure.Failure.{Failure}
-use Rattle.jv_run.specs.declared.failure.Failure.TheVariants.{Unreadable, Refused, Stuck, HostMemory, SystemBroken, Memory}
+use Rattle.jv_run.specs.declared.failure.Failure.TheVariants.{Unreadable, Refused, TooManyFolders, HostMemory, Memory}
 use Rattle.jv_run.specs.Escape.{escaped_text}
 
--- 4 where memory was refused, a step is stuck or the system is broken, and else 3
+-- 2 for too many folders, 3 for what can't be read or is refused, and 4 where memory was refused
 abbrev pub failure_status : Failure → ℕ
 failure_status (Unreadable name) = 3
 failure_status (Refused fault) = 3
-failure_status Stuck = 4
+failure_status TooManyFolders = 2
 failure_status HostMemory = 4
-failure_status SystemBroken = 4
 failure_status Memory = 4
 
 -- the reason, as it is printed
 abbrev pub failure_reason : Failure → List ℕ
 failure_reason (Unreadable name) = escaped_text name.items ++ codes ": cannot be read"
 failure_reason (Refused fault) = admit_fault_name fault
-failure_reason Stuck = codes "Stuck"
+failure_reason TooManyFolders = codes "TooManyGuests"
 failure_reason HostMemory = codes "HostMemory"
-failure_reason SystemBroken = codes "SystemBroken"
 failure_reason Memory = codes "Memory"
 
 -- the line on standard error
@@ -39,3 +37,9 @@ abbrev pub IsUnread : List ℕ → Failure → Type 0
 IsUnread name (Unreadable unread) = unread.items ≡ name
 IsUnread name Memory = ⊤
 IsUnread name failure = ⊥
+
+-- why some file was not read: it can't be, or the program's memory was refused
+abbrev pub IsNotRead : Failure → Type 0
+IsNotRead (Unreadable unread) = ⊤
+IsNotRead Memory = ⊤
+IsNotRead failure = ⊥

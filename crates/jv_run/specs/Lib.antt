@@ -1,8 +1,12 @@
+pub mod Bytes
 pub mod Escape
 pub mod Failure
 pub mod Folder
 pub mod Inside
 pub mod MainName
+pub mod Named
 pub mod Names
 pub mod Outcome
 pub mod Report
+pub mod Settings
+pub mod Verdict

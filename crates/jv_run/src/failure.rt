@@ -15,12 +15,10 @@ pub enum Failure {
     Unreadable(Vec<u8>),
     /// The host did not admit the guest.
     Refused(AdmitFault),
-    /// The guest's machine meets a fault.
-    Stuck,
+    /// There are more folders than the host takes guests.
+    TooManyFolders,
     /// The host's memory was refused.
     HostMemory,
-    /// A class of the system is not accepted.
-    SystemBroken,
     /// The program's own memory was refused.
     Memory,
 }
@@ -30,8 +28,9 @@ pub fn status_of(failure: &Failure) -> u8
     ensures { result ≡ failure_status failure.now }
 {
     match failure {
+        Failure::TooManyFolders => 2,
         Failure::Unreadable(_) | Failure::Refused(_) => 3,
-        Failure::Stuck | Failure::HostMemory | Failure::SystemBroken | Failure::Memory => 4,
+        Failure::HostMemory | Failure::Memory => 4,
     }
 }
 
@@ -45,9 +44,8 @@ impl fmt::Display for Failure {
                 write!(f, "jvhost: {name}: cannot be read\n")
             }
             Failure::Refused(fault) => write!(f, "jvhost: {fault}\n"),
-            Failure::Stuck => f.write_str("jvhost: Stuck\n"),
+            Failure::TooManyFolders => f.write_str("jvhost: TooManyGuests\n"),
             Failure::HostMemory => f.write_str("jvhost: HostMemory\n"),
-            Failure::SystemBroken => f.write_str("jvhost: SystemBroken\n"),
             Failure::Memory => f.write_str("jvhost: Memory\n"),
         }
     }

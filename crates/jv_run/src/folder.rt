@@ -1,10 +1,10 @@
 //! What a folder holds of a guest.
 ghost use Rattle.std.specs.Prelude.{◌≡◌, ◌≢◌, ◌≤◌, ◌+◌, ◌<◌, ◌^◌, [], ◌∷◌, ◌++◌, ℕ, All, IfErr, IfOk, List, codes, false, map, vec_len};
 ghost use Rattle.std.specs.IoError.{error_kind};
-ghost use Rattle.jv_meaning.specs.Guest.{bytes_of};
-ghost use Rattle.jv_run.specs.Failure.{IsUnread};
-ghost use Rattle.jv_run.specs.Folder.{AreClassFilesOf, IsFolderOf, IsReadUpToLimit, file_name};
-ghost use Rattle.jv_run.specs.Names.{is_listed_name, names_listed};
+ghost use Rattle.jv_run.specs.Bytes.{bytes_of};
+ghost use Rattle.jv_run.specs.Failure.{IsNotRead, IsUnread};
+ghost use Rattle.jv_run.specs.Folder.{AreClassFilesOf, IsFolderOf, IsFolderRead, IsReadUpToLimit, file_name};
+ghost use Rattle.jv_run.specs.Names.{is_listed_name};
 
 use crate::failure::Failure;
 use crate::file::read_past_limit;
@@ -34,7 +34,9 @@ pub struct NamedFile {
 
 /// What a folder holds of a guest.
 #[derive(Drop)]
-pub struct Folder {
+pub struct Folder<'a> {
+    /// The word for it, as it was given.
+    pub word: &'a str,
     /// Its class files, in byte order of their names.
     pub class_files: Vec<NamedFile>,
     /// The bytes of its file `main`.
@@ -86,7 +88,8 @@ fn read_file<R: Files + AllocGlobal>(
     limit: usize,
 ) -> Result<Vec<u8>, Failure>
     requires { limit + 2 < 2 ^ 64 }
-    ensures { IfOk result (λ bytes. vec_len bytes ≤ limit + 1) }
+    ensures most { IfOk result (λ bytes. vec_len bytes ≤ limit + 1) }
+    ensures err { IfErr result IsNotRead }
 {
     let path = path_in(rt.alloc(), folder, name)?;
     match bytes_at(rt, path.as_slice(), limit) {
@@ -106,7 +109,9 @@ fn listing_at<R: Files + AllocGlobal>(rt: &R, folder: &str) -> io::Result<Vec<u8
 }
 
 /// The listing of a folder, or the failure that names the folder.
-fn read_listing<R: Files + AllocGlobal>(rt: &R, folder: &str) -> Result<Vec<u8>, Failure> {
+fn read_listing<R: Files + AllocGlobal>(rt: &R, folder: &str) -> Result<Vec<u8>, Failure>
+    ensures err { IfErr result IsNotRead }
+{
     match listing_at(rt, folder) {
         Ok(listing) => Ok(listing),
         Err(error) => {
@@ -124,6 +129,7 @@ fn read_class_file<R: Files + AllocGlobal>(
 ) -> Result<NamedFile, Failure>
     ensures named { IfOk result (λ file. file_name file ≡ name.now) }
     ensures most { IfOk result IsReadUpToLimit }
+    ensures err { IfErr result IsNotRead }
 {
     let bytes = read_file(rt, folder, name, CLASS_FILE_LIMIT)?;
     let name = Vec::from_slice(rt.alloc(), name)?;
@@ -156,6 +162,7 @@ fn read_class_files<R: Files + AllocGlobal>(
 ) -> Result<Vec<NamedFile>, Failure>
     ensures named { IfOk result (λ files. map file_name files.items ≡ map bytes_of names.now) }
     ensures most { IfOk result (λ files. All IsReadUpToLimit files.items) }
+    ensures err { IfErr result IsNotRead }
 {
     let mut class_files = Vec::new(rt.alloc());
     for name in names {
@@ -171,7 +178,8 @@ fn read_class_files_among<R: Files + AllocGlobal>(
     folder: &str,
     names: &[&[u8]],
 ) -> Result<Vec<NamedFile>, Failure>
-    ensures { IfOk result (λ files. AreClassFilesOf (map bytes_of names.now) files.items) }
+    ensures ok { IfOk result (λ files. AreClassFilesOf (map bytes_of names.now) files.items) }
+    ensures err { IfErr result IsNotRead }
 {
     let class_names = class_file_names(rt.alloc(), names)?;
     read_class_files(rt, folder, class_names.as_slice())
@@ -179,7 +187,8 @@ fn read_class_files_among<R: Files + AllocGlobal>(
 
 /// The bytes of the file `main`; one that is longer than the limit can't be read.
 fn read_main<R: Files + AllocGlobal>(rt: &R, folder: &str) -> Result<Vec<u8>, Failure>
-    ensures { IfOk result (λ main. vec_len main ≤ 4194304) }
+    ensures most { IfOk result (λ main. vec_len main ≤ 4194304) }
+    ensures err { IfErr result IsNotRead }
 {
     let main = read_file(rt, folder, b"main", CLASS_FILE_LIMIT)?;
     if main.len() > CLASS_FILE_LIMIT {
@@ -197,6 +206,7 @@ fn read_input<R: Files + AllocGlobal>(
     ensures most { IfOk result (λ input. vec_len input ≤ 16777217) }
     ensures absent { is_listed_name (codes "input") (map bytes_of names.now) ≡ false
         → IfOk result (λ input. input.items ≡ []) }
+    ensures err { IfErr result IsNotRead }
 {
     if is_listed_name(names, b"input") {
         read_file(rt, folder, b"input", INPUT_LIMIT)
@@ -206,29 +216,33 @@ fn read_input<R: Files + AllocGlobal>(
 }
 
 /// Reads what a folder whose listing has these names holds of a guest.
-fn read_files<R: Files + AllocGlobal>(
+fn read_files<'a, R: Files + AllocGlobal>(
     rt: &R,
-    folder: &str,
+    word: &'a str,
     names: &[&[u8]],
-) -> Result<Folder, Failure>
-    ensures { IfOk result (λ found. IsFolderOf (map bytes_of names.now) found) }
+) -> Result<Folder<'a>, Failure>
+    ensures word { IfOk result (λ found. found.word.now ≡ word.now) }
+    ensures files { IfOk result (λ found. IsFolderOf (map bytes_of names.now) found) }
+    ensures err { IfErr result IsNotRead }
 {
-    let class_files = read_class_files_among(rt, folder, names)?;
-    let main = read_main(rt, folder)?;
-    let input = read_input(rt, folder, names)?;
+    let class_files = read_class_files_among(rt, word, names)?;
+    let main = read_main(rt, word)?;
+    let input = read_input(rt, word, names)?;
     Ok(Folder {
+        word,
         class_files,
         main,
         input,
     })
 }
 
-/// Reads a folder: its listing, its class files in byte order of their names, its file `main`, and
-/// its file `input` where there is one. What fails first is the failure.
-pub fn read_folder<R: Files + AllocGlobal>(rt: &R, folder: &str) -> Result<Folder, Failure>
-    ensures { IfOk result (λ found. (listing : List ℕ) × IsFolderOf (names_listed listing) found) }
+/// Reads the folder of a word: its listing, its class files in byte order of their names, its file `main`, and its file
+/// `input` where there is one. What fails first is the failure.
+pub fn read_folder<'a, R: Files + AllocGlobal>(rt: &R, word: &'a str) -> Result<Folder<'a>, Failure>
+    ensures ok { IfOk result (IsFolderRead word.now) }
+    ensures err { IfErr result IsNotRead }
 {
-    let listing = read_listing(rt, folder)?;
+    let listing = read_listing(rt, word)?;
     let names = names_in(rt.alloc(), listing.as_slice())?;
-    read_files(rt, folder, names.as_slice())
+    read_files(rt, word, names.as_slice())
 }

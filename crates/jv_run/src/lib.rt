@@ -1,20 +1,27 @@
-//! A private part of the program `jvhost`: reads a folder, runs its guest, and reports it.
+//! A private part of the program `jvhost`: reads folders, runs their guests in one host, and reports them.
 #![tactic(auto)]
 
+mod brought;
 mod escape;
 mod failure;
 mod file;
 mod folder;
 mod main_name;
+mod named;
 mod names;
 mod outcome;
 mod play;
 mod report;
+mod settings;
+mod verdict;
 
 pub use escape::Escaped;
 pub use failure::{Failure, status_of};
 pub use folder::{Folder, NamedFile, read_class, read_folder};
 pub use main_name::main_name_of;
+pub use named::{hashing_state, run_named};
 pub use names::{class_file_names, names_in};
-pub use outcome::{Outcome, run_folder};
+pub use outcome::{Outcome, run_folders};
 pub use report::Report;
+pub use settings::{Settings, default_settings};
+pub use verdict::ShownVerdict;

@@ -1,23 +1,67 @@
-//! A guest's turns.
-ghost use Rattle.std.specs.Prelude.{◌≡◌, ◌≢◌, ◌+◌, ◌<◌, ◌^◌, ◌↔◌, ℕ, IfErr, IfOk, IfSome, IsSome, IsTrue, OnOk, slice_get};
-ghost use Rattle.jv_meaning.specs.Guest.{Observed, ending_of, observed_of};
-ghost use Rattle.jv_meaning.specs.declared.observation.End.TheVariants.{Running};
-ghost use Rattle.jv_host.specs.Calls.{IsShown, IsTurn};
-ghost use Rattle.jv_run.specs.Inside.Play.{IsPlayed, IsPlayFailure};
+//! Guests in a host, and their turns.
+ghost use Rattle.std.specs.Prelude.{◌≡◌, ◌≤◌, ◌<◌, ◌+◌, [], ℕ, IfErr, IfOk, IsSome, IsTrue, OnOk, Some, length, map, slice_get};
+ghost use Rattle.jv_interp.specs.Showing.{observed_of};
+ghost use Rattle.jv_interp_start.specs.Started.{budget_of};
+ghost use Rattle.jv_host.specs.Calls.{IsRun, IsShown};
+ghost use Rattle.jv_run.specs.Inside.Brought.{named_guest_of};
+ghost use Rattle.jv_run.specs.Inside.Play.{AreReportsOn, HasRun, IsReportOn, at_start, told_of};
+ghost use Rattle.jv_run.specs.Outcome.{AreAllowed, IsGuestsFailure};
+ghost use Rattle.jv_run.specs.declared.failure.Failure.TheVariants.{HostMemory};
 
+use crate::brought::{Brought, guest_files};
 use crate::failure::Failure;
-use jv_host::{GuestId, Host, TurnFault};
-use jv_meaning::thin::law::shows_one_thing;
-use jv_meaning::{End, Observation};
+use crate::report::Report;
+use crate::settings::Settings;
+use jv_heap::Cells;
+use jv_host::{GuestId, Host};
+use jv_interp::Observation;
+use jv_interp_start::Budget;
+use std::alloc::{AllocError, Global};
 
-/// How many steps a turn has.
-const QUANTUM: u32 = 1_000;
+/// Admits guests to a host without guests, in their order.
+fn admit_all<'a>(
+    host: &mut Host<'a, Cells>,
+    guests: &'a [Brought<'_>],
+    budget: Budget,
+) -> Result<(), Failure>
+    requires { host.old ≡ [] }
+    ensures ok { OnOk result (host.new ≡ map (at_start (budget_of budget)) (map named_guest_of guests.now)) }
+    ensures allowed { OnOk result (AreAllowed (budget_of budget) (map named_guest_of guests.now) (length guests.now)) }
+    ensures err { IfErr result (IsGuestsFailure (budget_of budget) (map named_guest_of guests.now)) }
+{
+    for guest in guests {
+        host.admit(guest_files(guest), budget)?;
+    }
+    Ok(())
+}
 
-/// How many turns there are at most.
-const ROUNDS: u32 = 10_000;
+/// Gives the guests of a host their turns.
+fn run_all(host: &mut Host<'_, Cells>, settings: Settings) -> Result<(), Failure>
+    ensures ok { OnOk result ((m : ℕ) × IsRun settings.quantum settings.rounds host.old host.new m) }
+    ensures err { IfErr result (λ failure. failure ≡ HostMemory) }
+{
+    match host.run(settings.quantum, settings.rounds) {
+        Ok(_) => Ok(()),
+        Err(_) => Err(Failure::HostMemory),
+    }
+}
+
+/// Admits guests to a host without guests, in their order, and gives them their turns.
+pub(crate) fn play<'a>(
+    host: &mut Host<'a, Cells>,
+    guests: &'a [Brought<'_>],
+    settings: Settings,
+) -> Result<(), Failure>
+    requires { host.old ≡ [] }
+    ensures ok { OnOk result (HasRun settings (map named_guest_of guests.now) host.new) }
+    ensures err { IfErr result (IsGuestsFailure (budget_of settings.budget) (map named_guest_of guests.now)) }
+{
+    admit_all(host, guests, settings.budget)?;
+    run_all(host, settings)
+}
 
 /// What a guest of the host shows.
-pub fn observation_of<'h>(host: &'h Host<'_>, id: GuestId) -> Observation<'h>
+fn observation_of<'h>(host: &'h Host<'_, Cells>, id: GuestId) -> Observation<'h>
     requires { IsSome (slice_get host.now id.0) }
     ensures { IsShown host.now id.0 (observed_of result) }
 {
@@ -27,49 +71,38 @@ pub fn observation_of<'h>(host: &'h Host<'_>, id: GuestId) -> Observation<'h>
     seen
 }
 
-/// Whether a guest that ended so takes steps.
-fn is_no_end(end: End<&[u8]>) -> bool
-    ensures { IsTrue result ↔ (ending_of end.entry ≡ Running) }
+/// The report on a guest of the host.
+fn report_on<'h>(host: &'h Host<'_, Cells>, guest: &'h Brought<'_>, place: u32) -> Report<'h>
+    requires few { place < 64 }
+    requires there { IsSome (slice_get host.now place) }
+    ensures number { result.number ≡ place + 1 }
+    ensures word { result.word.now ≡ (named_guest_of guest.now).word }
+    ensures names { (told_of result).names ≡ (named_guest_of guest.now).names }
+    ensures shown { IsShown host.now place (told_of result).seen }
 {
-    matches!(end, End::Running)
-}
-
-/// Whether a guest of the host takes steps.
-fn is_running(host: &Host<'_>, id: GuestId) -> bool
-    requires { IsSome (slice_get host.now id.0) }
-    ensures { (o : Observed) × IsShown host.now id.0 o × (IsTrue result ↔ (o.end ≡ Running)) }
-{
-    let seen = observation_of(host, id);
-    is_no_end(seen.end)
-}
-
-/// Gives a guest of the host one turn.
-fn take_turn(host: &mut Host<'_>, id: GuestId) -> Result<u64, Failure>
-    requires { IsSome (slice_get host.old id.0) }
-    ensures ok { IfOk result (λ k. IsTurn host.old host.new id.0 1000 k) }
-    ensures countable { IfOk result (λ k. IfSome (slice_get host.old id.0) (λ a. a.steps + k < 2 ^ 64)) }
-    ensures err { IfErr result (λ failure. IsPlayFailure host.old id.0 1000 failure) }
-{
-    match host.turn(id, QUANTUM) {
-        Ok(taken) => Ok(taken),
-        Err(TurnFault::NoGuest) => unreachable!(),
-        Err(TurnFault::Stuck(_)) => Err(Failure::Stuck),
-        Err(TurnFault::HostMemory(_)) => Err(Failure::HostMemory),
+    Report {
+        number: place + 1,
+        word: guest.word,
+        names: guest.names.as_slice(),
+        seen: observation_of(host, GuestId(place)),
     }
 }
 
-/// Gives a guest of the host turns until it has ended, or has had as many as there are.
-pub fn play(host: &mut Host<'_>, id: GuestId) -> Result<(), Failure>
-    requires { IsSome (slice_get host.old id.0) }
-    ensures ok { OnOk result (IsPlayed host.old host.new id.0) }
-    ensures err { IfErr result (λ failure. IsPlayFailure host.old id.0 10000000 failure) }
+/// The reports on the guests of a host.
+pub(crate) fn reports_on<'h>(
+    alloc: Global,
+    host: &'h Host<'_, Cells>,
+    guests: &'h [Brought<'_>],
+) -> Result<Vec<Report<'h>>, AllocError>
+    requires few { length guests.now ≤ 64 }
+    requires there { length host.now ≡ length guests.now }
+    ensures { IfOk result (λ reports.
+        AreReportsOn (map named_guest_of guests.now) host.now (length guests.now) (map told_of reports.items)) }
 {
-    shows_one_thing();
-    for _ in 0..ROUNDS {
-        if !is_running(host, id) {
-            break;
-        }
-        take_turn(host, id)?;
+    let mut reports = Vec::new(alloc);
+    for place in 0..guests.len() {
+        let report = report_on(host, &guests[place], place as u32);
+        reports.push(report)?;
     }
-    Ok(())
+    Ok(reports)
 }

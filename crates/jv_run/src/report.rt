@@ -1,21 +1,35 @@
-//! The report on a guest.
-ghost use Rattle.std.specs.Prelude.{◌≡◌, Some};
-ghost use Rattle.jv_run.specs.Report.{ending_text, output_text, report_text, throws_text, verdict_line, verdict_lines, verdict_name_of};
+//! The report on guests.
+ghost use Rattle.std.specs.Prelude.{◌≡◌, Some, map};
+ghost use Rattle.std.specs.List.{list_any};
+ghost use Rattle.std.specs.Option.{option_map};
+ghost use Rattle.jv_interp.specs.Showing.{bytes_seen, seen_end};
+ghost use Rattle.jv_run.specs.Bytes.{bytes_of};
+ghost use Rattle.jv_run.specs.Report.{ending_text, heading_text, output_text, throws_text, verdict_line, verdict_lines};
+ghost use Rattle.jv_run.specs.Report.{is_running, report_text, run_status, told_text};
+ghost use Rattle.jv_run.specs.Inside.Play.{told_of};
 
 use crate::escape::Escaped;
-use jv_meaning::{End, Observation, Verdict};
+use crate::verdict::ShownVerdict;
+use jv_interp::{GuestEnd, Observation};
+use jv_meaning_typing::Verdict;
 use std::fmt;
 
-/// The report on the guest of a folder.
+/// The report on a guest.
 #[derive(Clone, Copy)]
 pub struct Report<'a> {
-    /// The folder's word, as it was given.
-    pub folder: &'a [u8],
-    /// The names of the guest's class files.
+    /// Its number, the first's being 1.
+    pub number: u32,
+    /// The word for its folder, as it was given.
+    pub word: &'a [u8],
+    /// The names of its class files.
     pub names: &'a [&'a [u8]],
-    /// What the guest showed.
+    /// What it showed.
     pub seen: Observation<'a>,
 }
+
+/// Reports, one behind the other.
+#[derive(Clone, Copy)]
+pub(crate) struct Reports<'a>(pub(crate) &'a [Report<'a>]);
 
 /// The line of a class file: its name and its verdict.
 #[derive(Clone, Copy)]
@@ -31,6 +45,13 @@ struct VerdictLines<'a> {
     verdicts: &'a [Verdict],
 }
 
+/// The number of a guest, and the word for its folder.
+#[derive(Clone, Copy)]
+struct Heading<'a> {
+    number: u32,
+    word: &'a [u8],
+}
+
 /// How often something was thrown, and what was thrown last.
 #[derive(Clone, Copy)]
 struct Throws<'a> {
@@ -44,18 +65,28 @@ struct Output<'a>(&'a [u8]);
 
 /// How a guest ended.
 #[derive(Clone, Copy)]
-struct Ending<'a>(End<&'a [u8]>);
+struct Ending<'a>(GuestEnd<'a>);
 
-/// The name of a verdict.
-fn verdict_name(verdict: Verdict) -> &'static str
-    ensures { result.now ≡ verdict_name_of verdict }
+/// Whether a guest that ended so takes steps.
+fn is_running(end: GuestEnd<'_>) -> bool
+    ensures { result ≡ is_running (seen_end end.entry) }
 {
-    match verdict {
-        Verdict::Version => "Version",
-        Verdict::Format => "Format",
-        Verdict::Unsupported => "Unsupported",
-        Verdict::Accepted => "Accepted",
-    }
+    matches!(end, GuestEnd::Running)
+}
+
+/// Whether one of the guests takes steps.
+fn any_runs(reports: &[Report<'_>]) -> bool
+    ensures { result ≡ list_any (λ report. is_running (seen_end report.seen.end)) reports.now }
+{
+    reports.iter().any(|report| is_running(report.seen.end))
+}
+
+/// The status that the program ends with after reports.
+#[tactic(auto, using(crate::proofs::Reports::any_told_runs))]
+pub(crate) fn status_after(reports: &[Report<'_>]) -> u8
+    ensures { result ≡ run_status (map told_of reports.now) }
+{
+    if any_runs(reports) { 5 } else { 0 }
 }
 
 impl fmt::Display for VerdictLine<'_> {
@@ -63,13 +94,13 @@ impl fmt::Display for VerdictLine<'_> {
 
     fn fmt<W: fmt::Write>(&self, f: &mut fmt::Formatter<W>) -> fmt::Result {
         let name = Escaped(self.name);
-        let verdict = verdict_name(self.verdict);
+        let verdict = ShownVerdict(self.verdict);
         write!(f, "  {name}: {verdict}\n")
     }
 }
 
 impl fmt::Display for VerdictLines<'_> {
-    ghost output = { λ lines. Some (verdict_lines lines.names.now lines.verdicts.now) };
+    ghost output = { λ lines. Some (verdict_lines (map bytes_of lines.names.now) lines.verdicts.now) };
 
     fn fmt<W: fmt::Write>(&self, f: &mut fmt::Formatter<W>) -> fmt::Result {
         for (name, verdict) in self.names.iter().zip(self.verdicts) {
@@ -83,8 +114,18 @@ impl fmt::Display for VerdictLines<'_> {
     }
 }
 
+impl fmt::Display for Heading<'_> {
+    ghost output = { λ heading. Some (heading_text heading.number heading.word.now) };
+
+    fn fmt<W: fmt::Write>(&self, f: &mut fmt::Formatter<W>) -> fmt::Result {
+        let number = self.number;
+        let word = Escaped(self.word);
+        write!(f, "{number} {word}")
+    }
+}
+
 impl fmt::Display for Throws<'_> {
-    ghost output = { λ throws. Some (throws_text throws.count throws.last) };
+    ghost output = { λ throws. Some (throws_text throws.count (option_map bytes_seen throws.last)) };
 
     fn fmt<W: fmt::Write>(&self, f: &mut fmt::Formatter<W>) -> fmt::Result {
         let count = self.count;
@@ -113,26 +154,29 @@ impl fmt::Display for Output<'_> {
 }
 
 impl fmt::Display for Ending<'_> {
-    ghost output = { λ ending. Some (ending_text ending.0) };
+    ghost output = { λ ending. Some (ending_text (seen_end ending.0)) };
 
     fn fmt<W: fmt::Write>(&self, f: &mut fmt::Formatter<W>) -> fmt::Result {
         match self.0 {
-            End::Running => f.write_str("Running"),
-            End::Returned => f.write_str("Returned"),
-            End::Threw(name) => {
+            GuestEnd::Running => f.write_str("Running"),
+            GuestEnd::Returned => f.write_str("Returned"),
+            GuestEnd::Threw(name) => {
                 let name = Escaped(name);
                 write!(f, "Threw {name}")
             }
-            End::NoMain => f.write_str("NoMain"),
+            GuestEnd::NoMain => f.write_str("NoMain"),
         }
     }
 }
 
 impl fmt::Display for Report<'_> {
-    ghost output = { λ report. Some (report_text report.folder.now report.names.now report.seen) };
+    ghost output = { λ report. Some (told_text (told_of report)) };
 
     fn fmt<W: fmt::Write>(&self, f: &mut fmt::Formatter<W>) -> fmt::Result {
-        let folder = Escaped(self.folder);
+        let heading = Heading {
+            number: self.number,
+            word: self.word,
+        };
         let lines = VerdictLines {
             names: self.names,
             verdicts: self.seen.verdicts,
@@ -146,7 +190,19 @@ impl fmt::Display for Report<'_> {
         let end = Ending(self.seen.end);
         write!(
             f,
-            "guest 1 {folder}\n{lines}  steps {steps}\n  throws {throws}\n  output {output}\n  end {end}\n"
+            "guest {heading}\n{lines}  steps {steps}\n  throws {throws}\n  output {output}\n  end {end}\n"
         )
+    }
+}
+
+impl fmt::Display for Reports<'_> {
+    ghost output = { λ reports. Some (report_text (map told_of reports.0.now)) };
+
+    fn fmt<W: fmt::Write>(&self, f: &mut fmt::Formatter<W>) -> fmt::Result {
+        let reports = self.0;
+        for report in reports {
+            write!(f, "{report}")?;
+        }
+        Ok(())
     }
 }

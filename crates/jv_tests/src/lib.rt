@@ -9,5 +9,3 @@ mod class;
 mod files;
 #[cfg(test)]
 mod pool;
-#[cfg(test)]
-mod thin;

@@ -6,8 +6,9 @@ ghost use Rattle.jv_status.specs.Status.{HasStatus};
 ghost use Rattle.jv_status.specs.declared.stop.Stop.TheVariants.{CommandLine, Run};
 
 use clap::error::ErrorKind;
-use clap::{Arg, ArgMatches, Command};
-use jv_run::Failure;
+use clap::{Arg, ArgMatches, Command, value_parser};
+use jv_interp_start::Budget;
+use jv_run::{Failure, Settings, default_settings};
 use jv_status::Stop;
 use std::alloc::{AllocError, Global};
 use std::rt::Env;
@@ -16,21 +17,53 @@ use std::{env, io};
 /// What the words of a command line ask for.
 #[derive(Drop)]
 pub(crate) enum Task<'a> {
-    /// To run the guest in the folder of this name.
-    Run(&'a str),
+    /// To run the guests in the folders of these names.
+    Run(Settings, Vec<&'a str>),
     /// To check the files of these names.
     Check(Vec<&'a str>),
 }
 
-/// The command `run FOLDER`.
+/// An option with a number of at least this much.
+fn number<'a>(alloc: Global, name: &'a str, least: u32, help: &'a str) -> Arg<'a> {
+    Arg::new(alloc, name)
+        .long(name)
+        .value_name("N")
+        .help(help)
+        .value_parser(value_parser!(u32).range(i64::from(least)..))
+}
+
+/// The command `run FOLDER...`, with the settings.
 fn run_command<'a>(alloc: Global) -> Result<Command<'a>, AllocError> {
     let folder = Arg::new(alloc, "folder")
         .value_name("FOLDER")
-        .help("The folder with the guest's class files and the file `main`")
-        .required(true);
+        .help("A folder with a guest's class files and the file `main`")
+        .required(true)
+        .num_args(1..);
     Command::new(alloc, "run")
-        .about("Runs the class files of a folder as one guest, and reports what it showed")
-        .arg(folder)
+        .about(
+            "Runs the class files of each folder as a guest of one host, and reports what they showed",
+        )
+        .arg(folder)?
+        .arg(number(
+            alloc,
+            "cells",
+            0,
+            "The cells of each guest's objects, else 65536",
+        ))?
+        .arg(number(
+            alloc,
+            "words",
+            0,
+            "The words of each guest's frames, else 65536",
+        ))?
+        .arg(number(
+            alloc,
+            "output",
+            0,
+            "The bytes that each guest may write, else 65536",
+        ))?
+        .arg(number(alloc, "quantum", 1, "The most steps of a turn, else 1000"))?
+        .arg(number(alloc, "rounds", 1, "The most rounds of turns, else 10000"))
 }
 
 /// The command `check FILE...`.
@@ -45,7 +78,7 @@ fn check_command<'a>(alloc: Global) -> Result<Command<'a>, AllocError> {
         .arg(file)
 }
 
-/// The program's command line: `jvhost run FOLDER`, or `jvhost check FILE...`.
+/// The program's command line: `jvhost run FOLDER...`, or `jvhost check FILE...`.
 fn command<'a>(alloc: Global) -> Result<Command<'a>, AllocError> {
     Command::new(alloc, "jvhost")
         .about("Checks and runs class files")
@@ -86,17 +119,42 @@ fn stop_of(error: clap::Error) -> Stop
     }
 }
 
-/// The files that the words behind `check` name.
-fn files_named<'a>(alloc: Global, check: &ArgMatches<'a>) -> Result<Vec<&'a str>, AllocError> {
-    Vec::from_slice(alloc, check.get_strs("file").unwrap_or(&[]))
+/// The words for an argument that takes several.
+fn words_for<'a>(
+    alloc: Global,
+    found: &ArgMatches<'a>,
+    id: &str,
+) -> Result<Vec<&'a str>, AllocError> {
+    Vec::from_slice(alloc, found.get_strs(id).unwrap_or(&[]))
+}
+
+/// The number of an option, or this one where it isn't there.
+fn number_for(found: &ArgMatches<'_>, id: &str, other: u32) -> u32 {
+    found.get_one::<u32>(id).unwrap_or(other)
+}
+
+/// The settings that the words behind `run` give.
+fn settings_in(found: &ArgMatches<'_>) -> Settings {
+    let usual = default_settings();
+    let budget = Budget {
+        cells: number_for(found, "cells", usual.budget.cells),
+        words: number_for(found, "words", usual.budget.words),
+        output: number_for(found, "output", usual.budget.output),
+    };
+    Settings {
+        budget,
+        quantum: number_for(found, "quantum", usual.quantum),
+        rounds: number_for(found, "rounds", usual.rounds),
+    }
 }
 
 /// What the words behind the name of a command ask for.
 fn task_in<'a>(alloc: Global, name: &str, found: &ArgMatches<'a>) -> Result<Task<'a>, AllocError> {
     if name == "check" {
-        Ok(Task::Check(files_named(alloc, found)?))
+        Ok(Task::Check(words_for(alloc, found, "file")?))
     } else {
-        Ok(Task::Run(found.get_str("folder").unwrap_or("")))
+        let folders = words_for(alloc, found, "folder")?;
+        Ok(Task::Run(settings_in(found), folders))
     }
 }
 
@@ -109,6 +167,6 @@ pub(crate) fn task_of<'a>(alloc: Global, words: &'a [String]) -> Result<Task<'a>
     };
     match matches.subcommand() {
         Some((name, found)) => Ok(task_in(alloc, name, found)?),
-        None => Ok(Task::Run("")),
+        None => Ok(Task::Check(Vec::new(alloc))),
     }
 }

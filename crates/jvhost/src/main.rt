@@ -1,27 +1,21 @@
-//! Checks class files, or runs those of a folder as one guest, and reports what was found.
+//! Checks class files, or runs those of folders as the guests of one host, and reports what was found.
 #![tactic(auto)]
 
 mod command_line;
 
 use crate::command_line::{Task, task_of, words};
 use jv_check::check_named;
-use jv_run::{Failure, Outcome, read_folder, run_folder};
+use jv_run::{Outcome, run_named};
 use jv_status::{Stop, status_of};
 use std::process::ExitCode;
 use std::random::RandomSource;
 use std::rt::{Env, Files};
 
-/// Runs the guest in the folder of this name.
-fn run_named<R: Files + AllocGlobal>(rt: &R, word: &str) -> Result<Outcome, Failure> {
-    let folder = read_folder(rt, word)?;
-    run_folder(rt.alloc(), word, &folder)
-}
-
 /// Does what the words of the command line say.
 fn carry_out<R: Files + Env + RandomSource + AllocGlobal>(rt: &R) -> Result<Outcome, Stop> {
     let words = words(rt)?;
     match task_of(rt.alloc(), words.as_slice())? {
-        Task::Run(word) => Ok(run_named(rt, word)?),
+        Task::Run(settings, words) => Ok(run_named(rt, settings, words.as_slice())?),
         Task::Check(names) => Ok(check_named(rt, names.as_slice())?),
     }
 }

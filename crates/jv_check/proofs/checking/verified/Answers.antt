@@ -1,6 +1,6 @@
 use Rattle.std.proofs.Common.{map}
 use Rattle.jv_loader.specs.Loading.{AreLoaded}
-use Rattle.jv_meaning.specs.Guest.{bytes_of}
+use Rattle.jv_run.specs.Bytes.{bytes_of}
 use Rattle.jv_check.proofs.checking.verified.Goals as goal
 
 pub returns : goal.returns

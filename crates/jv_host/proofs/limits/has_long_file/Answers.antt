@@ -1,5 +1,5 @@
 use Rattle.std.proofs.Common.{sym, ◌∙◌}
-use Rattle.jv_host.proofs.Files.{any_long_file}
+use Rattle.jv_host.proofs.LongFiles.{any_long_file}
 use Rattle.jv_host.proofs.limits.has_long_file.Goals as goal
 
 pub returns : goal.returns

@@ -1,50 +1,51 @@
-use Rattle.std.proofs.Common.{◌+◌, subst, inl, inr, arith}
-use Rattle.std.proofs.Math.Nat.{eq-or-lt_of_le}
-use Rattle.jv_meaning.specs.Guest.{guest_of}
-use Rattle.std.specs.Prelude.{IsErr}
-use Rattle.jv_meaning.specs.Thin.Machine.{next}
-use Rattle.jv_host.specs.Host.{Admission, WasRunning, IsFullTurn, IsStuckAfter}
-use Rattle.jv_host.proofs.Runs.{was_running, was_running_too, over_after, faults_after, admitted_after}
+use Rattle.std.proofs.Common.{◌≡◌, Bool, true, false, IsTrue, ◌-◌, refl, subst, arith}
+use Rattle.jv_interp.specs.Showing.{IsAnswered}
+use Rattle.jv_host.proofs.Turning.{had_turn, had_cut_turn, goes, admission_now, ended_now}
 use Rattle.jv_host.proofs.admission.Admitted.turn.Goals as goal
 
-pub invariant_of-self : goal.invariant_of-self
-invariant_of-self c =
-    let a = c.self.inside in
-    let old = c.self.invariant in
-    admitted_after (guest_of a.files) a.budget a.verdicts a.guest a.steps old c.in-Ok.taken c.take_steps.new.guest c.take_steps.ensures.program (c.in-Ok.ensures {u = tt}).ok
+pub returns-clause-goes : goal.returns-clause-goes
+returns-clause-goes g c =
+    goes c.one_judged.ensures c.ended_guest_stays.ensures c.args.self.now c.turn-turn.new.self (c.min-most.result - c.turn-turn.result.left) _ _ c.turn-turn.ensures.went
 
-pub invariant_of-self-in-Err : goal.invariant_of-self-in-Err
-invariant_of-self-in-Err c =
-    let a = c.self.inside in
-    let old = c.self.invariant in
-    admitted_after (guest_of a.files) a.budget a.verdicts a.guest a.steps old c.in-Err.stopped.taken c.take_steps.new.guest c.take_steps.ensures.program (c.in-Err.ensures {u = tt}).err
+pub returns-clause-after : goal.returns-clause-after
+returns-clause-after g c =
+    admission_now c.one_judged.ensures c.ended_guest_stays.ensures c.args.self.now c.turn-turn.new.self (c.min-most.result - c.turn-turn.result.left) _ _ c.turn-turn.ensures.went
+    c.requires.held.0 c.requires.held.1
 
-pub returns-in-Ok-clause-before : goal.returns-in-Ok-clause-before
-returns-in-Ok-clause-before c =
-    let a = c.self.inside in
-    subst (λ (b : Admission). WasRunning b c.in-Ok.taken) c.self.view_is
-    (was_running (guest_of a.files) a.budget a.verdicts a.guest a.steps c.self.invariant c.in-Ok.taken c.take_steps.new.guest.state (c.in-Ok.ensures {u = tt}).ok)
+pub returns-clause-had : goal.returns-clause-had
+returns-clause-had g c = λ whole.
+    let most = c.turn-turn.ensures.most in
+    let least = c.min-most.ensures in
+    let same = c.from.ensures in
+    let steps = c.steps.ensures in
+    let few = c.ranges.n.fits in
+    had_turn c.one_judged.ensures c.ended_guest_stays.ensures c.args.self.now c.turn-turn.new.self (c.min-most.result - c.turn-turn.result.left) _ _ c.turn-turn.ensures.went
+    c.requires.held.0 c.requires.held.1 c.args.n c.turn-turn.result.left c.turn-turn.ensures.running
+    (λ some. subst (λ (b : Bool). IsAnswered c.turn-turn.new.self b) (c.is_cut.ensures.over whole some) c.is_running.ensures)
+    (omega (arith, most, least, same)) (λ none less. omega (arith, none, less, most, least, same, steps)) (omega (arith, most, least, same, steps))
 
-pub returns-in-Ok-clause-full : goal.returns-in-Ok-clause-full
-returns-in-Ok-clause-full c =
-    let a = c.self.inside in
-    let k = c.in-Ok.taken in
-    subst (λ (b : Admission). IsFullTurn b c.args.n k) c.self.view_is (λ few.
-    elim (eq-or-lt_of_le (c.in-Ok.ensures {u = tt}).most) [
-      | inl same ↦ inr (omega (arith, same, few, c.min-most.ensures, c.from.ensures))
-      | inr less ↦ inl (over_after (guest_of a.files) a.budget a.verdicts a.guest a.steps c.self.invariant k c.take_steps.new.guest.state (c.in-Ok.ensures {u = tt}).ok ((c.in-Ok.ensures {u = tt}).all less))
-    ])
+pub returns-clause-cut : goal.returns-clause-cut
+returns-clause-cut g c = λ cut.
+    let most = c.turn-turn.ensures.most in
+    let least = c.min-most.ensures in
+    let same = c.from.ensures in
+    let steps = c.steps.ensures in
+    let left = c.is_cut.ensures.left cut in
+    had_cut_turn c.one_judged.ensures c.ended_guest_stays.ensures c.args.self.now c.turn-turn.new.self (c.min-most.result - c.turn-turn.result.left) _ _ c.turn-turn.ensures.went
+    c.requires.held.0 c.requires.held.1 c.args.n
+    (subst (λ (b : Bool). IsAnswered c.turn-turn.new.self b) (c.is_cut.ensures.running cut) c.is_running.ensures)
+    (omega (arith, most, least, same, left)) (omega (arith, most, least, same, steps, left))
 
-pub returns-in-Err-clause-running : goal.returns-in-Err-clause-running
-returns-in-Err-clause-running c =
-    let a = c.self.inside in
-    subst (λ (b : Admission). WasRunning b (c.in-Err.stopped.taken + 1)) c.self.view_is
-    (was_running_too (guest_of a.files) a.budget a.verdicts a.guest a.steps c.self.invariant c.in-Err.stopped.taken c.take_steps.new.guest.state (c.in-Err.ensures {u = tt}).err (c.in-Err.ensures {u = tt}).running)
-
-pub returns-in-Err-clause-stuck : goal.returns-in-Err-clause-stuck
-returns-in-Err-clause-stuck c = λ e.
-    let a = c.self.inside in
-    let stops = c.in-Err.ensures {u = tt} in
-    subst (λ (b : Admission). IsStuckAfter b c.in-Err.stopped.taken) c.self.view_is
-    (faults_after (guest_of a.files) a.budget a.verdicts a.guest a.steps c.self.invariant c.in-Err.stopped.taken c.take_steps.new.guest.state stops.err
-    (subst (λ p. IsErr (next p c.take_steps.new.guest.state)) c.take_steps.ensures.program (stops.stuck e)))
+pub returns-clause-sure : goal.returns-clause-sure
+returns-clause-sure g c = λ sure. by_result c.is_cut.result refl sure
+  where
+    by_result : (r : Bool) → c.is_cut.result ≡ r → IsTrue g.S.Store.SURE → c.is_cut.result ≡ false
+    by_result false is sure = is
+    by_result true is sure =
+        let cut : IsTrue c.is_cut.result = is in
+        let runs = c.is_cut.ensures.running cut in
+        let stops =
+        ended_now c.one_judged.ensures c.ended_guest_stays.ensures c.args.self.now c.turn-turn.new.self (c.min-most.result - c.turn-turn.result.left) _ _ c.turn-turn.ensures.went
+        c.requires.held.0 c.requires.held.1 c.is_running.result c.is_running.ensures
+        (c.turn-turn.ensures.ended (c.is_cut.ensures.left cut) (c.turn-turn.ensures.sure sure)) in
+        absurd cc

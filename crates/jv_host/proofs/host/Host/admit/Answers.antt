@@ -1,31 +1,49 @@
-use Rattle.std.proofs.lemmas.Grind.{common_steps}
-use Rattle.std.proofs.Common.{◌≡◌, List, [], ◌∷◌, ◌++◌, length, sym, ap, ◌∙◌, arith}
-use Rattle.jv_meaning.specs.Guest.{guest_of}
+use Rattle.std.proofs.Common.{◌≡◌, ℕ, List, [], ◌∷◌, ◌++◌, length, map, sym, ap, subst, ◌∙◌, arith}
+use Rattle.jv_interp_start.specs.Started.{budget_of}
+use Rattle.jv_host.specs.declared.admission.Admitted.{Admitted}
+use Rattle.jv_host.specs.Files.{guest_of}
 use Rattle.jv_host.specs.Host.{Admission}
-use Rattle.jv_host.specs.Calls.{admission}
-use Rattle.jv_host.specs.Inside.Admission.{guests_in}
-use Rattle.jv_host.proofs.Room.{none_held}
+use Rattle.jv_host.specs.Limits.{first_refusal}
+use Rattle.jv_host.specs.Inside.Holding.{admission_of, AreHeld}
+use Rattle.jv_host.proofs.Places.{count_of_map, map_of_more}
+use Rattle.jv_host.proofs.MayBegin.{few_guests}
+use Rattle.jv_host.proofs.Holdings.{one_more}
 use Rattle.jv_host.proofs.host.Host.admit.Goals as goal
-use Rattle.jv_host.proofs.host.Host.admit.Goals.{in-Some, in-None}
 
-pub new-requires : goal.new-requires
-new-requires c = grind (arith, common_steps)
+pub invariant_of-self-2 : goal.invariant_of-self-2
+invariant_of-self-2 g c =
+    let items = c.self.inside.guests.items in
+    let none = sym c.first_refusal.ensures ∙ c.in_default.is in
+    let few = few_guests (guest_of c.args.files) (budget_of c.args.budget) c.len-count.result none in
+    let count = c.len-count.ensures in
+    let size = c.self.inside.guests.ok.0 in
+    subst (λ (l : List Admitted). AreHeld l (g.S.Store.room_left c.begin.new.store) (g.S.Store.content c.begin.new.store))
+    (ap (λ (l : List Admitted). l ++ c.in-Ok-begin.admitted ∷ []) (sym {A = List Admitted} c.reserve.ensures.items)
+    ∙ sym {A = List Admitted} c.push_reserved.ensures.items)
+    (one_more items _ _ c.self.invariant _ c.in-Ok-begin.admitted _ _ (c.in-Ok-begin.ensures {u = tt}).begun (omega (arith, few, count, size))
+    (c.in-Ok-begin.ensures {u = tt}).room)
 
 pub returns-clause-number : goal.returns-clause-number
-returns-clause-number c =
-    let none : c.match-self.guests ≡ 0 = none_held (guest_of c.args.files) c.args.budget c.match-self.guests (sym c.first_refusal.ensures ∙ c.in_default.is) in
-    let empty : c.args.self.now ≡ [] = elim c.match-self.branch [
-      | in-Some w ↦ absurd (omega (arith, w.guests-is, none))
-      | in-None w ↦ sym c.self.view_is ∙ ap guests_in w.in-None.is
-    ] in
-    sym (ap length empty)
+returns-clause-number g c =
+    let count = c.len-count.ensures in
+    let size = c.self.inside.guests.ok.0 in
+    let same = count_of_map admission_of c.self.inside.guests.items in
+    let view = ap (λ (l : List Admission). length l) c.self.view_is in
+    omega (arith, count, size, same, view)
+
+pub returns-clause-allowed : goal.returns-clause-allowed
+returns-clause-allowed g c =
+    let count = c.len-count.ensures in
+    let size = c.self.inside.guests.ok.0 in
+    let same = count_of_map admission_of c.self.inside.guests.items in
+    let view = ap (λ (l : List Admission). length l) c.self.view_is in
+    let number : c.len-count.result ≡ length c.args.self.now = omega (arith, count, size, same, view) in
+    ap (λ (n : ℕ). first_refusal (guest_of c.args.files) (budget_of c.args.budget) n) (sym number) ∙ sym c.first_refusal.ensures ∙ c.in_default.is
 
 pub returns-clause-admitted : goal.returns-clause-admitted
-returns-clause-admitted c =
-    let none : c.match-self.guests ≡ 0 = none_held (guest_of c.args.files) c.args.budget c.match-self.guests (sym c.first_refusal.ensures ∙ c.in_default.is) in
-    let empty : c.args.self.now ≡ [] = elim c.match-self.branch [
-      | in-Some w ↦ absurd (omega (arith, w.guests-is, none))
-      | in-None w ↦ sym c.self.view_is ∙ ap guests_in w.in-None.is
-    ] in
-    ap (λ (a : Admission). a ∷ []) (c.in-Ok.ensures {u = tt})
-    ∙ ap (λ (gs : List Admission). gs ++ admission (guest_of c.args.files) c.args.budget ∷ []) (sym empty)
+returns-clause-admitted g c =
+    ap (λ (l : List Admitted). map admission_of l)
+    (c.push_reserved.ensures.items ∙ ap (λ (l : List Admitted). l ++ c.in-Ok-begin.admitted ∷ []) c.reserve.ensures.items)
+    ∙ map_of_more admission_of c.self.inside.guests.items c.in-Ok-begin.admitted
+    ∙ ap (λ (l : List Admission). l ++ admission_of c.in-Ok-begin.admitted ∷ []) c.self.view_is
+    ∙ ap (λ (a : Admission). c.args.self.now ++ a ∷ []) (c.in-Ok-begin.ensures {u = tt}).begun.admission_is

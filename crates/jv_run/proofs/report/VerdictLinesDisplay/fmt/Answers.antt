@@ -4,7 +4,7 @@ use Rattle.std.proofs.lemmas.Slice.Zip.{zip_turn, zip_end}
 use Rattle.std.specs.Iterator.Adapters.{zip_first, zip_second}
 use Rattle.std.specs.Slice.Iter.{iter_rest}
 use Rattle.jv_run.specs.Report.{verdict_lines}
-use Rattle.jv_run.proofs.Lines.{verdict_lines-more, verdict_lines-take, one_is_least}
+use Rattle.jv_run.proofs.Lines.{lines-more, lines-take, one_is_least}
 use Rattle.jv_run.proofs.report.VerdictLinesDisplay.fmt.Goals as goal
 
 pub loop-name-init : goal.loop-name-init
@@ -25,7 +25,7 @@ loop-name-preserved g c = λ plain.
     let so_far = c.loop-name.invariant plain in
     let line = c.in_ok-write.ensures.writes so_far.plain refl in
     rw one_more
-    (has_written_of_eq _ _ _ _ _ (verdict_lines-more (length c.loop-name.yielded) names verdicts c.in-Some.name.now c.in-Some.verdict.now turn.0 turn.1 turn.2 turn.3)
+    (has_written_of_eq _ _ _ _ _ (lines-more (length c.loop-name.yielded) names verdicts c.in-Some.name.now c.in-Some.verdict.now turn.0 turn.1 turn.2 turn.3)
     (has_written_append _ _ _ _ _ _ so_far line))
 
 -- as many lines as there are names, or verdicts
@@ -37,4 +37,4 @@ returns-clause-writes g c = λ plain _.
     let second : iter_rest (zip_second c.into_iter-name-iterator.result) ≡ verdicts = search rules in
     let count = zip_end names verdicts c.loop-name.yielded c.into_iter-name-iterator.result c.loop-name.name-iterator c.next.new.self
     c.next.result first second c.loop-name.yielded_by c.in-None.is c.next.ensures.steps in
-    has_written_of_eq _ _ _ _ _ (verdict_lines-take (length c.loop-name.yielded) names verdicts (one_is_least _ _ _ count)) (c.loop-name.invariant plain)
+    has_written_of_eq _ _ _ _ _ (lines-take (length c.loop-name.yielded) names verdicts (one_is_least _ _ _ count)) (c.loop-name.invariant plain)

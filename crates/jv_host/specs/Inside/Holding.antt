@@ -1,0 +1,78 @@
+-- What the code keeps of the guests that were admitted, over one store.
+use Rattle.std.specs.Prelude.{◌≡◌, ℕ, ◌+◌, ◌≤◌, List, [], ◌∷◌, ◌++◌, length, map, Some, slice_get}
+use Rattle.jv_meaning_machine.specs.Alone.{Feed}
+use Rattle.jv_interp_objects.specs.ObjectsInBlocks.{Blocks}
+use Rattle.jv_interp_memory.specs.Growing.{Grows}
+use Rattle.jv_interp_start.specs.Started.{budget_of}
+use Rattle.jv_interp.specs.Standing.{GuestStands, AreApart}
+use Rattle.jv_host.specs.declared.admission.Fed.{Fed}
+use Rattle.jv_host.specs.declared.admission.Admitted.{Admitted}
+use Rattle.jv_host.specs.Files.{guest_of}
+use Rattle.jv_host.specs.Host.{Admission, input_bytes}
+
+abbrev pub feed_of : Fed → Feed
+feed_of fed = record { own_step = fed.own_step; bytes = fed.bytes.items }
+
+abbrev pub admission_of : Admitted → Admission
+admission_of a = record {
+  guest = guest_of a.files;
+  budget = budget_of a.budget;
+  feeds = map feed_of a.feeds.items;
+  steps = a.guest.steps;
+}
+
+-- ---- one guest
+
+-- A guest stands, under addresses of the store, for itself alone after its own steps. It is known how many bytes came to its input.
+pub record IsHeld (a : Admitted) (addresses : List ℕ) (blocks : Blocks) : Type 0 where
+  pub stands : GuestStands (guest_of a.files) (budget_of a.budget) (map feed_of a.feeds.items) a.guest.steps addresses a.guest blocks
+  pub came : a.came ≡ input_bytes (admission_of a)
+  pub few : a.came ≤ 16777216
+
+abbrev pub IsSomeHeld : Admitted → Blocks → Type 0
+IsSomeHeld a blocks = (addresses : List ℕ) × IsHeld a addresses blocks
+
+-- What one guest did changes nothing of the blocks of others, and it stands after it under the same addresses and further ones.
+pub record Goes (after : Admitted) (addresses : List ℕ) (blocks blocks_after : Blocks) : Type 0 where
+  pub more : List ℕ
+  pub held : IsHeld after (addresses ++ more) blocks_after
+  pub grows : Grows addresses more blocks blocks_after
+
+abbrev pub GoesOn : Admitted → Admitted → Blocks → Blocks → Type 0
+GoesOn before after blocks blocks_after = (addresses : List ℕ) → IsHeld before addresses blocks → Goes after addresses blocks blocks_after
+
+-- ---- all guests
+
+abbrev pub cells_of : Admitted → ℕ
+cells_of a = a.guest.held.cells
+
+abbrev pub sum_over : {X : Type 0} → (X → ℕ) → List X → ℕ
+sum_over count [] = 0
+sum_over count (x ∷ xs) = count x + sum_over count xs
+
+-- the cells that they have left
+abbrev pub cells_left : List Admitted → ℕ
+cells_left guests = sum_over cells_of guests
+
+-- Each stands under addresses of its own, by its number; no two have one in common; and the store has room for their cells.
+pub record AreHeld (guests : List Admitted) (room : ℕ) (blocks : Blocks) : Type 0 where
+  pub addresses : ℕ → List ℕ
+  pub each : (id : ℕ) (a : Admitted) → slice_get guests id ≡ Some a → IsHeld a (addresses id) blocks
+  pub apart :
+      (one other : ℕ) (a b : Admitted) → slice_get guests one ≡ Some a → slice_get guests other ≡ Some b → (one ≡ other → ⊥)
+      → AreApart (addresses one) (addresses other)
+  pub cells : cells_left guests ≤ room
+  pub few : length guests ≤ 64
+
+-- ---- what single calls do
+
+-- a guest is at its start, under addresses of new blocks, and the blocks of others are as they were
+pub record HasBegun (admission : Admission) (a : Admitted) (blocks blocks_after : Blocks) : Type 0 where
+  pub admission_is : admission_of a ≡ admission
+  pub addresses : List ℕ
+  pub held : IsHeld a addresses blocks_after
+  pub grows : Grows [] addresses blocks blocks_after
+
+-- what holds of a guest holds of it still, whatever the store's blocks are
+abbrev pub StaysHeld : Admitted → Admitted → Type 0
+StaysHeld before after = (addresses : List ℕ) (blocks : Blocks) → IsHeld before addresses blocks → IsHeld after addresses blocks

@@ -1,4 +1,0 @@
-pub mod Acts
-pub mod Lines
-pub mod Machine
-pub mod Words

@@ -1,0 +1,64 @@
+//! Steps of a guest.
+
+ghost use Rattle.std.specs.Prelude.{◌≡◌, ◌↔◌, ◌+◌, ◌-◌, ◌<◌, ◌≤◌, ◌^◌, IsTrue, false};
+ghost use Rattle.jv_interp.specs.Standing.{IsSomeGuest, WentOn};
+ghost use Rattle.jv_interp.specs.Showing.{HasEnded, RanToLast, IsAnswered};
+
+use crate::guest::Guest;
+use jv_heap::Store;
+use jv_interp_frames::End;
+use jv_interp_runs::{Turn, run};
+use jv_meaning_machine::{alone_steps_on, end_fits_alone};
+use jv_sound::{initializations_are_loadable, never_faults, objects_are_loadable};
+
+impl Guest<'_> {
+    /// How many steps it has taken.
+    pub fn steps(&self) -> u64
+        ensures { result ≡ self.now.steps }
+    {
+        self.steps
+    }
+
+    /// Whether it takes steps: it has not ended.
+    pub fn is_running(&self) -> bool
+        ensures { IsAnswered self.now result }
+    {
+        matches!(self.control.end, End::Running)
+    }
+
+    /// Takes at most so many steps (JVMS 2.11, 5.5), fewer only where the guest has ended, or where the host had no memory for the next one: that
+    /// step is then not taken, and the guest and the store are as they were before it.
+    pub fn turn<S: Store>(&mut self, store: &mut S, n: u64) -> Turn
+        requires can { IsSomeGuest self.old (S.content store.old) }
+        requires cells { self.old.held.cells ≤ S.room_left store.old }
+        requires countable { self.old.steps + n < 2 ^ 64 }
+        ensures went { WentOn (n - result.left) self.old self.new (S.content store.old) (S.content store.new) }
+        ensures running { RanToLast (n - result.left) self.old (S.content store.old) }
+        ensures most { result.left ≤ n }
+        ensures ended { 0 < result.left → result.refused ≡ false → HasEnded self.new (S.content store.new) }
+        ensures some_left { IsTrue result.refused → 0 < result.left }
+        ensures fewer { self.new.held.cells ≤ self.old.held.cells }
+        ensures room { S.room_left store.old + self.new.held.cells ≡ S.room_left store.new + self.old.held.cells }
+        ensures sure { IsTrue S.SURE → result.refused ≡ false }
+    {
+        alone_steps_on();
+        end_fits_alone();
+        never_faults();
+        objects_are_loadable();
+        initializations_are_loadable();
+        let turn = run(
+            self.judged.classes(),
+            &mut self.linked,
+            &self.methods,
+            &self.texts,
+            &self.verified,
+            &mut self.frames,
+            &mut self.control,
+            &mut self.held,
+            store,
+            n,
+        );
+        self.steps += n - turn.left;
+        turn
+    }
+}

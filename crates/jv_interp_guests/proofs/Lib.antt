@@ -1,6 +1,0 @@
-pub mod Safe
-pub mod Later
-pub mod Fed
-pub mod Shown
-pub mod Elsewhere
-pub mod Begun

@@ -1,3 +1,0 @@
-pub mod Standing
-pub mod Beginning
-pub mod Showing

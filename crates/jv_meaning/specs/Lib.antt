@@ -1,2 +1,0 @@
-pub mod Guest
-pub mod Thin
