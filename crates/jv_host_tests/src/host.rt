@@ -1,8 +1,12 @@
 //! Worked rows of the host.
 
-use jv_host::{AdmitFault, GuestId, Host, TurnFault};
-use jv_meaning::{Budget, End, GuestFiles, Verdict};
+use jv_heap::{Blocks, Cells, Store};
+use jv_host::{AdmitFault, Budget, FeedFault, GuestEnd, GuestFiles, GuestId, Host, TurnFault};
+use jv_loader::{LoadVerdict, SystemFiles, system_files};
+use jv_meaning_typing::Verdict;
 use std::alloc::Global;
+use std::hash::RandomState;
+use std::random::RandomSource;
 
 /// The file of a class that writes `Hi`: 168 bytes.
 const HI: &[u8; 168] =
@@ -36,242 +40,228 @@ fn guest<'a>(files: &'a [&'a [u8]], main: &'a [u8]) -> GuestFiles<'a> {
 }
 
 /// What is said to a guest that is to be admitted.
-fn answer_to<'a>(host: &mut Host<'a>, files: GuestFiles<'a>, budget: Budget) -> &'static str {
+fn answer_to<'a, S: Store>(
+    host: &mut Host<'a, S>,
+    files: GuestFiles<'a>,
+    budget: Budget,
+) -> &'static str {
     match host.admit(files, budget) {
-        Ok(GuestId(0)) => "Admitted",
-        Ok(_) => "Admitted under another number",
+        Ok(_) => "Admitted",
         Err(fault) => fault.name(),
     }
 }
 
-/// Whether a turn of the first guest takes so many steps.
-fn takes(host: &mut Host<'_>, n: u32, steps: u64) -> bool {
-    match host.turn(GuestId(0), n) {
+/// Whether a turn of a guest takes so many steps.
+fn takes<S: Store>(host: &mut Host<'_, S>, id: u32, n: u32, steps: u64) -> bool {
+    match host.turn(GuestId(id), n) {
         Ok(taken) => taken == steps,
         Err(_) => false,
     }
 }
 
-/// Whether the first guest has written this and takes more steps.
-fn is_running_with(host: &Host<'_>, output: &[u8]) -> bool {
-    match host.observe(GuestId(0)) {
-        Ok(seen) => seen.output == output && matches!(seen.end, End::Running),
+/// Whether a guest has written this and takes more steps.
+fn is_running_with<S: Store>(host: &Host<'_, S>, id: u32, output: &[u8]) -> bool {
+    match host.observe(GuestId(id)) {
+        Ok(seen) => seen.output == output && matches!(seen.end, GuestEnd::Running),
         Err(_) => false,
     }
 }
 
-/// Whether the first guest has written this in so many steps, and returned.
-fn has_written(host: &Host<'_>, output: &[u8], steps: u64) -> bool {
-    match host.observe(GuestId(0)) {
+/// Whether a guest has written this in so many steps, without a throw, and returned.
+fn has_written<S: Store>(host: &Host<'_, S>, id: u32, output: &[u8], steps: u64) -> bool {
+    match host.observe(GuestId(id)) {
         Ok(seen) => {
-            seen.output == output && seen.steps == steps && matches!(seen.end, End::Returned)
+            seen.output == output
+                && seen.steps == steps
+                && seen.throws == 0
+                && seen.last.is_none()
+                && matches!(seen.end, GuestEnd::Returned)
         }
-        Err(_) => false,
-    }
-}
-
-/// Whether nothing was thrown in the first guest.
-fn has_thrown_nothing(host: &Host<'_>) -> bool {
-    match host.observe(GuestId(0)) {
-        Ok(seen) => seen.throws == 0 && seen.last.is_none(),
         Err(_) => false,
     }
 }
 
 /// The verdict of the first guest's file.
-fn verdict(host: &Host<'_>) -> &'static str {
+fn verdict<S: Store>(host: &Host<'_, S>) -> &'static str {
     match host.verdicts(GuestId(0)) {
-        Ok([Verdict::Version]) => "Version",
-        Ok([Verdict::Format]) => "Format",
-        Ok([Verdict::Unsupported]) => "Unsupported",
+        Ok([Verdict::Refused(LoadVerdict::Version)]) => "Version",
+        Ok([Verdict::Refused(LoadVerdict::Format)]) => "Format",
         Ok([Verdict::Accepted]) => "Accepted",
-        _ => "another number of verdicts",
+        _ => "another verdict",
     }
 }
 
 /// Whether a guest writes `Hi` in turns of 4, 0, 5 and 5 steps.
-fn writes_hi_in_turns(host: &mut Host<'_>) -> bool {
-    takes(host, 4, 4)
-        && is_running_with(host, b"H")
-        && takes(host, 0, 0)
-        && takes(host, 5, 2)
-        && takes(host, 5, 0)
-        && has_written(host, b"Hi", 6)
-        && has_thrown_nothing(host)
+fn writes_hi_in_turns<'a, S: Store>(host: &mut Host<'a, S>) -> bool {
+    answer_to(host, guest(&ONE, b"Hi"), budget(64)) == "Admitted"
+        && takes(host, 0, 4, 4)
+        && is_running_with(host, 0, b"H")
+        && takes(host, 0, 0, 0)
+        && takes(host, 0, 5, 2)
+        && takes(host, 0, 5, 0)
+        && has_written(host, 0, b"Hi", 6)
         && verdict(host) == "Accepted"
+}
+
+/// What every host is made of: the system's files, and a state to hash with.
+#[derive(Drop)]
+struct Prepared {
+    system: SystemFiles,
+    state: RandomState,
+}
+
+fn prepared_with<R: RandomSource + AllocGlobal>(rt: &R) -> Option<Prepared> {
+    let system = system_files(rt.alloc()).ok()?;
+    let state = RandomState::new(rt).ok()?;
+    Some(Prepared { system, state })
+}
+
+fn hi_in<S: Store>(alloc: Global, prepared: &Prepared) -> bool {
+    let mut host: Host<'_, S> = Host::new(alloc, prepared.state, &prepared.system);
+    writes_hi_in_turns(&mut host)
 }
 
 #[test]
 fn writes_hi(rt: HostRuntime) {
-    let mut host = Host::new(rt.alloc());
-    assert!(rt;
-        answer_to(&mut host, guest(&ONE, b"Hi"), budget(64)) == "Admitted"
-            && writes_hi_in_turns(&mut host)
-    );
+    let passes = match prepared_with(&rt) {
+        Some(prepared) => hi_in::<Blocks>(rt.alloc(), &prepared)
+            && hi_in::<Cells>(rt.alloc(), &prepared),
+        None => false,
+    };
+    assert!(rt; passes);
 }
 
-/// The answer to a turn of the first guest: how many steps it took, nothing where memory was refused,
-/// and an error for another fault.
-fn turned(host: &mut Host<'_>, n: u32) -> Result<Option<u64>, TurnFault> {
-    match host.turn(GuestId(0), n) {
-        Ok(taken) => Ok(Some(taken)),
-        Err(TurnFault::HostMemory(_)) => Ok(None),
-        Err(fault) => Err(fault),
-    }
-}
-
-/// Whether a turn of the first guest took so many steps, or memory was refused.
-fn takes_or_has_no_memory(host: &mut Host<'_>, n: u32) -> bool {
-    match turned(host, n) {
-        Ok(Some(taken)) => taken == u64::from(n),
-        Ok(None) => true,
-        Err(_) => false,
-    }
-}
-
-/// Whether a turn leads the first guest to its end with `Hi` written, or memory was refused.
-fn ends_or_has_no_memory(host: &mut Host<'_>, n: u32) -> bool {
-    match turned(host, n) {
-        Ok(Some(_)) => has_written(host, b"Hi", 6),
-        Ok(None) => true,
-        Err(_) => false,
-    }
-}
-
-/// Whether a host that has room for a guest admits it and runs it as the row says, or memory was
-/// refused.
-fn runs_or_has_no_memory(host: &mut Host<'_>) -> bool {
+/// Whether a host admits a guest and runs it as the row says, or memory was refused.
+fn runs_or_has_no_memory(host: &mut Host<'_, Blocks>) -> bool {
     match host.admit(guest(&ONE, b"Hi"), budget(64)) {
-        Ok(_) => takes_or_has_no_memory(host, 5) && ends_or_has_no_memory(host, 9),
+        Ok(id) => match host.turn(id, 9) {
+            Ok(_) => has_written(host, 0, b"Hi", 6),
+            Err(fault) => matches!(fault, TurnFault::HostMemory(_)),
+        },
         Err(fault) => matches!(fault, AdmitFault::HostMemory),
     }
+}
+
+fn runs_or_has_no_memory_with(alloc: Global, prepared: &Prepared) -> bool {
+    let mut host = Host::new(alloc, prepared.state, &prepared.system);
+    runs_or_has_no_memory(&mut host)
 }
 
 /// For a run with an allocation refused: what the row shows, or want of memory and nothing else.
 #[test]
 fn writes_hi_or_has_no_memory(rt: HostRuntime) {
-    let mut host = Host::new(rt.alloc());
-    assert!(rt; runs_or_has_no_memory(&mut host));
-}
-
-/// The file, with other bytes at some places.
-fn patched(patches: &[(usize, u8)]) -> [u8; 168] {
-    let mut file = *HI;
-    for (place, byte) in patches {
-        if *place < 168 {
-            file[*place] = *byte;
-        }
-    }
-    file
+    let passes = match prepared_with(&rt) {
+        Some(prepared) => runs_or_has_no_memory_with(rt.alloc(), &prepared),
+        None => true,
+    };
+    assert!(rt; passes);
 }
 
 /// Whether the first guest ended before its first step, since it has no main method.
-fn has_no_main(host: &Host<'_>) -> bool {
+fn has_no_main(host: &Host<'_, Blocks>) -> bool {
     match host.observe(GuestId(0)) {
-        Ok(seen) => { matches!(seen.end, End::NoMain) && seen.steps == 0 && seen.output.is_empty() }
+        Ok(seen) => {
+            matches!(seen.end, GuestEnd::NoMain) && seen.steps == 0 && seen.output.is_empty()
+        }
         Err(_) => false,
     }
 }
 
 /// The verdict of a file whose guest has no main method to run.
-fn verdict_without_main(alloc: Global, file: &[u8], main: &[u8]) -> &'static str {
-    let files = [file];
-    let mut host = Host::new(alloc);
-    verdict_of_mainless(&mut host, guest(&files, main))
-}
-
-fn verdict_of_mainless<'a>(host: &mut Host<'a>, files: GuestFiles<'a>) -> &'static str {
+fn verdict_of_mainless<'a>(host: &mut Host<'a, Blocks>, files: GuestFiles<'a>) -> &'static str {
     let answer = answer_to(host, files, budget(64));
     if answer != "Admitted" {
         return answer;
     }
-    if !takes(host, 7, 0) || !has_no_main(host) {
+    if !takes(host, 0, 7, 0) || !has_no_main(host) {
         return "a main method";
     }
     verdict(host)
 }
 
+fn verdict_without_main(
+    alloc: Global,
+    prepared: &Prepared,
+    file: &[u8],
+    main: &[u8],
+) -> &'static str {
+    let files = [file];
+    let mut host = Host::new(alloc, prepared.state, &prepared.system);
+    verdict_of_mainless(&mut host, guest(&files, main))
+}
+
+/// Whether files without a class, of another version and with another main class don't run.
+fn do_not_run(alloc: Global, prepared: &Prepared) -> bool {
+    let mut newer = *HI;
+    newer[7] = 53;
+    verdict_without_main(alloc, prepared, &HI[..167], b"Hi") == "Format"
+        && verdict_without_main(alloc, prepared, b"", b"Hi") == "Format"
+        && verdict_without_main(alloc, prepared, &newer, b"Hi") == "Version"
+        && verdict_without_main(alloc, prepared, HI, b"Ho") == "Accepted"
+}
+
 #[test]
 fn files_that_do_not_run(rt: HostRuntime) {
-    let alloc = rt.alloc();
-    let mut longer = [0; 169];
-    longer[..168].copy_from_slice(HI);
-    assert!(rt; verdict_without_main(alloc, &HI[..167], b"Hi") == "Format");
-    assert!(rt; verdict_without_main(alloc, &longer, b"Hi") == "Format");
-    assert!(rt; verdict_without_main(alloc, b"", b"Hi") == "Format");
-    assert!(rt; verdict_without_main(alloc, &patched(&[(7, 49)]), b"Hi") == "Version");
-    assert!(rt; verdict_without_main(alloc, &patched(&[(151, 0)]), b"Hi") == "Unsupported");
-    assert!(rt; verdict_without_main(alloc, HI, b"Ho") == "Accepted");
+    let passes = match prepared_with(&rt) {
+        Some(prepared) => do_not_run(rt.alloc(), &prepared),
+        None => false,
+    };
+    assert!(rt; passes);
 }
 
 /// The name of the class that is thrown where a guest writes more than it may.
 const ERROR: &[u8] = b"java/lang/OutOfMemoryError";
 
-/// Whether the first guest has written this and then ended with an error for want of memory.
-fn has_run_out(host: &Host<'_>, output: &[u8]) -> bool {
-    match host.observe(GuestId(0)) {
+/// Whether a guest has written this and then ended with an error for want of memory.
+fn has_run_out(host: &Host<'_, Blocks>, id: u32, output: &[u8]) -> bool {
+    match host.observe(GuestId(id)) {
         Ok(seen) => {
             seen.output == output
                 && seen.throws == 1
                 && matches!(seen.last, Some(name) if name == ERROR)
-                && matches!(seen.end, End::Threw(name) if name == ERROR)
+                && matches!(seen.end, GuestEnd::Threw(name) if name == ERROR)
         }
         Err(_) => false,
     }
 }
 
-/// Whether the first guest runs out of output behind its first byte.
-fn runs_out(host: &mut Host<'_>) -> bool {
-    takes(host, 100, 5) && has_run_out(host, b"H")
-}
-
-#[test]
-fn one_byte_of_output(rt: HostRuntime) {
-    let mut host = Host::new(rt.alloc());
-    assert!(rt;
-        answer_to(&mut host, guest(&ONE, b"Hi"), budget(1)) == "Admitted" && runs_out(&mut host)
-    );
-}
-
 /// Whether the host knows no guest of this number.
-fn knows_none(host: &mut Host<'_>, id: u32) -> bool {
+fn knows_none(host: &mut Host<'_, Blocks>, id: u32) -> bool {
     matches!(host.turn(GuestId(id), 1), Err(TurnFault::NoGuest))
+        && matches!(host.feed(GuestId(id), b"A"), Err(FeedFault::NoGuest))
         && host.observe(GuestId(id)).is_err()
         && host.verdicts(GuestId(id)).is_err()
 }
 
+/// Whether two guests of the same file, one of which may write a byte alone, run side by side as each does alone.
+fn in_company(host: &mut Host<'_, Blocks>) -> bool {
+    knows_none(host, 0)
+        && matches!(host.run(1, 5), Ok(0))
+        && answer_to(host, guest(&ONE, b"Hi"), budget(64)) == "Admitted"
+        && answer_to(host, guest(&ONE, b"Hi"), budget(1)) == "Admitted"
+        && host.feed(GuestId(1), b"A").is_ok()
+        && matches!(host.run(1, 100), Ok(6))
+        && has_written(host, 0, b"Hi", 6)
+        && has_run_out(host, 1, b"H")
+        && knows_none(host, 2)
+}
+
+fn in_company_with(alloc: Global, prepared: &Prepared) -> bool {
+    let mut host = Host::new(alloc, prepared.state, &prepared.system);
+    in_company(&mut host)
+}
+
 #[test]
-fn no_guest(rt: HostRuntime) {
-    let mut host = Host::new(rt.alloc());
-    assert!(rt; knows_none(&mut host, 0));
+fn two_guests(rt: HostRuntime) {
+    let passes = match prepared_with(&rt) {
+        Some(prepared) => in_company_with(rt.alloc(), &prepared),
+        None => false,
+    };
+    assert!(rt; passes);
 }
-
-/// Whether a second guest is refused, and the first runs to its end.
-fn holds_one(host: &mut Host<'_>) -> bool {
-    answer_to(host, guest(&ONE, b"Hi"), budget(64)) == "TooManyGuests"
-        && answer_to(host, guest(&ONE, b"Hi"), FEW) == "BudgetOutOfRange"
-        && knows_none(host, 1)
-        && takes(host, 100, 6)
-        && has_written(host, b"Hi", 6)
-}
-
-#[test]
-fn one_guest(rt: HostRuntime) {
-    let mut host = Host::new(rt.alloc());
-    assert!(rt;
-        answer_to(&mut host, guest(&ONE, b"Hi"), budget(64)) == "Admitted" && holds_one(&mut host)
-    );
-}
-
-static TWO: [&[u8]; 2] = [HI, HI];
 
 /// What is said to a guest with too few cells, and whether another is admitted after it.
-fn refusal(alloc: Global, files: GuestFiles<'_>) -> &'static str {
-    let mut host = Host::new(alloc);
-    refusal_before_another(&mut host, files)
-}
-
-fn refusal_before_another<'a>(host: &mut Host<'a>, files: GuestFiles<'a>) -> &'static str {
+fn refusal_before_another<'a>(host: &mut Host<'a, Blocks>, files: GuestFiles<'a>) -> &'static str {
     let answer = answer_to(host, files, FEW);
     if answer_to(host, guest(&ONE, b"Hi"), budget(64)) != "Admitted" {
         return "none is admitted after it";
@@ -279,26 +269,24 @@ fn refusal_before_another<'a>(host: &mut Host<'a>, files: GuestFiles<'a>) -> &'s
     answer
 }
 
-#[test]
-fn refusals(rt: HostRuntime) {
-    assert!(rt; refusal(rt.alloc(), guest(&[], b"Hi")) == "NoFiles");
-    assert!(rt; refusal(rt.alloc(), guest(&TWO, b"Hi")) == "TooManyFiles");
-    assert!(rt; refusal(rt.alloc(), guest(&ONE, b"Hi")) == "BudgetOutOfRange");
+fn refusal(alloc: Global, prepared: &Prepared, files: GuestFiles<'_>) -> &'static str {
+    let mut host = Host::new(alloc, prepared.state, &prepared.system);
+    refusal_before_another(&mut host, files)
 }
 
 /// What is said to a guest whose file has so many bytes.
-fn refusal_of_file(alloc: Global, length: usize) -> &'static str {
+fn refusal_of_file(alloc: Global, prepared: &Prepared, length: usize) -> &'static str {
     match vec![in alloc; 0u8; length] {
         Ok(file) => {
             let files = [file.as_slice()];
-            refusal(alloc, guest(&files, b"Hi"))
+            refusal(alloc, prepared, guest(&files, b"Hi"))
         }
         Err(_) => "no memory for it",
     }
 }
 
 /// What is said to a guest whose input has so many bytes.
-fn refusal_of_input(alloc: Global, length: usize) -> &'static str {
+fn refusal_of_input(alloc: Global, prepared: &Prepared, length: usize) -> &'static str {
     match vec![in alloc; 0u8; length] {
         Ok(input) => {
             let reading = GuestFiles {
@@ -306,14 +294,25 @@ fn refusal_of_input(alloc: Global, length: usize) -> &'static str {
                 main: b"Hi",
                 input: &input,
             };
-            refusal(alloc, reading)
+            refusal(alloc, prepared, reading)
         }
         Err(_) => "no memory for it",
     }
 }
 
+/// Whether each refusal comes, in its order.
+fn refuses(alloc: Global, prepared: &Prepared) -> bool {
+    refusal(alloc, prepared, guest(&[], b"Hi")) == "NoFiles"
+        && refusal(alloc, prepared, guest(&ONE, b"Hi")) == "BudgetOutOfRange"
+        && refusal_of_file(alloc, prepared, 4_194_305) == "FileTooLong"
+        && refusal_of_input(alloc, prepared, 16_777_217) == "InputTooLong"
+}
+
 #[test]
-fn too_long(rt: HostRuntime) {
-    assert!(rt; refusal_of_file(rt.alloc(), 4_194_305) == "FileTooLong");
-    assert!(rt; refusal_of_input(rt.alloc(), 16_777_217) == "InputTooLong");
+fn refusals(rt: HostRuntime) {
+    let passes = match prepared_with(&rt) {
+        Some(prepared) => refuses(rt.alloc(), &prepared),
+        None => false,
+    };
+    assert!(rt; passes);
 }
