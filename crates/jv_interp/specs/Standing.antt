@@ -1,5 +1,5 @@
--- What it means that what is kept of a guest stands for the state that its own files give on the machine alone (JVMS 2.5; own). Under addresses of
--- the store, without repeats, stand the guest's objects in the order in which it made them.
+-- What it means that what is kept of a guest stands for the state that its own files give on the machine alone (JVMS 2.5; own). Under
+-- addresses of the store, without repeats, stand the guest's objects in the order in which it made them.
 use Rattle.std.specs.Prelude.{◌≡◌, ℕ, ◌+◌, ◌<◌, ◌≤◌, List, [], ◌∷◌, ◌++◌, Ok, Contains, length}
 use Rattle.jv_meaning_world.specs.World.{World}
 use Rattle.jv_meaning_machine.specs.State.{State}
@@ -50,8 +50,8 @@ pub record IsSomeGuest (guest : Guest) (blocks : Blocks) : Type 0 where
   pub addresses : List ℕ
   pub stands : GuestStands g b feeds n addresses guest blocks
 
--- It took so many further steps: it stands after them, with the addresses of new objects behind the others, and the blocks of other guests are as
--- they were.
+-- It took so many further steps: it stands after them, with the addresses of new objects behind the others, and the blocks of other
+-- guests are as they were.
 pub record Went (k : ℕ) (g : GuestFiles) (b : Budget) (feeds : List Feed) (n : ℕ) (addresses : List ℕ) (before after : Guest) (blocks_before blocks_after : Blocks) : Type 0 where
   pub more : List ℕ
   pub stands : GuestStands g b feeds (n + k) (addresses ++ more) after blocks_after

@@ -31,7 +31,8 @@ fn begin_in_room<'a, S: Store>(
     requires some { 4 ≤ budget.cells }
     requires few_cells { budget.cells < 2147483648 }
     requires cells { budget.cells ≤ S.room_left store.old }
-    ensures begun { IfOk result (λ guest. HasBegun judged.entry main.now input.now budget (S.content store.old) guest (S.content store.new)) }
+    ensures begun { IfOk result (λ guest.
+        HasBegun judged.entry main.now input.now budget (S.content store.old) guest (S.content store.new)) }
     ensures room { IfOk result (λ guest. S.room_left store.old + guest.held.cells ≡ S.room_left store.new + budget.cells) }
     ensures refused { OnErr result (S.content store.new ≡ S.content store.old) }
     ensures refused_room { OnErr result (S.room_left store.new ≡ S.room_left store.old) }
@@ -67,9 +68,9 @@ fn begin_in_room<'a, S: Store>(
 }
 
 impl<'a> Guest<'a> {
-    /// A guest at its start (JVMS 5.2): its classes are linked as far as that is done beforehand, all that its steps need is reserved, and its main
-    /// class's initialization is begun, or it has ended where there is no main method. Its cells are reserved in the store. Texts are hashed with
-    /// the state.
+    /// A guest at its start (JVMS 5.2): its classes are linked as far as that is done beforehand, all that its steps need is reserved,
+    /// and its main class's initialization is begun, or it has ended where there is no main method. Its cells are reserved in the store.
+    /// Texts are hashed with the state.
     ///
     /// # Errors
     ///
@@ -88,7 +89,8 @@ impl<'a> Guest<'a> {
         requires some { 4 ≤ budget.cells }
         requires few_cells { budget.cells < 2147483648 }
         requires total { S.room_left store.old + words_held (S.content store.old) + budget.cells ≤ 4294967294 }
-        ensures begun { IfOk result (λ guest. HasBegun judged.entry main.now input.now budget (S.content store.old) guest (S.content store.new)) }
+        ensures begun { IfOk result (λ guest.
+            HasBegun judged.entry main.now input.now budget (S.content store.old) guest (S.content store.new)) }
         ensures room { IfOk result (λ guest. S.room_left store.new ≡ S.room_left store.old + guest.held.cells) }
         ensures refused { OnErr result (S.content store.new ≡ S.content store.old) }
         ensures refused_room { OnErr result (S.room_left store.new ≡ S.room_left store.old) }

@@ -6,8 +6,8 @@ use jv_interp_methods::{Methods, Texts};
 use jv_linked::Linked;
 use jv_method::Verified;
 
-/// A guest: its classes with the verdicts on its files, what is known of them, and its state. Its objects are blocks of a store that it may share with
-/// other guests.
+/// A guest: its classes with the verdicts on its files, what is known of them, and its state. Its objects are blocks of a store that it
+/// may share with other guests.
 pub struct Guest<'a> {
     /// Its classes, with the verdicts on its files.
     pub(crate) judged: Verified<'a>,

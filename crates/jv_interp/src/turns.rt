@@ -26,8 +26,8 @@ impl Guest<'_> {
         matches!(self.control.end, End::Running)
     }
 
-    /// Takes at most so many steps (JVMS 2.11, 5.5), fewer only where the guest has ended, or where the host had no memory for the next one: that
-    /// step is then not taken, and the guest and the store are as they were before it.
+    /// Takes at most so many steps (JVMS 2.11, 5.5), fewer only where the guest has ended, or where the host had no memory for the next
+    /// one: that step is then not taken, and the guest and the store are as they were before it.
     pub fn turn<S: Store>(&mut self, store: &mut S, n: u64) -> Turn
         requires can { IsSomeGuest self.old (S.content store.old) }
         requires cells { self.old.held.cells ≤ S.room_left store.old }
@@ -39,6 +39,8 @@ impl Guest<'_> {
         ensures some_left { IsTrue result.refused → 0 < result.left }
         ensures fewer { self.new.held.cells ≤ self.old.held.cells }
         ensures room { S.room_left store.old + self.new.held.cells ≡ S.room_left store.new + self.old.held.cells }
+        ensures still_content { result.left ≡ n → S.content store.new ≡ S.content store.old }
+        ensures still_held { result.left ≡ n → self.new.held ≡ self.old.held }
         ensures sure { IsTrue S.SURE → result.refused ≡ false }
     {
         alone_steps_on();

@@ -1,5 +1,5 @@
 -- What code keeps of each instruction where it stands (JVMS 4.9.1, 6.5).
-use Rattle.std.proofs.Common.{◌≡◌, ℕ, zero, suc, ◌+◌, ◌≤◌, nat_lt, ◌&&◌, List, length, IsTrue, arith}
+use Rattle.std.proofs.Common.{ℕ, zero, suc, ◌≤◌, nat_lt, ◌&&◌, List, IsTrue, arith}
 use Rattle.std.proofs.lemmas.Bool.{and_parts}
 use Rattle.jv_format.specs.Format.{half, byte}
 use Rattle.jv_code.specs.Insns.{Instruction}

@@ -1,5 +1,5 @@
 -- A step of a method that runs: an instruction is found, executed, and its effect is done to the frames (JVMS 2.11).
-use Rattle.std.proofs.Common.{◌≡◌, ℕ, ◌+◌, ◌≤◌, nat_le, Bool, true, false, List, [], ◌∷◌, ◌++◌, Some, Ok, length, reverse, refl, sym, ap, subst, ◌∙◌, arith, append_assoc}
+use Rattle.std.proofs.Common.{◌≡◌, ℕ, ◌+◌, ◌≤◌, nat_le, Bool, true, false, List, ◌∷◌, ◌++◌, Some, Ok, length, reverse, sym, ap, subst, ◌∙◌, arith, append_assoc}
 use Rattle.std.proofs.lemmas.List.Sums.{sum_by-cons}
 use Rattle.jv_code.specs.Insns.{Instruction}
 use Rattle.jv_link.specs.declared.site.Site.{Site}
@@ -7,7 +7,7 @@ use Rattle.jv_link.specs.Seen.{seen_site}
 use Rattle.jv_linked.specs.declared.linked.Linked.{Linked}
 use Rattle.jv_linked.specs.Linked.{IsLinked}
 use Rattle.jv_meaning_world.specs.World.{World}
-use Rattle.jv_meaning_typing.specs.Environment.{instruction_at, offset_behind}
+use Rattle.jv_meaning_typing.specs.Environment.{instruction_at}
 use Rattle.jv_meaning_machine.specs.Faults.{found, tested, ◌>>=◌}
 use Rattle.jv_meaning_machine.specs.Faults.Fault.{OffsetFault, StackFault}
 use Rattle.jv_meaning_machine.specs.Values.{words_of_values}
@@ -36,19 +36,19 @@ use Rattle.jv_interp_memory.specs.SystemNumbers.{IsGuestsWorld}
 use Rattle.jv_interp_going.specs.Going.{StaysIn}
 use Rattle.jv_interp_methods.specs.declared.methods.Methods.{Methods}
 use Rattle.jv_interp_methods.specs.Methods.{AreMethods}
-use Rattle.jv_interp_calls.specs.Known.{Known, known, IsKnown}
+use Rattle.jv_interp_calls.specs.Known.{known, IsKnown}
 use Rattle.jv_interp_execution.specs.InGuest.{ExecutesIn, CanExecuteAt, ExecutedAt}
 use Rattle.jv_interp_frames.specs.declared.frames.Frames.{Frames}
 use Rattle.jv_interp_frames.specs.declared.control.Control.{Control}
 use Rattle.jv_interp_frames.specs.Inside.Nexts.{Nexts}
-use Rattle.jv_interp_frames.specs.Standing.{Kept, kept, StateStands, Reaches}
+use Rattle.jv_interp_frames.specs.Standing.{Kept, kept, StateStands}
 use Rattle.jv_interp_frames.proofs.Counted.{frames_bound}
 use Rattle.jv_interp_frames.proofs.GrownTwice.{grows_twice}
 use Rattle.jv_interp_frames.proofs.Unwound.{fits}
 use Rattle.jv_interp_actions.specs.Running.{HaveRoom, StateRuns}
 use Rattle.jv_interp_actions.specs.Acting.{RunsIn, Acting, ActedTo}
-use Rattle.jv_interp_runs.specs.Stepping.{StepsIn, RunsOn, SteppedTo}
-use Rattle.jv_interp_runs.specs.Inside.Decoding.{record_at, CanDecode, IsDecoded}
+use Rattle.jv_interp_runs.specs.Stepping.{StepsIn, SteppedTo}
+use Rattle.jv_interp_runs.specs.Inside.Decoding.{record_at, CanDecode, IsDecoded, StandsNext}
 use Rattle.jv_interp_runs.proofs.Fewer.{cells_fall}
 
 module _ (world : World) (verified : List Bool) (at : Registers) (program : Program) (texts : List (List ℕ)) (s t : State) (addresses : List ℕ) (frames : Frames) (control : Control) (held : Held) (blocks : Blocks)
@@ -100,6 +100,21 @@ module _ (world : World) (verified : List Bool) (at : Registers) (program : Prog
     stands = h.runs.running.current;
     at = taken.there;
   }
+
+  pub nexts_at :
+      (methods : Methods) → AreMethods world methods → (there : Instruction) → instruction_at frame.method frame.offset ≡ Some there
+      → Nexts methods (record_at at.method at.pc at.base) program addresses frame (in_use ws at.top) below there
+  nexts_at methods are there at_hand = record {
+    are = subst (λ (w : World). AreMethods w methods) (sym h.guest.world_is) are;
+    finds = h.guest.finds;
+    stands = h.runs.running.current;
+    at = at_hand;
+  }
+
+  pub decoded_in :
+      (site : Site) (insn : Instruction) (next : ℕ) → StandsNext world verified texts at (kept frames control held blocks) site insn next
+      → IsDecoded site insn next program frame taken.insn
+  decoded_in site insn next d = d program s t addresses h taken.insn taken.there
 
   pub can_decode : (methods : Methods) → AreMethods world methods → CanDecode methods at.method at.pc
   can_decode methods are = (

@@ -4,3 +4,6 @@ pub mod Executed
 pub mod Refused
 pub mod Runs
 pub mod Records
+pub mod InWords
+pub mod Known
+pub mod Operands

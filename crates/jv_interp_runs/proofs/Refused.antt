@@ -1,5 +1,5 @@
 -- A step that the host refused (own): nothing has changed.
-use Rattle.std.proofs.Common.{◌≡◌, ℕ, ◌+◌, Bool, List, Result, Ok, Err, IsOk, refl, sym, ap, ◌∙◌, arith}
+use Rattle.std.proofs.Common.{◌≡◌, Bool, Result, Ok, Err, IsOk, refl, ap, ◌∙◌}
 use Rattle.std.specs.Prelude.{OnErr, vec_capacity}
 use Rattle.jv_interp_memory.specs.declared.effect.Effect.{Effect}
 use Rattle.jv_interp_memory.specs.declared.effect.Effect.TheVariants as effects

@@ -1,5 +1,5 @@
 -- Steps one after the other (JVMS 2.11).
-use Rattle.std.proofs.Common.{◌≡◌, ℕ, zero, suc, ◌+◌, Bool, true, false, List, [], ◌∷◌, ◌++◌, Ok, length, refl, sym, ap, subst, ◌∙◌, arith, append_assoc, append-nil}
+use Rattle.std.proofs.Common.{◌≡◌, ℕ, zero, suc, ◌+◌, Bool, List, [], ◌∷◌, ◌++◌, Ok, length, refl, sym, ap, subst, ◌∙◌, arith, append_assoc, append-nil}
 use Rattle.jv_meaning_world.specs.World.{World}
 use Rattle.jv_meaning_machine.specs.Faults.{OrFault, ◌>>=◌}
 use Rattle.jv_meaning_machine.specs.Frames.{Frame}
@@ -12,8 +12,8 @@ use Rattle.jv_interp_frames.specs.Standing.{Kept, StateStands, Reaches}
 use Rattle.jv_interp_frames.proofs.GrownTwice.{grows_twice}
 use Rattle.jv_interp_frames.proofs.MemoryJoined.{grows_not}
 use Rattle.jv_interp_actions.specs.Running.{StateRuns}
-use Rattle.jv_interp_runs.specs.Guests.{IsGuest, TakesStep}
-use Rattle.jv_interp_runs.specs.Stepping.{StepsIn, RunsOn, SteppedTo}
+use Rattle.jv_interp_runs.specs.Guests.{TakesStep}
+use Rattle.jv_interp_runs.specs.Stepping.{StepsIn, RunsOn}
 use Rattle.jv_interp_runs.specs.Running.{Leads, IsSafe, RunsFrom, Ran, RunsIn, RanOn}
 
 -- ---- the machine's steps
@@ -21,7 +21,7 @@ use Rattle.jv_interp_runs.specs.Running.{Leads, IsSafe, RunsFrom, Ran, RunsIn, R
 same_number : (n m : ℕ) → n ≡ m → suc n ≡ suc m
 same_number n m e = ap suc e
 
-bound_again : (o : OrFault State) (next : State → OrFault State) (t u : State) → o ≡ Ok t → next t ≡ Ok u → (o >>= next) ≡ Ok u
+pub bound_again : (o : OrFault State) (next : State → OrFault State) (t u : State) → o ≡ Ok t → next t ≡ Ok u → (o >>= next) ≡ Ok u
 bound_again o next t u e f = subst (λ (r : OrFault State). (r >>= next) ≡ Ok u) (sym e) f
 
 -- the state behind them
@@ -81,7 +81,7 @@ runs_join program texts t u addresses at at_after before between after r q = rec
   grows = grows_twice addresses r.more q.more before.blocks between.blocks after.blocks r.grows q.grows;
 }
 
-some_frame : {x : Frame} {xs : List Frame} (fs : List Frame) → fs ≡ x ∷ xs → fs ≡ [] → ⊥
+pub some_frame : {x : Frame} {xs : List Frame} (fs : List Frame) → fs ≡ x ∷ xs → fs ≡ [] → ⊥
 some_frame fs is none = let long = ap length (sym none ∙ is) in absurd (omega (arith, long))
 
 -- nothing was done yet

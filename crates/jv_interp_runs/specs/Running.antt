@@ -1,5 +1,5 @@
 -- Steps one after the other (JVMS 2.11; own).
-use Rattle.std.specs.Prelude.{◌≡◌, ℕ, zero, suc, Bool, List, [], ◌++◌, Ok}
+use Rattle.std.specs.Prelude.{◌≡◌, ℕ, zero, suc, Bool, List, [], Ok}
 use Rattle.jv_meaning_world.specs.World.{World}
 use Rattle.jv_meaning_machine.specs.State.{Program, State}
 use Rattle.jv_meaning_machine.specs.Step.{step, after_steps}

@@ -22,7 +22,8 @@ pub record CanStepIn (world : World) (verified : List Bool) (texts : List (List 
   pub addresses : List ℕ
   pub steps : StepsIn world verified at program texts s t addresses before
 
--- The method goes on in its registers, with the addresses of new objects behind the others; and the blocks of other guests are as they were.
+-- The method goes on in its registers, with the addresses of new objects behind the others; and the blocks of other guests are as they
+-- were.
 pub record RunsOn (program : Program) (texts : List (List ℕ)) (t : State) (addresses : List ℕ) (at : Registers) (before after : Kept) : Type 0 where
   pub more : List ℕ
   pub runs : StateRuns program texts t (addresses ++ more) at after

@@ -1,8 +1,12 @@
 //! Instructions in the code of methods.
 
+ghost use Rattle.std.specs.Prelude.{◌≡◌, ◌+◌, ◌≤◌, [], ◌∷◌, length, IsTrue};
+ghost use Rattle.jv_format.specs.Format.{half};
 ghost use Rattle.jv_code.specs.Insns.{instruction_of};
+ghost use Rattle.jv_code.specs.Operands.{HasBytes, least_operands};
+ghost use Rattle.jv_code.specs.Places.{IsStart};
 ghost use Rattle.jv_interp_execution.specs.InGuest.{KeepsCodeRules};
-ghost use Rattle.jv_interp_runs.specs.Inside.Decoding.{CanDecode, Decodes};
+ghost use Rattle.jv_interp_runs.specs.Inside.Decoding.{CanDecode, Decodes, IsSiteOf};
 
 use jv_code::Insn;
 use jv_interp_methods::Methods;
@@ -25,4 +29,38 @@ pub(crate) fn decode<'a>(methods: &Methods<'a>, method: u32, pc: u32) -> (Site, 
     };
     let (insn, next) = code.insn_at(pc);
     (site, insn, next)
+}
+
+/// The place of a method.
+#[inline(always)]
+pub(crate) fn site_of(methods: &Methods<'_>, method: u32, pc: u32) -> Site
+    requires { CanDecode methods.now method pc }
+    ensures { IsSiteOf methods.now method pc result }
+{
+    let _pc = pc;
+    let row = methods.method(method);
+    Site {
+        class: row.place.class,
+        method: row.place.member,
+    }
+}
+
+/// The opcode of the instruction at an offset.
+#[inline(always)]
+pub(crate) fn opcode_at(code: &[u8], pc: usize) -> u8
+    requires { IsStart code.now pc }
+    ensures stands { HasBytes code.now pc (result ∷ []) }
+    ensures room { (pc + 1) + least_operands result ≤ length code.now }
+{
+    code[pc]
+}
+
+/// The index in the two bytes behind the opcode at an offset.
+#[inline(always)]
+pub(crate) fn index_behind(code: &[u8], pc: usize) -> u16
+    requires { pc + 3 ≤ length code.now }
+    ensures stands { HasBytes code.now (pc + 1) (half.spelling result) }
+    ensures fits { IsTrue (half.fits result) }
+{
+    u16::from(code[pc + 1]) * 256 + u16::from(code[pc + 2])
 }

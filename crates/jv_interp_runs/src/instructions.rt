@@ -1,14 +1,19 @@
-//! Instructions of the method that runs.
+//! The instruction at which the method that runs stands, once it is known.
 
-ghost use Rattle.std.specs.Prelude.{◌≡◌, ◌+◌, ◌<◌, ◌≤◌, IfOk, IsOk, IsTrue, OnOk, OnErr};
+ghost use Rattle.std.specs.Prelude.{◌≡◌, ◌+◌, ◌<◌, ◌≤◌, IfOk, IsOk, IsTrue, OnOk, OnErr, length};
+ghost use Rattle.jv_code.specs.Insns.{instruction_of, insn_bytes, insn_fits};
+ghost use Rattle.jv_code.specs.Operands.{HasBytes};
 ghost use Rattle.jv_linked.specs.Linked.{IsLinked};
 ghost use Rattle.jv_interp_methods.specs.Methods.{AreMethods};
 ghost use Rattle.jv_interp_methods.specs.Texts.{AreTexts};
+ghost use Rattle.jv_interp_execution.specs.InGuest.{KeepsCodeRules};
 ghost use Rattle.jv_interp_frames.specs.Standing.{kept};
 ghost use Rattle.jv_interp_actions.specs.Acting.{AreAsBefore};
+ghost use Rattle.jv_interp_runs.specs.Inside.Decoding.{StandsNext};
 ghost use Rattle.jv_interp_runs.specs.Stepping.{CanStepIn, SteppedIn};
 
-use crate::decoding::decode;
+use crate::decoding::site_of;
+use jv_code::Insn;
 use jv_heap::{Memory, Store};
 use jv_interp_actions::act;
 use jv_interp_execution::execute;
@@ -16,18 +21,20 @@ use jv_interp_frames::{Control, Frames};
 use jv_interp_memory::Held;
 use jv_interp_methods::{Methods, Texts};
 use jv_interp_words::Registers;
+use jv_link::Site;
 use jv_linked::Linked;
 use jv_loader::Classes;
 use jv_meaning_machine::execution_keeps;
 
-/// Executes the instruction at which the method in the registers stands (JVMS 2.11), and does what its effect asks for. Answers whether the method
-/// goes on in the registers; where it doesn't, all frames stand in their records, from which the newest goes on.
+/// Executes the instruction at which the method in the registers stands (JVMS 2.11), behind which the next one stands at `next`, and
+/// does what its effect asks for. Answers whether the method goes on in the registers; where it doesn't, all frames stand in their
+/// records, from which the newest goes on.
 ///
 /// # Errors
 ///
 /// Where the host had no memory for what is made; all is then as it was, but for what linking has found.
 #[inline(always)]
-pub(crate) fn step_in_method<'a, 'l, S: Store>(
+pub(crate) fn step_by<'a, 'l, S: Store>(
     classes: &Classes<'a>,
     linked: &mut Linked<'a>,
     methods: &Methods<'a>,
@@ -38,6 +45,9 @@ pub(crate) fn step_in_method<'a, 'l, S: Store>(
     held: &mut Held,
     store: &mut S,
     at: &mut Registers<'l>,
+    site: Site,
+    insn: Insn<&[u8]>,
+    next: u32,
 ) -> Result<bool, Memory>
     requires can { CanStepIn classes.now.world verified.now texts.now.names at.old
         (kept frames.old control.old held.old (S.content store.old)) }
@@ -46,6 +56,9 @@ pub(crate) fn step_in_method<'a, 'l, S: Store>(
     requires texts { AreTexts classes.now.world texts.now }
     requires cells { held.old.cells ≤ S.room_left store.old }
     requires few { held.old.cells < 2147483648 }
+    requires stands { StandsNext classes.now.world verified.now texts.now.names at.old
+        (kept frames.old control.old held.old (S.content store.old)) site (instruction_of insn) next }
+    requires rules { KeepsCodeRules (instruction_of insn) }
     ensures stepped { IfOk result (SteppedIn classes.now.world verified.now texts.now.names at.old
         (kept frames.old control.old held.old (S.content store.old)) at.new
         (kept frames.new control.new held.new (S.content store.new))) }
@@ -61,7 +74,6 @@ pub(crate) fn step_in_method<'a, 'l, S: Store>(
     ensures sure { IsTrue S.SURE → IsOk result }
 {
     execution_keeps();
-    let (site, insn, next) = decode(methods, at.method, at.pc);
     let effect = execute(
         classes,
         linked,
@@ -78,5 +90,53 @@ pub(crate) fn step_in_method<'a, 'l, S: Store>(
     )?;
     act(
         classes, linked, methods, verified, frames, control, held, store, *at, effect,
+    )
+}
+
+/// The same, where the bytes of the instruction are known to stand there: so many.
+#[inline(always)]
+pub(crate) fn step_known<'a, 'l, S: Store>(
+    classes: &Classes<'a>,
+    linked: &mut Linked<'a>,
+    methods: &Methods<'a>,
+    texts: &Texts<'a>,
+    verified: &[bool],
+    frames: &mut Frames,
+    control: &mut Control,
+    held: &mut Held,
+    store: &mut S,
+    at: &mut Registers<'l>,
+    insn: Insn<&[u8]>,
+    size: u32,
+) -> Result<bool, Memory>
+    requires can { CanStepIn classes.now.world verified.now texts.now.names at.old
+        (kept frames.old control.old held.old (S.content store.old)) }
+    requires linked { IsLinked classes.now.world linked.old }
+    requires methods { AreMethods classes.now.world methods.now }
+    requires texts { AreTexts classes.now.world texts.now }
+    requires cells { held.old.cells ≤ S.room_left store.old }
+    requires few { held.old.cells < 2147483648 }
+    requires bytes { HasBytes at.old.code.now at.old.pc (insn_bytes (instruction_of insn)) }
+    requires fits { IsTrue (insn_fits at.old.pc (instruction_of insn)) }
+    requires size { size ≡ length (insn_bytes (instruction_of insn)) }
+    ensures stepped { IfOk result (SteppedIn classes.now.world verified.now texts.now.names at.old
+        (kept frames.old control.old held.old (S.content store.old)) at.new
+        (kept frames.new control.new held.new (S.content store.new))) }
+    ensures fewer { held.new.cells ≤ held.old.cells }
+    ensures room { OnOk result (S.room_left store.old + held.new.cells ≡ S.room_left store.new + held.old.cells) }
+    ensures linked { IsLinked classes.now.world linked.new }
+    ensures refused_at { OnErr result (at.new ≡ at.old) }
+    ensures refused_frames { OnErr result (AreAsBefore frames.old frames.new) }
+    ensures refused_control { OnErr result (control.new ≡ control.old) }
+    ensures refused { OnErr result (held.new ≡ held.old) }
+    ensures refused_content { OnErr result (S.content store.new ≡ S.content store.old) }
+    ensures refused_room { OnErr result (S.room_left store.new ≡ S.room_left store.old) }
+    ensures sure { IsTrue S.SURE → IsOk result }
+{
+    let site = site_of(methods, at.method, at.pc);
+    let next = at.pc + size;
+    step_by(
+        classes, linked, methods, texts, verified, frames, control, held, store, at, site, insn,
+        next,
     )
 }

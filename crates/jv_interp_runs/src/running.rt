@@ -7,7 +7,8 @@ ghost use Rattle.jv_interp_methods.specs.Texts.{AreTexts};
 ghost use Rattle.jv_interp_frames.specs.Standing.{kept};
 ghost use Rattle.jv_interp_runs.specs.Running.{CanRun, RanTo, CanRunIn, RanFrom};
 
-use crate::instructions::step_in_method;
+use crate::alone::run_alone;
+use crate::stepping::step_in_method;
 use jv_heap::Store;
 use jv_interp_actions::{initialization_step, resume};
 use jv_interp_frames::{Control, Frames, suspend};
@@ -27,7 +28,8 @@ pub struct Turn {
     pub refused: bool,
 }
 
-/// Takes at most so many steps, from that of the method in the registers on, until another frame goes on. Then all frames stand in their records.
+/// Takes at most so many steps, from that of the method in the registers on, until another frame goes on. Then all frames stand in their
+/// records.
 fn run_method<'a, 'l, S: Store>(
     classes: &Classes<'a>,
     linked: &mut Linked<'a>,
@@ -57,17 +59,19 @@ fn run_method<'a, 'l, S: Store>(
     ensures running { IsTrue result.refused → frames.new.records.items ≡ [] → ⊥ }
     ensures fewer { held.new.cells ≤ held.old.cells }
     ensures room { S.room_left store.old + held.new.cells ≡ S.room_left store.new + held.old.cells }
+    ensures still_held { result.left ≡ n → held.new ≡ held.old }
+    ensures still_content { result.left ≡ n → S.content store.new ≡ S.content store.old }
     ensures linked { IsLinked classes.now.world linked.new }
     ensures sure { IsTrue S.SURE → result.refused ≡ false }
 {
     let mut now = at;
-    let mut left = n;
+    let mut left = run_alone(frames, &mut now, n);
     while left > 0 {
         match step_in_method(
             classes, linked, methods, texts, verified, frames, control, held, store, &mut now,
         ) {
             Ok(true) => {
-                left -= 1;
+                left = run_alone(frames, &mut now, left - 1);
             }
             Ok(false) => {
                 return Turn {
@@ -91,8 +95,8 @@ fn run_method<'a, 'l, S: Store>(
     }
 }
 
-/// Takes at most so many steps of a guest (JVMS 2.11, 5.5), fewer only where it ends, which is where no frame is left, or where the host had no memory
-/// for the next one: that step is then not taken, and all is as it was before it, but for what linking has found.
+/// Takes at most so many steps of a guest (JVMS 2.11, 5.5), fewer only where it ends, which is where no frame is left, or where the host
+/// had no memory for the next one: that step is then not taken, and all is as it was before it, but for what linking has found.
 pub fn run<'a, S: Store>(
     classes: &Classes<'a>,
     linked: &mut Linked<'a>,
@@ -121,6 +125,8 @@ pub fn run<'a, S: Store>(
     ensures running { IsTrue result.refused → frames.new.records.items ≡ [] → ⊥ }
     ensures fewer { held.new.cells ≤ held.old.cells }
     ensures room { S.room_left store.old + held.new.cells ≡ S.room_left store.new + held.old.cells }
+    ensures still_held { result.left ≡ n → held.new ≡ held.old }
+    ensures still_content { result.left ≡ n → S.content store.new ≡ S.content store.old }
     ensures linked { IsLinked classes.now.world linked.new }
     ensures sure { IsTrue S.SURE → result.refused ≡ false }
 {

@@ -1,4 +1,4 @@
-use Rattle.std.proofs.Common.{◌≡◌, sym, ap, ◌∙◌, Some}
+use Rattle.std.proofs.Common.{sym, ap, ◌∙◌, Some}
 use Rattle.jv_code.proofs.StartLaws.{OneAtOffset-holds}
 use Rattle.jv_interp_frames.proofs.NextFound.{is_code, some_bytes, known_bytes, stands_there, next_is}
 use Rattle.jv_interp_frames.proofs.BodyStands.{number_within}

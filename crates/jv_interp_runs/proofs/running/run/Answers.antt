@@ -1,4 +1,4 @@
-use Rattle.std.proofs.Common.{◌≡◌, ℕ, suc, Bool, ◌+◌, ◌-◌, ◌<◌, ◌≤◌, List, ◌++◌, refl, sym, ap, subst, arith}
+use Rattle.std.proofs.Common.{◌≡◌, ℕ, ◌+◌, ◌-◌, ◌++◌, refl, subst, ◌∙◌, arith}
 use Rattle.jv_interp_frames.specs.Standing.{kept}
 use Rattle.jv_interp_runs.specs.Running.{Ran}
 use Rattle.jv_interp_runs.proofs.Records.{can_resume, resuming, runs_in, moves, next, takes, stands_refused, as_before_twice, some_there, none_there, some_frames, fewer}
@@ -16,6 +16,7 @@ loop-left-init g c =
           subst (λ (k : ℕ). Ran k program c.args.texts.now.names s addresses before before) none (ran_not c.args.classes.now.world c.args.verified.now program c.args.texts.now.names s addresses before h);
       linked = c.requires.linked;
       fewer = omega arith;
+      still = λ none. (refl, refl);
       room = refl;
     }
 
@@ -99,6 +100,7 @@ loop-left-preserved-in-Some g c =
           (ran_then c.args.classes.now.world c.args.verified.now program c.args.texts.now.names s addresses before h k now r j after (ran_again j program c.args.texts.now.names r.t own between now after refl q));
       linked = c.run_method-turn.ensures.linked;
       fewer = let a = c.run_method-turn.ensures.fewer in let b = c.loop-left.invariant.fewer in omega (arith, a, b);
+      still = λ none. let less = c.run_method-turn.ensures.some c.loop-left-test.true c.if-turn.false in absurd (omega (arith, few, less, none));
       room = let a = c.run_method-turn.ensures.room in let b = c.loop-left.invariant.room in omega (arith, a, b);
     }
 
@@ -189,6 +191,7 @@ loop-left-preserved g c =
           let less = fewer c.step_keeps.ensures w.program c.args.texts.now.names r.t t own between after (takes c.args.classes.now.world c.args.verified.now w.program c.args.texts.now.names r.t own c.loop-left.frames c.loop-left.control c.loop-left.held blocks f).does m.stands q in
           let b = c.loop-left.invariant.fewer in
           omega (arith, less, b);
+      still = λ none. absurd (omega (arith, few, there, none));
       room = let a = e.room in let b = c.loop-left.invariant.room in omega (arith, a, b);
     }
 
@@ -202,3 +205,31 @@ returns-else-not-is_empty-clause-some_left g c = λ told. absurd cc
 
 pub returns-after-loop-left-clause-ended : goal.returns-after-loop-left-clause-ended
 returns-after-loop-left-clause-ended g c = λ there same. let none = c.loop-left-test.false in absurd (omega (arith, there, none))
+
+pub returns-then-turn-clause-still_held : goal.returns-then-turn-clause-still_held
+returns-then-turn-clause-still_held g c = λ none.
+    let few = c.loop-left.invariant.few in
+    let most = c.run_method-turn.ensures.most in
+    let now : c.run_method-turn.result.left ≡ c.loop-left.left = omega (arith, few, most, none) in
+    let before : c.loop-left.left ≡ c.args.n = omega (arith, few, most, none) in
+    c.run_method-turn.ensures.still_held now ∙ (c.loop-left.invariant.still before).0
+
+pub returns-then-turn-clause-still_content : goal.returns-then-turn-clause-still_content
+returns-then-turn-clause-still_content g c = λ none.
+    let few = c.loop-left.invariant.few in
+    let most = c.run_method-turn.ensures.most in
+    let now : c.run_method-turn.result.left ≡ c.loop-left.left = omega (arith, few, most, none) in
+    let before : c.loop-left.left ≡ c.args.n = omega (arith, few, most, none) in
+    c.run_method-turn.ensures.still_content now ∙ (c.loop-left.invariant.still before).1
+
+pub returns-in-Err-clause-still_held : goal.returns-in-Err-clause-still_held
+returns-in-Err-clause-still_held g c = λ none. (c.in-Err.ensures {u = tt}).refused ∙ (c.loop-left.invariant.still none).0
+
+pub returns-in-Err-clause-still_content : goal.returns-in-Err-clause-still_content
+returns-in-Err-clause-still_content g c = λ none. (c.in-Err.ensures {u = tt}).refused_content ∙ (c.loop-left.invariant.still none).1
+
+pub returns-after-loop-left-clause-still_held : goal.returns-after-loop-left-clause-still_held
+returns-after-loop-left-clause-still_held g c = λ none. (c.loop-left.invariant.still none).0
+
+pub returns-after-loop-left-clause-still_content : goal.returns-after-loop-left-clause-still_content
+returns-after-loop-left-clause-still_content g c = λ none. (c.loop-left.invariant.still none).1

@@ -1,23 +1,38 @@
-use Rattle.std.proofs.Common.{◌≡◌, ℕ, suc, Bool, ◌+◌, ◌-◌, ◌<◌, ◌≤◌, List, ◌++◌, refl, sym, ap, subst, arith}
+use Rattle.std.proofs.Common.{◌≡◌, ℕ, suc, Bool, ◌+◌, ◌-◌, ◌++◌, refl, subst, ◌∙◌, arith}
 use Rattle.jv_interp_frames.specs.Standing.{kept}
 use Rattle.jv_interp_runs.specs.Stepping.{SteppedTo}
 use Rattle.jv_interp_runs.specs.Running.{RanOn, Ran}
 use Rattle.jv_interp_runs.proofs.Records.{can_suspend, stands, runs_again}
 use Rattle.jv_interp_runs.proofs.Runs.{runs_not, steps_in, next, ran_on, ran_out, ran_stands}
+use Rattle.jv_interp_runs.proofs.InWords.{can_run, ran_and_ran}
 use Rattle.jv_interp_runs.proofs.running.run_method.Goals as goal
+
+pub run_alone-left-requires : goal.run_alone-left-requires
+run_alone-left-requires g c =
+    let w = c.requires.can in
+    let before = kept c.args.frames.now c.args.control.now c.args.held.now (g.S.Store.content c.args.store.now) in
+    can_run c.args.classes.now.world c.args.verified.now c.args.at w.program c.args.texts.now.names w.s w.addresses before w.runs 0 c.args.at c.args.frames.now
+    c.args.control.now c.args.held.now (g.S.Store.content c.args.store.now)
+    (runs_not c.args.classes.now.world c.args.verified.now c.args.at w.program c.args.texts.now.names w.s w.addresses before w.runs)
 
 pub loop-left-init : goal.loop-left-init
 loop-left-init g c =
-    let none : 0 ≡ c.args.n - c.args.n = omega arith in
     let before = kept c.args.frames.now c.args.control.now c.args.held.now (g.S.Store.content c.args.store.now) in
+    let after = kept c.run_alone-left.new.frames c.args.control.now c.args.held.now (g.S.Store.content c.args.store.now) in
+    let j = c.args.n - c.run_alone-left.result in
+    let all : 0 + j ≡ j = omega arith in
     record {
-      few = omega arith;
+      few = c.run_alone-left.ensures.most;
       ran =
           λ program s addresses h.
-          subst (λ (k : ℕ). RanOn k program c.args.texts.now.names s addresses c.args.at before before) none
-          (runs_not c.args.classes.now.world c.args.verified.now c.args.at program c.args.texts.now.names s addresses before h);
+          subst (λ (k : ℕ). RanOn k program c.args.texts.now.names s addresses c.run_alone-left.new.at before after) all
+          (ran_and_ran c.args.classes.now.world c.args.verified.now c.args.at program c.args.texts.now.names s addresses before h 0 c.args.at c.args.frames.now
+          c.args.control.now c.args.held.now (g.S.Store.content c.args.store.now)
+          (runs_not c.args.classes.now.world c.args.verified.now c.args.at program c.args.texts.now.names s addresses before h) j c.run_alone-left.new.at
+          c.run_alone-left.new.frames c.run_alone-left.ensures.ran c.run_alone-left.ensures.only);
       linked = c.requires.linked;
       fewer = omega arith;
+      still = λ none. (refl, refl);
       room = refl;
     }
 
@@ -38,6 +53,28 @@ step_in_method-requires-clause-can g c =
           steps_in c.args.classes.now.world c.args.verified.now c.args.at w.program c.args.texts.now.names w.s w.addresses before w.runs k c.loop-left.now now r;
     }
 
+pub run_alone-left-requires-in-Ok-true : goal.run_alone-left-requires-in-Ok-true
+run_alone-left-requires-in-Ok-true g c =
+    let w = c.requires.can in
+    let program = w.program in
+    let s = w.s in
+    let addresses = w.addresses in
+    let h = w.runs in
+    let k = c.args.n - c.loop-left.left in
+    let before = kept c.args.frames.now c.args.control.now c.args.held.now (g.S.Store.content c.args.store.now) in
+    let now = kept c.loop-left.frames c.loop-left.control c.loop-left.held (g.S.Store.content c.loop-left.store) in
+    let after = kept c.step_in_method.new.frames c.step_in_method.new.control c.step_in_method.new.held (g.S.Store.content c.step_in_method.new.store) in
+    let e = c.in-Ok-true.ensures {u = tt} in
+    let r = c.loop-left.invariant.ran program s addresses h in
+    let t = next c.args.classes.now.world c.args.verified.now c.args.at program c.args.texts.now.names s addresses before h k c.loop-left.now now r in
+    let q = e.stepped program r.t t (addresses ++ r.runs.more)
+    (steps_in c.args.classes.now.world c.args.verified.now c.args.at program c.args.texts.now.names s addresses before h k c.loop-left.now now r) in
+    let one =
+    ran_on c.args.classes.now.world c.args.verified.now c.args.at program c.args.texts.now.names s addresses before h k c.loop-left.now now r c.step_in_method.new.at after
+    (subst (λ (b : Bool). SteppedTo b program c.args.texts.now.names t (addresses ++ r.runs.more) c.step_in_method.new.at now after) c.in-Ok-true.field-0-test q) in
+    can_run c.args.classes.now.world c.args.verified.now c.args.at program c.args.texts.now.names s addresses before h (suc k) c.step_in_method.new.at
+    c.step_in_method.new.frames c.step_in_method.new.control c.step_in_method.new.held (g.S.Store.content c.step_in_method.new.store) one
+
 pub loop-left-preserved : goal.loop-left-preserved
 loop-left-preserved g c =
     let k = c.args.n - c.loop-left.left in
@@ -47,20 +84,27 @@ loop-left-preserved g c =
     let e = c.in-Ok-true.ensures {u = tt} in
     let few = c.loop-left.invariant.few in
     let some = c.loop-left-test.true in
-    let up : suc k ≡ c.args.n - (c.loop-left.left - 1) = omega (arith, few, some) in
+    let j = c.loop-left.left - 1 - c.run_alone-left-in-Ok-true.result in
+    let most = c.run_alone-left-in-Ok-true.ensures.most in
+    let up : suc k + j ≡ c.args.n - c.run_alone-left-in-Ok-true.result = omega (arith, few, some, most) in
+    let last = kept c.run_alone-left-in-Ok-true.new.frames c.step_in_method.new.control c.step_in_method.new.held (g.S.Store.content c.step_in_method.new.store) in
     record {
-      few = omega (arith, few);
-      ran =
-          λ program s addresses h.
+      few = omega (arith, few, most);
+      ran = λ program s addresses h.
           let r = c.loop-left.invariant.ran program s addresses h in
           let t = next c.args.classes.now.world c.args.verified.now c.args.at program c.args.texts.now.names s addresses before h k c.loop-left.now now r in
           let q = e.stepped program r.t t (addresses ++ r.runs.more)
           (steps_in c.args.classes.now.world c.args.verified.now c.args.at program c.args.texts.now.names s addresses before h k c.loop-left.now now r) in
-          subst (λ (j : ℕ). RanOn j program c.args.texts.now.names s addresses c.step_in_method.new.at before after) up
-          (ran_on c.args.classes.now.world c.args.verified.now c.args.at program c.args.texts.now.names s addresses before h k c.loop-left.now now r c.step_in_method.new.at after
-          (subst (λ (b : Bool). SteppedTo b program c.args.texts.now.names t (addresses ++ r.runs.more) c.step_in_method.new.at now after) c.in-Ok-true.field-0-test q));
+          let one =
+          ran_on c.args.classes.now.world c.args.verified.now c.args.at program c.args.texts.now.names s addresses before h k c.loop-left.now now r c.step_in_method.new.at after
+          (subst (λ (b : Bool). SteppedTo b program c.args.texts.now.names t (addresses ++ r.runs.more) c.step_in_method.new.at now after) c.in-Ok-true.field-0-test q) in
+          subst (λ (i : ℕ). RanOn i program c.args.texts.now.names s addresses c.run_alone-left-in-Ok-true.new.at before last) up
+          (ran_and_ran c.args.classes.now.world c.args.verified.now c.args.at program c.args.texts.now.names s addresses before h (suc k) c.step_in_method.new.at
+          c.step_in_method.new.frames c.step_in_method.new.control c.step_in_method.new.held (g.S.Store.content c.step_in_method.new.store) one j c.run_alone-left-in-Ok-true.new.at
+          c.run_alone-left-in-Ok-true.new.frames c.run_alone-left-in-Ok-true.ensures.ran c.run_alone-left-in-Ok-true.ensures.only);
       linked = c.step_in_method.ensures.linked;
       fewer = let a = e.fewer in let b = c.loop-left.invariant.fewer in omega (arith, a, b);
+      still = λ none. absurd (omega (arith, few, some, most, none));
       room = let a = e.room in let b = c.loop-left.invariant.room in omega (arith, a, b);
     }
 
@@ -131,3 +175,33 @@ returns-clause-ran g c = λ program s addresses h.
     (stands program c.args.texts.now.names r.t (addresses ++ r.runs.more) c.loop-left.now c.loop-left.frames c.loop-left.control c.loop-left.held
     (g.S.Store.content c.loop-left.store) r.runs.runs c.suspend-2.new.frames c.suspend-2.ensures.suspends)
     refl)
+
+pub returns-in-Ok-false-clause-still_held : goal.returns-in-Ok-false-clause-still_held
+returns-in-Ok-false-clause-still_held g c = λ none.
+    let few = c.loop-left.invariant.few in
+    let some = c.loop-left-test.true in
+    absurd (omega (arith, few, some, none))
+
+pub returns-in-Ok-false-clause-still_content : goal.returns-in-Ok-false-clause-still_content
+returns-in-Ok-false-clause-still_content g c = λ none.
+    let few = c.loop-left.invariant.few in
+    let some = c.loop-left-test.true in
+    absurd (omega (arith, few, some, none))
+
+pub returns-in-Err-clause-still_held : goal.returns-in-Err-clause-still_held
+returns-in-Err-clause-still_held g c = λ none. (c.in-Err.ensures {u = tt}).refused ∙ (c.loop-left.invariant.still none).0
+
+pub returns-in-Err-clause-still_content : goal.returns-in-Err-clause-still_content
+returns-in-Err-clause-still_content g c = λ none. (c.in-Err.ensures {u = tt}).refused_content ∙ (c.loop-left.invariant.still none).1
+
+pub returns-clause-still_held : goal.returns-clause-still_held
+returns-clause-still_held g c = λ none.
+    let over = c.loop-left-test.false in
+    let same : c.loop-left.left ≡ c.args.n = omega (arith, over, none) in
+    (c.loop-left.invariant.still same).0
+
+pub returns-clause-still_content : goal.returns-clause-still_content
+returns-clause-still_content g c = λ none.
+    let over = c.loop-left-test.false in
+    let same : c.loop-left.left ≡ c.args.n = omega (arith, over, none) in
+    (c.loop-left.invariant.still same).1

@@ -12,6 +12,7 @@ invariant-loop-left g l = record {
       (kept l.fn.frames l.fn.control l.fn.held (g.S.Store.content l.fn.store)) l.now (kept l.frames l.control l.held (g.S.Store.content l.store));
   linked : IsLinked l.classes.world l.linked;
   fewer : l.held.cells ≤ l.fn.held.cells;
+  still : l.left ≡ l.n → (l.held ≡ l.fn.held) × (g.S.Store.content l.store ≡ g.S.Store.content l.fn.store);
   room : g.S.Store.room_left l.fn.store + l.held.cells ≡ g.S.Store.room_left l.store + l.fn.held.cells;
 }
 

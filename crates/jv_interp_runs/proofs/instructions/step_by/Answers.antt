@@ -1,37 +1,25 @@
-use Rattle.std.proofs.Common.{◌≡◌, ℕ, ◌≤◌, ◌<◌, Bool, List, Result, Ok, Err, length, refl, sym, ap, subst, ◌∙◌, arith}
+use Rattle.std.proofs.Common.{◌≡◌, ℕ, Bool, Result, Ok, Err, length, refl, sym, ap, ◌∙◌, arith}
 use Rattle.std.specs.Prelude.{IfOk, ◌++◌, take, drop}
 use Rattle.std.specs.Vec.{with_items}
 use Rattle.std.proofs.Math.Seq.{take-append_seam}
-use Rattle.jv_interp_memory.specs.Growing.{DidIn}
-use Rattle.jv_interp_memory.specs.Executing.{Place, place}
+use Rattle.jv_interp_memory.specs.Executing.{Place}
 use Rattle.jv_interp_runs.proofs.Refused.{still, both, frames_then}
-use Rattle.jv_interp_frames.specs.declared.frames.Frames.{Frames}
-use Rattle.jv_interp_frames.specs.Standing.{Kept, kept}
-use Rattle.jv_interp_actions.specs.Acting.{Acting, Acted}
-use Rattle.jv_interp_runs.specs.Stepping.{StepsIn, SteppedIn}
-use Rattle.jv_interp_runs.proofs.Executed.{frame, below, ws, taken, nexts, can_decode, can_execute, did, acting, stepped, cells_after}
-use Rattle.jv_interp_runs.proofs.instructions.step_in_method.Goals as goal
+use Rattle.jv_interp_runs.proofs.Executed.{decoded_in, can_execute, did, acting, stepped, cells_after}
+use Rattle.jv_interp_runs.proofs.instructions.step_by.Goals as goal
 
 acted_stepped : {E : Type 0} {P Q : Bool → Type 0} (r : Result Bool E) → IfOk r P → ((b : Bool) → P b → Q b) → IfOk r Q
 acted_stepped (Ok b) p f = f b p
 acted_stepped (Err e) p f = tt
-
-pub decode-next-requires : goal.decode-next-requires
-decode-next-requires g c =
-    let w = c.requires.can in
-    can_decode c.args.classes.now.world c.args.verified.now c.args.at.now w.program c.args.texts.now.names w.s w.t w.addresses c.args.frames.now c.args.control.now c.args.held.now
-    (g.S.Store.content c.args.store.now) w.steps c.args.methods.now c.requires.methods
 
 pub execute-requires-clause-can : goal.execute-requires-clause-can
 execute-requires-clause-can g c =
     let w = c.requires.can in
     let frames = c.args.frames.now in
     let at = c.args.at.now in
-    let n = nexts c.args.classes.now.world c.args.verified.now at w.program c.args.texts.now.names w.s w.t w.addresses frames c.args.control.now c.args.held.now
-    (g.S.Store.content c.args.store.now) w.steps c.args.methods.now c.requires.methods in
     can_execute c.args.classes.now.world c.args.verified.now at w.program c.args.texts.now.names w.s w.t w.addresses frames c.args.control.now c.args.held.now
-    (g.S.Store.content c.args.store.now) w.steps c.args.linked.now c.requires.linked c.decode-next.result.0 _ c.decode-next.result.2
-    (c.decode-next.ensures.decodes w.program w.addresses at.base _ _ _ _ n) c.deref.result.now c.deref_mut.result.now c.deref.ensures.value c.deref_mut.ensures.value
+    (g.S.Store.content c.args.store.now) w.steps c.args.linked.now c.requires.linked c.args.site _ c.args.next
+    (decoded_in c.args.classes.now.world c.args.verified.now c.args.at.now w.program c.args.texts.now.names w.s w.t w.addresses c.args.frames.now c.args.control.now c.args.held.now
+    (g.S.Store.content c.args.store.now) w.steps c.args.site _ c.args.next c.requires.stands) c.deref.result.now c.deref_mut.result.now c.deref.ensures.value c.deref_mut.ensures.value
 
 pub act-requires-clause-can : goal.act-requires-clause-can
 act-requires-clause-can g c =
@@ -42,11 +30,10 @@ act-requires-clause-can g c =
     let all : (with_items frames.words new).items ≡ new =
     ap (λ (n : ℕ). take n (new ++ drop (length new) frames.words.items)) same_size ∙ take-append_seam new (drop (length new) frames.words.items) in
     let sizes : length new ≡ length frames.words.items = c.execute.auto.words ∙ ap length c.deref_mut.ensures.value in
-    let n = nexts c.args.classes.now.world c.args.verified.now c.args.at.now w.program c.args.texts.now.names w.s w.t w.addresses frames c.args.control.now c.args.held.now
-    (g.S.Store.content c.args.store.now) w.steps c.args.methods.now c.requires.methods in
     let d = did c.args.classes.now.world c.args.verified.now c.args.at.now w.program c.args.texts.now.names w.s w.t w.addresses frames c.args.control.now c.args.held.now
-    (g.S.Store.content c.args.store.now) w.steps c.args.linked.now c.requires.linked c.decode-next.result.0 _ c.decode-next.result.2
-    (c.decode-next.ensures.decodes w.program w.addresses c.args.at.now.base _ _ _ _ n) c.deref.result.now c.deref_mut.result.now c.execute.new.at new c.execute.new.held
+    (g.S.Store.content c.args.store.now) w.steps c.args.linked.now c.requires.linked c.args.site _ c.args.next
+    (decoded_in c.args.classes.now.world c.args.verified.now c.args.at.now w.program c.args.texts.now.names w.s w.t w.addresses c.args.frames.now c.args.control.now c.args.held.now
+    (g.S.Store.content c.args.store.now) w.steps c.args.site _ c.args.next c.requires.stands) c.deref.result.now c.deref_mut.result.now c.execute.new.at new c.execute.new.held
     (g.S.Store.content c.execute.new.store) c.in_ok-effect.effect c.deref.ensures.value c.deref_mut.ensures.value c.in_ok-effect.ensures.done in
     record {
       program = w.program;
@@ -70,11 +57,10 @@ act-requires-clause-few g c =
     let all : (with_items frames.words new).items ≡ new =
     ap (λ (n : ℕ). take n (new ++ drop (length new) frames.words.items)) same_size ∙ take-append_seam new (drop (length new) frames.words.items) in
     let sizes : length new ≡ length frames.words.items = c.execute.auto.words ∙ ap length c.deref_mut.ensures.value in
-    let n = nexts c.args.classes.now.world c.args.verified.now c.args.at.now w.program c.args.texts.now.names w.s w.t w.addresses frames c.args.control.now c.args.held.now
-    (g.S.Store.content c.args.store.now) w.steps c.args.methods.now c.requires.methods in
     let d = did c.args.classes.now.world c.args.verified.now c.args.at.now w.program c.args.texts.now.names w.s w.t w.addresses frames c.args.control.now c.args.held.now
-    (g.S.Store.content c.args.store.now) w.steps c.args.linked.now c.requires.linked c.decode-next.result.0 _ c.decode-next.result.2
-    (c.decode-next.ensures.decodes w.program w.addresses c.args.at.now.base _ _ _ _ n) c.deref.result.now c.deref_mut.result.now c.execute.new.at new c.execute.new.held
+    (g.S.Store.content c.args.store.now) w.steps c.args.linked.now c.requires.linked c.args.site _ c.args.next
+    (decoded_in c.args.classes.now.world c.args.verified.now c.args.at.now w.program c.args.texts.now.names w.s w.t w.addresses c.args.frames.now c.args.control.now c.args.held.now
+    (g.S.Store.content c.args.store.now) w.steps c.args.site _ c.args.next c.requires.stands) c.deref.result.now c.deref_mut.result.now c.execute.new.at new c.execute.new.held
     (g.S.Store.content c.execute.new.store) c.in_ok-effect.effect c.deref.ensures.value c.deref_mut.ensures.value c.in_ok-effect.ensures.done in
     let less =
     cells_after c.args.classes.now.world c.args.verified.now c.args.at.now w.program c.args.texts.now.names w.s w.t w.addresses frames c.args.control.now c.args.held.now
@@ -92,11 +78,10 @@ returns-clause-stepped g c =
     ap (λ (n : ℕ). take n (new ++ drop (length new) frames.words.items)) same_size ∙ take-append_seam new (drop (length new) frames.words.items) in
     let sizes : length new ≡ length frames.words.items = c.execute.auto.words ∙ ap length c.deref_mut.ensures.value in
     acted_stepped c.act.result c.act.ensures.acted (λ goes_on acted. λ program s t addresses h.
-    let n = nexts c.args.classes.now.world c.args.verified.now c.args.at.now program c.args.texts.now.names s t addresses frames c.args.control.now c.args.held.now
-    (g.S.Store.content c.args.store.now) h c.args.methods.now c.requires.methods in
     let d = did c.args.classes.now.world c.args.verified.now c.args.at.now program c.args.texts.now.names s t addresses frames c.args.control.now c.args.held.now
-    (g.S.Store.content c.args.store.now) h c.args.linked.now c.requires.linked c.decode-next.result.0 _ c.decode-next.result.2
-    (c.decode-next.ensures.decodes program addresses c.args.at.now.base _ _ _ _ n) c.deref.result.now c.deref_mut.result.now c.execute.new.at new c.execute.new.held
+    (g.S.Store.content c.args.store.now) h c.args.linked.now c.requires.linked c.args.site _ c.args.next
+    (decoded_in c.args.classes.now.world c.args.verified.now c.args.at.now program c.args.texts.now.names s t addresses c.args.frames.now c.args.control.now c.args.held.now
+    (g.S.Store.content c.args.store.now) h c.args.site _ c.args.next c.requires.stands) c.deref.result.now c.deref_mut.result.now c.execute.new.at new c.execute.new.held
     (g.S.Store.content c.execute.new.store) c.in_ok-effect.effect c.deref.ensures.value c.deref_mut.ensures.value c.in_ok-effect.ensures.done in
     let a =
     acting c.args.classes.now.world c.args.verified.now c.args.at.now program c.args.texts.now.names s t addresses frames c.args.control.now c.args.held.now
@@ -116,11 +101,10 @@ returns-clause-fewer g c =
     let all : (with_items frames.words new).items ≡ new =
     ap (λ (n : ℕ). take n (new ++ drop (length new) frames.words.items)) same_size ∙ take-append_seam new (drop (length new) frames.words.items) in
     let sizes : length new ≡ length frames.words.items = c.execute.auto.words ∙ ap length c.deref_mut.ensures.value in
-    let n = nexts c.args.classes.now.world c.args.verified.now c.args.at.now w.program c.args.texts.now.names w.s w.t w.addresses frames c.args.control.now c.args.held.now
-    (g.S.Store.content c.args.store.now) w.steps c.args.methods.now c.requires.methods in
     let d = did c.args.classes.now.world c.args.verified.now c.args.at.now w.program c.args.texts.now.names w.s w.t w.addresses frames c.args.control.now c.args.held.now
-    (g.S.Store.content c.args.store.now) w.steps c.args.linked.now c.requires.linked c.decode-next.result.0 _ c.decode-next.result.2
-    (c.decode-next.ensures.decodes w.program w.addresses c.args.at.now.base _ _ _ _ n) c.deref.result.now c.deref_mut.result.now c.execute.new.at new c.execute.new.held
+    (g.S.Store.content c.args.store.now) w.steps c.args.linked.now c.requires.linked c.args.site _ c.args.next
+    (decoded_in c.args.classes.now.world c.args.verified.now c.args.at.now w.program c.args.texts.now.names w.s w.t w.addresses c.args.frames.now c.args.control.now c.args.held.now
+    (g.S.Store.content c.args.store.now) w.steps c.args.site _ c.args.next c.requires.stands) c.deref.result.now c.deref_mut.result.now c.execute.new.at new c.execute.new.held
     (g.S.Store.content c.execute.new.store) c.in_ok-effect.effect c.deref.ensures.value c.deref_mut.ensures.value c.in_ok-effect.ensures.done in
     let less =
     cells_after c.args.classes.now.world c.args.verified.now c.args.at.now w.program c.args.texts.now.names w.s w.t w.addresses frames c.args.control.now c.args.held.now

@@ -1,0 +1,75 @@
+use Rattle.jv_code.specs.Opcodes.{array_load_opcode, array_store_opcode, field_opcode, invoke_opcode, return_opcode}
+use Rattle.std.proofs.Common.{length, sym}
+use Rattle.jv_interp_runs.proofs.Known.{starts}
+use Rattle.jv_interp_runs.proofs.Operands.{field_operands, invoke_operands, room_for, with_index, alone}
+use Rattle.jv_interp_runs.proofs.stepping.step_in_method.Goals as goal
+
+pub opcode_at-opcode-requires : goal.opcode_at-opcode-requires
+opcode_at-opcode-requires g c =
+    let w = c.requires.can in
+    starts c.args.classes.now.world c.args.verified.now c.args.at.now w.program c.args.texts.now.names w.s w.t w.addresses c.args.frames.now c.args.control.now
+    c.args.held.now (g.S.Store.content c.args.store.now) w.steps
+
+pub step_known-requires-clause-bytes : goal.step_known-requires-clause-bytes
+step_known-requires-clause-bytes g c =
+    alone c.args.at.now.code.now c.args.at.now.pc c.opcode_at-opcode.result (array_load_opcode c.in-Some.kind) (c.in-Some.ensures {u = tt}) c.opcode_at-opcode.ensures.stands
+
+pub step_known-requires-in-Some-element_stored-clause-bytes : goal.step_known-requires-in-Some-element_stored-clause-bytes
+step_known-requires-in-Some-element_stored-clause-bytes g c =
+    alone c.args.at.now.code.now c.args.at.now.pc c.opcode_at-opcode.result (array_store_opcode c.in-Some-element_stored.kind) (c.in-Some-element_stored.ensures {u = tt}) c.opcode_at-opcode.ensures.stands
+
+pub index_behind-index-requires : goal.index_behind-index-requires
+index_behind-index-requires g c =
+    room_for c.opcode_at-opcode.result (field_opcode c.in-Some-field_access.access) c.args.at.now.pc (length c.args.at.now.code.now) (c.in-Some-field_access.ensures {u = tt})
+    (field_operands c.in-Some-field_access.access) c.opcode_at-opcode.ensures.room
+
+pub step_known-requires-in-Some-field_access-clause-bytes : goal.step_known-requires-in-Some-field_access-clause-bytes
+step_known-requires-in-Some-field_access-clause-bytes g c =
+    with_index c.args.at.now.code.now c.args.at.now.pc c.opcode_at-opcode.result (field_opcode c.in-Some-field_access.access) c.index_behind-index.result (c.in-Some-field_access.ensures {u = tt})
+    c.opcode_at-opcode.ensures.stands c.index_behind-index.ensures.stands
+
+pub index_behind-index-requires-in-Some-invocation : goal.index_behind-index-requires-in-Some-invocation
+index_behind-index-requires-in-Some-invocation g c =
+    room_for c.opcode_at-opcode.result (invoke_opcode c.in-Some-invocation.how) c.args.at.now.pc (length c.args.at.now.code.now) (c.in-Some-invocation.ensures {u = tt})
+    (invoke_operands c.in-Some-invocation.how) c.opcode_at-opcode.ensures.room
+
+pub step_known-requires-in-Some-invocation-clause-bytes : goal.step_known-requires-in-Some-invocation-clause-bytes
+step_known-requires-in-Some-invocation-clause-bytes g c =
+    with_index c.args.at.now.code.now c.args.at.now.pc c.opcode_at-opcode.result (invoke_opcode c.in-Some-invocation.how) c.index_behind-index-in-Some-invocation.result (c.in-Some-invocation.ensures {u = tt})
+    c.opcode_at-opcode.ensures.stands c.index_behind-index-in-Some-invocation.ensures.stands
+
+pub step_known-requires-in-Some-value_returned-clause-bytes : goal.step_known-requires-in-Some-value_returned-clause-bytes
+step_known-requires-in-Some-value_returned-clause-bytes g c =
+    alone c.args.at.now.code.now c.args.at.now.pc c.opcode_at-opcode.result (return_opcode c.in-Some-value_returned.kind) (c.in-Some-value_returned.ensures {u = tt}) c.opcode_at-opcode.ensures.stands
+
+pub step_known-requires-in-50-clause-bytes : goal.step_known-requires-in-50-clause-bytes
+step_known-requires-in-50-clause-bytes g c =
+    alone c.args.at.now.code.now c.args.at.now.pc c.opcode_at-opcode.result 50 (sym c.in-50.is) c.opcode_at-opcode.ensures.stands
+
+pub step_known-requires-in-83-clause-bytes : goal.step_known-requires-in-83-clause-bytes
+step_known-requires-in-83-clause-bytes g c =
+    alone c.args.at.now.code.now c.args.at.now.pc c.opcode_at-opcode.result 83 (sym c.in-83.is) c.opcode_at-opcode.ensures.stands
+
+pub step_known-requires-in-108-clause-bytes : goal.step_known-requires-in-108-clause-bytes
+step_known-requires-in-108-clause-bytes g c =
+    alone c.args.at.now.code.now c.args.at.now.pc c.opcode_at-opcode.result 108 (sym c.in-108.is) c.opcode_at-opcode.ensures.stands
+
+pub step_known-requires-in-109-clause-bytes : goal.step_known-requires-in-109-clause-bytes
+step_known-requires-in-109-clause-bytes g c =
+    alone c.args.at.now.code.now c.args.at.now.pc c.opcode_at-opcode.result 109 (sym c.in-109.is) c.opcode_at-opcode.ensures.stands
+
+pub step_known-requires-in-112-clause-bytes : goal.step_known-requires-in-112-clause-bytes
+step_known-requires-in-112-clause-bytes g c =
+    alone c.args.at.now.code.now c.args.at.now.pc c.opcode_at-opcode.result 112 (sym c.in-112.is) c.opcode_at-opcode.ensures.stands
+
+pub step_known-requires-in-113-clause-bytes : goal.step_known-requires-in-113-clause-bytes
+step_known-requires-in-113-clause-bytes g c =
+    alone c.args.at.now.code.now c.args.at.now.pc c.opcode_at-opcode.result 113 (sym c.in-113.is) c.opcode_at-opcode.ensures.stands
+
+pub step_known-requires-in-177-clause-bytes : goal.step_known-requires-in-177-clause-bytes
+step_known-requires-in-177-clause-bytes g c =
+    alone c.args.at.now.code.now c.args.at.now.pc c.opcode_at-opcode.result 177 (sym c.in-177.is) c.opcode_at-opcode.ensures.stands
+
+pub step_known-requires-in-190-clause-bytes : goal.step_known-requires-in-190-clause-bytes
+step_known-requires-in-190-clause-bytes g c =
+    alone c.args.at.now.code.now c.args.at.now.pc c.opcode_at-opcode.result 190 (sym c.in-190.is) c.opcode_at-opcode.ensures.stands

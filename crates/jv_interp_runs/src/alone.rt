@@ -1,0 +1,20 @@
+//! Runs of instructions that work on the words of their frame alone.
+
+ghost use Rattle.std.specs.Prelude.{◌-◌, ◌≤◌};
+ghost use Rattle.jv_interp_steps.specs.Running.{CanRun, RunsTo};
+ghost use Rattle.jv_interp_runs.specs.Inside.Words.{OnlyInWords};
+
+use jv_interp_frames::Frames;
+use jv_interp_steps::run_in_words;
+use jv_interp_words::Registers;
+
+/// Takes at most so many steps of the method in the registers, while they work on its frame's words alone; answers how many are left.
+#[inline(always)]
+pub(crate) fn run_alone<'l>(frames: &mut Frames, at: &mut Registers<'l>, n: u64) -> u64
+    requires { CanRun at.old frames.old.words.items }
+    ensures ran { RunsTo (n - result) at.old frames.old.words.items at.new frames.new.words.items }
+    ensures only { OnlyInWords frames.old frames.new }
+    ensures most { result ≤ n }
+{
+    run_in_words(&mut frames.words, at, n)
+}

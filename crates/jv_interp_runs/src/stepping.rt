@@ -1,0 +1,307 @@
+//! Steps of the method that runs, by the opcode at hand.
+
+ghost use Rattle.std.specs.Prelude.{◌≡◌, ◌+◌, ◌<◌, ◌≤◌, IfOk, IsOk, IsTrue, OnOk, OnErr};
+ghost use Rattle.jv_linked.specs.Linked.{IsLinked};
+ghost use Rattle.jv_interp_methods.specs.Methods.{AreMethods};
+ghost use Rattle.jv_interp_methods.specs.Texts.{AreTexts};
+ghost use Rattle.jv_interp_frames.specs.Standing.{kept};
+ghost use Rattle.jv_interp_actions.specs.Acting.{AreAsBefore};
+ghost use Rattle.jv_interp_runs.specs.Stepping.{CanStepIn, SteppedIn};
+
+use crate::decoding::{decode, index_behind, opcode_at};
+use crate::instructions::{step_by, step_known};
+use crate::opcodes::{element_loaded, element_stored, field_access, invocation, value_returned};
+use jv_code::{
+    DivisionOperator, FieldAccess, Insn, Invocation, NumberElement, NumberKind, ValueKind,
+};
+use jv_heap::{Memory, Store};
+use jv_interp_frames::{Control, Frames};
+use jv_interp_memory::Held;
+use jv_interp_methods::{Methods, Texts};
+use jv_interp_words::Registers;
+use jv_linked::Linked;
+use jv_loader::Classes;
+
+/// A step at any instruction.
+fn step_decoded<'a, 'l, S: Store>(
+    classes: &Classes<'a>,
+    linked: &mut Linked<'a>,
+    methods: &Methods<'a>,
+    texts: &Texts<'a>,
+    verified: &[bool],
+    frames: &mut Frames,
+    control: &mut Control,
+    held: &mut Held,
+    store: &mut S,
+    at: &mut Registers<'l>,
+) -> Result<bool, Memory>
+    requires can { CanStepIn classes.now.world verified.now texts.now.names at.old
+        (kept frames.old control.old held.old (S.content store.old)) }
+    requires linked { IsLinked classes.now.world linked.old }
+    requires methods { AreMethods classes.now.world methods.now }
+    requires texts { AreTexts classes.now.world texts.now }
+    requires cells { held.old.cells ≤ S.room_left store.old }
+    requires few { held.old.cells < 2147483648 }
+    ensures stepped { IfOk result (SteppedIn classes.now.world verified.now texts.now.names at.old
+        (kept frames.old control.old held.old (S.content store.old)) at.new
+        (kept frames.new control.new held.new (S.content store.new))) }
+    ensures fewer { held.new.cells ≤ held.old.cells }
+    ensures room { OnOk result (S.room_left store.old + held.new.cells ≡ S.room_left store.new + held.old.cells) }
+    ensures linked { IsLinked classes.now.world linked.new }
+    ensures refused_at { OnErr result (at.new ≡ at.old) }
+    ensures refused_frames { OnErr result (AreAsBefore frames.old frames.new) }
+    ensures refused_control { OnErr result (control.new ≡ control.old) }
+    ensures refused { OnErr result (held.new ≡ held.old) }
+    ensures refused_content { OnErr result (S.content store.new ≡ S.content store.old) }
+    ensures refused_room { OnErr result (S.room_left store.new ≡ S.room_left store.old) }
+    ensures sure { IsTrue S.SURE → IsOk result }
+{
+    let (site, insn, next) = decode(methods, at.method, at.pc);
+    step_by(
+        classes, linked, methods, texts, verified, frames, control, held, store, at, site, insn,
+        next,
+    )
+}
+
+/// Executes the instruction at which the method in the registers stands (JVMS 2.11), and does what its effect asks for. Answers whether
+/// the method goes on in the registers; where it doesn't, all frames stand in their records, from which the newest goes on. Where the
+/// opcode says which instruction it is, but for an index, that is at hand.
+///
+/// # Errors
+///
+/// Where the host had no memory for what is made; all is then as it was, but for what linking has found.
+#[inline(always)]
+pub(crate) fn step_in_method<'a, 'l, S: Store>(
+    classes: &Classes<'a>,
+    linked: &mut Linked<'a>,
+    methods: &Methods<'a>,
+    texts: &Texts<'a>,
+    verified: &[bool],
+    frames: &mut Frames,
+    control: &mut Control,
+    held: &mut Held,
+    store: &mut S,
+    at: &mut Registers<'l>,
+) -> Result<bool, Memory>
+    requires can { CanStepIn classes.now.world verified.now texts.now.names at.old
+        (kept frames.old control.old held.old (S.content store.old)) }
+    requires linked { IsLinked classes.now.world linked.old }
+    requires methods { AreMethods classes.now.world methods.now }
+    requires texts { AreTexts classes.now.world texts.now }
+    requires cells { held.old.cells ≤ S.room_left store.old }
+    requires few { held.old.cells < 2147483648 }
+    ensures stepped { IfOk result (SteppedIn classes.now.world verified.now texts.now.names at.old
+        (kept frames.old control.old held.old (S.content store.old)) at.new
+        (kept frames.new control.new held.new (S.content store.new))) }
+    ensures fewer { held.new.cells ≤ held.old.cells }
+    ensures room { OnOk result (S.room_left store.old + held.new.cells ≡ S.room_left store.new + held.old.cells) }
+    ensures linked { IsLinked classes.now.world linked.new }
+    ensures refused_at { OnErr result (at.new ≡ at.old) }
+    ensures refused_frames { OnErr result (AreAsBefore frames.old frames.new) }
+    ensures refused_control { OnErr result (control.new ≡ control.old) }
+    ensures refused { OnErr result (held.new ≡ held.old) }
+    ensures refused_content { OnErr result (S.content store.new ≡ S.content store.old) }
+    ensures refused_room { OnErr result (S.room_left store.new ≡ S.room_left store.old) }
+    ensures sure { IsTrue S.SURE → IsOk result }
+{
+    let opcode = opcode_at(at.code, at.pc as usize);
+    if let Some(kind) = element_loaded(opcode) {
+        return step_known(
+            classes,
+            linked,
+            methods,
+            texts,
+            verified,
+            frames,
+            control,
+            held,
+            store,
+            at,
+            Insn::ArrayLoad(kind),
+            1,
+        );
+    }
+    if let Some(kind) = element_stored(opcode) {
+        return step_known(
+            classes,
+            linked,
+            methods,
+            texts,
+            verified,
+            frames,
+            control,
+            held,
+            store,
+            at,
+            Insn::ArrayStore(kind),
+            1,
+        );
+    }
+    if let Some(access) = field_access(opcode) {
+        let index = index_behind(at.code, at.pc as usize);
+        return step_known(
+            classes,
+            linked,
+            methods,
+            texts,
+            verified,
+            frames,
+            control,
+            held,
+            store,
+            at,
+            Insn::Field(access, index),
+            3,
+        );
+    }
+    if let Some(how) = invocation(opcode) {
+        let index = index_behind(at.code, at.pc as usize);
+        return step_known(
+            classes,
+            linked,
+            methods,
+            texts,
+            verified,
+            frames,
+            control,
+            held,
+            store,
+            at,
+            Insn::Invoke(how, index),
+            3,
+        );
+    }
+    if let Some(kind) = value_returned(opcode) {
+        return step_known(
+            classes,
+            linked,
+            methods,
+            texts,
+            verified,
+            frames,
+            control,
+            held,
+            store,
+            at,
+            Insn::ReturnValue(kind),
+            1,
+        );
+    }
+    match opcode {
+        50 => step_known(
+            classes,
+            linked,
+            methods,
+            texts,
+            verified,
+            frames,
+            control,
+            held,
+            store,
+            at,
+            Insn::ReferenceArrayLoad,
+            1,
+        ),
+        83 => step_known(
+            classes,
+            linked,
+            methods,
+            texts,
+            verified,
+            frames,
+            control,
+            held,
+            store,
+            at,
+            Insn::ReferenceArrayStore,
+            1,
+        ),
+        108 => step_known(
+            classes,
+            linked,
+            methods,
+            texts,
+            verified,
+            frames,
+            control,
+            held,
+            store,
+            at,
+            Insn::Division(NumberKind::Int, DivisionOperator::Divide),
+            1,
+        ),
+        109 => step_known(
+            classes,
+            linked,
+            methods,
+            texts,
+            verified,
+            frames,
+            control,
+            held,
+            store,
+            at,
+            Insn::Division(NumberKind::Long, DivisionOperator::Divide),
+            1,
+        ),
+        112 => step_known(
+            classes,
+            linked,
+            methods,
+            texts,
+            verified,
+            frames,
+            control,
+            held,
+            store,
+            at,
+            Insn::Division(NumberKind::Int, DivisionOperator::Remainder),
+            1,
+        ),
+        113 => step_known(
+            classes,
+            linked,
+            methods,
+            texts,
+            verified,
+            frames,
+            control,
+            held,
+            store,
+            at,
+            Insn::Division(NumberKind::Long, DivisionOperator::Remainder),
+            1,
+        ),
+        177 => step_known(
+            classes,
+            linked,
+            methods,
+            texts,
+            verified,
+            frames,
+            control,
+            held,
+            store,
+            at,
+            Insn::Return,
+            1,
+        ),
+        190 => step_known(
+            classes,
+            linked,
+            methods,
+            texts,
+            verified,
+            frames,
+            control,
+            held,
+            store,
+            at,
+            Insn::ArrayLength,
+            1,
+        ),
+        _ => step_decoded(
+            classes, linked, methods, texts, verified, frames, control, held, store, at,
+        ),
+    }
+}
