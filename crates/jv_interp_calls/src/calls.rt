@@ -23,6 +23,7 @@ use jv_meaning_linking::method_is_called;
 
 /// invokestatic: the method that the constant at an index names is entered, once its class is initialized or being initialized; what
 /// host/Io does is done at once.
+#[inline(always)]
 pub fn call_static<'a, 'l>(
     classes: &Classes<'a>,
     linked: &mut Linked<'a>,
@@ -70,6 +71,7 @@ pub fn call_static<'a, 'l>(
 
 /// invokevirtual and invokeinterface: the method that the object's class has for the one that the constant at an index names is
 /// entered on the object below the arguments.
+#[inline(always)]
 pub fn call_virtual<'a, 'l, S: Store>(
     classes: &Classes<'a>,
     linked: &mut Linked<'a>,
@@ -112,6 +114,7 @@ pub fn call_virtual<'a, 'l, S: Store>(
 
 /// invokespecial: the `<init>` that the constant at an index names is entered on the object below the arguments, or another method, as
 /// the current class has it above itself.
+#[inline(always)]
 pub fn call_special<'a, 'l, S: Store>(
     classes: &Classes<'a>,
     linked: &mut Linked<'a>,

@@ -53,6 +53,7 @@ fn narrowing_by(kind: FieldKind) -> Narrowing
 }
 
 /// getfield: the value of the field that the constant at an index names, of the object on top, comes to stand in the object's place.
+#[inline(always)]
 pub fn getfield<'a, 'l, S: Store>(
     classes: &Classes<'a>,
     linked: &mut Linked<'a>,
@@ -84,6 +85,7 @@ pub fn getfield<'a, 'l, S: Store>(
 }
 
 /// putfield: the value on top is stored in the field that the constant at an index names, of the object below it.
+#[inline(always)]
 pub fn putfield<'a, 'l, S: Store>(
     classes: &Classes<'a>,
     linked: &mut Linked<'a>,
@@ -118,6 +120,7 @@ pub fn putfield<'a, 'l, S: Store>(
 
 /// getstatic: the value of the field that the constant at an index names comes to stand on top, once its class is initialized or being
 /// initialized.
+#[inline(always)]
 pub fn getstatic<'a, 'l>(
     classes: &Classes<'a>,
     linked: &mut Linked<'a>,
@@ -155,6 +158,7 @@ pub fn getstatic<'a, 'l>(
 
 /// putstatic: the value on top is stored in the field that the constant at an index names, once its class is initialized or being
 /// initialized.
+#[inline(always)]
 pub fn putstatic<'a, 'l>(
     classes: &Classes<'a>,
     linked: &mut Linked<'a>,

@@ -16,6 +16,7 @@ use jv_interp_words::Registers;
 use jv_meaning_machine::execution_keeps;
 
 /// `arraylength`.
+#[inline(always)]
 pub(crate) fn execute_array_length<'l, S: Store>(
     store: &S,
     held: &Held,
@@ -36,6 +37,7 @@ pub(crate) fn execute_array_length<'l, S: Store>(
 }
 
 /// Whether such numbers are longs.
+#[inline(always)]
 fn is_long(kind: NumberElement) -> bool
     ensures { number_words kind ≡ (if result then 2 else 1) }
 {
@@ -43,6 +45,7 @@ fn is_long(kind: NumberElement) -> bool
 }
 
 /// `iaload` and its kin.
+#[inline(always)]
 pub(crate) fn execute_array_load<'l, S: Store>(
     store: &S,
     held: &Held,
@@ -68,6 +71,7 @@ pub(crate) fn execute_array_load<'l, S: Store>(
 }
 
 /// `aaload`.
+#[inline(always)]
 pub(crate) fn execute_reference_array_load<'l, S: Store>(
     store: &S,
     held: &Held,

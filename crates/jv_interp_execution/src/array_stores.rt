@@ -15,6 +15,7 @@ use jv_interp_objects::Narrowing;
 use jv_interp_words::Registers;
 
 /// `iastore` and its kin.
+#[inline(always)]
 pub(crate) fn execute_array_store<'l, S: Store>(
     store: &mut S,
     held: &Held,

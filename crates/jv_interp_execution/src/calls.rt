@@ -21,6 +21,7 @@ use jv_loader::Classes;
 use jv_meaning_machine::execution_keeps;
 
 /// `invokevirtual`, `invokespecial` and `invokestatic`.
+#[inline(always)]
 pub(crate) fn execute_invocation<'a, 'l, S: Store>(
     classes: &Classes<'a>,
     linked: &mut Linked<'a>,

@@ -19,6 +19,7 @@ use jv_loader::Classes;
 use jv_meaning_machine::execution_keeps;
 
 /// `getstatic`, `putstatic`, `getfield` and `putfield`.
+#[inline(always)]
 pub(crate) fn execute_field<'a, 'l, S: Store>(
     classes: &Classes<'a>,
     linked: &mut Linked<'a>,

@@ -18,6 +18,7 @@ use jv_loader::Classes;
 use jv_meaning_machine::execution_keeps;
 
 /// The lower and the higher half of a long.
+#[inline(always)]
 fn halves(value: i64) -> (u32, u32)
     ensures { long_of result.0 result.1 ≡ value }
 {
@@ -26,6 +27,7 @@ fn halves(value: i64) -> (u32, u32)
 }
 
 /// The halves of the long at an index of the class with a number, where one is there.
+#[inline(always)]
 fn long_constant<'a>(classes: &Classes<'a>, class: usize, index: u16) -> Option<(u32, u32)>
     requires { class < length classes.now.world }
     ensures { IsLongOf classes.now.world class index result }
@@ -41,6 +43,7 @@ fn long_constant<'a>(classes: &Classes<'a>, class: usize, index: u16) -> Option<
 }
 
 /// `ldc2_w`.
+#[inline(always)]
 pub(crate) fn execute_pool_long_constant<'a, 'l, S: Store>(
     classes: &Classes<'a>,
     site: Site,

@@ -27,6 +27,7 @@ pub enum PoolConstant<'a> {
 }
 
 /// The constant at an index of the class with a number, where it can be pushed.
+#[inline(always)]
 fn constant_of<'a>(classes: &Classes<'a>, class: usize, index: u16) -> Option<PoolConstant<'a>>
     requires { class < length classes.now.world }
     ensures { IsConstantOf classes.now.world class index result }
@@ -49,6 +50,7 @@ fn constant_of<'a>(classes: &Classes<'a>, class: usize, index: u16) -> Option<Po
 /// # Errors
 ///
 /// Where the host had no memory for a string; all is then as it was.
+#[inline(always)]
 pub(crate) fn execute_pool_constant<'a, 'l, S: Store>(
     classes: &Classes<'a>,
     texts: &Texts<'a>,

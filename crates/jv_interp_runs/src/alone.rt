@@ -16,5 +16,8 @@ pub(crate) fn run_alone<'l>(frames: &mut Frames, at: &mut Registers<'l>, n: u64)
     ensures only { OnlyInWords frames.old frames.new }
     ensures most { result ≤ n }
 {
-    run_in_words(&mut frames.words, at, n)
+    let mut own = *at;
+    let left = run_in_words(&mut frames.words, &mut own, n);
+    *at = own;
+    left
 }

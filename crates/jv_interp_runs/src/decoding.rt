@@ -1,7 +1,7 @@
 //! Instructions in the code of methods.
 
 ghost use Rattle.std.specs.Prelude.{◌≡◌, ◌+◌, ◌≤◌, [], ◌∷◌, length, IsTrue};
-ghost use Rattle.jv_format.specs.Format.{half};
+ghost use Rattle.jv_format.specs.Format.{byte, half};
 ghost use Rattle.jv_code.specs.Insns.{instruction_of};
 ghost use Rattle.jv_code.specs.Operands.{HasBytes, least_operands};
 ghost use Rattle.jv_code.specs.Places.{IsStart};
@@ -63,4 +63,14 @@ pub(crate) fn index_behind(code: &[u8], pc: usize) -> u16
     ensures fits { IsTrue (half.fits result) }
 {
     u16::from(code[pc + 1]) * 256 + u16::from(code[pc + 2])
+}
+
+/// The index in the byte behind the opcode at an offset.
+#[inline(always)]
+pub(crate) fn index_in_byte(code: &[u8], pc: usize) -> u16
+    requires { pc + 2 ≤ length code.now }
+    ensures stands { HasBytes code.now (pc + 1) (byte.spelling result) }
+    ensures fits { IsTrue (byte.fits result) }
+{
+    u16::from(code[pc + 1])
 }

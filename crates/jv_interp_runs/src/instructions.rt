@@ -133,10 +133,13 @@ pub(crate) fn step_known<'a, 'l, S: Store>(
     ensures refused_room { OnErr result (S.room_left store.new ≡ S.room_left store.old) }
     ensures sure { IsTrue S.SURE → IsOk result }
 {
-    let site = site_of(methods, at.method, at.pc);
-    let next = at.pc + size;
-    step_by(
-        classes, linked, methods, texts, verified, frames, control, held, store, at, site, insn,
-        next,
-    )
+    let mut own = *at;
+    let site = site_of(methods, own.method, own.pc);
+    let next = own.pc + size;
+    let result = step_by(
+        classes, linked, methods, texts, verified, frames, control, held, store, &mut own, site,
+        insn, next,
+    );
+    *at = own;
+    result
 }

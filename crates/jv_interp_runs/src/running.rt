@@ -65,26 +65,29 @@ fn run_method<'a, 'l, S: Store>(
     ensures sure { IsTrue S.SURE → result.refused ≡ false }
 {
     let mut now = at;
-    let mut left = run_alone(frames, &mut now, n);
+    let mut left = n;
     while left > 0 {
-        match step_in_method(
-            classes, linked, methods, texts, verified, frames, control, held, store, &mut now,
-        ) {
-            Ok(true) => {
-                left = run_alone(frames, &mut now, left - 1);
-            }
-            Ok(false) => {
-                return Turn {
-                    left: left - 1,
-                    refused: false,
-                };
-            }
-            Err(_) => {
-                suspend(frames, now, now.top);
-                return Turn {
-                    left,
-                    refused: true,
-                };
+        left = run_alone(frames, &mut now, left);
+        if left > 0 {
+            match step_in_method(
+                classes, linked, methods, texts, verified, frames, control, held, store, &mut now,
+            ) {
+                Ok(true) => {
+                    left -= 1;
+                }
+                Ok(false) => {
+                    return Turn {
+                        left: left - 1,
+                        refused: false,
+                    };
+                }
+                Err(_) => {
+                    suspend(frames, now, now.top);
+                    return Turn {
+                        left,
+                        refused: true,
+                    };
+                }
             }
         }
     }

@@ -8,12 +8,10 @@ ghost use Rattle.jv_interp_frames.specs.Standing.{kept};
 ghost use Rattle.jv_interp_actions.specs.Acting.{AreAsBefore};
 ghost use Rattle.jv_interp_runs.specs.Stepping.{CanStepIn, SteppedIn};
 
-use crate::decoding::{decode, index_behind, opcode_at};
+use crate::decoding::{decode, index_behind, index_in_byte, opcode_at};
 use crate::instructions::{step_by, step_known};
 use crate::opcodes::{element_loaded, element_stored, field_access, invocation, value_returned};
-use jv_code::{
-    DivisionOperator, FieldAccess, Insn, Invocation, NumberElement, NumberKind, ValueKind,
-};
+use jv_code::{DivisionOperator, IndexForm, Insn, NumberKind};
 use jv_heap::{Memory, Store};
 use jv_interp_frames::{Control, Frames};
 use jv_interp_memory::Held;
@@ -300,8 +298,115 @@ pub(crate) fn step_in_method<'a, 'l, S: Store>(
             Insn::ArrayLength,
             1,
         ),
-        _ => step_decoded(
-            classes, linked, methods, texts, verified, frames, control, held, store, at,
-        ),
+        18 => {
+            let index = index_in_byte(at.code, at.pc as usize);
+            step_known(
+                classes,
+                linked,
+                methods,
+                texts,
+                verified,
+                frames,
+                control,
+                held,
+                store,
+                at,
+                Insn::PoolConstant(index, IndexForm::Byte),
+                2,
+            )
+        }
+        19 => {
+            let index = index_behind(at.code, at.pc as usize);
+            step_known(
+                classes,
+                linked,
+                methods,
+                texts,
+                verified,
+                frames,
+                control,
+                held,
+                store,
+                at,
+                Insn::PoolConstant(index, IndexForm::Half),
+                3,
+            )
+        }
+        20 => {
+            let index = index_behind(at.code, at.pc as usize);
+            step_known(
+                classes,
+                linked,
+                methods,
+                texts,
+                verified,
+                frames,
+                control,
+                held,
+                store,
+                at,
+                Insn::PoolLongConstant(index),
+                3,
+            )
+        }
+        187 => {
+            let index = index_behind(at.code, at.pc as usize);
+            step_known(
+                classes,
+                linked,
+                methods,
+                texts,
+                verified,
+                frames,
+                control,
+                held,
+                store,
+                at,
+                Insn::New(index),
+                3,
+            )
+        }
+        192 => {
+            let index = index_behind(at.code, at.pc as usize);
+            step_known(
+                classes,
+                linked,
+                methods,
+                texts,
+                verified,
+                frames,
+                control,
+                held,
+                store,
+                at,
+                Insn::CheckCast(index),
+                3,
+            )
+        }
+        193 => {
+            let index = index_behind(at.code, at.pc as usize);
+            step_known(
+                classes,
+                linked,
+                methods,
+                texts,
+                verified,
+                frames,
+                control,
+                held,
+                store,
+                at,
+                Insn::InstanceOf(index),
+                3,
+            )
+        }
+        _ => {
+            let mut own = *at;
+            let result = step_decoded(
+                classes, linked, methods, texts, verified, frames, control, held, store, &mut own,
+            );
+            *at = own;
+            result
+        }
     }
 }

@@ -1,7 +1,7 @@
 use Rattle.jv_code.specs.Opcodes.{array_load_opcode, array_store_opcode, field_opcode, invoke_opcode, return_opcode}
 use Rattle.std.proofs.Common.{length, sym}
 use Rattle.jv_interp_runs.proofs.Known.{starts}
-use Rattle.jv_interp_runs.proofs.Operands.{field_operands, invoke_operands, room_for, with_index, alone}
+use Rattle.jv_interp_runs.proofs.Operands.{field_operands, invoke_operands, room_for, with_index, with_byte, alone}
 use Rattle.jv_interp_runs.proofs.stepping.step_in_method.Goals as goal
 
 pub opcode_at-opcode-requires : goal.opcode_at-opcode-requires
@@ -73,3 +73,27 @@ step_known-requires-in-177-clause-bytes g c =
 pub step_known-requires-in-190-clause-bytes : goal.step_known-requires-in-190-clause-bytes
 step_known-requires-in-190-clause-bytes g c =
     alone c.args.at.now.code.now c.args.at.now.pc c.opcode_at-opcode.result 190 (sym c.in-190.is) c.opcode_at-opcode.ensures.stands
+
+pub step_known-requires-in-18-clause-bytes : goal.step_known-requires-in-18-clause-bytes
+step_known-requires-in-18-clause-bytes g c =
+    with_byte c.args.at.now.code.now c.args.at.now.pc c.opcode_at-opcode.result 18 c.index_in_byte-index.result (sym c.in-18.is) c.opcode_at-opcode.ensures.stands c.index_in_byte-index.ensures.stands
+
+pub step_known-requires-in-19-clause-bytes : goal.step_known-requires-in-19-clause-bytes
+step_known-requires-in-19-clause-bytes g c =
+    with_index c.args.at.now.code.now c.args.at.now.pc c.opcode_at-opcode.result 19 c.index_behind-index-in-19.result (sym c.in-19.is) c.opcode_at-opcode.ensures.stands c.index_behind-index-in-19.ensures.stands
+
+pub step_known-requires-in-20-clause-bytes : goal.step_known-requires-in-20-clause-bytes
+step_known-requires-in-20-clause-bytes g c =
+    with_index c.args.at.now.code.now c.args.at.now.pc c.opcode_at-opcode.result 20 c.index_behind-index-in-20.result (sym c.in-20.is) c.opcode_at-opcode.ensures.stands c.index_behind-index-in-20.ensures.stands
+
+pub step_known-requires-in-187-clause-bytes : goal.step_known-requires-in-187-clause-bytes
+step_known-requires-in-187-clause-bytes g c =
+    with_index c.args.at.now.code.now c.args.at.now.pc c.opcode_at-opcode.result 187 c.index_behind-index-in-187.result (sym c.in-187.is) c.opcode_at-opcode.ensures.stands c.index_behind-index-in-187.ensures.stands
+
+pub step_known-requires-in-192-clause-bytes : goal.step_known-requires-in-192-clause-bytes
+step_known-requires-in-192-clause-bytes g c =
+    with_index c.args.at.now.code.now c.args.at.now.pc c.opcode_at-opcode.result 192 c.index_behind-index-in-192.result (sym c.in-192.is) c.opcode_at-opcode.ensures.stands c.index_behind-index-in-192.ensures.stands
+
+pub step_known-requires-in-193-clause-bytes : goal.step_known-requires-in-193-clause-bytes
+step_known-requires-in-193-clause-bytes g c =
+    with_index c.args.at.now.code.now c.args.at.now.pc c.opcode_at-opcode.result 193 c.index_behind-index-in-193.result (sym c.in-193.is) c.opcode_at-opcode.ensures.stands c.index_behind-index-in-193.ensures.stands
