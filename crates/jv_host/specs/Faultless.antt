@@ -4,7 +4,8 @@ use Rattle.jv_meaning_machine.specs.Alone.{Feed}
 use Rattle.jv_meaning_machine.specs.Observation.{Observed, Shows, FaultsWithin}
 use Rattle.jv_host.specs.Host.{Admission}
 
--- Whatever is fed to the guest, and whenever: alone it shows something after every number of steps, and its machine meets no fault within them.
+-- Whatever is fed to the guest, and whenever: alone it shows something after every number of steps, and its machine meets no fault within
+-- them.
 pub record NeverFaults (a : Admission) : Type 0 where
   pub shows : (feeds : List Feed) (n : ℕ) → (o : Observed) × Shows a.guest a.budget feeds n o
   pub faultless : (feeds : List Feed) (n : ℕ) → FaultsWithin a.guest a.budget feeds n → ⊥

@@ -17,5 +17,5 @@ pub record AreAlike (a b : Admission) : Type 0 where
 -- Two hosts show the same of two such guests, whatever their numbers are there, and whoever else is.
 abbrev pub TwoWorlds : Type 0
 TwoWorlds =
-    (one other : List Admission) (id place : ℕ) (a b : Admission) (o p : Observed) → slice_get one id ≡ Some a → slice_get other place ≡ Some b
-    → AreAlike a b → IsShown one id o → IsShown other place p → o ≡ p
+    (one other : List Admission) (id place : ℕ) (a b : Admission) (o p : Observed) → slice_get one id ≡ Some a
+    → slice_get other place ≡ Some b → AreAlike a b → IsShown one id o → IsShown other place p → o ≡ p
