@@ -1,4 +1,5 @@
 pub mod Beginnings
+pub mod Faultless
 pub mod Feeding
 pub mod Holdings
 pub mod LongFiles
@@ -7,3 +8,4 @@ pub mod Places
 pub mod Rounding
 pub mod RunsNow
 pub mod Turning
+pub mod Worlds

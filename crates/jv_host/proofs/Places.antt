@@ -84,6 +84,11 @@ module _ {A B : Type 0} (f : A → B) where
   item_of_map (y ∷ ys) zero x e = cc
   item_of_map (y ∷ ys) (suc k) x e = item_of_map ys k x e
 
+  pub item_of_image : (xs : List A) (k : ℕ) (y : B) → slice_get (map f xs) k ≡ Some y → (x : A) × (slice_get xs k ≡ Some x) × (f x ≡ y)
+  item_of_image [] k y e = absurd cc
+  item_of_image (x ∷ xs) zero y e = (x, refl, cc)
+  item_of_image (x ∷ xs) (suc k) y e = item_of_image xs k y e
+
   pub none_of_map : (xs : List A) (k : ℕ) → length xs ≤ k → slice_get (map f xs) k ≡ None
   none_of_map [] k less = refl
   none_of_map (y ∷ ys) zero less = absurd (omega (arith, less))

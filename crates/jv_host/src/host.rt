@@ -6,6 +6,7 @@ ghost use Rattle.jv_interp.specs.Showing.{observed_of};
 ghost use Rattle.jv_host.specs.Files.{guest_of};
 ghost use Rattle.jv_host.specs.Host.{after_feed};
 ghost use Rattle.jv_host.specs.Calls.{admission, IsTurn, IsCutTurn, IsShown, AreShown, RunsAt, OverAt};
+ghost use Rattle.jv_host.specs.Faultless.{NoGuestFaults};
 ghost use Rattle.jv_host.specs.Limits.{first_refusal, IsRefused, feed_refusal, IsFeedRefused};
 
 use crate::admission::{Admitted, begin};
@@ -17,6 +18,7 @@ use jv_interp::Observation;
 use jv_interp_start::Budget;
 use jv_loader::SystemFiles;
 use jv_meaning_typing::Verdict;
+use jv_sound::never_faults;
 use std::alloc::Global;
 use std::hash::RandomState;
 use std::marker::Model;
@@ -180,6 +182,14 @@ impl<'a, S: Store> Host<'a, S> {
             Some(admitted) => Ok(admitted.guest.observe()),
             None => Err(NoGuest),
         }
+    }
+
+    /// A law: no guest that was admitted ever meets a fault on the machine, whatever is fed to it, after any number of steps. Does nothing.
+    pub fn no_guest_faults(&self)
+        ensures { NoGuestFaults self.now }
+    {
+        never_faults();
+        let _known = &self.guests;
     }
 
     /// How many guests there are.

@@ -8,6 +8,7 @@ mod admission;
 mod fault;
 mod files;
 mod host;
+mod laws;
 mod limits;
 mod rounds;
 
@@ -16,3 +17,4 @@ pub use files::GuestFiles;
 pub use host::{GuestId, Host};
 pub use jv_interp::{GuestEnd, Observation};
 pub use jv_interp_start::Budget;
+pub use laws::two_worlds;

@@ -16,7 +16,7 @@ const HI: &[u8; 168] =
 static ONE: [&[u8]; 1] = [HI];
 
 /// The least budget, with room for so many bytes of output.
-fn budget(output: u32) -> Budget {
+pub(crate) fn budget(output: u32) -> Budget {
     Budget {
         cells: 64,
         words: 64,
@@ -31,7 +31,7 @@ const FEW: Budget = Budget {
     output: 0,
 };
 
-fn guest<'a>(files: &'a [&'a [u8]], main: &'a [u8]) -> GuestFiles<'a> {
+pub(crate) fn guest<'a>(files: &'a [&'a [u8]], main: &'a [u8]) -> GuestFiles<'a> {
     GuestFiles {
         files,
         main,
@@ -40,7 +40,7 @@ fn guest<'a>(files: &'a [&'a [u8]], main: &'a [u8]) -> GuestFiles<'a> {
 }
 
 /// What is said to a guest that is to be admitted.
-fn answer_to<'a, S: Store>(
+pub(crate) fn answer_to<'a, S: Store>(
     host: &mut Host<'a, S>,
     files: GuestFiles<'a>,
     budget: Budget,
@@ -52,7 +52,7 @@ fn answer_to<'a, S: Store>(
 }
 
 /// Whether a turn of a guest takes so many steps.
-fn takes<S: Store>(host: &mut Host<'_, S>, id: u32, n: u32, steps: u64) -> bool {
+pub(crate) fn takes<S: Store>(host: &mut Host<'_, S>, id: u32, n: u32, steps: u64) -> bool {
     match host.turn(GuestId(id), n) {
         Ok(taken) => taken == steps,
         Err(_) => false,
@@ -60,7 +60,7 @@ fn takes<S: Store>(host: &mut Host<'_, S>, id: u32, n: u32, steps: u64) -> bool 
 }
 
 /// Whether a guest has written this and takes more steps.
-fn is_running_with<S: Store>(host: &Host<'_, S>, id: u32, output: &[u8]) -> bool {
+pub(crate) fn is_running_with<S: Store>(host: &Host<'_, S>, id: u32, output: &[u8]) -> bool {
     match host.observe(GuestId(id)) {
         Ok(seen) => seen.output == output && matches!(seen.end, GuestEnd::Running),
         Err(_) => false,
@@ -68,7 +68,12 @@ fn is_running_with<S: Store>(host: &Host<'_, S>, id: u32, output: &[u8]) -> bool
 }
 
 /// Whether a guest has written this in so many steps, without a throw, and returned.
-fn has_written<S: Store>(host: &Host<'_, S>, id: u32, output: &[u8], steps: u64) -> bool {
+pub(crate) fn has_written<S: Store>(
+    host: &Host<'_, S>,
+    id: u32,
+    output: &[u8],
+    steps: u64,
+) -> bool {
     match host.observe(GuestId(id)) {
         Ok(seen) => {
             seen.output == output
@@ -92,7 +97,7 @@ fn verdict<S: Store>(host: &Host<'_, S>) -> &'static str {
 }
 
 /// Whether a guest writes `Hi` in turns of 4, 0, 5 and 5 steps.
-fn writes_hi_in_turns<'a, S: Store>(host: &mut Host<'a, S>) -> bool {
+pub(crate) fn writes_hi_in_turns<'a, S: Store>(host: &mut Host<'a, S>) -> bool {
     answer_to(host, guest(&ONE, b"Hi"), budget(64)) == "Admitted"
         && takes(host, 0, 4, 4)
         && is_running_with(host, 0, b"H")
@@ -105,12 +110,12 @@ fn writes_hi_in_turns<'a, S: Store>(host: &mut Host<'a, S>) -> bool {
 
 /// What every host is made of: the system's files, and a state to hash with.
 #[derive(Drop)]
-struct Prepared {
-    system: SystemFiles,
-    state: RandomState,
+pub(crate) struct Prepared {
+    pub(crate) system: SystemFiles,
+    pub(crate) state: RandomState,
 }
 
-fn prepared_with<R: RandomSource + AllocGlobal>(rt: &R) -> Option<Prepared> {
+pub(crate) fn prepared_with<R: RandomSource + AllocGlobal>(rt: &R) -> Option<Prepared> {
     let system = system_files(rt.alloc()).ok()?;
     let state = RandomState::new(rt).ok()?;
     Some(Prepared { system, state })
@@ -213,7 +218,7 @@ fn files_that_do_not_run(rt: HostRuntime) {
 const ERROR: &[u8] = b"java/lang/OutOfMemoryError";
 
 /// Whether a guest has written this and then ended with an error for want of memory.
-fn has_run_out(host: &Host<'_, Blocks>, id: u32, output: &[u8]) -> bool {
+pub(crate) fn has_run_out(host: &Host<'_, Blocks>, id: u32, output: &[u8]) -> bool {
     match host.observe(GuestId(id)) {
         Ok(seen) => {
             seen.output == output

@@ -2,6 +2,8 @@
 #![tactic(auto)]
 
 #[cfg(test)]
+mod feeds;
+#[cfg(test)]
 mod folder;
 #[cfg(test)]
 mod host;
