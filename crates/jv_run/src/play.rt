@@ -6,7 +6,6 @@ ghost use Rattle.jv_host.specs.Calls.{IsRun, IsShown};
 ghost use Rattle.jv_run.specs.Inside.Brought.{named_guest_of};
 ghost use Rattle.jv_run.specs.Inside.Play.{AreReportsOn, HasRun, IsReportOn, at_start, told_of};
 ghost use Rattle.jv_run.specs.Outcome.{AreAllowed, IsGuestsFailure};
-ghost use Rattle.jv_run.specs.declared.failure.Failure.TheVariants.{HostMemory};
 
 use crate::brought::{Brought, guest_files};
 use crate::failure::Failure;
@@ -35,15 +34,13 @@ fn admit_all<'a>(
     Ok(())
 }
 
-/// Gives the guests of a host their turns.
-fn run_all(host: &mut Host<'_, Cells>, settings: Settings) -> Result<(), Failure>
-    ensures ok { OnOk result ((m : ℕ) × IsRun settings.quantum settings.rounds host.old host.new m) }
-    ensures err { IfErr result (λ failure. failure ≡ HostMemory) }
+/// Gives the guests of a host their turns; none is refused, since the host's cells never ask for memory.
+fn run_all(host: &mut Host<'_, Cells>, settings: Settings)
+    ensures { (m : ℕ) × IsRun settings.quantum settings.rounds host.old host.new m }
 {
-    match host.run(settings.quantum, settings.rounds) {
-        Ok(_) => Ok(()),
-        Err(_) => Err(Failure::HostMemory),
-    }
+    let Ok(_) = host.run(settings.quantum, settings.rounds) else {
+        unreachable!()
+    };
 }
 
 /// Admits guests to a host without guests, in their order, and gives them their turns.
@@ -57,7 +54,8 @@ pub(crate) fn play<'a>(
     ensures err { IfErr result (IsGuestsFailure (budget_of settings.budget) (map named_guest_of guests.now)) }
 {
     admit_all(host, guests, settings.budget)?;
-    run_all(host, settings)
+    run_all(host, settings);
+    Ok(())
 }
 
 /// What a guest of the host shows.

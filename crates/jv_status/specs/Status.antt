@@ -1,4 +1,4 @@
--- The status of the program where there is no report.
+-- The status of the program.
 use Rattle.std.specs.Prelude.{◌≡◌, ◌≢◌, ◌⊎◌, ℕ, Result, Ok, Err}
 use Rattle.clap.specs.Values.{kind_of}
 use Rattle.clap.specs.declared.error.kind.ErrorKind.{ErrorKind}
@@ -6,16 +6,18 @@ use Rattle.clap.specs.declared.error.kind.ErrorKind.TheVariants as kinds
 use Rattle.jv_run.specs.Failure.{failure_status}
 use Rattle.jv_run.specs.declared.outcome.Outcome.{Outcome}
 use Rattle.jv_status.specs.declared.stop.Stop.{Stop}
-use Rattle.jv_status.specs.declared.stop.Stop.TheVariants.{CommandLine, Run}
+use Rattle.jv_status.specs.declared.stop.Stop.TheVariants.{CommandLine, Run, Output}
 
 -- words that ask for help or the version have the status 0, and those of a wrong command line 2
 pub record HasWordStatus (kind : ErrorKind) (status : ℕ) : Type 0 where
   pub wrong : kind ≢ kinds.DisplayHelp → kind ≢ kinds.DisplayVersion → status ≡ 2
   pub asked : (kind ≡ kinds.DisplayHelp) ⊎ (kind ≡ kinds.DisplayVersion) → status ≡ 0
 
+-- that of a wrong command line or of a failure, and 6 where the report was not written whole
 abbrev pub HasStatus : Stop → ℕ → Type 0
 HasStatus (CommandLine error) status = HasWordStatus (kind_of error) status
 HasStatus (Run failure) status = status ≡ failure_status failure
+HasStatus Output status = status ≡ 6
 
 -- the status of the program: that of its report, where there is one
 abbrev pub IsStatusOf : Result Outcome Stop → ℕ → Type 0

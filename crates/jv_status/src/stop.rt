@@ -7,13 +7,15 @@ ghost use Rattle.jv_status.specs.declared.stop.Stop.TheVariants.{Run};
 use jv_run::{Failure, Outcome};
 use std::alloc::AllocError;
 
-/// What ends the program without a report.
+/// What ends the program without a report, or without the whole of it on standard output.
 #[derive(Drop)]
 pub enum Stop {
     /// The words of the command line are wrong, or ask for help.
     CommandLine(clap::Error),
     /// There is no report.
     Run(Failure),
+    /// Standard output failed, and a part of the report may be on it.
+    Output,
 }
 
 impl Stop {
@@ -26,6 +28,7 @@ impl Stop {
         match self {
             Stop::CommandLine(error) => u8::try_from(error.exit_code()).unwrap_or(2),
             Stop::Run(failure) => jv_run::status_of(failure),
+            Stop::Output => 6,
         }
     }
 }
