@@ -18,7 +18,7 @@ use jv_heap::{Memory, Store};
 use jv_interp_actions::act;
 use jv_interp_execution::execute;
 use jv_interp_frames::{Control, Frames};
-use jv_interp_memory::Held;
+use jv_interp_memory::{Effect, Held};
 use jv_interp_methods::{Methods, Texts};
 use jv_interp_words::Registers;
 use jv_link::Site;
@@ -74,7 +74,7 @@ pub(crate) fn step_by<'a, 'l, S: Store>(
     ensures sure { IsTrue S.SURE → IsOk result }
 {
     execution_keeps();
-    let effect = execute(
+    match execute(
         classes,
         linked,
         methods,
@@ -87,10 +87,13 @@ pub(crate) fn step_by<'a, 'l, S: Store>(
         at,
         next,
         insn,
-    )?;
-    act(
-        classes, linked, methods, verified, frames, control, held, store, *at, effect,
-    )
+    ) {
+        Ok(Effect::Goes) => Ok(true),
+        Ok(effect) => act(
+            classes, linked, methods, verified, frames, control, held, store, *at, effect,
+        ),
+        Err(refused) => Err(refused),
+    }
 }
 
 /// The same, where the bytes of the instruction are known to stand there: so many.

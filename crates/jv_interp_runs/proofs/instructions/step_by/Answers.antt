@@ -1,8 +1,14 @@
-use Rattle.std.proofs.Common.{◌≡◌, ℕ, Bool, Result, Ok, Err, length, refl, sym, ap, ◌∙◌, arith}
+use Rattle.std.proofs.Common.{◌≡◌, ℕ, Bool, true, Result, Ok, Err, length, refl, sym, ap, subst, ◌∙◌, arith}
 use Rattle.std.specs.Prelude.{IfOk, ◌++◌, take, drop}
 use Rattle.std.specs.Vec.{with_items}
 use Rattle.std.proofs.Math.Seq.{take-append_seam}
-use Rattle.jv_interp_memory.specs.Executing.{Place}
+use Rattle.jv_interp_memory.specs.declared.effect.Effect.{Effect}
+use Rattle.jv_interp_memory.specs.declared.effect.Effect.TheVariants as effects
+use Rattle.jv_interp_memory.specs.Executing.{Place, place}
+use Rattle.jv_code.specs.Insns.{instruction_of}
+use Rattle.jv_interp_calls.specs.Known.{known}
+use Rattle.jv_interp_execution.specs.InGuest.{ExecutedAt}
+use Rattle.jv_interp_actions.proofs.Acts.{runs_on}
 use Rattle.jv_interp_runs.proofs.Refused.{still, both, frames_then}
 use Rattle.jv_interp_runs.proofs.Executed.{decoded_in, can_execute, did, acting, stepped, cells_after}
 use Rattle.jv_interp_runs.proofs.instructions.step_by.Goals as goal
@@ -34,7 +40,7 @@ act-requires-clause-can g c =
     (g.S.Store.content c.args.store.now) w.steps c.args.linked.now c.requires.linked c.args.site _ c.args.next
     (decoded_in c.args.classes.now.world c.args.verified.now c.args.at.now w.program c.args.texts.now.names w.s w.t w.addresses c.args.frames.now c.args.control.now c.args.held.now
     (g.S.Store.content c.args.store.now) w.steps c.args.site _ c.args.next c.requires.stands) c.deref.result.now c.deref_mut.result.now c.execute.new.at new c.execute.new.held
-    (g.S.Store.content c.execute.new.store) c.in_ok-effect.effect c.deref.ensures.value c.deref_mut.ensures.value c.in_ok-effect.ensures.done in
+    (g.S.Store.content c.execute.new.store) c.in-Ok.effect c.deref.ensures.value c.deref_mut.ensures.value (c.in-Ok.ensures {u = tt}).done in
     record {
       program = w.program;
       texts = c.args.texts.now.names;
@@ -45,7 +51,7 @@ act-requires-clause-can g c =
       acting =
           acting c.args.classes.now.world c.args.verified.now c.args.at.now w.program c.args.texts.now.names w.s w.t w.addresses frames c.args.control.now c.args.held.now
           (g.S.Store.content c.args.store.now) w.steps c.execute.new.at (record frames { words = with_items frames.words new }) new c.execute.new.held
-          (g.S.Store.content c.execute.new.store) c.in_ok-effect.effect all c.execute.ensures.stays refl refl sizes d;
+          (g.S.Store.content c.execute.new.store) c.in-Ok.effect all c.execute.ensures.stays refl refl sizes d;
     }
 
 pub act-requires-clause-few : goal.act-requires-clause-few
@@ -61,16 +67,16 @@ act-requires-clause-few g c =
     (g.S.Store.content c.args.store.now) w.steps c.args.linked.now c.requires.linked c.args.site _ c.args.next
     (decoded_in c.args.classes.now.world c.args.verified.now c.args.at.now w.program c.args.texts.now.names w.s w.t w.addresses c.args.frames.now c.args.control.now c.args.held.now
     (g.S.Store.content c.args.store.now) w.steps c.args.site _ c.args.next c.requires.stands) c.deref.result.now c.deref_mut.result.now c.execute.new.at new c.execute.new.held
-    (g.S.Store.content c.execute.new.store) c.in_ok-effect.effect c.deref.ensures.value c.deref_mut.ensures.value c.in_ok-effect.ensures.done in
+    (g.S.Store.content c.execute.new.store) c.in-Ok.effect c.deref.ensures.value c.deref_mut.ensures.value (c.in-Ok.ensures {u = tt}).done in
     let less =
     cells_after c.args.classes.now.world c.args.verified.now c.args.at.now w.program c.args.texts.now.names w.s w.t w.addresses frames c.args.control.now c.args.held.now
     (g.S.Store.content c.args.store.now) w.steps c.execute.new.at (record frames { words = with_items frames.words new }) new c.execute.new.held
-    (g.S.Store.content c.execute.new.store) c.in_ok-effect.effect all c.execute.ensures.stays refl refl sizes d c.execution_keeps.ensures in
+    (g.S.Store.content c.execute.new.store) c.in-Ok.effect all c.execute.ensures.stays refl refl sizes d c.execution_keeps.ensures in
     let few = c.requires.few in
     omega (arith, less, few)
 
-pub returns-clause-stepped : goal.returns-clause-stepped
-returns-clause-stepped g c =
+pub returns-in-Ok-clause-stepped : goal.returns-in-Ok-clause-stepped
+returns-in-Ok-clause-stepped g c =
     let frames = c.args.frames.now in
     let new = c.execute.new.words in
     let same_size : frames.words.len ≡ length new = frames.words.ok.0 ∙ ap length (sym c.deref_mut.ensures.value) ∙ sym c.execute.auto.words in
@@ -82,18 +88,18 @@ returns-clause-stepped g c =
     (g.S.Store.content c.args.store.now) h c.args.linked.now c.requires.linked c.args.site _ c.args.next
     (decoded_in c.args.classes.now.world c.args.verified.now c.args.at.now program c.args.texts.now.names s t addresses c.args.frames.now c.args.control.now c.args.held.now
     (g.S.Store.content c.args.store.now) h c.args.site _ c.args.next c.requires.stands) c.deref.result.now c.deref_mut.result.now c.execute.new.at new c.execute.new.held
-    (g.S.Store.content c.execute.new.store) c.in_ok-effect.effect c.deref.ensures.value c.deref_mut.ensures.value c.in_ok-effect.ensures.done in
+    (g.S.Store.content c.execute.new.store) c.in-Ok.effect c.deref.ensures.value c.deref_mut.ensures.value (c.in-Ok.ensures {u = tt}).done in
     let a =
     acting c.args.classes.now.world c.args.verified.now c.args.at.now program c.args.texts.now.names s t addresses frames c.args.control.now c.args.held.now
     (g.S.Store.content c.args.store.now) h c.execute.new.at (record frames { words = with_items frames.words new }) new c.execute.new.held
-    (g.S.Store.content c.execute.new.store) c.in_ok-effect.effect all c.execute.ensures.stays refl refl sizes d in
+    (g.S.Store.content c.execute.new.store) c.in-Ok.effect all c.execute.ensures.stays refl refl sizes d in
     stepped c.args.classes.now.world c.args.verified.now c.args.at.now program c.args.texts.now.names s t addresses frames c.args.control.now c.args.held.now
     (g.S.Store.content c.args.store.now) h c.execute.new.at (record frames { words = with_items frames.words new }) new c.execute.new.held
-    (g.S.Store.content c.execute.new.store) c.in_ok-effect.effect all c.execute.ensures.stays refl refl sizes d
+    (g.S.Store.content c.execute.new.store) c.in-Ok.effect all c.execute.ensures.stays refl refl sizes d
     goes_on _ (acted program c.args.texts.now.names s t _ h.guest.are a))
 
-pub returns-clause-fewer : goal.returns-clause-fewer
-returns-clause-fewer g c =
+pub returns-in-Ok-clause-fewer : goal.returns-in-Ok-clause-fewer
+returns-in-Ok-clause-fewer g c =
     let w = c.requires.can in
     let frames = c.args.frames.now in
     let new = c.execute.new.words in
@@ -105,28 +111,95 @@ returns-clause-fewer g c =
     (g.S.Store.content c.args.store.now) w.steps c.args.linked.now c.requires.linked c.args.site _ c.args.next
     (decoded_in c.args.classes.now.world c.args.verified.now c.args.at.now w.program c.args.texts.now.names w.s w.t w.addresses c.args.frames.now c.args.control.now c.args.held.now
     (g.S.Store.content c.args.store.now) w.steps c.args.site _ c.args.next c.requires.stands) c.deref.result.now c.deref_mut.result.now c.execute.new.at new c.execute.new.held
-    (g.S.Store.content c.execute.new.store) c.in_ok-effect.effect c.deref.ensures.value c.deref_mut.ensures.value c.in_ok-effect.ensures.done in
+    (g.S.Store.content c.execute.new.store) c.in-Ok.effect c.deref.ensures.value c.deref_mut.ensures.value (c.in-Ok.ensures {u = tt}).done in
     let less =
     cells_after c.args.classes.now.world c.args.verified.now c.args.at.now w.program c.args.texts.now.names w.s w.t w.addresses frames c.args.control.now c.args.held.now
     (g.S.Store.content c.args.store.now) w.steps c.execute.new.at (record frames { words = with_items frames.words new }) new c.execute.new.held
-    (g.S.Store.content c.execute.new.store) c.in_ok-effect.effect all c.execute.ensures.stays refl refl sizes d c.execution_keeps.ensures in
+    (g.S.Store.content c.execute.new.store) c.in-Ok.effect all c.execute.ensures.stays refl refl sizes d c.execution_keeps.ensures in
     let then = c.act.ensures.fewer in
     omega (arith, less, then)
 
-pub returns-clause-refused_frames : goal.returns-clause-refused_frames
-returns-clause-refused_frames g c =
+pub returns-in-Ok-clause-refused_frames : goal.returns-in-Ok-clause-refused_frames
+returns-in-Ok-clause-refused_frames g c =
     let frames = c.args.frames.now in
     let new = c.execute.new.words in
     let same_size : frames.words.len ≡ length new = frames.words.ok.0 ∙ ap length (sym c.deref_mut.ensures.value) ∙ sym c.execute.auto.words in
     let all : (with_items frames.words new).items ≡ new =
     ap (λ (n : ℕ). take n (new ++ drop (length new) frames.words.items)) same_size ∙ take-append_seam new (drop (length new) frames.words.items) in
-    both c.act.result c.act.ensures.refused_frames (still c.in_ok-effect.effect c.act.result _ _ c.act.ensures.going c.in_ok-effect.ensures.unmoved)
+    both c.act.result c.act.ensures.refused_frames (still c.in-Ok.effect c.act.result _ _ c.act.ensures.going (c.in-Ok.ensures {u = tt}).unmoved)
     (λ as_before same.
     frames_then frames (record frames { words = with_items frames.words new }) c.act.new.frames
     (all ∙ ap (λ (p : Place). p.words) same ∙ c.deref_mut.ensures.value) refl refl refl as_before)
 
-pub returns-clause-refused_room : goal.returns-clause-refused_room
-returns-clause-refused_room g c =
-    let paid = c.in_ok-effect.ensures.room in
-    both c.act.result c.act.ensures.refused_room (still c.in_ok-effect.effect c.act.result _ _ c.act.ensures.going c.in_ok-effect.ensures.unmoved)
+pub returns-in-Ok-clause-refused_room : goal.returns-in-Ok-clause-refused_room
+returns-in-Ok-clause-refused_room g c =
+    let paid = (c.in-Ok.ensures {u = tt}).room in
+    both c.act.result c.act.ensures.refused_room (still c.in-Ok.effect c.act.result _ _ c.act.ensures.going (c.in-Ok.ensures {u = tt}).unmoved)
     (λ room same. let cells = ap (λ (p : Place). p.held.cells) same in room ∙ omega (arith, paid, cells))
+
+pub returns-in-Ok-Goes-clause-stepped : goal.returns-in-Ok-Goes-clause-stepped
+returns-in-Ok-Goes-clause-stepped g c = λ program s t addresses h.
+    let frames = c.args.frames.now in
+    let new = c.execute.new.words in
+    let same_size : frames.words.len ≡ length new = frames.words.ok.0 ∙ ap length (sym c.deref_mut.ensures.value) ∙ sym c.execute.auto.words in
+    let all : (with_items frames.words new).items ≡ new =
+    ap (λ (n : ℕ). take n (new ++ drop (length new) frames.words.items)) same_size ∙ take-append_seam new (drop (length new) frames.words.items) in
+    let sizes : length new ≡ length frames.words.items = c.execute.auto.words ∙ ap length c.deref_mut.ensures.value in
+    let d =
+    subst (λ (e : Effect). ExecutedAt c.deref.result.now (instruction_of c.args.insn) c.args.next (known c.args.classes.now.world c.args.linked.now c.args.site) c.args.texts.now.names
+    (place c.args.at.now c.deref_mut.result.now c.args.held.now (g.S.Store.content c.args.store.now))
+    (place c.execute.new.at new c.execute.new.held (g.S.Store.content c.execute.new.store)) e) c.in-Ok-Goes.field-0-is (c.in-Ok-Goes.ensures {u = tt}).done in
+    let there = did c.args.classes.now.world c.args.verified.now c.args.at.now program c.args.texts.now.names s t addresses c.args.frames.now c.args.control.now c.args.held.now
+    (g.S.Store.content c.args.store.now) h c.args.linked.now c.requires.linked c.args.site _ c.args.next
+    (decoded_in c.args.classes.now.world c.args.verified.now c.args.at.now program c.args.texts.now.names s t addresses c.args.frames.now c.args.control.now c.args.held.now
+    (g.S.Store.content c.args.store.now) h c.args.site _ c.args.next c.requires.stands) c.deref.result.now c.deref_mut.result.now c.execute.new.at new c.execute.new.held
+    (g.S.Store.content c.execute.new.store) effects.Goes c.deref.ensures.value c.deref_mut.ensures.value d in
+    let a = acting c.args.classes.now.world c.args.verified.now c.args.at.now program c.args.texts.now.names s t addresses c.args.frames.now c.args.control.now c.args.held.now
+    (g.S.Store.content c.args.store.now) h c.execute.new.at (record frames { words = with_items frames.words new }) new c.execute.new.held
+    (g.S.Store.content c.execute.new.store) effects.Goes all c.execute.ensures.stays refl refl sizes there in
+    stepped c.args.classes.now.world c.args.verified.now c.args.at.now program c.args.texts.now.names s t addresses c.args.frames.now c.args.control.now c.args.held.now
+    (g.S.Store.content c.args.store.now) h c.execute.new.at (record frames { words = with_items frames.words new }) new c.execute.new.held
+    (g.S.Store.content c.execute.new.store) effects.Goes all c.execute.ensures.stays refl refl sizes there
+    true _ (
+      refl,
+      runs_on c.args.classes.now.world c.execute.new.at program c.args.texts.now.names s t _ (record frames { words = with_items frames.words new })
+          c.args.control.now c.execute.new.held (g.S.Store.content c.execute.new.store) a,
+    )
+
+pub returns-in-Ok-Goes-clause-fewer : goal.returns-in-Ok-Goes-clause-fewer
+returns-in-Ok-Goes-clause-fewer g c =
+    let w = c.requires.can in
+    let frames = c.args.frames.now in
+    let new = c.execute.new.words in
+    let same_size : frames.words.len ≡ length new = frames.words.ok.0 ∙ ap length (sym c.deref_mut.ensures.value) ∙ sym c.execute.auto.words in
+    let all : (with_items frames.words new).items ≡ new =
+    ap (λ (n : ℕ). take n (new ++ drop (length new) frames.words.items)) same_size ∙ take-append_seam new (drop (length new) frames.words.items) in
+    let sizes : length new ≡ length frames.words.items = c.execute.auto.words ∙ ap length c.deref_mut.ensures.value in
+    let d =
+    subst (λ (e : Effect). ExecutedAt c.deref.result.now (instruction_of c.args.insn) c.args.next (known c.args.classes.now.world c.args.linked.now c.args.site) c.args.texts.now.names
+    (place c.args.at.now c.deref_mut.result.now c.args.held.now (g.S.Store.content c.args.store.now))
+    (place c.execute.new.at new c.execute.new.held (g.S.Store.content c.execute.new.store)) e) c.in-Ok-Goes.field-0-is (c.in-Ok-Goes.ensures {u = tt}).done in
+    let there = did c.args.classes.now.world c.args.verified.now c.args.at.now w.program c.args.texts.now.names w.s w.t w.addresses c.args.frames.now c.args.control.now c.args.held.now
+    (g.S.Store.content c.args.store.now) w.steps c.args.linked.now c.requires.linked c.args.site _ c.args.next
+    (decoded_in c.args.classes.now.world c.args.verified.now c.args.at.now w.program c.args.texts.now.names w.s w.t w.addresses c.args.frames.now c.args.control.now c.args.held.now
+    (g.S.Store.content c.args.store.now) w.steps c.args.site _ c.args.next c.requires.stands) c.deref.result.now c.deref_mut.result.now c.execute.new.at new c.execute.new.held
+    (g.S.Store.content c.execute.new.store) effects.Goes c.deref.ensures.value c.deref_mut.ensures.value d in
+    cells_after c.args.classes.now.world c.args.verified.now c.args.at.now w.program c.args.texts.now.names w.s w.t w.addresses c.args.frames.now c.args.control.now c.args.held.now
+    (g.S.Store.content c.args.store.now) w.steps c.execute.new.at (record frames { words = with_items frames.words new }) new c.execute.new.held
+    (g.S.Store.content c.execute.new.store) effects.Goes all c.execute.ensures.stays refl refl sizes there c.execution_keeps.ensures
+
+pub returns-in-Err-clause-refused_frames : goal.returns-in-Err-clause-refused_frames
+returns-in-Err-clause-refused_frames g c =
+    let frames = c.args.frames.now in
+    let new = c.execute.new.words in
+    let same_size : frames.words.len ≡ length new = frames.words.ok.0 ∙ ap length (sym c.deref_mut.ensures.value) ∙ sym c.execute.auto.words in
+    let all : (with_items frames.words new).items ≡ new =
+    ap (λ (n : ℕ). take n (new ++ drop (length new) frames.words.items)) same_size ∙ take-append_seam new (drop (length new) frames.words.items) in
+    let sizes : length new ≡ length frames.words.items = c.execute.auto.words ∙ ap length c.deref_mut.ensures.value in
+    record {
+      words = all ∙ (c.in-Err.ensures {u = tt}).refused_words ∙ c.deref_mut.ensures.value;
+      records = refl;
+      capacity = refl;
+      top = refl;
+      left = refl;
+    }
