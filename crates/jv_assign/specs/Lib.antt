@@ -1,2 +1,3 @@
 pub mod Seen
 pub mod Inside
+pub use Rattle.jv_meaning_world.specs as of_meaning_world

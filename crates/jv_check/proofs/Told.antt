@@ -1,7 +1,7 @@
 -- What is told of the verdicts on files.
 use Rattle.std.proofs.Common.{◌≡◌, ℕ, List, sym, subst}
 use Rattle.jv_meaning_typing.specs.declared.verdict.Verdict.{Verdict}
-use Rattle.jv_method.specs.Files.{AreVerdicts, Verified}
+use Rattle.jv_run.specs.of_method.Files.{AreVerdicts, Verified}
 use Rattle.jv_check.specs.Check.{AreVerdictsOf}
 use Rattle.jv_check.specs.Inside.Verified.{AreFilesOf}
 

@@ -2,7 +2,7 @@
 use Rattle.std.specs.Prelude.{◌≡◌, ℕ, ⊤, List, None, Some, string_bytes}
 use Rattle.jv_meaning_world.specs.FileContent.{FileContent, AreContents}
 use Rattle.jv_meaning_typing.specs.declared.verdict.Verdict.{Verdict}
-use Rattle.jv_method.specs.Files.{AreVerdicts}
+use Rattle.jv_run.specs.of_method.Files.{AreVerdicts}
 use Rattle.jv_run.specs.declared.failure.Failure.{Failure}
 use Rattle.jv_run.specs.declared.failure.Failure.TheVariants.{Unreadable, Refused, TooManyFolders, HostMemory, Memory}
 use Rattle.jv_run.specs.declared.outcome.Outcome.{Outcome}

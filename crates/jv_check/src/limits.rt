@@ -1,11 +1,11 @@
 //! How many files are checked, and how long each may be.
 ghost use Rattle.std.specs.Prelude.{◌≡◌, ◌==◌, length, map, nat_lt};
 ghost use Rattle.std.specs.List.{list_any};
-ghost use Rattle.jv_host.specs.Limits.{is_long_file};
+ghost use Rattle.jv_run.specs.of_host.Limits.{is_long_file};
 ghost use Rattle.jv_run.specs.Bytes.{bytes_of};
 ghost use Rattle.jv_check.specs.Limits.{first_file_refusal};
 
-use jv_host::AdmitFault;
+use jv_run::of_host::AdmitFault;
 
 /// The most files.
 const FILES: usize = 1_024;

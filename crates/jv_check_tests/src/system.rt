@@ -2,8 +2,8 @@
 
 use crate::class::class_file;
 use jv_check::check_files;
+use jv_check::of_method::{Verdict, VerifyFault, VerifyRule, check_class, verify};
 use jv_loader::{Classes, LoadVerdict, system_files};
-use jv_method::{Verdict, VerifyFault, VerifyRule, check_class, verify};
 use std::alloc::Global;
 use std::hash::RandomState;
 

@@ -5,7 +5,7 @@
 
 ghost use Rattle.std.specs.Prelude.{◌≡◌, ◌↔◌, ◌<◌, IsSome, IsTrue, IfOk, OnErr, Err, map, nat_eq};
 ghost use Rattle.std.specs.List.{All, AllZip, IsDistinct};
-ghost use Rattle.jv_pool.specs.Constants.{utf8_at};
+ghost use Rattle.jv_class_structure.specs.of_pool.Constants.{utf8_at};
 ghost use Rattle.jv_class_structure.specs.Seen.{seen_field, seen_method};
 ghost use Rattle.jv_class.specs.Inside.Reading.{IsKeyOf, IsFieldKey, IsMethodKey, FailsForMemory};
 ghost use Rattle.jv_class.specs.Rules.{NoTwoAlike, MembersKeepRules, AreMembersUnlike};
@@ -13,8 +13,8 @@ ghost use Rattle.jv_class.specs.Inside.Shown.{shown_field_texts, shown_method_te
 ghost use Rattle.jv_class.specs.declared.fault.ClassFault.TheVariants.{Memory};
 
 use crate::fault::ClassFault;
+use jv_class_structure::of_pool::{Pool, Utf8Index};
 use jv_class_structure::{Field, Method, Parts};
-use jv_pool::{Pool, Utf8Index};
 use std::alloc::Global;
 use std::collections::BTreeSet;
 

@@ -2,8 +2,8 @@
 
 ghost use Rattle.std.specs.Prelude.{◌≡◌, ◌↔◌, ◌&&◌, IsTrue, is_some, map};
 ghost use Rattle.std.specs.List.{All};
-ghost use Rattle.jv_pool.specs.Constants.{NameAndDescriptor};
-ghost use Rattle.jv_pool.specs.Facts.{AreFacts};
+ghost use Rattle.jv_class_structure.specs.of_pool.Constants.{NameAndDescriptor};
+ghost use Rattle.jv_class_structure.specs.of_pool.Facts.{AreFacts};
 ghost use Rattle.jv_class_structure.specs.Flags.{has, acc_interface};
 ghost use Rattle.jv_class_structure.specs.Seen.{seen_method};
 ghost use Rattle.jv_class.specs.Rules.{interface_flags_keep_rules, named_flags_keep_rules, method_flags_keep_rules, init_keeps_rules, clinit_keeps_rules, slots_keep_rules, is_bodiless, code_presence_keeps_rules, KeepsRulesAsMethod};
@@ -15,9 +15,9 @@ use crate::flags::{
 };
 use crate::names::{is_clinit, is_no_arguments_void};
 use bitflags::Flags;
+use jv_class_structure::of_pool::{MethodFacts, Pool, TextFacts};
+use jv_class_structure::of_text::is_init;
 use jv_class_structure::{ClassFlags, Method, MethodFlags};
-use jv_pool::{MethodFacts, Pool, TextFacts};
-use jv_text::is_init;
 
 /// Abstract and native.
 const WITHOUT_CODE: MethodFlags = MethodFlags(0x0500);

@@ -1,7 +1,7 @@
 //! Reads a class file.
 
 ghost use Rattle.std.specs.Prelude.{◌≡◌, ◌≢◌, IfOk, Err};
-ghost use Rattle.jv_format.specs.Format.{Finds};
+ghost use Rattle.jv_class_structure.specs.of_format.Format.{Finds};
 ghost use Rattle.jv_class_structure.specs.Structure.{ClassStructure};
 ghost use Rattle.jv_class_structure.specs.Version.{is_supported_version};
 ghost use Rattle.jv_class.specs.ClassFile.{IsClassFile, IsOtherVersion, IsUnsupportedFile};
@@ -11,8 +11,8 @@ ghost use Rattle.jv_class.specs.declared.fault.ClassFault.TheVariants.{Version, 
 
 use crate::class_file::{ClassFile, class_of};
 use crate::fault::ClassFault;
+use jv_class_structure::of_format::{half_at, quad_at};
 use jv_class_structure::{PartsFault, one_behind_version, read_parts};
-use jv_format::{half_at, quad_at};
 use std::alloc::Global;
 
 /// What follows the magic number.

@@ -5,3 +5,5 @@ pub mod AttributeLaws
 pub mod Handlers
 pub mod MemberLaws
 pub mod Whole
+pub use Rattle.jv_pool.proofs.laws_of_format
+pub use Rattle.jv_pool.proofs.laws_of_text

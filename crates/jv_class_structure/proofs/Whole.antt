@@ -4,9 +4,9 @@ use Rattle.std.specs.Prelude.{IsTrue, ◌&&◌, map, nat_lt, Result, Err}
 use Rattle.std.specs.List.{list_all}
 use Rattle.std.proofs.lemmas.Bool.{and_parts, and_from}
 use Rattle.std.proofs.lemmas.List.{append-nil}
-use Rattle.jv_format.specs.Format.{Format, ◌>>=◌, half, IsBytes}
-use Rattle.jv_format.specs.Readers.{both, found_as, whole}
-use Rattle.jv_format.proofs.Laws.{is_some, IsFormat, half_is, both_is}
+use Rattle.jv_pool.specs.of_format.Format.{Format, ◌>>=◌, half, IsBytes}
+use Rattle.jv_pool.specs.of_format.Readers.{both, found_as, whole}
+use Rattle.jv_pool.proofs.laws_of_format.Laws.{is_some, IsFormat, half_is, both_is}
 use Rattle.jv_pool.specs.Constants.{Entry, pool_bytes}
 use Rattle.jv_pool.specs.Rules.{IsPool, OnePool}
 use Rattle.jv_class_structure.specs.Structure.{ClassStructure, table_bytes, attribute_bytes, field_bytes, method_bytes, body_bytes, table_fits, attribute_fits, field_fits, method_fits, body_fits}

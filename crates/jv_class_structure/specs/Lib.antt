@@ -5,3 +5,6 @@ pub mod Attributes
 pub mod Parts
 pub mod Seen
 pub mod Inside
+pub use Rattle.jv_pool.specs.of_format
+pub use Rattle.jv_pool.specs as of_pool
+pub use Rattle.jv_pool.specs.of_text

@@ -6,7 +6,7 @@ use Rattle.jv_pool.specs.declared.index.ClassIndex.{ClassIndex}
 use Rattle.jv_class_structure.specs.declared.member.Field.{Field}
 use Rattle.jv_class_structure.specs.declared.member.MethodCode.{MethodCode}
 use Rattle.jv_class_structure.specs.declared.member.Method.{Method}
-use Rattle.jv_format.specs.Handlers.{handlers_of}
+use Rattle.jv_pool.specs.of_format.Handlers.{handlers_of}
 use Rattle.jv_class_structure.specs.Parts.{FieldSeen, CodeSeen, MethodSeen}
 
 abbrev pub seen_index : ClassIndex → ℕ

@@ -1,8 +1,8 @@
 //! Fields and methods as they were read (JVMS 4.5, 4.6). What a slice holds is a part of the file.
 
 use crate::flags::{FieldFlags, MethodFlags};
-use jv_format::ExceptionTable;
 use jv_pool::Utf8Index;
+use jv_pool::of_format::ExceptionTable;
 
 /// A field.
 #[derive(Clone, Copy)]

@@ -1,9 +1,9 @@
 //! Reads fields and methods (JVMS 4.5, 4.6, 4.7.3).
 
 ghost use Rattle.std.specs.Prelude.{◌≡◌};
-ghost use Rattle.jv_format.specs.Format.{Finds, half};
-ghost use Rattle.jv_format.specs.Readers.{both, enclosed, contents, such_that};
-ghost use Rattle.jv_format.specs.Handlers.{handlers_of};
+ghost use Rattle.jv_pool.specs.of_format.Format.{Finds, half};
+ghost use Rattle.jv_pool.specs.of_format.Readers.{both, enclosed, contents, such_that};
+ghost use Rattle.jv_pool.specs.of_format.Handlers.{handlers_of};
 ghost use Rattle.jv_class_structure.specs.Flags.{has, acc_static};
 ghost use Rattle.jv_class_structure.specs.Seen.{seen_field, seen_code, seen_method};
 ghost use Rattle.jv_class_structure.specs.Inside.Kept.{seen_map};
@@ -13,7 +13,7 @@ ghost use Rattle.jv_class_structure.specs.Inside.Reading.{three, values_kept, fi
 use crate::attributes::{contents_at, is_text, is_utf8, one_more, stack_maps_at, values_at};
 use crate::flags::{FieldFlags, MethodFlags};
 use crate::member::{Field, Method, MethodCode};
-use jv_format::{ExceptionTable, bytes_at, half_at};
+use jv_pool::of_format::{ExceptionTable, bytes_at, half_at};
 use jv_pool::{Pool, Utf8Index};
 
 /// Three numbers, and what follows them.

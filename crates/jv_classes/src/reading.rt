@@ -3,9 +3,9 @@
 ghost use Rattle.std.specs.Prelude.{◌≡◌, IfOk, IsSome, Some, map};
 ghost use Rattle.std.specs.List.{All};
 ghost use Rattle.std.specs.Option.{option_copied};
-ghost use Rattle.jv_pool.specs.Constants.{class_name_at, utf8_at};
-ghost use Rattle.jv_class.specs.Class.{Class, all_found, class_of, super_of};
-ghost use Rattle.jv_class.specs.Rules.{NoTwoAlike};
+ghost use Rattle.jv_meaning_world.specs.of_pool.Constants.{class_name_at, utf8_at};
+ghost use Rattle.jv_meaning_world.specs.of_class.Class.{Class, all_found, class_of, super_of};
+ghost use Rattle.jv_meaning_world.specs.of_class.Rules.{NoTwoAlike};
 ghost use Rattle.jv_names.specs.Inside.Kept.{text_of};
 ghost use Rattle.jv_classes.specs.Hashes.{AreHashes};
 ghost use Rattle.jv_classes.specs.Inside.Kept.{Keeps};
@@ -16,9 +16,9 @@ use crate::hashing::{pool_hashes, text_in};
 use crate::kept::Kept;
 use crate::members::{KeptMember, Members};
 use crate::package::package;
-use jv_class::{ClassFile, Field, Method};
+use jv_meaning_world::of_class::{ClassFile, Field, Method};
+use jv_meaning_world::of_pool::{ClassIndex, Pool, Utf8Index};
 use jv_names::seed_of;
-use jv_pool::{ClassIndex, Pool, Utf8Index};
 use std::alloc::{AllocError, Global};
 use std::hash::RandomState;
 

@@ -2,7 +2,7 @@
 
 ghost use Rattle.std.specs.Prelude.{◌≡◌, IfOk, Some, map, not, true};
 ghost use Rattle.std.specs.List.{list_all};
-ghost use Rattle.jv_class_structure.specs.Flags.{has, acc_final};
+ghost use Rattle.jv_meaning_world.specs.of_class_structure.Flags.{has, acc_final};
 ghost use Rattle.jv_meaning_world.specs.World.{World, can_name};
 ghost use Rattle.jv_meaning_world.specs.Above.{superclass_names, is_circular};
 ghost use Rattle.jv_meaning_world.specs.Laws.Above.{stands_itself};
@@ -13,7 +13,7 @@ ghost use Rattle.jv_classes.specs.Inside.Tests.{passes_at, marked_at, are_of_rig
 
 use crate::list::ClassList;
 use crate::loaded_class::LoadedClass;
-use jv_pool::Constant;
+use jv_meaning_world::of_pool::Constant;
 use std::alloc::{AllocError, Global};
 
 /// The number of the superclass, where the class has one and it is there.

@@ -9,3 +9,4 @@ pub mod Handlers
 pub mod Targets
 pub mod Successors
 pub mod Operands
+pub use Rattle.jv_format.specs as of_format

@@ -16,7 +16,7 @@ use Rattle.jv_meaning_world.specs.Numbers.{number_named}
 use Rattle.jv_meaning_world.specs.Numbers.{HoldsAtNumber}
 use Rattle.jv_classes.proofs.Numbers.{number_at}
 use Rattle.jv_classes.proofs.Told.{stands_at}
-use Rattle.jv_lookups.proofs.Chain.{not_named}
+use Rattle.jv_link.proofs.laws_of_lookups.Chain.{not_named}
 use Rattle.jv_meaning_linking.specs.Access.{same_class}
 use Rattle.jv_meaning_linking.specs.Operands.{MethodReference, through}
 use Rattle.jv_meaning_linking.specs.Operands.MethodConstant.{Methodref, InterfaceMethodref}

@@ -9,7 +9,7 @@ use Rattle.jv_meaning_world.specs.Verdicts.{is_interface}
 use Rattle.jv_meaning_world.specs.Numbers.{number_named}
 use Rattle.jv_meaning_world.specs.Numbers.{HoldsAtNumber}
 use Rattle.jv_classes.proofs.Told.{stands_at}
-use Rattle.jv_lookups.proofs.Chain.{not_named}
+use Rattle.jv_link.proofs.laws_of_lookups.Chain.{not_named}
 use Rattle.jv_meaning_linking.specs.Operands.{MethodReference, method_operand}
 use Rattle.jv_link.specs.Inside.References.{method_operand_in}
 use Rattle.jv_meaning_typing.specs.Environment.{Environment}

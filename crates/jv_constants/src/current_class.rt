@@ -18,7 +18,7 @@ use crate::names::{known_number, number_by};
 use jv_class::ClassFile;
 use jv_frames::VerificationTypeOf;
 use jv_link::class_at;
-use jv_loader::{Classes, LoadedClass};
+use jv_link::of_loader::{Classes, LoadedClass};
 use jv_pool::kinds_name;
 use jv_types::Item;
 use std::alloc::{AllocError, Global};

@@ -16,8 +16,8 @@ use crate::hashed::{PoolHashes, called_indices, descriptor_index, name_index, te
 use crate::indices::{MemberIndices, field_indices};
 use crate::names::class_number;
 use jv_classes::pool_hashes;
+use jv_link::of_loader::{ClassTable, Classes};
 use jv_link::{field_at, method_at, same_class, same_package};
-use jv_loader::{ClassTable, Classes};
 use jv_pool::{Constant, MemberName, Pool, kinds_name};
 use std::alloc::{AllocError, Global};
 

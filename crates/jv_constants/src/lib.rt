@@ -21,6 +21,8 @@ pub use classes::{array_of, array_type, names_class};
 pub use constants::ConstantTypes;
 pub use current_class::CurrentClass;
 pub use fields::{FieldTypes, field_types};
+pub use jv_link as of_link;
+pub use jv_link::of_loader;
 pub use methods::{CalledTypes, called_types};
 pub use pushed::{long_constant_type, one_word_constant_type};
 pub use texts::MethodTypes;

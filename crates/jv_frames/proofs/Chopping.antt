@@ -1,6 +1,6 @@
 -- A loop that takes entries away, one at a time.
 use Rattle.std.proofs.Common.{◌≡◌, ℕ, suc, ◌+◌, ◌-◌, ◌<◌, Option, Some, None, sym, ap, ◌∙◌, arith}
-use Rattle.jv_format.specs.Format.{◌>>=◌}
+use Rattle.jv_pool.specs.of_format.Format.{◌>>=◌}
 use Rattle.jv_frames.specs.Inside.Steps.{Built, chopped_one, chopped_in}
 
 chop_step : (n : ℕ) (b : Built) (o : Option Built) → chopped_one b.locals b ≡ o → chopped_in (suc n) b ≡ (o >>= chopped_in n)

@@ -1,7 +1,7 @@
 -- A frame that is read: what its beginning keeps, what its end comes to, and that there is then one more.
 use Rattle.std.proofs.Common.{◌≡◌, ℕ, ◌+◌, List, length, Option, Some, sym, ap, ◌∙◌}
-use Rattle.jv_format.specs.Format.{byte, ◌>>=◌}
-use Rattle.jv_format.proofs.Laws.{bind_some, is_some}
+use Rattle.jv_pool.specs.of_format.Format.{byte, ◌>>=◌}
+use Rattle.jv_pool.proofs.laws_of_format.Laws.{bind_some, is_some}
 use Rattle.jv_pool.specs.Constants.{Entry}
 use Rattle.jv_frames.specs.declared.limits.Limits.{Limits}
 use Rattle.jv_frames.specs.Bytes.{MapForm}

@@ -3,9 +3,9 @@ use Rattle.std.proofs.Common.{◌≡◌, ℕ, Bool, true, false, List, [], ◌�
 use Rattle.std.specs.Prelude.{◌==◌, length, not, IsSome, IsTrue}
 use Rattle.std.specs.List.{list_all, slice_split, onto_first}
 use Rattle.std.proofs.lemmas.Bool.{and_parts, eqb-true}
-use Rattle.jv_text.specs.declared.descriptor.FieldTypeOf.{FieldTypeOf}
-use Rattle.jv_text.specs.Name.{is_name_byte, is_unqualified_name, is_class_name, is_array_name}
-use Rattle.jv_text.specs.Types.{field_type_of, TypesAgree}
+use Rattle.jv_pool.specs.of_text.declared.descriptor.FieldTypeOf.{FieldTypeOf}
+use Rattle.jv_pool.specs.of_text.Name.{is_name_byte, is_unqualified_name, is_class_name, is_array_name}
+use Rattle.jv_pool.specs.of_text.Types.{field_type_of, TypesAgree}
 use Rattle.jv_pool.specs.Rules.{IsArrayDescriptor, NamesClass}
 
 -- no class name begins with a bracket

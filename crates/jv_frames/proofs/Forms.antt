@@ -5,9 +5,9 @@ use Rattle.std.specs.List.{list_all}
 use Rattle.std.proofs.lemmas.Bool.{and_parts, and_from, eqb-true, ltb-true, ltb-false, lt-ltb, le-ltb, le-leb, leb-true, eq-eqb}
 use Rattle.std.proofs.lemmas.Bool.Decides.{nat_tests}
 use Rattle.std.proofs.lemmas.Grind.{common_steps}
-use Rattle.jv_format.specs.Format.{Format, byte, half, ◌>>=◌, IsBytes}
-use Rattle.jv_format.specs.Readers.{both, found_as}
-use Rattle.jv_format.proofs.Laws.{is_some, bind_some, IsFormat, Took, half_is, both_is, list_is, after_is, again_as}
+use Rattle.jv_pool.specs.of_format.Format.{Format, byte, half, ◌>>=◌, IsBytes}
+use Rattle.jv_pool.specs.of_format.Readers.{both, found_as}
+use Rattle.jv_pool.proofs.laws_of_format.Laws.{is_some, bind_some, IsFormat, Took, half_is, both_is, list_is, after_is, again_as}
 use Rattle.jv_frames.specs.declared.item.Item.{Item}
 use Rattle.jv_frames.specs.declared.form.Form.TheVariants.{Same, SameItem, SameItemExtended, Chop, SameExtended, Append, Full}
 use Rattle.jv_frames.specs.Bytes.{MapForm, form_bytes, form_fits, item_bytes, item_fits, counted_fits, is_few}

@@ -2,8 +2,8 @@
 use Rattle.std.proofs.Common.{◌≡◌, ℕ, suc, true, eqb, List, [], ◌∷◌, ◌++◌, length, Option, Some, refl, sym, ap, subst, ◌∙◌}
 use Rattle.std.specs.Prelude.{IsTrue}
 use Rattle.std.proofs.lemmas.Bool.{and_parts, eqb-true}
-use Rattle.jv_format.specs.Format.{half, IsBytes}
-use Rattle.jv_format.proofs.Laws.{is_some, IsFormat, Took, half_is, list_is, after_is, by_test, took, again_as}
+use Rattle.jv_pool.specs.of_format.Format.{half, IsBytes}
+use Rattle.jv_pool.proofs.laws_of_format.Laws.{is_some, IsFormat, Took, half_is, list_is, after_is, by_test, took, again_as}
 use Rattle.jv_frames.specs.declared.item.Item.{Item}
 use Rattle.jv_frames.specs.declared.item.Item.TheVariants as items
 use Rattle.jv_frames.specs.Bytes.{item_bytes, item_fits}

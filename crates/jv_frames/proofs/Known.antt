@@ -2,8 +2,8 @@
 use Rattle.std.proofs.Common.{◌≡◌, ℕ, zero, suc, ◌+◌, ◌<◌, ◌≤◌, Bool, true, false, List, [], ◌∷◌, length, Option, Some, None, refl, ap, subst, ◌∙◌, arith}
 use Rattle.std.specs.Prelude.{IsSome, if◌then◌else◌}
 use Rattle.std.specs.List.{All}
-use Rattle.jv_format.specs.Format.{◌>>=◌}
-use Rattle.jv_format.proofs.Laws.{bind_some, is_some}
+use Rattle.jv_pool.specs.of_format.Format.{◌>>=◌}
+use Rattle.jv_pool.proofs.laws_of_format.Laws.{bind_some, is_some}
 use Rattle.jv_pool.specs.Constants.{Entry, class_name_at}
 use Rattle.jv_frames.specs.declared.item.Item.{Item}
 use Rattle.jv_frames.specs.declared.item.Item.TheVariants as items

@@ -16,3 +16,4 @@ pub mod Searching
 pub mod Counts
 pub mod Rising
 pub mod Known
+pub use Rattle.jv_pool.proofs.laws_of_text

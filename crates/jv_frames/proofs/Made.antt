@@ -3,8 +3,8 @@ use Rattle.std.proofs.Common.{◌≡◌, ℕ, zero, suc, ◌+◌, Bool, true, fa
 use Rattle.std.specs.Prelude.{map, if◌then◌else◌}
 use Rattle.std.specs.Option.{option_map}
 use Rattle.std.proofs.lemmas.List.{append-nil, length-append}
-use Rattle.jv_format.specs.Format.{◌>>=◌}
-use Rattle.jv_format.proofs.Laws.{bind_some, is_some}
+use Rattle.jv_pool.specs.of_format.Format.{◌>>=◌}
+use Rattle.jv_pool.proofs.laws_of_format.Laws.{bind_some, is_some}
 use Rattle.jv_pool.specs.Constants.{Entry}
 use Rattle.jv_frames.specs.declared.item.Item.{Item}
 use Rattle.jv_frames.specs.declared.form.Form.TheVariants.{Same, SameItem, SameItemExtended, Chop, SameExtended, Append, Full}

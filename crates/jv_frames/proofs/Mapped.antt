@@ -4,9 +4,9 @@ use Rattle.std.specs.Prelude.{map, reverse}
 use Rattle.std.specs.List.{All}
 use Rattle.std.specs.Option.{option_map}
 use Rattle.std.proofs.lemmas.List.Elements.{All-map}
-use Rattle.jv_format.specs.Format.{◌>>=◌, IsBytes}
-use Rattle.jv_format.proofs.Laws.{bind_some, is_some}
-use Rattle.jv_text.specs.Types.{TypesAgree}
+use Rattle.jv_pool.specs.of_format.Format.{◌>>=◌, IsBytes}
+use Rattle.jv_pool.proofs.laws_of_format.Laws.{bind_some, is_some}
+use Rattle.jv_pool.specs.of_text.Types.{TypesAgree}
 use Rattle.jv_pool.specs.Constants.{Entry}
 use Rattle.jv_frames.specs.declared.entry.FrameEntry.{FrameEntry}
 use Rattle.jv_frames.specs.declared.limits.Limits.{Limits}

@@ -1,8 +1,8 @@
 -- The offsets of frames rise (JVMS 4.7.4).
 use Rattle.std.proofs.Common.{◌≡◌, ℕ, ◌+◌, ◌≤◌, Bool, true, false, List, [], ◌∷◌, Option, Some, None, sym, ap, subst, ◌∙◌, arith}
 use Rattle.std.specs.Prelude.{map, reverse, if◌then◌else◌}
-use Rattle.jv_format.specs.Format.{◌>>=◌}
-use Rattle.jv_format.proofs.Laws.{bind_some, is_some}
+use Rattle.jv_pool.specs.of_format.Format.{◌>>=◌}
+use Rattle.jv_pool.proofs.laws_of_format.Laws.{bind_some, is_some}
 use Rattle.jv_frames.specs.declared.item.Item.{Item}
 use Rattle.jv_frames.specs.Types.{FrameType}
 use Rattle.jv_frames.specs.Bytes.{MapForm}

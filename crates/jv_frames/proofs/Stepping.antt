@@ -1,8 +1,8 @@
 -- Loops that read values and take a step by each.
 use Rattle.std.proofs.Common.{◌≡◌, ℕ, suc, ◌+◌, ◌-◌, ◌<◌, List, ◌∷◌, Option, Some, None, refl, sym, ap, ◌∙◌, arith}
-use Rattle.jv_format.specs.Format.{Format, ◌>>=◌}
-use Rattle.jv_format.specs.Readers.{list_read}
-use Rattle.jv_format.proofs.Laws.{bind_some, is_some}
+use Rattle.jv_pool.specs.of_format.Format.{Format, ◌>>=◌}
+use Rattle.jv_pool.specs.of_format.Readers.{list_read}
+use Rattle.jv_pool.proofs.laws_of_format.Laws.{bind_some, is_some}
 use Rattle.jv_frames.specs.Inside.Steps.{all_steps, beside, stepped, all_stepped}
 
 -- what was read is of no use

@@ -4,8 +4,8 @@ use Rattle.std.specs.Prelude.{IsTrue}
 use Rattle.std.specs.List.{list_all}
 use Rattle.std.proofs.lemmas.Bool.{and_parts, and_from, ltb-true, lt-ltb}
 use Rattle.std.proofs.lemmas.List.{append-nil}
-use Rattle.jv_format.specs.Format.{half, ◌>>=◌, IsBytes}
-use Rattle.jv_format.proofs.Laws.{is_some, bind_some}
+use Rattle.jv_pool.specs.of_format.Format.{half, ◌>>=◌, IsBytes}
+use Rattle.jv_pool.proofs.laws_of_format.Laws.{is_some, bind_some}
 use Rattle.jv_frames.specs.Bytes.{MapForm, form_fits, stack_map_bytes}
 use Rattle.jv_frames.specs.Inside.Reading.{counted_forms, forms_of, all_of, whole, whole_table}
 use Rattle.jv_frames.proofs.Forms.{counted_forms_is}

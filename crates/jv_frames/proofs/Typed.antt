@@ -5,10 +5,10 @@ use Rattle.std.specs.Option.{option_map}
 use Rattle.std.proofs.lemmas.List.{reverse-append, length-map}
 use Rattle.std.proofs.lemmas.List.Sums.{sum_by-cons}
 use Rattle.std.proofs.Math.Seq.{take-suc}
-use Rattle.jv_format.specs.Format.{◌>>=◌}
-use Rattle.jv_text.specs.declared.descriptor.FieldTypeOf.{FieldTypeOf}
-use Rattle.jv_text.specs.Name.{is_class_name, is_array_name}
-use Rattle.jv_text.specs.Types.{field_type_of, TypesAgree}
+use Rattle.jv_pool.specs.of_format.Format.{◌>>=◌}
+use Rattle.jv_pool.specs.of_text.declared.descriptor.FieldTypeOf.{FieldTypeOf}
+use Rattle.jv_pool.specs.of_text.Name.{is_class_name, is_array_name}
+use Rattle.jv_pool.specs.of_text.Types.{field_type_of, TypesAgree}
 use Rattle.jv_pool.specs.Constants.{Entry, class_name_at}
 use Rattle.jv_pool.specs.Rules.{NamesClass}
 use Rattle.jv_frames.specs.declared.item.Item.{Item}

@@ -1,7 +1,7 @@
 -- The bytes of a StackMapTable's contents (JVMS 4.7.4).
 use Rattle.std.specs.Prelude.{ℕ, ◌+◌, ◌-◌, Bool, true, ◌&&◌, List, [], ◌∷◌, ◌++◌, length, nat_lt, nat_le}
 use Rattle.std.specs.List.{flat_map, list_all}
-use Rattle.jv_format.specs.Format.{half}
+use Rattle.jv_pool.specs.of_format.Format.{half}
 use Rattle.jv_frames.specs.declared.item.Item.{Item}
 use Rattle.jv_frames.specs.declared.item.Item.TheVariants as items
 use Rattle.jv_frames.specs.declared.form.Form.{Form}

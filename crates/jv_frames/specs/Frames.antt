@@ -1,7 +1,7 @@
 -- Stack map frames (JVMS 4.7.4): what each frame makes of the one before, and what it comes to by words.
 use Rattle.std.specs.Prelude.{◌≡◌, ℕ, zero, suc, ◌+◌, ◌-◌, ◌<◌, ◌≤◌, Bool, true, false, ◌&&◌, List, [], ◌∷◌, ◌++◌, length, reverse, replicate, nat_le, IsTrue, Option, Some, None, map, if◌then◌else◌}
 use Rattle.std.specs.List.{flat_map, list_all, list_any}
-use Rattle.jv_format.specs.Format.{◌>>=◌}
+use Rattle.jv_pool.specs.of_format.Format.{◌>>=◌}
 use Rattle.jv_pool.specs.Constants.{Entry, class_name_at}
 use Rattle.jv_frames.specs.declared.item.Item.{Item}
 use Rattle.jv_frames.specs.declared.item.Item.TheVariants as items

@@ -1,9 +1,9 @@
 -- Worked rows: initial frames, and what frames come to, computed.
 use Rattle.std.specs.Prelude.{◌≡◌, ℕ, true, false, List, [], ◌∷◌, Option, Some, None, codes}
-use Rattle.jv_text.specs.declared.descriptor.Base.TheVariants as bases
-use Rattle.jv_text.specs.declared.descriptor.Element.{Element}
-use Rattle.jv_text.specs.declared.descriptor.Element.TheVariants as elements
-use Rattle.jv_text.specs.declared.descriptor.FieldTypeOf.{FieldTypeOf}
+use Rattle.jv_pool.specs.of_text.declared.descriptor.Base.TheVariants as bases
+use Rattle.jv_pool.specs.of_text.declared.descriptor.Element.{Element}
+use Rattle.jv_pool.specs.of_text.declared.descriptor.Element.TheVariants as elements
+use Rattle.jv_pool.specs.of_text.declared.descriptor.FieldTypeOf.{FieldTypeOf}
 use Rattle.jv_frames.specs.declared.item.Item.TheVariants as items
 use Rattle.jv_frames.specs.declared.form.Form.TheVariants.{Same, SameItem, SameItemExtended, Chop, SameExtended, Append, Full}
 use Rattle.jv_frames.specs.declared.limits.Limits.{Limits}

@@ -1,14 +1,14 @@
 -- Verification types (JVMS 4.10.1.2): which one a Class constant names, which one the values of a field type have, and how
 -- many words a type takes.
 use Rattle.std.specs.Prelude.{ℕ, zero, suc, ◌-◌, List, sum_by, Option, Some, None, if◌then◌else◌}
-use Rattle.jv_format.specs.Format.{◌>>=◌}
-use Rattle.jv_text.specs.declared.descriptor.Base.{Base}
-use Rattle.jv_text.specs.declared.descriptor.Base.TheVariants as bases
-use Rattle.jv_text.specs.declared.descriptor.Element.{Element}
-use Rattle.jv_text.specs.declared.descriptor.Element.TheVariants as elements
-use Rattle.jv_text.specs.declared.descriptor.FieldTypeOf.{FieldTypeOf}
-use Rattle.jv_text.specs.Name.{is_class_name, is_array_name}
-use Rattle.jv_text.specs.Types.{field_type_of}
+use Rattle.jv_pool.specs.of_format.Format.{◌>>=◌}
+use Rattle.jv_pool.specs.of_text.declared.descriptor.Base.{Base}
+use Rattle.jv_pool.specs.of_text.declared.descriptor.Base.TheVariants as bases
+use Rattle.jv_pool.specs.of_text.declared.descriptor.Element.{Element}
+use Rattle.jv_pool.specs.of_text.declared.descriptor.Element.TheVariants as elements
+use Rattle.jv_pool.specs.of_text.declared.descriptor.FieldTypeOf.{FieldTypeOf}
+use Rattle.jv_pool.specs.of_text.Name.{is_class_name, is_array_name}
+use Rattle.jv_pool.specs.of_text.Types.{field_type_of}
 use Rattle.jv_frames.specs.declared.verification.VerificationTypeOf.{VerificationTypeOf}
 use Rattle.jv_frames.specs.declared.verification.VerificationTypeOf.TheVariants as types
 

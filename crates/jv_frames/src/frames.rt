@@ -15,8 +15,8 @@ use crate::limits::Limits;
 use crate::nodes::{KeptFrame, Nodes};
 use crate::reading::read_table;
 use crate::width::Width;
+use jv_pool::of_text::types_agree;
 use jv_pool::{Pool, kinds_name};
-use jv_text::types_agree;
 use std::alloc::Global;
 use std::marker::Model;
 

@@ -30,6 +30,7 @@ pub use entries::{Entries, MapFrame};
 pub use entry::FrameEntry;
 pub use fault::FrameFault;
 pub use frames::{MapFrames, no_frames, read_frames};
+pub use jv_pool as of_pool;
 pub use law::{fills_locals, offsets_rise, one_maps, worked_rows};
 pub use limits::Limits;
 pub use verification::VerificationTypeOf;

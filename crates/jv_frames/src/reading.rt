@@ -1,7 +1,7 @@
 //! Reads frames from the front of bytes into a table.
 
 ghost use Rattle.std.specs.Prelude.{◌≡◌, ◌<◌, ◌≤◌, [], length};
-ghost use Rattle.jv_format.specs.Format.{Finds};
+ghost use Rattle.jv_pool.specs.of_format.Format.{Finds};
 ghost use Rattle.jv_frames.specs.Inside.Reading.{IsGiven, item};
 ghost use Rattle.jv_frames.specs.Inside.Steps.{item_laid, items_laid, counted_laid, short_begun, append_begun, full_begun, form_begun, frame_read, frames_read, started, table_read};
 
@@ -11,8 +11,8 @@ use crate::item::Item;
 use crate::limits::Limits;
 use crate::table::FrameTable;
 use crate::width::Width;
-use jv_format::{byte_at, half_at};
 use jv_pool::Pool;
+use jv_pool::of_format::{byte_at, half_at};
 use std::alloc::Global;
 
 /// The item at the front, and what follows it.

@@ -2,7 +2,7 @@
 
 ghost use Rattle.std.specs.Prelude.{◌≡◌};
 
-use jv_text::FieldTypeOf;
+use jv_pool::of_text::FieldTypeOf;
 use std::alloc::AllocError;
 
 /// The type of a local variable or of a stack item, where `T` is a class's name: a list of bytes

@@ -5,7 +5,7 @@ use crate::host::{
     takes, writes_hi_in_turns,
 };
 use jv_heap::Blocks;
-use jv_host::{FeedFault, GuestFiles, GuestId, Host};
+use jv_run::of_host::{FeedFault, GuestFiles, GuestId, Host};
 use std::alloc::Global;
 
 /// The file of a class P, whose main is `read, write, goto 0`.

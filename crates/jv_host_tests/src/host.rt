@@ -1,9 +1,11 @@
 //! Worked rows of the host.
 
 use jv_heap::{Blocks, Cells, Store};
-use jv_host::{AdmitFault, Budget, FeedFault, GuestEnd, GuestFiles, GuestId, Host, TurnFault};
 use jv_loader::{LoadVerdict, SystemFiles, system_files};
 use jv_meaning_typing::Verdict;
+use jv_run::of_host::{
+    AdmitFault, Budget, FeedFault, GuestEnd, GuestFiles, GuestId, Host, TurnFault,
+};
 use std::alloc::Global;
 use std::hash::RandomState;
 use std::random::RandomSource;

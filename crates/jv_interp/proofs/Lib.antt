@@ -4,3 +4,4 @@ pub mod Fed
 pub mod Shown
 pub mod Elsewhere
 pub mod Begun
+pub use Rattle.jv_interp_start.proofs as laws_of_interp_start

@@ -6,12 +6,12 @@ ghost use Rattle.jv_interp.specs.Beginning.{AreFilesOf, HasBegun};
 
 use crate::guest::Guest;
 use jv_heap::{Memory, Store};
-use jv_interp_methods::{Methods, Texts};
+use jv_interp_start::of_interp_methods::{Methods, Texts};
+use jv_interp_start::of_linked::link;
+use jv_interp_start::of_method::Verified;
 use jv_interp_start::{Budget, Started, start, verified_classes};
-use jv_linked::link;
 use jv_meaning_machine::judged_by_verdicts;
 use jv_meaning_world::one_content;
-use jv_method::Verified;
 use jv_sound::never_faults;
 use std::alloc::Global;
 use std::hash::RandomState;

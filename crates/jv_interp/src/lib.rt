@@ -9,5 +9,7 @@ mod turns;
 
 pub use guest::Guest;
 pub use jv_interp_runs::Turn;
-pub use jv_interp_start::Budget;
+pub use jv_interp_start as of_interp_start;
+pub use jv_interp_start::{Budget, of_loader, of_method};
+pub use jv_sound as of_sound;
 pub use observation::{GuestEnd, Observation};

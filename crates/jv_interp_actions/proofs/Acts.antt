@@ -24,8 +24,8 @@ use Rattle.jv_interp_objects.specs.ObjectsInBlocks.{Blocks}
 use Rattle.jv_interp_memory.specs.declared.held.Held.{Held}
 use Rattle.jv_interp_memory.specs.declared.effect.Effect.{Effect}
 use Rattle.jv_interp_memory.specs.declared.effect.Effect.TheVariants as effects
-use Rattle.jv_interp_methods.specs.declared.methods.Methods.{Methods}
-use Rattle.jv_interp_methods.specs.Methods.{AreMethods}
+use Rattle.jv_interp_calls.specs.of_interp_methods.declared.methods.Methods.{Methods}
+use Rattle.jv_interp_calls.specs.of_interp_methods.Methods.{AreMethods}
 use Rattle.jv_interp_frames.specs.declared.frames.Frames.{Frames}
 use Rattle.jv_interp_frames.specs.declared.control.Control.{Control}
 use Rattle.jv_interp_frames.specs.Leaving.{Left}

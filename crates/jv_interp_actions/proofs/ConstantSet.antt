@@ -8,8 +8,8 @@ use Rattle.jv_class.specs.Class.{InitialValue}
 use Rattle.jv_class.specs.Class.InitialValue.{IntValue, LongValue, StringValue}
 use Rattle.jv_meaning_world.specs.World.{Loaded, World}
 use Rattle.jv_meaning_world.specs.LookUps.{DeclaredField, field_by}
-use Rattle.jv_lookups.specs.Places.{field_at, field_in, IsFieldPlace}
-use Rattle.jv_linked.specs.Places.{IsWordOf}
+use Rattle.jv_interp_calls.specs.of_lookups.Places.{field_at, field_in, IsFieldPlace}
+use Rattle.jv_interp_calls.specs.of_linked.Places.{IsWordOf}
 use Rattle.jv_meaning_machine.specs.Faults.{OrFault, ◌>>=◌}
 use Rattle.jv_meaning_machine.specs.Faults.Fault.{OffsetFault}
 use Rattle.jv_meaning_machine.specs.Values.{Value, has_type, narrowed}

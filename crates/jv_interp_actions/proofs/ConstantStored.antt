@@ -24,8 +24,8 @@ use Rattle.jv_interp_objects.proofs.Carried.{one_own, two_own}
 use Rattle.jv_interp_objects.proofs.Fields.{StandsIn, field_stands, own_length}
 use Rattle.jv_interp_memory.specs.declared.held.Held.{Held}
 use Rattle.jv_interp_memory.specs.HeldInWords.{static_fields, MemoryStands}
-use Rattle.jv_interp_members.proofs.PutStands.{long_stays}
-use Rattle.jv_interp_members.proofs.FieldStands.{value_width}
+use Rattle.jv_interp_calls.proofs.laws_of_interp_members.PutStands.{long_stays}
+use Rattle.jv_interp_calls.proofs.laws_of_interp_members.FieldStands.{value_width}
 
 -- a field among others has a value
 value_there :

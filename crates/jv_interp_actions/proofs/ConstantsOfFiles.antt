@@ -34,7 +34,7 @@ use Rattle.jv_meaning_world.specs.System.Classes.{system_classes}
 use Rattle.jv_meaning_world.specs.World.{Loaded, World}
 use Rattle.jv_meaning_world.specs.LookUps.{DeclaredField, field_by}
 use Rattle.jv_meaning_linking.specs.Kind.{is_static_field}
-use Rattle.jv_linked.specs.Places.{IsWordOf}
+use Rattle.jv_interp_calls.specs.of_linked.Places.{IsWordOf}
 use Rattle.jv_meaning_machine.specs.Values.{has_type}
 use Rattle.jv_meaning_machine.specs.Values.Value.{Int, Long, Reference}
 use Rattle.jv_meaning_machine.specs.Objects.{key_of}

@@ -18,8 +18,8 @@ use Rattle.jv_meaning_linking.specs.Laws.{IsInterfaceWay, IsNext, EachBehind, be
 use Rattle.jv_meaning_linking.proofs.Found.{in_found}
 use Rattle.jv_meaning_linking.proofs.Chain.{in_any, found_is_named, IsNamedIn, IsFresh, NoTwo, few}
 use Rattle.jv_meaning_linking.proofs.Enumerated.{init_order_is_by_rule}
-use Rattle.jv_loader.specs.Straight.{IsStraight}
-use Rattle.jv_loader.proofs.Straightness.{are_straight}
+use Rattle.jv_interp_calls.specs.of_loader.Straight.{IsStraight}
+use Rattle.jv_interp_calls.proofs.laws_of_loader.Straightness.{are_straight}
 use Rattle.jv_meaning_machine.specs.Frames.{Task}
 use Rattle.jv_meaning_machine.specs.Frames.Task.{InitializesFirst, RunsInitializer}
 use Rattle.jv_meaning_machine.specs.Initialization.{setting, initializer_of, tasks_of}

@@ -13,3 +13,5 @@ pub mod FewTasks
 pub mod Tasked
 pub mod ClassInitialized
 pub mod Finished
+pub use Rattle.jv_interp_frames.proofs as laws_of_interp_frames
+pub use Rattle.jv_interp_frames.proofs.laws_of_interp_steps

@@ -9,12 +9,12 @@ use Rattle.jv_meaning_world.specs.World.{Loaded, World}
 use Rattle.jv_meaning_world.specs.Verdicts.{declared_by}
 use Rattle.jv_meaning_linking.specs.InitializationOrder.{init_order}
 use Rattle.jv_classes.proofs.Followed.{some_class}
-use Rattle.jv_lookups.specs.Places.{method_at}
-use Rattle.jv_lookups.proofs.Found.{one_class_more, no_class_left}
-use Rattle.jv_link.specs.Orders.{IsOrder}
-use Rattle.jv_linked.specs.declared.linked.Linked.{Linked}
-use Rattle.jv_linked.specs.Tasks.{settings_of, IsInitializer}
-use Rattle.jv_linked.proofs.Going.{drop_at}
+use Rattle.jv_interp_calls.specs.of_lookups.Places.{method_at}
+use Rattle.jv_interp_calls.proofs.laws_of_lookups.Found.{one_class_more, no_class_left}
+use Rattle.jv_interp_calls.specs.of_link.Orders.{IsOrder}
+use Rattle.jv_interp_calls.specs.of_linked.declared.linked.Linked.{Linked}
+use Rattle.jv_interp_calls.specs.of_linked.Tasks.{settings_of, IsInitializer}
+use Rattle.jv_interp_calls.proofs.laws_of_linked.Going.{drop_at}
 use Rattle.jv_meaning_machine.specs.Frames.{Task as TaskOfNames, InitializationFrame}
 use Rattle.jv_meaning_machine.specs.Frames.Task.{SetsField, InitializesFirst, RunsInitializer}
 use Rattle.jv_meaning_machine.specs.State.{Program, ClassStates, class_state, is_ready}
@@ -178,7 +178,7 @@ module _ (world : World) (linked : Linked) (own : InitializationRecord) (states 
                   ∙ ap (λ (l : List TaskOfNames). RunsInitializer d ∷ l) (sym (drop_all (length settings + length order + 1) (tasks_of program.world frame.class) past)),
               (
                 d,
-                ap (λ (o : Option Loaded). Rattle.jv_format.specs.Format.◌>>=◌ o (Rattle.jv_lookups.specs.Places.method_of member)) h.stands.has_number
+                ap (λ (o : Option Loaded). Rattle.jv_format.specs.Format.◌>>=◌ o (Rattle.jv_interp_calls.specs.of_lookups.Places.method_of member)) h.stands.has_number
                     ∙ ap (option_map (declared_by frame.class)) at,
                 refl,
               ),

@@ -11,7 +11,7 @@ use Rattle.jv_interp_words.specs.declared.records.FrameRecord.TheVariants as rec
 use Rattle.jv_interp_words.specs.declared.registers.Registers.{Registers}
 use Rattle.jv_interp_words.specs.FramesInWords.{in_use, MethodStands, AreFrames}
 use Rattle.jv_interp_words.specs.StatesInWords.{record_of}
-use Rattle.jv_interp_methods.specs.declared.methods.Methods.{Methods}
+use Rattle.jv_interp_calls.specs.of_interp_methods.declared.methods.Methods.{Methods}
 use Rattle.jv_interp_frames.specs.declared.frames.Frames.{Frames}
 use Rattle.jv_interp_frames.specs.Inside.Codes.{IsCodeOf}
 use Rattle.jv_interp_frames.proofs.CodeThere.{code_there}

@@ -8,7 +8,7 @@ use Rattle.jv_meaning_world.specs.World.{Loaded, World}
 use Rattle.jv_meaning_world.specs.LookUps.{field_by}
 use Rattle.jv_meaning_world.specs.Numbers.{classes_at, AreNumbers}
 use Rattle.jv_classes.proofs.Followed.{some_class}
-use Rattle.jv_linked.specs.Tasks.{settings_from}
+use Rattle.jv_interp_calls.specs.of_linked.Tasks.{settings_from}
 use Rattle.jv_meaning_machine.specs.Frames.{Task}
 use Rattle.jv_meaning_machine.specs.Frames.Task.{SetsField}
 use Rattle.jv_meaning_machine.specs.Initialization.{setting}

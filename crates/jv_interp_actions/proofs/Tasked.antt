@@ -4,8 +4,8 @@ use Rattle.std.proofs.lemmas.List.{length-reverse}
 use Rattle.std.specs.Prelude.{vec_capacity}
 use Rattle.std.proofs.lemmas.List.Sums.{sum_by-cons}
 use Rattle.jv_meaning_world.specs.World.{World}
-use Rattle.jv_linked.specs.declared.linked.Linked.{Linked}
-use Rattle.jv_linked.specs.Linked.{IsLinked}
+use Rattle.jv_interp_calls.specs.of_linked.declared.linked.Linked.{Linked}
+use Rattle.jv_interp_calls.specs.of_linked.Linked.{IsLinked}
 use Rattle.jv_meaning_machine.specs.Frames.{Task as TaskOfNames, InitializationFrame, Frame}
 use Rattle.jv_meaning_machine.specs.Frames.Frame.{Initializes}
 use Rattle.jv_meaning_machine.specs.State.{Program, State, state_of}

@@ -6,8 +6,8 @@ use Rattle.jv_meaning_machine.specs.State.{Program}
 use Rattle.jv_interp_words.specs.declared.registers.Registers.{Registers}
 use Rattle.jv_interp_words.specs.declared.records.FrameRecord.TheVariants as records
 use Rattle.jv_interp_words.specs.StatesInWords.{record_of, RunningStands}
-use Rattle.jv_interp_methods.specs.declared.methods.Methods.{Methods}
-use Rattle.jv_interp_methods.specs.Methods.{AreMethods}
+use Rattle.jv_interp_calls.specs.of_interp_methods.declared.methods.Methods.{Methods}
+use Rattle.jv_interp_calls.specs.of_interp_methods.Methods.{AreMethods}
 use Rattle.jv_interp_frames.specs.declared.frames.Frames.{Frames}
 use Rattle.jv_interp_frames.specs.FramesStand.{FramesStand}
 use Rattle.jv_interp_actions.specs.Running.{HaveRoom}

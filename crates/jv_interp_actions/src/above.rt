@@ -1,19 +1,19 @@
 //! Methods that wait, and what is done above them (JVMS 2.6, 2.10, 5.5).
 
 ghost use Rattle.std.specs.Prelude.{◌≡◌, ◌+◌, ◌<◌, ◌≤◌, ◌∷◌, ◌++◌, [], false, IsOk, IsTrue, OnOk, OnErr, length};
-ghost use Rattle.jv_linked.specs.Linked.{IsLinked};
-ghost use Rattle.jv_interp_methods.specs.Methods.{AreMethods};
+ghost use Rattle.jv_interp_calls.specs.of_linked.Linked.{IsLinked};
+ghost use Rattle.jv_interp_calls.specs.of_interp_methods.Methods.{AreMethods};
 ghost use Rattle.jv_interp_frames.specs.Standing.{kept, CanMove, Moved};
 ghost use Rattle.jv_interp_actions.specs.Acting.{CanAct, Acted, AreAsBefore};
 ghost use Rattle.jv_interp_actions.specs.Inside.Above.{IsAbove, IsWithin, top_without as top_without_passed, Doing};
 
 use jv_heap::{Memory, Store};
+use jv_interp_calls::of_interp_methods::Methods;
+use jv_interp_calls::of_linked::Linked;
+use jv_interp_calls::of_loader::Classes;
 use jv_interp_frames::{Control, Frames, begin, enter, raise, suspend, take_out, throw};
 use jv_interp_memory::{Effect, Held};
-use jv_interp_methods::Methods;
 use jv_interp_words::Registers;
-use jv_linked::Linked;
-use jv_loader::Classes;
 
 /// How many words are in use without what is passed to the method that is entered.
 #[inline(always)]

@@ -1,21 +1,21 @@
 //! Instructions' effects on frames (JVMS 2.11).
 
 ghost use Rattle.std.specs.Prelude.{◌≡◌, ◌↔◌, ◌+◌, ◌<◌, ◌≤◌, IfOk, IsOk, IsTrue, OnOk, OnErr, length};
-ghost use Rattle.jv_linked.specs.Linked.{IsLinked};
+ghost use Rattle.jv_interp_calls.specs.of_linked.Linked.{IsLinked};
 ghost use Rattle.jv_interp_memory.specs.declared.effect.Effect.TheVariants.{Goes};
-ghost use Rattle.jv_interp_methods.specs.Methods.{AreMethods};
+ghost use Rattle.jv_interp_calls.specs.of_interp_methods.Methods.{AreMethods};
 ghost use Rattle.jv_interp_frames.specs.Standing.{kept};
 ghost use Rattle.jv_interp_actions.specs.Acting.{CanAct, Acted, AreAsBefore};
 
 use crate::above::act_above;
 use crate::leaving::return_from;
 use jv_heap::{Memory, Store};
+use jv_interp_calls::of_interp_methods::Methods;
+use jv_interp_calls::of_linked::Linked;
+use jv_interp_calls::of_loader::Classes;
 use jv_interp_frames::{Control, Frames};
 use jv_interp_memory::{Effect, Held};
-use jv_interp_methods::Methods;
 use jv_interp_words::Registers;
-use jv_linked::Linked;
-use jv_loader::Classes;
 
 /// What an instruction's effect asks for is done. Answers whether its method goes on in the registers; where it doesn't, it is left or waits, and
 /// all frames stand in their records, from which the newest goes on.

@@ -1,20 +1,20 @@
 //! The end of an initialization (JVMS 5.5, step 10).
 
 ghost use Rattle.std.specs.Prelude.{◌≡◌, ◌+◌, ◌<◌, ◌≤◌, IsOk, IsTrue, OnOk, OnErr};
-ghost use Rattle.jv_linked.specs.Linked.{IsLinked};
-ghost use Rattle.jv_interp_methods.specs.Methods.{AreMethods};
+ghost use Rattle.jv_interp_calls.specs.of_linked.Linked.{IsLinked};
+ghost use Rattle.jv_interp_calls.specs.of_interp_methods.Methods.{AreMethods};
 ghost use Rattle.jv_interp_frames.specs.Standing.{kept, CanMove, Moved};
 ghost use Rattle.jv_interp_actions.specs.Acting.{AreAsBefore};
 ghost use Rattle.jv_interp_actions.specs.Initializing.{IsAsBefore};
 ghost use Rattle.jv_interp_actions.specs.Inside.Finishing.{Finishing, CanMark, Marks, CanSetBack};
 
 use jv_heap::{Memory, Store};
+use jv_interp_calls::of_interp_methods::Methods;
+use jv_interp_calls::of_link::class_at;
+use jv_interp_calls::of_linked::Linked;
+use jv_interp_calls::of_loader::Classes;
 use jv_interp_frames::{Control, Frames, enter};
 use jv_interp_memory::{ClassState, Held};
-use jv_interp_methods::Methods;
-use jv_link::class_at;
-use jv_linked::Linked;
-use jv_loader::Classes;
 
 /// The class with a number is initialized, and the words of its initialization, whose record is gone, are given back.
 fn mark(classes: &Classes<'_>, frames: &mut Frames, control: &mut Control, class: u32)

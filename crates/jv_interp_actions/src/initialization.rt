@@ -1,9 +1,9 @@
 //! Steps of initializations (JVMS 5.5).
 
 ghost use Rattle.std.specs.Prelude.{◌≡◌, ◌+◌, ◌<◌, ◌≤◌, ◌++◌, ◌∷◌, [], IsOk, IsTrue, OnOk, OnErr, length, vec_capacity};
-ghost use Rattle.jv_linked.specs.Linked.{IsLinked};
-ghost use Rattle.jv_interp_methods.specs.Methods.{AreMethods};
-ghost use Rattle.jv_interp_methods.specs.Texts.{AreTexts};
+ghost use Rattle.jv_interp_calls.specs.of_linked.Linked.{IsLinked};
+ghost use Rattle.jv_interp_calls.specs.of_interp_methods.Methods.{AreMethods};
+ghost use Rattle.jv_interp_calls.specs.of_interp_methods.Texts.{AreTexts};
 ghost use Rattle.jv_interp_frames.specs.Standing.{kept};
 ghost use Rattle.jv_interp_actions.specs.Acting.{AreAsBefore};
 ghost use Rattle.jv_interp_actions.specs.Initializing.{Initializing, CanMoveWith, MovedWith, IsAsBefore};
@@ -14,12 +14,12 @@ use crate::constants::set_constant;
 use crate::finishing::finish;
 use crate::tasks::{Task, next_task};
 use jv_heap::{Memory, Store};
+use jv_interp_calls::of_interp_methods::{Methods, Texts};
+use jv_interp_calls::of_linked::Linked;
+use jv_interp_calls::of_loader::{Classes, Place};
 use jv_interp_frames::{Control, Frames, begin, enter, push_record};
 use jv_interp_memory::Held;
-use jv_interp_methods::{Methods, Texts};
 use jv_interp_words::{FrameRecord, InitializationRecord};
-use jv_linked::Linked;
-use jv_loader::{Classes, Place};
 
 /// A task of the class with a number is done.
 ///

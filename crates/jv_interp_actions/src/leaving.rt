@@ -2,8 +2,8 @@
 
 ghost use Rattle.jv_interp_actions.specs.Inside.Returning.{CanReturn, Returned};
 
+use jv_interp_calls::of_interp_methods::Methods;
 use jv_interp_frames::{Control, Frames, code_of, leave, words_of};
-use jv_interp_methods::Methods;
 use jv_interp_words::Registers;
 
 /// The method that the registers tell is left, with so many words of a result.

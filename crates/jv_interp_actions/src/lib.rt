@@ -14,4 +14,7 @@ mod tasks;
 
 pub use acting::act;
 pub use initialization::initialization_step;
+pub use jv_interp_calls::{of_interp_methods, of_link, of_linked, of_loader};
+pub use jv_interp_frames as of_interp_frames;
+pub use jv_interp_frames::of_interp_steps;
 pub use resuming::resume;

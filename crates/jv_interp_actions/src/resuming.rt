@@ -3,8 +3,8 @@
 ghost use Rattle.std.specs.Prelude.{IfSome};
 ghost use Rattle.jv_interp_actions.specs.Resuming.{CanResume, Resumes, IsTakenOut};
 
+use jv_interp_calls::of_interp_methods::Methods;
 use jv_interp_frames::{Frames, code_of, push_record};
-use jv_interp_methods::Methods;
 use jv_interp_words::{FrameRecord, Registers};
 
 /// The method of the newest frame goes on in registers, and its record is gone; none where the newest frame is an initialization, or there is no

@@ -4,11 +4,11 @@ ghost use Rattle.std.specs.Prelude.{◌≡◌, ◌≤◌, ◌<◌, length};
 ghost use Rattle.jv_interp_actions.specs.Inside.Tasks.{CanAsk, AreNext, PassesReady, StopsAtUnready};
 
 use jv_interp_calls::is_ready;
+use jv_interp_calls::of_link::class_at;
+use jv_interp_calls::of_linked::Linked;
+use jv_interp_calls::of_loader::ClassTable;
 use jv_interp_memory::ClassState;
 use jv_interp_words::InitializationRecord;
-use jv_link::class_at;
-use jv_linked::Linked;
-use jv_loader::ClassTable;
 
 /// A task of a class: the static field at a place gets its constant, the class or interface with a number is initialized, or the `<clinit>` at a place
 /// runs.

@@ -6,7 +6,7 @@ use Rattle.std.proofs.lemmas.Option.{slice_get-get_or}
 use Rattle.jv_heap.specs.Content.{words_at}
 use Rattle.jv_text.specs.declared.descriptor.FieldTypeOf.{FieldTypeOf}
 use Rattle.jv_frames.specs.Types.{value_type, width}
-use Rattle.jv_meaning_world.specs.World.{World}
+use Rattle.jv_meaning_machine.specs.of_meaning_world.World.{World}
 use Rattle.jv_meaning_machine.specs.Values.{Value}
 use Rattle.jv_meaning_machine.specs.Values.Value.{Int, Long, Null, Reference, Half, Unset}
 use Rattle.jv_meaning_machine.specs.Objects.Object.{ArrayWith}
@@ -14,14 +14,14 @@ use Rattle.jv_meaning_machine.specs.State.{Memory}
 use Rattle.jv_meaning_machine.specs.Effects.{Effect, Context, null_pointer, array_index}
 use Rattle.jv_meaning_machine.specs.Effects.Effect.{Goes, Raises}
 use Rattle.jv_meaning_machine.specs.Arrays.{at_place, load_at, load_from, load_component}
-use Rattle.jv_interp_words.specs.declared.registers.Registers.{Registers}
-use Rattle.jv_interp_words.specs.ValuesInWords.{IsOnTop}
-use Rattle.jv_interp_words.specs.FramesInWords.{in_use}
-use Rattle.jv_interp_words.proofs.InUse.{in_use_top, in_use_pushed, in_use_two}
-use Rattle.jv_interp_objects.specs.ObjectsInBlocks.{IsIn, HasNumber, ArrayStands}
-use Rattle.jv_interp_objects.proofs.Carried.{word_pushed, long_pushed, one_own, two_own}
-use Rattle.jv_interp_objects.proofs.Fields.{own_length}
-use Rattle.jv_interp_objects.proofs.Components.{StandsAmong, component_stands, components_length}
+use Rattle.jv_interp_going.specs.of_interp_words.declared.registers.Registers.{Registers}
+use Rattle.jv_interp_going.specs.of_interp_words.ValuesInWords.{IsOnTop}
+use Rattle.jv_interp_going.specs.of_interp_words.FramesInWords.{in_use}
+use Rattle.jv_interp_going.proofs.laws_of_interp_words.InUse.{in_use_top, in_use_pushed, in_use_two}
+use Rattle.jv_interp_memory.specs.of_interp_objects.ObjectsInBlocks.{IsIn, HasNumber, ArrayStands}
+use Rattle.jv_interp_memory.proofs.laws_of_interp_objects.Carried.{word_pushed, long_pushed, one_own, two_own}
+use Rattle.jv_interp_memory.proofs.laws_of_interp_objects.Fields.{own_length}
+use Rattle.jv_interp_memory.proofs.laws_of_interp_objects.Components.{StandsAmong, component_stands, components_length}
 use Rattle.jv_interp_memory.specs.declared.effect.Effect.TheVariants as effects
 use Rattle.jv_interp_memory.specs.Executing.{Place, place, Did}
 use Rattle.jv_interp_memory.proofs.Numbered.{system_numbers}

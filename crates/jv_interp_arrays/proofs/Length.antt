@@ -4,8 +4,8 @@ use Rattle.std.specs.Int.{w32, cast_signed}
 use Rattle.std.proofs.lemmas.Int.{to_z_pos}
 use Rattle.jv_heap.specs.Content.{words_at}
 use Rattle.jv_text.specs.declared.descriptor.FieldTypeOf.{FieldTypeOf}
-use Rattle.jv_meaning_world.specs.World.{World}
-use Rattle.jv_meaning_typing.specs.Named.{object_class_type}
+use Rattle.jv_meaning_machine.specs.of_meaning_world.World.{World}
+use Rattle.jv_meaning_machine.specs.of_meaning_typing.Named.{object_class_type}
 use Rattle.jv_meaning_machine.specs.Faults.{◌>>=◌}
 use Rattle.jv_meaning_machine.specs.Values.{Value}
 use Rattle.jv_meaning_machine.specs.Values.Value.{Int, Long, Null, Reference, Half, Unset}
@@ -15,13 +15,13 @@ use Rattle.jv_meaning_machine.specs.Operands.{object_at, taken_reference}
 use Rattle.jv_meaning_machine.specs.Effects.{Effect, Context, null_pointer, goes_on}
 use Rattle.jv_meaning_machine.specs.Effects.Effect.{Goes, Raises}
 use Rattle.jv_meaning_machine.specs.Arrays.{Components, array_in, length_of, array_length}
-use Rattle.jv_interp_words.specs.declared.registers.Registers.{Registers}
-use Rattle.jv_interp_words.specs.ValuesInWords.{IsOnTop}
-use Rattle.jv_interp_words.specs.FramesInWords.{in_use}
-use Rattle.jv_interp_words.proofs.Gave.{bound_gave}
-use Rattle.jv_interp_words.proofs.Taken.{taken_gave}
-use Rattle.jv_interp_words.proofs.InUse.{in_use_top, in_use_pushed}
-use Rattle.jv_interp_objects.specs.ObjectsInBlocks.{HasNumber, ArrayStands}
+use Rattle.jv_interp_going.specs.of_interp_words.declared.registers.Registers.{Registers}
+use Rattle.jv_interp_going.specs.of_interp_words.ValuesInWords.{IsOnTop}
+use Rattle.jv_interp_going.specs.of_interp_words.FramesInWords.{in_use}
+use Rattle.jv_interp_going.proofs.laws_of_interp_words.Gave.{bound_gave}
+use Rattle.jv_interp_going.proofs.laws_of_interp_words.Taken.{taken_gave}
+use Rattle.jv_interp_going.proofs.laws_of_interp_words.InUse.{in_use_top, in_use_pushed}
+use Rattle.jv_interp_memory.specs.of_interp_objects.ObjectsInBlocks.{HasNumber, ArrayStands}
 use Rattle.jv_interp_memory.specs.declared.effect.Effect.TheVariants as effects
 use Rattle.jv_interp_memory.specs.Executing.{Place, place, Did}
 use Rattle.jv_interp_memory.proofs.Numbered.{system_numbers}

@@ -5,7 +5,7 @@ use Rattle.std.proofs.lemmas.Int.{to_z_pos}
 use Rattle.std.proofs.lemmas.Option.{slice_get_past}
 use Rattle.jv_text.specs.declared.descriptor.FieldTypeOf.{FieldTypeOf}
 use Rattle.jv_frames.specs.declared.verification.VerificationTypeOf.TheVariants as types
-use Rattle.jv_meaning_typing.specs.Named.{object_class_type}
+use Rattle.jv_meaning_machine.specs.of_meaning_typing.Named.{object_class_type}
 use Rattle.jv_meaning_machine.specs.Faults.{OrFault, tested, ◌>>=◌}
 use Rattle.jv_meaning_machine.specs.Faults.Fault.{ReferenceFault}
 use Rattle.jv_meaning_machine.specs.Values.{Value}
@@ -17,8 +17,8 @@ use Rattle.jv_meaning_machine.specs.Operands.{object_at, taken_as, taken_referen
 use Rattle.jv_meaning_machine.specs.Effects.{Effect, Context}
 use Rattle.jv_meaning_machine.specs.Arithmetic.{as_int}
 use Rattle.jv_meaning_machine.specs.Arrays.{Components, array_in, at_place, load_at, load_from, load_component}
-use Rattle.jv_interp_words.proofs.Gave.{bound_gave, found_gave, tested_gave, int_gave}
-use Rattle.jv_interp_words.proofs.Taken.{taken_gave}
+use Rattle.jv_interp_going.proofs.laws_of_interp_words.Gave.{bound_gave, found_gave, tested_gave, int_gave}
+use Rattle.jv_interp_going.proofs.laws_of_interp_words.Taken.{taken_gave}
 
 pub done_same : (a b : Memory × Effect) → ◌≡◌ {A = OrFault (Memory × Effect)} (Ok a) (Ok b) → b ≡ a
 done_same a b e = cc

@@ -5,8 +5,8 @@ use Rattle.jv_frames.specs.Types.{value_type, width}
 use Rattle.jv_meaning_machine.specs.State.{Memory}
 use Rattle.jv_meaning_machine.specs.Effects.{Effect as EffectOfNames, Context}
 use Rattle.jv_meaning_machine.specs.Arrays.{array_length, load_component}
-use Rattle.jv_interp_words.specs.declared.registers.Registers.{Registers}
-use Rattle.jv_interp_objects.specs.ObjectsInBlocks.{Blocks}
+use Rattle.jv_interp_going.specs.of_interp_words.declared.registers.Registers.{Registers}
+use Rattle.jv_interp_memory.specs.of_interp_objects.ObjectsInBlocks.{Blocks}
 use Rattle.jv_interp_memory.specs.declared.held.Held.{Held}
 use Rattle.jv_interp_memory.specs.declared.effect.Effect.{Effect}
 use Rattle.jv_interp_memory.specs.Executing.{Place, place, Executes, Did}

@@ -3,4 +3,5 @@
 
 mod loads;
 
+pub use jv_interp_going as of_interp_going;
 pub use loads::{array_length, load, load_long};

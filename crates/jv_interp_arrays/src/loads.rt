@@ -5,8 +5,8 @@ ghost use Rattle.jv_interp_memory.specs.Executing.{IsUnmoved, place};
 ghost use Rattle.jv_interp_arrays.specs.Loads.{CanMeasure, Measures, CanLoad, Loads};
 
 use jv_heap::Store;
+use jv_interp_going::of_interp_words::Registers;
 use jv_interp_memory::{ARRAY_INDEX, Effect, Held, NULL_POINTER};
-use jv_interp_words::Registers;
 
 /// The length of the array on top comes to stand in its place.
 #[inline(always)]

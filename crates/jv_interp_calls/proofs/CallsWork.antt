@@ -10,7 +10,7 @@ use Rattle.jv_class.specs.Class.{Method}
 use Rattle.jv_meaning_world.specs.World.{Loaded, World, class_named}
 use Rattle.jv_meaning_world.specs.Overriding.{Declared}
 use Rattle.jv_meaning_world.specs.Verdicts.{is_loadable}
-use Rattle.jv_lookups.specs.Places.{method_at}
+use Rattle.jv_interp_methods.specs.of_lookups.Places.{method_at}
 use Rattle.jv_meaning_linking.specs.Uses.{Use as UseOfNames}
 use Rattle.jv_meaning_linking.specs.Uses.Use.{Invokevirtual, Invokespecial, Invokeinterface}
 use Rattle.jv_meaning_linking.specs.LinkErrors.{OrError, error_class, ◌>>=◌ as ◌>>==◌}
@@ -18,13 +18,13 @@ use Rattle.jv_meaning_linking.specs.Kind.{is_static_method, has_method_kind}
 use Rattle.jv_meaning_linking.specs.MethodResolution.{MethodTarget, target}
 use Rattle.jv_meaning_linking.specs.Selection.{select, select_special, select_from, special_start}
 use Rattle.jv_meaning_linking.specs.Laws.{MethodIsCalled}
-use Rattle.jv_link.specs.declared.site.Use.{Use}
-use Rattle.jv_link.specs.declared.site.Use.TheVariants as uses
-use Rattle.jv_link.specs.Seen.{seen_use}
-use Rattle.jv_link.specs.Objects.{object_class_at, IsObject}
-use Rattle.jv_linked.specs.declared.method_use.MethodUse.{MethodUse}
-use Rattle.jv_linked.specs.MethodUses.{IsMethodUse}
-use Rattle.jv_meaning_typing.specs.Named.{class_components}
+use Rattle.jv_interp_methods.specs.of_link.declared.site.Use.{Use}
+use Rattle.jv_interp_methods.specs.of_link.declared.site.Use.TheVariants as uses
+use Rattle.jv_interp_methods.specs.of_link.Seen.{seen_use}
+use Rattle.jv_interp_methods.specs.of_link.Objects.{object_class_at, IsObject}
+use Rattle.jv_interp_methods.specs.of_linked.declared.method_use.MethodUse.{MethodUse}
+use Rattle.jv_interp_methods.specs.of_linked.MethodUses.{IsMethodUse}
+use Rattle.jv_meaning_machine.specs.of_meaning_typing.Named.{class_components}
 use Rattle.jv_meaning_machine.specs.Faults.{OrFault, found as found_or, tested, ◌>>=◌}
 use Rattle.jv_meaning_machine.specs.Faults.Fault.{ReferenceFault, ConstructionFault}
 use Rattle.jv_meaning_machine.specs.Values.{Value, is_reference_value}

@@ -25,10 +25,10 @@ use Rattle.jv_meaning_linking.specs.Layout.{own_fields, instance_fields, field_w
 use Rattle.jv_meaning_linking.proofs.Chain.{chain_is_above, superclasses_are_named, in_any}
 use Rattle.jv_meaning_linking.proofs.Found.{split, in_filter}
 use Rattle.jv_meaning_linking.proofs.Places.{layout_extends, layout_is_by_rule}
-use Rattle.jv_linked.specs.Places.{static_layout, IsWordOf}
-use Rattle.jv_linked.proofs.Inherited.{words_are_inherited}
-use Rattle.jv_loader.specs.Straight.{IsStraight}
-use Rattle.jv_loader.proofs.Straightness.{are_straight}
+use Rattle.jv_interp_methods.specs.of_linked.Places.{static_layout, IsWordOf}
+use Rattle.jv_interp_methods.proofs.laws_of_linked.Inherited.{words_are_inherited}
+use Rattle.jv_interp_methods.specs.of_loader.Straight.{IsStraight}
+use Rattle.jv_interp_methods.proofs.laws_of_loader.Straightness.{are_straight}
 use Rattle.jv_meaning_machine.specs.Objects.{FieldKey, key_of, same_key}
 use Rattle.jv_interp_objects.specs.ObjectsInBlocks.{BeginsAt, place_among}
 use Rattle.jv_interp_memory.specs.HeldInWords.{own_static_fields, static_fields}

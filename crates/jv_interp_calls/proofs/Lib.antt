@@ -15,3 +15,8 @@ pub mod WorldNames
 pub mod FieldsOfFiles
 pub mod FieldPlaces
 pub mod UsedAtSite
+pub use Rattle.jv_interp_members.proofs as laws_of_interp_members
+pub use Rattle.jv_interp_methods.proofs as laws_of_interp_methods
+pub use Rattle.jv_interp_methods.proofs.laws_of_linked
+pub use Rattle.jv_interp_methods.proofs.laws_of_loader
+pub use Rattle.jv_interp_methods.proofs.laws_of_lookups

@@ -13,22 +13,22 @@ use Rattle.jv_code.specs.declared.kinds.FieldAccess.TheVariants as access
 use Rattle.jv_meaning_world.specs.World.{Loaded, World}
 use Rattle.jv_meaning_world.specs.LookUps.{DeclaredField}
 use Rattle.jv_meaning_world.specs.Numbers.{HoldsAtNumber}
-use Rattle.jv_lookups.specs.Places.{field_at}
+use Rattle.jv_interp_methods.specs.of_lookups.Places.{field_at}
 use Rattle.jv_meaning_linking.specs.LinkErrors.{error_class}
 use Rattle.jv_meaning_linking.specs.Kind.{is_static_field, has_field_kind}
 use Rattle.jv_meaning_linking.specs.Layout.{field_words}
 use Rattle.jv_meaning_linking.specs.Operands.{field_operand}
 use Rattle.jv_meaning_linking.specs.FieldResolution.{resolve_field}
 use Rattle.jv_meaning_linking.specs.Laws.{FieldIsUsed}
-use Rattle.jv_link.specs.declared.site.Use.{Use}
-use Rattle.jv_link.specs.declared.site.Use.TheVariants as uses
-use Rattle.jv_link.specs.Seen.{place_of, seen_use, IsSite}
-use Rattle.jv_linked.specs.declared.field_use.FieldKind.{FieldKind}
-use Rattle.jv_linked.specs.declared.field_use.FieldUse.{FieldUse}
-use Rattle.jv_linked.specs.FieldUses.{kind_of, IsFieldUse}
-use Rattle.jv_linked.specs.Places.{IsWordOf}
-use Rattle.jv_linked.proofs.Eachwise.{within_list}
-use Rattle.jv_meaning_typing.specs.Environment.{current_class}
+use Rattle.jv_interp_methods.specs.of_link.declared.site.Use.{Use}
+use Rattle.jv_interp_methods.specs.of_link.declared.site.Use.TheVariants as uses
+use Rattle.jv_interp_methods.specs.of_link.Seen.{place_of, seen_use, IsSite}
+use Rattle.jv_interp_methods.specs.of_linked.declared.field_use.FieldKind.{FieldKind}
+use Rattle.jv_interp_methods.specs.of_linked.declared.field_use.FieldUse.{FieldUse}
+use Rattle.jv_interp_methods.specs.of_linked.FieldUses.{kind_of, IsFieldUse}
+use Rattle.jv_interp_methods.specs.of_linked.Places.{IsWordOf}
+use Rattle.jv_interp_methods.proofs.laws_of_linked.Eachwise.{within_list}
+use Rattle.jv_meaning_machine.specs.of_meaning_typing.Environment.{current_class}
 use Rattle.jv_meaning_machine.specs.Faults.{OrFault, found, ◌>>=◌}
 use Rattle.jv_meaning_machine.specs.Faults.Fault.{OffsetFault}
 use Rattle.jv_meaning_machine.specs.State.{Memory, class_state, is_ready}

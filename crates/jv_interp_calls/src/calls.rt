@@ -1,9 +1,9 @@
 //! Calls.
 
 ghost use Rattle.std.specs.Prelude.{◌≡◌};
-ghost use Rattle.jv_link.specs.declared.site.Use.TheVariants.{Invokespecial};
-ghost use Rattle.jv_linked.specs.Linked.{IsLinked};
-ghost use Rattle.jv_interp_going.specs.Going.{StaysIn};
+ghost use Rattle.jv_interp_methods.specs.of_link.declared.site.Use.TheVariants.{Invokespecial};
+ghost use Rattle.jv_interp_methods.specs.of_linked.Linked.{IsLinked};
+ghost use Rattle.jv_interp_members.specs.of_interp_going.Going.{StaysIn};
 ghost use Rattle.jv_interp_objects.specs.ObjectsInBlocks.{Blocks};
 ghost use Rattle.jv_interp_memory.specs.Executing.{IsUnmoved, place};
 ghost use Rattle.jv_interp_methods.specs.Methods.{AreMethods};
@@ -15,10 +15,10 @@ use crate::linking::{is_ready, resolved, run};
 use jv_heap::Store;
 use jv_interp_memory::{ClassState, Effect, Held, NULL_POINTER};
 use jv_interp_methods::Methods;
+use jv_interp_methods::of_link::{Site, Use};
+use jv_interp_methods::of_linked::Linked;
+use jv_interp_methods::of_loader::Classes;
 use jv_interp_words::Registers;
-use jv_link::{Site, Use};
-use jv_linked::Linked;
-use jv_loader::Classes;
 use jv_meaning_linking::method_is_called;
 
 /// invokestatic: the method that the constant at an index names is entered, once its class is initialized or being initialized; what

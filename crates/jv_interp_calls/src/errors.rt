@@ -2,7 +2,7 @@
 
 ghost use Rattle.jv_meaning_world.specs.World.{World};
 ghost use Rattle.jv_meaning_linking.specs.LinkErrors.{error_class};
-ghost use Rattle.jv_link.specs.Seen.{error_of};
+ghost use Rattle.jv_interp_methods.specs.of_link.Seen.{error_of};
 ghost use Rattle.jv_interp_objects.specs.ObjectsInBlocks.{HasNumber};
 ghost use Rattle.jv_interp_memory.specs.SystemNumbers.{IsGuestsWorld};
 
@@ -10,7 +10,7 @@ use jv_interp_memory::{
     ABSTRACT_METHOD, CIRCULARITY, CLASS_CHANGE, ILLEGAL_ACCESS, INSTANTIATION, NO_CLASS, NO_FIELD,
     NO_METHOD, VERIFY, system_has_numbers,
 };
-use jv_link::LinkError;
+use jv_interp_methods::of_link::LinkError;
 
 /// The number of the class whose object is thrown where linking ends in an error (JVMS 5.4).
 pub fn number_of_error(error: LinkError) -> u32

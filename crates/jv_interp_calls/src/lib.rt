@@ -12,4 +12,6 @@ pub use calls::{call_special, call_static, call_virtual};
 pub use errors::number_of_error;
 pub use fields::{getfield, getstatic, putfield, putstatic};
 pub use host::{HOST_IO, WRITE, read, write};
+pub use jv_interp_methods as of_interp_methods;
+pub use jv_interp_methods::{of_link, of_linked, of_loader};
 pub use linking::is_ready;

@@ -5,11 +5,11 @@ ghost use Rattle.jv_meaning_machine.specs.State.{ClassState as StateOfNames, Cla
 ghost use Rattle.jv_meaning_world.specs.World.{World, Loaded};
 ghost use Rattle.jv_meaning_world.specs.Numbers.{HoldsAtNumber};
 ghost use Rattle.jv_meaning_linking.specs.Operands.{field_operand, method_operand};
-ghost use Rattle.jv_link.specs.Seen.{IsSite, IsMethodTarget};
-ghost use Rattle.jv_link.specs.Objects.{IsObject};
-ghost use Rattle.jv_linked.specs.Linked.{IsLinked};
-ghost use Rattle.jv_linked.specs.FieldUses.{IsFieldUse};
-ghost use Rattle.jv_linked.specs.MethodUses.{IsMethodUse};
+ghost use Rattle.jv_interp_methods.specs.of_link.Seen.{IsSite, IsMethodTarget};
+ghost use Rattle.jv_interp_methods.specs.of_link.Objects.{IsObject};
+ghost use Rattle.jv_interp_methods.specs.of_linked.Linked.{IsLinked};
+ghost use Rattle.jv_interp_methods.specs.of_linked.FieldUses.{IsFieldUse};
+ghost use Rattle.jv_interp_methods.specs.of_linked.MethodUses.{IsMethodUse};
 ghost use Rattle.jv_interp_memory.specs.ClassStates.{kept_state, AreClassStates};
 ghost use Rattle.jv_interp_memory.specs.SystemNumbers.{IsGuestsWorld};
 ghost use Rattle.jv_interp_methods.specs.Methods.{AreMethods};
@@ -18,9 +18,9 @@ ghost use Rattle.jv_interp_calls.specs.Resolved.{IsUsedField, IsResolved, class_
 use crate::errors::number_of_error;
 use jv_interp_memory::ClassState;
 use jv_interp_methods::Methods;
-use jv_link::{MethodTarget, Site, Use};
-use jv_linked::{FieldUse, Linked, MethodUse};
-use jv_loader::Classes;
+use jv_interp_methods::of_link::{MethodTarget, Site, Use};
+use jv_interp_methods::of_linked::{FieldUse, Linked, MethodUse};
+use jv_interp_methods::of_loader::Classes;
 
 /// Whether a state is that of a class that is initialized or being initialized.
 #[inline(always)]

@@ -1,7 +1,7 @@
 -- `new` on words: what the machine does stands afterwards.
 use Rattle.std.proofs.Common.{◌≡◌, ℕ, ◌+◌, ◌-◌, ◌<◌, ◌≤◌, false, List, [], ◌∷◌, ◌++◌, length, replicate, set, refl, sym, ap, subst, ◌∙◌, arith}
 use Rattle.jv_meaning_world.specs.World.{Loaded}
-use Rattle.jv_meaning_linking.specs.Layout.{object_cells}
+use Rattle.jv_meaning_machine.specs.of_meaning_linking.Layout.{object_cells}
 use Rattle.jv_meaning_machine.specs.Values.Value.{Reference}
 use Rattle.jv_meaning_machine.specs.Objects.{new_object}
 use Rattle.jv_meaning_machine.specs.State.{Memory}

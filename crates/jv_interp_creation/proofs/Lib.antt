@@ -20,3 +20,4 @@ pub mod ManyMade
 pub mod Thrice
 pub mod StoredIn
 pub mod StoredThere
+pub use Rattle.jv_interp_arrays.proofs as laws_of_interp_arrays

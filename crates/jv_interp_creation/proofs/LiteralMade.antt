@@ -12,7 +12,7 @@ use Rattle.jv_text.specs.declared.descriptor.Base.TheVariants as bases
 use Rattle.jv_text.specs.Text.{is_unit, Spells, IsText}
 use Rattle.jv_meaning_world.specs.World.{Loaded, World, class_named}
 use Rattle.jv_meaning_world.specs.LookUps.{DeclaredField}
-use Rattle.jv_meaning_linking.specs.Layout.{instance_fields, field_words, object_words}
+use Rattle.jv_meaning_machine.specs.of_meaning_linking.Layout.{instance_fields, field_words, object_words}
 use Rattle.jv_meaning_machine.specs.Faults.{OrFault, found, ◌>>=◌}
 use Rattle.jv_meaning_machine.specs.Faults.Fault.{OffsetFault, ReferenceFault}
 use Rattle.jv_meaning_machine.specs.Values.Value.{Reference}

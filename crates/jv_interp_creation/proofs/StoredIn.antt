@@ -12,7 +12,7 @@ use Rattle.jv_text.specs.declared.descriptor.FieldTypeOf.{FieldTypeOf}
 use Rattle.jv_frames.specs.Types.{FrameType, value_type, width}
 use Rattle.jv_code.specs.declared.kinds.NumberElement.{NumberElement}
 use Rattle.jv_meaning_world.specs.World.{World}
-use Rattle.jv_meaning_typing.specs.NumberRules.{element_number}
+use Rattle.jv_meaning_machine.specs.of_meaning_typing.NumberRules.{element_number}
 use Rattle.jv_meaning_machine.specs.Values.{Value, value_words, has_type, narrowed, narrowed_by}
 use Rattle.jv_meaning_machine.specs.Values.Value.{Int, Long, Null, Reference, Half, Unset}
 use Rattle.jv_meaning_machine.specs.Objects.Object.{ArrayWith}

@@ -9,8 +9,8 @@ use Rattle.jv_frames.specs.declared.verification.VerificationTypeOf.TheVariants 
 use Rattle.jv_frames.specs.Types.{FrameType, value_type, value_type_by, primitive_type}
 use Rattle.jv_code.specs.declared.kinds.NumberElement.{NumberElement}
 use Rattle.jv_code.specs.declared.kinds.NumberElement.TheVariants as numbers
-use Rattle.jv_meaning_typing.specs.Named.{object_class_type}
-use Rattle.jv_meaning_typing.specs.NumberRules.{element_number}
+use Rattle.jv_meaning_machine.specs.of_meaning_typing.Named.{object_class_type}
+use Rattle.jv_meaning_machine.specs.of_meaning_typing.NumberRules.{element_number}
 use Rattle.jv_meaning_machine.specs.Faults.{OrFault, tested, ◌>>=◌}
 use Rattle.jv_meaning_machine.specs.Faults.Fault.{ReferenceFault, ConstructionFault, TagFault}
 use Rattle.jv_meaning_machine.specs.Values.{Value, has_type}

@@ -9,3 +9,5 @@ pub mod Constants
 pub mod NestedBlocks
 pub mod NestedArrays
 pub mod Stores
+pub use Rattle.jv_interp_arrays.specs as of_interp_arrays
+pub use Rattle.jv_interp_arrays.specs.of_interp_going

@@ -1,7 +1,7 @@
 -- New objects in words (JVMS 6.5, new), once the class is known and initialized or being initialized.
 use Rattle.std.specs.Prelude.{◌≡◌, ℕ, List, Some, length, slice_get}
 use Rattle.jv_meaning_world.specs.World.{Loaded, class_named}
-use Rattle.jv_meaning_linking.specs.Layout.{object_words, object_cells}
+use Rattle.jv_meaning_machine.specs.of_meaning_linking.Layout.{object_words, object_cells}
 use Rattle.jv_meaning_machine.specs.State.{Memory}
 use Rattle.jv_meaning_machine.specs.Costs.{paid}
 use Rattle.jv_meaning_machine.specs.Effects.{Effect as EffectOfNames, Context, Outcome, world_at}

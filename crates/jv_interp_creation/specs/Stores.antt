@@ -6,7 +6,7 @@ use Rattle.jv_code.specs.declared.kinds.NumberElement.{NumberElement}
 use Rattle.jv_code.specs.declared.kinds.NumberElement.TheVariants as numbers
 use Rattle.jv_heap.specs.Content.{words_at}
 use Rattle.jv_meaning_world.specs.World.{World}
-use Rattle.jv_meaning_typing.specs.NumberRules.{element_number}
+use Rattle.jv_meaning_machine.specs.of_meaning_typing.NumberRules.{element_number}
 use Rattle.jv_meaning_machine.specs.State.{Memory}
 use Rattle.jv_meaning_machine.specs.Effects.{Effect as EffectOfNames, Context}
 use Rattle.jv_meaning_machine.specs.Arrays.{holds_numbers, store_component}

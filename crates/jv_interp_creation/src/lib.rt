@@ -16,6 +16,8 @@ mod units;
 pub use arrays::{new_array, new_base_array};
 pub use blocks::{array_block, pay_array, pay_object};
 pub use constants::{push_int, push_long, push_string};
+pub use jv_interp_arrays as of_interp_arrays;
+pub use jv_interp_arrays::of_interp_going;
 pub use literals::literal;
 pub use multiple::{new_nested_array, pay_nested};
 pub use nested::make_nested;

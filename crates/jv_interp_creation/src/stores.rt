@@ -1,7 +1,7 @@
 //! Stores of numbers into arrays.
 
 ghost use Rattle.std.specs.Prelude.{◌≡◌};
-ghost use Rattle.jv_interp_going.specs.Going.{StaysIn};
+ghost use Rattle.jv_interp_arrays.specs.of_interp_going.Going.{StaysIn};
 ghost use Rattle.jv_interp_objects.specs.declared.narrowing.Narrowing.TheVariants.{Whole};
 ghost use Rattle.jv_interp_memory.specs.Executing.{IsUnmoved, place};
 ghost use Rattle.jv_interp_creation.specs.Stores.{CanStore, Stores, CanStoreByte, StoresByte, NarrowsByte};

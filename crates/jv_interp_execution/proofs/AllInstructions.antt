@@ -15,7 +15,7 @@ use Rattle.jv_interp_memory.specs.declared.class_state.ClassState.{ClassState}
 use Rattle.jv_interp_memory.specs.declared.held.Held.{Held}
 use Rattle.jv_interp_memory.specs.declared.effect.Effect.{Effect}
 use Rattle.jv_interp_memory.specs.Executing.{Place}
-use Rattle.jv_interp_calls.specs.Known.{Known}
+use Rattle.jv_interp_types.specs.of_interp_calls.Known.{Known}
 use Rattle.jv_interp_execution.specs.OnWords.{works_on_words, KeysRise}
 use Rattle.jv_interp_execution.specs.InGuest.{Executed, CanExecuteAt, ExecutedAt, KeepsCodeRules}
 

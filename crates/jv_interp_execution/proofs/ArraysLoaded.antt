@@ -20,8 +20,8 @@ use Rattle.jv_interp_objects.specs.ObjectsInBlocks.{Blocks}
 use Rattle.jv_interp_memory.specs.declared.held.Held.{Held}
 use Rattle.jv_interp_memory.specs.declared.effect.Effect.{Effect}
 use Rattle.jv_interp_memory.specs.Executing.{Place, place}
-use Rattle.jv_interp_arrays.specs.Loads.{Measuring, CanMeasure, Measures, Loading, CanLoad, Loads}
-use Rattle.jv_interp_calls.specs.Known.{Known}
+use Rattle.jv_interp_types.specs.of_interp_arrays.Loads.{Measuring, CanMeasure, Measures, Loading, CanLoad, Loads}
+use Rattle.jv_interp_types.specs.of_interp_calls.Known.{Known}
 use Rattle.jv_interp_execution.specs.Components.{number_words}
 use Rattle.jv_interp_execution.specs.OnWords.{part_of}
 use Rattle.jv_interp_execution.specs.InGuest.{ExecutesIn, CanExecute, Executed}

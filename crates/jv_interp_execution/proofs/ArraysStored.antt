@@ -20,8 +20,8 @@ use Rattle.jv_interp_objects.specs.Narrowing.{narrowing_at}
 use Rattle.jv_interp_memory.specs.declared.held.Held.{Held}
 use Rattle.jv_interp_memory.specs.declared.effect.Effect.{Effect}
 use Rattle.jv_interp_memory.specs.SystemNumbers.{IsGuestsWorld}
-use Rattle.jv_interp_creation.specs.Stores.{Storing, NarrowsBy, CanStore, Stores, CanStoreByte, StoresByte}
-use Rattle.jv_interp_calls.specs.Known.{Known}
+use Rattle.jv_interp_types.specs.of_interp_creation.Stores.{Storing, NarrowsBy, CanStore, Stores, CanStoreByte, StoresByte}
+use Rattle.jv_interp_types.specs.of_interp_calls.Known.{Known}
 use Rattle.jv_interp_memory.specs.Executing.{place}
 use Rattle.jv_interp_execution.specs.InGuest.{ExecutesIn, CanExecute, Executed}
 

@@ -32,11 +32,11 @@ use Rattle.jv_interp_memory.specs.HeldInWords.{MemoryStands}
 use Rattle.jv_interp_memory.specs.SystemNumbers.{IsGuestsWorld, AreSystemNumbers, SystemHasNumbers}
 use Rattle.jv_interp_memory.specs.Executing.{Place, place, Executes, Did}
 use Rattle.jv_interp_memory.proofs.Raised.{raised}
-use Rattle.jv_interp_members.proofs.Putting.{taken_kind}
+use Rattle.jv_interp_types.proofs.laws_of_interp_members.Putting.{taken_kind}
 use Rattle.jv_interp_objects.proofs.Widths.{typed_words}
 use Rattle.std.proofs.lemmas.List.Sums.{sum_by-cons}
 use Rattle.jv_frames.specs.declared.verification.VerificationTypeOf.TheVariants as types
-use Rattle.jv_interp_going.specs.Going.{Works, GoesOn, Throws as ThrowsOnWords}
+use Rattle.jv_interp_types.specs.of_interp_going.Going.{Works, GoesOn, Throws as ThrowsOnWords}
 use Rattle.jv_interp_execution.specs.OnWords.{part_of, ExecutesInsn, DoneOnWords}
 
 works_of :

@@ -14,7 +14,7 @@ use Rattle.jv_interp_memory.specs.declared.effect.Effect.{Effect}
 use Rattle.jv_interp_memory.specs.Executing.{Place, place, Did}
 use Rattle.jv_interp_memory.specs.Growing.{Grows, DidIn}
 use Rattle.jv_interp_memory.specs.SystemNumbers.{IsGuestsWorld}
-use Rattle.jv_interp_calls.specs.Known.{Known}
+use Rattle.jv_interp_types.specs.of_interp_calls.Known.{Known}
 use Rattle.jv_interp_execution.specs.OnWords.{part_of, ExecutesInsn, DoneOnWords}
 use Rattle.jv_interp_execution.specs.InGuest.{ExecutesIn, Executed}
 use Rattle.jv_interp_execution.proofs.Unpaid.{no_more}

@@ -10,7 +10,7 @@ use Rattle.jv_interp_memory.specs.declared.class_state.ClassState.{ClassState}
 use Rattle.jv_interp_memory.specs.declared.held.Held.{Held}
 use Rattle.jv_interp_memory.specs.declared.effect.Effect.{Effect}
 use Rattle.jv_interp_memory.specs.Executing.{Place, place}
-use Rattle.jv_interp_calls.specs.Known.{Known}
+use Rattle.jv_interp_types.specs.of_interp_calls.Known.{Known}
 use Rattle.jv_interp_types.specs.Asking.{Asks}
 use Rattle.jv_interp_types.specs.Throwing.{Throws}
 use Rattle.jv_interp_types.specs.Storing.{Stores}

@@ -15,7 +15,7 @@ use Rattle.jv_interp_memory.specs.declared.held.Held.{Held}
 use Rattle.jv_interp_memory.specs.declared.effect.Effect.{Effect}
 use Rattle.jv_interp_memory.specs.Executing.{Place, place, Executes, HasRoom}
 use Rattle.jv_interp_memory.specs.Growing.{DidIn}
-use Rattle.jv_interp_calls.specs.Known.{Known, IsKnown}
+use Rattle.jv_interp_types.specs.of_interp_calls.Known.{Known, IsKnown}
 use Rattle.jv_interp_execution.specs.OnWords.{part_of}
 
 -- An instruction is executed in a frame that stands in words, at a method that is known.

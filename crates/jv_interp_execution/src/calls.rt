@@ -2,22 +2,22 @@
 
 ghost use Rattle.std.specs.Prelude.{◌≡◌, ℕ, List};
 ghost use Rattle.jv_code.specs.declared.insn.Insn.TheVariants.{Invoke as InvokeInsn, InvokeInterface as InvokeInterfaceInsn};
-ghost use Rattle.jv_linked.specs.Linked.{IsLinked};
-ghost use Rattle.jv_interp_calls.specs.Known.{known};
-ghost use Rattle.jv_interp_going.specs.Going.{StaysIn};
-ghost use Rattle.jv_interp_methods.specs.Methods.{AreMethods};
+ghost use Rattle.jv_interp_types.specs.of_linked.Linked.{IsLinked};
+ghost use Rattle.jv_interp_types.specs.of_interp_calls.Known.{known};
+ghost use Rattle.jv_interp_types.specs.of_interp_going.Going.{StaysIn};
+ghost use Rattle.jv_interp_types.specs.of_interp_methods.Methods.{AreMethods};
 ghost use Rattle.jv_interp_memory.specs.Executing.{IsUnmoved, place};
 ghost use Rattle.jv_interp_execution.specs.InGuest.{CanExecute, Executed, CanExecuteAt, ExecutedAt};
 
 use jv_code::Invocation;
 use jv_heap::Store;
-use jv_interp_calls::{call_special, call_static, call_virtual};
 use jv_interp_memory::{ClassState, Effect, Held};
-use jv_interp_methods::Methods;
+use jv_interp_types::of_interp_calls::{call_special, call_static, call_virtual};
+use jv_interp_types::of_interp_methods::Methods;
+use jv_interp_types::of_link::{Site, Use};
+use jv_interp_types::of_linked::Linked;
+use jv_interp_types::of_loader::Classes;
 use jv_interp_words::Registers;
-use jv_link::{Site, Use};
-use jv_linked::Linked;
-use jv_loader::Classes;
 use jv_meaning_machine::execution_keeps;
 
 /// `invokevirtual`, `invokespecial` and `invokestatic`.

@@ -2,20 +2,20 @@
 
 ghost use Rattle.std.specs.Prelude.{◌≡◌, ℕ, List};
 ghost use Rattle.jv_code.specs.declared.insn.Insn.TheVariants.{Field as FieldInsn};
-ghost use Rattle.jv_linked.specs.Linked.{IsLinked};
-ghost use Rattle.jv_interp_calls.specs.Known.{known};
-ghost use Rattle.jv_interp_going.specs.Going.{StaysIn};
+ghost use Rattle.jv_interp_types.specs.of_linked.Linked.{IsLinked};
+ghost use Rattle.jv_interp_types.specs.of_interp_calls.Known.{known};
+ghost use Rattle.jv_interp_types.specs.of_interp_going.Going.{StaysIn};
 ghost use Rattle.jv_interp_memory.specs.Executing.{IsUnmoved, place};
 ghost use Rattle.jv_interp_execution.specs.InGuest.{CanExecuteAt, ExecutedAt};
 
 use jv_code::FieldAccess;
 use jv_heap::Store;
-use jv_interp_calls::{getfield, getstatic, putfield, putstatic};
 use jv_interp_memory::{ClassState, Effect, Held};
+use jv_interp_types::of_interp_calls::{getfield, getstatic, putfield, putstatic};
+use jv_interp_types::of_link::Site;
+use jv_interp_types::of_linked::Linked;
+use jv_interp_types::of_loader::Classes;
 use jv_interp_words::Registers;
-use jv_link::Site;
-use jv_linked::Linked;
-use jv_loader::Classes;
 use jv_meaning_machine::execution_keeps;
 
 /// `getstatic`, `putstatic`, `getfield` and `putfield`.

@@ -3,8 +3,8 @@ use Rattle.std.proofs.Common.{◌≡◌, ℕ, ◌+◌, ◌-◌, ◌<◌, ◌≤�
 use Rattle.std.specs.Prelude.{vec_capacity}
 use Rattle.std.proofs.lemmas.List.Sums.{sum_by-cons}
 use Rattle.jv_meaning_world.specs.World.{Loaded, World}
-use Rattle.jv_meaning_linking.specs.LinkErrors.{error_class}
-use Rattle.jv_meaning_linking.specs.LinkErrors.LinkError.{NoClassDefFoundError, VerifyError}
+use Rattle.jv_meaning_typing.specs.of_meaning_linking.LinkErrors.{error_class}
+use Rattle.jv_meaning_typing.specs.of_meaning_linking.LinkErrors.LinkError.{NoClassDefFoundError, VerifyError}
 use Rattle.jv_meaning_machine.specs.Faults.{OrFault}
 use Rattle.jv_meaning_machine.specs.Frames.Frame.{Initializes}
 use Rattle.jv_meaning_machine.specs.State.{Program, Control as ControlOfNames, State, state_of, with_state, class_state, ClassState as StateOfNames}

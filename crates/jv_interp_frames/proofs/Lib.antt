@@ -22,3 +22,4 @@ pub mod MovedDown
 pub mod NextFound
 pub mod LeavesStand
 pub mod Suspended
+pub use Rattle.jv_interp_steps.proofs as laws_of_interp_steps

@@ -5,7 +5,7 @@ use Rattle.std.proofs.lemmas.Grind.{common_steps}
 use Rattle.jv_heap.specs.Content.{words_at, greatest}
 use Rattle.jv_heap.proofs.LookUps.{greatest-append_above}
 use Rattle.jv_meaning_world.specs.World.{Loaded, World}
-use Rattle.jv_meaning_linking.specs.Layout.{object_words, object_cells}
+use Rattle.jv_meaning_typing.specs.of_meaning_linking.Layout.{object_words, object_cells}
 use Rattle.jv_meaning_machine.specs.Objects.{Object, made_object}
 use Rattle.jv_meaning_machine.specs.State.{Memory}
 use Rattle.jv_meaning_machine.specs.Costs.{paid}

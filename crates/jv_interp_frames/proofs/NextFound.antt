@@ -10,8 +10,8 @@ use Rattle.jv_meaning_world.specs.Overriding.{Declared}
 use Rattle.jv_meaning_typing.specs.Environment.{offset_behind}
 use Rattle.jv_meaning_machine.specs.Frames.{MethodFrame}
 use Rattle.jv_meaning_machine.specs.State.{Program}
-use Rattle.jv_linked.specs.declared.bodies.Body.{Body}
-use Rattle.jv_linked.specs.Bodies.{IsBody}
+use Rattle.jv_interp_methods.specs.of_linked.declared.bodies.Body.{Body}
+use Rattle.jv_interp_methods.specs.of_linked.Bodies.{IsBody}
 use Rattle.jv_interp_words.specs.declared.records.MethodRecord.{MethodRecord}
 use Rattle.jv_interp_methods.specs.declared.methods.Methods.{Methods}
 use Rattle.jv_interp_methods.specs.declared.methods.MethodRow.{MethodRow}

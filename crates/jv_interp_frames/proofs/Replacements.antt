@@ -5,7 +5,7 @@ use Rattle.std.proofs.lemmas.Option.{slice_get_within}
 use Rattle.jv_heap.specs.Content.{words_at}
 use Rattle.jv_meaning_world.specs.World.{Loaded, World, class_named}
 use Rattle.jv_meaning_world.specs.Numbers.{HoldsAtNumber, HoldsAtBoth}
-use Rattle.jv_meaning_linking.specs.Layout.{object_words, object_cells}
+use Rattle.jv_meaning_typing.specs.of_meaning_linking.Layout.{object_words, object_cells}
 use Rattle.jv_meaning_machine.specs.Faults.{OrFault, found, ◌>>=◌}
 use Rattle.jv_meaning_machine.specs.Faults.Fault.{ReferenceFault}
 use Rattle.jv_meaning_machine.specs.Objects.{is_at_or_below}

@@ -4,7 +4,7 @@ use Rattle.std.specs.Prelude.{unwrap_or}
 use Rattle.jv_heap.specs.Content.{words_at}
 use Rattle.jv_meaning_world.specs.World.{World}
 use Rattle.jv_meaning_world.specs.Numbers.{HoldsAtNumber}
-use Rattle.jv_meaning_linking.specs.Layout.{object_words, object_cells}
+use Rattle.jv_meaning_typing.specs.of_meaning_linking.Layout.{object_words, object_cells}
 use Rattle.jv_meaning_machine.specs.Faults.{OrFault, ◌>>=◌}
 use Rattle.jv_meaning_machine.specs.State.{Program, Memory, State, state_of}
 use Rattle.jv_meaning_machine.specs.Costs.{paid}

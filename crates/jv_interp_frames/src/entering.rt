@@ -1,7 +1,7 @@
 //! Methods that are entered (JVMS 2.6).
 
 ghost use Rattle.std.specs.Prelude.{◌≡◌, ◌+◌, ◌<◌, ◌≤◌, IsOk, IsTrue, OnOk, OnErr};
-ghost use Rattle.jv_linked.specs.Linked.{IsLinked};
+ghost use Rattle.jv_interp_methods.specs.of_linked.Linked.{IsLinked};
 ghost use Rattle.jv_interp_methods.specs.Methods.{AreMethods};
 ghost use Rattle.jv_interp_frames.specs.Standing.{kept, CanMove, Moved};
 ghost use Rattle.jv_interp_frames.specs.Moves.{Entering};
@@ -13,9 +13,9 @@ use crate::throws::raise;
 use jv_heap::{Memory, Store};
 use jv_interp_memory::{Held, STACK_OVERFLOW, system_has_numbers};
 use jv_interp_methods::Methods;
+use jv_interp_methods::of_linked::Linked;
+use jv_interp_methods::of_loader::Classes;
 use jv_interp_words::{FrameRecord, MethodRecord};
-use jv_linked::Linked;
-use jv_loader::Classes;
 
 /// The method with a number is entered above the others: its receiver and its arguments are words on those in use, and become its first
 /// local variables where they stand. Where its words are not left a StackOverflowError is thrown in the newest frame (JVMS 2.5.2).

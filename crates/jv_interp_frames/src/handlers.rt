@@ -15,9 +15,9 @@ use crate::classes::is_at_or_below_name;
 use crate::code::{class_of, code_of};
 use jv_format::{ExceptionTable, Handler};
 use jv_interp_methods::Methods;
+use jv_interp_methods::of_link::class_at;
+use jv_interp_methods::of_loader::{ClassTable, Classes};
 use jv_interp_words::MethodRecord;
-use jv_link::class_at;
-use jv_loader::{ClassTable, Classes};
 use jv_pool::Pool;
 
 /// The constants of a class; none where it has no file.

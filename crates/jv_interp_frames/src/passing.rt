@@ -9,9 +9,9 @@ use crate::frames::{Frames, push_record};
 use crate::states::set_state;
 use jv_interp_memory::ClassState;
 use jv_interp_methods::Methods;
+use jv_interp_methods::of_link::class_at;
+use jv_interp_methods::of_loader::Classes;
 use jv_interp_words::{FrameRecord, MethodRecord, push_word};
-use jv_link::class_at;
-use jv_loader::Classes;
 
 /// A throw passes the newest frame: its words are given back, and where it is the initialization of a class, that becomes erroneous.
 pub(crate) fn pass_frame(

@@ -8,3 +8,4 @@ pub mod FormsWork
 pub mod SwitchesWork
 pub mod ReferencesWork
 pub mod DivisionsWork
+pub use Rattle.jv_interp_words.proofs as laws_of_interp_words

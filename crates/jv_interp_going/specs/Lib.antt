@@ -1,2 +1,3 @@
 pub mod Going
 pub mod Inside
+pub use Rattle.jv_interp_words.specs as of_interp_words

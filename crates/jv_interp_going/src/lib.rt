@@ -12,6 +12,7 @@ mod switches;
 pub use branches::{if_int, if_ints, jump};
 pub use divisions::divide;
 pub use forms::move_words;
+pub use jv_interp_words as of_interp_words;
 pub use locals::{increment, load, store, store_long};
 pub use pushes::{compute, nop, push_null};
 pub use references::{if_null, if_same};

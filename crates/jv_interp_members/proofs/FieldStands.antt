@@ -7,7 +7,7 @@ use Rattle.jv_meaning_world.specs.World.{Loaded, World, class_named}
 use Rattle.jv_meaning_world.specs.Verdicts.{is_loadable}
 use Rattle.jv_meaning_world.specs.LookUps.{DeclaredField}
 use Rattle.jv_meaning_world.proofs.Up.{same_name}
-use Rattle.jv_meaning_linking.specs.Layout.{instance_fields, field_words}
+use Rattle.jv_meaning_machine.specs.of_meaning_linking.Layout.{instance_fields, field_words}
 use Rattle.jv_meaning_machine.specs.Values.{Value, value_words}
 use Rattle.jv_meaning_machine.specs.Objects.{FieldKey, key_of, same_key, Content, value_at, with_value, Instance}
 use Rattle.jv_meaning_machine.specs.Laws.Shapes.{field_cells}

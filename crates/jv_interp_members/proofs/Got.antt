@@ -12,7 +12,7 @@ use Rattle.jv_meaning_machine.specs.Operands.{object_at, taken_reference}
 use Rattle.jv_meaning_machine.specs.Effects.{Effect, Context, goes_on}
 use Rattle.jv_meaning_machine.specs.Effects.Effect.{Goes}
 use Rattle.jv_meaning_machine.specs.Fields.{instance_in, get_field_of, get_field}
-use Rattle.jv_meaning_typing.specs.Named.{object_class_type}
+use Rattle.jv_meaning_machine.specs.of_meaning_typing.Named.{object_class_type}
 use Rattle.jv_interp_words.proofs.Gave.{bound_gave, found_gave}
 use Rattle.jv_interp_words.proofs.Taken.{taken_gave}
 

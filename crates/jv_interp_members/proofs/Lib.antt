@@ -6,3 +6,4 @@ pub mod FieldChanged
 pub mod PutStands
 pub mod StaticGot
 pub mod StaticPut
+pub use Rattle.jv_interp_going.proofs as laws_of_interp_going

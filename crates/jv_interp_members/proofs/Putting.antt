@@ -6,7 +6,7 @@ use Rattle.jv_text.specs.Types.{field_type_of}
 use Rattle.jv_frames.specs.Types.{FrameType, value_type}
 use Rattle.jv_pool.specs.Constants.{MemberReference}
 use Rattle.jv_meaning_world.specs.LookUps.{DeclaredField}
-use Rattle.jv_meaning_typing.specs.Named.{object_class_type}
+use Rattle.jv_meaning_machine.specs.of_meaning_typing.Named.{object_class_type}
 use Rattle.jv_meaning_machine.specs.Faults.{OrFault, tested, ◌>>=◌}
 use Rattle.jv_meaning_machine.specs.Faults.Fault.{OffsetFault, ReferenceFault, ConstructionFault, TagFault}
 use Rattle.jv_meaning_machine.specs.Values.{Value, has_type, narrowed}

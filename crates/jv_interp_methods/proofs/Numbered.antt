@@ -11,8 +11,8 @@ use Rattle.jv_meaning_world.specs.World.{Loaded, World}
 use Rattle.jv_meaning_world.specs.Overriding.{Declared}
 use Rattle.jv_meaning_world.specs.Verdicts.{declared_by}
 use Rattle.jv_format.specs.Format.{◌>>=◌}
-use Rattle.jv_lookups.specs.declared.place.Place.{Place}
-use Rattle.jv_lookups.specs.Places.{method_of, method_at}
+use Rattle.jv_linked.specs.of_lookups.declared.place.Place.{Place}
+use Rattle.jv_linked.specs.of_lookups.Places.{method_of, method_at}
 use Rattle.jv_linked.specs.Bodies.{IsBody}
 use Rattle.jv_interp_words.specs.FramesInWords.{methods_of}
 use Rattle.jv_interp_methods.specs.declared.methods.MethodRow.{MethodRow}

@@ -6,7 +6,7 @@ use Rattle.jv_code.specs.Places.{IsCode}
 use Rattle.jv_code.specs.declared.code.Code.{Code}
 use Rattle.jv_meaning_world.specs.World.{Loaded, World}
 use Rattle.jv_meaning_world.specs.Overriding.{Declared}
-use Rattle.jv_lookups.specs.Places.{method_at}
+use Rattle.jv_linked.specs.of_lookups.Places.{method_at}
 use Rattle.jv_linked.specs.declared.bodies.Body.{Body}
 use Rattle.jv_linked.specs.Bodies.{IsBody}
 use Rattle.jv_interp_words.specs.FramesInWords.{methods_of}

@@ -5,5 +5,7 @@
 mod methods;
 mod texts;
 
+pub use jv_linked as of_linked;
+pub use jv_linked::{of_link, of_loader};
 pub use methods::{MethodRow, Methods};
 pub use texts::{ClassTexts, Texts};

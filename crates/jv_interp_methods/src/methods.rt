@@ -4,16 +4,16 @@ ghost use Rattle.std.specs.Prelude.{◌≡◌, ◌+◌, ◌<◌, ◌≤◌, List
 ghost use Rattle.jv_meaning_world.specs.Numbers.{HoldsAtNumber};
 ghost use Rattle.jv_meaning_world.specs.World.{World};
 ghost use Rattle.jv_meaning_world.specs.Overriding.{Declared};
-ghost use Rattle.jv_lookups.specs.Places.{method_at};
+ghost use Rattle.jv_linked.specs.of_lookups.Places.{method_at};
 ghost use Rattle.jv_linked.specs.Linked.{IsLinked};
 ghost use Rattle.jv_interp_words.specs.FramesInWords.{methods_of};
 ghost use Rattle.jv_interp_methods.specs.Inside.Counted.{own_methods};
 ghost use Rattle.jv_interp_methods.specs.Methods.{HasCode, IsRowOf, AreRows, AreMethods};
 
 use jv_code::Code;
-use jv_link::class_at;
+use jv_linked::of_link::class_at;
+use jv_linked::of_loader::{ClassTable, Classes, Place};
 use jv_linked::{Body, Linked};
-use jv_loader::{ClassTable, Classes, Place};
 use std::alloc::{AllocError, Global};
 
 /// A method: where it stands, and its code, where it has code.

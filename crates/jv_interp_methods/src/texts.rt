@@ -7,8 +7,8 @@ ghost use Rattle.jv_meaning_world.specs.World.{World, Loaded};
 ghost use Rattle.jv_interp_methods.specs.Inside.Numbering.{Numbers, IsKnown, IsNumberAt, AreBefore};
 ghost use Rattle.jv_interp_methods.specs.Texts.{HasText, AreDifferent, AreTextsOf, AreTexts};
 
-use jv_link::class_at;
-use jv_loader::{ClassTable, Classes, LoadedClass};
+use jv_linked::of_link::class_at;
+use jv_linked::of_loader::{ClassTable, Classes, LoadedClass};
 use jv_names::Names;
 use jv_pool::{Constant, Pool, Utf8Index};
 use std::alloc::{AllocError, Global};

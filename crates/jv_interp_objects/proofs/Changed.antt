@@ -3,9 +3,9 @@ use Rattle.std.proofs.Common.{◌≡◌, ℕ, Bool, true, false, cond, nat_eq, L
 use Rattle.std.proofs.lemmas.List.{length-set}
 use Rattle.jv_heap.specs.Content.{words_at, greatest, written}
 use Rattle.jv_heap.proofs.LookUps.{greatest-written, words_at-written}
-use Rattle.jv_meaning_world.specs.World.{World}
-use Rattle.jv_meaning_machine.specs.Objects.{Object}
-use Rattle.jv_meaning_machine.proofs.KeptMemory.{set_there, set_elsewhere}
+use Rattle.jv_interp_words.specs.of_meaning_world.World.{World}
+use Rattle.jv_interp_words.specs.of_meaning_machine.Objects.{Object}
+use Rattle.jv_interp_words.proofs.laws_of_meaning_machine.KeptMemory.{set_there, set_elsewhere}
 use Rattle.jv_interp_objects.specs.ObjectsInBlocks.{Blocks, ObjectStands, ObjectsStand}
 
 -- the block at an address has these words now, and no other one has others

@@ -1,8 +1,8 @@
 -- What stands in an array at an index, and what is stored there.
 use Rattle.std.proofs.Common.{◌≡◌, ℕ, zero, suc, ◌+◌, ◌*◌, List, [], ◌∷◌, ◌++◌, Some, length, refl, sym, ap, subst, ◌∙◌, arith, slice_get, slice_set, length-append, append_assoc}
 use Rattle.jv_text.specs.declared.descriptor.FieldTypeOf.{FieldTypeOf}
-use Rattle.jv_frames.specs.Types.{value_type, width}
-use Rattle.jv_meaning_machine.specs.Values.{Value, value_words}
+use Rattle.jv_interp_words.specs.of_frames.Types.{value_type, width}
+use Rattle.jv_interp_words.specs.of_meaning_machine.Values.{Value, value_words}
 use Rattle.jv_interp_objects.specs.ObjectsInBlocks.{IsIn, AreComponents}
 use Rattle.jv_interp_objects.proofs.Fields.{own_length, StandsAt}
 

@@ -1,11 +1,11 @@
 -- What a field holds, by the field's place among others, and what is stored there.
 use Rattle.std.proofs.Common.{◌≡◌, ℕ, ◌+◌, Bool, true, false, List, [], ◌∷◌, ◌++◌, Option, Some, None, length, refl, sym, ap, subst, ◌∙◌, arith, length-append, append_assoc, if◌then◌else◌}
 use Rattle.std.specs.Option.{option_map}
-use Rattle.jv_meaning_world.specs.LookUps.{DeclaredField}
-use Rattle.jv_meaning_linking.specs.Layout.{field_words}
-use Rattle.jv_meaning_machine.specs.Values.{Value, value_words}
-use Rattle.jv_meaning_machine.specs.Values.Value.{Int, Long, Null, Reference, Half, Unset}
-use Rattle.jv_meaning_machine.specs.Objects.{FieldKey, key_of, same_key, Content, value_at, with_value}
+use Rattle.jv_interp_words.specs.of_meaning_world.LookUps.{DeclaredField}
+use Rattle.jv_interp_words.specs.of_meaning_linking.Layout.{field_words}
+use Rattle.jv_interp_words.specs.of_meaning_machine.Values.{Value, value_words}
+use Rattle.jv_interp_words.specs.of_meaning_machine.Values.Value.{Int, Long, Null, Reference, Half, Unset}
+use Rattle.jv_interp_words.specs.of_meaning_machine.Objects.{FieldKey, key_of, same_key, Content, value_at, with_value}
 use Rattle.jv_interp_objects.specs.ObjectsInBlocks.{IsIn, AreFields, place_among}
 
 -- its words are as many as it has

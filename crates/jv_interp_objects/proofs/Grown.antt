@@ -1,13 +1,13 @@
 -- What stands under the addresses of objects stands under them and more as well.
 use Rattle.std.proofs.Common.{◌≡◌, ℕ, zero, suc, List, [], ◌∷◌, ◌++◌, Some, slice_get}
 use Rattle.jv_text.specs.declared.descriptor.FieldTypeOf.{FieldTypeOf}
-use Rattle.jv_meaning_world.specs.World.{World}
-use Rattle.jv_meaning_world.specs.LookUps.{DeclaredField}
-use Rattle.jv_meaning_linking.specs.Layout.{instance_fields}
-use Rattle.jv_meaning_machine.specs.Values.{Value}
-use Rattle.jv_meaning_machine.specs.Values.Value.{Int, Long, Null, Reference, Half, Unset}
-use Rattle.jv_meaning_machine.specs.Objects.{Content, Object}
-use Rattle.jv_meaning_machine.specs.Objects.Object.{InstanceOf, ArrayWith}
+use Rattle.jv_interp_words.specs.of_meaning_world.World.{World}
+use Rattle.jv_interp_words.specs.of_meaning_world.LookUps.{DeclaredField}
+use Rattle.jv_interp_words.specs.of_meaning_linking.Layout.{instance_fields}
+use Rattle.jv_interp_words.specs.of_meaning_machine.Values.{Value}
+use Rattle.jv_interp_words.specs.of_meaning_machine.Values.Value.{Int, Long, Null, Reference, Half, Unset}
+use Rattle.jv_interp_words.specs.of_meaning_machine.Objects.{Content, Object}
+use Rattle.jv_interp_words.specs.of_meaning_machine.Objects.Object.{InstanceOf, ArrayWith}
 use Rattle.jv_interp_objects.specs.ObjectsInBlocks.{IsIn, AreFields, AreComponents, ObjectStands}
 
 pub get_more : {A : Type 0} (xs more : List A) (k : ℕ) (x : A) → slice_get xs k ≡ Some x → slice_get (xs ++ more) k ≡ Some x

@@ -3,8 +3,8 @@ use Rattle.std.proofs.Common.{◌≡◌, ℕ, zero, suc, ◌<◌, ◌≤◌, Boo
 use Rattle.jv_heap.specs.Content.{words_at, greatest}
 use Rattle.jv_heap.proofs.LookUps.{words_at-append_any, greatest-append_above}
 use Rattle.jv_heap.proofs.Contents.{words_at-append}
-use Rattle.jv_meaning_world.specs.World.{World}
-use Rattle.jv_meaning_machine.specs.Objects.{Object}
+use Rattle.jv_interp_words.specs.of_meaning_world.World.{World}
+use Rattle.jv_interp_words.specs.of_meaning_machine.Objects.{Object}
 use Rattle.jv_interp_objects.specs.ObjectsInBlocks.{Blocks, ObjectStands, ObjectsStand}
 use Rattle.jv_interp_objects.proofs.Grown.{object_grown}
 

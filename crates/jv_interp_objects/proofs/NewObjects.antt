@@ -3,13 +3,13 @@ use Rattle.std.proofs.Common.{◌≡◌, ℕ, zero, suc, ◌+◌, ◌*◌, ◌<�
 use Rattle.std.proofs.lemmas.List.{replicate-append-replicate, length-replicate}
 use Rattle.std.proofs.lemmas.List.Sums.{sum_by-cons}
 use Rattle.jv_text.specs.declared.descriptor.FieldTypeOf.{FieldTypeOf}
-use Rattle.jv_frames.specs.Types.{value_type, width}
-use Rattle.jv_meaning_world.specs.World.{Loaded, World}
-use Rattle.jv_meaning_world.specs.LookUps.{DeclaredField}
-use Rattle.jv_meaning_linking.specs.Layout.{instance_fields, field_words, object_words}
-use Rattle.jv_meaning_machine.specs.Values.{Value, default_of_type}
-use Rattle.jv_meaning_machine.specs.Objects.{default_entry, Object, new_instance, new_array}
-use Rattle.jv_meaning_machine.specs.Objects.Object.{InstanceOf}
+use Rattle.jv_interp_words.specs.of_frames.Types.{value_type, width}
+use Rattle.jv_interp_words.specs.of_meaning_world.World.{Loaded, World}
+use Rattle.jv_interp_words.specs.of_meaning_world.LookUps.{DeclaredField}
+use Rattle.jv_interp_words.specs.of_meaning_linking.Layout.{instance_fields, field_words, object_words}
+use Rattle.jv_interp_words.specs.of_meaning_machine.Values.{Value, default_of_type}
+use Rattle.jv_interp_words.specs.of_meaning_machine.Objects.{default_entry, Object, new_instance, new_array}
+use Rattle.jv_interp_words.specs.of_meaning_machine.Objects.Object.{InstanceOf}
 use Rattle.jv_interp_objects.specs.ObjectsInBlocks.{Blocks, AreFields, AreComponents, HasNumber, IsArrayWord, ObjectsStand}
 use Rattle.jv_interp_objects.specs.NewBlocks.{Joins}
 use Rattle.jv_interp_objects.proofs.Widths.{default_words, default_stands, default_is, default_is_as_wide}

@@ -1,7 +1,7 @@
 -- How many words a value has, by the type of what holds it: as many as the type, two for a long.
 use Rattle.std.proofs.Common.{◌≡◌, ℕ, zero, suc, Bool, true, false, List, ◌++◌, Option, Some, None, replicate, codes, refl, sym, ap, subst, ◌∙◌, if◌then◌else◌}
 use Rattle.std.specs.Str.{bytes_eq}
-use Rattle.jv_meaning_world.proofs.Up.{same_name}
+use Rattle.jv_interp_words.proofs.laws_of_meaning_world.Up.{same_name}
 use Rattle.jv_text.specs.declared.descriptor.Base.TheVariants as bases
 use Rattle.jv_text.specs.declared.descriptor.Element.{Element}
 use Rattle.jv_text.specs.declared.descriptor.Element.TheVariants as elements
@@ -9,10 +9,10 @@ use Rattle.jv_text.specs.declared.descriptor.FieldTypeOf.{FieldTypeOf}
 use Rattle.jv_text.specs.Descriptor.{element_text}
 use Rattle.jv_text.specs.Types.{field_type_of}
 use Rattle.jv_text.proofs.TypesOf.{field_from}
-use Rattle.jv_frames.specs.declared.verification.VerificationTypeOf.TheVariants as types
-use Rattle.jv_frames.specs.Types.{FrameType, value_type, value_type_by, width}
-use Rattle.jv_meaning_machine.specs.Values.{Value, value_words, has_type, default_value, default_of_type, default_described, default_of}
-use Rattle.jv_meaning_machine.specs.Values.Value.{Int, Long, Null, Reference}
+use Rattle.jv_interp_words.specs.of_frames.declared.verification.VerificationTypeOf.TheVariants as types
+use Rattle.jv_interp_words.specs.of_frames.Types.{FrameType, value_type, value_type_by, width}
+use Rattle.jv_interp_words.specs.of_meaning_machine.Values.{Value, value_words, has_type, default_value, default_of_type, default_described, default_of}
+use Rattle.jv_interp_words.specs.of_meaning_machine.Values.Value.{Int, Long, Null, Reference}
 use Rattle.jv_interp_objects.specs.ObjectsInBlocks.{IsIn}
 
 -- ---- by a type

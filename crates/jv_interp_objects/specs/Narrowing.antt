@@ -5,8 +5,8 @@ use Rattle.jv_text.specs.declared.descriptor.Base.TheVariants as bases
 use Rattle.jv_text.specs.declared.descriptor.Element.{Element}
 use Rattle.jv_text.specs.declared.descriptor.Element.TheVariants as elements
 use Rattle.jv_text.specs.declared.descriptor.FieldTypeOf.{FieldTypeOf}
-use Rattle.jv_frames.specs.Types.{value_type}
-use Rattle.jv_meaning_machine.specs.Values.{Value, has_type, narrowed}
+use Rattle.jv_interp_words.specs.of_frames.Types.{value_type}
+use Rattle.jv_interp_words.specs.of_meaning_machine.Values.{Value, has_type, narrowed}
 use Rattle.jv_interp_objects.specs.declared.narrowing.Narrowing.{Narrowing}
 use Rattle.jv_interp_objects.specs.declared.narrowing.Narrowing.TheVariants.{Byte, Short, Char, Boolean, Whole}
 use Rattle.jv_interp_objects.specs.ObjectsInBlocks.{IsIn}

@@ -10,15 +10,15 @@ use Rattle.jv_text.specs.declared.descriptor.Base.TheVariants as bases
 use Rattle.jv_text.specs.declared.descriptor.Element.{Element}
 use Rattle.jv_text.specs.declared.descriptor.Element.TheVariants as elements
 use Rattle.jv_text.specs.declared.descriptor.FieldTypeOf.{FieldTypeOf}
-use Rattle.jv_frames.specs.Types.{value_type, width}
-use Rattle.jv_meaning_world.specs.World.{Loaded, World, class_named}
-use Rattle.jv_meaning_world.specs.LookUps.{DeclaredField}
-use Rattle.jv_meaning_world.specs.Verdicts.{is_loadable}
-use Rattle.jv_meaning_linking.specs.Layout.{instance_fields, field_words}
-use Rattle.jv_meaning_machine.specs.Values.{Value, value_words}
-use Rattle.jv_meaning_machine.specs.Values.Value.{Int, Long, Null, Reference, Half, Unset}
-use Rattle.jv_meaning_machine.specs.Objects.{FieldKey, key_of, same_key, Content, Object, Instance}
-use Rattle.jv_meaning_machine.specs.Objects.Object.{InstanceOf, ArrayWith}
+use Rattle.jv_interp_words.specs.of_frames.Types.{value_type, width}
+use Rattle.jv_interp_words.specs.of_meaning_world.World.{Loaded, World, class_named}
+use Rattle.jv_interp_words.specs.of_meaning_world.LookUps.{DeclaredField}
+use Rattle.jv_interp_words.specs.of_meaning_world.Verdicts.{is_loadable}
+use Rattle.jv_interp_words.specs.of_meaning_linking.Layout.{instance_fields, field_words}
+use Rattle.jv_interp_words.specs.of_meaning_machine.Values.{Value, value_words}
+use Rattle.jv_interp_words.specs.of_meaning_machine.Values.Value.{Int, Long, Null, Reference, Half, Unset}
+use Rattle.jv_interp_words.specs.of_meaning_machine.Objects.{FieldKey, key_of, same_key, Content, Object, Instance}
+use Rattle.jv_interp_words.specs.of_meaning_machine.Objects.Object.{InstanceOf, ArrayWith}
 use Rattle.jv_interp_words.specs.ValuesInWords.{long_of, AreAddresses}
 
 -- the blocks of a store, each under its address

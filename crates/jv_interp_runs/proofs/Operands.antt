@@ -7,7 +7,7 @@ use Rattle.jv_code.specs.declared.kinds.Invocation.{Invocation}
 use Rattle.jv_code.specs.declared.kinds.Invocation.TheVariants as invocation
 use Rattle.jv_code.specs.Opcodes.{field_opcode, invoke_opcode}
 use Rattle.jv_code.specs.Operands.{HasBytes, least_operands}
-use Rattle.jv_interp_steps.proofs.OpcodesStand.{opcode_and}
+use Rattle.jv_interp_actions.proofs.laws_of_interp_steps.OpcodesStand.{opcode_and}
 
 pub field_operands : (how : FieldAccess) → least_operands (field_opcode how) ≡ 2
 field_operands access.GetStatic = refl

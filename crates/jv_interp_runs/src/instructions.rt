@@ -3,11 +3,11 @@
 ghost use Rattle.std.specs.Prelude.{◌≡◌, ◌+◌, ◌<◌, ◌≤◌, IfOk, IsOk, IsTrue, OnOk, OnErr, length};
 ghost use Rattle.jv_code.specs.Insns.{instruction_of, insn_bytes, insn_fits};
 ghost use Rattle.jv_code.specs.Operands.{HasBytes};
-ghost use Rattle.jv_linked.specs.Linked.{IsLinked};
-ghost use Rattle.jv_interp_methods.specs.Methods.{AreMethods};
-ghost use Rattle.jv_interp_methods.specs.Texts.{AreTexts};
+ghost use Rattle.jv_interp_actions.specs.of_linked.Linked.{IsLinked};
+ghost use Rattle.jv_interp_actions.specs.of_interp_methods.Methods.{AreMethods};
+ghost use Rattle.jv_interp_actions.specs.of_interp_methods.Texts.{AreTexts};
 ghost use Rattle.jv_interp_execution.specs.InGuest.{KeepsCodeRules};
-ghost use Rattle.jv_interp_frames.specs.Standing.{kept};
+ghost use Rattle.jv_interp_actions.specs.of_interp_frames.Standing.{kept};
 ghost use Rattle.jv_interp_actions.specs.Acting.{AreAsBefore};
 ghost use Rattle.jv_interp_runs.specs.Inside.Decoding.{StandsNext};
 ghost use Rattle.jv_interp_runs.specs.Stepping.{CanStepIn, SteppedIn};
@@ -16,14 +16,14 @@ use crate::decoding::site_of;
 use jv_code::Insn;
 use jv_heap::{Memory, Store};
 use jv_interp_actions::act;
+use jv_interp_actions::of_interp_frames::{Control, Frames};
+use jv_interp_actions::of_interp_methods::{Methods, Texts};
+use jv_interp_actions::of_link::Site;
+use jv_interp_actions::of_linked::Linked;
+use jv_interp_actions::of_loader::Classes;
 use jv_interp_execution::execute;
-use jv_interp_frames::{Control, Frames};
 use jv_interp_memory::{Effect, Held};
-use jv_interp_methods::{Methods, Texts};
 use jv_interp_words::Registers;
-use jv_link::Site;
-use jv_linked::Linked;
-use jv_loader::Classes;
 use jv_meaning_machine::execution_keeps;
 
 /// Executes the instruction at which the method in the registers stands (JVMS 2.11), behind which the next one stands at `next`, and

@@ -1,10 +1,10 @@
 //! Steps of the method that runs, by the opcode at hand.
 
 ghost use Rattle.std.specs.Prelude.{◌≡◌, ◌+◌, ◌<◌, ◌≤◌, IfOk, IsOk, IsTrue, OnOk, OnErr};
-ghost use Rattle.jv_linked.specs.Linked.{IsLinked};
-ghost use Rattle.jv_interp_methods.specs.Methods.{AreMethods};
-ghost use Rattle.jv_interp_methods.specs.Texts.{AreTexts};
-ghost use Rattle.jv_interp_frames.specs.Standing.{kept};
+ghost use Rattle.jv_interp_actions.specs.of_linked.Linked.{IsLinked};
+ghost use Rattle.jv_interp_actions.specs.of_interp_methods.Methods.{AreMethods};
+ghost use Rattle.jv_interp_actions.specs.of_interp_methods.Texts.{AreTexts};
+ghost use Rattle.jv_interp_actions.specs.of_interp_frames.Standing.{kept};
 ghost use Rattle.jv_interp_actions.specs.Acting.{AreAsBefore};
 ghost use Rattle.jv_interp_runs.specs.Stepping.{CanStepIn, SteppedIn};
 
@@ -13,12 +13,12 @@ use crate::instructions::{step_by, step_known};
 use crate::opcodes::{element_loaded, element_stored, field_access, invocation, value_returned};
 use jv_code::{DivisionOperator, IndexForm, Insn, NumberKind};
 use jv_heap::{Memory, Store};
-use jv_interp_frames::{Control, Frames};
+use jv_interp_actions::of_interp_frames::{Control, Frames};
+use jv_interp_actions::of_interp_methods::{Methods, Texts};
+use jv_interp_actions::of_linked::Linked;
+use jv_interp_actions::of_loader::Classes;
 use jv_interp_memory::Held;
-use jv_interp_methods::{Methods, Texts};
 use jv_interp_words::Registers;
-use jv_linked::Linked;
-use jv_loader::Classes;
 
 /// A step at any instruction.
 fn step_decoded<'a, 'l, S: Store>(

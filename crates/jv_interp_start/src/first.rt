@@ -2,9 +2,9 @@
 
 ghost use Rattle.std.specs.Prelude.{◌≡◌, ◌+◌, ◌≤◌, [], IfOk, IfSome, OnOk, OnErr, length};
 ghost use Rattle.jv_lookups.specs.Places.{IsMethodPlace};
-ghost use Rattle.jv_linked.specs.Linked.{IsLinked};
-ghost use Rattle.jv_interp_methods.specs.Methods.{AreMethods};
-ghost use Rattle.jv_interp_methods.specs.Texts.{AreTexts};
+ghost use Rattle.jv_interp_frames.specs.of_linked.Linked.{IsLinked};
+ghost use Rattle.jv_interp_frames.specs.of_interp_methods.Methods.{AreMethods};
+ghost use Rattle.jv_interp_frames.specs.of_interp_methods.Texts.{AreTexts};
 ghost use Rattle.jv_interp_start.specs.Starting.{BothJoin};
 ghost use Rattle.jv_interp_start.specs.Started.{FirstFrames, FirstControl, FirstStands};
 
@@ -13,11 +13,11 @@ use crate::main_method::number_of;
 use crate::room::start_memory;
 use crate::states::start_states;
 use jv_heap::{Memory, Store};
+use jv_interp_frames::of_interp_methods::{Methods, Texts};
+use jv_interp_frames::of_linked::Linked;
+use jv_interp_frames::of_loader::{Classes, Place};
 use jv_interp_frames::{Control, End, Frames};
 use jv_interp_memory::Held;
-use jv_interp_methods::{Methods, Texts};
-use jv_linked::Linked;
-use jv_loader::{Classes, Place};
 use std::alloc::{AllocError, Global};
 
 /// What is kept of a guest from its start on, beside the blocks of the store.

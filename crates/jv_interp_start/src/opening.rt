@@ -2,17 +2,17 @@
 
 ghost use Rattle.std.specs.Prelude.{◌≡◌, ◌+◌, ◌<◌, ◌≤◌, IfSome, OnOk, OnErr, length};
 ghost use Rattle.jv_lookups.specs.Places.{IsMethodPlace};
-ghost use Rattle.jv_linked.specs.Linked.{IsLinked};
-ghost use Rattle.jv_interp_methods.specs.Methods.{AreMethods};
+ghost use Rattle.jv_interp_frames.specs.of_linked.Linked.{IsLinked};
+ghost use Rattle.jv_interp_frames.specs.of_interp_methods.Methods.{AreMethods};
 ghost use Rattle.jv_interp_frames.specs.Standing.{kept, CanMove, Moved};
 ghost use Rattle.jv_interp_start.specs.Opening.{Opening};
 
 use jv_heap::{Memory, Store};
+use jv_interp_frames::of_interp_methods::Methods;
+use jv_interp_frames::of_linked::Linked;
+use jv_interp_frames::of_loader::{Classes, Place};
 use jv_interp_frames::{Control, End, Frames, begin};
 use jv_interp_memory::Held;
-use jv_interp_methods::Methods;
-use jv_linked::Linked;
-use jv_loader::{Classes, Place};
 
 /// Begins the class of the main method, which is at a place; where there is none the guest has ended (own).
 ///

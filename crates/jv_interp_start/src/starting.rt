@@ -1,9 +1,9 @@
 //! The start of a guest (JVMS 5.2).
 
 ghost use Rattle.std.specs.Prelude.{◌≡◌, ◌+◌, ◌<◌, ◌≤◌, IfOk, OnErr, length};
-ghost use Rattle.jv_linked.specs.Linked.{IsLinked};
-ghost use Rattle.jv_interp_methods.specs.Methods.{AreMethods};
-ghost use Rattle.jv_interp_methods.specs.Texts.{AreTexts};
+ghost use Rattle.jv_interp_frames.specs.of_linked.Linked.{IsLinked};
+ghost use Rattle.jv_interp_frames.specs.of_interp_methods.Methods.{AreMethods};
+ghost use Rattle.jv_interp_frames.specs.of_interp_methods.Texts.{AreTexts};
 ghost use Rattle.jv_interp_objects.specs.ObjectsInBlocks.{Blocks};
 ghost use Rattle.jv_interp_start.specs.Starting.{BothJoin};
 ghost use Rattle.jv_interp_start.specs.Started.{CanStart, HasStarted};
@@ -13,9 +13,9 @@ use crate::first::{Started, first_kept};
 use crate::main_method::main_place;
 use crate::opening::begin_main;
 use jv_heap::{Memory, Store};
-use jv_interp_methods::{Methods, Texts};
-use jv_linked::Linked;
-use jv_loader::Classes;
+use jv_interp_frames::of_interp_methods::{Methods, Texts};
+use jv_interp_frames::of_linked::Linked;
+use jv_interp_frames::of_loader::Classes;
 use std::alloc::Global;
 
 /// Takes back the two objects of the start, of which the second is the newest block.

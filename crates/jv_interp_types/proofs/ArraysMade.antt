@@ -19,7 +19,7 @@ use Rattle.jv_meaning_machine.specs.Faults.Fault.{OffsetFault}
 use Rattle.jv_meaning_machine.specs.State.{Memory}
 use Rattle.jv_meaning_machine.specs.Effects.{Effect, Context, Outcome, world_at, method_at, site_at, unless_error, class_constant, resolved_type}
 use Rattle.jv_meaning_machine.specs.Arrays.{has_dimensions, names_array, array_resolved, new_reference_array, new_multi_array}
-use Rattle.jv_link.specs.Seen.{place_of}
+use Rattle.jv_interp_calls.specs.of_link.Seen.{place_of}
 use Rattle.jv_interp_words.proofs.Gave.{bound_gave, found_gave, tested_gave}
 use Rattle.jv_interp_objects.specs.ObjectsInBlocks.{IsArrayWord}
 use Rattle.jv_interp_memory.specs.declared.effect.Effect.TheVariants as effects

@@ -13,3 +13,6 @@ pub mod ObjectMade
 pub mod ArraySlots
 pub mod NoFloatingArrays
 pub mod ArraysMade
+pub use Rattle.jv_interp_calls.proofs as laws_of_interp_calls
+pub use Rattle.jv_interp_calls.proofs.laws_of_interp_members
+pub use Rattle.jv_interp_calls.proofs.laws_of_interp_methods

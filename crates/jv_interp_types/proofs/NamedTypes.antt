@@ -17,10 +17,10 @@ use Rattle.jv_meaning_linking.specs.ClassResolution.{ResolvedClass, error_of_cla
 use Rattle.jv_meaning_linking.specs.ClassResolution.ResolvedClass.{ClassOf, ArrayOf}
 use Rattle.jv_meaning_linking.proofs.Found.{went_on, there}
 use Rattle.jv_meaning_machine.specs.Effects.{resolved_type}
-use Rattle.jv_link.specs.declared.target.ClassRef.{ClassRef}
-use Rattle.jv_link.specs.declared.target.ClassRef.TheVariants as refs
-use Rattle.jv_link.specs.Seen.{answer, class_ref_at}
-use Rattle.jv_link.specs.UseRules.{IsRefWithin}
+use Rattle.jv_interp_calls.specs.of_link.declared.target.ClassRef.{ClassRef}
+use Rattle.jv_interp_calls.specs.of_link.declared.target.ClassRef.TheVariants as refs
+use Rattle.jv_interp_calls.specs.of_link.Seen.{answer, class_ref_at}
+use Rattle.jv_interp_calls.specs.of_link.UseRules.{IsRefWithin}
 use Rattle.std.proofs.lemmas.Option.{slice_get_within}
 use Rattle.jv_classes.proofs.Numbers.{number_at, numbered}
 use Rattle.jv_interp_objects.specs.ObjectsInBlocks.{HasNumber, IsElement}

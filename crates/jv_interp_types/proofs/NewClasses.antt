@@ -13,7 +13,7 @@ use Rattle.jv_meaning_linking.specs.LinkErrors.LinkError.{InstantiationError}
 use Rattle.jv_meaning_linking.specs.ClassResolution.{ResolvedClass, resolve_text, creatable, resolve_class}
 use Rattle.jv_meaning_linking.specs.ClassResolution.ResolvedClass.{ClassOf, ArrayOf}
 use Rattle.jv_meaning_linking.proofs.Found.{went_on, held}
-use Rattle.jv_link.specs.Seen.{answer}
+use Rattle.jv_interp_calls.specs.of_link.Seen.{answer}
 use Rattle.jv_interp_types.specs.Named.{IsClassOf}
 use Rattle.jv_interp_types.proofs.ClassNumbers.{own_name}
 

@@ -29,7 +29,7 @@ use Rattle.jv_interp_words.proofs.Taken.{taken_gave}
 use Rattle.jv_interp_words.proofs.InUse.{in_use_top}
 use Rattle.jv_interp_objects.specs.ObjectsInBlocks.{IsIn}
 use Rattle.jv_interp_memory.proofs.Popped.{frame_popped, some_used}
-use Rattle.jv_interp_arrays.proofs.Loaded.{array_there}
+use Rattle.jv_interp_creation.proofs.laws_of_interp_arrays.Loaded.{array_there}
 use Rattle.jv_interp_creation.proofs.Thrice.{taken_kind}
 use Rattle.jv_interp_types.proofs.TopReference.{RefersTo, reference_on_top}
 

@@ -8,8 +8,8 @@ use Rattle.jv_meaning_linking.specs.ClassResolution.{ResolvedClass, resolve_clas
 use Rattle.jv_meaning_linking.specs.ClassResolution.ResolvedClass.{ClassOf}
 use Rattle.jv_meaning_linking.specs.Operands.{class_operand}
 use Rattle.jv_meaning_machine.specs.Effects.{resolved_type}
-use Rattle.jv_link.specs.declared.site.Site.{Site}
-use Rattle.jv_link.specs.Seen.{seen_site}
+use Rattle.jv_interp_calls.specs.of_link.declared.site.Site.{Site}
+use Rattle.jv_interp_calls.specs.of_link.Seen.{seen_site}
 use Rattle.jv_interp_calls.specs.Resolved.{IsErrorOf}
 use Rattle.jv_interp_types.specs.declared.types.NumberedType.{NumberedType}
 use Rattle.jv_interp_types.specs.Types.{IsOfType}

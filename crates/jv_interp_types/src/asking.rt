@@ -1,9 +1,9 @@
 //! Instructions that ask whether an object is of a type.
 
 ghost use Rattle.std.specs.Prelude.{◌≡◌, if◌then◌else◌};
-ghost use Rattle.jv_linked.specs.Linked.{IsLinked};
+ghost use Rattle.jv_interp_calls.specs.of_linked.Linked.{IsLinked};
 ghost use Rattle.jv_meaning_machine.specs.Instructions.{check_cast, instance_of};
-ghost use Rattle.jv_interp_going.specs.Going.{StaysIn};
+ghost use Rattle.jv_interp_creation.specs.of_interp_going.Going.{StaysIn};
 ghost use Rattle.jv_interp_memory.specs.Executing.{IsUnmoved, place};
 ghost use Rattle.jv_interp_calls.specs.Known.{known};
 ghost use Rattle.jv_interp_types.specs.Asking.{CanAsk, Asks};
@@ -11,11 +11,11 @@ ghost use Rattle.jv_interp_types.specs.Asking.{CanAsk, Asks};
 use crate::naming::named;
 use crate::types::is_instance;
 use jv_heap::Store;
+use jv_interp_calls::of_link::Site;
+use jv_interp_calls::of_linked::Linked;
+use jv_interp_calls::of_loader::Classes;
 use jv_interp_memory::{CLASS_CAST, Effect, Held};
 use jv_interp_words::Registers;
-use jv_link::Site;
-use jv_linked::Linked;
-use jv_loader::Classes;
 
 /// The int of a boolean (JVMS 2.3.4).
 #[inline(always)]

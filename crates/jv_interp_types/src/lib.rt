@@ -10,6 +10,10 @@ mod throwing;
 mod types;
 
 pub use asking::{checkcast, instanceof};
+pub use jv_interp_calls as of_interp_calls;
+pub use jv_interp_calls::{of_interp_methods, of_link, of_linked, of_loader};
+pub use jv_interp_creation as of_interp_creation;
+pub use jv_interp_creation::{of_interp_arrays, of_interp_going};
 pub use making::{anewarray, create, multianewarray};
 pub use storing::aastore;
 pub use throwing::athrow;

@@ -1,8 +1,8 @@
 //! Objects and arrays that are made of what a constant names.
 
 ghost use Rattle.std.specs.Prelude.{◌≡◌, ◌+◌, ◌<◌, ◌≤◌, IfOk, IsOk, IsTrue, OnOk, OnErr};
-ghost use Rattle.jv_linked.specs.Linked.{IsLinked};
-ghost use Rattle.jv_interp_going.specs.Going.{StaysIn};
+ghost use Rattle.jv_interp_calls.specs.of_linked.Linked.{IsLinked};
+ghost use Rattle.jv_interp_creation.specs.of_interp_going.Going.{StaysIn};
 ghost use Rattle.jv_interp_calls.specs.Known.{known};
 ghost use Rattle.jv_interp_memory.specs.Executing.{IsUnmoved, place};
 ghost use Rattle.jv_interp_types.specs.Making.{CanMakeObject, MakesObject, CanMakeArray, MakesArray, CanMakeArrays, MakesArrays};
@@ -12,12 +12,12 @@ use crate::naming::{class_named_new, named};
 use crate::types::{NumberedType, array_word};
 use jv_heap::{Memory, Store};
 use jv_interp_calls::is_ready;
+use jv_interp_calls::of_link::Site;
+use jv_interp_calls::of_linked::Linked;
+use jv_interp_calls::of_loader::Classes;
 use jv_interp_creation::{new_array, new_nested_array, new_object};
 use jv_interp_memory::{ClassState, Effect, Held};
 use jv_interp_words::Registers;
-use jv_link::Site;
-use jv_linked::Linked;
-use jv_loader::Classes;
 use jv_text::types_agree;
 
 /// The number of long as an element.

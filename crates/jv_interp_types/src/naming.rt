@@ -4,9 +4,9 @@ ghost use Rattle.std.specs.Prelude.{◌≡◌, ◌+◌, ◌<◌, Some, IfOk, len
 ghost use Rattle.jv_text.specs.Seen.{seen_element};
 ghost use Rattle.jv_meaning_linking.specs.ClassResolution.{ResolvedClass};
 ghost use Rattle.jv_meaning_machine.specs.Effects.{resolved_type};
-ghost use Rattle.jv_link.specs.Seen.{class_ref_at};
-ghost use Rattle.jv_link.specs.UseRules.{IsRefWithin};
-ghost use Rattle.jv_linked.specs.Linked.{IsLinked};
+ghost use Rattle.jv_interp_calls.specs.of_link.Seen.{class_ref_at};
+ghost use Rattle.jv_interp_calls.specs.of_link.UseRules.{IsRefWithin};
+ghost use Rattle.jv_interp_calls.specs.of_linked.Linked.{IsLinked};
 ghost use Rattle.jv_interp_objects.specs.ObjectsInBlocks.{base_number, IsElement};
 ghost use Rattle.jv_interp_memory.specs.SystemNumbers.{IsGuestsWorld};
 ghost use Rattle.jv_interp_types.specs.Types.{IsOfType};
@@ -15,9 +15,9 @@ ghost use Rattle.jv_interp_types.specs.Inside.Refs.{IsThere, HasElement, AreFew}
 
 use crate::types::NumberedType;
 use jv_interp_calls::number_of_error;
-use jv_link::{ClassRef, Site, Use};
-use jv_linked::Linked;
-use jv_loader::{ClassTable, Classes};
+use jv_interp_calls::of_link::{ClassRef, Site, Use};
+use jv_interp_calls::of_linked::Linked;
+use jv_interp_calls::of_loader::{ClassTable, Classes};
 use jv_text::{Base, Element};
 
 /// The number of a base type as an element.

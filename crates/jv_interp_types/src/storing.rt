@@ -2,7 +2,7 @@
 
 ghost use Rattle.std.specs.Prelude.{◌≡◌, ℕ, List};
 ghost use Rattle.jv_text.specs.declared.descriptor.FieldTypeOf.{FieldTypeOf};
-ghost use Rattle.jv_interp_going.specs.Going.{StaysIn};
+ghost use Rattle.jv_interp_creation.specs.of_interp_going.Going.{StaysIn};
 ghost use Rattle.jv_interp_memory.specs.SystemNumbers.{IsGuestsWorld};
 ghost use Rattle.jv_interp_memory.specs.Executing.{IsUnmoved, place};
 ghost use Rattle.jv_interp_types.specs.Types.{IsOfType};
@@ -11,9 +11,9 @@ ghost use Rattle.jv_interp_types.specs.Inside.Standing.{IsReference, TellsStandi
 
 use crate::types::{NumberedType, component_type, is_instance};
 use jv_heap::Store;
+use jv_interp_calls::of_loader::Classes;
 use jv_interp_memory::{ARRAY_INDEX, ARRAY_STORE, Effect, Held, NULL_POINTER};
 use jv_interp_words::Registers;
-use jv_loader::Classes;
 
 /// Whether a reference can stand in an array with components of a type.
 #[inline(always)]

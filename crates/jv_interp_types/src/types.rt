@@ -10,7 +10,7 @@ ghost use Rattle.jv_interp_memory.specs.SystemNumbers.{IsGuestsWorld};
 ghost use Rattle.jv_interp_types.specs.Types.{IsOfType, HasWord};
 ghost use Rattle.jv_interp_types.specs.Inside.Elements.{TellsElements, TellsAboveArrays};
 
-use jv_loader::{ClassTable, Classes};
+use jv_interp_calls::of_loader::{ClassTable, Classes};
 
 /// The least first word of an array.
 const ARRAYS: u32 = 0x8000_0000;

@@ -13,3 +13,5 @@ pub mod Moved
 pub mod Grown
 pub mod Tops
 pub mod Returned
+pub use Rattle.jv_meaning_machine.proofs as laws_of_meaning_machine
+pub use Rattle.jv_meaning_machine.proofs.laws_of_meaning_world

@@ -2,3 +2,7 @@ pub mod ValuesInWords
 pub mod FramesInWords
 pub mod StatesInWords
 pub mod Inside
+pub use Rattle.jv_meaning_machine.specs.of_frames
+pub use Rattle.jv_meaning_machine.specs.of_meaning_linking
+pub use Rattle.jv_meaning_machine.specs as of_meaning_machine
+pub use Rattle.jv_meaning_machine.specs.of_meaning_world

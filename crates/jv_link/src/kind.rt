@@ -6,7 +6,7 @@ ghost use Rattle.jv_class.specs.Class.{Field, Method};
 ghost use Rattle.jv_class.specs.Rules.{is_clinit};
 ghost use Rattle.jv_meaning_world.specs.Overriding.{Declared};
 ghost use Rattle.jv_meaning_world.specs.LookUps.{DeclaredField};
-ghost use Rattle.jv_lookups.specs.Places.{field_at, method_at, IsFieldPlace};
+ghost use Rattle.jv_loader.specs.of_lookups.Places.{field_at, method_at, IsFieldPlace};
 ghost use Rattle.jv_meaning_linking.specs.Uses.{Site as SiteOfNames};
 ghost use Rattle.jv_meaning_linking.specs.Kind.{has_field_kind, can_set_final, can_use_final, has_method_kind};
 ghost use Rattle.jv_meaning_linking.specs.MethodResolution.{is_own_init};

@@ -14,8 +14,8 @@ use Rattle.jv_class.specs.ClassFile.{class_name}
 use Rattle.jv_meaning_world.specs.World.{Loaded, World}
 use Rattle.jv_meaning_world.specs.Overriding.{Declared}
 use Rattle.jv_meaning_world.specs.Verdicts.{declared_by}
-use Rattle.jv_lookups.specs.declared.place.Place.{Place}
-use Rattle.jv_lookups.specs.Places.{method_of as method_in, method_at}
+use Rattle.jv_link.specs.of_lookups.declared.place.Place.{Place}
+use Rattle.jv_link.specs.of_lookups.Places.{method_of as method_in, method_at}
 use Rattle.jv_linked.specs.declared.bodies.Body.{Body}
 use Rattle.jv_linked.specs.declared.bodies.ClassBodies.{ClassBodies}
 use Rattle.jv_linked.specs.Bodies.{IsBody}

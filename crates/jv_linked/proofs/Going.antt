@@ -7,11 +7,11 @@ use Rattle.std.proofs.lemmas.List.Sums.{sum_by-cons}
 use Rattle.jv_class.specs.Class.{Field}
 use Rattle.jv_meaning_world.specs.World.{Loaded, World}
 use Rattle.jv_meaning_world.specs.Numbers.{classes_at, AreNumbers, HoldsAtNumber}
-use Rattle.jv_classes.specs.Members.{IsField}
-use Rattle.jv_classes.specs.declared.member.Member.{Member}
-use Rattle.jv_classes.proofs.Followed.{some_class}
-use Rattle.jv_classes.proofs.Numbers.{take_more}
-use Rattle.jv_lookups.proofs.Found.{one_class_more}
+use Rattle.jv_link.specs.of_classes.Members.{IsField}
+use Rattle.jv_link.specs.of_classes.declared.member.Member.{Member}
+use Rattle.jv_link.proofs.laws_of_classes.Followed.{some_class}
+use Rattle.jv_link.proofs.laws_of_classes.Numbers.{take_more}
+use Rattle.jv_link.proofs.laws_of_lookups.Found.{one_class_more}
 use Rattle.jv_linked.specs.declared.words.Ends.{Ends}
 use Rattle.jv_linked.specs.declared.words.ClassWords.{ClassWords}
 use Rattle.jv_linked.specs.Inside.Words.{word_in, behind, words_from, ends_from, own_words, inherited_words, first_ends, seen_words, all_words, static_end}

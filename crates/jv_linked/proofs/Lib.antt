@@ -5,3 +5,6 @@ pub mod Inherited
 pub mod Eachwise
 pub mod Placing
 pub mod Selecting
+pub use Rattle.jv_link.proofs.laws_of_classes
+pub use Rattle.jv_link.proofs.laws_of_loader
+pub use Rattle.jv_link.proofs.laws_of_lookups

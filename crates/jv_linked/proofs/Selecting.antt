@@ -2,7 +2,7 @@
 use Rattle.std.proofs.Common.{◌≡◌, ℕ, Option, Some, Result, Ok, refl, sym, ap, ◌∙◌}
 use Rattle.std.specs.Prelude.{slice_get}
 use Rattle.jv_meaning_world.specs.World.{Loaded, World}
-use Rattle.jv_lookups.proofs.Standing.{method_stands}
+use Rattle.jv_link.proofs.laws_of_lookups.Standing.{method_stands}
 use Rattle.jv_meaning_linking.specs.Uses.{Site as SiteOfNames}
 use Rattle.jv_meaning_linking.specs.LinkErrors.{◌>>=◌}
 use Rattle.jv_meaning_linking.specs.MethodResolution.{MethodTarget as TargetOfNames, target as named_so}

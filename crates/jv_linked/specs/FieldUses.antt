@@ -7,8 +7,8 @@ use Rattle.jv_text.specs.declared.descriptor.FieldTypeOf.{FieldTypeOf}
 use Rattle.jv_text.specs.Types.{field_type_of}
 use Rattle.jv_meaning_world.specs.World.{World}
 use Rattle.jv_meaning_world.specs.LookUps.{DeclaredField}
-use Rattle.jv_lookups.specs.declared.place.Place.{Place}
-use Rattle.jv_lookups.specs.Places.{field_at, IsFieldPlace}
+use Rattle.jv_link.specs.of_lookups.declared.place.Place.{Place}
+use Rattle.jv_link.specs.of_lookups.Places.{field_at, IsFieldPlace}
 use Rattle.jv_link.specs.declared.error.LinkError.{LinkError}
 use Rattle.jv_linked.specs.declared.field_use.FieldKind.{FieldKind}
 use Rattle.jv_linked.specs.declared.field_use.FieldKind.TheVariants as kinds

@@ -6,3 +6,6 @@ pub mod Linked
 pub mod MethodUses
 pub mod Places
 pub mod Tasks
+pub use Rattle.jv_link.specs as of_link
+pub use Rattle.jv_link.specs.of_loader
+pub use Rattle.jv_link.specs.of_lookups

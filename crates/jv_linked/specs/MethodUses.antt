@@ -3,7 +3,7 @@ use Rattle.std.specs.Prelude.{◌≡◌, Some, Result, Ok, Err}
 use Rattle.jv_text.specs.Name.{is_init}
 use Rattle.jv_meaning_world.specs.World.{World}
 use Rattle.jv_meaning_world.specs.Overriding.{Declared}
-use Rattle.jv_lookups.specs.Places.{method_at}
+use Rattle.jv_link.specs.of_lookups.Places.{method_at}
 use Rattle.jv_link.specs.declared.error.LinkError.{LinkError}
 use Rattle.jv_link.specs.declared.target.MethodTarget.{MethodTarget}
 use Rattle.jv_link.specs.Seen.{IsMethodTarget}

@@ -4,17 +4,17 @@ ghost use Rattle.std.specs.Prelude.{◌≡◌, ◌+◌, ◌<◌, Option, Some, I
 ghost use Rattle.std.specs.Option.{option_map};
 ghost use Rattle.jv_class.specs.Class.{Method};
 ghost use Rattle.jv_class_structure.specs.Seen.{seen_code};
-ghost use Rattle.jv_classes.specs.Members.{IsMethod};
+ghost use Rattle.jv_link.specs.of_classes.Members.{IsMethod};
 ghost use Rattle.jv_meaning_world.specs.World.{World};
 ghost use Rattle.jv_meaning_world.specs.Overriding.{Declared};
-ghost use Rattle.jv_lookups.specs.Places.{method_at};
+ghost use Rattle.jv_link.specs.of_lookups.Places.{method_at};
 ghost use Rattle.jv_linked.specs.declared.bodies.Body.{Body as BodyOfCode};
 ghost use Rattle.jv_linked.specs.Bodies.{IsArgumentCount, IsBody};
 ghost use Rattle.jv_linked.specs.Inside.Bodies.{AreBodiesOf, AreBodies, AreAllBodies};
 
 use jv_class::MethodCode;
 use jv_link::class_at;
-use jv_loader::{ClassTable, LoadedClass, Member, Place};
+use jv_link::of_loader::{ClassTable, LoadedClass, Member, Place};
 use jv_text::{method_shape, types_agree};
 use std::alloc::{AllocError, Global};
 

@@ -10,8 +10,8 @@ ghost use Rattle.jv_link.specs.Answers.{IsConstantsClass, IsClassUsed};
 ghost use Rattle.jv_link.specs.UseRules.{IsRefWithin};
 ghost use Rattle.jv_linked.specs.Inside.Classes.{IsFound, IsEntry};
 
+use jv_link::of_loader::{ClassTable, Classes};
 use jv_link::{ClassRef, LinkError, Site, Use, constants_class, created};
-use jv_loader::{ClassTable, Classes};
 use std::alloc::{AllocError, Global};
 
 /// A Class constant, by the number of its class and its index there, and what it resolves to.

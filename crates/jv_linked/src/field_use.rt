@@ -4,13 +4,13 @@ ghost use Rattle.std.specs.Prelude.{◌≡◌, Some};
 ghost use Rattle.jv_text.specs.Seen.{seen_element, seen_field_type};
 ghost use Rattle.jv_text.specs.Types.{field_type_of};
 ghost use Rattle.jv_class.specs.Class.{Field};
-ghost use Rattle.jv_lookups.specs.Places.{IsFieldPlace};
+ghost use Rattle.jv_link.specs.of_lookups.Places.{IsFieldPlace};
 ghost use Rattle.jv_linked.specs.FieldUses.{kind_of_element, kind_of, IsKind, IsFieldUse};
 ghost use Rattle.jv_linked.specs.Inside.Words.{AreWords};
 
 use crate::words::{ClassWords, word_in_all};
 use jv_link::field_at;
-use jv_loader::{ClassTable, Place};
+use jv_link::of_loader::{ClassTable, Place};
 use jv_text::{Base, Element, FieldType, field_type, types_agree};
 
 /// What a field holds (JVMS 2.3, 2.4): how many words, and which values a store into it keeps.

@@ -14,8 +14,8 @@ ghost use Rattle.jv_linked.specs.Inside.Fields.{IsFound, IsEntry};
 
 use crate::field_use::{FieldUse, field_used};
 use crate::words::ClassWords;
+use jv_link::of_loader::{ClassTable, Classes};
 use jv_link::{LinkError, Site, Use, constants_field, usable_with};
-use jv_loader::{ClassTable, Classes};
 use std::alloc::{AllocError, Global};
 
 /// A Fieldref constant, by the number of its class and its index there, and what it resolves to.

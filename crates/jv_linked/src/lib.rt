@@ -18,6 +18,8 @@ mod words;
 
 pub use bodies::Body;
 pub use field_use::{FieldKind, FieldUse};
+pub use jv_link as of_link;
+pub use jv_link::of_loader;
 pub use law::words_are_inherited;
 pub use linked::{Linked, link};
 pub use method_use::MethodUse;

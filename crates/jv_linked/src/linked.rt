@@ -11,7 +11,7 @@ ghost use Rattle.jv_linked.specs.Bodies.{IsBody};
 ghost use Rattle.jv_linked.specs.Places.{IsWordOf, static_words};
 ghost use Rattle.jv_meaning_world.specs.Numbers.{HoldsAtNumber};
 ghost use Rattle.jv_meaning_linking.specs.Operands.{class_operand, field_operand, method_operand};
-ghost use Rattle.jv_lookups.specs.Places.{field_at, method_at, IsFieldPlace};
+ghost use Rattle.jv_link.specs.of_lookups.Places.{field_at, method_at, IsFieldPlace};
 ghost use Rattle.jv_link.specs.Seen.{IsSite, IsMethodTarget};
 ghost use Rattle.jv_link.specs.Objects.{IsObject};
 ghost use Rattle.jv_link.specs.Answers.{IsClassUsed, IsFieldResolved, IsMethodResolved, IsSelected};
@@ -31,8 +31,8 @@ use crate::places::{all_constants, entry_place, first_constants, selection_count
 use crate::selections::{Selection, empty_selections, selection_by};
 use crate::tasks::{ClassTasks, all_tasks, initializer_at, settings_at};
 use crate::words::{ClassWords, all_words, object_words_in, word_in_all};
+use jv_link::of_loader::{ClassTable, Classes, Memory, Place};
 use jv_link::{ClassRef, LinkError, MethodTarget, Site, Use, select};
-use jv_loader::{ClassTable, Classes, Memory, Place};
 use std::alloc::Global;
 
 /// What a guest's classes link to (JVMS 5.4), with memory for what steps ask again: what a constant of a class resolves to, and

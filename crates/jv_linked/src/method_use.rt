@@ -5,8 +5,8 @@ ghost use Rattle.jv_link.specs.Seen.{IsMethodTarget};
 ghost use Rattle.jv_linked.specs.MethodUses.{IsMethodUse};
 
 use crate::bodies::argument_words;
+use jv_link::of_loader::ClassTable;
 use jv_link::{MethodTarget, method_at};
-use jv_loader::ClassTable;
 use jv_text::is_init;
 
 /// A method as a step calls it: what its constant resolves to, its access flags, whether it is an `<init>`, and how many words its

@@ -12,8 +12,8 @@ ghost use Rattle.jv_linked.specs.MethodUses.{IsMethodUse, used_target};
 ghost use Rattle.jv_linked.specs.Inside.Methods.{IsFound, IsEntry};
 
 use crate::method_use::{MethodUse, method_called};
+use jv_link::of_loader::{ClassTable, Classes};
 use jv_link::{LinkError, Site, Use, callable_with, constants_method};
-use jv_loader::{ClassTable, Classes};
 use std::alloc::{AllocError, Global};
 
 /// A Methodref or InterfaceMethodref constant, by the number of its class and its index there, and what it resolves to.

@@ -9,7 +9,7 @@ ghost use Rattle.jv_linked.specs.Inside.Orders.{AreOrders};
 ghost use Rattle.jv_linked.specs.Tasks.{IsOrderOf};
 
 use jv_link::init_order;
-use jv_loader::{ClassTable, Classes, Memory};
+use jv_link::of_loader::{ClassTable, Classes, Memory};
 use std::alloc::Global;
 
 /// The numbers of what is initialized before a class that can be loaded, in its order; of another class none.

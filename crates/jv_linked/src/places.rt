@@ -1,6 +1,6 @@
 //! Where entries stand. Nothing that is answered rests on these numbers: an entry says what it is of.
 
-use jv_loader::{ClassTable, LoadedClass};
+use jv_link::of_loader::{ClassTable, LoadedClass};
 use std::alloc::{AllocError, Global};
 
 /// How many constants have entries of their own; those of a larger guest share them.

@@ -9,8 +9,8 @@ ghost use Rattle.jv_link.specs.Objects.{IsObject};
 ghost use Rattle.jv_link.specs.Answers.{IsSelected};
 ghost use Rattle.jv_linked.specs.Inside.Selections.{Knows, Keeps, IsFor, IsFound, IsEntry};
 
+use jv_link::of_loader::{Classes, Place};
 use jv_link::{LinkError, MethodTarget, Site, Use, select};
-use jv_loader::{Classes, Place};
 use std::alloc::{AllocError, Global};
 
 /// A call of a target on an object, by the number of its class, `None` for an array, and the method that it runs. Where an

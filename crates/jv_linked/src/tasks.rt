@@ -11,7 +11,7 @@ ghost use Rattle.jv_linked.specs.Inside.Tasks.{AreTasksOf, AreTasks};
 
 use jv_class::ConstantValue;
 use jv_link::class_at;
-use jv_loader::{ClassTable, LoadedClass};
+use jv_link::of_loader::{ClassTable, LoadedClass};
 use jv_pool::Pool;
 use std::alloc::{AllocError, Global};
 

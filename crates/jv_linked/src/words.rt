@@ -4,17 +4,17 @@
 ghost use Rattle.std.specs.Prelude.{◌≡◌, ℕ, ◌+◌, ◌<◌, Some, slice_get, IfOk, codes, length, map, sum_by, if◌then◌else◌};
 ghost use Rattle.std.specs.Str.{bytes_eq};
 ghost use Rattle.jv_class.specs.Class.{Field};
-ghost use Rattle.jv_classes.specs.Members.{IsField};
+ghost use Rattle.jv_link.specs.of_classes.Members.{IsField};
 ghost use Rattle.jv_meaning_world.specs.Numbers.{HoldsAtNumber};
 ghost use Rattle.jv_linked.specs.Inside.Words.{words_of as words_of_class, word_in, behind, words_from, ends_from, own_words, inherited_words, seen_words, static_end, AreWords};
 ghost use Rattle.jv_linked.specs.Places.{IsWordOf, static_words};
 ghost use Rattle.jv_meaning_world.specs.World.{World};
 ghost use Rattle.jv_meaning_world.specs.LookUps.{DeclaredField};
 ghost use Rattle.jv_meaning_linking.specs.Layout.{object_words};
-ghost use Rattle.jv_lookups.specs.Places.{field_at};
+ghost use Rattle.jv_link.specs.of_lookups.Places.{field_at};
 
 use jv_link::class_at;
-use jv_loader::{ClassTable, LoadedClass, Member, Place};
+use jv_link::of_loader::{ClassTable, LoadedClass, Member, Place};
 use std::alloc::{AllocError, Global};
 
 const STATIC: u16 = 0x0008;

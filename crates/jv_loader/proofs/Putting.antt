@@ -3,7 +3,7 @@ use Rattle.std.proofs.Common.{◌≡◌, ℕ, ◌+◌, ◌<◌, List, [], ◌∷
 use Rattle.std.specs.Borrow.{Bor}
 use Rattle.std.proofs.lemmas.List.{map-append}
 use Rattle.std.proofs.lemmas.Option.{slice_get-get_or}
-use Rattle.jv_classes.proofs.Numbers.{take_more}
+use Rattle.jv_lookups.proofs.laws_of_classes.Numbers.{take_more}
 use Rattle.jv_meaning_world.specs.FileContent.{FileContent, IsContent, AreContents}
 use Rattle.jv_meaning_world.specs.declared.verdict.LoadVerdict.{LoadVerdict}
 use Rattle.jv_meaning_world.specs.World.{World}

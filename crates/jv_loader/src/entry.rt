@@ -7,8 +7,8 @@ ghost use Rattle.jv_names.specs.Inside.Kept.{texts_of};
 ghost use Rattle.jv_loader.specs.Inside.Files.{with_file, entry_of, ArePut, IsPut};
 
 use crate::reading::read_content;
-use jv_classes::{ClassList, LoadedClass};
 use jv_loader_system::Memory;
+use jv_lookups::of_classes::{ClassList, LoadedClass};
 use jv_meaning_world::{Content, LoadVerdict};
 use std::alloc::{AllocError, Global};
 use std::hash::RandomState;

@@ -12,8 +12,9 @@ mod system;
 mod verdicts;
 
 pub use classes::Classes;
-pub use jv_classes::{ClassTable, LoadedClass, Member};
 pub use jv_loader_system::{Memory, SystemFiles, system_files};
+pub use jv_lookups as of_lookups;
+pub use jv_lookups::of_classes::{ClassTable, LoadedClass, Member};
 pub use jv_lookups::{Defaults, Place};
 pub use jv_meaning_world::LoadVerdict;
 pub use reading::read_content;

@@ -9,8 +9,8 @@ ghost use Rattle.jv_meaning_world.specs.Numbers.{number_named};
 ghost use Rattle.jv_loader.specs.Inside.System.{system_world};
 
 use crate::reading::read_content;
-use jv_classes::{ClassList, LoadedClass};
 use jv_loader_system::{Memory, SystemFiles};
+use jv_lookups::of_classes::{ClassList, LoadedClass};
 use jv_meaning_world::{Content, one_content};
 use std::alloc::Global;
 use std::hash::RandomState;

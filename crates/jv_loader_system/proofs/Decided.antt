@@ -21,8 +21,8 @@ use Rattle.jv_class_structure.specs.Structure.{FieldInfo, MethodInfo, ClassStruc
 use Rattle.jv_class_structure.specs.Attributes.{attributes_keep_rules, static_value}
 use Rattle.jv_class_structure.specs.Flags.{has, acc_interface, class_flags_keep_rules}
 use Rattle.jv_class_structure.specs.Version.{is_supported_version}
-use Rattle.jv_class.specs.Rules.{is_no_array_name, is_class_at, super_keeps_rules, interface_super_keeps_rules, field_flags_keep_rules, value_keeps_rules, KeepsRulesAsField, method_flags_keep_rules, init_keeps_rules, clinit_keeps_rules, slots_keep_rules, code_presence_keeps_rules, KeepsRulesAsMethod, field_texts, method_texts, has_code, NoTwoAlike, KeepsClassRules}
-use Rattle.jv_class.specs.Supported.{HasNoFloating, IsSupportedConstant, IsSupportedType, AreSupportedFlags, is_supported_method, IsSupported}
+use Rattle.jv_asm.specs.of_class.Rules.{is_no_array_name, is_class_at, super_keeps_rules, interface_super_keeps_rules, field_flags_keep_rules, value_keeps_rules, KeepsRulesAsField, method_flags_keep_rules, init_keeps_rules, clinit_keeps_rules, slots_keep_rules, code_presence_keeps_rules, KeepsRulesAsMethod, field_texts, method_texts, has_code, NoTwoAlike, KeepsClassRules}
+use Rattle.jv_asm.specs.of_class.Supported.{HasNoFloating, IsSupportedConstant, IsSupportedType, AreSupportedFlags, is_supported_method, IsSupported}
 use Rattle.jv_asm.specs.Law.{CanBeRead}
 
 -- ---- tests of what may be there

@@ -9,7 +9,7 @@ use Rattle.jv_code.specs.Insns.{Instruction, insn_bytes}
 use Rattle.jv_code.specs.Places.{all_fit, IsCode}
 use Rattle.jv_code.specs.Unsupported.{IsUnsupported, CodeIsSupported}
 use Rattle.jv_class_structure.specs.Structure.{ClassStructure, class_bytes}
-use Rattle.jv_class.specs.Class.{Class, Method, class_of}
+use Rattle.jv_asm.specs.of_class.Class.{Class, Method, class_of}
 use Rattle.jv_asm.specs.Law.{CanBeRead, WrittenReadsBack}
 use Rattle.jv_meaning_world.specs.FileContent.{HasNoUnsupportedCode, IsProfileClass, AreContents}
 use Rattle.jv_meaning_world.specs.declared.content.Content.TheVariants.{Holds}

@@ -7,7 +7,7 @@ use Rattle.std.proofs.lemmas.Bool.{eqb-true, eqb-false}
 use Rattle.std.proofs.lemmas.List.{length-replicate, length-set}
 use Rattle.std.proofs.lemmas.Option.{slice_get_read}
 use Rattle.std.proofs.Math.Seq.{drop-cons}
-use Rattle.jv_class.specs.Class.{Method, method_named}
+use Rattle.jv_meaning_world.specs.of_class.Class.{Method, method_named}
 use Rattle.jv_meaning_world.specs.World.{Loaded}
 use Rattle.jv_meaning_world.specs.Overriding.{Declared, is_instance, declared_if, alike_in}
 use Rattle.jv_meaning_world.specs.Verdicts.{passes, declared_by}

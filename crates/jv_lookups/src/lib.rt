@@ -20,6 +20,7 @@ pub use begun::Begun;
 pub use defaults::Defaults;
 pub use field::lookup_field;
 pub use finals::{breaks_final, final_declarers};
+pub use jv_classes as of_classes;
 pub use marks::Marks;
 pub use method::{lookup_method, method_of_object};
 pub use packages::package_numbers;

@@ -12,3 +12,6 @@ pub mod Run
 pub mod Searched
 pub mod Unchanged
 pub mod Upward
+pub use Rattle.jv_meaning_world.proofs.laws_of_code
+pub use Rattle.jv_meaning_world.proofs as laws_of_meaning_world
+pub use Rattle.jv_meaning_world.proofs.laws_of_text

@@ -13,3 +13,11 @@ pub mod OverridingRule
 pub mod Rows
 pub mod Selection
 pub mod Uses
+pub use Rattle.jv_meaning_world.specs.of_class
+pub use Rattle.jv_meaning_world.specs.of_class_structure
+pub use Rattle.jv_meaning_world.specs.of_code
+pub use Rattle.jv_meaning_world.specs.of_format
+pub use Rattle.jv_meaning_world.specs.of_frames
+pub use Rattle.jv_meaning_world.specs as of_meaning_world
+pub use Rattle.jv_meaning_world.specs.of_pool
+pub use Rattle.jv_meaning_world.specs.of_text

@@ -3,6 +3,8 @@
 
 mod law;
 
+pub use jv_meaning_world as of_meaning_world;
+pub use jv_meaning_world::{of_code, of_frames};
 pub use law::{
     field_is_used, final_is_run, init_is_run, init_order_is_above, init_order_is_by_rule,
     layout_extends, layout_is_by_rule, loadable_resolves, method_is_called, named_is_run,

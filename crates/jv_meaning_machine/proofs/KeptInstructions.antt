@@ -1,11 +1,11 @@
 -- Memory stays over each instruction.
 use Rattle.std.proofs.Common.{◌≡◌, ℕ, ℤ, Bool, true, false, not, true≢false, List, [], ◌∷◌, Option, Some, None, Ok, Err, refl, sym, ap, subst, ◌∙◌, slice_get, IsSome, if◌then◌else◌}
 use Rattle.std.specs.Option.{ok_or}
-use Rattle.jv_text.specs.declared.descriptor.Element.{Element}
-use Rattle.jv_text.specs.declared.descriptor.Element.TheVariants as elements
-use Rattle.jv_text.specs.declared.descriptor.FieldTypeOf.{FieldTypeOf}
-use Rattle.jv_text.specs.Name.{is_array_name}
-use Rattle.jv_text.specs.Types.{field_type_of}
+use Rattle.jv_meaning_typing.specs.of_text.declared.descriptor.Element.{Element}
+use Rattle.jv_meaning_typing.specs.of_text.declared.descriptor.Element.TheVariants as elements
+use Rattle.jv_meaning_typing.specs.of_text.declared.descriptor.FieldTypeOf.{FieldTypeOf}
+use Rattle.jv_meaning_typing.specs.of_text.Name.{is_array_name}
+use Rattle.jv_meaning_typing.specs.of_text.Types.{field_type_of}
 use Rattle.jv_code.specs.Insns.{Instruction}
 use Rattle.jv_code.specs.declared.insn.Insn.TheVariants as insns
 use Rattle.jv_code.specs.declared.kinds.DivisionOperator.{DivisionOperator}
@@ -15,14 +15,14 @@ use Rattle.jv_code.specs.declared.kinds.Test.{Test}
 use Rattle.jv_code.specs.declared.kinds.Test.TheVariants as tests
 use Rattle.jv_code.specs.declared.kinds.ValueKind.{ValueKind}
 use Rattle.jv_code.specs.declared.kinds.ValueKind.TheVariants as kinds
-use Rattle.jv_meaning_world.specs.World.{Loaded, World, class_named, can_name}
-use Rattle.jv_meaning_linking.specs.Uses.{Site}
-use Rattle.jv_meaning_linking.specs.Uses.Use.{New, Invokeinterface}
-use Rattle.jv_meaning_linking.specs.LinkErrors.{LinkError, OrError, provided, unless_wrong, ◌>>=◌}
-use Rattle.jv_meaning_linking.specs.LinkErrors.LinkError.{NoClassDefFoundError, IllegalAccessError, InstantiationError}
-use Rattle.jv_meaning_linking.specs.ClassResolution.{ResolvedClass, error_of_class, resolve_name, resolve_element, resolve_array, resolve_text, creatable, resolve_class}
-use Rattle.jv_meaning_linking.specs.ClassResolution.ResolvedClass.{ClassOf, ArrayOf}
-use Rattle.jv_meaning_linking.specs.Layout.{object_cells}
+use Rattle.jv_meaning_typing.specs.of_meaning_world.World.{Loaded, World, class_named, can_name}
+use Rattle.jv_meaning_typing.specs.of_meaning_linking.Uses.{Site}
+use Rattle.jv_meaning_typing.specs.of_meaning_linking.Uses.Use.{New, Invokeinterface}
+use Rattle.jv_meaning_typing.specs.of_meaning_linking.LinkErrors.{LinkError, OrError, provided, unless_wrong, ◌>>=◌}
+use Rattle.jv_meaning_typing.specs.of_meaning_linking.LinkErrors.LinkError.{NoClassDefFoundError, IllegalAccessError, InstantiationError}
+use Rattle.jv_meaning_typing.specs.of_meaning_linking.ClassResolution.{ResolvedClass, error_of_class, resolve_name, resolve_element, resolve_array, resolve_text, creatable, resolve_class}
+use Rattle.jv_meaning_typing.specs.of_meaning_linking.ClassResolution.ResolvedClass.{ClassOf, ArrayOf}
+use Rattle.jv_meaning_typing.specs.of_meaning_linking.Layout.{object_cells}
 use Rattle.jv_meaning_typing.specs.NumberRules.{Exchange, fixed_exchange}
 use Rattle.jv_meaning_typing.specs.ValueRules.{value_kind}
 use Rattle.jv_meaning_machine.specs.Faults.Fault.{OffsetFault, TagFault, ReturnFault}

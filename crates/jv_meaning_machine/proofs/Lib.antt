@@ -24,3 +24,4 @@ mod StepDoes
 mod Decoding
 mod Shown
 pub mod Rooting
+pub use Rattle.jv_meaning_typing.proofs.laws_of_meaning_world

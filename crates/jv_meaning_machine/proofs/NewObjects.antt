@@ -3,21 +3,21 @@ use Rattle.std.proofs.Common.{◌≡◌, ℕ, ◌≤◌, ◌<◌, nat_le, ℤ, p
 use Rattle.std.specs.List.{list_any}
 use Rattle.std.proofs.lemmas.Bool.{leb-true, leb-false}
 use Rattle.std.proofs.lemmas.List.{length-replicate}
-use Rattle.jv_text.specs.declared.descriptor.FieldTypeOf.{FieldTypeOf}
-use Rattle.jv_text.specs.Name.{is_array_name}
-use Rattle.jv_frames.specs.declared.verification.VerificationTypeOf.TheVariants as types
-use Rattle.jv_frames.specs.Types.{FrameType, component}
-use Rattle.jv_pool.specs.Constants.{at_index}
-use Rattle.jv_class.specs.Class.{InitialValue}
-use Rattle.jv_class.specs.Class.InitialValue.{IntValue, LongValue, StringValue}
-use Rattle.jv_meaning_world.specs.World.{Loaded, class_named}
-use Rattle.jv_meaning_linking.specs.Uses.{Use}
-use Rattle.jv_meaning_linking.specs.Uses.Use.{New}
-use Rattle.jv_meaning_linking.specs.LinkErrors.{OrError, error_class}
-use Rattle.jv_meaning_linking.specs.Operands.{class_operand}
-use Rattle.jv_meaning_linking.specs.ClassResolution.{ResolvedClass, resolve_class}
-use Rattle.jv_meaning_linking.specs.ClassResolution.ResolvedClass.{ClassOf, ArrayOf}
-use Rattle.jv_meaning_linking.specs.Layout.{object_cells}
+use Rattle.jv_meaning_typing.specs.of_text.declared.descriptor.FieldTypeOf.{FieldTypeOf}
+use Rattle.jv_meaning_typing.specs.of_text.Name.{is_array_name}
+use Rattle.jv_meaning_typing.specs.of_frames.declared.verification.VerificationTypeOf.TheVariants as types
+use Rattle.jv_meaning_typing.specs.of_frames.Types.{FrameType, component}
+use Rattle.jv_meaning_typing.specs.of_pool.Constants.{at_index}
+use Rattle.jv_meaning_typing.specs.of_class.Class.{InitialValue}
+use Rattle.jv_meaning_typing.specs.of_class.Class.InitialValue.{IntValue, LongValue, StringValue}
+use Rattle.jv_meaning_typing.specs.of_meaning_world.World.{Loaded, class_named}
+use Rattle.jv_meaning_typing.specs.of_meaning_linking.Uses.{Use}
+use Rattle.jv_meaning_typing.specs.of_meaning_linking.Uses.Use.{New}
+use Rattle.jv_meaning_typing.specs.of_meaning_linking.LinkErrors.{OrError, error_class}
+use Rattle.jv_meaning_typing.specs.of_meaning_linking.Operands.{class_operand}
+use Rattle.jv_meaning_typing.specs.of_meaning_linking.ClassResolution.{ResolvedClass, resolve_class}
+use Rattle.jv_meaning_typing.specs.of_meaning_linking.ClassResolution.ResolvedClass.{ClassOf, ArrayOf}
+use Rattle.jv_meaning_typing.specs.of_meaning_linking.Layout.{object_cells}
 use Rattle.jv_meaning_typing.specs.Environment.{current_class}
 use Rattle.jv_meaning_machine.specs.Faults.{found, tested, ◌>>=◌}
 use Rattle.jv_meaning_machine.specs.Faults.Fault.{OffsetFault, ReferenceFault}

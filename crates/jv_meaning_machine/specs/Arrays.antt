@@ -2,21 +2,21 @@
 -- anything is made.
 use Rattle.std.specs.Prelude.{ℕ, zero, ◌+◌, ◌*◌, ℤ, pos, negsuc, Bool, true, false, ◌&&◌, nat_le, List, [], ◌∷◌, length, map, replicate, Option, Some, None, Ok, Err, slice_get, slice_set}
 use Rattle.std.specs.List.{flat_map, list_any, range_with_len}
-use Rattle.jv_text.specs.declared.descriptor.Base.{Base}
-use Rattle.jv_text.specs.declared.descriptor.Base.TheVariants as bases
-use Rattle.jv_text.specs.declared.descriptor.Element.{Element}
-use Rattle.jv_text.specs.declared.descriptor.Element.TheVariants as elements
-use Rattle.jv_text.specs.declared.descriptor.FieldTypeOf.{FieldTypeOf}
-use Rattle.jv_text.specs.Name.{is_array_name}
-use Rattle.jv_text.specs.Types.{field_type_of}
-use Rattle.jv_frames.specs.declared.verification.VerificationTypeOf.TheVariants as types
-use Rattle.jv_frames.specs.Types.{component, value_type}
+use Rattle.jv_meaning_typing.specs.of_text.declared.descriptor.Base.{Base}
+use Rattle.jv_meaning_typing.specs.of_text.declared.descriptor.Base.TheVariants as bases
+use Rattle.jv_meaning_typing.specs.of_text.declared.descriptor.Element.{Element}
+use Rattle.jv_meaning_typing.specs.of_text.declared.descriptor.Element.TheVariants as elements
+use Rattle.jv_meaning_typing.specs.of_text.declared.descriptor.FieldTypeOf.{FieldTypeOf}
+use Rattle.jv_meaning_typing.specs.of_text.Name.{is_array_name}
+use Rattle.jv_meaning_typing.specs.of_text.Types.{field_type_of}
+use Rattle.jv_meaning_typing.specs.of_frames.declared.verification.VerificationTypeOf.TheVariants as types
+use Rattle.jv_meaning_typing.specs.of_frames.Types.{component, value_type}
 use Rattle.jv_code.specs.declared.kinds.ElementType.{ElementType}
 use Rattle.jv_code.specs.declared.kinds.ElementType.TheVariants as element_types
 use Rattle.jv_code.specs.declared.kinds.NumberElement.{NumberElement}
 use Rattle.jv_code.specs.declared.kinds.NumberElement.TheVariants as numbers
-use Rattle.jv_meaning_linking.specs.ClassResolution.{ResolvedClass, resolve_class}
-use Rattle.jv_meaning_linking.specs.ClassResolution.ResolvedClass.{ClassOf, ArrayOf}
+use Rattle.jv_meaning_typing.specs.of_meaning_linking.ClassResolution.{ResolvedClass, resolve_class}
+use Rattle.jv_meaning_typing.specs.of_meaning_linking.ClassResolution.ResolvedClass.{ClassOf, ArrayOf}
 use Rattle.jv_meaning_typing.specs.FrameChanges.{is_reference}
 use Rattle.jv_meaning_typing.specs.NumberRules.{element_number}
 use Rattle.jv_meaning_machine.specs.Faults.{OrFault, tested, ◌>>=◌}

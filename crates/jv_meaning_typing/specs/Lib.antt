@@ -10,3 +10,10 @@ pub mod Rule
 pub mod StackForms
 pub mod Typing
 pub mod ValueRules
+pub use Rattle.jv_meaning_linking.specs.of_class
+pub use Rattle.jv_meaning_linking.specs.of_class_structure
+pub use Rattle.jv_meaning_linking.specs.of_frames
+pub use Rattle.jv_meaning_linking.specs as of_meaning_linking
+pub use Rattle.jv_meaning_linking.specs.of_meaning_world
+pub use Rattle.jv_meaning_linking.specs.of_pool
+pub use Rattle.jv_meaning_linking.specs.of_text

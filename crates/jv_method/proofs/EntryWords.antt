@@ -15,8 +15,8 @@ use Rattle.jv_frames.specs.Types.{width, words, value_type, value_type_by}
 use Rattle.jv_frames.specs.Initial.{receiver_entries}
 use Rattle.jv_meaning_typing.specs.Environment.{Environment, current_class}
 use Rattle.jv_meaning_typing.specs.Typing.{argument_words, entries_before, is_static}
-use Rattle.jv_types.specs.Typed.{typed, typed_all}
-use Rattle.jv_types.specs.Numbered.{Item}
+use Rattle.jv_method_pass.specs.of_types.Typed.{typed, typed_all}
+use Rattle.jv_method_pass.specs.of_types.Numbered.{Item}
 
 -- ---- entries, one by one
 

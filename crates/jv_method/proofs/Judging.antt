@@ -10,7 +10,7 @@ use Rattle.jv_meaning_typing.specs.declared.verdict.VerifyRule.TheVariants as ru
 use Rattle.jv_meaning_typing.specs.Environment.{Environment}
 use Rattle.jv_meaning_typing.specs.Typing.{AreFrames, HandlersKeepRules}
 use Rattle.jv_meaning_typing.specs.Judgement.{BreaksRule, IsCodeOf, WithFrames}
-use Rattle.jv_constants.specs.Current.{CurrentClass}
+use Rattle.jv_method_pass.specs.of_constants.Current.{CurrentClass}
 use Rattle.jv_method_pass.specs.declared.fault.CodeFault.{CodeFault}
 use Rattle.jv_method_pass.specs.Found.{IsBroken, IsFound}
 use Rattle.jv_method.specs.Judged.{IsVerdictOnMethod, IsMethodOf}

@@ -6,7 +6,7 @@ use Rattle.jv_meaning_world.specs.World.{World}
 use Rattle.jv_meaning_linking.specs.Uses.{Site}
 use Rattle.jv_meaning_typing.specs.Typing.{HasTyping}
 use Rattle.jv_meaning_typing.specs.Judgement.{BreaksRule}
-use Rattle.jv_constants.specs.Current.{CurrentClass}
+use Rattle.jv_method_pass.specs.of_constants.Current.{CurrentClass}
 use Rattle.jv_method_pass.specs.declared.fault.CodeFault.{CodeFault}
 
 -- The method of the class that was shown so, with this body: its name and its descriptor are the texts at its indices.

@@ -12,9 +12,9 @@ use crate::read::ReadMethod;
 use crate::tables::{broken, check_tables};
 use jv_class_structure::{Method, MethodCode};
 use jv_code::Code;
-use jv_constants::{CurrentClass, MethodTypes};
 use jv_meaning_typing::VerifyRule;
 use jv_method_pass::CodeFault;
+use jv_method_pass::of_constants::{CurrentClass, MethodTypes};
 use std::alloc::{AllocError, Global};
 
 /// Checks a method whose body has this code, and whose descriptor says these types.

@@ -1,15 +1,15 @@
 //! The verdict on one class.
 
 ghost use Rattle.std.specs.Prelude.{◌≡◌, ◌<◌, ◌==◌, ◌&&◌, ℕ, List, IfOk, length};
-ghost use Rattle.jv_loader.specs.Loading.{AreLoaded};
+ghost use Rattle.jv_method_pass.specs.of_loader.Loading.{AreLoaded};
 ghost use Rattle.jv_meaning_world.specs.Numbers.{HoldsAtNumber};
 ghost use Rattle.jv_meaning_world.specs.Verdicts.{verdict_of_class};
 ghost use Rattle.jv_meaning_typing.specs.Judgement.{IsVerdictOfClass};
 ghost use Rattle.jv_method.specs.Inside.Numbered.{joins};
 
 use crate::files::{SYSTEM_COUNT, joins, next_number, verdict_of};
-use jv_loader::{Classes, LoadVerdict};
 use jv_meaning_typing::Verdict;
+use jv_method_pass::of_loader::{Classes, LoadVerdict};
 use std::alloc::{AllocError, Global};
 use std::hash::RandomState;
 

@@ -3,12 +3,12 @@
 ghost use Rattle.std.specs.Prelude.{◌≡◌, ◌≤◌, ◌<◌, ℕ, List, codes, IfOk, IfSome, IfNone};
 ghost use Rattle.std.specs.Str.{bytes_eq};
 ghost use Rattle.jv_frames.specs.Types.{width, words};
-ghost use Rattle.jv_types.specs.Typed.{typed, typed_all};
+ghost use Rattle.jv_method_pass.specs.of_types.Typed.{typed, typed_all};
 ghost use Rattle.jv_method.specs.Inside.Known.{IsReceiver, AreReceivers, AreFirstEntries};
 
-use jv_constants::CurrentClass;
 use jv_frames::VerificationTypeOf;
-use jv_types::Item;
+use jv_method_pass::of_constants::CurrentClass;
+use jv_method_pass::of_types::Item;
 use std::alloc::{AllocError, Global};
 
 /// Whether the class is java/lang/Object.

@@ -1,15 +1,15 @@
 //! The verdicts on a guest's files.
 
 ghost use Rattle.std.specs.Prelude.{◌≡◌, ◌<◌, ℕ, List, IfOk, IfNone, IsTrue, length};
-ghost use Rattle.jv_loader.specs.Loading.{AreLoaded};
+ghost use Rattle.jv_method_pass.specs.of_loader.Loading.{AreLoaded};
 ghost use Rattle.jv_meaning_world.specs.World.{Loaded, World};
 ghost use Rattle.jv_meaning_typing.specs.Judgement.{IsVerdictOfMethods};
 ghost use Rattle.jv_method.specs.Methods.{AreJudged};
 ghost use Rattle.jv_method.specs.Inside.Numbered.{joins, next_number, IsVerdictAt, AreVerdictsOn};
 
 use crate::methods::check_methods;
-use jv_loader::{Classes, LoadVerdict};
 use jv_meaning_typing::{Verdict, VerifyFault};
+use jv_method_pass::of_loader::{Classes, LoadVerdict};
 use std::alloc::{AllocError, Global};
 use std::hash::RandomState;
 

@@ -10,11 +10,11 @@ ghost use Rattle.jv_method.specs.Inside.Shown.{method_in, AreMethodsOf, IsJudged
 
 use crate::check::check_method;
 use jv_class::{ClassFile, Method};
-use jv_constants::{ConstantTypes, CurrentClass};
-use jv_link::class_at;
-use jv_loader::Classes;
 use jv_meaning_typing::VerifyFault;
 use jv_method_pass::CodeFault;
+use jv_method_pass::of_constants::{ConstantTypes, CurrentClass};
+use jv_method_pass::of_link::class_at;
+use jv_method_pass::of_loader::Classes;
 use std::alloc::{AllocError, Global};
 use std::hash::RandomState;
 

@@ -5,18 +5,18 @@ ghost use Rattle.jv_class_structure.specs.Seen.{seen_code};
 ghost use Rattle.jv_frames.specs.Types.{words};
 ghost use Rattle.jv_meaning_typing.specs.Environment.{Environment};
 ghost use Rattle.jv_meaning_typing.specs.Typing.{HandlersKeepRules};
-ghost use Rattle.jv_types.specs.Typed.{typed_all};
-ghost use Rattle.jv_rules.specs.Method.{IsOfMethod};
+ghost use Rattle.jv_method_pass.specs.of_types.Typed.{typed_all};
+ghost use Rattle.jv_method_pass.specs.of_rules.Method.{IsOfMethod};
 ghost use Rattle.jv_method.specs.Inside.Read.{IsOfRead, HasReadFrames, HaveRoom, types_of, IsMapRead, IsVerdictBehindFrames};
 
 use jv_class_structure::MethodCode;
 use jv_code::{Code, Starts};
-use jv_constants::CurrentClass;
 use jv_frames::{Limits, MapFrames};
+use jv_method_pass::of_constants::CurrentClass;
+use jv_method_pass::of_rules::MethodContext;
+use jv_method_pass::of_types::Item;
 use jv_method_pass::{CodeFault, EntryTypes, Pass, check_code, handlers_hold, read_map};
-use jv_rules::MethodContext;
 use jv_text::FieldTypeOf;
-use jv_types::Item;
 use std::alloc::{AllocError, Global};
 use std::marker::Model;
 

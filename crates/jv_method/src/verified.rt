@@ -1,13 +1,13 @@
 //! A guest's classes, with the verdict on each of its files.
 
 ghost use Rattle.std.specs.Prelude.{◌≡◌, ◌<◌, ℕ, List, Some, IfOk, length, slice_get, true};
-ghost use Rattle.jv_loader.specs.Loading.{AreLoaded};
+ghost use Rattle.jv_method_pass.specs.of_loader.Loading.{AreLoaded};
 ghost use Rattle.jv_meaning_world.specs.FileContent.{FileContent};
 ghost use Rattle.jv_method.specs.Files.{AreVerified, AcceptedAreTyped, IsOfFiles, IsSystemAccepted, IsSystemTyped};
 
 use crate::files::verdicts_of;
-use jv_loader::Classes;
 use jv_meaning_typing::Verdict;
+use jv_method_pass::of_loader::Classes;
 use jv_sound_system::{system_is_accepted, system_is_typed};
 use std::alloc::{AllocError, Global};
 use std::hash::RandomState;

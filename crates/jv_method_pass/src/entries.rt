@@ -5,8 +5,8 @@ ghost use Rattle.jv_frames.specs.declared.verification.VerificationTypeOf.TheVar
 ghost use Rattle.jv_types.specs.Typed.{typed};
 ghost use Rattle.jv_method_pass.specs.Mapped.{names_of_types, type_of_entry};
 
-use jv_constants::ConstantTypes;
 use jv_frames::{FrameEntry, VerificationTypeOf};
+use jv_rules::of_constants::ConstantTypes;
 use jv_types::{Item, TypeNames};
 use std::marker::Model;
 

@@ -13,10 +13,10 @@ ghost use Rattle.jv_method_pass.specs.Mapped.{HaveWords};
 
 use crate::standing::frames_stand;
 use jv_code::{Code, Starts};
-use jv_constants::ConstantTypes;
 use jv_frames::{
     FrameFault, Limits, MapFrames, VerificationTypeOf, Width, no_frames, one_maps, read_frames,
 };
+use jv_rules::of_constants::ConstantTypes;
 use jv_types::Item;
 use std::alloc::{AllocError, Global};
 

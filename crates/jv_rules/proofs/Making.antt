@@ -16,7 +16,7 @@ use Rattle.jv_frames.specs.Frames.{Frame}
 use Rattle.jv_meaning_world.specs.World.{Loaded, World}
 use Rattle.jv_meaning_world.specs.Flow.{flows}
 use Rattle.jv_meaning_linking.specs.Operands.{class_operand, MethodReference}
-use Rattle.jv_link.specs.Inside.References.{method_operand_in}
+use Rattle.jv_constants.specs.of_link.Inside.References.{method_operand_in}
 use Rattle.jv_meaning_typing.specs.Environment.{Environment, current_class, instruction_at}
 use Rattle.jv_meaning_typing.specs.FrameChanges.{taken}
 use Rattle.jv_meaning_typing.specs.Named.{when, MethodUse, method_named_by, current_type}

@@ -8,7 +8,7 @@ use Rattle.jv_meaning_machine.specs.Start.{Budget}
 use Rattle.jv_meaning_machine.specs.Alone.{GuestFiles}
 use Rattle.jv_meaning_machine.specs.Observation.{Observed, Shows}
 use Rattle.jv_meaning_machine.specs.Laws.Shown.{ShowsOneThing}
-use Rattle.jv_interp_start.specs.Started.{budget_of}
+use Rattle.jv_host.specs.of_interp_start.Started.{budget_of}
 use Rattle.jv_host.specs.Host.{Admission, stepped}
 use Rattle.jv_host.specs.Calls.{HadTurn, admission}
 use Rattle.jv_run.specs.declared.settings.Settings.{Settings}

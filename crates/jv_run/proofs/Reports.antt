@@ -2,7 +2,7 @@
 use Rattle.std.proofs.Common.{◌≡◌, ℕ, ◌+◌, Bool, List, [], ◌∷◌, ◌++◌, refl, sym, ap, subst, ◌∙◌, inl, inr}
 use Rattle.std.specs.Prelude.{map, ◌||◌}
 use Rattle.std.specs.List.{list_any}
-use Rattle.jv_interp.specs.Showing.{seen_end}
+use Rattle.jv_host.specs.of_interp.Showing.{seen_end}
 use Rattle.jv_run.specs.declared.report.Report.{Report}
 use Rattle.jv_host.specs.Host.{Admission}
 use Rattle.jv_run.specs.Folder.{NamedGuest}

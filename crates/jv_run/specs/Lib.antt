@@ -10,3 +10,6 @@ pub mod Outcome
 pub mod Report
 pub mod Settings
 pub mod Verdict
+pub use Rattle.jv_host.specs as of_host
+pub use Rattle.jv_host.specs.of_loader
+pub use Rattle.jv_host.specs.of_method

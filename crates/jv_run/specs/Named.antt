@@ -1,6 +1,6 @@
 -- What is said of folders that are read by their words.
 use Rattle.std.specs.Prelude.{◌≡◌, ℕ, ◌<◌, ◌≤◌, ⊤, List, Some, length, map, slice_get}
-use Rattle.jv_interp_start.specs.Started.{budget_of}
+use Rattle.jv_host.specs.of_interp_start.Started.{budget_of}
 use Rattle.jv_host.specs.declared.fault.AdmitFault.{AdmitFault}
 use Rattle.jv_run.specs.declared.failure.Failure.{Failure}
 use Rattle.jv_run.specs.declared.failure.Failure.TheVariants.{Unreadable, Refused, TooManyFolders, HostMemory, Memory}

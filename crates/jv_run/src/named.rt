@@ -10,7 +10,7 @@ use crate::failure::Failure;
 use crate::folder::{Folder, read_folder};
 use crate::outcome::{Outcome, run_folders};
 use crate::settings::Settings;
-use jv_loader::system_files;
+use jv_host::of_loader::system_files;
 use std::alloc::AllocError;
 use std::hash::RandomState;
 use std::random::RandomSource;

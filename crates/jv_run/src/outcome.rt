@@ -1,6 +1,6 @@
 //! The report on the guests of folders, or why there is none.
 ghost use Rattle.std.specs.Prelude.{◌≡◌, ◌≤◌, IfErr, IfOk, length, map, string_bytes};
-ghost use Rattle.jv_interp_start.specs.Started.{budget_of};
+ghost use Rattle.jv_host.specs.of_interp_start.Started.{budget_of};
 ghost use Rattle.jv_run.specs.Folder.{named_guest};
 ghost use Rattle.jv_run.specs.Outcome.{IsGuestsFailure, IsRunOutcome};
 ghost use Rattle.jv_run.specs.Report.{report_text, run_status};
@@ -15,7 +15,7 @@ use crate::report::{Report, Reports, status_after};
 use crate::settings::Settings;
 use jv_heap::Cells;
 use jv_host::Host;
-use jv_loader::SystemFiles;
+use jv_host::of_loader::SystemFiles;
 use jv_meaning_machine::shows_one_thing;
 use std::alloc::{AllocError, Global};
 use std::hash::RandomState;

@@ -1,7 +1,7 @@
 //! Guests in a host, and their turns.
 ghost use Rattle.std.specs.Prelude.{◌≡◌, ◌≤◌, ◌<◌, ◌+◌, [], ℕ, IfErr, IfOk, IsSome, IsTrue, OnOk, Some, length, map, slice_get};
-ghost use Rattle.jv_interp.specs.Showing.{observed_of};
-ghost use Rattle.jv_interp_start.specs.Started.{budget_of};
+ghost use Rattle.jv_host.specs.of_interp.Showing.{observed_of};
+ghost use Rattle.jv_host.specs.of_interp_start.Started.{budget_of};
 ghost use Rattle.jv_host.specs.Calls.{IsRun, IsShown};
 ghost use Rattle.jv_run.specs.Inside.Brought.{named_guest_of};
 ghost use Rattle.jv_run.specs.Inside.Play.{AreReportsOn, HasRun, IsReportOn, at_start, told_of};
@@ -12,9 +12,9 @@ use crate::failure::Failure;
 use crate::report::Report;
 use crate::settings::Settings;
 use jv_heap::Cells;
+use jv_host::of_interp::Observation;
+use jv_host::of_interp_start::Budget;
 use jv_host::{GuestId, Host};
-use jv_interp::Observation;
-use jv_interp_start::Budget;
 use std::alloc::{AllocError, Global};
 
 /// Admits guests to a host without guests, in their order.

@@ -2,7 +2,7 @@
 ghost use Rattle.std.specs.Prelude.{◌≡◌};
 ghost use Rattle.jv_run.specs.Settings.{default_settings};
 
-use jv_interp_start::Budget;
+use jv_host::of_interp_start::Budget;
 
 /// What each guest may use, and how many steps it gets.
 #[derive(Clone, Copy)]

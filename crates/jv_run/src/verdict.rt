@@ -2,7 +2,7 @@
 ghost use Rattle.std.specs.Prelude.{◌≡◌, Some};
 ghost use Rattle.jv_run.specs.Verdict.{fault_text, reason_name, rule_number, verdict_text};
 
-use jv_loader::LoadVerdict;
+use jv_host::of_loader::LoadVerdict;
 use jv_meaning_typing::{Verdict, VerifyFault, VerifyRule};
 use std::fmt;
 

@@ -29,10 +29,10 @@ use Rattle.jv_sound_values.specs.Frames.{Holds}
 use Rattle.jv_sound_values.proofs.Logic.{then2, then1, holds, then_holds, found_holds, tested_holds, handed_on, handed_over}
 use Rattle.jv_sound_values.proofs.Types.{sort_item}
 use Rattle.jv_sound_values.proofs.Taking.{taken_one}
-use Rattle.jv_sound_numbers.proofs.Pure.{agrees_from, int_ok}
+use Rattle.jv_sound_members.proofs.laws_of_sound_numbers.Pure.{agrees_from, int_ok}
 use Rattle.jv_sound_arrays.proofs.ArrayTypes.{got, IsArray, IsNumbers, IsReferences, array_value, array_weaker, array_taken, numbers_taken, reference_components, fits_below, value_usable}
 use Rattle.jv_sound_values.proofs.Types.{usable_sort}
-use Rattle.jv_sound_numbers.proofs.Ways.{Setting, IsSet, world_of, context_of, here, Does, By, Sound, KeepsLocals, goes_ok, raises_ok}
+use Rattle.jv_sound_members.proofs.laws_of_sound_numbers.Ways.{Setting, IsSet, world_of, context_of, here, Does, By, Sound, KeepsLocals, goes_ok, raises_ok}
 
 pub number_sort : (kind : NumberElement) → IsSort (element_number kind)
 number_sort numbers.Long = tt

@@ -28,12 +28,12 @@ use Rattle.jv_sound_values.proofs.Logic.{then2, then1, holds, then_holds, found_
 use Rattle.jv_sound_values.proofs.Heaps.{with_set, set_later, weaker, stack_later, fits_later, values_later}
 use Rattle.jv_sound_values.proofs.Subtypes.{instance_below, element_loadable}
 use Rattle.jv_sound_values.proofs.Taking.{taken_one}
-use Rattle.jv_sound_numbers.proofs.Pure.{agrees_from, int_ok}
-use Rattle.jv_sound_memory.proofs.Storing.{set_typed}
-use Rattle.jv_sound_memory.proofs.Storing.{narrowed_fits}
+use Rattle.jv_sound_members.proofs.laws_of_sound_numbers.Pure.{agrees_from, int_ok}
+use Rattle.jv_sound_members.proofs.laws_of_sound_memory.Storing.{set_typed}
+use Rattle.jv_sound_members.proofs.laws_of_sound_memory.Storing.{narrowed_fits}
 use Rattle.jv_sound_arrays.proofs.ArrayTypes.{all_set, IsArray, IsNumbers, IsReferences, array_value, array_weaker, numbers_taken, reference_components, value_usable, null_of_usable, object_of_usable}
 use Rattle.jv_sound_arrays.proofs.ArrayLoads.{array_at, number_sort}
-use Rattle.jv_sound_numbers.proofs.Ways.{Setting, IsSet, world_of, program_of, memory_of, context_of, here, Does, Sound, goes_with_ok, raises_ok, by_table}
+use Rattle.jv_sound_members.proofs.laws_of_sound_numbers.Ways.{Setting, IsSet, world_of, program_of, memory_of, context_of, here, Does, Sound, goes_with_ok, raises_ok, by_table}
 
 module _ (x : Setting) (h : IsSet x) where
   abbrev stored_array : FieldTypeOf (List ℕ) → List Value → ℕ → Value → Object

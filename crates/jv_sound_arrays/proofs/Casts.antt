@@ -27,11 +27,11 @@ use Rattle.jv_sound_values.proofs.Logic.{then2, then2_known, then_holds, found_h
 use Rattle.jv_sound_values.proofs.Types.{sort_item}
 use Rattle.jv_sound_values.proofs.Subtypes.{instance_below, element_loadable}
 use Rattle.jv_sound_values.proofs.Taking.{taken_one}
-use Rattle.jv_sound_numbers.proofs.Pure.{agrees_from}
+use Rattle.jv_sound_members.proofs.laws_of_sound_numbers.Pure.{agrees_from}
 use Rattle.jv_sound_arrays.proofs.ArrayTypes.{null_of_usable, object_of_usable}
 use Rattle.jv_sound_values.proofs.Types.{usable_sort}
 use Rattle.jv_sound_members.proofs.ResolvedTypes.{resolved_text, resolved_reference, reference_is_usable}
-use Rattle.jv_sound_numbers.proofs.Ways.{Setting, IsSet, world_of, context_of, here, Does, By, Sound, KeepsLocals, goes_ok, raises_ok, raised_ok}
+use Rattle.jv_sound_members.proofs.laws_of_sound_numbers.Ways.{Setting, IsSet, world_of, context_of, here, Does, By, Sound, KeepsLocals, goes_ok, raises_ok, raised_ok}
 
 module _ (x : Setting) (h : IsSet x) where
   -- an object is tested against the class that a text names, once that is resolved

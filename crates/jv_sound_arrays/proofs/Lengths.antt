@@ -18,8 +18,8 @@ use Rattle.jv_meaning_machine.specs.Arrays.{length_of}
 use Rattle.jv_meaning_machine.specs.Effects.{null_pointer}
 use Rattle.jv_sound_values.specs.Values.{object_type, HasStack}
 use Rattle.jv_sound_values.proofs.Logic.{clash}
-use Rattle.jv_sound_numbers.proofs.Pure.{agrees_from}
-use Rattle.jv_sound_numbers.proofs.Ways.{Setting, IsSet, world_of, here, context_of, Does, By, Sound, goes_ok, raises_ok}
+use Rattle.jv_sound_members.proofs.laws_of_sound_numbers.Pure.{agrees_from}
+use Rattle.jv_sound_members.proofs.laws_of_sound_numbers.Ways.{Setting, IsSet, world_of, here, context_of, Does, By, Sound, goes_ok, raises_ok}
 
 module _ (x : Setting) (h : IsSet x) where
   null_counted : (S : List FrameType) (s : List Value) → Does x insns.ArrayLength (with_stack x.given (types.Int ∷ S))

@@ -17,7 +17,7 @@ use Rattle.jv_meaning_machine.specs.Arrays.{arrays_in, inner_numbers, reference_
 use Rattle.jv_sound_values.specs.Values.{Fits}
 use Rattle.jv_sound_values.specs.Memory.{IsTypedObject}
 use Rattle.jv_sound_values.proofs.Heaps.{get_append}
-use Rattle.jv_sound_memory.proofs.Memories.{first_fits, append_cases}
+use Rattle.jv_sound_members.proofs.laws_of_sound_memory.Memories.{first_fits, append_cases}
 use Rattle.jv_sound_members.proofs.ResolvedTypes.{value_of_array}
 
 -- ---- lists of objects in a longer one

@@ -42,12 +42,12 @@ use Rattle.jv_sound_values.specs.Sound.{IsSort}
 use Rattle.jv_sound_values.proofs.Logic.{clash, then2, then1, then_holds, handed_on}
 use Rattle.jv_sound_values.proofs.Types.{sort_item}
 use Rattle.jv_sound_values.proofs.Heaps.{with_more, more_later, moved, stack_later}
-use Rattle.jv_sound_memory.proofs.Memories.{more_typed, paid_is}
+use Rattle.jv_sound_members.proofs.laws_of_sound_memory.Memories.{more_typed, paid_is}
 use Rattle.jv_sound_values.proofs.Taking.{taken_one, taken_all}
-use Rattle.jv_sound_numbers.proofs.Pure.{agrees_from, one_ok, int_ok}
+use Rattle.jv_sound_members.proofs.laws_of_sound_numbers.Pure.{agrees_from, one_ok, int_ok}
 use Rattle.jv_sound_members.proofs.ResolvedTypes.{IsResolvedArray, IsResolvedClass, resolved_text, resolved_components}
 use Rattle.jv_sound_arrays.proofs.MadeArrays.{Stands, made_first, made_typed, get_after}
-use Rattle.jv_sound_numbers.proofs.Ways.{Setting, IsSet, world_of, program_of, memory_of, context_of, here, Does, By, Sound, KeepsLocals, goes_with_ok, raises_ok, raised_ok, lacks_ok, anyway, by_table}
+use Rattle.jv_sound_members.proofs.laws_of_sound_numbers.Ways.{Setting, IsSet, world_of, program_of, memory_of, context_of, here, Does, By, Sound, KeepsLocals, goes_with_ok, raises_ok, raised_ok, lacks_ok, anyway, by_table}
 
 module _ (x : Setting) (h : IsSet x) where
   -- ---- arrays join, and the first of them is pushed

@@ -17,9 +17,9 @@ use Rattle.jv_meaning_machine.specs.Effects.{null_pointer}
 use Rattle.jv_meaning_machine.specs.Instructions.{throw_value}
 use Rattle.jv_sound_values.specs.Values.{Fits, IsReferenceTo, object_type}
 use Rattle.jv_sound_values.proofs.Logic.{then_holds, found_holds, tested_holds}
-use Rattle.jv_sound_numbers.proofs.Pure.{one_ok}
-use Rattle.jv_sound_memory.proofs.Members.{below_is_one}
-use Rattle.jv_sound_numbers.proofs.Ways.{Setting, IsSet, world_of, program_of, context_of, Does, Sound, raises_ok, throws_ok, by_table}
+use Rattle.jv_sound_members.proofs.laws_of_sound_numbers.Pure.{one_ok}
+use Rattle.jv_sound_members.proofs.laws_of_sound_memory.Members.{below_is_one}
+use Rattle.jv_sound_members.proofs.laws_of_sound_numbers.Ways.{Setting, IsSet, world_of, program_of, context_of, Does, Sound, raises_ok, throws_ok, by_table}
 
 abbrev pub throwable_name : List ℕ
 throwable_name = codes "java/lang/Throwable"

@@ -32,7 +32,7 @@ use Rattle.jv_sound_values.proofs.Logic.{then1, found_holds, tested_holds}
 use Rattle.jv_sound_values.proofs.Subtypes.{above_is_named}
 use Rattle.jv_sound_members.proofs.ResolvedTypes.{IsResolvedArray, IsResolvedClass, resolved_text}
 use Rattle.jv_sound_calls.proofs.Handlers.{errs_any}
-use Rattle.jv_sound_numbers.proofs.Ways.{Setting, IsSet, world_of, context_of, By}
+use Rattle.jv_sound_members.proofs.laws_of_sound_numbers.Ways.{Setting, IsSet, world_of, context_of, By}
 
 -- ---- where a called method is declared
 

@@ -51,18 +51,18 @@ use Rattle.jv_sound_values.specs.Sound.{AreSorts, IsResultSort, IsEnterable}
 use Rattle.jv_sound_values.proofs.Logic.{clash, then2_from}
 use Rattle.jv_sound_values.proofs.Heaps.{later, weaker, ready_any}
 use Rattle.jv_sound_values.proofs.Taking.{and_parts, taken_all}
-use Rattle.jv_sound_numbers.proofs.Pure.{agrees_from}
+use Rattle.jv_sound_calls.proofs.laws_of_sound_numbers.Pure.{agrees_from}
 use Rattle.jv_sound_files.proofs.Formed.{super_name_test}
 use Rattle.jv_sound_calls.proofs.Receiving.{above_verified}
-use Rattle.jv_sound_members.proofs.Resolving.{named_class, resolved_class}
-use Rattle.jv_sound_members.proofs.ResolvedTypes.{same_option, reference_of_class}
+use Rattle.jv_sound_calls.proofs.laws_of_sound_members.Resolving.{named_class, resolved_class}
+use Rattle.jv_sound_calls.proofs.laws_of_sound_members.ResolvedTypes.{same_option, reference_of_class}
 use Rattle.jv_sound_construction.proofs.Constructing.{fresh_subject, this_subject, begun_later, order_fresh, order_this}
 use Rattle.jv_sound_calls.proofs.Handlers.{sorts_mapped}
 use Rattle.jv_sound_construction.proofs.InitCalls.{receiver_below, constructs}
 use Rattle.jv_sound_calls.proofs.InstanceCalls.{HasCode, IsRoot}
 use Rattle.jv_sound_calls.proofs.SuperCalls.{super_ok}
 use Rattle.jv_sound_calls.proofs.MethodUses.{called_there, called_declared, calling, target_ok, method_ok, asked}
-use Rattle.jv_sound_numbers.proofs.Ways.{Setting, IsSet, world_of, program_of, context_of, here, Does, By, Sound}
+use Rattle.jv_sound_calls.proofs.laws_of_sound_numbers.Ways.{Setting, IsSet, world_of, program_of, context_of, here, Does, By, Sound}
 
 -- a name that may be missing
 that_name : (name : List ℕ) (o : Option (List ℕ)) → is_that_name name o ≡ true → o ≡ Some name

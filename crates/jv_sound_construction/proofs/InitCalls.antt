@@ -45,9 +45,9 @@ use Rattle.jv_sound_values.proofs.Logic.{clash, holds, then_holds, found_holds, 
 use Rattle.jv_sound_values.proofs.Heaps.{get_set_same}
 use Rattle.jv_sound_calls.proofs.Copies.{replaced_locals, replaced_stack}
 use Rattle.jv_sound_construction.proofs.Constructing.{IsSubject, begun_heap, dropped_one, done_one}
-use Rattle.jv_sound_members.proofs.ResolvedTypes.{same_option}
+use Rattle.jv_sound_calls.proofs.laws_of_sound_members.ResolvedTypes.{same_option}
 use Rattle.jv_sound_calls.proofs.Handlers.{handler_locals, raised_any}
-use Rattle.jv_sound_numbers.proofs.Ways.{Setting, IsSet, world_of, program_of, memory_of, context_of, here, Does, stays}
+use Rattle.jv_sound_calls.proofs.laws_of_sound_numbers.Ways.{Setting, IsSet, world_of, program_of, memory_of, context_of, here, Does, stays}
 
 -- ---- what is below the arguments
 

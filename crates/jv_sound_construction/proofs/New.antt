@@ -33,8 +33,8 @@ use Rattle.jv_sound_values.specs.Effects.{AreEffects, after}
 use Rattle.jv_sound_calls.proofs.Copies.{replaced_locals, lacking_stack}
 use Rattle.jv_sound_values.proofs.Logic.{holds}
 use Rattle.jv_sound_values.proofs.Heaps.{same, upd, upd_same, upd_other, get_append, get_behind, in_later}
-use Rattle.jv_sound_memory.proofs.Memories.{IsMakeable, new_typed, more_typed, paid_is}
-use Rattle.jv_sound_numbers.proofs.Pure.{program_in, memory_in, context_in}
+use Rattle.jv_sound_calls.proofs.laws_of_sound_memory.Memories.{IsMakeable, new_typed, more_typed, paid_is}
+use Rattle.jv_sound_calls.proofs.laws_of_sound_numbers.Pure.{program_in, memory_in, context_in}
 use Rattle.jv_sound_values.proofs.Heaps.{ready_any}
 
 -- ---- a new object in a frame

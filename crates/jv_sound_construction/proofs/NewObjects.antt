@@ -26,10 +26,10 @@ use Rattle.jv_meaning_machine.specs.Effects.{unless_error}
 use Rattle.jv_sound_values.proofs.Logic.{clash}
 use Rattle.jv_sound_files.proofs.Formed.{has_none, not_true}
 use Rattle.jv_sound_construction.proofs.New.{created_ok}
-use Rattle.jv_sound_numbers.proofs.Pure.{agrees_from}
-use Rattle.jv_sound_members.proofs.ResolvedTypes.{IsResolvedArray, IsResolvedClass, resolved_text}
+use Rattle.jv_sound_calls.proofs.laws_of_sound_numbers.Pure.{agrees_from}
+use Rattle.jv_sound_calls.proofs.laws_of_sound_members.ResolvedTypes.{IsResolvedArray, IsResolvedClass, resolved_text}
 use Rattle.jv_sound_calls.proofs.Handlers.{errs_any}
-use Rattle.jv_sound_numbers.proofs.Ways.{Setting, IsSet, world_of, context_of, By, Sound}
+use Rattle.jv_sound_calls.proofs.laws_of_sound_numbers.Ways.{Setting, IsSet, world_of, context_of, By, Sound}
 
 module _ (x : Setting) (h : IsSet x) (index : ℕ) (stands : instruction_at x.frame.method x.frame.offset ≡ Some (insns.New index)) where
   abbrev given_new : TypesOf

@@ -12,7 +12,7 @@ use Rattle.jv_pool.specs.Constants.{Entry, NameAndDescriptor, named_at}
 use Rattle.jv_class.specs.Class.{Class, Field, field_of, initial_value, all_found, class_of}
 use Rattle.jv_class.specs.ClassFile.{IsWellFormed}
 use Rattle.jv_class.specs.Rules.{KeepsRulesAsField, KeepsFieldRules, field_flags_keep_rules}
-use Rattle.jv_meaning_world.proofs.Up.{none, single}
+use Rattle.jv_sound_values.proofs.laws_of_meaning_world.Up.{none, single}
 use Rattle.jv_format.specs.Format.{◌>>=◌}
 use Rattle.jv_sound_values.proofs.Logic.{clash}
 

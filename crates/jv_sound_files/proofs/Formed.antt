@@ -34,7 +34,7 @@ use Rattle.jv_class.specs.ClassFile.{IsWellFormed, class_name}
 use Rattle.jv_class.specs.Rules.{KeepsRulesAsName, is_no_array_name, is_object, is_clinit, is_no_arguments_void, is_integer, is_long, is_string, takes, value_keeps_rules, field_flags_keep_rules, method_flags_keep_rules, interface_flags_keep_rules, named_flags_keep_rules, init_keeps_rules, clinit_keeps_rules, code_presence_keeps_rules, KeepsRulesAsField, KeepsRulesAsMethod, KeepsFieldRules, KeepsMethodRules, has_code}
 use Rattle.jv_class.specs.Supported.{IsSupported, IsSupportedConstant, IsSupportedType, AreSupportedFlags, is_supported_method, HasNoFloating, IsNoFloatingArray}
 use Rattle.jv_format.specs.Format.{◌>>=◌}
-use Rattle.jv_meaning_machine.specs.Literals.{string_name}
+use Rattle.jv_sound_values.specs.of_meaning_machine.Literals.{string_name}
 use Rattle.jv_sound_values.proofs.Logic.{clash}
 use Rattle.jv_sound_values.proofs.Taking.{and_parts}
 use Rattle.jv_sound_files.proofs.Formats.{chained, of_each}
@@ -520,7 +520,7 @@ same_some_ness f (Some a) = refl
 -- `<init>` is not static nor abstract, and it is no `<clinit>`
 init_not_clinit : (name : List ℕ) → is_init name ≡ true → is_clinit name ≡ false
 init_not_clinit name e =
-    let same : name ≡ codes "<init>" = Rattle.jv_meaning_world.proofs.Up.same_name name (codes "<init>") e in
+    let same : name ≡ codes "<init>" = Rattle.jv_sound_values.proofs.laws_of_meaning_world.Up.same_name name (codes "<init>") e in
     ap is_clinit same
 
 init_flags : (major : ℕ) (interface : Bool) (name : List ℕ) (flags : ℕ)

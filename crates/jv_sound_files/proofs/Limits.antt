@@ -11,10 +11,10 @@ use Rattle.jv_frames.specs.Bytes.{MapForm}
 use Rattle.jv_frames.specs.Types.{FrameType, words}
 use Rattle.jv_frames.specs.Frames.{MapFrame, PlacedFrame, Maps, frame_behind, frame_if, frames_behind, is_within, placed_frame, type_of}
 use Rattle.jv_pool.specs.Constants.{Entry}
-use Rattle.jv_meaning_world.proofs.Up.{none, single, first, later}
+use Rattle.jv_sound_values.proofs.laws_of_meaning_world.Up.{none, single, first, later}
 use Rattle.jv_code.specs.Insns.{Instruction, insn_bytes, insn_fits}
 use Rattle.jv_code.specs.Places.{all_fit}
-use Rattle.jv_meaning_typing.specs.Environment.{Environment, IsEnvironment, instruction_from, instruction_at, offset_behind}
+use Rattle.jv_sound_values.specs.of_meaning_typing.Environment.{Environment, IsEnvironment, instruction_from, instruction_at, offset_behind}
 use Rattle.jv_sound_values.proofs.Taking.{and_parts}
 use Rattle.jv_sound_files.proofs.Formats.{chained}
 

@@ -11,9 +11,9 @@ use Rattle.jv_pool.specs.declared.constant.Constant.TheVariants.{Class as ClassC
 use Rattle.jv_pool.specs.Constants.{Entry, NameAndDescriptor, MemberReference, at_index, utf8_at, class_name_at, class_name_in, name_and_type_at, name_and_type_in, member_at, member_of, field_reference_in, method_reference_at, method_reference_in, interface_method_reference_at, interface_method_reference_in}
 use Rattle.jv_class.specs.Class.{Class}
 use Rattle.jv_format.specs.Format.{◌>>=◌}
-use Rattle.jv_meaning_linking.specs.Operands.{MethodReference, through, class_operand, field_operand, method_operand}
-use Rattle.jv_meaning_linking.specs.Operands.MethodConstant.{Methodref as OfClass, InterfaceMethodref as OfInterface}
-use Rattle.jv_meaning_machine.specs.Alone.{AreUnits}
+use Rattle.jv_sound_values.specs.of_meaning_linking.Operands.{MethodReference, through, class_operand, field_operand, method_operand}
+use Rattle.jv_sound_values.specs.of_meaning_linking.Operands.MethodConstant.{Methodref as OfClass, InterfaceMethodref as OfInterface}
+use Rattle.jv_sound_values.specs.of_meaning_machine.Alone.{AreUnits}
 use Rattle.jv_sound_values.specs.Sound.{IsSort, AreSorts, IsResultSort}
 use Rattle.jv_sound_values.proofs.Taking.{and_parts}
 use Rattle.jv_sound_files.proofs.Formats.{chained}

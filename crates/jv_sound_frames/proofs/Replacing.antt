@@ -31,7 +31,7 @@ use Rattle.jv_sound_values.specs.Sound.{IsSound, IsChecked}
 use Rattle.jv_sound_values.specs.Frames.{Holds, AreVerified, HasMain, IsGood}
 use Rattle.jv_sound_values.proofs.Logic.{holds, then_holds, found_holds}
 use Rattle.jv_sound_values.proofs.Heaps.{same}
-use Rattle.jv_sound_memory.proofs.Memories.{IsMade, exception_ok}
+use Rattle.jv_sound_world.proofs.laws_of_sound_memory.Memories.{IsMade, exception_ok}
 use Rattle.jv_sound_frames.proofs.Frames.{IsThrownGood, AreCatching, unwound_ok}
 use Rattle.jv_sound_world.proofs.SystemFacts.{raised, makeable, out_of_memory_is_thrown, throwable_is_plain, throwable_is_not_object}
 use Rattle.jv_sound_frames.proofs.Room.{handler_room, thrown_loadable, begun_is_verified}

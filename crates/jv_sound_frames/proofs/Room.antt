@@ -35,8 +35,8 @@ use Rattle.jv_sound_values.specs.Frames.{AreVerified}
 use Rattle.jv_sound_values.proofs.Logic.{clash}
 use Rattle.jv_sound_values.proofs.Taking.{and_parts}
 use Rattle.jv_sound_frames.proofs.Frames.{IsThrownGood}
-use Rattle.jv_sound_files.proofs.Limits.{maps_within}
-use Rattle.jv_sound_memory.proofs.Memories.{loadable_of}
+use Rattle.jv_sound_world.proofs.laws_of_sound_files.Limits.{maps_within}
+use Rattle.jv_sound_world.proofs.laws_of_sound_memory.Memories.{loadable_of}
 
 width_some : (t : FrameType) → 1 ≤ width t
 width_some types.Long = omega arith

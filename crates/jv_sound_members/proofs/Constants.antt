@@ -30,8 +30,8 @@ use Rattle.jv_sound_values.specs.Frames.{Holds, IsConstantOf, HasUnits}
 use Rattle.jv_sound_values.proofs.Logic.{holds, then_holds, found_holds}
 use Rattle.jv_sound_values.proofs.Types.{sort_item}
 use Rattle.jv_sound_values.proofs.Heaps.{same, moved, stack_later}
-use Rattle.jv_sound_memory.proofs.Memories.{IsMakeable}
-use Rattle.jv_sound_memory.proofs.Literals.{IsLiteralIf, literal_ok}
+use Rattle.jv_sound_numbers.proofs.laws_of_sound_memory.Memories.{IsMakeable}
+use Rattle.jv_sound_numbers.proofs.laws_of_sound_memory.Literals.{IsLiteralIf, literal_ok}
 use Rattle.jv_sound_numbers.proofs.Pure.{agrees_from}
 use Rattle.jv_sound_numbers.proofs.Ways.{Setting, IsSet, world_of, program_of, memory_of, context_of, here, Does, By, Sound, KeepsLocals, goes_with_ok, lacks_ok}
 

@@ -27,7 +27,7 @@ use Rattle.jv_meaning_machine.specs.State.{Program}
 use Rattle.jv_sound_values.specs.Values.{object_type}
 use Rattle.jv_sound_values.specs.Memory.{IsTypedObject}
 use Rattle.jv_sound_values.proofs.Logic.{clash}
-use Rattle.jv_sound_memory.proofs.Members.{HoldsField, holds_field, field_there, is_upward, not_interface}
+use Rattle.jv_sound_numbers.proofs.laws_of_sound_memory.Members.{HoldsField, holds_field, field_there, is_upward, not_interface}
 use Rattle.jv_sound_members.proofs.Resolving.{resolved_class, named_class, below_declaring}
 
 -- ---- a field that is found

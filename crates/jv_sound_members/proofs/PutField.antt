@@ -47,8 +47,8 @@ use Rattle.jv_sound_values.proofs.Types.{sort_has_type}
 use Rattle.jv_sound_values.proofs.Heaps.{with_set, set_later, moved, stack_later, fits_later, entries_later}
 use Rattle.jv_sound_values.proofs.Taking.{and_parts, taken_one, popped_ok}
 use Rattle.jv_sound_numbers.proofs.Pure.{agrees_from}
-use Rattle.jv_sound_memory.proofs.Storing.{set_typed, with_value_fits, with_value_keys}
-use Rattle.jv_sound_memory.proofs.Storing.{narrowed_fits}
+use Rattle.jv_sound_numbers.proofs.laws_of_sound_memory.Storing.{set_typed, with_value_fits, with_value_keys}
+use Rattle.jv_sound_numbers.proofs.laws_of_sound_memory.Storing.{narrowed_fits}
 use Rattle.jv_sound_members.proofs.FieldsFound.{IsFieldFound, field_found, object_field}
 use Rattle.jv_sound_members.proofs.FieldUses.{field_ok}
 use Rattle.jv_sound_members.proofs.GetField.{instance_kind}

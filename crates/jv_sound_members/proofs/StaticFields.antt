@@ -35,9 +35,9 @@ use Rattle.jv_sound_values.proofs.Types.{sort_item}
 use Rattle.jv_sound_values.proofs.Heaps.{same}
 use Rattle.jv_sound_values.proofs.Taking.{taken_one}
 use Rattle.jv_sound_numbers.proofs.Pure.{agrees_from}
-use Rattle.jv_sound_memory.proofs.Members.{in_map, kept, in_flat, field_in, held_by_keys, held_fits, same_key_itself, some_value}
-use Rattle.jv_sound_memory.proofs.Storing.{static_typed}
-use Rattle.jv_sound_memory.proofs.Storing.{narrowed_fits}
+use Rattle.jv_sound_numbers.proofs.laws_of_sound_memory.Members.{in_map, kept, in_flat, field_in, held_by_keys, held_fits, same_key_itself, some_value}
+use Rattle.jv_sound_numbers.proofs.laws_of_sound_memory.Storing.{static_typed}
+use Rattle.jv_sound_numbers.proofs.laws_of_sound_memory.Storing.{narrowed_fits}
 use Rattle.jv_sound_members.proofs.FieldsFound.{IsFieldFound, field_found}
 use Rattle.jv_sound_members.proofs.FieldUses.{field_ok, once_ok}
 use Rattle.jv_sound_numbers.proofs.Ways.{Setting, IsSet, world_of, program_of, memory_of, context_of, here, Does, By, Sound, goes_ok, goes_with_ok}

@@ -8,14 +8,14 @@ use Rattle.jv_frames.specs.declared.verification.VerificationTypeOf.TheVariants 
 use Rattle.jv_meaning_world.specs.World.{Loaded, class_named}
 use Rattle.jv_meaning_world.proofs.Up.{has_name}
 use Rattle.jv_meaning_world.proofs.Order.{below_is_reflexive}
-use Rattle.jv_meaning_typing.specs.Named.{string_type, class_type}
-use Rattle.jv_meaning_machine.specs.Faults.Fault.{OffsetFault, ReferenceFault}
-use Rattle.jv_meaning_machine.specs.Values.Value.{Reference}
-use Rattle.jv_meaning_machine.specs.Objects.{Object, new_instance}
-use Rattle.jv_meaning_machine.specs.State.{Program, Memory}
-use Rattle.jv_meaning_machine.specs.Costs.{paid}
-use Rattle.jv_meaning_machine.specs.Arrays.{base_components}
-use Rattle.jv_meaning_machine.specs.Literals.{string_name, string_value, char_of, chars_of, string_with, literal_in, literal_made, literal_cells, literal_or_new, literal}
+use Rattle.jv_sound_values.specs.of_meaning_typing.Named.{string_type, class_type}
+use Rattle.jv_sound_values.specs.of_meaning_machine.Faults.Fault.{OffsetFault, ReferenceFault}
+use Rattle.jv_sound_values.specs.of_meaning_machine.Values.Value.{Reference}
+use Rattle.jv_sound_values.specs.of_meaning_machine.Objects.{Object, new_instance}
+use Rattle.jv_sound_values.specs.of_meaning_machine.State.{Program, Memory}
+use Rattle.jv_sound_values.specs.of_meaning_machine.Costs.{paid}
+use Rattle.jv_sound_values.specs.of_meaning_machine.Arrays.{base_components}
+use Rattle.jv_sound_values.specs.of_meaning_machine.Literals.{string_name, string_value, char_of, chars_of, string_with, literal_in, literal_made, literal_cells, literal_or_new, literal}
 use Rattle.jv_sound_values.specs.Values.{Fits, Heap, IsObject}
 use Rattle.jv_sound_values.specs.Memory.{IsTypedObject, IsTypedMemory}
 use Rattle.jv_sound_values.specs.Later.{IsLater}

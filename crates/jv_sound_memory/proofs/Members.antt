@@ -9,26 +9,26 @@ use Rattle.std.proofs.lemmas.List.Elements.{Contains-append_left, Contains-appen
 use mathlib.Core.List.{reverse_aux}
 use Rattle.jv_text.specs.Types.{field_type_of}
 use Rattle.jv_frames.specs.declared.verification.VerificationTypeOf.TheVariants as types
-use Rattle.jv_class.specs.Class.{Field, field_named}
+use Rattle.jv_meaning_world.specs.of_class.Class.{Field, field_named}
 use Rattle.jv_meaning_world.specs.World.{Loaded, World, class_named}
 use Rattle.jv_meaning_world.specs.Above.{superclasses}
 use Rattle.jv_meaning_world.specs.Verdicts.{is_interface, is_loadable}
 use Rattle.jv_meaning_world.specs.LookUps.{DeclaredField, field_by}
 use Rattle.jv_meaning_world.proofs.Up.{first, later, none, single, same_name}
-use Rattle.jv_meaning_linking.specs.Kind.{is_static_field}
-use Rattle.jv_meaning_linking.specs.Layout.{own_fields, instance_fields}
-use Rattle.jv_meaning_linking.specs.Selection.{upward}
+use Rattle.jv_sound_values.specs.of_meaning_linking.Kind.{is_static_field}
+use Rattle.jv_sound_values.specs.of_meaning_linking.Layout.{own_fields, instance_fields}
+use Rattle.jv_sound_values.specs.of_meaning_linking.Selection.{upward}
 use Rattle.jv_meaning_world.specs.Flow.{class_flows, is_above_arrays}
 use Rattle.jv_meaning_world.specs.Laws.Order.{IsBelow, IsRooted, object_name, names_interface, erased_name}
 use Rattle.jv_meaning_world.proofs.OrderChains.{any_made, superclasses_are_named}
 use Rattle.jv_meaning_world.proofs.OrderNames.{IsSuperclassOf, flow_cases, same_some}
-use Rattle.jv_meaning_machine.specs.Values.{Value}
-use Rattle.jv_meaning_machine.specs.Objects.{FieldKey, Content, Instance, Object, same_key, key_of, value_at, is_below, is_instance_of}
-use Rattle.jv_meaning_machine.specs.Objects.Object.{InstanceOf, ArrayWith}
-use Rattle.jv_meaning_machine.specs.Laws.Shapes.{keys_in}
-use Rattle.jv_meaning_machine.specs.State.{Program}
+use Rattle.jv_sound_values.specs.of_meaning_machine.Values.{Value}
+use Rattle.jv_sound_values.specs.of_meaning_machine.Objects.{FieldKey, Content, Instance, Object, same_key, key_of, value_at, is_below, is_instance_of}
+use Rattle.jv_sound_values.specs.of_meaning_machine.Objects.Object.{InstanceOf, ArrayWith}
+use Rattle.jv_sound_values.specs.of_meaning_machine.Laws.Shapes.{keys_in}
+use Rattle.jv_sound_values.specs.of_meaning_machine.State.{Program}
 use Rattle.jv_meaning_world.proofs.OrderAbove.{below_is_above, array_below_class}
-use Rattle.jv_meaning_typing.specs.Named.{class_components}
+use Rattle.jv_sound_values.specs.of_meaning_typing.Named.{class_components}
 use Rattle.jv_sound_values.specs.Values.{FitsDescribed, FitsEntry, object_type}
 use Rattle.jv_sound_values.specs.Memory.{IsTypedInstance, IsTypedObject}
 use Rattle.jv_sound_values.proofs.Logic.{clash}

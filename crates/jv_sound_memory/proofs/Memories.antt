@@ -11,20 +11,20 @@ use Rattle.jv_frames.specs.Types.{value_type, value_type_by}
 use Rattle.jv_meaning_world.specs.World.{Loaded, World, class_named}
 use Rattle.jv_meaning_world.specs.Verdicts.{passes, is_loadable, is_interface}
 use Rattle.jv_meaning_world.specs.LookUps.{DeclaredField}
-use Rattle.jv_meaning_linking.specs.Layout.{instance_fields, object_cells}
+use Rattle.jv_sound_values.specs.of_meaning_linking.Layout.{instance_fields, object_cells}
 use Rattle.jv_meaning_world.specs.Laws.Order.{is_loadable_type}
-use Rattle.jv_meaning_typing.specs.Named.{array_with, class_components, class_type, string_type, throwable_type}
-use Rattle.jv_meaning_machine.specs.Faults.Fault.{ReferenceFault}
-use Rattle.jv_meaning_machine.specs.Values.{default_value, default_of_type, default_described}
-use Rattle.jv_meaning_machine.specs.Objects.{FieldKey, Object, key_of, default_entry, new_instance, made_object}
-use Rattle.jv_meaning_machine.specs.Objects.Object.{InstanceOf, ArrayWith}
-use Rattle.jv_meaning_machine.specs.State.{Program, Memory}
-use Rattle.jv_meaning_machine.specs.Costs.{paid}
-use Rattle.jv_meaning_machine.specs.Effects.{out_of_memory}
-use Rattle.jv_meaning_machine.specs.Initialization.{is_verified}
-use Rattle.jv_meaning_machine.specs.Laws.Shapes.{keys_in}
-use Rattle.jv_meaning_machine.specs.Throws.{exception_made, exception}
-use Rattle.jv_meaning_machine.specs.Literals.{string_name}
+use Rattle.jv_sound_values.specs.of_meaning_typing.Named.{array_with, class_components, class_type, string_type, throwable_type}
+use Rattle.jv_sound_values.specs.of_meaning_machine.Faults.Fault.{ReferenceFault}
+use Rattle.jv_sound_values.specs.of_meaning_machine.Values.{default_value, default_of_type, default_described}
+use Rattle.jv_sound_values.specs.of_meaning_machine.Objects.{FieldKey, Object, key_of, default_entry, new_instance, made_object}
+use Rattle.jv_sound_values.specs.of_meaning_machine.Objects.Object.{InstanceOf, ArrayWith}
+use Rattle.jv_sound_values.specs.of_meaning_machine.State.{Program, Memory}
+use Rattle.jv_sound_values.specs.of_meaning_machine.Costs.{paid}
+use Rattle.jv_sound_values.specs.of_meaning_machine.Effects.{out_of_memory}
+use Rattle.jv_sound_values.specs.of_meaning_machine.Initialization.{is_verified}
+use Rattle.jv_sound_values.specs.of_meaning_machine.Laws.Shapes.{keys_in}
+use Rattle.jv_sound_values.specs.of_meaning_machine.Throws.{exception_made, exception}
+use Rattle.jv_sound_values.specs.of_meaning_machine.Literals.{string_name}
 use Rattle.jv_sound_values.specs.Values.{Fits, FitsDescribed, FitsEntry, Heap, IsObject, object_type}
 use Rattle.jv_sound_values.specs.Memory.{AreLoadable, IsTypedObject, IsTypedMemory}
 use Rattle.jv_sound_values.specs.Later.{IsLater}

@@ -7,19 +7,19 @@ use Rattle.jv_text.specs.declared.descriptor.Base.{Base}
 use Rattle.jv_text.specs.declared.descriptor.Base.TheVariants as bases
 use Rattle.jv_text.specs.declared.descriptor.Element.{Element}
 use Rattle.jv_text.specs.declared.descriptor.Element.TheVariants as elements
-use Rattle.jv_meaning_machine.specs.Values.Value.{Int}
+use Rattle.jv_sound_values.specs.of_meaning_machine.Values.Value.{Int}
 use Rattle.jv_text.specs.declared.descriptor.FieldTypeOf.{FieldTypeOf}
 use Rattle.jv_text.specs.Types.{field_type_of}
 use Rattle.jv_frames.specs.Types.{value_type, value_type_by}
 use Rattle.jv_meaning_world.specs.World.{World}
 use Rattle.jv_meaning_world.proofs.Up.{same_name}
-use Rattle.jv_meaning_typing.specs.Named.{array_with, class_components, class_type, string_type}
-use Rattle.jv_meaning_machine.specs.Values.{Value, narrowed, narrowed_by}
-use Rattle.jv_meaning_machine.specs.Objects.{FieldKey, Content, Object, same_key, with_value}
-use Rattle.jv_meaning_machine.specs.State.{Program, Memory}
-use Rattle.jv_meaning_machine.specs.Laws.Shapes.{keys_in}
-use Rattle.jv_meaning_machine.specs.Effects.{out_of_memory}
-use Rattle.jv_meaning_machine.specs.Literals.{string_name}
+use Rattle.jv_sound_values.specs.of_meaning_typing.Named.{array_with, class_components, class_type, string_type}
+use Rattle.jv_sound_values.specs.of_meaning_machine.Values.{Value, narrowed, narrowed_by}
+use Rattle.jv_sound_values.specs.of_meaning_machine.Objects.{FieldKey, Content, Object, same_key, with_value}
+use Rattle.jv_sound_values.specs.of_meaning_machine.State.{Program, Memory}
+use Rattle.jv_sound_values.specs.of_meaning_machine.Laws.Shapes.{keys_in}
+use Rattle.jv_sound_values.specs.of_meaning_machine.Effects.{out_of_memory}
+use Rattle.jv_sound_values.specs.of_meaning_machine.Literals.{string_name}
 use Rattle.jv_sound_values.specs.Values.{Fits, FitsDescribed, FitsEntry, Heap, IsObject}
 use Rattle.jv_sound_values.specs.Memory.{IsTypedObject, IsTypedMemory}
 use Rattle.jv_sound_values.specs.Later.{IsLater}

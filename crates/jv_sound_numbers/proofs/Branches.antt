@@ -32,7 +32,7 @@ use Rattle.jv_sound_values.proofs.Types.{kind_fits}
 use Rattle.jv_sound_values.proofs.Taking.{IsOfKind, kind_taken}
 use Rattle.jv_sound_numbers.proofs.Pure.{agrees_from, none_ok, one_ok, two_ok, int_ok}
 use Rattle.jv_sound_memory.proofs.Members.{in_map}
-use Rattle.jv_meaning_world.proofs.Up.{first, later}
+use Rattle.jv_sound_memory.proofs.laws_of_meaning_world.Up.{first, later}
 use Rattle.jv_sound_numbers.proofs.Ways.{Setting, IsSet, world_of, here, context_of, Does, Sound, stays, goes_ok, by_table}
 
 -- ---- lists

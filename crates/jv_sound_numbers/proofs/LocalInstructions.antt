@@ -10,7 +10,7 @@ use Rattle.jv_code.specs.declared.kinds.ValueKind.{ValueKind}
 use Rattle.jv_code.specs.declared.kinds.ValueKind.TheVariants as kinds
 use Rattle.jv_code.specs.declared.kinds.WordKind.{WordKind}
 use Rattle.jv_code.specs.Insns.{Instruction}
-use Rattle.jv_meaning_world.specs.Laws.Order.{IsRooted}
+use Rattle.jv_sound_memory.specs.of_meaning_world.Laws.Order.{IsRooted}
 use Rattle.jv_meaning_typing.specs.Environment.{offset_behind}
 use Rattle.jv_meaning_typing.specs.FrameChanges as rules
 use Rattle.jv_meaning_typing.specs.FrameChanges.{with_stack, with_locals, is_of_kind}

@@ -19,8 +19,8 @@ use Rattle.jv_code.specs.declared.kinds.NumberKind.TheVariants as numbers
 use Rattle.jv_code.specs.Insns.{Instruction}
 use Rattle.jv_code.specs.Successors.{falls_through, jump_distances, jump_targets}
 use Rattle.jv_code.specs.Targets.{target_of}
-use Rattle.jv_meaning_world.specs.World.{World}
-use Rattle.jv_meaning_world.specs.Laws.Order.{IsRooted}
+use Rattle.jv_sound_memory.specs.of_meaning_world.World.{World}
+use Rattle.jv_sound_memory.specs.of_meaning_world.Laws.Order.{IsRooted}
 use Rattle.jv_meaning_typing.specs.Environment.{offset_behind}
 use Rattle.jv_meaning_typing.specs.FrameChanges.{with_stack, exchanged}
 use Rattle.jv_meaning_typing.specs.NumberRules.{computation, number_type}
@@ -36,7 +36,7 @@ use Rattle.jv_meaning_machine.specs.Effects.{Effect, Context, goes_on, raises, d
 use Rattle.jv_meaning_machine.specs.Effects.Effect.{Goes, Raises}
 use Rattle.jv_meaning_machine.specs.Arithmetic.{number_value, as_number, as_int, as_long, none, one, two, computed, converted, width_of, divided}
 use Rattle.jv_meaning_machine.specs.Instructions.{execute, with_operands, jumps, divide}
-use Rattle.jv_meaning_world.proofs.Up.{first}
+use Rattle.jv_sound_memory.proofs.laws_of_meaning_world.Up.{first}
 use Rattle.jv_sound_values.specs.Values.{Zip, Heap, Place, Fits, IsInt, IsLong, HasStack, HasLocals, type_width}
 use Rattle.jv_sound_values.specs.Memory.{IsTypedMemory}
 use Rattle.jv_sound_values.specs.Sound.{IsSort}

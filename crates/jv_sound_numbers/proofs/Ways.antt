@@ -7,10 +7,10 @@ use Rattle.jv_frames.specs.Types.{FrameType}
 use Rattle.jv_frames.specs.Frames.{Frame as TypesOf}
 use Rattle.jv_code.specs.Insns.{Instruction}
 use Rattle.jv_code.specs.Successors.{falls_through}
-use Rattle.jv_meaning_world.specs.World.{World}
-use Rattle.jv_meaning_world.specs.Laws.Above.{SystemStandsAlone}
-use Rattle.jv_meaning_linking.specs.LinkErrors.{LinkError, error_class}
-use Rattle.jv_meaning_world.specs.Laws.Order.{IsRooted}
+use Rattle.jv_sound_memory.specs.of_meaning_world.World.{World}
+use Rattle.jv_sound_memory.specs.of_meaning_world.Laws.Above.{SystemStandsAlone}
+use Rattle.jv_meaning_typing.specs.of_meaning_linking.LinkErrors.{LinkError, error_class}
+use Rattle.jv_sound_memory.specs.of_meaning_world.Laws.Order.{IsRooted}
 use Rattle.jv_meaning_typing.specs.Environment.{offset_behind}
 use Rattle.jv_meaning_typing.specs.FrameChanges.{with_stack, exchanged}
 use Rattle.jv_meaning_typing.specs.Named.{throwable_type}

@@ -26,7 +26,7 @@ use Rattle.jv_meaning_machine.specs.Throws.{Thrown, catches, is_caught_as}
 use Rattle.jv_sound_values.specs.Values.{Heap, Place, Item, IsObject, object_type}
 use Rattle.jv_sound_values.specs.Sound.{IsChecked}
 use Rattle.jv_sound_values.proofs.Logic.{clash}
-use Rattle.jv_sound_files.proofs.Formats.{chained}
+use Rattle.jv_sound_frames.proofs.laws_of_sound_files.Formats.{chained}
 use Rattle.jv_sound_values.proofs.Subtypes.{class_below}
 use Rattle.jv_sound_frames.proofs.Frames.{IsThrownGood}
 

@@ -35,7 +35,7 @@ use Rattle.jv_sound_frames.proofs.EnteringAbove.{WithinWords, some_code}
 use Rattle.jv_sound_values.proofs.Logic.{holds, then_holds, found_holds}
 use Rattle.jv_sound_values.specs.Memory.{AreLoadable}
 use Rattle.jv_sound_values.proofs.Heaps.{later, weaker, fits_later, entries_later, ready_any}
-use Rattle.jv_sound_memory.proofs.Storing.{set_typed}
+use Rattle.jv_sound_members.proofs.laws_of_sound_memory.Storing.{set_typed}
 use Rattle.jv_sound_steps.proofs.Begun.{begun_on_later}
 use Rattle.jv_sound_steps.proofs.ConstructorFrame.{constructor_frame_ok}
 use Rattle.jv_sound_frames.proofs.Frames.{resumed_ok, waiting_later}

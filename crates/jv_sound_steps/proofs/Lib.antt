@@ -7,3 +7,5 @@ pub mod Stepping
 pub mod Begun
 pub mod ConstructorFrame
 pub mod ConstructsActs
+pub use Rattle.jv_sound_frames.proofs as laws_of_sound_frames
+pub use Rattle.jv_sound_frames.proofs.laws_of_sound_world

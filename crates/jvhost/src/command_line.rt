@@ -1,14 +1,14 @@
 //! The command line.
 ghost use Rattle.std.specs.Prelude.{◌≡◌, ◌≢◌, IfOk};
 ghost use Rattle.clap.specs.Values.{kind_of};
-ghost use Rattle.jv_run.specs.declared.failure.Failure.TheVariants.{Memory};
+ghost use Rattle.jv_check.specs.of_run.declared.failure.Failure.TheVariants.{Memory};
 ghost use Rattle.jv_status.specs.Status.{HasStatus};
 ghost use Rattle.jv_status.specs.declared.stop.Stop.TheVariants.{CommandLine, Run};
 
 use clap::error::ErrorKind;
 use clap::{Arg, ArgMatches, Command, value_parser};
-use jv_interp_start::Budget;
-use jv_run::{Failure, Settings, default_settings};
+use jv_check::of_interp_start::Budget;
+use jv_check::of_run::{Failure, Settings, default_settings};
 use jv_status::Stop;
 use std::alloc::{AllocError, Global};
 use std::rt::Env;

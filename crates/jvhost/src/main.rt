@@ -5,7 +5,7 @@ mod command_line;
 
 use crate::command_line::{Task, task_of, words};
 use jv_check::check_named;
-use jv_run::{Outcome, run_named};
+use jv_check::of_run::{Outcome, run_named};
 use jv_status::{Stop, status_of, write_report};
 use std::io;
 use std::process::ExitCode;

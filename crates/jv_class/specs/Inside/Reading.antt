@@ -1,8 +1,8 @@
 -- What the functions that read and test a class say of its parts.
 use Rattle.std.specs.Prelude.{◌≡◌, ◌≢◌, ℕ, ◌+◌, ◌*◌, ◌<◌, List, Some, Result, Ok, Err, ◌==◌}
-use Rattle.jv_format.specs.Format.{Format, half, quad}
-use Rattle.jv_format.specs.Readers.{both, such_that}
-use Rattle.jv_pool.specs.Constants.{Entry, at_index, utf8_at}
+use Rattle.jv_class_structure.specs.of_format.Format.{Format, half, quad}
+use Rattle.jv_class_structure.specs.of_format.Readers.{both, such_that}
+use Rattle.jv_class_structure.specs.of_pool.Constants.{Entry, at_index, utf8_at}
 use Rattle.jv_class_structure.specs.Structure.{ClassStructure}
 use Rattle.jv_class_structure.specs.Parts.{IsBehindVersion}
 use Rattle.jv_class_structure.specs.Seen.{seen_field, seen_method}

@@ -4,10 +4,10 @@ use Rattle.std.specs.Prelude.{◌≡◌, ℕ, zero, suc, ◌*◌, Bool, true, fa
 use Rattle.std.specs.Option.{option_map}
 use Rattle.std.proofs.Common.{inl, inr}
 use Rattle.std.specs.List.{flat_map}
-use Rattle.jv_format.specs.Format.{Format, ◌>>=◌, half, front}
-use Rattle.jv_format.specs.Readers.{both, list_of, found_as, after, such_that, paired, contents, whole, enclosed, case_of}
-use Rattle.jv_format.specs.declared.handlers.Handler.{Handler}
-use Rattle.jv_format.specs.Handlers.{handler_bytes, handler_fits, handler, handlers_in}
+use Rattle.jv_pool.specs.of_format.Format.{Format, ◌>>=◌, half, front}
+use Rattle.jv_pool.specs.of_format.Readers.{both, list_of, found_as, after, such_that, paired, contents, whole, enclosed, case_of}
+use Rattle.jv_pool.specs.of_format.declared.handlers.Handler.{Handler}
+use Rattle.jv_pool.specs.of_format.Handlers.{handler_bytes, handler_fits, handler, handlers_in}
 use Rattle.jv_pool.specs.Constants.{Entry, utf8_at}
 use Rattle.jv_class_structure.specs.declared.fault.PartsFault.{PartsFault}
 use Rattle.jv_class_structure.specs.declared.fault.PartsFault.TheVariants.{Format as BadFormat, Memory}

@@ -4,7 +4,7 @@ use Rattle.std.specs.HashMap.{HashMap, get_by}
 use Rattle.std.specs.Str.{bytes_eq}
 use Rattle.jv_names.specs.Inside.Kept.{AreFirstPlaces}
 use Rattle.jv_names.specs.Texts.{text_hash}
-use Rattle.jv_class.specs.Class.{Field, Method}
+use Rattle.jv_meaning_world.specs.of_class.Class.{Field, Method}
 use Rattle.jv_classes.specs.declared.member.Member.{Member}
 use Rattle.jv_classes.specs.declared.members.KeptMember.{KeptMember}
 

@@ -1,7 +1,7 @@
 -- How a StackMapTable's contents are read (JVMS 4.7.4).
 use Rattle.std.specs.Prelude.{◌≡◌, ℕ, ◌-◌, List, [], ◌∷◌, length, nat_lt, Option, Some, None, Result, Ok, Err, ◌==◌, if◌then◌else◌}
-use Rattle.jv_format.specs.Format.{Format, ◌>>=◌, half}
-use Rattle.jv_format.specs.Readers.{both, list_of, after, found_as}
+use Rattle.jv_pool.specs.of_format.Format.{Format, ◌>>=◌, half}
+use Rattle.jv_pool.specs.of_format.Readers.{both, list_of, after, found_as}
 use Rattle.jv_frames.specs.declared.item.Item.{Item}
 use Rattle.jv_frames.specs.declared.item.Item.TheVariants as items
 use Rattle.jv_frames.specs.declared.form.Form.TheVariants.{Same, SameItem, SameItemExtended, Chop, SameExtended, Append, Full}

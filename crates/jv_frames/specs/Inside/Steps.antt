@@ -1,6 +1,6 @@
 -- What reading does to a table of frames, step by step (JVMS 4.7.4).
 use Rattle.std.specs.Prelude.{ℕ, zero, suc, ◌+◌, Bool, ◌&&◌, List, [], ◌∷◌, ◌++◌, length, nat_le, Option, Some, None, if◌then◌else◌}
-use Rattle.jv_format.specs.Format.{◌>>=◌}
+use Rattle.jv_pool.specs.of_format.Format.{◌>>=◌}
 use Rattle.jv_pool.specs.Constants.{Entry, class_name_at}
 use Rattle.jv_frames.specs.declared.item.Item.{Item}
 use Rattle.jv_frames.specs.declared.item.Item.TheVariants as items

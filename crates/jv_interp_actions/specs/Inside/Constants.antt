@@ -2,7 +2,7 @@
 use Rattle.std.specs.Prelude.{◌≡◌, ℕ, ℤ, ⊤, true, List, Some, slice_get}
 use Rattle.jv_class.specs.Class.{InitialValue}
 use Rattle.jv_class.specs.Class.InitialValue.{IntValue, LongValue, StringValue}
-use Rattle.jv_interp_methods.specs.Texts.{HasText}
+use Rattle.jv_interp_calls.specs.of_interp_methods.Texts.{HasText}
 use Rattle.jv_interp_actions.specs.declared.constants.Constant.{Constant}
 use Rattle.jv_interp_actions.specs.declared.constants.Constant.TheVariants as constants
 use Rattle.jv_text.specs.declared.descriptor.FieldTypeOf.{FieldTypeOf}

@@ -4,7 +4,7 @@ use Rattle.jv_class.specs.Class.{Field, InitialValue}
 use Rattle.jv_meaning_world.specs.World.{Loaded}
 use Rattle.jv_meaning_world.specs.LookUps.{field_by}
 use Rattle.jv_meaning_world.specs.Overriding.{Declared}
-use Rattle.jv_lookups.specs.Places.{method_at}
+use Rattle.jv_interp_calls.specs.of_lookups.Places.{method_at}
 use Rattle.jv_meaning_machine.specs.Frames.{InitializationFrame, Frame}
 use Rattle.jv_meaning_machine.specs.Frames.Frame.{Initializes}
 use Rattle.jv_meaning_machine.specs.Frames.Task.{SetsField}

@@ -6,7 +6,7 @@ use Rattle.jv_meaning_machine.specs.Frames.{MethodFrame, Frame}
 use Rattle.jv_meaning_machine.specs.State.{Program, Memory, Control as ControlOfNames, State}
 use Rattle.jv_meaning_machine.specs.Costs.{method_words}
 use Rattle.jv_interp_words.specs.declared.registers.Registers.{Registers}
-use Rattle.jv_interp_methods.specs.declared.methods.Methods.{Methods}
+use Rattle.jv_interp_calls.specs.of_interp_methods.declared.methods.Methods.{Methods}
 use Rattle.jv_interp_frames.specs.declared.frames.Frames.{Frames}
 use Rattle.jv_interp_frames.specs.declared.control.Control.{Control}
 use Rattle.jv_interp_frames.specs.Leaving.{Leaving, Left}

@@ -6,9 +6,9 @@ use Rattle.jv_meaning_world.specs.Numbers.{classes_at, AreNumbers}
 use Rattle.jv_meaning_world.specs.Overriding.{Declared}
 use Rattle.jv_meaning_world.specs.LookUps.{field_by}
 use Rattle.jv_meaning_world.specs.Verdicts.{is_loadable}
-use Rattle.jv_lookups.specs.Places.{method_at}
-use Rattle.jv_linked.specs.declared.linked.Linked.{Linked}
-use Rattle.jv_linked.specs.Linked.{IsLinked}
+use Rattle.jv_interp_calls.specs.of_lookups.Places.{method_at}
+use Rattle.jv_interp_calls.specs.of_linked.declared.linked.Linked.{Linked}
+use Rattle.jv_interp_calls.specs.of_linked.Linked.{IsLinked}
 use Rattle.jv_meaning_machine.specs.Frames.{Task as TaskOfNames, InitializationFrame}
 use Rattle.jv_meaning_machine.specs.Frames.Task.{SetsField, InitializesFirst, RunsInitializer}
 use Rattle.jv_meaning_machine.specs.State.{Program, ClassStates, class_state, is_ready}

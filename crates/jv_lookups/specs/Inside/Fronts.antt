@@ -1,7 +1,7 @@
 -- The part of a chain of superclasses that has to be looked at.
 use Rattle.std.specs.Prelude.{◌≡◌, ℕ, Bool, false, List, [], ◌∷◌, take, drop, get_or}
 use Rattle.std.specs.List.{All}
-use Rattle.jv_class.specs.Class.{EachIsNamed}
+use Rattle.jv_meaning_world.specs.of_class.Class.{EachIsNamed}
 use Rattle.jv_meaning_world.specs.World.{Loaded}
 
 -- each class has one method of a name and a descriptor at most

@@ -3,7 +3,7 @@ use Rattle.std.specs.Prelude.{ℕ, Bool, not, ◌&&◌, List, Option, None, is_s
 use Rattle.std.specs.List.{list_any, filter_map}
 use Rattle.std.specs.Option.{option_map}
 use Rattle.std.specs.Str.{bytes_eq}
-use Rattle.jv_class.specs.Class.{field_named}
+use Rattle.jv_meaning_world.specs.of_class.Class.{field_named}
 use Rattle.jv_meaning_world.specs.World.{Loaded, World, class_named}
 use Rattle.jv_meaning_world.specs.Above.{is_above, superclasses}
 use Rattle.jv_meaning_world.specs.Overriding.{Declared}

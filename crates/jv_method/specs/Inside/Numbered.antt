@@ -10,7 +10,7 @@ use Rattle.jv_meaning_world.specs.Numbers.{HoldsAtNumber}
 use Rattle.jv_meaning_typing.specs.declared.verdict.Verdict.{Verdict}
 use Rattle.jv_meaning_typing.specs.declared.verdict.Verdict.TheVariants as verdicts
 use Rattle.jv_meaning_typing.specs.Judgement.{IsVerdictOfMethods, IsVerdictOfFile}
-use Rattle.jv_loader.specs.Loading.{Loading, AreLoaded}
+use Rattle.jv_method_pass.specs.of_loader.Loading.{Loading, AreLoaded}
 use Rattle.jv_method.specs.Files.{AreVerdicts}
 
 -- the class of a file is one of the world's, where this is wrong with the file before its methods are looked at

@@ -9,10 +9,10 @@ use Rattle.jv_frames.specs.Types.{words}
 use Rattle.jv_meaning_typing.specs.Environment.{Environment}
 use Rattle.jv_meaning_typing.specs.Typing.{HandlersKeepRules, entries_before}
 use Rattle.jv_meaning_typing.specs.Judgement.{IsCodeOf}
-use Rattle.jv_types.specs.Typed.{typed_all}
-use Rattle.jv_types.specs.Numbered.{Item}
-use Rattle.jv_constants.specs.PoolTypes.{PoolTypes, typed_result}
-use Rattle.jv_constants.specs.Current.{CurrentClass, IsOfClass}
+use Rattle.jv_method_pass.specs.of_types.Typed.{typed_all}
+use Rattle.jv_method_pass.specs.of_types.Numbered.{Item}
+use Rattle.jv_method_pass.specs.of_constants.PoolTypes.{PoolTypes, typed_result}
+use Rattle.jv_method_pass.specs.of_constants.Current.{CurrentClass, IsOfClass}
 use Rattle.jv_method_pass.specs.Mapped.{EntryTypes}
 use Rattle.jv_method_pass.specs.Tables.{entry_types, MapsTo}
 use Rattle.jv_method_pass.specs.Pass.{HasRoom}

@@ -12,7 +12,7 @@ use Rattle.jv_meaning_typing.specs.Environment.{Environment, current_class}
 use Rattle.jv_meaning_typing.specs.Named.{method_named_by, when, MethodUse}
 use Rattle.jv_meaning_typing.specs.MemberRules.{constructed, constructed_type, is_that_name}
 use Rattle.jv_types.specs.Numbered.{Item}
-use Rattle.jv_link.specs.Inside.References.{method_operand_in}
+use Rattle.jv_constants.specs.of_link.Inside.References.{method_operand_in}
 
 -- ---- what is called
 

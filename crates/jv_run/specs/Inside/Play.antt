@@ -1,8 +1,8 @@
 -- What a host comes to that runs the guests of folders.
 use Rattle.std.specs.Prelude.{◌≡◌, ℕ, ◌+◌, List, Some, map, length, slice_get}
 use Rattle.jv_meaning_machine.specs.Start.{Budget}
-use Rattle.jv_interp_start.specs.Started.{budget_of}
-use Rattle.jv_interp.specs.Showing.{observed_of}
+use Rattle.jv_host.specs.of_interp_start.Started.{budget_of}
+use Rattle.jv_host.specs.of_interp.Showing.{observed_of}
 use Rattle.jv_host.specs.Host.{Admission}
 use Rattle.jv_host.specs.Calls.{IsRun, IsShown, admission}
 use Rattle.jv_run.specs.declared.report.Report.{Report}

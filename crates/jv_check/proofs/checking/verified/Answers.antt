@@ -1,5 +1,5 @@
 use Rattle.std.proofs.Common.{map}
-use Rattle.jv_loader.specs.Loading.{AreLoaded}
+use Rattle.jv_run.specs.of_loader.Loading.{AreLoaded}
 use Rattle.jv_run.specs.Bytes.{bytes_of}
 use Rattle.jv_check.proofs.checking.verified.Goals as goal
 

@@ -1,6 +1,6 @@
 use Rattle.std.proofs.Common.{ℕ, List, refl, sym, subst, arith, rules}
-use Rattle.jv_format.specs.Format.{IsBytes}
-use Rattle.jv_format.proofs.Laws.{IsBytes-rest}
+use Rattle.jv_pool.specs.of_format.Format.{IsBytes}
+use Rattle.jv_pool.proofs.laws_of_format.Laws.{IsBytes-rest}
 use Rattle.jv_pool.specs.Constants.{pool_bytes}
 use Rattle.jv_pool.specs.Rules.{IsPool}
 use Rattle.jv_class_structure.specs.Structure.{body_bytes}

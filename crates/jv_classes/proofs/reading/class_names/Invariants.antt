@@ -1,5 +1,5 @@
 use Rattle.std.proofs.Common.{◌≡◌, take, map, Some}
-use Rattle.jv_class.specs.Class.{all_found}
+use Rattle.jv_meaning_world.specs.of_class.Class.{all_found}
 use Rattle.jv_classes.specs.Inside.Found.{interface_at}
 use Rattle.jv_names.specs.Inside.Kept.{text_of}
 use Rattle.jv_classes.proofs.reading.class_names.Given as goal

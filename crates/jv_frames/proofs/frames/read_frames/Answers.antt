@@ -1,7 +1,7 @@
 use Rattle.std.proofs.Common.{◌≡◌, List, sym, subst, arith}
 use Rattle.std.specs.List.{All}
 use Rattle.std.proofs.lemmas.Result.{err_from_is_err_and}
-use Rattle.jv_format.specs.Format.{IsBytes}
+use Rattle.jv_pool.specs.of_format.Format.{IsBytes}
 use Rattle.jv_frames.specs.declared.fault.FrameFault.TheVariants.{BadFrames}
 use Rattle.jv_frames.specs.Frames.{Maps}
 use Rattle.jv_frames.specs.Entries.{ReadFrame, frames_placed, HoldsKnown, HasItsWords}

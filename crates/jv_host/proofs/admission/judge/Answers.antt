@@ -1,5 +1,5 @@
 use Rattle.std.proofs.Common.{map}
-use Rattle.jv_loader.specs.Loading.{AreLoaded}
+use Rattle.jv_interp.specs.of_loader.Loading.{AreLoaded}
 use Rattle.jv_host.specs.Files.{bytes_of}
 use Rattle.jv_host.proofs.admission.judge.Goals as goal
 

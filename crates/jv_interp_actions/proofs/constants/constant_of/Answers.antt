@@ -8,8 +8,8 @@ use Rattle.jv_class.specs.Value.{value_number}
 use Rattle.jv_class.specs.declared.constant_value.ConstantValue.{ConstantValue}
 use Rattle.jv_meaning_world.specs.World.{Loaded}
 use Rattle.jv_classes.proofs.Followed.{some_class}
-use Rattle.jv_linked.proofs.Bodied.{chained}
-use Rattle.jv_linked.proofs.Begun.{setting_stands, none_stands}
+use Rattle.jv_interp_calls.proofs.laws_of_linked.Bodied.{chained}
+use Rattle.jv_interp_calls.proofs.laws_of_linked.Begun.{setting_stands, none_stands}
 use Rattle.jv_interp_actions.specs.Inside.Constants.{seen_constant}
 use Rattle.jv_interp_actions.proofs.constants.constant_of.Goals as goal
 

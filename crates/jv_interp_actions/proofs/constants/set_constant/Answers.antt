@@ -10,14 +10,14 @@ use Rattle.jv_class.specs.Class.{InitialValue}
 use Rattle.jv_class.specs.Class.InitialValue.{IntValue, LongValue}
 use Rattle.jv_meaning_world.specs.World.{World}
 use Rattle.jv_meaning_world.specs.LookUps.{DeclaredField, field_by}
-use Rattle.jv_lookups.specs.Places.{field_at, IsFieldPlace}
-use Rattle.jv_linked.specs.Linked.{IsLinked}
-use Rattle.jv_linked.specs.Places.{IsWordOf}
+use Rattle.jv_interp_calls.specs.of_lookups.Places.{field_at, IsFieldPlace}
+use Rattle.jv_interp_calls.specs.of_linked.Linked.{IsLinked}
+use Rattle.jv_interp_calls.specs.of_linked.Places.{IsWordOf}
 use Rattle.jv_meaning_machine.specs.Values.Value.{Int, Long, Reference}
 use Rattle.jv_interp_objects.specs.ObjectsInBlocks.{Blocks}
 use Rattle.jv_interp_memory.specs.declared.held.Held.{Held}
 use Rattle.jv_interp_creation.specs.Literals.{LiteralGiven}
-use Rattle.jv_interp_methods.specs.Texts.{AreTexts, HasText}
+use Rattle.jv_interp_calls.specs.of_interp_methods.Texts.{AreTexts, HasText}
 use Rattle.jv_interp_frames.specs.Moves.{Throwing}
 use Rattle.jv_interp_frames.specs.Standing.{kept, Moves, Moved}
 use Rattle.jv_interp_actions.specs.declared.constants.Constant.{Constant}

@@ -2,7 +2,7 @@ use Rattle.std.proofs.Common.{sym, subst}
 use Rattle.std.specs.Prelude.{OnOk}
 use Rattle.std.proofs.lemmas.Result.{on_ok_weaker}
 use Rattle.jv_meaning_world.specs.World.{World}
-use Rattle.jv_interp_methods.specs.Methods.{AreMethods}
+use Rattle.jv_interp_calls.specs.of_interp_methods.Methods.{AreMethods}
 use Rattle.jv_interp_frames.specs.Moves.{Beginning, Entering}
 use Rattle.jv_interp_frames.specs.Standing.{kept, Moved}
 use Rattle.jv_interp_actions.specs.declared.tasks.Task.{Task}

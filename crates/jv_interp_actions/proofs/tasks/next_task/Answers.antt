@@ -7,7 +7,7 @@ use Rattle.jv_meaning_world.specs.World.{Loaded, World}
 use Rattle.jv_meaning_world.specs.Verdicts.{declared_by}
 use Rattle.jv_meaning_machine.specs.Frames.Task.{RunsInitializer}
 use Rattle.jv_meaning_machine.specs.Initialization.{initializer_of}
-use Rattle.jv_linked.specs.Tasks.{IsInitializer}
+use Rattle.jv_interp_calls.specs.of_linked.Tasks.{IsInitializer}
 use Rattle.jv_interp_objects.proofs.Joined.{within}
 use Rattle.jv_interp_actions.proofs.FewTasks.{few_initializers}
 use Rattle.jv_interp_actions.proofs.NextTasks.{fits_more, sets, none_behind, fits_place, begins, runs, fits_end, finishes}

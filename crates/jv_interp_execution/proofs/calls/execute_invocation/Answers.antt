@@ -2,9 +2,9 @@ use Rattle.std.proofs.Common.{ℕ, List, refl, ap, subst}
 use Rattle.jv_code.specs.declared.insn.Insn.TheVariants as insns
 use Rattle.jv_code.specs.declared.kinds.Invocation.{Invocation}
 use Rattle.jv_code.specs.declared.kinds.Invocation.TheVariants as invocations
-use Rattle.jv_link.specs.declared.site.Use.TheVariants as uses
+use Rattle.jv_interp_types.specs.of_link.declared.site.Use.TheVariants as uses
 use Rattle.jv_interp_memory.specs.declared.held.Held.{Held}
-use Rattle.jv_interp_calls.specs.Known.{known}
+use Rattle.jv_interp_types.specs.of_interp_calls.Known.{known}
 use Rattle.jv_interp_execution.specs.InGuest.{CanExecuteAt}
 use Rattle.jv_interp_execution.proofs.CallsMade.{can_call, called, called_static}
 use Rattle.jv_interp_memory.proofs.Unmoved.{stays_unmoved}

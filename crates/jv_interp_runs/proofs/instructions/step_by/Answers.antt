@@ -6,7 +6,7 @@ use Rattle.jv_interp_memory.specs.declared.effect.Effect.{Effect}
 use Rattle.jv_interp_memory.specs.declared.effect.Effect.TheVariants as effects
 use Rattle.jv_interp_memory.specs.Executing.{Place, place}
 use Rattle.jv_code.specs.Insns.{instruction_of}
-use Rattle.jv_interp_calls.specs.Known.{known}
+use Rattle.jv_interp_actions.specs.of_interp_calls.Known.{known}
 use Rattle.jv_interp_execution.specs.InGuest.{ExecutedAt}
 use Rattle.jv_interp_actions.proofs.Acts.{runs_on}
 use Rattle.jv_interp_runs.proofs.Refused.{still, both, frames_then}

@@ -5,8 +5,8 @@ use Rattle.jv_meaning_world.specs.World.{World}
 use Rattle.jv_meaning_world.specs.Numbers.{IsNumbered}
 use Rattle.jv_meaning_linking.specs.Uses.Use.{New}
 use Rattle.jv_meaning_linking.specs.ClassResolution.{resolve_class}
-use Rattle.jv_link.specs.declared.target.ClassRef.{ClassRef}
-use Rattle.jv_link.specs.Seen.{answer, class_ref_at}
+use Rattle.jv_interp_calls.specs.of_link.declared.target.ClassRef.{ClassRef}
+use Rattle.jv_interp_calls.specs.of_link.Seen.{answer, class_ref_at}
 use Rattle.jv_interp_calls.proofs.Linked.{error_answered}
 use Rattle.jv_interp_types.proofs.NewClasses.{new_answered, never_array}
 use Rattle.jv_interp_types.proofs.naming.class_named_new.Goals as goal

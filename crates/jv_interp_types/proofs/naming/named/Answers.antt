@@ -2,8 +2,8 @@ use Rattle.std.proofs.Common.{◌≡◌, None, Some, sym, subst}
 use Rattle.jv_meaning_world.specs.World.{World}
 use Rattle.jv_meaning_linking.specs.ClassResolution.{ResolvedClass, resolve_class}
 use Rattle.jv_meaning_machine.specs.Effects.{resolved_type}
-use Rattle.jv_link.specs.Seen.{class_ref_at}
-use Rattle.jv_link.specs.UseRules.{IsRefWithin}
+use Rattle.jv_interp_calls.specs.of_link.Seen.{class_ref_at}
+use Rattle.jv_interp_calls.specs.of_link.UseRules.{IsRefWithin}
 use Rattle.jv_interp_calls.proofs.Linked.{error_answered}
 use Rattle.jv_interp_types.specs.Types.{IsOfType}
 use Rattle.jv_interp_types.specs.Inside.Refs.{HasElement}

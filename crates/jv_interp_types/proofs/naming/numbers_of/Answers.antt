@@ -1,6 +1,6 @@
 use Rattle.std.proofs.Common.{◌≡◌, Some, subst}
-use Rattle.jv_link.specs.declared.target.ClassRef.{ClassRef}
-use Rattle.jv_link.specs.Seen.{class_ref_at}
+use Rattle.jv_interp_calls.specs.of_link.declared.target.ClassRef.{ClassRef}
+use Rattle.jv_interp_calls.specs.of_link.Seen.{class_ref_at}
 use Rattle.jv_interp_types.proofs.NamedTypes.{class_resolved}
 use Rattle.jv_interp_types.proofs.naming.numbers_of.Goals as goal
 

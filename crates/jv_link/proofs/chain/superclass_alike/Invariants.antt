@@ -1,7 +1,7 @@
 use Rattle.std.proofs.Common.{◌≡◌, ◌-◌, Some}
 use Rattle.jv_meaning_world.specs.Overriding.{Declared, alike_in}
-use Rattle.jv_lookups.specs.Places.{method_at}
-use Rattle.jv_lookups.proofs.Chain.{Climbs}
+use Rattle.jv_loader.specs.of_lookups.Places.{method_at}
+use Rattle.jv_loader.proofs.laws_of_lookups.Chain.{Climbs}
 use Rattle.jv_link.proofs.chain.superclass_alike.Given as goal
 
 abbrev pub invariant-loop : goal.invariant-loop

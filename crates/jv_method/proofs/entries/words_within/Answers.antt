@@ -1,8 +1,8 @@
 use Rattle.std.proofs.Common.{◌≡◌, ℕ, ◌+◌, List, take, sym, ap, ◌∙◌, arith}
 use Rattle.std.proofs.lemmas.List.{take_all}
 use Rattle.jv_frames.specs.Types.{words}
-use Rattle.jv_types.specs.Typed.{typed_all}
-use Rattle.jv_types.specs.Numbered.{Item}
+use Rattle.jv_method_pass.specs.of_types.Typed.{typed_all}
+use Rattle.jv_method_pass.specs.of_types.Numbered.{Item}
 use Rattle.jv_method.proofs.EntryWords.{words_with, words_front}
 use Rattle.jv_method.proofs.entries.words_within.Goals as goal
 

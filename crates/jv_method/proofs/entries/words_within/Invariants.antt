@@ -1,6 +1,6 @@
 use Rattle.std.proofs.Common.{◌≡◌, ◌≤◌, ℕ, List, take}
 use Rattle.jv_frames.specs.Types.{words}
-use Rattle.jv_types.specs.Typed.{typed_all}
+use Rattle.jv_method_pass.specs.of_types.Typed.{typed_all}
 use Rattle.jv_method.proofs.entries.words_within.Given as goal
 
 abbrev pub invariant-loop-item : goal.invariant-loop-item

@@ -1,5 +1,5 @@
 use Rattle.std.proofs.Common.{ℕ, List}
-use Rattle.jv_loader.specs.Loading.{AreLoaded}
+use Rattle.jv_method_pass.specs.of_loader.Loading.{AreLoaded}
 use Rattle.jv_method.specs.Inside.Numbered.{AreVerdictsBelow}
 use Rattle.jv_method.proofs.files.verdicts_of.Given as goal
 

@@ -1,5 +1,5 @@
 use Rattle.std.proofs.Common.{sym, ap, subst, ◌∙◌}
-use Rattle.jv_rules.specs.Method.{MethodContext, IsOfMethod}
+use Rattle.jv_method_pass.specs.of_rules.Method.{MethodContext, IsOfMethod}
 use Rattle.jv_method_pass.specs.Pass.{IsOfPass, maps_of}
 use Rattle.jv_method.specs.Inside.Read.{ReadMethod}
 use Rattle.jv_method.proofs.Parts.{of_pass, rooms_in}
