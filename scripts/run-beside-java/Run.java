@@ -1,0 +1,34 @@
+import java.io.*;
+import java.lang.reflect.*;
+import java.net.*;
+import java.nio.file.*;
+
+/** Runs the class Main of each package that the words behind the folder name, and prints what it wrote, in hexadecimal, and how it ended. */
+public final class Run {
+    public static void main(String[] words) throws Exception {
+        URL[] at = { new File(words[0]).toURI().toURL() };
+        for (int k = 1; k < words.length; k++) {
+            host.Io.written = new ByteArrayOutputStream();
+            String end = "Returned";
+            final String name = words[k];
+            final Throwable[] thrown = new Throwable[1];
+            Thread thread = new Thread(null, () -> {
+                try (URLClassLoader loader = new URLClassLoader(at)) {
+                    Method main = Class.forName(name + ".Main", true, loader).getMethod("main", String[].class);
+                    main.setAccessible(true);
+                    main.invoke(null, (Object) new String[0]);
+                } catch (InvocationTargetException e) {
+                    thrown[0] = e.getCause();
+                } catch (Throwable e) {
+                    thrown[0] = e;
+                }
+            }, "run", 1 << 24);
+            thread.start();
+            thread.join();
+            if (thrown[0] != null) end = "Threw " + thrown[0].getClass().getName().replace('.', '/');
+            StringBuilder shown = new StringBuilder();
+            for (byte b : host.Io.written.toByteArray()) shown.append(String.format("%02x", b));
+            System.out.println(name + " [" + shown + "] " + end);
+        }
+    }
+}
