@@ -1,17 +1,17 @@
 //! Worked rows of the host.
 
-use jv_heap::{Blocks, Cells, Store};
-use jv_loader::{LoadVerdict, SystemFiles, system_files};
-use jv_meaning_typing::Verdict;
+use jv_run::of_heap::{Blocks, Cells, Store};
 use jv_run::of_host::{
     AdmitFault, Budget, FeedFault, GuestEnd, GuestFiles, GuestId, Host, TurnFault,
 };
+use jv_run::of_loader::{LoadVerdict, SystemFiles, system_files};
+use jv_run::of_meaning_typing::Verdict;
 use std::alloc::Global;
 use std::hash::RandomState;
 use std::random::RandomSource;
 
 /// The file of a class that writes `Hi`: 168 bytes.
-const HI: &[u8; 168] =
+pub(crate) const HI: &[u8; 168] =
     b"\xca\xfe\xba\xbe\x00\x00\x00\x34\x00\x0e\x01\x00\x02Hi\x07\x00\x01\x01\x00\x10java/lang/Object\x07\x00\x03\x01\x00\x04main\x01\x00\x16([Ljava/lang/String;)V\x01\x00\x04Code\x01\x00\x07host/Io\x07\x00\x08\x01\x00\x05write\x01\x00\x04(I)V\x0c\x00\x0a\x00\x0b\x0a\x00\x09\x00\x0c\x00\x21\x00\x02\x00\x04\x00\x00\x00\x00\x00\x01\x00\x09\x00\x05\x00\x06\x00\x01\x00\x07\x00\x00\x00\x17\x00\x01\x00\x01\x00\x00\x00\x0b\x10\x48\xb8\x00\x0d\x10\x69\xb8\x00\x0d\xb1\x00\x00\x00\x00\x00\x00";
 
 /// The one file of a guest.

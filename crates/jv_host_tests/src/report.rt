@@ -1,7 +1,7 @@
 //! What no clause says: that the definitions of the printed text are those that are meant.
 
-use jv_meaning_typing::{Verdict, VerifyFault, VerifyRule};
 use jv_run::of_host::{GuestEnd, Observation};
+use jv_run::of_meaning_typing::{Verdict, VerifyFault, VerifyRule};
 use jv_run::{Escaped, Report};
 use std::alloc::{AllocError, Global};
 
