@@ -18,6 +18,7 @@ mod verdict;
 pub use escape::Escaped;
 pub use failure::{Failure, status_of};
 pub use folder::{Folder, NamedFile, read_class, read_folder};
+pub use jv_heap as of_heap;
 pub use jv_host as of_host;
 pub use jv_host::{of_interp_start, of_loader, of_method};
 pub use main_name::main_name_of;
