@@ -32,11 +32,6 @@ class Program:
         self.package = package
         self.count = self.pick.randint(2, 5)
         self.interfaces = self.pick.randint(1, 4)
-        self.fields = {
-            name: (self.pick.choice(INTS), "static " if self.pick.random() < 0.4 else "")
-            for name in ["f%d" % it for it in range(self.pick.randint(3, 8))]
-        }
-        self.depth = 0
 
     # ---- expressions
 
@@ -44,7 +39,7 @@ class Program:
         if type == "boolean":
             return self.pick.choice(["true", "false"])
         if type == "long":
-            return "(%dL)" % self.pick.choice(LONG_EDGES + [self.pick.randint(-(1 << 63), (1 << 63) - 1)]).__int__() if self.pick.random() < 0.999 else "0L"
+            return "(%dL)" % self.pick.choice(LONG_EDGES + [self.pick.randint(-(1 << 63), (1 << 63) - 1)])
         number = self.pick.choice(EDGES + [self.pick.randint(-(1 << 31), (1 << 31) - 1)])
         return "(%d)" % number if type == "int" else "((%s) (%d))" % (type, number)
 
@@ -91,8 +86,7 @@ class Program:
         if how == 10:
             return "%s(%s, %s)" % ("callLong" if wide == "long" else "callInt", deeper("int"), deeper("long"))
         if how == 11 and wide == "int":
-            return pick.choice(["text(%s).length()", "text(%s).charAt(%s & 3)", "text(%s).hashCode()"]).replace("%s", "%s").replace(
-                "%s", deeper("int"))
+            return pick.choice(["text(%s).length()", "text(%s).charAt(%s & 3)", "text(%s).hashCode()"]).replace("%s", deeper("int"))
         if how == 12:
             return "object(%s).%s(%s)" % (deeper("int"), "far" if wide == "long" else "near", deeper("int"))
         if how == 13 and wide == "int":
@@ -185,10 +179,6 @@ class Program:
 
     # ---- classes
 
-    def scope(self, static):
-        named = {"sum": "int"}
-        return named
-
     def body(self, scope, returns, depth=3):
         text = "".join(self.statement(scope, depth, False, returns) for _ in range(self.pick.randint(2, 6)))
         return text + ("return %s;\n" % self.expression(returns, scope) if returns else "")
@@ -225,8 +215,8 @@ class Program:
             inner = "" if pick.random() < 0.5 else self.statement(dict({n: t for n, t in own.items() if "." not in n}), 2, False, returns)
             value = self.expression(returns, own, 2)
             more = " + super.%s(a)" % name if above and pick.random() < 0.5 else ""
-            lines.append("public %s %s(int a) { %sif (++Main.depth > 40) { Main.depth -= 40; return a; }\n%sMain.depth--; return %s%s; }" % (
-                returns, name, "", inner, value, more))
+            lines.append("public %s %s(int a) { if (++Main.depth > 40) { Main.depth -= 40; return a; }\n%sMain.depth--; return %s%s; }" % (
+                returns, name, inner, value, more))
         lines.append("}")
         return "\n".join(lines) + "\n"
 
