@@ -28,7 +28,8 @@ zeros at = replicate (3 - at % 4) 0
 
 abbrev pub table_switch_bytes : ℕ → ℤ → ℤ → ℤ → List ℤ → List ℕ
 table_switch_bytes at default low high offsets =
-    170 ∷ (zeros at ++ ((signed32.spelling default ++ (signed32.spelling low ++ signed32.spelling high)) ++ flat_map signed32.spelling offsets))
+    170 ∷ (zeros at ++ ((signed32.spelling default ++ (signed32.spelling low ++ signed32.spelling high))
+    ++ flat_map signed32.spelling offsets))
 
 abbrev pub lookup_switch_bytes : ℕ → ℤ → List (ℤ × ℤ) → List ℕ
 lookup_switch_bytes at default pairs =
@@ -159,7 +160,8 @@ pub record ItemsAreCode : Type 0 where
   pub code : (items : List Item) (insns : List Instruction) → 1 ≤ length items → length (code_of_items 0 items) ≤ 65535
       → AreInstructions 0 items insns → IsCode (code_of_items 0 items) insns
   pub table : (at : ℕ) (default low high : ℤ) (offsets : Bor (List ℤ)) → IsTrue (table_keeps_rules default low high offsets.now)
-      → IsInstruction at (item.Tableswitch default low high offsets) (TableSwitch (zeros at) default low high (flat_map signed32.spelling offsets.now))
+      → IsInstruction at (item.Tableswitch default low high offsets)
+      (TableSwitch (zeros at) default low high (flat_map signed32.spelling offsets.now))
   pub lookup : (at : ℕ) (default : ℤ) (pairs : Bor (List (ℤ × ℤ))) → IsTrue (lookup_keeps_rules default pairs.now)
       → IsInstruction at (item.Lookupswitch default pairs) (LookupSwitch (zeros at) default (flat_map pair.spelling pairs.now))
 

@@ -115,7 +115,8 @@ fn put_member<A: Part>(
 ) -> Result<(), AllocError>
     requires { IsTrue (table_fits A.fits (map A.view attributes.now)) }
     ensures { OnOk result (out.new.items ≡ out.old.items
-        ++ (half.spelling access_flags ++ half.spelling name_index ++ half.spelling descriptor_index ++ table_bytes A.bytes (map A.view attributes.now))) }
+        ++ (half.spelling access_flags ++ half.spelling name_index ++ half.spelling descriptor_index
+        ++ table_bytes A.bytes (map A.view attributes.now))) }
 {
     put_three(out, access_flags, name_index, descriptor_index)?;
     put_table(out, attributes)

@@ -45,13 +45,15 @@ pub record IsNameAndTypeAdded (old : List Entry) (name descriptor : List ℕ) (n
   pub added : IsAdded between (NameAndType name_index descriptor_index) new index
 
 -- a class, and the name and descriptor of its member
-pub record IsMemberNamed (old : List Entry) (class name descriptor : List ℕ) (new : List Entry) (class_index member_index : ℕ) : Type 0 where
+pub record IsMemberNamed (old : List Entry) (class name descriptor : List ℕ) (new : List Entry) (class_index member_index : ℕ)
+    : Type 0 where
   pub between : List Entry
   pub class_added : IsNamedAdded Class old class between class_index
   pub member_added : IsNameAndTypeAdded between name descriptor new member_index
 
 -- a member of a class (4.4.2)
-pub record IsMemberAdded (constant : ℕ → ℕ → Entry) (old : List Entry) (class name descriptor : List ℕ) (new : List Entry) (index : ℕ) : Type 0 where
+pub record IsMemberAdded (constant : ℕ → ℕ → Entry) (old : List Entry) (class name descriptor : List ℕ) (new : List Entry)
+    (index : ℕ) : Type 0 where
   pub between : List Entry
   pub class_index : ℕ
   pub member_index : ℕ

@@ -71,7 +71,8 @@ pub record IsInterfaceAdded (old : ClassStructure) (name : List ℕ) (new : Clas
   pub named : IsNamedAdded Class old.constant_pool name new.constant_pool index
   pub is : new ≡ with_interface (with_pool old new.constant_pool) index
 
-pub record IsFieldAdded (old : ClassStructure) (access_flags : ℕ) (name descriptor : List ℕ) (attributes : List AttributeInfo) (new : ClassStructure) : Type 0 where
+pub record IsFieldAdded (old : ClassStructure) (access_flags : ℕ) (name descriptor : List ℕ) (attributes : List AttributeInfo)
+    (new : ClassStructure) : Type 0 where
   pub name_index : ℕ
   pub descriptor_index : ℕ
   pub named : AreTextsAdded old.constant_pool name descriptor new.constant_pool name_index descriptor_index
@@ -92,13 +93,15 @@ pub record IsBodilessAdded (old : ClassStructure) (access_flags : ℕ) (name des
       (record { access_flags = access_flags; name_index = name_index; descriptor_index = descriptor_index; attributes = [] })
 
 -- the texts of a method with code: its name, its descriptor and `Code`
-pub record AreMethodTextsAdded (old : List Entry) (name descriptor : List ℕ) (new : List Entry) (name_index descriptor_index code_name_index : ℕ) : Type 0 where
+pub record AreMethodTextsAdded (old : List Entry) (name descriptor : List ℕ) (new : List Entry)
+    (name_index descriptor_index code_name_index : ℕ) : Type 0 where
   pub between : List Entry
   pub named : AreTextsAdded old name descriptor between name_index descriptor_index
   pub code_named : IsAdded between (Utf8 (codes "Code")) new code_name_index
 
 -- a method is begun: its names are in the pool, its code is empty
-pub record IsBegun (old : List Entry) (access_flags : ℕ) (name descriptor : List ℕ) (new : List Entry) (method : MethodBuilder) : Type 0 where
+pub record IsBegun (old : List Entry) (access_flags : ℕ) (name descriptor : List ℕ) (new : List Entry) (method : MethodBuilder)
+    : Type 0 where
   pub named : AreMethodTextsAdded old name descriptor new method.name_index method.descriptor_index method.code_name_index
   pub flags : method.access_flags ≡ access_flags
   pub empty : method.code ≡ no_steps
@@ -113,7 +116,8 @@ HasMethodRoom old name descriptor =
 abbrev pub IsStackMapAdded : List Entry → Option (List ℕ) → List Entry → List AttributeInfo → Type 0
 IsStackMapAdded old None new attributes = (new ≡ old) × (attributes ≡ [])
 IsStackMapAdded old (Some contents) new attributes =
-    (index : ℕ) × IsAdded old (Utf8 (codes "StackMapTable")) new index × (attributes ≡ record { attribute_name_index = index; info = contents } ∷ [])
+    (index : ℕ) × IsAdded old (Utf8 (codes "StackMapTable")) new index
+    × (attributes ≡ record { attribute_name_index = index; info = contents } ∷ [])
 
 abbrev pub HasStackMapRoom : List Entry → Option (List ℕ) → Type 0
 HasStackMapRoom old contents =

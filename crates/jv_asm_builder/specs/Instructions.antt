@@ -6,7 +6,8 @@ use Rattle.jv_asm.specs.declared.item.Item.TheVariants as item
 
 -- with a local variable: in the opcode, the first of which is `with_0`, in a byte, or behind `wide`
 abbrev pub local_item : ℕ → ℕ → ℕ → Item
-local_item with_0 opcode local = if nat_lt local 4 then item.Plain (with_0 + local) else if nat_lt local 256 then item.Byte opcode local else item.Wide opcode local
+local_item with_0 opcode local =
+    if nat_lt local 4 then item.Plain (with_0 + local) else if nat_lt local 256 then item.Byte opcode local else item.Wide opcode local
 
 abbrev pub pushed_item : ℤ → Item
 pushed_item value = if signed8.fits value then item.SignedByte 16 value else item.SignedHalf 17 value

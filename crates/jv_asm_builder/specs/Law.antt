@@ -9,15 +9,20 @@ reference class name descriptor = member_of class (name_and_descriptor name desc
 
 -- What was added is what its index names; and an index names the same when more constants have joined.
 pub record IndicesName : Type 0 where
-  pub kept : (old new : List Entry) (index : ℕ) (c : Entry) → IsGrownPool old new → at_index old index ≡ Some c → at_index new index ≡ Some c
+  pub kept : (old new : List Entry) (index : ℕ) (c : Entry) → IsGrownPool old new → at_index old index ≡ Some c
+      → at_index new index ≡ Some c
   pub text : (old new : List Entry) (text : List ℕ) (index : ℕ) → IsAdded old (Utf8 text) new index → utf8_at new index ≡ Some text
-  pub class : (old new : List Entry) (name : List ℕ) (index : ℕ) → IsNamedAdded Class old name new index → class_name_at new index ≡ Some name
+  pub class : (old new : List Entry) (name : List ℕ) (index : ℕ) → IsNamedAdded Class old name new index
+      → class_name_at new index ≡ Some name
   pub string : (old new : List Entry) (text : List ℕ) (index : ℕ) → IsNamedAdded String old text new index → string_at new index ≡ Some text
   pub name_and_type : (old new : List Entry) (name descriptor : List ℕ) (index : ℕ) → IsNameAndTypeAdded old name descriptor new index
       → name_and_type_at new index ≡ Some (name_and_descriptor name descriptor)
-  pub field : (old new : List Entry) (class name descriptor : List ℕ) (index : ℕ) → IsMemberAdded Fieldref old class name descriptor new index
+  pub field : (old new : List Entry) (class name descriptor : List ℕ) (index : ℕ)
+      → IsMemberAdded Fieldref old class name descriptor new index
       → field_reference_at new index ≡ Some (reference class name descriptor)
-  pub method : (old new : List Entry) (class name descriptor : List ℕ) (index : ℕ) → IsMemberAdded Methodref old class name descriptor new index
+  pub method : (old new : List Entry) (class name descriptor : List ℕ) (index : ℕ)
+      → IsMemberAdded Methodref old class name descriptor new index
       → method_reference_at new index ≡ Some (reference class name descriptor)
-  pub interface_method : (old new : List Entry) (class name descriptor : List ℕ) (index : ℕ) → IsMemberAdded InterfaceMethodref old class name descriptor new index
+  pub interface_method : (old new : List Entry) (class name descriptor : List ℕ) (index : ℕ)
+      → IsMemberAdded InterfaceMethodref old class name descriptor new index
       → interface_method_reference_at new index ≡ Some (reference class name descriptor)

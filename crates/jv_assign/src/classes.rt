@@ -36,7 +36,8 @@ fn named_is_loadable_subclass(table: &ClassTable<'_>, from: Option<usize>, of: u
     requires from { ForSome from (λ n. n < length table.now) }
     requires of { of < length table.now }
     ensures { (name : List ℕ) → from ≡ number_named table.now name
-        → HoldsAtNumber table.now of (λ to. bytes_eq name to.class.name ≡ false → result ≡ is_loadable_below table.now to.class.name (class_named table.now name)) }
+        → HoldsAtNumber table.now of
+        (λ to. bytes_eq name to.class.name ≡ false → result ≡ is_loadable_below table.now to.class.name (class_named table.now name)) }
 {
     let Some(number) = from else {
         return false;

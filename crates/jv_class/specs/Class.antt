@@ -67,13 +67,23 @@ initial_value pool field = static_value pool field >>= λ index. at_index pool i
 abbrev pub field_of : List Entry → FieldInfo → Option Field
 field_of pool field =
     option_map
-    (λ texts. record { access_flags = field.access_flags; name = texts.name; descriptor = texts.descriptor; initial = initial_value pool field })
+    (λ texts. record {
+      access_flags = field.access_flags;
+      name = texts.name;
+      descriptor = texts.descriptor;
+      initial = initial_value pool field;
+    })
     (named_at pool field.name_index field.descriptor_index)
 
 abbrev pub method_of : List Entry → MethodInfo → Option Method
 method_of pool method =
     option_map
-    (λ texts. record { access_flags = method.access_flags; name = texts.name; descriptor = texts.descriptor; code = (method_shown pool method).code })
+    (λ texts. record {
+      access_flags = method.access_flags;
+      name = texts.name;
+      descriptor = texts.descriptor;
+      code = (method_shown pool method).code;
+    })
     (named_at pool method.name_index method.descriptor_index)
 
 -- none where the index is 0, and else the name of the Class constant there

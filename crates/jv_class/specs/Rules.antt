@@ -118,7 +118,8 @@ named_flags_keep_rules name flags = if is_init name then init_flags_keep_rules f
 abbrev pub method_flags_keep_rules : ℕ → Bool → List ℕ → ℕ → Bool
 method_flags_keep_rules major in_interface name flags =
     if is_clinit name then true
-    else visibility_keeps_rules flags && abstract_keeps_rules flags && interface_flags_keep_rules major in_interface flags && named_flags_keep_rules name flags
+    else visibility_keeps_rules flags && abstract_keeps_rules flags && interface_flags_keep_rules major in_interface flags
+    && named_flags_keep_rules name flags
 
 -- `<init>` is void (4.4.2, here of the declared method too) and in no interface (own)
 abbrev pub init_keeps_rules : Bool → List ℕ → Bool → Bool

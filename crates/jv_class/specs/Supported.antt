@@ -58,4 +58,5 @@ AreSupportedFlags pool name_index flags = IsSomeAnd (utf8_at pool name_index) (�
 pub record IsSupported (c : ClassStructure) : Type 0 where
   pub constants : All (IsSupportedConstant c.constant_pool) c.constant_pool
   pub fields : All (λ f. IsSupportedType c.constant_pool f.descriptor_index) c.fields
-  pub methods : All (λ m. IsSupportedType c.constant_pool m.descriptor_index × AreSupportedFlags c.constant_pool m.name_index m.access_flags) c.methods
+  pub methods : All (λ m. IsSupportedType c.constant_pool m.descriptor_index
+      × AreSupportedFlags c.constant_pool m.name_index m.access_flags) c.methods

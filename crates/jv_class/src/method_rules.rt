@@ -154,7 +154,8 @@ fn method_keeps_rules(
 ) -> bool
     ensures { (texts : NameAndDescriptor) → texts.name ≡ name.now → texts.descriptor ≡ descriptor.now
         → AreFacts texts.name name_facts → AreFacts texts.descriptor descriptor_facts
-        → (IsTrue result ↔ KeepsRulesAsMethod major class_flags.0 method.entry.access_flags.0 (is_some (seen_method method.entry).code) texts) }
+        → (IsTrue result ↔ KeepsRulesAsMethod major class_flags.0 method.entry.access_flags.0
+        (is_some (seen_method method.entry).code) texts) }
 {
     match descriptor_facts.method {
         Some(facts) => {

@@ -7,8 +7,8 @@ use Rattle.jv_pool.specs.Rules.{IsPool}
 use Rattle.jv_class_structure.specs.Structure.{CodeAttribute, FieldInfo, MethodInfo, ClassStructure, body_bytes, body_fits}
 use Rattle.jv_class_structure.specs.Attributes.{sole, static_value, stack_maps, codes_of, attributes_keep_rules}
 
--- The bytes are those of the structure behind its version, which is this major version and 0: its pool is one, its numbers fit their fields, and its
--- attributes are those that may stand there.
+-- The bytes are those of the structure behind its version, which is this major version and 0: its pool is one, its numbers fit their
+-- fields, and its attributes are those that may stand there.
 pub record IsBehindVersion (major : ℕ) (bytes : List ℕ) (c : ClassStructure) : Type 0 where
   pub spelled : bytes ≡ pool_bytes c.constant_pool ++ body_bytes c
   pub version : (c.minor_version ≡ 0) × (c.major_version ≡ major)
@@ -18,7 +18,8 @@ pub record IsBehindVersion (major : ℕ) (bytes : List ℕ) (c : ClassStructure)
 
 -- A law: bytes have one such structure at most.
 abbrev pub OneBehindVersion : Type 0
-OneBehindVersion = (major : ℕ) (bytes : List ℕ) (c d : ClassStructure) → IsBehindVersion major bytes c → IsBehindVersion major bytes d → c ≡ d
+OneBehindVersion =
+    (major : ℕ) (bytes : List ℕ) (c d : ClassStructure) → IsBehindVersion major bytes c → IsBehindVersion major bytes d → c ≡ d
 
 -- ---- what is shown of fields and methods
 

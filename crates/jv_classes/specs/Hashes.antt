@@ -6,4 +6,5 @@ use Rattle.jv_names.specs.Texts.{text_hash}
 -- where there is one for the index of a text, it is that of the text
 abbrev pub AreHashes : ℕ → List Entry → List ℕ → Type 0
 AreHashes seed pool hashes =
-    (index : ℕ) (text : List ℕ) (hash : ℕ) → utf8_at pool index ≡ Some text → slice_get hashes index ≡ Some hash → hash ≡ text_hash seed text
+    (index : ℕ) (text : List ℕ) (hash : ℕ) → utf8_at pool index ≡ Some text → slice_get hashes index ≡ Some hash
+    → hash ≡ text_hash seed text

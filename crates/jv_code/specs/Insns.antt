@@ -117,8 +117,10 @@ insn_bytes (Division kind op) = (division_opcode op + number_offset kind) ∷ []
 insn_bytes (Increment n z form) = increment_bytes n z form
 insn_bytes (Branch test z) = branch_opcode test ∷ signed16.spelling z
 insn_bytes (Goto z form) = goto_bytes z form
-insn_bytes (TableSwitch padding default low high distances) = 170 ∷ (padding ++ ((signed32.spelling default ++ (signed32.spelling low ++ signed32.spelling high)) ++ distances))
-insn_bytes (LookupSwitch padding default pairs) = 171 ∷ (padding ++ (signed32.spelling default ++ (quad.spelling (length pairs / 8) ++ pairs)))
+insn_bytes (TableSwitch padding default low high distances) =
+    170 ∷ (padding ++ ((signed32.spelling default ++ (signed32.spelling low ++ signed32.spelling high)) ++ distances))
+insn_bytes (LookupSwitch padding default pairs) =
+    171 ∷ (padding ++ (signed32.spelling default ++ (quad.spelling (length pairs / 8) ++ pairs)))
 insn_bytes (ReturnValue kind) = return_opcode kind ∷ []
 insn_bytes Return = 177 ∷ []
 insn_bytes (Field access i) = field_opcode access ∷ half.spelling i
@@ -177,7 +179,9 @@ insn_fits at (StoreLong n form) = local_fits n form
 insn_fits at (Increment n z form) = increment_fits n z form
 insn_fits at (Branch test z) = signed16.fits z
 insn_fits at (Goto z form) = goto_fits z form
-insn_fits at (TableSwitch padding default low high distances) = padding_fits at padding && ((signed32.fits default && (signed32.fits low && signed32.fits high)) && distances_fit (high -ℤ low) distances)
+insn_fits at (TableSwitch padding default low high distances) =
+    padding_fits at padding &&
+    ((signed32.fits default && (signed32.fits low && signed32.fits high)) && distances_fit (high -ℤ low) distances)
 insn_fits at (LookupSwitch padding default pairs) = padding_fits at padding && (signed32.fits default && pairs_fit pairs)
 insn_fits at (Field access i) = half.fits i
 insn_fits at (Invoke how i) = half.fits i

@@ -69,7 +69,8 @@ NextStarts = (bytes : List ℕ) (pc : ℕ) (i : Instruction) → IsAt bytes pc i
 -- A tableswitch has a distance for each number from the lowest to the highest.
 abbrev pub EachHasDistance : Type 0
 EachHasDistance =
-    (bytes : List ℕ) (pc : ℕ) (padding : List ℕ) (default low high : ℤ) (distances : List ℕ) → IsAt bytes pc (TableSwitch padding default low high distances)
+    (bytes : List ℕ) (pc : ℕ) (padding : List ℕ) (default low high : ℤ) (distances : List ℕ)
+    → IsAt bytes pc (TableSwitch padding default low high distances)
     → pos (length (distances_in distances)) ≡ (high -ℤ low) +ℤ pos 1
 
 -- The keys of a lookupswitch rise.

@@ -13,7 +13,8 @@ moves_floats opcode =
     is_from_to 11 15 opcode || (is_from_to 23 24 opcode || (is_from_to 34 41 opcode || (is_from_to 48 49 opcode
     || (is_from_to 56 57 opcode || (is_from_to 67 74 opcode || is_from_to 81 82 opcode)))))
 
--- fadd, dadd; fsub, dsub; fmul, dmul; fdiv, ddiv; frem, drem; fneg, dneg; i2f, i2d; l2f to f2l; f2d to d2f; fcmpl to dcmpg; freturn, dreturn
+-- fadd, dadd; fsub, dsub; fmul, dmul; fdiv, ddiv; frem, drem; fneg, dneg; i2f, i2d; l2f to f2l; f2d to d2f; fcmpl to dcmpg; freturn,
+-- dreturn
 abbrev pub computes_floats : ℕ → Bool
 computes_floats opcode =
     is_from_to 98 99 opcode || (is_from_to 102 103 opcode || (is_from_to 106 107 opcode || (is_from_to 110 111 opcode

@@ -29,11 +29,13 @@ name_in class number = name_at class.types.names number
 -- the class that an interface is asked of, and members that are guarded in it (JVMS 4.10.1.8)
 abbrev pub NamesInterface : CurrentClass → ℕ → Bool → Type 0
 NamesInterface class name answer =
-    (env : Environment) → IsOfClass class env → is_interface_named env (name_in class name) (class_named env.world (name_in class name)) ≡ answer
+    (env : Environment) → IsOfClass class env
+    → is_interface_named env (name_in class name) (class_named env.world (name_in class name)) ≡ answer
 
 abbrev pub GuardsFieldAt : CurrentClass → ℕ → Bool → Type 0
 GuardsFieldAt class index answer =
-    (env : Environment) → IsOfClass class env → (reference : MemberReference) → field_reference_at class.by.class.constant_pool index ≡ Some reference
+    (env : Environment) → IsOfClass class env → (reference : MemberReference)
+    → field_reference_at class.by.class.constant_pool index ≡ Some reference
     → is_guarded_field env.world env.site.by reference ≡ answer
 
 abbrev pub GuardsMethodAt : CurrentClass → ℕ → Bool → Type 0

@@ -40,7 +40,8 @@ found_as to a = Some (to a.0, a.1)
 
 -- the values `to a`, spelled as a is
 abbrev pub case_of : {A C : Type 0} → (A → C) → (C → Option A) → Format A → Format C
-case_of to from f = record { spelling = λ c. spelled_at f (from c); fits = λ c. fits_at f (from c); read = λ bytes. f.read bytes >>= found_as to }
+case_of to from f =
+    record { spelling = λ c. spelled_at f (from c); fits = λ c. fits_at f (from c); read = λ bytes. f.read bytes >>= found_as to }
 
 -- one value tells the format of what follows: key says which stands before a value
 abbrev pub then_read : {A B : Type 0} → (B → Format A) → B × List ℕ → Option (A × List ℕ)
@@ -74,7 +75,8 @@ abbrev pub signed_read : Width → ℕ × List ℕ → Option (ℤ × List ℕ)
 signed_read w n = Some (cast_signed w n.0, n.1)
 
 abbrev pub signed : Width → ℕ → Format ℕ → Format ℤ
-signed w n f = record { spelling = λ z. f.spelling (cast_unsigned w z); fits = signed_fits n; read = λ bytes. f.read bytes >>= signed_read w }
+signed w n f =
+    record { spelling = λ z. f.spelling (cast_unsigned w z); fits = signed_fits n; read = λ bytes. f.read bytes >>= signed_read w }
 
 -- one value, and one of a format that it tells
 abbrev pub joined : {A B : Type 0} → B × List ℕ → A × List ℕ → Option ((B × A) × List ℕ)

@@ -121,7 +121,8 @@ is_uninitialized_this _ = false
 -- the frame of local entries, the first first, and of a stack, the top first; it has the flag exactly where a local is
 -- uninitializedThis
 abbrev pub by_words : ℕ → List FrameType → List FrameType → Frame
-by_words max_locals entries stack = record { locals = expanded max_locals entries; stack = stack; flag_this_uninit = list_any is_uninitialized_this entries }
+by_words max_locals entries stack =
+    record { locals = expanded max_locals entries; stack = stack; flag_this_uninit = list_any is_uninitialized_this entries }
 
 -- a frame by words, at its offset
 pub record PlacedFrame : Type 0 where
@@ -144,7 +145,8 @@ pub record Maps (pool : List Entry) (limits : Limits) (initial : List FrameType)
 
 -- A law: local entries within max_locals come to max_locals local variables.
 abbrev pub FillsLocals : Type 0
-FillsLocals = (max_locals : ℕ) (entries : List FrameType) → IsTrue (nat_le (words entries) max_locals) → length (expanded max_locals entries) ≡ max_locals
+FillsLocals = (max_locals : ℕ) (entries : List FrameType) → IsTrue (nat_le (words entries) max_locals)
+    → length (expanded max_locals entries) ≡ max_locals
 
 -- A law: bytes have one list of frames at most.
 abbrev pub OneMaps : Type 0

@@ -22,4 +22,5 @@ initial_entries class_name is_static is_init parameters = receiver_entries class
 -- The initial frame: these local entries and then top, an empty stack, and the flag exactly where the receiver is
 -- uninitializedThis.
 abbrev pub initial_frame : ℕ → List ℕ → Bool → Bool → List (FieldTypeOf (List ℕ)) → Frame
-initial_frame max_locals class_name is_static is_init parameters = by_words max_locals (initial_entries class_name is_static is_init parameters) []
+initial_frame max_locals class_name is_static is_init parameters =
+    by_words max_locals (initial_entries class_name is_static is_init parameters) []

@@ -47,7 +47,8 @@ forms =
 pub record WorkedRows : Type 0 where
   -- the bytes of a map: its count, and each frame
   pub bytes : stack_map_bytes forms
-      ≡ 0 ∷ 7 ∷ 5 ∷ 67 ∷ 1 ∷ 247 ∷ 1 ∷ 44 ∷ 7 ∷ 0 ∷ 7 ∷ 249 ∷ 0 ∷ 1 ∷ 251 ∷ 0 ∷ 64 ∷ 252 ∷ 0 ∷ 1 ∷ 4 ∷ 255 ∷ 0 ∷ 2 ∷ 0 ∷ 1 ∷ 0 ∷ 0 ∷ 1 ∷ 5 ∷ []
+      ≡ 0 ∷ 7 ∷ 5 ∷ 67 ∷ 1 ∷ 247 ∷ 1 ∷ 44 ∷ 7 ∷ 0 ∷ 7 ∷ 249 ∷ 0 ∷ 1 ∷ 251 ∷ 0 ∷ 64 ∷ 252 ∷ 0 ∷ 1 ∷ 4 ∷ 255 ∷ 0 ∷ 2 ∷ 0 ∷ 1 ∷ 0 ∷ 0 ∷ 1 ∷ 5
+      ∷ []
   -- what Class constants name
   pub names_class : reference_type (codes "A") ≡ Some (types.Class (codes "A"))
   pub names_array : reference_type (codes "[[J") ≡ Some (array 1 (elements.Base bases.Long))
@@ -61,7 +62,8 @@ pub record WorkedRows : Type 0 where
   -- initial frames
   pub first : initial_frame 4 (codes "C") false true (field_type 0 (elements.Base bases.Long) ∷ [])
       ≡ record { locals = types.UninitializedThis ∷ types.Long ∷ types.Top ∷ types.Top ∷ []; stack = []; flag_this_uninit = true }
-  pub plain : initial_frame 1 object_name false true [] ≡ record { locals = types.Class object_name ∷ []; stack = []; flag_this_uninit = false }
+  pub plain : initial_frame 1 object_name false true []
+      ≡ record { locals = types.Class object_name ∷ []; stack = []; flag_this_uninit = false }
   -- the first offset is its delta, the next is one more than its delta behind it; a chop takes the last
   pub chopped : frames_of (Same 3 ∷ Chop 2 4 ∷ [])
       ≡ Some (map_frame 3 (types.Int ∷ types.Long ∷ types.Class (codes "A") ∷ []) [] ∷ map_frame 8 (types.Class (codes "A") ∷ []) [] ∷ [])

@@ -67,7 +67,8 @@ pub fn read_frames(
     ensures known { IfOk result (λ frames. All (HoldsKnown pool.now widths.now) frames) }
     ensures words { IfOk result (λ frames. All (HasItsWords widths.now) frames) }
     ensures bad { result ≡ Err BadFrames
-        → (types : List FrameType) → HaveWidths types widths.now → (frames : List PlacedFrame) → Maps pool.now limits types bytes.now frames → ⊥ }
+        → (types : List FrameType) → HaveWidths types widths.now → (frames : List PlacedFrame)
+        → Maps pool.now limits types bytes.now frames → ⊥ }
 {
     pool.keeps_rules();
     kinds_name();

@@ -21,7 +21,8 @@ greatest (block ∷ blocks) = max block.0 (greatest blocks)
 -- the content with one word of the block at an address changed
 abbrev pub written : List (ℕ × List ℕ) → ℕ → ℕ → ℕ → List (ℕ × List ℕ)
 written [] address place word = []
-written (block ∷ blocks) address place word = cond (nat_eq block.0 address) ((block.0, set block.1 place word) ∷ blocks) (block ∷ written blocks address place word)
+written (block ∷ blocks) address place word = cond (nat_eq block.0 address) ((block.0, set block.1 place word) ∷ blocks)
+    (block ∷ written blocks address place word)
 
 -- the content without the block at an address
 abbrev pub without : List (ℕ × List ℕ) → ℕ → List (ℕ × List ℕ)

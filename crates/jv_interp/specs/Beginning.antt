@@ -20,7 +20,8 @@ abbrev pub guest_with : List (List ℕ) → List ℕ → List ℕ → GuestFiles
 guest_with files main input = record { files = files; main = main; input = input }
 
 -- It stands for the start, under addresses of new blocks; and all that there were are as they were.
-pub record Begins (files : List (List ℕ)) (main input : List ℕ) (budget : Budget) (before : Blocks) (guest : Guest) (after : Blocks) : Type 0 where
+pub record Begins (files : List (List ℕ)) (main input : List ℕ) (budget : Budget) (before : Blocks) (guest : Guest)
+    (after : Blocks) : Type 0 where
   pub addresses : List ℕ
   pub stands : GuestStands (guest_with files main input) (budget_of budget) [] 0 addresses guest after
   pub grows : Grows [] addresses before after

@@ -36,7 +36,8 @@ observed_of o = record {
 -- It is what the guest that stands here shows alone after as many of its own steps.
 abbrev pub IsShown : Guest → Observation → Type 0
 IsShown guest o =
-    (g : GuestFiles) (b : Budget) (feeds : List Feed) (n : ℕ) (addresses : List ℕ) (blocks : Blocks) → GuestStands g b feeds n addresses guest blocks
+    (g : GuestFiles) (b : Budget) (feeds : List Feed) (n : ℕ) (addresses : List ℕ) (blocks : Blocks)
+    → GuestStands g b feeds n addresses guest blocks
     → Shows g b feeds n (observed_of o)
 
 -- It has ended.

@@ -27,7 +27,8 @@ pub record AreTables (world : World) (guest : Guest) : Type 0 where
   pub few : length world ≤ 1057
 
 -- A guest with these files and this budget, which was fed so, stands after so many of its own steps. What came, came by then.
-pub record GuestStands (g : GuestFiles) (b : Budget) (feeds : List Feed) (n : ℕ) (addresses : List ℕ) (guest : Guest) (blocks : Blocks) : Type 0 where
+pub record GuestStands (g : GuestFiles) (b : Budget) (feeds : List Feed) (n : ℕ) (addresses : List ℕ) (guest : Guest)
+    (blocks : Blocks) : Type 0 where
   pub judged : Judged
   pub right : IsJudged g.files judged
   pub world_is : judged.program.world ≡ guest.judged.world
@@ -52,7 +53,8 @@ pub record IsSomeGuest (guest : Guest) (blocks : Blocks) : Type 0 where
 
 -- It took so many further steps: it stands after them, with the addresses of new objects behind the others, and the blocks of other
 -- guests are as they were.
-pub record Went (k : ℕ) (g : GuestFiles) (b : Budget) (feeds : List Feed) (n : ℕ) (addresses : List ℕ) (before after : Guest) (blocks_before blocks_after : Blocks) : Type 0 where
+pub record Went (k : ℕ) (g : GuestFiles) (b : Budget) (feeds : List Feed) (n : ℕ) (addresses : List ℕ) (before after : Guest)
+    (blocks_before blocks_after : Blocks) : Type 0 where
   pub more : List ℕ
   pub stands : GuestStands g b feeds (n + k) (addresses ++ more) after blocks_after
   pub grows : Grows addresses more blocks_before blocks_after
@@ -65,13 +67,15 @@ WentOn k before after blocks_before blocks_after =
 -- Bytes came: they join behind the input that waits, at the guest's own step.
 abbrev pub IsFed : List ℕ → Guest → Guest → Type 0
 IsFed bytes before after =
-    (g : GuestFiles) (b : Budget) (feeds : List Feed) (n : ℕ) (addresses : List ℕ) (blocks : Blocks) → GuestStands g b feeds n addresses before blocks
+    (g : GuestFiles) (b : Budget) (feeds : List Feed) (n : ℕ) (addresses : List ℕ) (blocks : Blocks)
+    → GuestStands g b feeds n addresses before blocks
     → GuestStands g b (feeds ++ record { own_step = n; bytes = bytes } ∷ []) n addresses after blocks
 
 -- It stands for what it stood for, with all that came to it.
 abbrev pub StandsStill : Guest → Guest → Type 0
 StandsStill before after =
-    (g : GuestFiles) (b : Budget) (feeds : List Feed) (n : ℕ) (addresses : List ℕ) (blocks : Blocks) → GuestStands g b feeds n addresses before blocks
+    (g : GuestFiles) (b : Budget) (feeds : List Feed) (n : ℕ) (addresses : List ℕ) (blocks : Blocks)
+    → GuestStands g b feeds n addresses before blocks
     → GuestStands g b feeds n addresses after blocks
 
 -- no address is in both lists

@@ -1,5 +1,5 @@
--- What the machine makes of an instruction's effect (JVMS 2.6, 2.10, 2.11, 5.5): the method that ran it goes on in its registers, or it is left
--- or waits, and then all frames stand in their records.
+-- What the machine makes of an instruction's effect (JVMS 2.6, 2.10, 2.11, 5.5): the method that ran it goes on in its registers, or it is
+-- left or waits, and then all frames stand in their records.
 use Rattle.std.specs.Prelude.{◌≡◌, ℕ, ◌≤◌, Bool, true, false, List, ◌∷◌, Some, Ok, length, reverse, slice_get, vec_capacity}
 use Rattle.jv_meaning_world.specs.World.{World}
 use Rattle.jv_meaning_world.specs.Overriding.{Declared}
@@ -22,8 +22,8 @@ use Rattle.jv_interp_frames.specs.Moves.{AreVerified}
 use Rattle.jv_interp_frames.specs.Standing.{Kept, Reaches}
 use Rattle.jv_interp_actions.specs.Running.{HaveRoom, StateRuns}
 
--- The method of a frame is the one that the registers tell: its number, its code, and where its words begin, on those below. The frame is as
--- it was when it stood in words before the instruction: its stack is within max_stack.
+-- The method of a frame is the one that the registers tell: its number, its code, and where its words begin, on those below. The frame is
+-- as it was when it stood in words before the instruction: its stack is within max_stack.
 pub record RunsIn (program : Program) (frame : MethodFrame) (at : Registers) (below : List ℕ) : Type 0 where
   pub declared : Declared
   pub has_number : slice_get (methods_of program.world) at.method ≡ Some declared
@@ -33,9 +33,10 @@ pub record RunsIn (program : Program) (frame : MethodFrame) (at : Registers) (be
   pub stack_fits : words_of_values frame.stack ≤ frame.method.code.max_stack
   pub code_is : at.code.now ≡ frame.method.code.code
 
--- In the current frame of a state something was done to the memory, with an effect, as an instruction does: what it did to the memory stands, and
--- its effect stands in registers and words, on those of the frames below; and the machine makes this state of it.
-pub record Acting (world : World) (at : Registers) (effect : Effect) (program : Program) (texts : List (List ℕ)) (s t : State) (addresses : List ℕ) (before : Kept) : Type 0 where
+-- In the current frame of a state something was done to the memory, with an effect, as an instruction does: what it did to the memory
+-- stands, and its effect stands in registers and words, on those of the frames below; and the machine makes this state of it.
+pub record Acting (world : World) (at : Registers) (effect : Effect) (program : Program) (texts : List (List ℕ)) (s t : State)
+    (addresses : List ℕ) (before : Kept) : Type 0 where
   pub world_is : program.world ≡ world
   pub guests : IsGuestsWorld program.world
   pub finds : FindsInstructions program.instructions

@@ -26,7 +26,8 @@ pub record Initializing (verified : List Bool) (program : Program) (addresses : 
 
 -- ---- what is done to a state whose literals are of these texts
 
-pub record CanMoveWith (world : World) (texts : List (List ℕ)) (part : Program → List ℕ → State → State → Type 0) (before : Kept) : Type 0 where
+pub record CanMoveWith (world : World) (texts : List (List ℕ)) (part : Program → List ℕ → State → State → Type 0) (before : Kept)
+    : Type 0 where
   pub program : Program
   pub s : State
   pub t : State

@@ -14,7 +14,8 @@ use Rattle.jv_interp_actions.specs.Running.{HaveRoom}
 use Rattle.jv_interp_actions.specs.Acting.{AreAsBefore}
 
 -- All frames stand in their records.
-pub record Resuming (methods : Methods) (frames : Frames) (program : Program) (addresses : List ℕ) (all : List Frame) (left : ℕ) : Type 0 where
+pub record Resuming (methods : Methods) (frames : Frames) (program : Program) (addresses : List ℕ) (all : List Frame) (left : ℕ)
+    : Type 0 where
   pub are : AreMethods program.world methods
   pub stand : FramesStand program addresses all frames left
 

@@ -20,7 +20,8 @@ pub record HaveRoom (frames : List Frame) (left : ℕ) (kept : Frames) : Type 0 
   pub records_fit : length kept.words.items ≤ 4 * vec_capacity kept.records
 
 -- How many words are in use the registers tell, and `kept.frames.top` may be any.
-pub record StateRuns (program : Program) (texts : List (List ℕ)) (s : State) (addresses : List ℕ) (at : Registers) (kept : Kept) : Type 0 where
+pub record StateRuns (program : Program) (texts : List (List ℕ)) (s : State) (addresses : List ℕ) (at : Registers) (kept : Kept)
+    : Type 0 where
   pub running : RunningStands program addresses s.frames at kept.frames.records.items kept.frames.words.items s.control.words
   pub rooms : HaveRoom s.frames s.control.words kept.frames
   pub control : ControlStands program.world s.control kept.control

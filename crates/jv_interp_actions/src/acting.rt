@@ -17,8 +17,8 @@ use jv_interp_frames::{Control, Frames};
 use jv_interp_memory::{Effect, Held};
 use jv_interp_words::Registers;
 
-/// What an instruction's effect asks for is done. Answers whether its method goes on in the registers; where it doesn't, it is left or waits, and
-/// all frames stand in their records, from which the newest goes on.
+/// What an instruction's effect asks for is done. Answers whether its method goes on in the registers; where it doesn't, it is left or
+/// waits, and all frames stand in their records, from which the newest goes on.
 ///
 /// # Errors
 ///

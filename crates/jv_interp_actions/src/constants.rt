@@ -114,8 +114,8 @@ fn constant_of<'a>(
     Some(constant_at(texts, class, file.pool(), value))
 }
 
-/// The static field at a place of a class gets its constant. Where the cells of a string are not left, the OutOfMemoryError object of the start is
-/// thrown (own).
+/// The static field at a place of a class gets its constant. Where the cells of a string are not left, the OutOfMemoryError object of the
+/// start is thrown (own).
 ///
 /// # Errors
 ///

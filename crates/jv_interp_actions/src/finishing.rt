@@ -33,8 +33,8 @@ fn mark(classes: &Classes<'_>, frames: &mut Frames, control: &mut Control, class
     }
 }
 
-/// The class with a number is initialized: its initialization's record is gone, and its words are given back. Where no frame is left main is
-/// entered, with the array of Strings that was made at the start (own).
+/// The class with a number is initialized: its initialization's record is gone, and its words are given back. Where no frame is left main
+/// is entered, with the array of Strings that was made at the start (own).
 ///
 /// # Errors
 ///

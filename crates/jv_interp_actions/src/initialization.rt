@@ -89,8 +89,9 @@ fn take_initialization(frames: &mut Frames) -> InitializationRecord
     own
 }
 
-/// The first task of the newest frame, which is an initialization, is done (JVMS 5.5): a static field gets its constant, a class or interface that is
-/// neither initialized nor being initialized is initialized first, or `<clinit>` is entered. Where no task is left the class is initialized.
+/// The first task of the newest frame, which is an initialization, is done (JVMS 5.5): a static field gets its constant, a class or
+/// interface that is neither initialized nor being initialized is initialized first, or `<clinit>` is entered. Where no task is left the
+/// class is initialized.
 ///
 /// # Errors
 ///

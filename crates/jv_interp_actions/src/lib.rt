@@ -1,5 +1,5 @@
-//! What a guest's step makes of frames (JVMS 2.6, 2.11, 5.5): an instruction's effect, once it is executed, and the tasks of an initialization. A
-//! room of `jv_interp`.
+//! What a guest's step makes of frames (JVMS 2.6, 2.11, 5.5): an instruction's effect, once it is executed, and the tasks of an
+//! initialization. A room of `jv_interp`.
 #![tactic(auto)]
 
 mod above;

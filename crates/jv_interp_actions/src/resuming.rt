@@ -7,8 +7,8 @@ use jv_interp_calls::of_interp_methods::Methods;
 use jv_interp_frames::{Frames, code_of, push_record};
 use jv_interp_words::{FrameRecord, Registers};
 
-/// The method of the newest frame goes on in registers, and its record is gone; none where the newest frame is an initialization, or there is no
-/// frame. Where the constants of its class begin nobody asks yet, so that is 0.
+/// The method of the newest frame goes on in registers, and its record is gone; none where the newest frame is an initialization, or there
+/// is no frame. Where the constants of its class begin nobody asks yet, so that is 0.
 pub fn resume<'a>(methods: &Methods<'a>, frames: &mut Frames) -> Option<Registers<'a>>
     requires { CanResume methods.now frames.old }
     ensures resumes { Resumes methods.now frames.old frames.new result }

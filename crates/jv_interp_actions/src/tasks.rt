@@ -10,8 +10,8 @@ use jv_interp_calls::of_loader::ClassTable;
 use jv_interp_memory::ClassState;
 use jv_interp_words::InitializationRecord;
 
-/// A task of a class: the static field at a place gets its constant, the class or interface with a number is initialized, or the `<clinit>` at a place
-/// runs.
+/// A task of a class: the static field at a place gets its constant, the class or interface with a number is initialized, or the `<clinit>`
+/// at a place runs.
 #[derive(Clone, Copy)]
 pub(crate) enum Task {
     Sets(usize),

@@ -14,7 +14,8 @@ use Rattle.jv_interp_memory.specs.SystemNumbers.{IsGuestsWorld}
 
 -- ---- arraylength
 
-pub record Measuring (next : ℕ) (here : Place) (texts : List (List ℕ)) (c : Context) (addresses : List ℕ) (done : Memory × EffectOfNames) (below : List ℕ) : Type 0 where
+pub record Measuring (next : ℕ) (here : Place) (texts : List (List ℕ)) (c : Context) (addresses : List ℕ)
+    (done : Memory × EffectOfNames) (below : List ℕ) : Type 0 where
   pub executes : Executes array_length texts next here c addresses done below
   pub guests : IsGuestsWorld c.program.world
 
@@ -34,7 +35,8 @@ Measures next at words held blocks at_after words_after effect =
 
 -- ---- iaload and its kin: the machine loads a component of an array whose components pass a test, so that each has so many words
 
-pub record Loading (slots next : ℕ) (here : Place) (texts : List (List ℕ)) (c : Context) (test : FieldTypeOf (List ℕ) → Bool) (addresses : List ℕ) (done : Memory × EffectOfNames) (below : List ℕ) : Type 0 where
+pub record Loading (slots next : ℕ) (here : Place) (texts : List (List ℕ)) (c : Context) (test : FieldTypeOf (List ℕ) → Bool)
+    (addresses : List ℕ) (done : Memory × EffectOfNames) (below : List ℕ) : Type 0 where
   pub executes : Executes (λ c. load_component c test) texts next here c addresses done below
   pub slots_are : (type : FieldTypeOf (List ℕ)) → test type ≡ true → width (value_type type) ≡ slots
   pub guests : IsGuestsWorld c.program.world

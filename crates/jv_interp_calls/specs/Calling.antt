@@ -16,7 +16,8 @@ use Rattle.jv_interp_memory.specs.Executing.{Place, place, Executes, HasRoom, Di
 use Rattle.jv_interp_calls.specs.Known.{Known, IsKnown}
 
 -- The machine calls the method that the constant at an index names.
-pub record Calling (how : Use) (index next : ℕ) (k : Known) (here : Place) (texts : List (List ℕ)) (c : Context) (addresses : List ℕ) (done : Memory × EffectOfNames) (below : List ℕ) : Type 0 where
+pub record Calling (how : Use) (index next : ℕ) (k : Known) (here : Place) (texts : List (List ℕ)) (c : Context)
+    (addresses : List ℕ) (done : Memory × EffectOfNames) (below : List ℕ) : Type 0 where
   pub executes : Executes (λ c. call c (seen_use how) index) texts next here c addresses done below
   pub known : IsKnown k c
   pub loadable : AreLoadable k.world c.memory.objects
@@ -45,11 +46,13 @@ Calls how index k at words held blocks effect =
 -- ---- of a class's methods, which need no store
 
 -- the machine calls such a method, and of each class the state is known
-pub record CallingStatic (index next : ℕ) (k : Known) (states : List ClassState) (here : Place) (texts : List (List ℕ)) (c : Context) (addresses : List ℕ) (done : Memory × EffectOfNames) (below : List ℕ) : Type 0 where
+pub record CallingStatic (index next : ℕ) (k : Known) (states : List ClassState) (here : Place) (texts : List (List ℕ))
+    (c : Context) (addresses : List ℕ) (done : Memory × EffectOfNames) (below : List ℕ) : Type 0 where
   pub calls : Calling uses.Invokestatic index next k here texts c addresses done below
   pub states_are : AreClassStates k.world c.states states
 
-pub record CanCallStatic (index next : ℕ) (k : Known) (states : List ClassState) (at : Registers) (words : List ℕ) (held : Held) : Type 0 where
+pub record CanCallStatic (index next : ℕ) (k : Known) (states : List ClassState) (at : Registers) (words : List ℕ) (held : Held)
+    : Type 0 where
   pub blocks : Blocks
   pub texts : List (List ℕ)
   pub c : Context

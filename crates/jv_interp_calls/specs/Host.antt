@@ -12,7 +12,8 @@ use Rattle.jv_interp_memory.specs.declared.effect.Effect.{Effect}
 use Rattle.jv_interp_memory.specs.Executing.{Place, place, Executes, HasRoom, Did}
 
 -- The machine writes a byte of the int on top of the stack.
-pub record Writing (next : ℕ) (here : Place) (texts : List (List ℕ)) (c : Context) (number : ℤ) (rest : List Value) (addresses : List ℕ) (done : Memory × EffectOfNames) (below : List ℕ) : Type 0 where
+pub record Writing (next : ℕ) (here : Place) (texts : List (List ℕ)) (c : Context) (number : ℤ) (rest : List Value)
+    (addresses : List ℕ) (done : Memory × EffectOfNames) (below : List ℕ) : Type 0 where
   pub executes : Executes (λ c. write c number rest) texts next here c addresses done below
   pub stack : c.frame.stack ≡ Int number ∷ rest
 
@@ -34,7 +35,8 @@ Writes next at words held at_after held_after effect =
     → Did texts (place at_after words held_after blocks) effect c addresses done below
 
 -- The machine reads a byte onto the stack.
-pub record Reading (next : ℕ) (here : Place) (texts : List (List ℕ)) (c : Context) (addresses : List ℕ) (done : Memory × EffectOfNames) (below : List ℕ) : Type 0 where
+pub record Reading (next : ℕ) (here : Place) (texts : List (List ℕ)) (c : Context) (addresses : List ℕ)
+    (done : Memory × EffectOfNames) (below : List ℕ) : Type 0 where
   pub executes : Executes (λ c. read c c.frame.stack c.memory.input) texts next here c addresses done below
 
 pub record CanRead (next : ℕ) (at : Registers) (words : List ℕ) (held : Held) : Type 0 where

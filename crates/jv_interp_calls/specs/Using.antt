@@ -17,14 +17,16 @@ use Rattle.jv_interp_calls.specs.Known.{Known, IsKnown}
 
 -- ---- the machine uses the field that the constant at an index names
 
-pub record Using (how : FieldAccess) (index next : ℕ) (k : Known) (here : Place) (texts : List (List ℕ)) (c : Context) (addresses : List ℕ) (done : Memory × EffectOfNames) (below : List ℕ) : Type 0 where
+pub record Using (how : FieldAccess) (index next : ℕ) (k : Known) (here : Place) (texts : List (List ℕ)) (c : Context)
+    (addresses : List ℕ) (done : Memory × EffectOfNames) (below : List ℕ) : Type 0 where
   pub executes : Executes (λ c. use_field c how index) texts next here c addresses done below
   pub known : IsKnown k c
   pub loadable : AreLoadable k.world c.memory.objects
 
 -- ---- fields of objects
 
-pub record CanUseField (how : FieldAccess) (index next : ℕ) (k : Known) (at : Registers) (words : List ℕ) (held : Held) (blocks : Blocks) : Type 0 where
+pub record CanUseField (how : FieldAccess) (index next : ℕ) (k : Known) (at : Registers) (words : List ℕ) (held : Held)
+    (blocks : Blocks) : Type 0 where
   pub texts : List (List ℕ)
   pub c : Context
   pub addresses : List ℕ
@@ -48,11 +50,13 @@ PutsInField index next k held words at blocks at_after blocks_after effect =
 
 -- ---- static fields, which need no store
 
-pub record UsingStatic (how : FieldAccess) (index next : ℕ) (k : Known) (states : List ClassState) (here : Place) (texts : List (List ℕ)) (c : Context) (addresses : List ℕ) (done : Memory × EffectOfNames) (below : List ℕ) : Type 0 where
+pub record UsingStatic (how : FieldAccess) (index next : ℕ) (k : Known) (states : List ClassState) (here : Place)
+    (texts : List (List ℕ)) (c : Context) (addresses : List ℕ) (done : Memory × EffectOfNames) (below : List ℕ) : Type 0 where
   pub uses : Using how index next k here texts c addresses done below
   pub states_are : AreClassStates k.world c.states states
 
-pub record CanUseStatic (how : FieldAccess) (index next : ℕ) (k : Known) (states : List ClassState) (at : Registers) (words : List ℕ) (held : Held) : Type 0 where
+pub record CanUseStatic (how : FieldAccess) (index next : ℕ) (k : Known) (states : List ClassState) (at : Registers)
+    (words : List ℕ) (held : Held) : Type 0 where
   pub blocks : Blocks
   pub texts : List (List ℕ)
   pub c : Context
@@ -62,7 +66,8 @@ pub record CanUseStatic (how : FieldAccess) (index next : ℕ) (k : Known) (stat
   pub uses : UsingStatic how index next k states (place at words held blocks) texts c addresses done below
   pub room : HasRoom c below (length words) done
 
-abbrev pub UsesStatic : FieldAccess → ℕ → ℕ → Known → List ClassState → Registers → List ℕ → Held → Registers → List ℕ → Held → Effect → Type 0
+abbrev pub UsesStatic : FieldAccess → ℕ → ℕ → Known → List ClassState → Registers → List ℕ → Held → Registers → List ℕ → Held → Effect
+    → Type 0
 UsesStatic how index next k states at words held at_after words_after held_after effect =
     (blocks : Blocks) (texts : List (List ℕ)) (c : Context) (addresses : List ℕ) (done : Memory × EffectOfNames) (below : List ℕ)
     → UsingStatic how index next k states (place at words held blocks) texts c addresses done below

@@ -28,7 +28,8 @@ array_of components c =
     taken_as c.memory.objects types.Int c.frame.stack >>= λ top. as_int top.0 >>= λ count. make_array c components count top.1
 
 -- The machine makes an array of components whose type a word tells. Each has so many words, and costs as many cells.
-pub record MakingArray (word slots next : ℕ) (here : Place) (texts : List (List ℕ)) (c : Context) (components : FieldTypeOf (List ℕ)) (addresses : List ℕ) (done : Memory × EffectOfNames) (below : List ℕ) : Type 0 where
+pub record MakingArray (word slots next : ℕ) (here : Place) (texts : List (List ℕ)) (c : Context)
+    (components : FieldTypeOf (List ℕ)) (addresses : List ℕ) (done : Memory × EffectOfNames) (below : List ℕ) : Type 0 where
   pub executes : Executes (array_of components) texts next here c addresses done below
   pub type : IsArrayWord c.program.world components word
   pub slots_are : width (value_type components) ≡ slots
@@ -53,7 +54,8 @@ MakesArray word slots next at words held blocks at_after words_after held_after 
 
 -- ---- newarray, whose components are of a base type
 
-pub record MakingBaseArray (word slots next : ℕ) (here : Place) (texts : List (List ℕ)) (c : Context) (element : ElementType) (addresses : List ℕ) (done : Memory × EffectOfNames) (below : List ℕ) : Type 0 where
+pub record MakingBaseArray (word slots next : ℕ) (here : Place) (texts : List (List ℕ)) (c : Context) (element : ElementType)
+    (addresses : List ℕ) (done : Memory × EffectOfNames) (below : List ℕ) : Type 0 where
   pub executes : Executes (λ c. execute c (insns.NewArray element)) texts next here c addresses done below
   pub type : IsArrayWord c.program.world (base_components (base_of element)) word
   pub slots_are : width (value_type (base_components (base_of element))) ≡ slots

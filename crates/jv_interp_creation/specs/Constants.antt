@@ -25,7 +25,8 @@ constant_at c index = pushed_constant (pool_at c) (at_index (pool_at c) index)
 
 -- ---- an int
 
-pub record PushingInt (bits next : ℕ) (here : Place) (texts : List (List ℕ)) (c : Context) (index : ℕ) (addresses : List ℕ) (done : Memory × EffectOfNames) (below : List ℕ) : Type 0 where
+pub record PushingInt (bits next : ℕ) (here : Place) (texts : List (List ℕ)) (c : Context) (index : ℕ) (addresses : List ℕ)
+    (done : Memory × EffectOfNames) (below : List ℕ) : Type 0 where
   pub executes : Executes (λ c. push_constant c index) texts next here c addresses done below
   pub constant_is : constant_at c index ≡ Ok (IntValue (cast_signed w32 bits))
 
@@ -50,7 +51,8 @@ PushesInt bits next at words at_after words_after effect =
 
 -- ---- a long, by its halves
 
-pub record PushingLong (low high next : ℕ) (here : Place) (texts : List (List ℕ)) (c : Context) (index : ℕ) (addresses : List ℕ) (done : Memory × EffectOfNames) (below : List ℕ) : Type 0 where
+pub record PushingLong (low high next : ℕ) (here : Place) (texts : List (List ℕ)) (c : Context) (index : ℕ) (addresses : List ℕ)
+    (done : Memory × EffectOfNames) (below : List ℕ) : Type 0 where
   pub executes : Executes (λ c. push_long_constant c index) texts next here c addresses done below
   pub constant_is : option_map (cast_signed w64) (long_at (pool_at c) index) ≡ Some (long_of low high)
 
@@ -75,14 +77,16 @@ PushesLong low high next at words at_after words_after effect =
 
 -- ---- the String of the text with a number
 
-pub record PushingString (number : ℕ) (text : List ℕ) (next : ℕ) (here : Place) (texts : List (List ℕ)) (c : Context) (index : ℕ) (addresses : List ℕ) (done : Memory × EffectOfNames) (below : List ℕ) : Type 0 where
+pub record PushingString (number : ℕ) (text : List ℕ) (next : ℕ) (here : Place) (texts : List (List ℕ)) (c : Context) (index : ℕ)
+    (addresses : List ℕ) (done : Memory × EffectOfNames) (below : List ℕ) : Type 0 where
   pub executes : Executes (λ c. push_constant c index) texts next here c addresses done below
   pub constant_is : constant_at c index ≡ Ok (StringValue text)
   pub number_is : slice_get texts number ≡ Some text
   pub units : AreUnits c.program.units
   pub guests : IsGuestsWorld c.program.world
 
-pub record CanPushString (number : ℕ) (text : List ℕ) (next : ℕ) (at : Registers) (words : List ℕ) (held : Held) (blocks : Blocks) : Type 0 where
+pub record CanPushString (number : ℕ) (text : List ℕ) (next : ℕ) (at : Registers) (words : List ℕ) (held : Held) (blocks : Blocks)
+    : Type 0 where
   pub texts : List (List ℕ)
   pub c : Context
   pub index : ℕ

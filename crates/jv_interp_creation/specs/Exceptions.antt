@@ -8,7 +8,8 @@ use Rattle.jv_interp_memory.specs.HeldInWords.{MemoryStands}
 use Rattle.jv_interp_memory.specs.Growing.{Grows}
 
 -- An object that the machine gives stands under an address, and its memory with the addresses of new objects behind the others.
-pub record GivesObject (world : World) (texts : List (List ℕ)) (addresses : List ℕ) (before : Blocks) (made : Memory × ℕ) (held : Held) (after : Blocks) (address : ℕ) : Type 0 where
+pub record GivesObject (world : World) (texts : List (List ℕ)) (addresses : List ℕ) (before : Blocks) (made : Memory × ℕ)
+    (held : Held) (after : Blocks) (address : ℕ) : Type 0 where
   pub more : List ℕ
   pub stands : slice_get (addresses ++ more) made.1 ≡ Some address
   pub memory : MemoryStands world texts made.0 (addresses ++ more) held after

@@ -11,7 +11,8 @@ use Rattle.jv_interp_memory.specs.SystemNumbers.{IsGuestsWorld}
 use Rattle.jv_interp_creation.specs.Exceptions.{GivesObject}
 
 -- The machine gives the object of the text with a number, or lacks cells for it.
-pub record FindingLiteral (number : ℕ) (text : List ℕ) (held : Held) (blocks : Blocks) (texts : List (List ℕ)) (program : Program) (memory : Memory) (addresses : List ℕ) (made : Option (Memory × ℕ)) : Type 0 where
+pub record FindingLiteral (number : ℕ) (text : List ℕ) (held : Held) (blocks : Blocks) (texts : List (List ℕ)) (program : Program)
+    (memory : Memory) (addresses : List ℕ) (made : Option (Memory × ℕ)) : Type 0 where
   pub does : literal program text memory ≡ Ok made
   pub stands : MemoryStands program.world texts memory addresses held blocks
   pub number_is : slice_get texts number ≡ Some text

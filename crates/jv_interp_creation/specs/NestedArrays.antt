@@ -60,7 +60,8 @@ HoldsArrays slots (suc zero) components = (width (value_type components) ≡ slo
 HoldsArrays slots (suc more) components = (1 ≤ components.dimensions) × HoldsArrays slots more (component components)
 
 -- The machine makes arrays of arrays: the first word of the outer one tells the type of its components.
-pub record MakingArrays (word slots dimensions next : ℕ) (here : Place) (texts : List (List ℕ)) (c : Context) (components : FieldTypeOf (List ℕ)) (addresses : List ℕ) (done : Memory × EffectOfNames) (below : List ℕ) : Type 0 where
+pub record MakingArrays (word slots dimensions next : ℕ) (here : Place) (texts : List (List ℕ)) (c : Context)
+    (components : FieldTypeOf (List ℕ)) (addresses : List ℕ) (done : Memory × EffectOfNames) (below : List ℕ) : Type 0 where
   pub executes : Executes (arrays_of dimensions components) texts next here c addresses done below
   pub type : IsArrayWord c.program.world components word
   pub holds : HoldsArrays slots dimensions components

@@ -18,7 +18,8 @@ abbrev pub object_of : Loaded → Context → Outcome
 object_of l c = push_object c l (paid (object_cells (world_at c) l) c.memory)
 
 -- The machine makes an object of the class with a number, whose objects have so many words.
-pub record Creating (class size next : ℕ) (here : Place) (texts : List (List ℕ)) (c : Context) (l : Loaded) (addresses : List ℕ) (done : Memory × EffectOfNames) (below : List ℕ) : Type 0 where
+pub record Creating (class size next : ℕ) (here : Place) (texts : List (List ℕ)) (c : Context) (l : Loaded) (addresses : List ℕ)
+    (done : Memory × EffectOfNames) (below : List ℕ) : Type 0 where
   pub executes : Executes (object_of l) texts next here c addresses done below
   pub named : class_named c.program.world l.class.name ≡ Some l
   pub has_number : slice_get c.program.world class ≡ Some l

@@ -21,7 +21,8 @@ use Rattle.jv_interp_memory.specs.Growing.{DidIn}
 use Rattle.jv_interp_memory.specs.SystemNumbers.{IsGuestsWorld}
 
 -- The machine stores a number of a kind, of so many words, into an array.
-pub record Storing (slots next : ℕ) (here : Place) (texts : List (List ℕ)) (c : Context) (kind : NumberElement) (addresses : List ℕ) (done : Memory × EffectOfNames) (below : List ℕ) : Type 0 where
+pub record Storing (slots next : ℕ) (here : Place) (texts : List (List ℕ)) (c : Context) (kind : NumberElement)
+    (addresses : List ℕ) (done : Memory × EffectOfNames) (below : List ℕ) : Type 0 where
   pub executes : Executes (λ c. store_component c kind) texts next here c addresses done below
   pub slots_are : width (element_number kind) ≡ slots
   pub guests : IsGuestsWorld c.program.world
@@ -40,7 +41,8 @@ array_word slots at words blocks = slice_index (words_at blocks (array_address s
 
 -- ---- a number that is narrowed so, by its kind or by the array
 
-pub record CanStore (slots : ℕ) (how : Narrowing) (next : ℕ) (at : Registers) (words : List ℕ) (held : Held) (blocks : Blocks) : Type 0 where
+pub record CanStore (slots : ℕ) (how : Narrowing) (next : ℕ) (at : Registers) (words : List ℕ) (held : Held) (blocks : Blocks)
+    : Type 0 where
   pub texts : List (List ℕ)
   pub c : Context
   pub kind : NumberElement

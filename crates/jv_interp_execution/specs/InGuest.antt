@@ -19,14 +19,16 @@ use Rattle.jv_interp_types.specs.of_interp_calls.Known.{Known, IsKnown}
 use Rattle.jv_interp_execution.specs.OnWords.{part_of}
 
 -- An instruction is executed in a frame that stands in words, at a method that is known.
-pub record ExecutesIn (insn : Instruction) (next : ℕ) (k : Known) (texts : List (List ℕ)) (here : Place) (c : Context) (addresses : List ℕ) (done : Memory × EffectOfNames) (below : List ℕ) : Type 0 where
+pub record ExecutesIn (insn : Instruction) (next : ℕ) (k : Known) (texts : List (List ℕ)) (here : Place) (c : Context)
+    (addresses : List ℕ) (done : Memory × EffectOfNames) (below : List ℕ) : Type 0 where
   pub executes : Executes (part_of insn) texts next here c addresses done below
   pub known : IsKnown k c
   pub loadable : AreLoadable k.world c.memory.objects
   pub units : AreUnits c.program.units
 
 -- There is such a frame, and what the instruction leaves on its stack has room.
-pub record CanExecute (insn : Instruction) (next : ℕ) (k : Known) (texts : List (List ℕ)) (at : Registers) (words : List ℕ) (held : Held) (blocks : Blocks) : Type 0 where
+pub record CanExecute (insn : Instruction) (next : ℕ) (k : Known) (texts : List (List ℕ)) (at : Registers) (words : List ℕ)
+    (held : Held) (blocks : Blocks) : Type 0 where
   pub c : Context
   pub addresses : List ℕ
   pub done : Memory × EffectOfNames
@@ -42,7 +44,8 @@ Executed insn next k texts before after effect =
 
 -- ---- where it is known how far the initialization of each class is
 
-pub record CanExecuteAt (states : List ClassState) (insn : Instruction) (next : ℕ) (k : Known) (texts : List (List ℕ)) (at : Registers) (words : List ℕ) (held : Held) (blocks : Blocks) : Type 0 where
+pub record CanExecuteAt (states : List ClassState) (insn : Instruction) (next : ℕ) (k : Known) (texts : List (List ℕ))
+    (at : Registers) (words : List ℕ) (held : Held) (blocks : Blocks) : Type 0 where
   pub can : CanExecute insn next k texts at words held blocks
   pub states_are : AreClassStates k.world can.c.states states
 

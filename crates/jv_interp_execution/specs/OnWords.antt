@@ -18,7 +18,8 @@ abbrev pub part_of : Instruction → Context → Outcome
 part_of insn c = execute c insn
 
 -- It is executed in a guest, in a frame that stands in words.
-pub record ExecutesInsn (insn : Instruction) (texts : List (List ℕ)) (next : ℕ) (here : Place) (c : Context) (addresses : List ℕ) (done : Memory × EffectOfNames) (below : List ℕ) : Type 0 where
+pub record ExecutesInsn (insn : Instruction) (texts : List (List ℕ)) (next : ℕ) (here : Place) (c : Context) (addresses : List ℕ)
+    (done : Memory × EffectOfNames) (below : List ℕ) : Type 0 where
   pub executes : Executes (part_of insn) texts next here c addresses done below
   pub guests : IsGuestsWorld c.program.world
 

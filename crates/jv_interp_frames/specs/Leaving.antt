@@ -17,7 +17,9 @@ use Rattle.jv_interp_frames.specs.FramesStand.{FramesStand}
 use Rattle.jv_interp_frames.specs.ControlStands.{ControlStands}
 
 -- The frames below stand; the method's words, of which there are so many, are still given; and its result are so many words on top.
-pub record Leaving (methods : Methods) (given top count : ℕ) (frames : Frames) (kept : Control) (program : Program) (addresses : List ℕ) (memory : Memory) (frame : MethodFrame) (below : List Frame) (control : ControlOfNames) (result : List Value) (t : State) : Type 0 where
+pub record Leaving (methods : Methods) (given top count : ℕ) (frames : Frames) (kept : Control) (program : Program)
+    (addresses : List ℕ) (memory : Memory) (frame : MethodFrame) (below : List Frame) (control : ControlOfNames)
+    (result : List Value) (t : State) : Type 0 where
   pub are : AreMethods program.world methods
   pub finds : FindsInstructions program.instructions
   pub stand : FramesStand program addresses below frames control.words

@@ -61,7 +61,8 @@ pub record Entering (method : ℕ) (frames : Frames) (program : Program) (addres
   pub count_is : count ≡ length (flat_map local_words (passed_values receiver arguments))
   pub within : frames.top + count ≤ length frames.words.items
   pub on_top :
-      AreOnTop addresses (reverse (passed_values receiver arguments)) (in_use frames.words.items (frames.top + count)) (in_use frames.words.items frames.top)
+      AreOnTop addresses (reverse (passed_values receiver arguments)) (in_use frames.words.items (frames.top + count))
+      (in_use frames.words.items frames.top)
   pub memory : Memory
   pub same_words :
       (texts : List (List ℕ)) (held : Held) (blocks : Blocks) → MemoryStands program.world texts s.memory addresses held blocks

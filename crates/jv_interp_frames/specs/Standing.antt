@@ -31,7 +31,8 @@ pub record StateStands (program : Program) (texts : List (List ℕ)) (s : State)
 -- ---- what the machine does: a relation between a program, the addresses of objects, and the states before and after
 
 -- It does this in a state that stands, of a guest whose classes are these.
-pub record Moves (world : World) (part : Program → List ℕ → State → State → Type 0) (program : Program) (texts : List (List ℕ)) (s t : State) (addresses : List ℕ) (before : Kept) : Type 0 where
+pub record Moves (world : World) (part : Program → List ℕ → State → State → Type 0) (program : Program) (texts : List (List ℕ))
+    (s t : State) (addresses : List ℕ) (before : Kept) : Type 0 where
   pub world_is : program.world ≡ world
   pub guests : IsGuestsWorld program.world
   pub stands : StateStands program texts s addresses before

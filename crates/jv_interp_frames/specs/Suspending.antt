@@ -11,7 +11,8 @@ use Rattle.jv_interp_frames.specs.declared.frames.Frames.{Frames}
 use Rattle.jv_interp_frames.specs.FramesStand.{FramesStand}
 
 -- It stands in so many words, on those of the others, which stand in their records. So many words are left.
-pub record Suspending (at : Registers) (top : ℕ) (frames : Frames) (program : Program) (addresses : List ℕ) (frame : MethodFrame) (others : List Frame) (left : ℕ) : Type 0 where
+pub record Suspending (at : Registers) (top : ℕ) (frames : Frames) (program : Program) (addresses : List ℕ) (frame : MethodFrame)
+    (others : List Frame) (left : ℕ) : Type 0 where
   pub under : List ℕ
   pub current : MethodStands program addresses frame (record_of at) (in_use frames.words.items top) under
   pub others_stand : AreFrames program addresses others (reverse frames.records.items) under

@@ -19,8 +19,8 @@ use jv_interp_methods::of_loader::Classes;
 use jv_interp_words::{FrameRecord, InitializationRecord};
 
 /// The initialization of the class with a number is begun, by its state (JVMS 5.5, steps 3 to 6): where it goes on or is done, nothing is
-/// done; where it ended in a throw a NoClassDefFoundError is thrown, where the class was not verified a VerifyError, and where its words are
-/// not left a StackOverflowError. `verified` tells of each class, by its number, whether it and all above it were accepted.
+/// done; where it ended in a throw a NoClassDefFoundError is thrown, where the class was not verified a VerifyError, and where its words
+/// are not left a StackOverflowError. `verified` tells of each class, by its number, whether it and all above it were accepted.
 ///
 /// # Errors
 ///

@@ -1,5 +1,5 @@
--- Instructions that work on the words of their frame alone, and go on in it, or throw (JVMS 2.11, 6.5): what the machine does where they are
--- executed with no fault stands afterwards in the words and the registers.
+-- Instructions that work on the words of their frame alone, and go on in it, or throw (JVMS 2.11, 6.5): what the machine does where they
+-- are executed with no fault stands afterwards in the words and the registers.
 use Rattle.std.specs.Prelude.{◌≡◌, ℕ, ◌+◌, ◌≤◌, ⊤, List, Ok, length}
 use Rattle.jv_code.specs.Insns.{Instruction}
 use Rattle.jv_meaning_machine.specs.Values.{Value, words_of_values}
@@ -13,7 +13,8 @@ use Rattle.jv_interp_words.specs.FramesInWords.{in_use, FrameStands}
 
 -- An instruction is executed in a frame that stands in words, on others: what it does, where the registers tell its offset and the
 -- place of the frame's words, and the next instruction's offset is known.
-pub record Works (insn : Instruction) (next : ℕ) (at : Registers) (words : List ℕ) (c : Context) (addresses : List ℕ) (done : Memory × Effect) (below : List ℕ) : Type 0 where
+pub record Works (insn : Instruction) (next : ℕ) (at : Registers) (words : List ℕ) (c : Context) (addresses : List ℕ)
+    (done : Memory × Effect) (below : List ℕ) : Type 0 where
   pub does : execute c insn ≡ Ok done
   pub frame : FrameStands addresses c.frame.locals c.frame.stack (in_use words at.top) below
   pub apart : AreAddresses addresses
@@ -37,7 +38,8 @@ pub record CanWork (insn : Instruction) (next : ℕ) (at : Registers) (words : L
   pub room : HasRoom c below (length words) done
 
 -- It left the memory as it is, and the frame goes on where the registers tell, and stands in these words.
-pub record WentOn (c : Context) (addresses : List ℕ) (done : Memory × Effect) (below : List ℕ) (at : Registers) (words : List ℕ) : Type 0 where
+pub record WentOn (c : Context) (addresses : List ℕ) (done : Memory × Effect) (below : List ℕ) (at : Registers) (words : List ℕ)
+    : Type 0 where
   pub locals : List Value
   pub stack : List Value
   pub is : done ≡ (c.memory, Goes at.pc locals stack)

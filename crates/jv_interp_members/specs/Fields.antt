@@ -19,7 +19,8 @@ use Rattle.jv_interp_memory.specs.Growing.{DidIn}
 use Rattle.jv_interp_memory.specs.SystemNumbers.{IsGuestsWorld}
 
 -- The machine gets the value of a field, whose values begin at this word of an object's fields and have so many words.
-pub record GettingField (word width : ℕ) (next : ℕ) (here : Place) (texts : List (List ℕ)) (c : Context) (d : DeclaredField) (addresses : List ℕ) (done : Memory × EffectOfNames) (below : List ℕ) : Type 0 where
+pub record GettingField (word width : ℕ) (next : ℕ) (here : Place) (texts : List (List ℕ)) (c : Context) (d : DeclaredField)
+    (addresses : List ℕ) (done : Memory × EffectOfNames) (below : List ℕ) : Type 0 where
   pub executes : Executes (λ c. get_field c d) texts next here c addresses done below
   pub begins : BeginsAt c.program.world d word
   pub loadable : AreLoadable c.program.world c.memory.objects
@@ -45,7 +46,8 @@ GetsField word width next at words held blocks at_after words_after effect =
 -- ---- putfield
 
 -- The machine puts a value into a field, whose values begin at this word of an object's fields, have so many words and are narrowed so.
-pub record PuttingField (word width : ℕ) (how : Narrowing) (next : ℕ) (here : Place) (texts : List (List ℕ)) (c : Context) (reference : MemberReference) (d : DeclaredField) (addresses : List ℕ) (done : Memory × EffectOfNames) (below : List ℕ) : Type 0 where
+pub record PuttingField (word width : ℕ) (how : Narrowing) (next : ℕ) (here : Place) (texts : List (List ℕ)) (c : Context)
+    (reference : MemberReference) (d : DeclaredField) (addresses : List ℕ) (done : Memory × EffectOfNames) (below : List ℕ) : Type 0 where
   pub executes : Executes (λ c. put_field c reference d) texts next here c addresses done below
   pub begins : BeginsAt c.program.world d word
   pub loadable : AreLoadable c.program.world c.memory.objects
@@ -53,7 +55,8 @@ pub record PuttingField (word width : ℕ) (how : Narrowing) (next : ℕ) (here 
   pub narrows : (type : FieldTypeOf (List ℕ)) → field_type_of d.field.descriptor ≡ Some type → narrowing_of type ≡ how
   pub guests : IsGuestsWorld c.program.world
 
-pub record CanPutField (word width : ℕ) (how : Narrowing) (next : ℕ) (at : Registers) (words : List ℕ) (held : Held) (blocks : Blocks) : Type 0 where
+pub record CanPutField (word width : ℕ) (how : Narrowing) (next : ℕ) (at : Registers) (words : List ℕ) (held : Held)
+    (blocks : Blocks) : Type 0 where
   pub texts : List (List ℕ)
   pub c : Context
   pub reference : MemberReference

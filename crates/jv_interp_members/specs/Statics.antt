@@ -26,7 +26,8 @@ pub record StandsAtWord (world : World) (d : DeclaredField) (word width : ℕ) :
 
 -- ---- getstatic
 
-pub record GettingStatic (word width next : ℕ) (here : Place) (texts : List (List ℕ)) (c : Context) (d : DeclaredField) (addresses : List ℕ) (done : Memory × EffectOfNames) (below : List ℕ) : Type 0 where
+pub record GettingStatic (word width next : ℕ) (here : Place) (texts : List (List ℕ)) (c : Context) (d : DeclaredField)
+    (addresses : List ℕ) (done : Memory × EffectOfNames) (below : List ℕ) : Type 0 where
   pub executes : Executes (λ c. get_static c d) texts next here c addresses done below
   pub stands : StandsAtWord c.program.world d word width
 
@@ -50,7 +51,8 @@ GetsStatic word width next at words held at_after words_after effect =
 
 -- ---- putstatic
 
-pub record PuttingStatic (word width : ℕ) (how : Narrowing) (next : ℕ) (here : Place) (texts : List (List ℕ)) (c : Context) (d : DeclaredField) (addresses : List ℕ) (done : Memory × EffectOfNames) (below : List ℕ) : Type 0 where
+pub record PuttingStatic (word width : ℕ) (how : Narrowing) (next : ℕ) (here : Place) (texts : List (List ℕ)) (c : Context)
+    (d : DeclaredField) (addresses : List ℕ) (done : Memory × EffectOfNames) (below : List ℕ) : Type 0 where
   pub executes : Executes (λ c. put_static c d) texts next here c addresses done below
   pub stands : StandsAtWord c.program.world d word width
   pub narrows : (type : FieldTypeOf (List ℕ)) → field_type_of d.field.descriptor ≡ Some type → narrowing_of type ≡ how

@@ -24,13 +24,15 @@ pub record Stays (addresses : List ℕ) (frame : MethodFrame) (at : Registers) (
   pub stand : FrameStands addresses frame.locals frame.stack used below
 
 -- it goes on, with these local variables and this stack
-pub record GoesOnAt (addresses : List ℕ) (frame : MethodFrame) (offset : ℕ) (locals stack : List Value) (at : Registers) (used below : List ℕ) : Type 0 where
+pub record GoesOnAt (addresses : List ℕ) (frame : MethodFrame) (offset : ℕ) (locals stack : List Value) (at : Registers)
+    (used below : List ℕ) : Type 0 where
   pub pc_is : at.pc ≡ offset
   pub count : length locals ≡ length frame.locals
   pub stand : FrameStands addresses locals stack used below
 
 -- the method with a number is entered: what is passed is on top of what is left of the frame, whose stack has no more words than it had
-pub record EntersWith (world : World) (addresses : List ℕ) (frame : MethodFrame) (d : Declared) (passed stack : List Value) (number words : ℕ) (at : Registers) (used below : List ℕ) : Type 0 where
+pub record EntersWith (world : World) (addresses : List ℕ) (frame : MethodFrame) (d : Declared) (passed stack : List Value)
+    (number words : ℕ) (at : Registers) (used below : List ℕ) : Type 0 where
   pub pc_is : at.pc ≡ frame.offset
   pub has_number : slice_get (methods_of world) number ≡ Some d
   pub words_are : words ≡ length (flat_map local_words passed)
@@ -61,8 +63,8 @@ EffectStands world addresses frame (Begins l) (effects.Begins number) at used be
     (slice_get world number ≡ Some l) × Stays addresses frame at used below
 EffectStands world addresses frame _ _ at used below = ⊥
 
--- The same with the memory that was left: an `<init>` is entered on an object of that, which is as the effect says. So what the machine then
--- notes in it, which `<init>` was entered, changes no word.
+-- The same with the memory that was left: an `<init>` is entered on an object of that, which is as the effect says. So what the machine
+-- then notes in it, which `<init>` was entered, changes no word.
 abbrev pub OutcomeStands : World → List ℕ → MethodFrame → Memory × EffectOfNames → Effect → Registers → List ℕ → List ℕ → Type 0
 OutcomeStands world addresses frame (memory, Constructs d object instance arguments stack) in_words at used below =
     (slice_get memory.objects object ≡ Some (InstanceOf instance))

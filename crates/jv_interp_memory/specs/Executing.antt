@@ -32,7 +32,8 @@ IsUnmoved _ before after = after ≡ before
 
 -- A part of the machine is executed in a frame that stands in words, on others, over a memory that stands: what it does, where the
 -- registers tell its offset and the place of the frame's words, and the next instruction's offset is known.
-pub record Executes (part : Context → Outcome) (texts : List (List ℕ)) (next : ℕ) (here : Place) (c : Context) (addresses : List ℕ) (done : Memory × EffectOfNames) (below : List ℕ) : Type 0 where
+pub record Executes (part : Context → Outcome) (texts : List (List ℕ)) (next : ℕ) (here : Place) (c : Context)
+    (addresses : List ℕ) (done : Memory × EffectOfNames) (below : List ℕ) : Type 0 where
   pub does : part c ≡ Ok done
   pub frame : FrameStands addresses c.frame.locals c.frame.stack (in_use here.words here.at.top) below
   pub memory : MemoryStands c.program.world texts c.memory addresses here.held here.blocks
@@ -47,7 +48,8 @@ HasRoom c below size (memory, Goes offset locals stack) = length below + length 
 HasRoom c below size _ = ⊤
 
 -- What it did stands, with the addresses of new objects behind the others.
-pub record Did (texts : List (List ℕ)) (here : Place) (effect : Effect) (c : Context) (addresses : List ℕ) (done : Memory × EffectOfNames) (below : List ℕ) : Type 0 where
+pub record Did (texts : List (List ℕ)) (here : Place) (effect : Effect) (c : Context) (addresses : List ℕ)
+    (done : Memory × EffectOfNames) (below : List ℕ) : Type 0 where
   pub more : List ℕ
   pub effect_stands :
       OutcomeStands c.program.world (addresses ++ more) c.frame done effect here.at (in_use here.words here.at.top) below

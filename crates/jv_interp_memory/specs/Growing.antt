@@ -16,6 +16,7 @@ pub record Grows (addresses more : List ℕ) (before after : Blocks) : Type 0 wh
   pub no_lower : greatest before ≤ greatest after
 
 -- What the machine did stands, and the blocks grew so.
-pub record DidIn (before : Blocks) (texts : List (List ℕ)) (here : Place) (effect : Effect) (c : Context) (addresses : List ℕ) (done : Memory × EffectOfNames) (below : List ℕ) : Type 0 where
+pub record DidIn (before : Blocks) (texts : List (List ℕ)) (here : Place) (effect : Effect) (c : Context) (addresses : List ℕ)
+    (done : Memory × EffectOfNames) (below : List ℕ) : Type 0 where
   pub did : Did texts here effect c addresses done below
   pub grows : Grows addresses did.more before here.blocks

@@ -37,7 +37,8 @@ pub record AreLiterals (texts : List (List ℕ)) (addresses : List ℕ) (literal
 
 -- ---- all of it: and there is room for all output that may still be written, so that none of it is ever refused
 
-pub record MemoryStands (world : World) (texts : List (List ℕ)) (memory : Memory) (addresses : List ℕ) (held : Held) (blocks : Blocks) : Type 0 where
+pub record MemoryStands (world : World) (texts : List (List ℕ)) (memory : Memory) (addresses : List ℕ) (held : Held)
+    (blocks : Blocks) : Type 0 where
   pub objects : ObjectsStand world memory.objects addresses blocks
   pub statics : AreFields addresses (static_fields world) memory.statics held.statics.items
   pub literals : AreLiterals texts addresses memory.literals held.literals.items

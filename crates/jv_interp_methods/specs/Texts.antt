@@ -28,4 +28,5 @@ AreTextsOf texts l row = AreNumbers texts l.class.constant_pool row.numbers.item
 pub record AreTexts (world : World) (texts : Texts) : Type 0 where
   pub differ : AreDifferent texts.names
   pub short : AreShort texts.names
-  pub classes : (class : ℕ) (l : Loaded) → slice_get world class ≡ Some l → IsSomeAnd (slice_get texts.classes.items class) (AreTextsOf texts.names l)
+  pub classes : (class : ℕ) (l : Loaded) → slice_get world class ≡ Some l
+      → IsSomeAnd (slice_get texts.classes.items class) (AreTextsOf texts.names l)

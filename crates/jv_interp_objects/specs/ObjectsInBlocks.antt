@@ -65,7 +65,8 @@ BeginsAt world d word =
 -- Each object is of a class that can be loaded: only such a class is resolved, and the machine makes objects of no others.
 abbrev pub AreLoadable : World → List Object → Type 0
 AreLoadable world objects =
-    (id : ℕ) (instance : Instance) (l : Loaded) → slice_get objects id ≡ Some (InstanceOf instance) → class_named world instance.class ≡ Some l
+    (id : ℕ) (instance : Instance) (l : Loaded) → slice_get objects id ≡ Some (InstanceOf instance)
+    → class_named world instance.class ≡ Some l
     → IsTrue (is_loadable world l)
 
 -- ---- the first word of a block
@@ -111,7 +112,8 @@ pub record InstanceStands (world : World) (addresses : List ℕ) (instance : Ins
   pub words_are : words ≡ number ∷ fields
   pub stand : AreFields addresses (instance_fields world class.l) instance.fields fields
 
-pub record ArrayStands (world : World) (addresses : List ℕ) (components : FieldTypeOf (List ℕ)) (values : List Value) (words : List ℕ) : Type 0 where
+pub record ArrayStands (world : World) (addresses : List ℕ) (components : FieldTypeOf (List ℕ)) (values : List Value)
+    (words : List ℕ) : Type 0 where
   pub word : ℕ
   pub type : IsArrayWord world components word
   pub few : length values < 2147483648

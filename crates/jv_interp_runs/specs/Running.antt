@@ -23,7 +23,8 @@ IsSafe program s = (n : ℕ) (later : State) → after_steps program n s ≡ Ok 
 -- ---- where all frames stand in their records
 
 -- A state from which steps are taken stands.
-pub record RunsFrom (world : World) (verified : List Bool) (program : Program) (texts : List (List ℕ)) (s : State) (addresses : List ℕ) (before : Kept) : Type 0 where
+pub record RunsFrom (world : World) (verified : List Bool) (program : Program) (texts : List (List ℕ)) (s : State)
+    (addresses : List ℕ) (before : Kept) : Type 0 where
   pub guest : IsGuest world verified program
   pub safe : IsSafe program s
   pub stands : StateStands program texts s addresses before
@@ -48,7 +49,8 @@ RanTo k world verified texts before after =
 -- ---- while a method runs in registers
 
 -- A state from which steps are taken stands so.
-pub record RunsIn (world : World) (verified : List Bool) (at : Registers) (program : Program) (texts : List (List ℕ)) (s : State) (addresses : List ℕ) (before : Kept) : Type 0 where
+pub record RunsIn (world : World) (verified : List Bool) (at : Registers) (program : Program) (texts : List (List ℕ)) (s : State)
+    (addresses : List ℕ) (before : Kept) : Type 0 where
   pub guest : IsGuest world verified program
   pub safe : IsSafe program s
   pub runs : StateRuns program texts s addresses at before
@@ -60,7 +62,8 @@ pub record CanRunIn (world : World) (verified : List Bool) (texts : List (List �
   pub runs : RunsIn world verified at program texts s addresses before
 
 -- So many steps were taken, and the method still goes on in its registers.
-pub record RanOn (k : ℕ) (program : Program) (texts : List (List ℕ)) (s : State) (addresses : List ℕ) (at_after : Registers) (before after : Kept) : Type 0 where
+pub record RanOn (k : ℕ) (program : Program) (texts : List (List ℕ)) (s : State) (addresses : List ℕ) (at_after : Registers)
+    (before after : Kept) : Type 0 where
   pub t : State
   pub does : Leads program k s t
   pub runs : RunsOn program texts t addresses at_after before after

@@ -9,7 +9,8 @@ use Rattle.jv_interp_actions.specs.Running.{StateRuns}
 use Rattle.jv_interp_runs.specs.Guests.{IsGuest, TakesStep}
 
 -- A state from which the next step is taken stands.
-pub record StepsIn (world : World) (verified : List Bool) (at : Registers) (program : Program) (texts : List (List ℕ)) (s t : State) (addresses : List ℕ) (before : Kept) : Type 0 where
+pub record StepsIn (world : World) (verified : List Bool) (at : Registers) (program : Program) (texts : List (List ℕ))
+    (s t : State) (addresses : List ℕ) (before : Kept) : Type 0 where
   pub guest : IsGuest world verified program
   pub takes : TakesStep program s t
   pub runs : StateRuns program texts s addresses at before
@@ -24,7 +25,8 @@ pub record CanStepIn (world : World) (verified : List Bool) (texts : List (List 
 
 -- The method goes on in its registers, with the addresses of new objects behind the others; and the blocks of other guests are as they
 -- were.
-pub record RunsOn (program : Program) (texts : List (List ℕ)) (t : State) (addresses : List ℕ) (at : Registers) (before after : Kept) : Type 0 where
+pub record RunsOn (program : Program) (texts : List (List ℕ)) (t : State) (addresses : List ℕ) (at : Registers)
+    (before after : Kept) : Type 0 where
   pub more : List ℕ
   pub runs : StateRuns program texts t (addresses ++ more) at after
   pub grows : Grows addresses more before.blocks after.blocks

@@ -51,7 +51,8 @@ FirstStands world texts place input budget first blocks =
 -- ---- the start
 
 -- The machine's start of a guest with these classes, of which these were verified, gives this state.
-pub record StartsIn (world : World) (verified : List Bool) (main input : List ℕ) (budget : Budget) (program : Program) (s : State) : Type 0 where
+pub record StartsIn (world : World) (verified : List Bool) (main input : List ℕ) (budget : Budget) (program : Program) (s : State)
+    : Type 0 where
   pub world_is : program.world ≡ world
   pub guests : IsGuestsWorld program.world
   pub are : AreVerified program verified
@@ -65,7 +66,8 @@ pub record CanStart (world : World) (verified : List Bool) (main input : List �
 
 -- The state stands, with the addresses of the two objects of the start before that of an exception that was thrown at once; and the blocks
 -- of other guests are as they were.
-pub record StandsFirst (program : Program) (texts : List (List ℕ)) (s : State) (before : Blocks) (started : Started) (after : Blocks) : Type 0 where
+pub record StandsFirst (program : Program) (texts : List (List ℕ)) (s : State) (before : Blocks) (started : Started)
+    (after : Blocks) : Type 0 where
   pub more : List ℕ
   pub stands : StateStands program texts s (started.held.out_of_memory ∷ started.held.arguments ∷ more) (kept_of started after)
   pub grows : Grows [] (started.held.out_of_memory ∷ started.held.arguments ∷ more) before after

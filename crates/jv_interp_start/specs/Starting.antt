@@ -26,7 +26,8 @@ abbrev pub Differ : List (List ℕ) → Type 0
 Differ texts = (number other : ℕ) (text : List ℕ) → slice_get texts number ≡ Some text → slice_get texts other ≡ Some text → other ≡ number
 
 -- A guest starts whose static fields have so many words, and whose literals are of so many texts, no two of them alike.
-pub record Starting (static_words literal_count cells output : ℕ) (world : World) (texts : List (List ℕ)) (budget : Budget) (error : Loaded) : Type 0 where
+pub record Starting (static_words literal_count cells output : ℕ) (world : World) (texts : List (List ℕ)) (budget : Budget)
+    (error : Loaded) : Type 0 where
   pub guests : IsGuestsWorld world
   pub statics : sum_by field_words (static_fields world) ≡ static_words
   pub count : length texts ≡ literal_count

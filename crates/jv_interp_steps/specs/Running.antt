@@ -10,7 +10,8 @@ use Rattle.jv_interp_words.specs.StatesInWords.{RunningStands}
 use Rattle.jv_interp_steps.specs.Stepping.{Stepped}
 
 -- The frames of a state stand here.
-pub record StandsHere (program : Program) (s : State) (addresses : List ℕ) (waiting : List FrameRecord) (at : Registers) (words : List ℕ) : Type 0 where
+pub record StandsHere (program : Program) (s : State) (addresses : List ℕ) (waiting : List FrameRecord) (at : Registers)
+    (words : List ℕ) : Type 0 where
   pub running : RunningStands program addresses s.frames at waiting words s.control.words
   pub apart : AreAddresses addresses
   pub finds : FindsInstructions program.instructions

@@ -11,7 +11,8 @@ use Rattle.jv_interp_words.specs.StatesInWords.{RunningStands}
 use Rattle.jv_interp_going.specs.Going.{StaysIn}
 
 -- The machine takes a step from a state whose frames stand here.
-pub record StepsFrom (program : Program) (s t : State) (addresses : List ℕ) (waiting : List FrameRecord) (at : Registers) (words : List ℕ) : Type 0 where
+pub record StepsFrom (program : Program) (s t : State) (addresses : List ℕ) (waiting : List FrameRecord) (at : Registers)
+    (words : List ℕ) : Type 0 where
   pub running : RunningStands program addresses s.frames at waiting words s.control.words
   pub apart : AreAddresses addresses
   pub finds : FindsInstructions program.instructions
@@ -29,7 +30,8 @@ pub record CanStep (at : Registers) (words : List ℕ) : Type 0 where
 -- The frames of the next state stand here, under the same addresses, above the same records of frames that wait; its memory and control
 -- are those before. Of the registers, only the offset and the number of words in use may have changed: the code, the frame's base, the
 -- constants' first and the method's number are those before. Words beyond those in use may be any.
-pub record Stepped (program : Program) (s t : State) (addresses : List ℕ) (waiting : List FrameRecord) (at at_after : Registers) (words_after : List ℕ) : Type 0 where
+pub record Stepped (program : Program) (s t : State) (addresses : List ℕ) (waiting : List FrameRecord) (at at_after : Registers)
+    (words_after : List ℕ) : Type 0 where
   pub running : RunningStands program addresses t.frames at_after waiting words_after t.control.words
   pub same_memory : t.memory ≡ s.memory
   pub same_control : t.control ≡ s.control

@@ -10,11 +10,13 @@ use Rattle.jv_interp_memory.specs.Executing.{Place, place, Executes, Did}
 use Rattle.jv_interp_calls.specs.Known.{Known, IsKnown}
 
 -- The machine executes such an instruction in a method that is known.
-pub record Asking (part : Context → Outcome) (next : ℕ) (k : Known) (here : Place) (texts : List (List ℕ)) (c : Context) (addresses : List ℕ) (done : Memory × EffectOfNames) (below : List ℕ) : Type 0 where
+pub record Asking (part : Context → Outcome) (next : ℕ) (k : Known) (here : Place) (texts : List (List ℕ)) (c : Context)
+    (addresses : List ℕ) (done : Memory × EffectOfNames) (below : List ℕ) : Type 0 where
   pub executes : Executes part texts next here c addresses done below
   pub known : IsKnown k c
 
-pub record CanAsk (part : Context → Outcome) (next : ℕ) (k : Known) (at : Registers) (words : List ℕ) (held : Held) (blocks : Blocks) : Type 0 where
+pub record CanAsk (part : Context → Outcome) (next : ℕ) (k : Known) (at : Registers) (words : List ℕ) (held : Held)
+    (blocks : Blocks) : Type 0 where
   pub texts : List (List ℕ)
   pub c : Context
   pub addresses : List ℕ

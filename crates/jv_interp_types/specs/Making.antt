@@ -17,12 +17,14 @@ use Rattle.jv_interp_calls.specs.Known.{Known, IsKnown}
 -- ---- new
 
 -- The machine makes an object of the class that the constant at an index names, and of each class the state is known.
-pub record MakingObject (index next : ℕ) (k : Known) (states : List ClassState) (here : Place) (texts : List (List ℕ)) (c : Context) (addresses : List ℕ) (done : Memory × EffectOfNames) (below : List ℕ) : Type 0 where
+pub record MakingObject (index next : ℕ) (k : Known) (states : List ClassState) (here : Place) (texts : List (List ℕ))
+    (c : Context) (addresses : List ℕ) (done : Memory × EffectOfNames) (below : List ℕ) : Type 0 where
   pub executes : Executes (λ c. new c index) texts next here c addresses done below
   pub known : IsKnown k c
   pub states_are : AreClassStates k.world c.states states
 
-pub record CanMakeObject (index next : ℕ) (k : Known) (states : List ClassState) (at : Registers) (words : List ℕ) (held : Held) (blocks : Blocks) : Type 0 where
+pub record CanMakeObject (index next : ℕ) (k : Known) (states : List ClassState) (at : Registers) (words : List ℕ) (held : Held)
+    (blocks : Blocks) : Type 0 where
   pub texts : List (List ℕ)
   pub c : Context
   pub addresses : List ℕ
@@ -39,7 +41,8 @@ MakesObject index next k states before after effect =
 -- ---- anewarray
 
 -- The machine makes an array of what the constant at an index names.
-pub record MakingArray (index next : ℕ) (k : Known) (here : Place) (texts : List (List ℕ)) (c : Context) (addresses : List ℕ) (done : Memory × EffectOfNames) (below : List ℕ) : Type 0 where
+pub record MakingArray (index next : ℕ) (k : Known) (here : Place) (texts : List (List ℕ)) (c : Context) (addresses : List ℕ)
+    (done : Memory × EffectOfNames) (below : List ℕ) : Type 0 where
   pub executes : Executes (λ c. new_reference_array c index) texts next here c addresses done below
   pub known : IsKnown k c
 
@@ -59,11 +62,13 @@ MakesArray index next k before after effect =
 -- ---- multianewarray
 
 -- The machine makes arrays of the type that the constant at an index names, in so many dimensions.
-pub record MakingArrays (index dimensions next : ℕ) (k : Known) (here : Place) (texts : List (List ℕ)) (c : Context) (addresses : List ℕ) (done : Memory × EffectOfNames) (below : List ℕ) : Type 0 where
+pub record MakingArrays (index dimensions next : ℕ) (k : Known) (here : Place) (texts : List (List ℕ)) (c : Context)
+    (addresses : List ℕ) (done : Memory × EffectOfNames) (below : List ℕ) : Type 0 where
   pub executes : Executes (λ c. new_multi_array c index dimensions) texts next here c addresses done below
   pub known : IsKnown k c
 
-pub record CanMakeArrays (index dimensions next : ℕ) (k : Known) (at : Registers) (words : List ℕ) (held : Held) (blocks : Blocks) : Type 0 where
+pub record CanMakeArrays (index dimensions next : ℕ) (k : Known) (at : Registers) (words : List ℕ) (held : Held) (blocks : Blocks)
+    : Type 0 where
   pub texts : List (List ℕ)
   pub c : Context
   pub addresses : List ℕ

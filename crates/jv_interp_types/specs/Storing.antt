@@ -15,7 +15,8 @@ use Rattle.jv_interp_memory.specs.Growing.{DidIn}
 use Rattle.jv_interp_memory.specs.SystemNumbers.{IsGuestsWorld}
 
 -- The machine stores a reference in an array, in a guest with these classes.
-pub record Storing (world : World) (next : ℕ) (here : Place) (texts : List (List ℕ)) (c : Context) (addresses : List ℕ) (done : Memory × EffectOfNames) (below : List ℕ) : Type 0 where
+pub record Storing (world : World) (next : ℕ) (here : Place) (texts : List (List ℕ)) (c : Context) (addresses : List ℕ)
+    (done : Memory × EffectOfNames) (below : List ℕ) : Type 0 where
   pub executes : Executes (λ c. execute c insns.ReferenceArrayStore) texts next here c addresses done below
   pub world_is : c.program.world ≡ world
   pub guests : IsGuestsWorld world

@@ -12,7 +12,8 @@ use Rattle.jv_interp_memory.specs.Executing.{Place, place, Executes, Did}
 use Rattle.jv_interp_memory.specs.SystemNumbers.{IsGuestsWorld}
 
 -- The machine throws the object on top, or an exception in the place of null.
-pub record Throwing (next : ℕ) (here : Place) (texts : List (List ℕ)) (c : Context) (addresses : List ℕ) (done : Memory × EffectOfNames) (below : List ℕ) : Type 0 where
+pub record Throwing (next : ℕ) (here : Place) (texts : List (List ℕ)) (c : Context) (addresses : List ℕ)
+    (done : Memory × EffectOfNames) (below : List ℕ) : Type 0 where
   pub executes : Executes (λ c. execute c insns.Throw) texts next here c addresses done below
   pub guests : IsGuestsWorld c.program.world
 

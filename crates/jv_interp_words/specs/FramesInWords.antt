@@ -35,7 +35,8 @@ methods_of world = flat_map (λ l. map (declared_by l) l.class.methods) world
 
 -- A method that runs: it is the one with a number, its words are behind those below, and the record says where. Its receiver is
 -- kept nowhere.
-pub record MethodStands (program : Program) (addresses : List ℕ) (frame : MethodFrame) (kept : MethodRecord) (used below : List ℕ) : Type 0 where
+pub record MethodStands (program : Program) (addresses : List ℕ) (frame : MethodFrame) (kept : MethodRecord) (used below : List ℕ)
+    : Type 0 where
   pub declared : Declared
   pub has_number : slice_get (methods_of program.world) kept.method ≡ Some declared
   pub entered : entered_method program declared ≡ Ok frame.method

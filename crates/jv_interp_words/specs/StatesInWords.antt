@@ -15,7 +15,8 @@ record_of at = record { method = at.method; pc = at.pc; base = at.base }
 
 -- The current frame is the method's that the registers tell, whose code these are; below it stand the others, kept in records, the
 -- newest last. So many words are left to the guest, and all that it may have are there.
-pub record RunningStands (program : Program) (addresses : List ℕ) (frames : List Frame) (at : Registers) (waiting : List FrameRecord) (words : List ℕ) (left : ℕ) : Type 0 where
+pub record RunningStands (program : Program) (addresses : List ℕ) (frames : List Frame) (at : Registers)
+    (waiting : List FrameRecord) (words : List ℕ) (left : ℕ) : Type 0 where
   pub frame : MethodFrame
   pub others : List Frame
   pub frames_are : frames ≡ Runs frame ∷ others

@@ -47,12 +47,14 @@ HoldsAtSite world site P = (s : SiteOfNames) → seen_site world site ≡ Some s
 
 -- the class or array that a text names at a site, as a use wants it (JVMS 5.4.3.1)
 abbrev pub IsClassResolved : World → Site → Option Use → List ℕ → Result ClassRef LinkError → Type 0
-IsClassResolved world site how text answer = HoldsAtSite world site (λ s. AnswersType world answer (resolve_class world s (option_map seen_use how) text))
+IsClassResolved world site how text answer =
+    HoldsAtSite world site (λ s. AnswersType world answer (resolve_class world s (option_map seen_use how) text))
 
 -- what the Class constant at an index of a class resolves to, before the rule of `new` (5.4.3.1)
 abbrev pub IsConstantsClass : World → ℕ → ℕ → Result ClassRef LinkError → Type 0
 IsConstantsClass world class index answer =
-    HoldsAtNumber world class (λ l. (text : List ℕ) → class_operand l.class index ≡ Some text → AnswersType world answer (resolve_text world l text))
+    HoldsAtNumber world class
+    (λ l. (text : List ℕ) → class_operand l.class index ≡ Some text → AnswersType world answer (resolve_text world l text))
 
 -- what it resolves to for an instruction at a site
 abbrev pub IsClassUsed : World → Site → Option Use → ℕ → Result ClassRef LinkError → Type 0

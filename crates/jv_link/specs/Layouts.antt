@@ -33,7 +33,8 @@ own_field d = if is_static_field d.field then [] else d ∷ []
 -- behind the fields that it has, a layout gets a field at a place, or those of a class
 abbrev pub LaysField : World → Place → Layout → Layout → Type 0
 LaysField world place old new =
-    (d : DeclaredField) (ds : List DeclaredField) → field_at world place ≡ Some d → IsLaid world old ds → IsLaid world new (ds ++ own_field d)
+    (d : DeclaredField) (ds : List DeclaredField) → field_at world place ≡ Some d → IsLaid world old ds
+    → IsLaid world new (ds ++ own_field d)
 
 abbrev pub LaysFields : World → ℕ → Layout → Layout → Type 0
 LaysFields world class old new =

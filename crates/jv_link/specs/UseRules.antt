@@ -46,7 +46,8 @@ AnswersUsable world site how place answer =
 -- a method that the instruction can call (6.5)
 abbrev pub callable_method : Use → MethodTarget → OrError MethodTarget
 callable_method how t =
-    provided (is_own_init how t) NoSuchMethodError t >>= (λ u. provided (has_method_kind how u.declared.method) IncompatibleClassChangeError u)
+    provided (is_own_init how t) NoSuchMethodError t
+    >>= (λ u. provided (has_method_kind how u.declared.method) IncompatibleClassChangeError u)
 
 abbrev pub AnswersCallable : World → TargetByNumber → UseByNumber → Result TargetByNumber LinkError → Type 0
 AnswersCallable world target how answer = HoldsAtTarget world target (λ t. AnswersTarget world answer (callable_method (seen_use how) t))

@@ -7,4 +7,5 @@ use Rattle.jv_meaning_world.specs.World.{Loaded, same_package}
 pub record AreNumbered (classes : List Loaded) (numbers : List ℕ) : Type 0 where
   pub one_each : length numbers ≡ length classes
   pub below : All (λ number. number < 2 * length classes) numbers
-  pub same : (a b : ℕ) (l k : Loaded) → slice_get classes a ≡ Some l → slice_get classes b ≡ Some k → (get_or numbers a 0 == get_or numbers b 0) ≡ same_package l k
+  pub same : (a b : ℕ) (l k : Loaded) → slice_get classes a ≡ Some l → slice_get classes b ≡ Some k
+      → (get_or numbers a 0 == get_or numbers b 0) ≡ same_package l k

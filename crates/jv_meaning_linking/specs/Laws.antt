@@ -37,7 +37,8 @@ IsRootClass world l = class_named world (codes "java/lang/Object") ≡ Some l
 -- A law: the classes that can be resolved are those that are loadable.
 abbrev pub LoadableResolves : Type 0
 LoadableResolves =
-    (world : World) (l : Loaded) → SystemStandsAlone world → Contains world l → (error_of_class world l ≡ None) ↔ IsTrue (is_loadable world l)
+    (world : World) (l : Loaded) → SystemStandsAlone world → Contains world l → (error_of_class world l ≡ None)
+    ↔ IsTrue (is_loadable world l)
 
 -- the class that a reference to a member names, for an array java/lang/Object
 abbrev pub IsNamed : World → Loaded → MemberReference → LinkError → Loaded → Type 0
@@ -46,7 +47,8 @@ IsNamed world current reference error named =
 
 -- what an instruction uses is a field of the constant's name and type, which the named class or one above it declares, and
 -- which it can access, is of the kind to use, and can write
-pub record IsUsed (world : World) (site : Site) (how : Use) (reference : MemberReference) (named : Loaded) (d : DeclaredField) : Type 0 where
+pub record IsUsed (world : World) (site : Site) (how : Use) (reference : MemberReference) (named : Loaded) (d : DeclaredField)
+    : Type 0 where
   pub named_so : IsNamed world site.by reference NoSuchFieldError named
   pub place : IsAtOrAbove world named d.by
   pub declared : field_named d.by.class reference.name reference.descriptor ≡ Some d.field
@@ -108,7 +110,8 @@ SpecialIsRun =
     → IsTrue (not (is_init t.declared.method.name)) → select world site Invokespecial t object ≡ Ok s
     → (s.named ≡ t.named)
     × (IsRun world (special_start world site.by t.named) t.declared s.declared
-    ⊎ ((root : Loaded) × IsTrue (is_interface (special_start world site.by t.named)) × IsRootClass world root × IsRun world root t.declared s.declared))
+    ⊎ ((root : Loaded) × IsTrue (is_interface (special_start world site.by t.named)) × IsRootClass world root
+    × IsRun world root t.declared s.declared))
 
 -- A law: `<init>` runs itself.
 abbrev pub InitIsRun : Type 0
@@ -119,9 +122,12 @@ InitIsRun =
 -- A law: neither resolution nor selection answers VerifyError.
 pub record NeverVerifyError : Type 0 where
   pub class : (world : World) (site : Site) (how : Option Use) (text : List ℕ) → resolve_class world site how text ≢ Err VerifyError
-  pub field : (world : World) (site : Site) (how : Use) (reference : MemberReference) → resolve_field world site how reference ≢ Err VerifyError
-  pub method : (world : World) (site : Site) (how : Use) (reference : MethodReference) → resolve_method world site how reference ≢ Err VerifyError
-  pub selected : (world : World) (site : Site) (how : Use) (t : MethodTarget) (object : Option Loaded) → select world site how t object ≢ Err VerifyError
+  pub field : (world : World) (site : Site) (how : Use) (reference : MemberReference)
+      → resolve_field world site how reference ≢ Err VerifyError
+  pub method : (world : World) (site : Site) (how : Use) (reference : MethodReference)
+      → resolve_method world site how reference ≢ Err VerifyError
+  pub selected : (world : World) (site : Site) (how : Use) (t : MethodTarget) (object : Option Loaded)
+      → select world site how t object ≢ Err VerifyError
 
 -- ---- methods that nothing overrides
 
@@ -216,5 +222,6 @@ pub record IsInitOrder (world : World) (l : Loaded) (order : List Loaded) : Type
 -- A law: so is the order for a class with no circle above it.
 abbrev pub InitOrderIsByRule : Type 0
 InitOrderIsByRule =
-    (world : World) (l : Loaded) → IsFalse (is_interface l) → ((c : Loaded) → Contains (above world l.class) c → IsFalse (is_circular world c.class))
+    (world : World) (l : Loaded) → IsFalse (is_interface l)
+    → ((c : Loaded) → Contains (above world l.class) c → IsFalse (is_circular world c.class))
     → IsInitOrder world l (init_order world l)

@@ -43,7 +43,8 @@ TypingIsLocal =
 
 -- A law: a method with a typing breaks no rule.
 abbrev pub TypingOrFault : Type 0
-TypingOrFault = (world : World) (site : Site) (offset : ℕ) (broken : VerifyRule) → HasTyping world site → BreaksRule world site offset broken → ⊥
+TypingOrFault =
+    (world : World) (site : Site) (offset : ℕ) (broken : VerifyRule) → HasTyping world site → BreaksRule world site offset broken → ⊥
 
 -- A law: a class has one verdict at most.
 abbrev pub OneJudgement : Type 0

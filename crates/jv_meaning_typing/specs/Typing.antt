@@ -43,7 +43,8 @@ catch_type env index =
     if index == 0 then Some throwable_type else class_name_at (current_class env).constant_pool index >>= reference_type
 
 abbrev pub catches_throwable : Environment → Handler → Bool
-catches_throwable env handler = unwrap_or (option_map (λ type. flows env.world type throwable_type) (catch_type env handler.catch_type)) false
+catches_throwable env handler =
+    unwrap_or (option_map (λ type. flows env.world type throwable_type) (catch_type env handler.catch_type)) false
 
 pub record HandlersKeepRules (env : Environment) : Type 0 where
   pub fit : HandlersFit env.code.code env.code.exception_table
@@ -90,7 +91,8 @@ abbrev pub Assignment : Type 0
 Assignment = ℕ → Frame
 
 abbrev pub first_frame : Environment → Frame
-first_frame env = initial_frame env.code.max_locals (current_class env).name (is_static env) (is_init env.site.method.name) env.descriptor.parameters
+first_frame env =
+    initial_frame env.code.max_locals (current_class env).name (is_static env) (is_init env.site.method.name) env.descriptor.parameters
 
 -- an instruction, its offset, and the frame that is left behind it, where control goes on
 pub record GoesOnInto (env : Environment) (frames : Assignment) (pc : ℕ) (frame : Frame) : Type 0 where

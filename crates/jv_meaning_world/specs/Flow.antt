@@ -33,7 +33,8 @@ class_flows world x y =
 -- what every array flows to
 abbrev pub is_above_arrays : List ℕ → Bool
 is_above_arrays name =
-    bytes_eq name (codes "java/lang/Object") || (bytes_eq name (codes "java/lang/Cloneable") || bytes_eq name (codes "java/io/Serializable"))
+    bytes_eq name (codes "java/lang/Object")
+    || (bytes_eq name (codes "java/lang/Cloneable") || bytes_eq name (codes "java/io/Serializable"))
 
 abbrev pub same_base : Base → Base → Bool
 same_base a b = base_letter a == base_letter b

@@ -38,9 +38,22 @@ impl<'m, 'e, 't, 'a> Model for ReadMethod<'m, 'e, 't, 'a> {
 
     ghost Value = { ReadMethod };
 
-    ghost view = { λ m. record { class = m.class.now; body = seen_code m.body.now; initial = m.initial.now; is_init = m.is_init; result = m.result } };
+    ghost view = { λ m. record {
+      class = m.class.now;
+      body = seen_code m.body.now;
+      initial = m.initial.now;
+      is_init = m.is_init;
+      result = m.result;
+    } };
 
-    ghost invariant = { λ m. IsRead (record { class = m.class.now; body = seen_code m.body.now; initial = m.initial.now; is_init = m.is_init; result = m.result }) m.code.now.bytes.now m.count };
+    ghost invariant = { λ m. IsRead
+        (record {
+          class = m.class.now;
+          body = seen_code m.body.now;
+          initial = m.initial.now;
+          is_init = m.is_init;
+          result = m.result;
+        }) m.code.now.bytes.now m.count };
 }
 
 impl Drop for ReadMethod<'_, '_, '_, '_> {

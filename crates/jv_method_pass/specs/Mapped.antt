@@ -75,7 +75,8 @@ flows_to_map types frame map =
 
 abbrev pub thrown_flows_to_map : EntryTypes → NumberFrame → Option Item → Item → ReadFrame → Bool
 thrown_flows_to_map types frame object thrown map =
-    frame_flows (world_of_types types) (thrown_frame (names_of_types types) frame object thrown) (frame_by_types types (length frame.locals) map)
+    frame_flows (world_of_types types) (thrown_frame (names_of_types types) frame object thrown)
+    (frame_by_types types (length frame.locals) map)
 
 -- each frame has the words of its local entries
 abbrev pub HaveWords : EntryTypes → List ReadFrame → Type 0

@@ -26,7 +26,8 @@ pub record HasHandlers (constants : PoolTypes) (code_bytes : List ℕ) (table : 
 
 -- an environment of a class with these constants, and of a method with these initial local entries, this code, which is a
 -- list of instructions, these limits and, where it has a stack map, these contents of it
-pub record HasMap (types : EntryTypes) (code_bytes : List ℕ) (within : Limits) (map_bytes : Option (List ℕ)) (env : Environment) : Type 0 where
+pub record HasMap (types : EntryTypes) (code_bytes : List ℕ) (within : Limits) (map_bytes : Option (List ℕ)) (env : Environment)
+    : Type 0 where
   pub pool : (current_class env).constant_pool ≡ types.constants.pool
   pub initial : entries_before env ≡ initial_types types
   pub code : env.code.code ≡ code_bytes
@@ -48,7 +49,8 @@ IsMapOf constants initial code within map_bytes found =
 -- what a handler catches, in every environment of a class with these constants
 abbrev pub IsCatchType : PoolTypes → ℕ → Option Item → Type 0
 IsCatchType constants index type =
-    (env : Environment) → (current_class env).constant_pool ≡ constants.pool → option_map (typed constants.types.names) type ≡ catch_type env index
+    (env : Environment) → (current_class env).constant_pool ≡ constants.pool
+    → option_map (typed constants.types.names) type ≡ catch_type env index
 
 abbrev pub DoHandlersKeepRules : PoolTypes → List ℕ → List Handler → Bool → Type 0
 DoHandlersKeepRules constants code handlers answer =

@@ -112,7 +112,8 @@ pub(crate) fn handlers_hold(
     requires held { IsHeld pass.now held.now frame.now }
     ensures { (env : Environment) (insn : Instruction) → IsOfPass pass.now env
         → option_map (typed (names_in pass.now)) object ≡ constructed_object env insn (frame_of (names_in pass.now) frame.now)
-        → result ≡ list_all (passes_at offset (unsettled_holds settled env (maps_of pass.now) insn (frame_of (names_in pass.now) frame.now))) handlers.now }
+        → result ≡ list_all (passes_at offset
+        (unsettled_holds settled env (maps_of pass.now) insn (frame_of (names_in pass.now) frame.now))) handlers.now }
 {
     for k in 0..handlers.len() {
         if !handler_holds(pass, held, frame, object, settled, offset, handlers[k]) {

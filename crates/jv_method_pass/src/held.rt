@@ -78,7 +78,8 @@ fn is_marked(marks: &[bool], place: u16) -> bool
 
 /// Whether a local variable flows to what was held at its place.
 fn flows_at(names: &TypeNames<'_, '_>, frame: &TypeFrame, base: &TypeFrame, place: u16) -> bool
-    ensures { result ≡ flows_at names.now.world (typed_all names.now.names frame.now.locals) (typed_all names.now.names base.now.locals) place }
+    ensures { result ≡ flows_at names.now.world (typed_all names.now.names frame.now.locals)
+        (typed_all names.now.names base.now.locals) place }
 {
     match (frame.local(place), base.local(place)) {
         (Some(local), Some(held)) => names.flows(local, held),
@@ -93,7 +94,8 @@ fn all_flow_at(
     base: &TypeFrame,
     places: &[u16],
 ) -> bool
-    ensures { result ≡ list_all (flows_at names.now.world (typed_all names.now.names frame.now.locals) (typed_all names.now.names base.now.locals)) places.now }
+    ensures { result ≡ list_all
+        (flows_at names.now.world (typed_all names.now.names frame.now.locals) (typed_all names.now.names base.now.locals)) places.now }
 {
     places
         .iter()
@@ -186,7 +188,8 @@ impl Held {
 
     /// Whether the local entries of the frame of the map at a place are those that are held.
     fn is_of(&self, pass: &Pass<'_, '_, '_, '_, '_>, place: usize) -> bool
-        ensures { IsTrue result → (entries : List FrameEntry) (locals : List Item) → option_map locals_in (slice_get pass.now.frames place) ≡ Some entries
+        ensures { IsTrue result → (entries : List FrameEntry) (locals : List Item)
+            → option_map locals_in (slice_get pass.now.frames place) ≡ Some entries
             → IsHeldBy pass.now self.now.place self.now locals → HoldsLocals pass.now entries self.now locals }
     {
         match self.place {
@@ -203,7 +206,8 @@ impl Held {
         place: usize,
     ) -> bool
         ensures object { IsTrue result → object ≡ None }
-        ensures held { IsTrue result → (entries : List FrameEntry) (locals : List Item) → option_map locals_in (slice_get pass.now.frames place) ≡ Some entries
+        ensures held { IsTrue result → (entries : List FrameEntry) (locals : List Item)
+            → option_map locals_in (slice_get pass.now.frames place) ≡ Some entries
             → IsHeldBy pass.now self.now.place self.now locals → HoldsLocals pass.now entries self.now locals }
     {
         match object {
@@ -216,7 +220,8 @@ impl Held {
     fn add(&mut self, place: u16) -> Result<(), AllocError>
         ensures place { self.new.place ≡ self.old.place }
         ensures base { self.new.base ≡ self.old.base }
-        ensures written { IfOk result (λ _. (k : ℕ) → is_written self.new.written k ≡ false → ((place == k) ≡ false) × (is_written self.old.written k ≡ false)) }
+        ensures written { IfOk result
+            (λ _. (k : ℕ) → is_written self.new.written k ≡ false → ((place == k) ≡ false) × (is_written self.old.written k ≡ false)) }
     {
         if is_marked(&self.marks, place) {
             return Ok(());
@@ -269,7 +274,9 @@ impl Held {
         requires base { length self.old.base.locals ≡ count }
         ensures place { self.new.place ≡ self.old.place }
         ensures base { self.new.base ≡ self.old.base }
-        ensures same { IfOk result (λ _. (names : List (List ℕ)) → AreSameBut self.new.written (typed_all names self.old.base.locals) (typed_all names frame.now.locals)) }
+        ensures same { IfOk result
+            (λ _. (names : List (List ℕ))
+            → AreSameBut self.new.written (typed_all names self.old.base.locals) (typed_all names frame.now.locals)) }
     {
         for place in 0..count {
             if !is_same_at(frame, &self.base, place) {
@@ -330,7 +337,8 @@ impl Held {
 
     /// Whether a frame flows into a frame of the map whose local entries are held.
     fn flows(&self, types: &EntryTypes<'_, '_, '_>, frame: &TypeFrame, map: &MapFrame<'_>) -> bool
-        ensures { result ≡ (held_locals_flow types.now self.now frame.now && stack_flows_to types.now (stack_of types.now frame.now) map.now && held_flag_flows self.now frame.now) }
+        ensures { result ≡ (held_locals_flow types.now self.now frame.now
+            && stack_flows_to types.now (stack_of types.now frame.now) map.now && held_flag_flows self.now frame.now) }
     {
         self.locals_flow(types, frame) && stack_flows(types, frame, map) && self.flag_flows(frame)
     }
@@ -344,7 +352,8 @@ impl Held {
         thrown: Item,
         map: &MapFrame<'_>,
     ) -> bool
-        ensures { result ≡ (held_locals_flow types.now self.now frame.now && stack_flows_to types.now (typed (names_of_types types.now) thrown ∷ []) map.now && held_flag_flows self.now frame.now) }
+        ensures { result ≡ (held_locals_flow types.now self.now frame.now
+            && stack_flows_to types.now (typed (names_of_types types.now) thrown ∷ []) map.now && held_flag_flows self.now frame.now) }
     {
         self.locals_flow(types, frame)
             && thrown_stack_flows(types, thrown, map)
@@ -387,7 +396,8 @@ impl Held {
     ) -> Result<(), AllocError>
         requires at { slice_get pass.now.frames place ≡ Some map.now }
         requires room { HasRoom pass.now.types pass.now.max_locals map.now }
-        ensures { OnOk result ((locals : List Item) → typed_all (names_in pass.now) locals ≡ expanded_entries pass.now.types pass.now.max_locals map.now.locals
+        ensures { OnOk result ((locals : List Item)
+            → typed_all (names_in pass.now) locals ≡ expanded_entries pass.now.types pass.now.max_locals map.now.locals
             → IsHeldBy pass.now self.new.place self.new locals) }
     {
         if map.local_words() < FEW {

@@ -38,9 +38,22 @@ impl<'p, 'm, 'e, 't, 'a> Model for Pass<'p, 'm, 'e, 't, 'a> {
 
     ghost Value = { Pass };
 
-    ghost view = { λ p. record { context = p.context.now; types = p.types.now; max_locals = p.max_locals; handlers = handlers_of p.handlers; frames = p.frames.now } };
+    ghost view = { λ p. record {
+      context = p.context.now;
+      types = p.types.now;
+      max_locals = p.max_locals;
+      handlers = handlers_of p.handlers;
+      frames = p.frames.now;
+    } };
 
-    ghost invariant = { λ p. IsPass (record { context = p.context.now; types = p.types.now; max_locals = p.max_locals; handlers = handlers_of p.handlers; frames = p.frames.now }) p.initial.now p.words };
+    ghost invariant = { λ p. IsPass
+        (record {
+          context = p.context.now;
+          types = p.types.now;
+          max_locals = p.max_locals;
+          handlers = handlers_of p.handlers;
+          frames = p.frames.now;
+        }) p.initial.now p.words };
 }
 
 impl Drop for Pass<'_, '_, '_, '_, '_> {
@@ -104,7 +117,8 @@ impl<'p, 'm, 'e, 't, 'a> Pass<'p, 'm, 'e, 't, 'a> {
 
     /// Whether two frames of the stack map are known to have the same local entries.
     pub(crate) fn share_locals(&self, place: usize, other: usize) -> bool
-        ensures { IsTrue result → option_map locals_in (slice_get self.now.frames place) ≡ option_map locals_in (slice_get self.now.frames other) }
+        ensures { IsTrue result → option_map locals_in (slice_get self.now.frames place)
+            ≡ option_map locals_in (slice_get self.now.frames other) }
     {
         let count = self.frames.count();
         place < count && other < count && self.frames.share_locals(place, other)

@@ -26,7 +26,8 @@ pub record NamesByKind (pool : List Entry) : Type 0 where
   pub descriptor : (index : ℕ) (member : NameAndDescriptor) → name_and_type_at pool index ≡ Some member → IsDescriptor member.descriptor
   pub field : (index : ℕ) (member : MemberReference) → field_reference_at pool index ≡ Some member → IsMember NamesField member
   pub method : (index : ℕ) (member : MemberReference) → method_reference_at pool index ≡ Some member → IsMember NamesMethod member
-  pub interface_method : (index : ℕ) (member : MemberReference) → interface_method_reference_at pool index ≡ Some member → IsMember NamesInterfaceMethod member
+  pub interface_method : (index : ℕ) (member : MemberReference) → interface_method_reference_at pool index ≡ Some member
+      → IsMember NamesInterfaceMethod member
 
 -- A law: constants that keep their rules name what their kinds say.
 abbrev pub KindsName : Type 0
@@ -34,4 +35,5 @@ KindsName = (pool : List Entry) → All (KeepsRules pool) pool → NamesByKind p
 
 -- A law: what holds of all constants of a pool holds of the one at an index.
 abbrev pub HoldsAtIndex : Type 0
-HoldsAtIndex = (pool : List Entry) → All (KeepsRules pool) pool → (index : ℕ) (constant : Entry) → at_index pool index ≡ Some constant → KeepsRules pool constant
+HoldsAtIndex = (pool : List Entry) → All (KeepsRules pool) pool → (index : ℕ) (constant : Entry) → at_index pool index ≡ Some constant
+    → KeepsRules pool constant

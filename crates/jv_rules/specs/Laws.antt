@@ -37,7 +37,8 @@ may_write insn k = false
 -- Such an instruction leaves the local variables and the flag as they were.
 abbrev pub KeepsLocals : Type 0
 KeepsLocals =
-    (env : Environment) (pc : ℕ) (insn : Instruction) (before behind : Frame) → IsTrue (keeps_locals insn) → rule env pc insn before ≡ Some behind
+    (env : Environment) (pc : ℕ) (insn : Instruction) (before behind : Frame) → IsTrue (keeps_locals insn)
+    → rule env pc insn before ≡ Some behind
     → (behind.locals ≡ before.locals) × (behind.flag_this_uninit ≡ before.flag_this_uninit)
 
 -- An instruction leaves the local variables that it can't write.

@@ -44,7 +44,8 @@ abbrev pub Follows : MethodContext → (Environment → Frame → Option Frame) 
 Follows context rule old new outcome = InMethod context (λ env. Applies (names_of_method context) (rule env) old new outcome)
 
 -- and the frame is left within the stack's limit
-abbrev pub LeavesWithin : {E : Type 0} → MethodContext → (Environment → Frame → Option Frame) → NumberFrame → NumberFrame → Result Bool E → Type 0
+abbrev pub LeavesWithin : {E : Type 0} → MethodContext → (Environment → Frame → Option Frame) → NumberFrame → NumberFrame → Result Bool E
+    → Type 0
 LeavesWithin context rule old new answer =
     (env : Environment) → IsOfMethod context env
     → IfOk answer (IsFrame (names_of_method context) (rule env (frame_of (names_of_method context) old)) new)

@@ -25,4 +25,5 @@ TakesBelowArguments types arguments old new answer =
 -- all copies of it get a type, whatever the names are
 abbrev pub Constructs : Item → Item → NumberFrame → NumberFrame → Type 0
 Constructs object by old new =
-    (names : List (List ℕ)) → frame_of names new ≡ constructed (frame_of names old) (typed names object) (typed names by) (typed_all names old.stack)
+    (names : List (List ℕ)) → frame_of names new
+    ≡ constructed (frame_of names old) (typed names object) (typed names by) (typed_all names old.stack)

@@ -35,12 +35,14 @@ pub record IsMethod (types : TypeWorld) (env : Environment) (method : MethodUse)
 -- ---- in every environment
 
 -- a rule was followed for a field that is used
-abbrev pub FollowsField : TypeWorld → FieldOperand → (Environment → FieldUse → Frame → Option Frame) → NumberFrame → NumberFrame → Outcome → Type 0
+abbrev pub FollowsField : TypeWorld → FieldOperand → (Environment → FieldUse → Frame → Option Frame) → NumberFrame → NumberFrame → Outcome
+    → Type 0
 FollowsField types operand rule old new outcome =
     (env : Environment) (named : FieldUse) → IsField types env named operand → Applies types.names (rule env named) old new outcome
 
 -- and for a method that is called
-abbrev pub FollowsMethod : TypeWorld → MethodOperand → (Environment → MethodUse → Frame → Option Frame) → NumberFrame → NumberFrame → Outcome → Type 0
+abbrev pub FollowsMethod : TypeWorld → MethodOperand → (Environment → MethodUse → Frame → Option Frame) → NumberFrame → NumberFrame
+    → Outcome → Type 0
 FollowsMethod types operand rule old new outcome =
     (env : Environment) (named : MethodUse) → IsMethod types env named operand → Applies types.names (rule env named) old new outcome
 

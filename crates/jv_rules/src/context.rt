@@ -30,7 +30,13 @@ impl<'m, 'e, 't, 'a> Model for MethodContext<'m, 'e, 't, 'a> {
 
     ghost Value = { MethodContext };
 
-    ghost view = { λ m. record { class = m.class.now; code = m.code.now.bytes.now; is_init = m.is_init; result = m.result; max_stack = m.max_stack } };
+    ghost view = { λ m. record {
+      class = m.class.now;
+      code = m.code.now.bytes.now;
+      is_init = m.is_init;
+      result = m.result;
+      max_stack = m.max_stack;
+    } };
 
     ghost invariant = { λ m. m.starts.now ≡ m.code.now.bytes.now };
 }

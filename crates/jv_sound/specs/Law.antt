@@ -19,7 +19,8 @@ NeverFaults = (judged : Judged) (g : GuestFiles) (b : Budget) (feeds : List Feed
 -- each of these objects is of a class that can be loaded (5.3.5)
 abbrev pub AreOfLoadable : World → List Object → Type 0
 AreOfLoadable world objects =
-    (id : ℕ) (instance : Instance) (l : Loaded) → slice_get objects id ≡ Some (InstanceOf instance) → class_named world instance.class ≡ Some l
+    (id : ℕ) (instance : Instance) (l : Loaded) → slice_get objects id ≡ Some (InstanceOf instance)
+    → class_named world instance.class ≡ Some l
     → IsTrue (is_loadable world l)
 
 -- A law: all objects of such a guest are, after every number of steps.

@@ -56,7 +56,8 @@ Stores false words index old new = stored words index old ≡ None
 -- ---- whatever the names are
 
 abbrev pub StoresAny : Bool → (List (List ℕ) → List FrameType) → ℕ → List Item → List Item → Type 0
-StoresAny answer words index old new = (names : List (List ℕ)) → Stores answer (words names) index (typed_all names old) (typed_all names new)
+StoresAny answer words index old new =
+    (names : List (List ℕ)) → Stores answer (words names) index (typed_all names old) (typed_all names new)
 
 abbrev pub ReplacesAny : Item → Item → List Item → List Item → Type 0
 ReplacesAny object by old new =

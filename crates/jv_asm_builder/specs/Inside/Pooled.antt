@@ -37,7 +37,8 @@ abbrev pub key_holding : Key → Holding
 key_holding k = (k.0, k.1, k.2, k.3.now)
 
 abbrev pub compare : Holding → Key → Ordering
-compare h k = ordering_then (ordering_then (ordering_then (nat_cmp h.0 k.0) (nat_cmp h.1 k.1)) (nat_cmp h.2 k.2)) (slice_cmp nat_cmp h.3 k.3.now)
+compare h k =
+    ordering_then (ordering_then (ordering_then (nat_cmp h.0 k.0) (nat_cmp h.1 k.1)) (nat_cmp h.2 k.2)) (slice_cmp nat_cmp h.3 k.3.now)
 
 -- the index of a constant by the map
 abbrev pub index_by : BTreeMap Key ℕ → Entry → Option ℕ

@@ -15,10 +15,12 @@ abbrev pub shown_method_texts : List Entry → MethodSeen → Option NameAndDesc
 shown_method_texts pool m = named_at pool m.name_index m.descriptor_index
 
 abbrev pub KeepsFieldShown : List Entry → ℕ → FieldSeen → Type 0
-KeepsFieldShown pool class_flags f = IsSomeAnd (shown_field_texts pool f) (KeepsRulesAsField pool class_flags f.access_flags f.constant_value)
+KeepsFieldShown pool class_flags f =
+    IsSomeAnd (shown_field_texts pool f) (KeepsRulesAsField pool class_flags f.access_flags f.constant_value)
 
 abbrev pub KeepsMethodShown : List Entry → ℕ → ℕ → MethodSeen → Type 0
-KeepsMethodShown pool major class_flags m = IsSomeAnd (shown_method_texts pool m) (KeepsRulesAsMethod major class_flags m.access_flags (is_some m.code))
+KeepsMethodShown pool major class_flags m =
+    IsSomeAnd (shown_method_texts pool m) (KeepsRulesAsMethod major class_flags m.access_flags (is_some m.code))
 
 pub record ShownKeepRules (c : ClassStructure) : Type 0 where
   pub fields : All (KeepsFieldShown c.constant_pool c.access_flags) (fields_of c)

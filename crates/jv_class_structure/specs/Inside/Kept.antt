@@ -20,5 +20,7 @@ abbrev pub seen_codes : Option MethodCode → Option CodeSeen
 seen_codes code = option_map seen_code code
 
 abbrev pub seen_body : Body → BodySeen
-seen_body b =
-    ((b.access_flags.0, (b.this_class, b.super_class)), (map seen_index b.interfaces.items, (map seen_field b.fields.items, (map seen_method b.methods.items, 0))))
+seen_body b = (
+  (b.access_flags.0, (b.this_class, b.super_class)),
+  (map seen_index b.interfaces.items, (map seen_field b.fields.items, (map seen_method b.methods.items, 0))),
+)

@@ -55,7 +55,8 @@ ArePlaces seed members places = AreFirstPlaces same_hashes (has_hashes seed) mem
 abbrev pub IsNoted : {S : Type 0} → Hashes → ℕ → HashMap Hashes ℕ S → HashMap Hashes ℕ S → Type 0
 IsNoted hashes place old new = (other : Hashes)
     → get_by (same_hashes other) new
-    ≡ cond (is_some (get_by (same_hashes hashes) old)) (get_by (same_hashes other) old) (cond (same_hashes hashes other) (Some place) (get_by (same_hashes other) old))
+    ≡ cond (is_some (get_by (same_hashes hashes) old)) (get_by (same_hashes other) old)
+    (cond (same_hashes hashes other) (Some place) (get_by (same_hashes other) old))
 
 abbrev pub FindSame : {S : Type 0} → HashMap Hashes ℕ S → HashMap Hashes ℕ S → Type 0
 FindSame old new = (other : Hashes) → get_by (same_hashes other) new ≡ get_by (same_hashes other) old

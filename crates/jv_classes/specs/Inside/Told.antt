@@ -9,16 +9,19 @@ use Rattle.jv_classes.specs.Inside.Rows.{all_super_numbers}
 
 -- which class is above which
 abbrev pub TellsAbove : World → Rows → Type 0
-TellsAbove world rows = (a b : ℕ) (l to : Loaded) → slice_get world a ≡ Some l → slice_get world b ≡ Some to → related rows a b ≡ is_above world to.class.name l.class
+TellsAbove world rows = (a b : ℕ) (l to : Loaded) → slice_get world a ≡ Some l → slice_get world b ≡ Some to
+    → related rows a b ≡ is_above world to.class.name l.class
 
 -- which class is a superclass of which
 abbrev pub TellsSuperclasses : World → Rows → Type 0
 TellsSuperclasses world rows =
-    (a b : ℕ) (l to : Loaded) → slice_get world a ≡ Some l → slice_get world b ≡ Some to → related rows a b ≡ is_among (superclasses world l.class) to
+    (a b : ℕ) (l to : Loaded) → slice_get world a ≡ Some l → slice_get world b ≡ Some to
+    → related rows a b ≡ is_among (superclasses world l.class) to
 
 -- a number is marked, and all that it is related to
 abbrev pub AreAllMarked : Rows → List Bool → ℕ → Type 0
-AreAllMarked rows marks number = IsTrue (get_or marks number false) × ((to : ℕ) → IsTrue (related rows number to) → IsTrue (get_or marks to false))
+AreAllMarked rows marks number =
+    IsTrue (get_or marks number false) × ((to : ℕ) → IsTrue (related rows number to) → IsTrue (get_or marks to false))
 
 -- a table tells of a world: who the direct supers are, which class is above which, which is a superclass of which, and which
 -- can be loaded

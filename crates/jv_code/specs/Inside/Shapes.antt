@@ -8,4 +8,5 @@ shape_at opcode = get_or SHAPES opcode None
 
 -- neither ill formed, nor jsr (168) nor ret (169), nor of the profile
 abbrev pub is_outside : ℕ → Bool
-is_outside opcode = nat_le 11 opcode && (nat_le opcode 195 && (not (opcode == 168) && (not (opcode == 169) && not (is_some (shape_at opcode)))))
+is_outside opcode =
+    nat_le 11 opcode && (nat_le opcode 195 && (not (opcode == 168) && (not (opcode == 169) && not (is_some (shape_at opcode)))))

@@ -26,7 +26,8 @@ field_is_far world current named reference =
 
 abbrev pub method_is_far : World → Loaded → Loaded → MemberReference → Bool
 method_is_far world current named reference =
-    unwrap_or (lookup_method world named reference.name reference.descriptor >>= λ d. Some (is_far current d.by d.method.access_flags)) false
+    unwrap_or (lookup_method world named reference.name reference.descriptor
+    >>= λ d. Some (is_far current d.by d.method.access_flags)) false
 
 -- ---- constants
 
@@ -35,7 +36,8 @@ member_named m = m.member
 
 -- what the constant at an index names is guarded
 pub record IsGuard (world : World) (current : Loaded) (pool : List Entry) (index : ℕ) (mark : Bool) : Type 0 where
-  pub field : (reference : MemberReference) → field_reference_at pool index ≡ Some reference → is_guarded_field world current reference ≡ mark
+  pub field : (reference : MemberReference) → field_reference_at pool index ≡ Some reference
+      → is_guarded_field world current reference ≡ mark
   pub method : (m : MethodReference) → method_operand_in pool index ≡ Some m → is_guarded_method world current m.member ≡ mark
 
 -- ---- by number and index

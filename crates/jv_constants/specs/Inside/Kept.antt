@@ -39,7 +39,8 @@ pub record IsMethodEntry (names : List (List ℕ)) (arguments : List Item) (entr
   pub parameters : AreArguments names arguments entry.start entry.end (call_types method).arguments
   pub result : Lasts typed_result names entry.result method.result
 
-pub record HasMethodEntry (names : List (List ℕ)) (arguments : List Item) (entry : MethodEntry) (found : Option MethodDescriptor) : Type 0 where
+pub record HasMethodEntry (names : List (List ℕ)) (arguments : List Item) (entry : MethodEntry) (found : Option MethodDescriptor)
+    : Type 0 where
   pub method : MethodDescriptor
   pub is : found ≡ Some method
   pub entered : IsMethodEntry names arguments entry method
@@ -70,7 +71,8 @@ abbrev pub IsNamed : List (List ℕ) → Option (List ℕ) → Option (FieldType
 IsNamed names text found = Lasts typed_result names found (text >>= named_type)
 
 -- what the text says as the name of a class is kept where a Class constant names it
-pub record IsKept (names : List (List ℕ)) (arguments : List Item) (text : Option (List ℕ)) (is_name : Bool) (entry : TextTypes) : Type 0 where
+pub record IsKept (names : List (List ℕ)) (arguments : List Item) (text : Option (List ℕ)) (is_name : Bool) (entry : TextTypes)
+    : Type 0 where
   pub described : IsDescribed names arguments text entry.described
   pub named : is_name ≡ true → IsNamed names text entry.named
 
@@ -96,7 +98,8 @@ pub record AreKept (names : List (List ℕ)) (arguments : List Item) (pool : Lis
   pub described : (index : ℕ) → IsDescribed names arguments (utf8_at pool index) (kept_at texts index).described
   pub named : (index name : ℕ) → at_index pool index ≡ Some (Class name) → IsNamed names (utf8_at pool name) (kept_at texts name).named
 
-pub record AreConstants (names : List (List ℕ)) (pool : List Entry) (arguments : List Item) (texts : List TextTypes) (string throwable : ℕ) : Type 0 where
+pub record AreConstants (names : List (List ℕ)) (pool : List Entry) (arguments : List Item) (texts : List TextTypes)
+    (string throwable : ℕ) : Type 0 where
   pub kept : AreKept names arguments pool texts
   pub string_at : slice_get names string ≡ Some (codes "java/lang/String")
   pub throwable_at : slice_get names throwable ≡ Some (codes "java/lang/Throwable")

@@ -90,7 +90,8 @@ abbrev pub frame_next : ℕ → Built → ReadFrame
 frame_next offset b = record { offset = offset; locals = b.locals; local_words = words_in b.widths b.locals; stack = b.pile }
 
 abbrev pub with_frame : ℕ → Built → Built
-with_frame offset b = record { widths = b.widths; frames = b.frames ++ frame_next offset b ∷ []; base = offset + 1; locals = b.locals; pile = [] }
+with_frame offset b =
+    record { widths = b.widths; frames = b.frames ++ frame_next offset b ∷ []; base = offset + 1; locals = b.locals; pile = [] }
 
 -- a frame joins, with what is laid as its stack
 abbrev pub finished : Limits → ℕ → Built → Option Built

@@ -19,7 +19,8 @@ built widths chains frames base locals pile = record {
 }
 
 -- the tops are nodes, the words are right, the offsets rise, and none is out of range
-pub record Holds (widths : List Width) (chains : List (List FrameEntry)) (frames : List KeptFrame) (base : ℕ) (locals pile : Pile) : Type 0 where
+pub record Holds (widths : List Width) (chains : List (List FrameEntry)) (frames : List KeptFrame) (base : ℕ) (locals pile : Pile)
+    : Type 0 where
   pub bottom : chain chains 0 ≡ []
   pub kept : All (IsKept (length chains)) frames
   pub rising : RiseTo 0 frames base

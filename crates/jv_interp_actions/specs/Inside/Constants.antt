@@ -36,7 +36,8 @@ HasItsText texts _ = ⊤
 -- ---- how it is stored
 
 -- In a memory that stands a value of a static field's type is to be stored there, whose words begin at one among those of all.
-pub record Putting (word : ℕ) (value : Value) (world : World) (texts : List (List ℕ)) (memory : Memory) (addresses : List ℕ) (held : Held) (blocks : Blocks) (d : DeclaredField) (type : FieldTypeOf (List ℕ)) : Type 0 where
+pub record Putting (word : ℕ) (value : Value) (world : World) (texts : List (List ℕ)) (memory : Memory) (addresses : List ℕ)
+    (held : Held) (blocks : Blocks) (d : DeclaredField) (type : FieldTypeOf (List ℕ)) : Type 0 where
   pub stands : MemoryStands world texts memory addresses held blocks
   pub typed : field_type_of d.field.descriptor ≡ Some type
   pub begins : place_among (key_of d) (static_fields world) ≡ Some word
@@ -61,18 +62,21 @@ HasPut value world texts memory addresses held blocks d type =
 
 abbrev pub PutsInt : ℕ → ℤ → Narrowing → Held → Held → Type 0
 PutsInt word number how held held_after =
-    (world : World) (texts : List (List ℕ)) (memory : Memory) (addresses : List ℕ) (blocks : Blocks) (d : DeclaredField) (type : FieldTypeOf (List ℕ))
+    (world : World) (texts : List (List ℕ)) (memory : Memory) (addresses : List ℕ) (blocks : Blocks) (d : DeclaredField)
+    (type : FieldTypeOf (List ℕ))
     → Putting word (Int number) world texts memory addresses held blocks d type → narrowing_of type ≡ how
     → HasPut (Int number) world texts memory addresses held_after blocks d type
 
 abbrev pub PutsLong : ℕ → ℤ → Held → Held → Type 0
 PutsLong word number held held_after =
-    (world : World) (texts : List (List ℕ)) (memory : Memory) (addresses : List ℕ) (blocks : Blocks) (d : DeclaredField) (type : FieldTypeOf (List ℕ))
+    (world : World) (texts : List (List ℕ)) (memory : Memory) (addresses : List ℕ) (blocks : Blocks) (d : DeclaredField)
+    (type : FieldTypeOf (List ℕ))
     → Putting word (Long number) world texts memory addresses held blocks d type
     → HasPut (Long number) world texts memory addresses held_after blocks d type
 
 abbrev pub PutsReference : ℕ → ℕ → Held → Held → Type 0
 PutsReference word address held held_after =
-    (world : World) (texts : List (List ℕ)) (memory : Memory) (addresses : List ℕ) (blocks : Blocks) (d : DeclaredField) (type : FieldTypeOf (List ℕ)) (object : ℕ)
+    (world : World) (texts : List (List ℕ)) (memory : Memory) (addresses : List ℕ) (blocks : Blocks) (d : DeclaredField)
+    (type : FieldTypeOf (List ℕ)) (object : ℕ)
     → Putting word (Reference object) world texts memory addresses held blocks d type → slice_get addresses object ≡ Some address
     → HasPut (Reference object) world texts memory addresses held_after blocks d type

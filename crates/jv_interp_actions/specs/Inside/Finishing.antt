@@ -11,8 +11,8 @@ use Rattle.jv_interp_frames.specs.declared.control.Control.{Control}
 use Rattle.jv_interp_frames.specs.FramesStand.{FramesStand}
 use Rattle.jv_interp_frames.specs.ControlStands.{ControlStands}
 
--- The class with a number is initialized, above these frames; the words of the initialization are given back. Where no frame is left main is
--- entered.
+-- The class with a number is initialized, above these frames; the words of the initialization are given back. Where no frame is left main
+-- is entered.
 pub record Finishing (class : ℕ) (frames : Frames) (program : Program) (addresses : List ℕ) (s t : State) : Type 0 where
   pub l : Loaded
   pub class_is : slice_get program.world class ≡ Some l
@@ -22,7 +22,8 @@ pub record Finishing (class : ℕ) (frames : Frames) (program : Program) (addres
 -- ---- the class's state, and the words
 
 -- Frames and control stand, without the initialization's record, and there is room for its words.
-pub record Marking (world : World) (class : ℕ) (frames : Frames) (kept : Control) (program : Program) (addresses : List ℕ) (all : List Frame) (control : ControlOfNames) (l : Loaded) : Type 0 where
+pub record Marking (world : World) (class : ℕ) (frames : Frames) (kept : Control) (program : Program) (addresses : List ℕ)
+    (all : List Frame) (control : ControlOfNames) (l : Loaded) : Type 0 where
   pub world_is : program.world ≡ world
   pub class_is : slice_get program.world class ≡ Some l
   pub stand : FramesStand program addresses all frames control.words
@@ -38,7 +39,8 @@ pub record CanMark (world : World) (class : ℕ) (frames : Frames) (kept : Contr
   pub marking : Marking world class frames kept program addresses all control l
 
 -- The class is initialized, and its initialization's words are left again.
-pub record Marked (program : Program) (addresses : List ℕ) (all : List Frame) (control : ControlOfNames) (l : Loaded) (frames : Frames) (kept : Control) : Type 0 where
+pub record Marked (program : Program) (addresses : List ℕ) (all : List Frame) (control : ControlOfNames) (l : Loaded)
+    (frames : Frames) (kept : Control) : Type 0 where
   pub stand : FramesStand program addresses all frames (finished l control).words
   pub control_stands : ControlStands program.world (finished l control) kept
 

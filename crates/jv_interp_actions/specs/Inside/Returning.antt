@@ -13,11 +13,14 @@ use Rattle.jv_interp_frames.specs.Leaving.{Leaving, Left}
 use Rattle.jv_interp_frames.specs.Inside.Codes.{IsCodeOf}
 
 -- It is the method that the registers tell, its result is so many words on top, and the frames below it are left to go on.
-pub record Returning (methods : Methods) (at : Registers) (words : ℕ) (frames : Frames) (kept : Control) (program : Program) (addresses : List ℕ) (memory : Memory) (frame : MethodFrame) (others : List Frame) (control : ControlOfNames) (result : List Value) (t : State) : Type 0 where
+pub record Returning (methods : Methods) (at : Registers) (words : ℕ) (frames : Frames) (kept : Control) (program : Program)
+    (addresses : List ℕ) (memory : Memory) (frame : MethodFrame) (others : List Frame) (control : ControlOfNames)
+    (result : List Value) (t : State) : Type 0 where
   pub declared : Declared
   pub code : IsCodeOf methods at.method program declared frame.method.code
   pub leaving :
-      Leaving methods (method_words frame) at.top words (record frames { top = at.base }) kept program addresses memory frame others control result t
+      Leaving methods (method_words frame) at.top words
+      (record frames { top = at.base }) kept program addresses memory frame others control result t
 
 pub record CanReturn (methods : Methods) (at : Registers) (words : ℕ) (frames : Frames) (kept : Control) : Type 0 where
   pub program : Program

@@ -31,7 +31,8 @@ IsTask world class (tasks.Runs member) task =
     (d : Declared) × (method_at world (record { class = class; member = member }) ≡ Some d) × (task ≡ RunsInitializer d)
 
 -- An initialization stands in a record, and the states of the classes are known, of which there are fewer than 2^31 (own).
-pub record Asking (world : World) (linked : Linked) (own : InitializationRecord) (states : List ClassState) (program : Program) (frame : InitializationFrame) (known : ClassStates) : Type 0 where
+pub record Asking (world : World) (linked : Linked) (own : InitializationRecord) (states : List ClassState) (program : Program)
+    (frame : InitializationFrame) (known : ClassStates) : Type 0 where
   pub world_is : program.world ≡ world
   pub linked_is : IsLinked program.world linked
   pub stands : InitializationStands program frame own
@@ -46,8 +47,8 @@ pub record CanAsk (world : World) (linked : Linked) (own : InitializationRecord)
   pub known : ClassStates
   pub asking : Asking world linked own states program frame known
 
--- Its first task is this one, where supers that are initialized or being initialized are passed over, and so many are done with it; or none is
--- left.
+-- Its first task is this one, where supers that are initialized or being initialized are passed over, and so many are done with it; or none
+-- is left.
 abbrev pub IsNext : Program → InitializationFrame → ClassStates → ℕ → Option Next → Type 0
 IsNext program frame known class None = tasks_left known frame.tasks ≡ []
 IsNext program frame known class (Some next) =
@@ -73,7 +74,8 @@ pub record ArePassed (world : World) (known : ClassStates) (order : List ℕ) (s
 
 abbrev pub PassesReady : List ClassState → List ℕ → ℕ → ℕ → Type 0
 PassesReady states order start end =
-    (world : World) (known : ClassStates) → AreClassStates world known states → AreNumbers world order → ArePassed world known order start end
+    (world : World) (known : ClassStates) → AreClassStates world known states → AreNumbers world order
+    → ArePassed world known order start end
 
 -- The super at a place isn't, if one is there.
 abbrev pub StopsAtUnready : List ClassState → List ℕ → ℕ → Type 0

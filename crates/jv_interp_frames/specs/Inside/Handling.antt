@@ -21,7 +21,8 @@ pc_of handler = handler.handler_pc
 -- ---- in a method that stands in a frame
 
 -- an object of a class is thrown there
-pub record Handling (world : World) (own : MethodRecord) (class : ℕ) (program : Program) (addresses : List ℕ) (frame : MethodFrame) (used below : List ℕ) (name : List ℕ) : Type 0 where
+pub record Handling (world : World) (own : MethodRecord) (class : ℕ) (program : Program) (addresses : List ℕ)
+    (frame : MethodFrame) (used below : List ℕ) (name : List ℕ) : Type 0 where
   pub world_is : program.world ≡ world
   pub stands : MethodStands program addresses frame own used below
   pub has_number : HasNumber program.world name class

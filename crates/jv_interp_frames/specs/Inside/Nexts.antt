@@ -11,7 +11,8 @@ use Rattle.jv_interp_methods.specs.declared.methods.Methods.{Methods}
 use Rattle.jv_interp_methods.specs.Methods.{AreMethods}
 
 -- it stands at this instruction
-pub record Nexts (methods : Methods) (own : MethodRecord) (program : Program) (addresses : List ℕ) (frame : MethodFrame) (used below : List ℕ) (insn : Instruction) : Type 0 where
+pub record Nexts (methods : Methods) (own : MethodRecord) (program : Program) (addresses : List ℕ) (frame : MethodFrame)
+    (used below : List ℕ) (insn : Instruction) : Type 0 where
   pub are : AreMethods program.world methods
   pub finds : FindsInstructions program.instructions
   pub stands : MethodStands program addresses frame own used below

@@ -24,7 +24,8 @@ all_passed (frame ∷ frames) control = all_passed frames (passed frame control)
 
 -- ---- the newest frame is passed
 
-pub record Passing (world : World) (program : Program) (addresses : List ℕ) (frame : Frame) (below : List Frame) (control : ControlOfNames) (frames : Frames) (kept : Control) : Type 0 where
+pub record Passing (world : World) (program : Program) (addresses : List ℕ) (frame : Frame) (below : List Frame)
+    (control : ControlOfNames) (frames : Frames) (kept : Control) : Type 0 where
   pub world_is : program.world ≡ world
   pub stand : FramesStand program addresses (frame ∷ below) frames control.words
   pub control_stands : ControlStands program.world control kept
@@ -37,7 +38,8 @@ pub record CanPass (world : World) (frames : Frames) (kept : Control) : Type 0 w
   pub control : ControlOfNames
   pub passing : Passing world program addresses frame below control frames kept
 
-pub record Passed (program : Program) (addresses : List ℕ) (frame : Frame) (below : List Frame) (control : ControlOfNames) (frames : Frames) (kept : Control) : Type 0 where
+pub record Passed (program : Program) (addresses : List ℕ) (frame : Frame) (below : List Frame) (control : ControlOfNames)
+    (frames : Frames) (kept : Control) : Type 0 where
   pub stand : FramesStand program addresses below frames (passed frame control).words
   pub control_stands : ControlStands program.world (passed frame control) kept
 
@@ -48,7 +50,8 @@ Passes world frames kept frames_after kept_after =
 
 -- ---- so many frames are passed
 
-pub record PassingAll (world : World) (count : ℕ) (program : Program) (addresses : List ℕ) (all : List Frame) (control : ControlOfNames) (frames : Frames) (kept : Control) : Type 0 where
+pub record PassingAll (world : World) (count : ℕ) (program : Program) (addresses : List ℕ) (all : List Frame)
+    (control : ControlOfNames) (frames : Frames) (kept : Control) : Type 0 where
   pub world_is : program.world ≡ world
   pub stand : FramesStand program addresses all frames control.words
   pub control_stands : ControlStands program.world control kept
@@ -61,7 +64,8 @@ pub record CanPassAll (world : World) (count : ℕ) (frames : Frames) (kept : Co
   pub control : ControlOfNames
   pub passing : PassingAll world count program addresses all control frames kept
 
-pub record PassedAll (count : ℕ) (program : Program) (addresses : List ℕ) (all : List Frame) (control : ControlOfNames) (frames : Frames) (kept : Control) : Type 0 where
+pub record PassedAll (count : ℕ) (program : Program) (addresses : List ℕ) (all : List Frame) (control : ControlOfNames)
+    (frames : Frames) (kept : Control) : Type 0 where
   pub stand : FramesStand program addresses (drop count all) frames (all_passed (take count all) control).words
   pub control_stands : ControlStands program.world (all_passed (take count all) control) kept
 
@@ -77,7 +81,8 @@ PassesAll world count frames kept frames_after kept_after = PassesUpTo world cou
 
 -- ---- a handler of the newest frame takes what is thrown
 
-pub record Catching (methods : Methods) (frames : Frames) (address : ℕ) (program : Program) (addresses : List ℕ) (frame : MethodFrame) (below : List Frame) (left object : ℕ) : Type 0 where
+pub record Catching (methods : Methods) (frames : Frames) (address : ℕ) (program : Program) (addresses : List ℕ)
+    (frame : MethodFrame) (below : List Frame) (left object : ℕ) : Type 0 where
   pub are : AreMethods program.world methods
   pub stand : FramesStand program addresses (Runs frame ∷ below) frames left
   pub at : slice_get addresses object ≡ Some address

@@ -11,7 +11,8 @@ use Rattle.jv_interp_frames.specs.ControlStands.{ControlStands}
 use Rattle.jv_interp_frames.specs.Standing.{Kept, Reaches}
 use Rattle.jv_interp_frames.specs.Inside.Walking.{with_throws, ThrownStands}
 
-pub record Unwinding (world : World) (thrown : Thrown) (program : Program) (texts : List (List ℕ)) (frames : List Frame) (control : ControlOfNames) (t : ThrownOfNames) (goes_to : State) (addresses : List ℕ) (before : Kept) : Type 0 where
+pub record Unwinding (world : World) (thrown : Thrown) (program : Program) (texts : List (List ℕ)) (frames : List Frame)
+    (control : ControlOfNames) (t : ThrownOfNames) (goes_to : State) (addresses : List ℕ) (before : Kept) : Type 0 where
   pub world_is : program.world ≡ world
   pub guests : IsGuestsWorld program.world
   pub frames_stand : FramesStand program addresses frames before.frames control.words
@@ -32,5 +33,6 @@ pub record CanUnwind (world : World) (thrown : Thrown) (before : Kept) : Type 0 
 
 abbrev pub Unwinds : World → Thrown → Kept → Kept → Type 0
 Unwinds world thrown before after =
-    (program : Program) (texts : List (List ℕ)) (frames : List Frame) (control : ControlOfNames) (t : ThrownOfNames) (goes_to : State) (addresses : List ℕ)
+    (program : Program) (texts : List (List ℕ)) (frames : List Frame) (control : ControlOfNames) (t : ThrownOfNames) (goes_to : State)
+    (addresses : List ℕ)
     → Unwinding world thrown program texts frames control t goes_to addresses before → Reaches program texts goes_to addresses before after

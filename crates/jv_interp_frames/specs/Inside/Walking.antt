@@ -24,7 +24,8 @@ abbrev pub with_throws : ℕ → Option (List ℕ) → ControlOfNames → Contro
 with_throws throws last control = record control { throws = throws; last = last }
 
 -- An object stands for what is thrown, its class's number and the throws so far are known, and the memory stands.
-pub record ThrownStands (program : Program) (texts : List (List ℕ)) (t : ThrownOfNames) (addresses : List ℕ) (thrown : Thrown) (held : Held) (blocks : Blocks) : Type 0 where
+pub record ThrownStands (program : Program) (texts : List (List ℕ)) (t : ThrownOfNames) (addresses : List ℕ) (thrown : Thrown)
+    (held : Held) (blocks : Blocks) : Type 0 where
   pub object : slice_get addresses t.object ≡ Some thrown.address
   pub class : HasNumber program.world t.class thrown.class
   pub throws : t.control.throws ≡ thrown.throws
@@ -37,7 +38,8 @@ IsKnown thrown = thrown.made ≡ true → thrown.class ≡ IN_INITIALIZER
 
 -- ---- it passes the initialization of a class
 
-pub record Replacing (world : World) (thrown : Thrown) (held : Held) (blocks : Blocks) (program : Program) (texts : List (List ℕ)) (t behind : ThrownOfNames) (addresses : List ℕ) : Type 0 where
+pub record Replacing (world : World) (thrown : Thrown) (held : Held) (blocks : Blocks) (program : Program) (texts : List (List ℕ))
+    (t behind : ThrownOfNames) (addresses : List ℕ) : Type 0 where
   pub world_is : program.world ≡ world
   pub guests : IsGuestsWorld program.world
   pub stands : ThrownStands program texts t addresses thrown held blocks
@@ -51,7 +53,8 @@ pub record CanReplace (world : World) (thrown : Thrown) (held : Held) (blocks : 
   pub addresses : List ℕ
   pub replacing : Replacing world thrown held blocks program texts t behind addresses
 
-pub record Replaced (program : Program) (texts : List (List ℕ)) (t behind : ThrownOfNames) (addresses : List ℕ) (before : Blocks) (thrown : Thrown) (held : Held) (blocks : Blocks) : Type 0 where
+pub record Replaced (program : Program) (texts : List (List ℕ)) (t behind : ThrownOfNames) (addresses : List ℕ) (before : Blocks)
+    (thrown : Thrown) (held : Held) (blocks : Blocks) : Type 0 where
   pub more : List ℕ
   pub stands : ThrownStands program texts behind (addresses ++ more) thrown held blocks
   pub control_is : behind.control ≡ with_throws behind.control.throws behind.control.last t.control
@@ -64,7 +67,8 @@ Replaces world thrown held blocks thrown_after held_after blocks_after =
     → Replaced program texts t behind addresses blocks thrown_after held_after blocks_after
 
 -- Where none is made now, all is as it was; and one that was made stays.
-pub record StaysUnlessMade (thrown thrown_after : Thrown) (held : Held) (blocks : Blocks) (held_after : Held) (blocks_after : Blocks) : Type 0 where
+pub record StaysUnlessMade (thrown thrown_after : Thrown) (held : Held) (blocks : Blocks) (held_after : Held)
+    (blocks_after : Blocks) : Type 0 where
   pub held_stays : thrown_after.made ≡ thrown.made → held_after ≡ held
   pub blocks_stay : thrown_after.made ≡ thrown.made → blocks_after ≡ blocks
   pub made_stays : thrown.made ≡ true → thrown_after.made ≡ true
@@ -72,7 +76,9 @@ pub record StaysUnlessMade (thrown thrown_after : Thrown) (held : Held) (blocks 
 -- ---- before
 
 -- What is thrown goes up these frames.
-pub record Walking (world : World) (records : List FrameRecord) (program : Program) (texts : List (List ℕ)) (frames : List Frame) (used : List ℕ) (t : ThrownOfNames) (goes_to : State) (addresses : List ℕ) (thrown : Thrown) (held : Held) (blocks : Blocks) : Type 0 where
+pub record Walking (world : World) (records : List FrameRecord) (program : Program) (texts : List (List ℕ)) (frames : List Frame)
+    (used : List ℕ) (t : ThrownOfNames) (goes_to : State) (addresses : List ℕ) (thrown : Thrown) (held : Held) (blocks : Blocks)
+    : Type 0 where
   pub world_is : program.world ≡ world
   pub guests : IsGuestsWorld program.world
   pub frames_stand : AreFrames program addresses frames (reverse records) used
@@ -91,7 +97,8 @@ pub record CanWalk (world : World) (records : List FrameRecord) (thrown : Thrown
 
 -- ---- and when it passed so many
 
-pub record Walked (count : ℕ) (program : Program) (texts : List (List ℕ)) (frames : List Frame) (t : ThrownOfNames) (goes_to : State) (addresses : List ℕ) (thrown : Thrown) (before : Blocks) (held : Held) (blocks : Blocks) : Type 0 where
+pub record Walked (count : ℕ) (program : Program) (texts : List (List ℕ)) (frames : List Frame) (t : ThrownOfNames)
+    (goes_to : State) (addresses : List ℕ) (thrown : Thrown) (before : Blocks) (held : Held) (blocks : Blocks) : Type 0 where
   pub more : List ℕ
   pub now : ThrownOfNames
   pub stands : ThrownStands program texts now (addresses ++ more) thrown held blocks
@@ -107,22 +114,26 @@ StopsAt world class rest (Some pc) =
     (frame : MethodFrame) × (below : List Frame) × (handler : Handler) × (rest ≡ Runs frame ∷ below)
     × (handler_for world class frame ≡ Some handler) × (pc ≡ handler.handler_pc)
 
-pub record Landed (program : Program) (texts : List (List ℕ)) (frames : List Frame) (t : ThrownOfNames) (goes_to : State) (addresses : List ℕ) (before : Blocks) (landing : Landing) (held : Held) (blocks : Blocks) : Type 0 where
+pub record Landed (program : Program) (texts : List (List ℕ)) (frames : List Frame) (t : ThrownOfNames) (goes_to : State)
+    (addresses : List ℕ) (before : Blocks) (landing : Landing) (held : Held) (blocks : Blocks) : Type 0 where
   pub walked : Walked landing.passed program texts frames t goes_to addresses landing.thrown before held blocks
   pub stops : StopsAt program.world walked.now.class (drop landing.passed frames) landing.handler
   pub within : landing.passed ≤ length frames
 
 abbrev pub Lands : World → List FrameRecord → Thrown → Held → Blocks → Landing → Held → Blocks → Type 0
 Lands world records thrown held blocks landing held_after blocks_after =
-    (program : Program) (texts : List (List ℕ)) (frames : List Frame) (used : List ℕ) (t : ThrownOfNames) (goes_to : State) (addresses : List ℕ)
+    (program : Program) (texts : List (List ℕ)) (frames : List Frame) (used : List ℕ) (t : ThrownOfNames) (goes_to : State)
+    (addresses : List ℕ)
     → Walking world records program texts frames used t goes_to addresses thrown held blocks
     → Landed program texts frames t goes_to addresses blocks landing held_after blocks_after
 
 -- ---- on the way: what is known when so many frames were passed
 
-pub record OnTheWay (world : World) (records : List FrameRecord) (thrown : Thrown) (held : Held) (blocks : Blocks) (room count : ℕ) (now : Thrown) (held_now : Held) (blocks_now : Blocks) (room_now : ℕ) : Type 0 where
+pub record OnTheWay (world : World) (records : List FrameRecord) (thrown : Thrown) (held : Held) (blocks : Blocks)
+    (room count : ℕ) (now : Thrown) (held_now : Held) (blocks_now : Blocks) (room_now : ℕ) : Type 0 where
   pub walked :
-      (program : Program) (texts : List (List ℕ)) (frames : List Frame) (used : List ℕ) (t : ThrownOfNames) (goes_to : State) (addresses : List ℕ)
+      (program : Program) (texts : List (List ℕ)) (frames : List Frame) (used : List ℕ) (t : ThrownOfNames) (goes_to : State)
+      (addresses : List ℕ)
       → Walking world records program texts frames used t goes_to addresses thrown held blocks
       → Walked count program texts frames t goes_to addresses now blocks held_now blocks_now
   pub known : IsKnown now

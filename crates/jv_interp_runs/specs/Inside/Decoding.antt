@@ -21,7 +21,8 @@ record_at method pc base = record { method = method; pc = pc; base = base }
 abbrev pub CanDecode : Methods → ℕ → ℕ → Type 0
 CanDecode methods method pc = (base : ℕ) × HasNext methods (record_at method pc base)
 
-pub record IsDecoded (site : Site) (insn : Instruction) (next : ℕ) (program : Program) (frame : MethodFrame) (there : Instruction) : Type 0 where
+pub record IsDecoded (site : Site) (insn : Instruction) (next : ℕ) (program : Program) (frame : MethodFrame) (there : Instruction)
+    : Type 0 where
   pub site_is : seen_site program.world site ≡ Some frame.method.site
   pub is : insn ≡ there
   pub next_is : next ≡ offset_behind frame.offset there
@@ -36,11 +37,13 @@ Decodes methods method pc site insn next =
 abbrev pub IsSiteOf : Methods → ℕ → ℕ → Site → Type 0
 IsSiteOf methods method pc site =
     (program : Program) (addresses : List ℕ) (base : ℕ) (frame : MethodFrame) (used below : List ℕ) (there : Instruction)
-    → Nexts methods (record_at method pc base) program addresses frame used below there → seen_site program.world site ≡ Some frame.method.site
+    → Nexts methods (record_at method pc base) program addresses frame used below there
+    → seen_site program.world site ≡ Some frame.method.site
 
 -- In each state that stands here, and from which the next step is taken, the newest frame stands at this instruction.
 abbrev pub StandsNext : World → List Bool → List (List ℕ) → Registers → Kept → Site → Instruction → ℕ → Type 0
 StandsNext world verified texts at before site insn next =
-    (program : Program) (s t : State) (addresses : List ℕ) (h : StepsIn world verified at program texts s t addresses before) (there : Instruction)
+    (program : Program) (s t : State) (addresses : List ℕ) (h : StepsIn world verified at program texts s t addresses before)
+    (there : Instruction)
     → instruction_at h.runs.running.frame.method h.runs.running.frame.offset ≡ Some there
     → IsDecoded site insn next program h.runs.running.frame there

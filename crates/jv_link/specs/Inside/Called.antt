@@ -50,7 +50,8 @@ AnswersInterface world target object answer =
 abbrev pub AnswersCall : World → ℕ → Use → TargetByNumber → Option ℕ → Result Place LinkError → Type 0
 AnswersCall world current how target object answer =
     (s : Site) (t : MethodTarget) → slice_get world current ≡ Some s.by → slice_get world target.named ≡ Some t.named
-    → method_at world target.declared ≡ Some t.declared → AnswersMethod world answer (selected world s (seen_use how) t (object_class_at world object))
+    → method_at world target.declared ≡ Some t.declared
+    → AnswersMethod world answer (selected world s (seen_use how) t (object_class_at world object))
 
 -- of invokespecial
 abbrev pub AnswersSpecial : World → ℕ → TargetByNumber → Result Place LinkError → Type 0
@@ -61,11 +62,13 @@ AnswersSpecial world current target answer =
 -- what runs where nothing was found by name, or what was found is abstract
 abbrev pub RunsFound : World → Place → ℕ → Option Place → Result Place LinkError → Type 0
 RunsFound world called class found answer =
-    HoldsAtCall world called class (λ l e. AnswersMethod world answer (found_or_default world l e.method (option_and_then (method_at world) found)))
+    HoldsAtCall world called class
+    (λ l e. AnswersMethod world answer (found_or_default world l e.method (option_and_then (method_at world) found)))
 
 abbrev pub RunsPublic : World → Place → ℕ → Option Place → Result Place LinkError → Type 0
 RunsPublic world called class found answer =
-    HoldsAtCall world called class (λ l e. AnswersMethod world answer (public_or_default world l e.method (option_and_then (method_at world) found)))
+    HoldsAtCall world called class
+    (λ l e. AnswersMethod world answer (public_or_default world l e.method (option_and_then (method_at world) found)))
 
 abbrev pub RunsDefault : World → Place → ℕ → Result Place LinkError → Type 0
 RunsDefault world called class answer =

@@ -17,4 +17,5 @@ reference_of m = through (constant_of m.of_interface) (seen_member m.member)
 -- what an index of a pool names (4.4.2)
 abbrev pub method_operand_in : List Entry → ℕ → Option MethodReference
 method_operand_in pool index =
-    option_or (option_map (through Methodref) (method_reference_at pool index)) (option_map (through InterfaceMethodref) (interface_method_reference_at pool index))
+    option_or (option_map (through Methodref) (method_reference_at pool index))
+    (option_map (through InterfaceMethodref) (interface_method_reference_at pool index))

@@ -53,7 +53,8 @@ abbrev pub accessible_field : World → Loaded → Loaded → DeclaredField → 
 accessible_field world current named d = provided (can_access world current named d.by d.field.access_flags) IllegalAccessError d
 
 abbrev pub accessible_method : World → Loaded → Loaded → Declared → OrError MethodTarget
-accessible_method world current named d = provided (can_access world current named d.by d.method.access_flags) IllegalAccessError (target named d)
+accessible_method world current named d =
+    provided (can_access world current named d.by d.method.access_flags) IllegalAccessError (target named d)
 
 -- ---- steps by numbers
 

@@ -17,7 +17,8 @@ IsFor Invokespecial class site = site.class ≡ class
 IsFor how class site = ⊤
 
 -- it is the method that a call of a target runs, at each such site
-pub record IsFound (world : World) (how : Use) (class : ℕ) (target : MethodTarget) (object : Option ℕ) (answer : Result MethodTarget LinkError) : Type 0 where
+pub record IsFound (world : World) (how : Use) (class : ℕ) (target : MethodTarget) (object : Option ℕ)
+    (answer : Result MethodTarget LinkError) : Type 0 where
   pub found : (site : Site) → IsFor how class site → IsSelected world site how target object answer
   pub target_of : IfOk answer (IsMethodTarget world)
 

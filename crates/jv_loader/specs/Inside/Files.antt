@@ -56,4 +56,5 @@ IsOfFiles world = (contents : List FileContent) × (world ≡ world_of system_cl
 
 -- a file's content joins the list of classes, if it is a class of its own, and gets an entry
 abbrev pub IsPut : List ℕ → World → World → Result ℕ LoadVerdict → Type 0
-IsPut bytes old new entry = (content : FileContent) × IsContent bytes content × (new ≡ with_file old content) × (entry ≡ entry_of old content)
+IsPut bytes old new entry =
+    (content : FileContent) × IsContent bytes content × (new ≡ with_file old content) × (entry ≡ entry_of old content)

@@ -26,7 +26,8 @@ candidates_at world searched name descriptor l = filter_map (candidate_in name d
 
 -- a class is below another and declares such a method
 abbrev pub below_in : World → List ℕ → List ℕ → Loaded → Loaded → Loaded → Bool
-below_in world name descriptor l by c = (not (bytes_eq by.class.name c.class.name) && is_above world by.class.name c.class) && is_some (candidate_in name descriptor l c)
+below_in world name descriptor l by c =
+    (not (bytes_eq by.class.name c.class.name) && is_above world by.class.name c.class) && is_some (candidate_in name descriptor l c)
 
 -- such a method that is not abstract, and has none below it
 abbrev pub is_specific : World → List Declared → Declared → Bool
@@ -57,7 +58,8 @@ IsAnyBelowIn world from class searched name descriptor answer =
 -- the maximally specific one that a class declares, or the only one, or whether there is one
 abbrev pub IsSpecificIn : World → ℕ → ℕ → List ℕ → List ℕ → List ℕ → Option Place → Type 0
 IsSpecificIn world from class searched name descriptor answer =
-    HoldsAtBoth world from class (λ l c. IsMethodFound world answer (specific_in world (candidates_at world searched name descriptor l) name descriptor l c))
+    HoldsAtBoth world from class
+    (λ l c. IsMethodFound world answer (specific_in world (candidates_at world searched name descriptor l) name descriptor l c))
 
 abbrev pub IsOnlySpecific : World → ℕ → List ℕ → List ℕ → List ℕ → Option Place → Type 0
 IsOnlySpecific world from searched name descriptor answer =

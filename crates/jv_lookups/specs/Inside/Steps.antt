@@ -18,7 +18,8 @@ flags_alike l m = option_map (λ (d : Declared). d.method.access_flags) (alike_i
 
 -- a method with these flags is overridden, where its package is, or isn't, among those found
 abbrev pub is_overridden_if : Bool → ℕ → Bool
-is_overridden_if found flags = has flags (acc_public + acc_protected) || (not (has flags (acc_public + acc_protected + acc_private)) && found)
+is_overridden_if found flags =
+    has flags (acc_public + acc_protected) || (not (has flags (acc_public + acc_protected + acc_private)) && found)
 
 abbrev pub is_final_overridden_if : Bool → Option ℕ → Bool
 is_final_overridden_if found None = false

@@ -32,4 +32,5 @@ opened_in e m l = opened_by e (alike_in l m)
 abbrev pub OverridingUpward : Type 0
 OverridingUpward =
     (e : Declared) (m : Method) (ls : List Loaded) (d : Declared)
-    → list_any (overrides_itself d) (overriding (e ∷ []) m (reverse ls)) ≡ (not (is_private d) && ((is_open e || list_any (opened_in e m) ls) || is_near e d))
+    → list_any (overrides_itself d) (overriding (e ∷ []) m (reverse ls))
+    ≡ (not (is_private d) && ((is_open e || list_any (opened_in e m) ls) || is_near e d))

@@ -41,7 +41,8 @@ pub record InitializationRows : Type 0 where
   -- an interface's superinterfaces first, and then it
   pub own_first : before interfaces (C (codes "J" ∷ [])) ≡ codes "P" ∷ codes "K" ∷ codes "I" ∷ codes "J" ∷ []
   -- each once, at its first place
-  pub diamond : before interfaces (C (codes "I" ∷ codes "J" ∷ codes "D" ∷ [])) ≡ codes "P" ∷ codes "I" ∷ codes "K" ∷ codes "J" ∷ codes "D" ∷ []
+  pub diamond : before interfaces (C (codes "I" ∷ codes "J" ∷ codes "D" ∷ []))
+      ≡ codes "P" ∷ codes "I" ∷ codes "K" ∷ codes "J" ∷ codes "D" ∷ []
   -- interfaces without a method that is neither abstract nor static are left out
   pub left_out : before interfaces (C (codes "S" ∷ codes "B" ∷ codes "D" ∷ [])) ≡ codes "P" ∷ codes "I" ∷ codes "D" ∷ []
   -- an interface initializes none before itself
@@ -54,7 +55,8 @@ field flags name descriptor = record { access_flags = flags; name = name; descri
 
 -- X has an int a, a static int b and a long c; Y extends it with an array a and a byte d
 abbrev pub X : Class
-X = with_fields (codes "X") object_name (field 2 (codes "a") (codes "I") ∷ field 10 (codes "b") (codes "I") ∷ field 1 (codes "c") (codes "J") ∷ [])
+X = with_fields (codes "X") object_name
+    (field 2 (codes "a") (codes "I") ∷ field 10 (codes "b") (codes "I") ∷ field 1 (codes "c") (codes "J") ∷ [])
 
 abbrev pub Y : Class
 Y = with_fields (codes "Y") (codes "X") (field 1 (codes "a") (codes "[J") ∷ field 1 (codes "d") (codes "B") ∷ [])
@@ -75,7 +77,8 @@ pub record LayoutRows : Type 0 where
 abbrev pub with_constants : Class
 with_constants = record (class (codes "A") object_name []) {
   constant_pool =
-      constants.Utf8 (codes "p/A") ∷ constants.Class 1 ∷ constants.Utf8 (codes "m") ∷ constants.Utf8 (codes "()V") ∷ constants.NameAndType 3 4
+      constants.Utf8 (codes "p/A") ∷ constants.Class 1 ∷ constants.Utf8 (codes "m") ∷ constants.Utf8 (codes "()V")
+      ∷ constants.NameAndType 3 4
       ∷ constants.Methodref 2 5 ∷ constants.InterfaceMethodref 2 5
       ∷ constants.Utf8 (codes "x") ∷ constants.Utf8 (codes "I") ∷ constants.NameAndType 8 9 ∷ constants.Fieldref 2 10 ∷ [];
 }
@@ -84,5 +87,6 @@ pub record OperandRows : Type 0 where
   pub class : class_operand with_constants 2 ≡ Some (codes "p/A")
   pub field : field_operand with_constants 11 ≡ Some (member (codes "p/A") (codes "x") (codes "I"))
   pub method : method_operand with_constants 6 ≡ Some (through Methodref (member (codes "p/A") (codes "m") (codes "()V")))
-  pub interface_method : method_operand with_constants 7 ≡ Some (through InterfaceMethodref (member (codes "p/A") (codes "m") (codes "()V")))
+  pub interface_method : method_operand with_constants 7
+      ≡ Some (through InterfaceMethodref (member (codes "p/A") (codes "m") (codes "()V")))
   pub other_kind : method_operand with_constants 11 ≡ None

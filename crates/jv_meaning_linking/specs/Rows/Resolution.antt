@@ -177,12 +177,15 @@ pub record MethodRows : Type 0 where
   pub static_before_default : m_from interfaces (in_m A) Invokeinterface InterfaceMethodref (codes "Z") ≡ Err IncompatibleClassChangeError
   -- the constant is that of the named class's kind
   pub method_of_interface : m_from interfaces (in_m A) Invokestatic Methodref (codes "W") ≡ Err IncompatibleClassChangeError
-  pub interface_method_of_class : m_from interfaces (in_m A) Invokeinterface InterfaceMethodref (codes "C") ≡ Err IncompatibleClassChangeError
+  pub interface_method_of_class : m_from interfaces (in_m A) Invokeinterface InterfaceMethodref (codes "C")
+      ≡ Err IncompatibleClassChangeError
   pub static_of_interface : m_from interfaces (in_m A) Invokestatic InterfaceMethodref (codes "W") ≡ Ok (codes "W")
   pub none_in_interface : m_from interfaces (in_m A) Invokeinterface InterfaceMethodref (codes "E") ≡ Err NoSuchMethodError
   -- arrays, and interfaces, have java/lang/Object's public methods
-  pub of_array : method_from interfaces (in_m A) Invokevirtual (through Methodref (member (codes "[I") (codes "equals") (codes "(Ljava/lang/Object;)Z"))) ≡ Ok object_name
-  pub of_object : method_from interfaces (in_m A) Invokeinterface (through InterfaceMethodref (member (codes "E") (codes "equals") (codes "(Ljava/lang/Object;)Z"))) ≡ Ok object_name
+  pub of_array : method_from interfaces (in_m A) Invokevirtual
+      (through Methodref (member (codes "[I") (codes "equals") (codes "(Ljava/lang/Object;)Z"))) ≡ Ok object_name
+  pub of_object : method_from interfaces (in_m A) Invokeinterface
+      (through InterfaceMethodref (member (codes "E") (codes "equals") (codes "(Ljava/lang/Object;)Z"))) ≡ Ok object_name
   -- errors of the class
   pub missing : m_from several (in_m A) Invokevirtual Methodref (codes "Missing") ≡ Err NoClassDefFoundError
   pub missing_element : m_from several (in_m A) Invokevirtual Methodref (codes "[LMissing;") ≡ Err NoClassDefFoundError
@@ -203,16 +206,23 @@ pub record MethodRows : Type 0 where
   pub invokestatic_of_object : m_from (family (with_m 1)) (in_m C) Invokestatic Methodref (codes "p/P") ≡ Err IncompatibleClassChangeError
   pub invokevirtual_of_static : m_from (family (with_m 9)) (in_m C) Invokevirtual Methodref (codes "p/P") ≡ Err IncompatibleClassChangeError
   pub invokespecial_of_static : m_from (family (with_m 9)) (in_m C) Invokespecial Methodref (codes "p/P") ≡ Err IncompatibleClassChangeError
-  pub invokeinterface_of_static : m_from interfaces (in_m A) Invokeinterface InterfaceMethodref (codes "W") ≡ Err IncompatibleClassChangeError
-  pub invokeinterface_of_private : m_from interfaces (in_m V) Invokeinterface InterfaceMethodref (codes "V") ≡ Err IncompatibleClassChangeError
+  pub invokeinterface_of_static : m_from interfaces (in_m A) Invokeinterface InterfaceMethodref (codes "W")
+      ≡ Err IncompatibleClassChangeError
+  pub invokeinterface_of_private : m_from interfaces (in_m V) Invokeinterface InterfaceMethodref (codes "V")
+      ≡ Err IncompatibleClassChangeError
   pub invokespecial_of_private : m_from interfaces (in_m V) Invokespecial InterfaceMethodref (codes "V") ≡ Ok (codes "V")
   pub access_before_kind : m_from (family (with_m 10)) (in_m C) Invokevirtual Methodref (codes "p/P") ≡ Err IllegalAccessError
   -- a private method of the current class
   pub own_private : m_from (family (with_m 2)) (in_m (with_m 2)) Invokespecial Methodref (codes "p/P") ≡ Ok (codes "p/P")
   -- an `<init>` that the named class declares, and one that only its superclass has, behind access
-  pub own_constructor : method_from (family (with_constructor 1)) (in_m C) Invokespecial (through Methodref (member (codes "p/P") (codes "<init>") (codes "()V"))) ≡ Ok (codes "p/P")
-  pub inherited_constructor : method_from (family (with_constructor 1)) (in_m C) Invokespecial (through Methodref (member (codes "q/C") (codes "<init>") (codes "()V"))) ≡ Err NoSuchMethodError
+  pub own_constructor : method_from (family (with_constructor 1)) (in_m C) Invokespecial
+      (through Methodref (member (codes "p/P") (codes "<init>") (codes "()V"))) ≡ Ok (codes "p/P")
+  pub inherited_constructor : method_from (family (with_constructor 1)) (in_m C) Invokespecial
+      (through Methodref (member (codes "q/C") (codes "<init>") (codes "()V"))) ≡ Err NoSuchMethodError
   -- a protected `<init>` of another package, from a subclass and from another class
-  pub protected_constructor : method_from (family (with_constructor 4)) (in_init C) Invokespecial (through Methodref (member (codes "p/P") (codes "<init>") (codes "()V"))) ≡ Ok (codes "p/P")
-  pub protected_from_other : method_from (family (with_constructor 4)) (in_m B) Invokespecial (through Methodref (member (codes "p/P") (codes "<init>") (codes "()V"))) ≡ Err IllegalAccessError
-  pub access_before_constructor : method_from (family (with_constructor 2)) (in_m C) Invokespecial (through Methodref (member (codes "q/C") (codes "<init>") (codes "()V"))) ≡ Err IllegalAccessError
+  pub protected_constructor : method_from (family (with_constructor 4)) (in_init C) Invokespecial
+      (through Methodref (member (codes "p/P") (codes "<init>") (codes "()V"))) ≡ Ok (codes "p/P")
+  pub protected_from_other : method_from (family (with_constructor 4)) (in_m B) Invokespecial
+      (through Methodref (member (codes "p/P") (codes "<init>") (codes "()V"))) ≡ Err IllegalAccessError
+  pub access_before_constructor : method_from (family (with_constructor 2)) (in_m C) Invokespecial
+      (through Methodref (member (codes "q/C") (codes "<init>") (codes "()V"))) ≡ Err IllegalAccessError

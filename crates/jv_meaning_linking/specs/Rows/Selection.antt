@@ -83,7 +83,8 @@ two_methods = class (codes "p/M") (codes "p/A") (m 1 ++ method 1 (codes "other")
 
 abbrev pub overrides_first : Class → Method → Bool
 overrides_first by called =
-    overrides (world_with (first 1 ∷ two_methods ∷ [])) (record { by = guest by; method = called }) (record { by = guest (first 1); method = method_m 1 })
+    overrides (world_with (first 1 ∷ two_methods ∷ [])) (record { by = guest by; method = called })
+    (record { by = guest (first 1); method = method_m 1 })
 
 pub record VirtualRows : Type 0 where
   -- p/A's m is package-private: q/B's doesn't override it, p/C's does
@@ -150,14 +151,16 @@ C super_name supers = implementing (codes "C") super_name supers []
 
 -- C.m of an object of C
 abbrev pub default_run : List (List ℕ) → OrError (List ℕ)
-default_run supers = m_run (C object_name supers ∷ interfaces) (in_m (C object_name supers)) Invokevirtual Methodref (codes "C") (C object_name supers)
+default_run supers =
+    m_run (C object_name supers ∷ interfaces) (in_m (C object_name supers)) Invokevirtual Methodref (codes "C") (C object_name supers)
 
 -- C.m of an object of D, which extends C and has an m of these flags; C implements I
 abbrev pub below_C : ℕ → Class
 below_C flags = class (codes "D") (codes "C") (m flags)
 
 abbrev pub below_run : ℕ → OrError (List ℕ)
-below_run flags = m_run (below_C flags ∷ C object_name (codes "I" ∷ []) ∷ interfaces) (in_m I) Invokevirtual Methodref (codes "C") (below_C flags)
+below_run flags =
+    m_run (below_C flags ∷ C object_name (codes "I" ∷ []) ∷ interfaces) (in_m I) Invokevirtual Methodref (codes "C") (below_C flags)
 
 -- m of the interface of a name, of an object of C
 abbrev pub interface_run : List ℕ → Class → OrError (List ℕ)
@@ -186,7 +189,8 @@ pub record DefaultRows : Type 0 where
   pub abstract_and_default : default_run (codes "R" ∷ codes "K" ∷ []) ≡ Ok (codes "K")
   pub abstract_alone : default_run (codes "B" ∷ []) ≡ Err AbstractMethodError
   -- a superclass's method comes first
-  pub class_first : m_run (C (codes "P") (codes "K" ∷ []) ∷ interfaces) (in_m I) Invokevirtual Methodref (codes "P") (C (codes "P") (codes "K" ∷ [])) ≡ Ok (codes "P")
+  pub class_first : m_run (C (codes "P") (codes "K" ∷ []) ∷ interfaces) (in_m I) Invokevirtual Methodref (codes "P")
+      (C (codes "P") (codes "K" ∷ [])) ≡ Ok (codes "P")
   -- a class below C overrides the default, unless its method is private
   pub overridden : below_run 1 ≡ Ok (codes "D")
   pub overridden_package_private : below_run 0 ≡ Ok (codes "D")
@@ -279,7 +283,8 @@ pub record SpecialRows : Type 0 where
   pub default : special_run F InterfaceMethodref (codes "I") ≡ Ok (codes "I")
   pub private : special_run V InterfaceMethodref (codes "V") ≡ Ok (codes "V")
   pub unrelated : special_run F InterfaceMethodref (codes "W") ≡ Err IncompatibleClassChangeError
-  pub equals_through_interface : run_from special (in_m F) Invokespecial (equals_of InterfaceMethodref (codes "I")) (Some F) ≡ Ok object_name
+  pub equals_through_interface : run_from special (in_m F) Invokespecial (equals_of InterfaceMethodref (codes "I")) (Some F)
+      ≡ Ok object_name
   -- code of an interface calls a method of java/lang/Object
   pub equals_in_interface : run_from special (in_m I) Invokespecial (equals_of Methodref object_name) (Some F) ≡ Ok object_name
   -- the constructor of the named class, though the direct superclass has one

@@ -81,7 +81,8 @@ pub record CoverRows : Type 0 where
   pub before : covered 2 [] ≡ true
   pub behind : covered 6 [] ≡ true
   -- each handler is asked
-  pub second : handlers_hold (with_handlers (handler 0 ∷ handler 55 ∷ []) in_m) (at_20 (frame [] (throwable_type ∷ []))) 3 insns.Nop (frame [] []) ≡ true
+  pub second : handlers_hold (with_handlers (handler 0 ∷ handler 55 ∷ []) in_m) (at_20 (frame [] (throwable_type ∷ []))) 3 insns.Nop
+      (frame [] []) ≡ true
   pub second_without_map :
       handlers_hold (with_handlers (handler 0 ∷ record { start_pc = 3; end_pc = 4; handler_pc = 30; catch_type = 0 } ∷ []) in_m)
       (at_20 (frame [] (throwable_type ∷ []))) 3 insns.Nop (frame [] []) ≡ false
@@ -110,11 +111,15 @@ pub record TargetRows : Type 0 where
   pub other_frame : jumps (at_20 (frame [] [])) (insns.Goto (pos 11) jump.Half) (frame [] (c ∷ [])) ≡ false
   -- the frame is the one behind the branch
   pub behind_test : jumps (at_20 (frame [] [])) (insns.Branch (tests.IfInt conditions.Equal) (pos 11)) (frame [] (types.Int ∷ [])) ≡ true
-  pub before_test : jumps (at_20 (frame [] (types.Int ∷ []))) (insns.Branch (tests.IfInt conditions.Equal) (pos 11)) (frame [] (types.Int ∷ [])) ≡ false
+  pub before_test : jumps (at_20 (frame [] (types.Int ∷ []))) (insns.Branch (tests.IfInt conditions.Equal) (pos 11))
+      (frame [] (types.Int ∷ [])) ≡ false
   -- each target of a switch, the default one too
-  pub switch : jumps (at_20 (frame [] [])) (insns.TableSwitch [] (pos 11) (pos 0) (pos 0) (0 ∷ 0 ∷ 0 ∷ 11 ∷ [])) (frame [] (types.Int ∷ [])) ≡ true
-  pub switch_other : jumps (at_20 (frame [] [])) (insns.TableSwitch [] (pos 11) (pos 0) (pos 0) (0 ∷ 0 ∷ 0 ∷ 12 ∷ [])) (frame [] (types.Int ∷ [])) ≡ false
-  pub switch_default : jumps (at_20 (frame [] [])) (insns.LookupSwitch [] (pos 12) (0 ∷ 0 ∷ 0 ∷ 1 ∷ 0 ∷ 0 ∷ 0 ∷ 11 ∷ [])) (frame [] (types.Int ∷ [])) ≡ false
+  pub switch : jumps (at_20 (frame [] [])) (insns.TableSwitch [] (pos 11) (pos 0) (pos 0) (0 ∷ 0 ∷ 0 ∷ 11 ∷ []))
+      (frame [] (types.Int ∷ [])) ≡ true
+  pub switch_other : jumps (at_20 (frame [] [])) (insns.TableSwitch [] (pos 11) (pos 0) (pos 0) (0 ∷ 0 ∷ 0 ∷ 12 ∷ []))
+      (frame [] (types.Int ∷ [])) ≡ false
+  pub switch_default : jumps (at_20 (frame [] [])) (insns.LookupSwitch [] (pos 12) (0 ∷ 0 ∷ 0 ∷ 1 ∷ 0 ∷ 0 ∷ 0 ∷ 11 ∷ []))
+      (frame [] (types.Int ∷ [])) ≡ false
   pub no_target : jumps [] insns.Nop (frame [] []) ≡ true
 
 -- ---- the end of code

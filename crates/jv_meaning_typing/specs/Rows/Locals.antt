@@ -35,26 +35,34 @@ abbrev pub four : List FrameType
 four = types.Int ∷ types.Long ∷ types.Top ∷ c ∷ []
 
 pub record StoreRows : Type 0 where
-  pub istore : in_locals (insns.Store word_kinds.Int 3 local.Opcode) four (types.Int ∷ []) ≡ Some (types.Int ∷ types.Long ∷ types.Top ∷ types.Int ∷ [])
+  pub istore : in_locals (insns.Store word_kinds.Int 3 local.Opcode) four (types.Int ∷ [])
+      ≡ Some (types.Int ∷ types.Long ∷ types.Top ∷ types.Int ∷ [])
   -- over a half of a long the other half becomes top
-  pub over_first_half : in_locals (insns.Store word_kinds.Int 1 local.Opcode) four (types.Int ∷ []) ≡ Some (types.Int ∷ types.Int ∷ types.Top ∷ c ∷ [])
-  pub over_second_half : in_locals (insns.Store word_kinds.Int 2 local.Opcode) four (types.Int ∷ []) ≡ Some (types.Int ∷ types.Top ∷ types.Int ∷ c ∷ [])
-  pub long_over_first_half : in_locals (insns.StoreLong 0 local.Opcode) four (types.Long ∷ []) ≡ Some (types.Long ∷ types.Top ∷ types.Top ∷ c ∷ [])
-  pub long_over_second_half : in_locals (insns.StoreLong 2 local.Opcode) four (types.Long ∷ []) ≡ Some (types.Int ∷ types.Top ∷ types.Long ∷ types.Top ∷ [])
+  pub over_first_half : in_locals (insns.Store word_kinds.Int 1 local.Opcode) four (types.Int ∷ [])
+      ≡ Some (types.Int ∷ types.Int ∷ types.Top ∷ c ∷ [])
+  pub over_second_half : in_locals (insns.Store word_kinds.Int 2 local.Opcode) four (types.Int ∷ [])
+      ≡ Some (types.Int ∷ types.Top ∷ types.Int ∷ c ∷ [])
+  pub long_over_first_half : in_locals (insns.StoreLong 0 local.Opcode) four (types.Long ∷ [])
+      ≡ Some (types.Long ∷ types.Top ∷ types.Top ∷ c ∷ [])
+  pub long_over_second_half : in_locals (insns.StoreLong 2 local.Opcode) four (types.Long ∷ [])
+      ≡ Some (types.Int ∷ types.Top ∷ types.Long ∷ types.Top ∷ [])
   pub long_over_itself : in_locals (insns.StoreLong 1 local.Opcode) four (types.Long ∷ []) ≡ Some four
   pub long_outside : in_locals (insns.StoreLong 3 local.Opcode) four (types.Long ∷ []) ≡ None
   pub outside : in_locals (insns.Store word_kinds.Int 4 local.Byte) four (types.Int ∷ []) ≡ None
 
 pub record StoredKindRows : Type 0 where
-  pub uninitialized : in_locals (insns.Store word_kinds.Reference 0 local.Opcode) four (types.Uninitialized 3 ∷ []) ≡ Some (types.Uninitialized 3 ∷ types.Long ∷ types.Top ∷ c ∷ [])
-  pub null : in_locals (insns.Store word_kinds.Reference 0 local.Opcode) four (types.Null ∷ []) ≡ Some (types.Null ∷ types.Long ∷ types.Top ∷ c ∷ [])
+  pub uninitialized : in_locals (insns.Store word_kinds.Reference 0 local.Opcode) four (types.Uninitialized 3 ∷ [])
+      ≡ Some (types.Uninitialized 3 ∷ types.Long ∷ types.Top ∷ c ∷ [])
+  pub null : in_locals (insns.Store word_kinds.Reference 0 local.Opcode) four (types.Null ∷ [])
+      ≡ Some (types.Null ∷ types.Long ∷ types.Top ∷ c ∷ [])
   pub int_as_reference : in_locals (insns.Store word_kinds.Reference 0 local.Opcode) four (types.Int ∷ []) ≡ None
   pub null_as_int : in_locals (insns.Store word_kinds.Int 0 local.Opcode) four (types.Null ∷ []) ≡ None
   pub int_as_long : in_locals (insns.StoreLong 0 local.Opcode) four (types.Int ∷ []) ≡ None
   pub top : in_locals (insns.Store word_kinds.Reference 0 local.Opcode) four (types.Top ∷ []) ≡ None
   pub nothing : in_locals (insns.Store word_kinds.Int 0 local.Opcode) four [] ≡ None
   -- a constructor that overwrites `this` keeps the flag
-  pub keeps_flag : behind (insns.Store word_kinds.Reference 0 local.Opcode) (flagged (types.UninitializedThis ∷ []) (c ∷ [])) ≡ Some (flagged (c ∷ []) [])
+  pub keeps_flag : behind (insns.Store word_kinds.Reference 0 local.Opcode) (flagged (types.UninitializedThis ∷ []) (c ∷ []))
+      ≡ Some (flagged (c ∷ []) [])
 
 -- ---- arrays of numbers
 
@@ -66,7 +74,8 @@ pub record NumberArrayRows : Type 0 where
   pub iaload_at_long : on_stack (insns.ArrayLoad number_elements.Int) (types.Long ∷ numbers 0 bases.Int ∷ []) ≡ None
   pub laload : on_stack (insns.ArrayLoad number_elements.Long) (types.Int ∷ numbers 0 bases.Long ∷ []) ≡ Some (types.Long ∷ [])
   pub baload : on_stack (insns.ArrayLoad number_elements.ByteOrBoolean) (types.Int ∷ numbers 0 bases.Byte ∷ []) ≡ Some (types.Int ∷ [])
-  pub baload_booleans : on_stack (insns.ArrayLoad number_elements.ByteOrBoolean) (types.Int ∷ numbers 0 bases.Boolean ∷ []) ≡ Some (types.Int ∷ [])
+  pub baload_booleans : on_stack (insns.ArrayLoad number_elements.ByteOrBoolean) (types.Int ∷ numbers 0 bases.Boolean ∷ [])
+      ≡ Some (types.Int ∷ [])
   pub baload_chars : on_stack (insns.ArrayLoad number_elements.ByteOrBoolean) (types.Int ∷ numbers 0 bases.Char ∷ []) ≡ None
   pub castore : on_stack (insns.ArrayStore number_elements.Char) (types.Int ∷ types.Int ∷ numbers 0 bases.Char ∷ []) ≡ Some []
   pub lastore : on_stack (insns.ArrayStore number_elements.Long) (types.Long ∷ types.Int ∷ numbers 0 bases.Long ∷ []) ≡ Some []
@@ -79,7 +88,8 @@ pub record ReferenceArrayRows : Type 0 where
   pub aaload_null : on_stack insns.ReferenceArrayLoad (types.Int ∷ types.Null ∷ []) ≡ Some (types.Null ∷ [])
   pub aaload_arrays : on_stack insns.ReferenceArrayLoad (types.Int ∷ numbers 1 bases.Int ∷ []) ≡ Some (numbers 0 bases.Int ∷ [])
   pub aaload_ints : on_stack insns.ReferenceArrayLoad (types.Int ∷ numbers 0 bases.Int ∷ []) ≡ None
-  pub aaload_missing : on_stack insns.ReferenceArrayLoad (types.Int ∷ objects (codes "Missing") ∷ []) ≡ Some (of_class (codes "Missing") ∷ [])
+  pub aaload_missing : on_stack insns.ReferenceArrayLoad (types.Int ∷ objects (codes "Missing") ∷ [])
+      ≡ Some (of_class (codes "Missing") ∷ [])
   pub aaload_class : on_stack insns.ReferenceArrayLoad (types.Int ∷ c ∷ []) ≡ None
   -- what is stored has not to be of the array's type
   pub aastore : on_stack insns.ReferenceArrayStore (object ∷ types.Int ∷ objects (codes "C") ∷ []) ≡ Some []
@@ -118,10 +128,16 @@ pub record ReturnRows : Type 0 where
   -- where `this` may not be initialized, also in a method that is no constructor
   pub return_flag : behind insns.Return (flagged [] []) ≡ None
   pub ireturn_void : on_stack (insns.ReturnValue kinds.Int) (types.Int ∷ []) ≡ None
-  pub ireturn : on_stack_in (method_of_c (codes "m") (Some (of_type 0 (elements.Base bases.Boolean)))) (insns.ReturnValue kinds.Int) (types.Int ∷ []) ≡ Some []
+  pub ireturn : on_stack_in (method_of_c (codes "m") (Some (of_type 0 (elements.Base bases.Boolean)))) (insns.ReturnValue kinds.Int)
+      (types.Int ∷ []) ≡ Some []
   pub return_int : on_stack_in (method_of_c (codes "m") (Some (of_type 0 (elements.Base bases.Int)))) insns.Return (types.Int ∷ []) ≡ None
-  pub ireturn_long : on_stack_in (method_of_c (codes "m") (Some (of_type 0 (elements.Base bases.Long)))) (insns.ReturnValue kinds.Int) (types.Int ∷ []) ≡ None
-  pub lreturn : on_stack_in (method_of_c (codes "m") (Some (of_type 0 (elements.Base bases.Long)))) (insns.ReturnValue kinds.Long) (types.Long ∷ []) ≡ Some []
-  pub areturn : on_stack_in (method_of_c (codes "m") (Some (of_type 0 (elements.Class (codes "p/B"))))) (insns.ReturnValue kinds.Reference) (c ∷ []) ≡ Some []
-  pub areturn_above : on_stack_in (method_of_c (codes "m") (Some (of_type 0 (elements.Class (codes "C"))))) (insns.ReturnValue kinds.Reference) (b ∷ []) ≡ None
-  pub areturn_uninitialized : on_stack_in (method_of_c (codes "m") (Some (of_type 0 (elements.Class object_name)))) (insns.ReturnValue kinds.Reference) (types.Uninitialized 0 ∷ []) ≡ None
+  pub ireturn_long : on_stack_in (method_of_c (codes "m") (Some (of_type 0 (elements.Base bases.Long)))) (insns.ReturnValue kinds.Int)
+      (types.Int ∷ []) ≡ None
+  pub lreturn : on_stack_in (method_of_c (codes "m") (Some (of_type 0 (elements.Base bases.Long)))) (insns.ReturnValue kinds.Long)
+      (types.Long ∷ []) ≡ Some []
+  pub areturn : on_stack_in (method_of_c (codes "m") (Some (of_type 0 (elements.Class (codes "p/B"))))) (insns.ReturnValue kinds.Reference)
+      (c ∷ []) ≡ Some []
+  pub areturn_above : on_stack_in (method_of_c (codes "m") (Some (of_type 0 (elements.Class (codes "C")))))
+      (insns.ReturnValue kinds.Reference) (b ∷ []) ≡ None
+  pub areturn_uninitialized : on_stack_in (method_of_c (codes "m") (Some (of_type 0 (elements.Class object_name))))
+      (insns.ReturnValue kinds.Reference) (types.Uninitialized 0 ∷ []) ≡ None

@@ -13,7 +13,8 @@ use Rattle.jv_meaning_typing.specs.Rows.Samples.{b, c, object, of_class, numbers
 
 pub record NewRows : Type 0 where
   -- copies of what the same `new` made before become top
-  pub new : behind (insns.New 2) (frame (types.Uninitialized 9 ∷ types.Uninitialized 3 ∷ []) []) ≡ Some (frame (types.Top ∷ types.Uninitialized 3 ∷ []) (types.Uninitialized 9 ∷ []))
+  pub new : behind (insns.New 2) (frame (types.Uninitialized 9 ∷ types.Uninitialized 3 ∷ []) [])
+      ≡ Some (frame (types.Top ∷ types.Uninitialized 3 ∷ []) (types.Uninitialized 9 ∷ []))
   pub new_on_stack : behind (insns.New 2) (frame [] (c ∷ types.Uninitialized 9 ∷ [])) ≡ None
   pub new_array : behind (insns.New 12) (frame [] []) ≡ None
   pub new_other_kind : behind (insns.New 44) (frame [] []) ≡ None
@@ -33,7 +34,8 @@ pub record CastRows : Type 0 where
 -- ---- `<init>`: on what `new` made, whose class it names
 
 pub record InitRows : Type 0 where
-  pub all_copies : behind (insns.Invoke invocations.Special 38) (frame (types.Uninitialized 0 ∷ types.Uninitialized 3 ∷ []) (types.Uninitialized 0 ∷ types.Uninitialized 0 ∷ []))
+  pub all_copies : behind (insns.Invoke invocations.Special 38)
+      (frame (types.Uninitialized 0 ∷ types.Uninitialized 3 ∷ []) (types.Uninitialized 0 ∷ types.Uninitialized 0 ∷ []))
       ≡ Some (frame (c ∷ types.Uninitialized 3 ∷ []) (c ∷ []))
   pub with_argument : on_stack (insns.Invoke invocations.Special 43) (types.Int ∷ types.Uninitialized 0 ∷ []) ≡ Some []
   pub wrong_argument : on_stack (insns.Invoke invocations.Special 43) (types.Null ∷ types.Uninitialized 0 ∷ []) ≡ None
@@ -47,12 +49,16 @@ pub record InitRows : Type 0 where
 
 -- on `this`: of its class or the direct superclass
 pub record InitThisRows : Type 0 where
-  pub super : behind (insns.Invoke invocations.Special 39) (flagged (types.UninitializedThis ∷ types.Uninitialized 0 ∷ []) (types.UninitializedThis ∷ types.UninitializedThis ∷ []))
+  pub super : behind (insns.Invoke invocations.Special 39)
+      (flagged (types.UninitializedThis ∷ types.Uninitialized 0 ∷ []) (types.UninitializedThis ∷ types.UninitializedThis ∷ []))
       ≡ Some (frame (c ∷ types.Uninitialized 0 ∷ []) (c ∷ []))
-  pub this : behind (insns.Invoke invocations.Special 38) (flagged (types.UninitializedThis ∷ []) (types.UninitializedThis ∷ [])) ≡ Some (frame (c ∷ []) [])
-  pub further_up : behind (insns.Invoke invocations.Special 40) (flagged (types.UninitializedThis ∷ []) (types.UninitializedThis ∷ [])) ≡ None
+  pub this : behind (insns.Invoke invocations.Special 38) (flagged (types.UninitializedThis ∷ []) (types.UninitializedThis ∷ []))
+      ≡ Some (frame (c ∷ []) [])
+  pub further_up : behind (insns.Invoke invocations.Special 40) (flagged (types.UninitializedThis ∷ []) (types.UninitializedThis ∷ []))
+      ≡ None
   -- a constructor that makes another object keeps its flag
-  pub of_new : behind (insns.Invoke invocations.Special 38) (flagged (types.UninitializedThis ∷ []) (types.Uninitialized 0 ∷ [])) ≡ Some (flagged (types.UninitializedThis ∷ []) [])
+  pub of_new : behind (insns.Invoke invocations.Special 38) (flagged (types.UninitializedThis ∷ []) (types.Uninitialized 0 ∷ []))
+      ≡ Some (flagged (types.UninitializedThis ∷ []) [])
   pub by_invokevirtual : on_stack (insns.Invoke invocations.Virtual 38) (c ∷ []) ≡ None
   pub by_invokestatic : on_stack (insns.Invoke invocations.Static 38) [] ≡ None
 
@@ -134,13 +140,18 @@ pub record OlderRows : Type 0 where
   pub static : on_stack_in (in_m_of_version 51) (insns.Invoke invocations.Static 27) (types.Long ∷ types.Int ∷ []) ≡ Some (types.Int ∷ [])
   pub static_of_interface : on_stack_in (in_m_of_version 51) (insns.Invoke invocations.Static 30) (types.Long ∷ types.Int ∷ []) ≡ None
   pub static_of_interface_50 : on_stack_in (in_m_of_version 50) (insns.Invoke invocations.Static 30) (types.Long ∷ types.Int ∷ []) ≡ None
-  pub static_of_interface_52 : on_stack_in (in_m_of_version 52) (insns.Invoke invocations.Static 30) (types.Long ∷ types.Int ∷ []) ≡ Some (types.Int ∷ [])
-  pub special : on_stack_in (in_m_of_version 51) (insns.Invoke invocations.Special 28) (types.Long ∷ types.Int ∷ c ∷ []) ≡ Some (types.Int ∷ [])
+  pub static_of_interface_52 : on_stack_in (in_m_of_version 52) (insns.Invoke invocations.Static 30) (types.Long ∷ types.Int ∷ [])
+      ≡ Some (types.Int ∷ [])
+  pub special : on_stack_in (in_m_of_version 51) (insns.Invoke invocations.Special 28) (types.Long ∷ types.Int ∷ c ∷ [])
+      ≡ Some (types.Int ∷ [])
   pub special_of_interface : on_stack_in (in_m_of_version 51) (insns.Invoke invocations.Special 30) (types.Long ∷ types.Int ∷ c ∷ []) ≡ None
-  pub interface_as_class : on_stack_in (in_m_of_version 51) (insns.Invoke invocations.Special 53) (types.Long ∷ types.Int ∷ c ∷ []) ≡ Some (types.Int ∷ [])
+  pub interface_as_class : on_stack_in (in_m_of_version 51) (insns.Invoke invocations.Special 53) (types.Long ∷ types.Int ∷ c ∷ [])
+      ≡ Some (types.Int ∷ [])
   pub init : on_stack_in (in_m_of_version 50) (insns.Invoke invocations.Special 38) (types.Uninitialized 0 ∷ []) ≡ Some []
-  pub virtual : on_stack_in (in_m_of_version 50) (insns.Invoke invocations.Virtual 27) (types.Long ∷ types.Int ∷ c ∷ []) ≡ Some (types.Int ∷ [])
-  pub interface : on_stack_in (in_m_of_version 50) (insns.InvokeInterface 31 4) (types.Long ∷ types.Int ∷ object ∷ []) ≡ Some (types.Int ∷ [])
+  pub virtual : on_stack_in (in_m_of_version 50) (insns.Invoke invocations.Virtual 27) (types.Long ∷ types.Int ∷ c ∷ [])
+      ≡ Some (types.Int ∷ [])
+  pub interface : on_stack_in (in_m_of_version 50) (insns.InvokeInterface 31 4) (types.Long ∷ types.Int ∷ object ∷ [])
+      ≡ Some (types.Int ∷ [])
 
 -- ---- the frame of handlers
 
@@ -148,10 +159,16 @@ pub record HandlerRows : Type 0 where
   pub plain : handler_frame in_m insns.Nop (frame (types.Int ∷ []) (c ∷ [])) ≡ frame (types.Int ∷ []) []
   -- `new` has no frame of its own
   pub new : handler_frame in_m (insns.New 2) (frame (types.Uninitialized 9 ∷ []) []) ≡ frame (types.Uninitialized 9 ∷ []) []
-  pub super : handler_frame in_init (insns.Invoke invocations.Special 39) (flagged (types.UninitializedThis ∷ c ∷ []) (types.UninitializedThis ∷ [])) ≡ flagged (types.Top ∷ c ∷ []) []
-  pub of_new : handler_frame in_init (insns.Invoke invocations.Special 38) (flagged (types.Uninitialized 0 ∷ types.UninitializedThis ∷ []) (types.Uninitialized 0 ∷ [])) ≡ flagged (types.Top ∷ types.UninitializedThis ∷ []) []
+  pub super : handler_frame in_init (insns.Invoke invocations.Special 39)
+      (flagged (types.UninitializedThis ∷ c ∷ []) (types.UninitializedThis ∷ [])) ≡ flagged (types.Top ∷ c ∷ []) []
+  pub of_new : handler_frame in_init (insns.Invoke invocations.Special 38)
+      (flagged (types.Uninitialized 0 ∷ types.UninitializedThis ∷ []) (types.Uninitialized 0 ∷ []))
+      ≡ flagged (types.Top ∷ types.UninitializedThis ∷ []) []
   -- whatever stands above the object
-  pub wrong_argument : handler_frame in_m (insns.Invoke invocations.Special 43) (frame (types.Uninitialized 0 ∷ []) (types.Long ∷ types.Uninitialized 0 ∷ [])) ≡ frame (types.Top ∷ []) []
+  pub wrong_argument : handler_frame in_m (insns.Invoke invocations.Special 43)
+      (frame (types.Uninitialized 0 ∷ []) (types.Long ∷ types.Uninitialized 0 ∷ [])) ≡ frame (types.Top ∷ []) []
   pub initialized : handler_frame in_m (insns.Invoke invocations.Special 38) (frame (c ∷ []) (c ∷ [])) ≡ frame (c ∷ []) []
-  pub too_few : handler_frame in_m (insns.Invoke invocations.Special 43) (frame (types.Uninitialized 0 ∷ []) (types.Uninitialized 0 ∷ [])) ≡ frame (types.Uninitialized 0 ∷ []) []
-  pub other_method : handler_frame in_m (insns.Invoke invocations.Special 27) (frame (c ∷ []) (types.Long ∷ types.Int ∷ c ∷ [])) ≡ frame (c ∷ []) []
+  pub too_few : handler_frame in_m (insns.Invoke invocations.Special 43) (frame (types.Uninitialized 0 ∷ []) (types.Uninitialized 0 ∷ []))
+      ≡ frame (types.Uninitialized 0 ∷ []) []
+  pub other_method : handler_frame in_m (insns.Invoke invocations.Special 27) (frame (c ∷ []) (types.Long ∷ types.Int ∷ c ∷ []))
+      ≡ frame (c ∷ []) []

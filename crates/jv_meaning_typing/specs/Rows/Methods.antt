@@ -39,20 +39,28 @@ dup = insns.Stack forms.Dup
 
 pub record ConstructionRows : Type 0 where
   pub call_before : is_some (behind_all in_m 0 (insns.New 2 ∷ dup ∷ insns.Invoke invocations.Virtual 27 ∷ []) (frame [] [])) ≡ false
-  pub constructed : behind_all in_m 0 (insns.New 2 ∷ dup ∷ insns.Invoke invocations.Special 38 ∷ []) (frame [] []) ≡ Some (frame [] (c ∷ []))
+  pub constructed : behind_all in_m 0 (insns.New 2 ∷ dup ∷ insns.Invoke invocations.Special 38 ∷ []) (frame [] [])
+      ≡ Some (frame [] (c ∷ []))
   -- constructors without a call of another, and with one
   pub no_super : is_some (behind_all in_init 0 (insns.Return ∷ []) (flagged (types.UninitializedThis ∷ []) [])) ≡ false
-  pub with_super : is_some (behind_all in_init 0 (insns.Load kinds.Reference 0 local.Opcode ∷ insns.Invoke invocations.Special 39 ∷ insns.Return ∷ []) (flagged (types.UninitializedThis ∷ []) [])) ≡ true
-  pub twice : is_some (behind_all in_init 0 (insns.Load kinds.Reference 0 local.Opcode ∷ dup ∷ insns.Invoke invocations.Special 39 ∷ insns.Invoke invocations.Special 39 ∷ []) (flagged (types.UninitializedThis ∷ []) [])) ≡ false
+  pub with_super : is_some
+      (behind_all in_init 0 (insns.Load kinds.Reference 0 local.Opcode ∷ insns.Invoke invocations.Special 39 ∷ insns.Return ∷ [])
+      (flagged (types.UninitializedThis ∷ []) [])) ≡ true
+  pub twice : is_some (behind_all in_init 0
+      (insns.Load kinds.Reference 0 local.Opcode ∷ dup ∷ insns.Invoke invocations.Special 39 ∷ insns.Invoke invocations.Special 39 ∷ [])
+      (flagged (types.UninitializedThis ∷ []) [])) ≡ false
   -- a handler that covers the call doesn't find `this` as the frame before has it
   pub handler_over_super :
-      frame_flows world (with_stack (handler_frame in_init (insns.Invoke invocations.Special 39) (flagged (types.UninitializedThis ∷ []) (types.UninitializedThis ∷ []))) (throwable_type ∷ []))
+      frame_flows world (with_stack
+      (handler_frame in_init (insns.Invoke invocations.Special 39)
+      (flagged (types.UninitializedThis ∷ []) (types.UninitializedThis ∷ []))) (throwable_type ∷ []))
       (flagged (types.UninitializedThis ∷ []) (throwable_type ∷ [])) ≡ false
 
 -- ---- half of a long: lconst_0, lstore_0, iconst, istore_1, lload_0
 
 abbrev pub cut : List Instruction
-cut = insns.Compute (compute.LongConstant long_values.Zero) ∷ insns.StoreLong 0 local.Opcode ∷ iconst ∷ insns.Store word_kinds.Int 1 local.Opcode ∷ []
+cut = insns.Compute (compute.LongConstant long_values.Zero) ∷ insns.StoreLong 0 local.Opcode ∷ iconst
+    ∷ insns.Store word_kinds.Int 1 local.Opcode ∷ []
 
 pub record HalfRows : Type 0 where
   pub stored : behind_all in_m 0 cut (frame (types.Top ∷ types.Top ∷ []) []) ≡ Some (frame (types.Top ∷ types.Int ∷ []) [])

@@ -33,9 +33,10 @@ abbrev pub takes_int_and_long : ℕ → List ℕ → Method
 takes_int_and_long flags name = method flags name (codes "(IJ)I")
 
 abbrev pub superclass : Class
-superclass = record (class (codes "p/B") object_name (method 4 (codes "<init>") (codes "()V") ∷ takes_int_and_long 4 (codes "m") ∷ takes_int_and_long 12 (codes "s") ∷ [])) {
-  fields = field 4 (codes "f") ∷ field 12 (codes "s") ∷ [];
-}
+superclass = record (class (codes "p/B") object_name
+    (method 4 (codes "<init>") (codes "()V") ∷ takes_int_and_long 4 (codes "m") ∷ takes_int_and_long 12 (codes "s") ∷ [])) {
+      fields = field 4 (codes "f") ∷ field 12 (codes "s") ∷ [];
+    }
 
 -- 2 C, 4 p/B, 6 java/lang/Object, 8 I, 10 J, 12 [I, 14 [[I
 abbrev pub class_constants : List Entry
@@ -73,7 +74,8 @@ constructor_constants =
 abbrev pub other_constants : List Entry
 other_constants =
     constants.Integer 7 ∷ constants.String 15 ∷ constants.Long 0 1
-    ∷ constants.Utf8 (replicate 254 91 ++ codes "I") ∷ constants.Class 48 ∷ constants.Utf8 (replicate 255 91 ++ codes "I") ∷ constants.Class 50
+    ∷ constants.Utf8 (replicate 254 91 ++ codes "I") ∷ constants.Class 48 ∷ constants.Utf8 (replicate 255 91 ++ codes "I")
+    ∷ constants.Class 50
     ∷ constants.Utf8 (codes "java/lang/Throwable") ∷ constants.Methodref 8 26 ∷ constants.Methodref 10 26 ∷ constants.Class 52
     ∷ constants.NameAndType 24 16 ∷ constants.Fieldref 4 56 ∷ constants.Utf8 (codes "a") ∷ constants.NameAndType 58 16
     ∷ constants.Fieldref 4 59 ∷ []
@@ -136,7 +138,15 @@ code instructions = record {
 abbrev pub method_of_c : List ℕ → Option (FieldTypeOf (List ℕ)) → Environment
 method_of_c name result = record {
   world = world;
-  site = record { by = guest current; method = record { access_flags = 1; name = name; descriptor = codes "()V"; code = Some (code news) } };
+  site = record {
+    by = guest current;
+    method = record {
+      access_flags = 1;
+      name = name;
+      descriptor = codes "()V";
+      code = Some (code news);
+    };
+  };
   descriptor = record { parameters = []; result = result };
   code = code news;
   instructions = news;
@@ -158,7 +168,8 @@ below_own_package =
     record in_m {
       world =
           world_of (class (codes "java/lang/Throwable") object_name [] ∷ system)
-          (Holds (record superclass { super_class = Some (codes "A") }) ∷ Holds (record (class (codes "A") object_name []) { fields = field 4 (codes "a") ∷ [] })
+          (Holds (record superclass { super_class = Some (codes "A") })
+          ∷ Holds (record (class (codes "A") object_name []) { fields = field 4 (codes "a") ∷ [] })
           ∷ Holds (interface (codes "I") [] []) ∷ Holds (interface (codes "J") [] []) ∷ Holds current ∷ []);
     }
 

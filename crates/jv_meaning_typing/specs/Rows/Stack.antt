@@ -63,7 +63,8 @@ pub record TwoWordRows : Type 0 where
 
 pub record FourWordRows : Type 0 where
   pub words : formed forms.Dup2X2 (b ∷ c ∷ types.Null ∷ types.Int ∷ []) ≡ Some (b ∷ c ∷ types.Null ∷ types.Int ∷ b ∷ c ∷ [])
-  pub long_over_words : formed forms.Dup2X2 (types.Long ∷ types.Null ∷ types.Int ∷ []) ≡ Some (types.Long ∷ types.Null ∷ types.Int ∷ types.Long ∷ [])
+  pub long_over_words : formed forms.Dup2X2 (types.Long ∷ types.Null ∷ types.Int ∷ [])
+      ≡ Some (types.Long ∷ types.Null ∷ types.Int ∷ types.Long ∷ [])
   pub words_over_long : formed forms.Dup2X2 (b ∷ c ∷ types.Long ∷ []) ≡ Some (b ∷ c ∷ types.Long ∷ b ∷ c ∷ [])
   pub longs : formed forms.Dup2X2 (types.Long ∷ types.Long ∷ []) ≡ Some (types.Long ∷ types.Long ∷ types.Long ∷ [])
   pub half_taken : formed forms.Dup2X2 (b ∷ types.Long ∷ c ∷ []) ≡ None
@@ -75,10 +76,12 @@ pub record FourWordRows : Type 0 where
 pub record NumberRows : Type 0 where
   pub iconst : on_stack (insns.Compute (compute.IntConstant (pos 1) int_forms.Opcode)) [] ≡ Some (types.Int ∷ [])
   pub lconst : on_stack (insns.Compute (compute.LongConstant long_values.Zero)) [] ≡ Some (types.Long ∷ [])
-  pub iadd : on_stack (insns.Compute (compute.Arithmetic number_kinds.Int arithmetic.Add)) (types.Int ∷ types.Int ∷ c ∷ []) ≡ Some (types.Int ∷ c ∷ [])
+  pub iadd : on_stack (insns.Compute (compute.Arithmetic number_kinds.Int arithmetic.Add)) (types.Int ∷ types.Int ∷ c ∷ [])
+      ≡ Some (types.Int ∷ c ∷ [])
   pub iadd_long : on_stack (insns.Compute (compute.Arithmetic number_kinds.Int arithmetic.Add)) (types.Int ∷ types.Long ∷ []) ≡ None
   pub iadd_one : on_stack (insns.Compute (compute.Arithmetic number_kinds.Int arithmetic.Add)) (types.Int ∷ []) ≡ None
-  pub ladd : on_stack (insns.Compute (compute.Arithmetic number_kinds.Long arithmetic.Add)) (types.Long ∷ types.Long ∷ []) ≡ Some (types.Long ∷ [])
+  pub ladd : on_stack (insns.Compute (compute.Arithmetic number_kinds.Long arithmetic.Add)) (types.Long ∷ types.Long ∷ [])
+      ≡ Some (types.Long ∷ [])
   pub ladd_int : on_stack (insns.Compute (compute.Arithmetic number_kinds.Long arithmetic.Add)) (types.Int ∷ types.Long ∷ []) ≡ None
   -- the number of places is an int, on top
   pub lshl : on_stack (insns.Compute (compute.Shift number_kinds.Long shifts.Left)) (types.Int ∷ types.Long ∷ []) ≡ Some (types.Long ∷ [])

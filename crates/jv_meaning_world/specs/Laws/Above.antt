@@ -13,12 +13,14 @@ IsWayUp world class (by ∷ more) to = Contains (supers_in world class) by × Is
 
 -- A law: a class is above another exactly where a way leads up to it, however long.
 abbrev pub AboveByWays : Type 0
-AboveByWays = (world : World) (class : Class) (to : Loaded) → Contains (above world class) to ↔ ((between : List Loaded) × IsWayUp world class between to)
+AboveByWays = (world : World) (class : Class) (to : Loaded) → Contains (above world class) to
+    ↔ ((between : List Loaded) × IsWayUp world class between to)
 
 -- A law: what is above a class that is above another is above the other.
 abbrev pub AboveIsTransitive : Type 0
 AboveIsTransitive =
-    (world : World) (class : Class) (by to : Loaded) → Contains (above world class) by → Contains (above world by.class) to → Contains (above world class) to
+    (world : World) (class : Class) (by to : Loaded) → Contains (above world class) by → Contains (above world by.class) to
+    → Contains (above world class) to
 
 -- ---- loadable classes
 
@@ -36,4 +38,5 @@ SystemStandsAlone world = (l s : Loaded) → Contains world l → IsTrue l.by_sy
 abbrev pub LoadableByAll : Type 0
 LoadableByAll =
     (world : World) (l : Loaded) → SystemStandsAlone world → Contains world l
-    → IsTrue (is_loadable world l) ↔ (IsTrue (stands_itself world l) × ((s : Loaded) → Contains (above world l.class) s → IsTrue (stands_itself world s)))
+    → IsTrue (is_loadable world l)
+    ↔ (IsTrue (stands_itself world l) × ((s : Loaded) → Contains (above world l.class) s → IsTrue (stands_itself world s)))

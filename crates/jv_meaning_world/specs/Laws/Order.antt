@@ -96,7 +96,8 @@ pub record IsRooted (world : World) : Type 0 where
   pub serializable : IsTrue (names_interface world (codes "java/io/Serializable"))
   pub superclass : (l : Loaded) → Contains world l → IsTrue (has_right_superclass l.class)
   -- a class of the system leads up to it, and its supers are right; so it is with a class of a guest that is loadable
-  pub system : (l : Loaded) → Contains world l → IsTrue l.by_system → IsTrue (leads_to world object_name l && has_right_supers world l.class)
+  pub system : (l : Loaded) → Contains world l → IsTrue l.by_system
+      → IsTrue (leads_to world object_name l && has_right_supers world l.class)
 
 -- the same of the system's classes alone, as a test, in a world that begins with them
 abbrev pub is_rooted_by : List Class → World → Bool

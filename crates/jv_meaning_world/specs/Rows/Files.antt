@@ -94,11 +94,13 @@ holding classes = world_of system (map (λ c. Holds c) classes)
 -- the class that declares what m()V, or the int x, is from the class of a name
 abbrev pub method_from : List Class → List ℕ → Option (List ℕ)
 method_from classes name =
-    option_and_then (λ l. option_map (λ d. d.by.class.name) (lookup_method (holding classes) l (codes "m") (codes "()V"))) (class_named (holding classes) name)
+    option_and_then (λ l. option_map (λ d. d.by.class.name) (lookup_method (holding classes) l (codes "m") (codes "()V")))
+    (class_named (holding classes) name)
 
 abbrev pub field_from : List Class → List ℕ → Option (List ℕ)
 field_from classes name =
-    option_and_then (λ l. option_map (λ d. d.by.class.name) (lookup_field (holding classes) l (codes "x") (codes "I"))) (class_named (holding classes) name)
+    option_and_then (λ l. option_map (λ d. d.by.class.name) (lookup_field (holding classes) l (codes "x") (codes "I")))
+    (class_named (holding classes) name)
 
 abbrev pub interfaces_from : List Class → List ℕ → Option (List (List ℕ))
 interfaces_from classes name =
@@ -139,48 +141,73 @@ pub record WorkedRows : Type 0 where
   pub reserved : verdict (Holds (public_class (codes "java/lang/Foo") object_name) ∷ []) 0 ≡ Some Reserved
   -- two files of class A: the first is open, the second is a duplicate
   pub first_of_two : verdict (Holds (public_class (codes "A") object_name) ∷ Holds (public_class (codes "A") object_name) ∷ []) 0 ≡ None
-  pub second_of_two : verdict (Holds (public_class (codes "A") object_name) ∷ Holds (public_class (codes "A") object_name) ∷ []) 1 ≡ Some Duplicate
+  pub second_of_two : verdict (Holds (public_class (codes "A") object_name) ∷ Holds (public_class (codes "A") object_name) ∷ []) 1
+      ≡ Some Duplicate
   -- a reserved name comes before a duplicate
-  pub reserved_twice : verdict (Holds (public_class (codes "host/A") object_name) ∷ Holds (public_class (codes "host/A") object_name) ∷ []) 1 ≡ Some Reserved
+  pub reserved_twice : verdict
+      (Holds (public_class (codes "host/A") object_name) ∷ Holds (public_class (codes "host/A") object_name) ∷ []) 1 ≡ Some Reserved
   -- B extends B; and C extends B, which is not circular itself
   pub circular : verdict (Holds (public_class (codes "B") (codes "B")) ∷ []) 0 ≡ Some Circular
-  pub below_circle : verdict (Holds (public_class (codes "B") (codes "B")) ∷ Holds (public_class (codes "C") (codes "B")) ∷ []) 1 ≡ Some NoSuper
+  pub below_circle : verdict (Holds (public_class (codes "B") (codes "B")) ∷ Holds (public_class (codes "C") (codes "B")) ∷ []) 1
+      ≡ Some NoSuper
   -- a superclass that is not there
   pub missing : verdict (Holds (public_class (codes "A") (codes "Missing")) ∷ []) 0 ≡ Some NoSuper
   -- a superclass that is an interface, and a superinterface that is a class
   pub interface_above : verdict (Holds (interface (codes "I")) ∷ Holds (public_class (codes "A") (codes "I")) ∷ []) 1 ≡ Some WrongKind
-  pub class_as_interface : verdict (Holds (public_class (codes "P") object_name) ∷ Holds (with_interface (codes "A") (codes "P")) ∷ []) 1 ≡ Some WrongKind
+  pub class_as_interface : verdict (Holds (public_class (codes "P") object_name) ∷ Holds (with_interface (codes "A") (codes "P")) ∷ []) 1
+      ≡ Some WrongKind
   -- a superclass of another package that is not public, and one of the same package
-  pub other_package : verdict (Holds (package_class (codes "p/A") object_name) ∷ Holds (public_class (codes "q/B") (codes "p/A")) ∷ []) 1 ≡ Some NoAccess
-  pub same_package : verdict (Holds (package_class (codes "p/A") object_name) ∷ Holds (public_class (codes "p/B") (codes "p/A")) ∷ []) 1 ≡ None
+  pub other_package : verdict (Holds (package_class (codes "p/A") object_name) ∷ Holds (public_class (codes "q/B") (codes "p/A")) ∷ []) 1
+      ≡ Some NoAccess
+  pub same_package : verdict (Holds (package_class (codes "p/A") object_name) ∷ Holds (public_class (codes "p/B") (codes "p/A")) ∷ []) 1
+      ≡ None
   -- a final superclass
   pub final_above : verdict (Holds (final_class (codes "F")) ∷ Holds (public_class (codes "A") (codes "F")) ∷ []) 1 ≡ Some FinalBroken
   -- a final method that is overridden; a private one, a static one, and one of another package are not
-  pub final_method : verdict (Holds (with_m (codes "A") object_name 17) ∷ Holds (with_m (codes "B") (codes "A") 1) ∷ []) 1 ≡ Some FinalBroken
+  pub final_method : verdict (Holds (with_m (codes "A") object_name 17) ∷ Holds (with_m (codes "B") (codes "A") 1) ∷ []) 1
+      ≡ Some FinalBroken
   pub private_final : verdict (Holds (with_m (codes "A") object_name 18) ∷ Holds (with_m (codes "B") (codes "A") 1) ∷ []) 1 ≡ None
   pub static_final : verdict (Holds (with_m (codes "A") object_name 25) ∷ Holds (with_m (codes "B") (codes "A") 9) ∷ []) 1 ≡ None
-  pub other_package_final : verdict (Holds (with_m (codes "p/A") object_name 16) ∷ Holds (with_m (codes "q/B") (codes "p/A") 1) ∷ []) 1 ≡ None
+  pub other_package_final : verdict (Holds (with_m (codes "p/A") object_name 16) ∷ Holds (with_m (codes "q/B") (codes "p/A") 1) ∷ []) 1
+      ≡ None
   -- p/A has a final package-private m, q/B has its own, p/C overrides p/A's across it
-  pub across : verdict (Holds (with_m (codes "p/A") object_name 16) ∷ Holds (with_m (codes "q/B") (codes "p/A") 1) ∷ Holds (with_m (codes "p/C") (codes "q/B") 1) ∷ []) 2 ≡ Some FinalBroken
+  pub across : verdict (Holds (with_m (codes "p/A") object_name 16) ∷ Holds (with_m (codes "q/B") (codes "p/A") 1)
+      ∷ Holds (with_m (codes "p/C") (codes "q/B") 1) ∷ []) 2 ≡ Some FinalBroken
   -- p/B overrides p/A's final m, and q/C overrides p/B's: so it overrides p/A's too, by way of a third
-  pub third : verdict (Holds (with_m (codes "p/A") object_name 16) ∷ Holds (with_m (codes "p/B") (codes "p/A") 1) ∷ Holds (with_m (codes "q/C") (codes "p/B") 1) ∷ []) 2 ≡ Some FinalBroken
+  pub third : verdict (Holds (with_m (codes "p/A") object_name 16) ∷ Holds (with_m (codes "p/B") (codes "p/A") 1)
+      ∷ Holds (with_m (codes "q/C") (codes "p/B") 1) ∷ []) 2 ≡ Some FinalBroken
   -- a class that extends host/Io, and one below a class that breaks a final method, which is loadable
   pub final_of_system : verdict (Holds (public_class (codes "A") (codes "host/Io")) ∷ []) 0 ≡ Some FinalBroken
-  pub below_broken : verdict (Holds (with_m (codes "A") object_name 17) ∷ Holds (with_m (codes "B") (codes "A") 1) ∷ Holds (public_class (codes "C") (codes "B")) ∷ []) 2 ≡ None
+  pub below_broken : verdict
+      (Holds (with_m (codes "A") object_name 17) ∷ Holds (with_m (codes "B") (codes "A") 1) ∷ Holds (public_class (codes "C") (codes "B"))
+      ∷ []) 2 ≡ None
   -- of the wrong kind and not open: the kind comes first
-  pub kind_first : verdict (Holds (class_with 1536 (codes "p/I") (Some object_name) [] []) ∷ Holds (public_class (codes "q/A") (codes "p/I")) ∷ []) 1 ≡ Some WrongKind
+  pub kind_first : verdict
+      (Holds (class_with 1536 (codes "p/I") (Some object_name) [] []) ∷ Holds (public_class (codes "q/A") (codes "p/I")) ∷ []) 1
+      ≡ Some WrongKind
   -- the one maximally specific m, of J; of two that are unrelated the first
-  pub specific : method_from (I ∷ J ∷ class_between (codes "C") object_name (codes "I" ∷ codes "J" ∷ []) [] ∷ []) (codes "C") ≡ Some (codes "J")
-  pub unrelated : method_from (I ∷ K ∷ class_between (codes "C") object_name (codes "I" ∷ codes "K" ∷ []) [] ∷ []) (codes "C") ≡ Some (codes "I")
+  pub specific : method_from (I ∷ J ∷ class_between (codes "C") object_name (codes "I" ∷ codes "J" ∷ []) [] ∷ []) (codes "C")
+      ≡ Some (codes "J")
+  pub unrelated : method_from (I ∷ K ∷ class_between (codes "C") object_name (codes "I" ∷ codes "K" ∷ []) [] ∷ []) (codes "C")
+      ≡ Some (codes "I")
   -- of an abstract one and one that is not, both maximally specific, the latter, wherever it stands
-  pub concrete : method_from (interface_with (codes "B") [] (method_m 1025 ∷ []) [] ∷ K ∷ class_between (codes "C") object_name (codes "B" ∷ codes "K" ∷ []) [] ∷ []) (codes "C") ≡ Some (codes "K")
+  pub concrete : method_from
+      (interface_with (codes "B") [] (method_m 1025 ∷ []) [] ∷ K ∷ class_between (codes "C") object_name (codes "B" ∷ codes "K" ∷ []) []
+      ∷ []) (codes "C") ≡ Some (codes "K")
   -- an interface above itself is not below itself
-  pub own_circle : method_from (interface_with (codes "B") [] (method_m 1025 ∷ []) [] ∷ interface_with (codes "D") (codes "D" ∷ []) (method_m 1 ∷ []) [] ∷ class_between (codes "C") object_name (codes "B" ∷ codes "D" ∷ []) [] ∷ []) (codes "C") ≡ Some (codes "D")
+  pub own_circle : method_from
+      (interface_with (codes "B") [] (method_m 1025 ∷ []) [] ∷ interface_with (codes "D") (codes "D" ∷ []) (method_m 1 ∷ []) []
+      ∷ class_between (codes "C") object_name (codes "B" ∷ codes "D" ∷ []) [] ∷ []) (codes "C") ≡ Some (codes "D")
   -- a superclass's method comes before a superinterface's
-  pub class_first : method_from (K ∷ with_m (codes "P") object_name 1 ∷ class_between (codes "C") (codes "P") (codes "K" ∷ []) [] ∷ []) (codes "C") ≡ Some (codes "P")
+  pub class_first : method_from (K ∷ with_m (codes "P") object_name 1 ∷ class_between (codes "C") (codes "P") (codes "K" ∷ []) [] ∷ [])
+      (codes "C") ≡ Some (codes "P")
   -- a field of the own interface comes before the superclass's, and the superclass's own before its interfaces'
-  pub own_interface : field_from (X ∷ Y ∷ class_between (codes "P") object_name (codes "X" ∷ []) (field_x ∷ []) ∷ class_between (codes "A") (codes "P") (codes "Y" ∷ []) [] ∷ []) (codes "A") ≡ Some (codes "Y")
-  pub own_superclass : field_from (X ∷ class_between (codes "P") object_name (codes "X" ∷ []) (field_x ∷ []) ∷ class_between (codes "A") (codes "P") [] [] ∷ []) (codes "A") ≡ Some (codes "P")
+  pub own_interface : field_from
+      (X ∷ Y ∷ class_between (codes "P") object_name (codes "X" ∷ []) (field_x ∷ [])
+      ∷ class_between (codes "A") (codes "P") (codes "Y" ∷ []) [] ∷ []) (codes "A") ≡ Some (codes "Y")
+  pub own_superclass : field_from
+      (X ∷ class_between (codes "P") object_name (codes "X" ∷ []) (field_x ∷ []) ∷ class_between (codes "A") (codes "P") [] [] ∷ [])
+      (codes "A") ≡ Some (codes "P")
   -- a search ends on a circle, and passes over what it has begun
   pub circle : field_from (X ∷ Y ∷ V ∷ W ∷ []) (codes "V") ≡ Some (codes "X")
   pub circle_order : interfaces_from (X ∷ Y ∷ V ∷ W ∷ []) (codes "V") ≡ Some (codes "W" ∷ codes "X" ∷ codes "Y" ∷ [])

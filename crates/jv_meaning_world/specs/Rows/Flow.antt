@@ -17,7 +17,8 @@ use Rattle.jv_meaning_world.specs.FrameFlow.{frame_flows}
 abbrev pub world : World
 world =
     world_of (object ∷ interface (codes "java/io/Serializable") ∷ [])
-    (Holds (public_class (codes "P") object_name) ∷ Holds (public_class (codes "C") (codes "P")) ∷ Holds (interface (codes "I")) ∷ Holds (class_with 1537 (codes "Broken") (Some object_name) (codes "Missing" ∷ []) []) ∷ [])
+    (Holds (public_class (codes "P") object_name) ∷ Holds (public_class (codes "C") (codes "P")) ∷ Holds (interface (codes "I"))
+    ∷ Holds (class_with 1537 (codes "Broken") (Some object_name) (codes "Missing" ∷ []) []) ∷ [])
 
 abbrev pub class : List ℕ → FrameType
 class name = types.Class name

@@ -18,18 +18,21 @@ is_below world type other = flows world (erased world type) (erased world other)
 abbrev pub crooked : World
 crooked =
     world_of (object ∷ [])
-    (Holds (public_class (codes "P") object_name) ∷ Holds (class_with 1537 (codes "J") (Some (codes "P")) [] []) ∷ Holds (class_with 1 (codes "R") None [] []) ∷ [])
+    (Holds (public_class (codes "P") object_name) ∷ Holds (class_with 1537 (codes "J") (Some (codes "P")) [] [])
+    ∷ Holds (class_with 1 (codes "R") None [] []) ∷ [])
 
 -- a system's classes that root each world that begins with them
 abbrev pub system : List Class
 system =
-    object ∷ interface (codes "java/lang/Cloneable") ∷ interface (codes "java/io/Serializable") ∷ public_class (codes "java/lang/Throwable") object_name ∷ []
+    object ∷ interface (codes "java/lang/Cloneable") ∷ interface (codes "java/io/Serializable")
+    ∷ public_class (codes "java/lang/Throwable") object_name ∷ []
 
 -- and a world that begins with a class in the place of java/lang/Cloneable
 abbrev pub without_cloneable : World
 without_cloneable =
     world_of
-    (object ∷ public_class (codes "java/lang/Copier") object_name ∷ public_class (codes "java/lang/Cloneable") (codes "java/lang/Copier") ∷ [])
+    (object ∷ public_class (codes "java/lang/Copier") object_name ∷ public_class (codes "java/lang/Cloneable") (codes "java/lang/Copier")
+    ∷ [])
     []
 
 pub record WorkedOrderRows : Type 0 where

@@ -40,7 +40,8 @@ pub record StringIndices : Type 0 where
   pub serializable_class : HasClass string.constants string.serializable_class (codes "java/io/Serializable")
   pub value_name : HasText string.constants string.value_name (codes "value")
   pub value_type : HasText string.constants string.value_type (codes "[C")
-  pub value_field : field_reference_at string.constants string.value_field ≡ Some (member (codes "java/lang/String") (codes "value") (codes "[C"))
+  pub value_field : field_reference_at string.constants string.value_field
+      ≡ Some (member (codes "java/lang/String") (codes "value") (codes "[C"))
   pub length_name : HasText string.constants string.length_name (codes "length")
   pub length_type : HasText string.constants string.length_type (codes "()I")
   pub char_at_name : HasText string.constants string.char_at_name (codes "charAt")
@@ -57,10 +58,12 @@ pub record ThrowableIndices : Type 0 where
   pub serializable_class : HasClass throwable.constants throwable.serializable_class (codes "java/io/Serializable")
   pub message_name : HasText throwable.constants throwable.message_name (codes "message")
   pub message_type : HasText throwable.constants throwable.message_type (codes "Ljava/lang/String;")
-  pub message_field : field_reference_at throwable.constants throwable.message_field ≡ Some (member (codes "java/lang/Throwable") (codes "message") (codes "Ljava/lang/String;"))
+  pub message_field : field_reference_at throwable.constants throwable.message_field
+      ≡ Some (member (codes "java/lang/Throwable") (codes "message") (codes "Ljava/lang/String;"))
   pub init_name : HasText throwable.constants throwable.init_name (codes "<init>")
   pub init_type : HasText throwable.constants throwable.init_type (codes "()V")
-  pub object_init : method_reference_at throwable.constants throwable.object_init ≡ Some (member (codes "java/lang/Object") (codes "<init>") (codes "()V"))
+  pub object_init : method_reference_at throwable.constants throwable.object_init
+      ≡ Some (member (codes "java/lang/Object") (codes "<init>") (codes "()V"))
   pub message_init_type : HasText throwable.constants throwable.message_init_type (codes "(Ljava/lang/String;)V")
   pub get_message_name : HasText throwable.constants throwable.get_message_name (codes "getMessage")
   pub get_message_type : HasText throwable.constants throwable.get_message_type (codes "()Ljava/lang/String;")
@@ -75,9 +78,11 @@ pub record RowIndices (row : throwables.ThrowableRow) : Type 0 where
   pub super_class : HasClass (throwables.constants row) throwables.super_class row.super_name
   pub init_name : HasText (throwables.constants row) throwables.init_name (codes "<init>")
   pub init_type : HasText (throwables.constants row) throwables.init_type (codes "()V")
-  pub super_init : method_reference_at (throwables.constants row) throwables.super_init ≡ Some (member row.super_name (codes "<init>") (codes "()V"))
+  pub super_init : method_reference_at (throwables.constants row) throwables.super_init
+      ≡ Some (member row.super_name (codes "<init>") (codes "()V"))
   pub message_init_type : HasText (throwables.constants row) throwables.message_init_type (codes "(Ljava/lang/String;)V")
-  pub super_message_init : method_reference_at (throwables.constants row) throwables.super_message_init ≡ Some (member row.super_name (codes "<init>") (codes "(Ljava/lang/String;)V"))
+  pub super_message_init : method_reference_at (throwables.constants row) throwables.super_message_init
+      ≡ Some (member row.super_name (codes "<init>") (codes "(Ljava/lang/String;)V"))
   pub code_name : HasText (throwables.constants row) throwables.code_name (codes "Code")
 
 -- ---- code: where instructions stand, where they jump, and how many bytes those with frames have
@@ -92,10 +97,13 @@ pub record CodeRows : Type 0 where
   pub object_equals_size : size object.equals_body ≡ 9
   pub length : offsets 0 string.length_body.code ≡ 0 ∷ 1 ∷ 4 ∷ 5 ∷ []
   pub char_at : offsets 0 string.char_at_body.code ≡ 0 ∷ 1 ∷ 4 ∷ 5 ∷ 6 ∷ []
-  pub hash_code : offsets 0 string.hash_code_body.code ≡ 0 ∷ 1 ∷ 2 ∷ 3 ∷ 4 ∷ 5 ∷ 6 ∷ 9 ∷ 10 ∷ 13 ∷ 15 ∷ 16 ∷ 17 ∷ 18 ∷ 21 ∷ 22 ∷ 23 ∷ 24 ∷ 25 ∷ 28 ∷ 31 ∷ 32 ∷ []
+  pub hash_code : offsets 0 string.hash_code_body.code
+      ≡ 0 ∷ 1 ∷ 2 ∷ 3 ∷ 4 ∷ 5 ∷ 6 ∷ 9 ∷ 10 ∷ 13 ∷ 15 ∷ 16 ∷ 17 ∷ 18 ∷ 21 ∷ 22 ∷ 23 ∷ 24 ∷ 25 ∷ 28 ∷ 31 ∷ 32 ∷ []
   pub hash_code_labels : targets 0 string.hash_code_body.code ≡ Some 31 ∷ Some 4 ∷ []
   pub hash_code_size : size string.hash_code_body ≡ 33
-  pub equals : offsets 0 string.equals_body.code ≡ 0 ∷ 1 ∷ 4 ∷ 7 ∷ 8 ∷ 9 ∷ 10 ∷ 13 ∷ 14 ∷ 15 ∷ 18 ∷ 19 ∷ 20 ∷ 23 ∷ 24 ∷ 27 ∷ 28 ∷ 29 ∷ 30 ∷ 31 ∷ 32 ∷ 33 ∷ 36 ∷ 37 ∷ 40 ∷ 41 ∷ 44 ∷ 45 ∷ 46 ∷ 47 ∷ 50 ∷ 51 ∷ 52 ∷ 55 ∷ 56 ∷ 57 ∷ 60 ∷ 63 ∷ 64 ∷ []
+  pub equals : offsets 0 string.equals_body.code
+      ≡ 0 ∷ 1 ∷ 4 ∷ 7 ∷ 8 ∷ 9 ∷ 10 ∷ 13 ∷ 14 ∷ 15 ∷ 18 ∷ 19 ∷ 20 ∷ 23 ∷ 24 ∷ 27 ∷ 28 ∷ 29 ∷ 30 ∷ 31 ∷ 32 ∷ 33 ∷ 36 ∷ 37 ∷ 40 ∷ 41 ∷ 44 ∷ 45
+      ∷ 46 ∷ 47 ∷ 50 ∷ 51 ∷ 52 ∷ 55 ∷ 56 ∷ 57 ∷ 60 ∷ 63 ∷ 64 ∷ []
   pub equals_labels : targets 0 string.equals_body.code ≡ Some 9 ∷ Some 29 ∷ Some 63 ∷ Some 57 ∷ Some 31 ∷ []
   pub equals_size : size string.equals_body ≡ 65
   pub throwable_init : offsets 0 throwable.init_body.code ≡ 0 ∷ 1 ∷ 4 ∷ []

@@ -28,7 +28,8 @@ pub record HasTypes (types : CallTypes) (body : CodeSeen) (env : Environment) : 
 
 -- whatever its body is, the words of its arguments are these
 abbrev pub AreArgumentWords : CurrentClass → MethodSeen → Option ℕ → Type 0
-AreArgumentWords class shown words = (body : CodeSeen) (env : Environment) → IsEnvironmentOf class shown body env → words ≡ Some (argument_words env)
+AreArgumentWords class shown words =
+    (body : CodeSeen) (env : Environment) → IsEnvironmentOf class shown body env → words ≡ Some (argument_words env)
 
 -- they are within max_locals, or not
 abbrev pub AreWithin : CurrentClass → MethodSeen → CodeSeen → Type 0

@@ -51,7 +51,8 @@ AreMarked written marks = (k : ℕ) → get_or marks k false ≡ true → is_wri
 abbrev pub WritesBy : (ℕ → Bool) → HeldFrame → Option ℕ → HeldFrame → Type 0
 WritesBy may old None new = ⊤
 WritesBy may old (Some place) new =
-    (old.place ≡ Some place) × (new.base ≡ old.base) × ((k : ℕ) → is_written new.written k ≡ false → (may k ≡ false) × (is_written old.written k ≡ false))
+    (old.place ≡ Some place) × (new.base ≡ old.base)
+    × ((k : ℕ) → is_written new.written k ≡ false → (may k ≡ false) × (is_written old.written k ≡ false))
 
 abbrev pub Writes : (ℕ → Bool) → HeldFrame → HeldFrame → Type 0
 Writes may old new = WritesBy may old new.place new
@@ -86,7 +87,8 @@ with_held_at held locals place = with_item (slice_get held place) locals place
 
 -- what is compared of local variables
 abbrev pub held_locals_flow : EntryTypes → HeldFrame → NumberFrame → Bool
-held_locals_flow types held frame = list_all (flows_at (world_of_types types) (locals_of types frame) (locals_of types held.base)) held.written
+held_locals_flow types held frame =
+    list_all (flows_at (world_of_types types) (locals_of types frame) (locals_of types held.base)) held.written
 
 -- the flag of a frame flows to that which is held
 abbrev pub held_flag_flows : HeldFrame → NumberFrame → Bool

@@ -29,7 +29,8 @@ pub record FlowsBehind (world : World) (locals : List FrameType) (whole : Bool) 
   pub room : at ≤ length locals
 
 -- Items of a stack, some of which are left: those above flow, so all flow exactly where these do.
-pub record ItemsFlow (f : FrameType → FrameType → Bool) (items whole : List FrameType) (height left : ℕ) (rest : List FrameType) : Type 0 where
+pub record ItemsFlow (f : FrameType → FrameType → Bool) (items whole : List FrameType) (height left : ℕ) (rest : List FrameType)
+    : Type 0 where
   pub all : all_flow f items whole ≡ all_flow f (drop (height - left) items) rest
   pub counted : length items ≡ height
   pub room : left ≤ height

@@ -18,7 +18,8 @@ passes_at offset test handler = not (covers handler offset) || test handler
 
 -- each of some handlers does where each of others does
 abbrev pub AreAsGood : ℕ → List Handler → List Handler → Type 0
-AreAsGood offset handlers others = (test : Handler → Bool) → list_all (passes_at offset test) handlers ≡ list_all (passes_at offset test) others
+AreAsGood offset handlers others =
+    (test : Handler → Bool) → list_all (passes_at offset test) handlers ≡ list_all (passes_at offset test) others
 
 -- those that have begun are as good as those that are open, from an offset on
 abbrev pub AreOpen : List Handler → ℕ → ℕ → List Handler → Type 0

@@ -30,16 +30,19 @@ is_made_by_new env (entries.Uninitialized offset) = is_new (instruction_at env o
 is_made_by_new env _ = true
 
 abbrev pub frame_stands : Environment → ReadFrame → Bool
-frame_stands env f = is_some (instruction_at env f.offset) && (list_all (is_made_by_new env) f.locals && list_all (is_made_by_new env) f.stack)
+frame_stands env f =
+    is_some (instruction_at env f.offset) && (list_all (is_made_by_new env) f.locals && list_all (is_made_by_new env) f.stack)
 
 -- the frame at a place has the local entries of the one before it
 abbrev pub SharesBefore : List ReadFrame → ℕ → Type 0
-SharesBefore frames place = (0 < place) × (option_map locals_in (slice_get frames (place - 1)) ≡ option_map locals_in (slice_get frames place))
+SharesBefore frames place =
+    (0 < place) × (option_map locals_in (slice_get frames (place - 1)) ≡ option_map locals_in (slice_get frames place))
 
 -- the bytes spell these frames, or none
 abbrev pub IsSpelled : EntryTypes → Limits → List ℕ → Option (List ReadFrame) → Type 0
 IsSpelled types limits bytes (Some frames) =
-    Maps types.constants.pool limits (initial_types types) bytes (frames_placed types.constants.pool (initial_types types) limits.max_locals frames)
+    Maps types.constants.pool limits (initial_types types) bytes
+    (frames_placed types.constants.pool (initial_types types) limits.max_locals frames)
 IsSpelled types limits bytes None = (frames : List PlacedFrame) → Maps types.constants.pool limits (initial_types types) bytes frames → ⊥
 
 -- each handler catches a Throwable, in every environment of a class with these constants

@@ -78,7 +78,8 @@ pub record Progress (env : Environment) (maps : List PlacedFrame) (pc : ℕ) (fa
 abbrev pub IsMerged : {E : Type 0} → Pass → ℕ → Bool → NumberFrame → NumberFrame → Result Bool E → Type 0
 IsMerged pass offset falling old new answer =
     (env : Environment) → IsOfPass pass env
-    → IfOk answer (IsFrame (names_in pass) (merged env.world (when_falls falling (frame_of (names_in pass) old)) (frame_at (maps_of pass) offset)) new)
+    → IfOk answer (IsFrame (names_in pass)
+    (merged env.world (when_falls falling (frame_of (names_in pass) old)) (frame_at (maps_of pass) offset)) new)
 
 -- what a walk finds that begins with a frame at the first instruction
 abbrev pub IsFoundFrom : {E : Type 0} → Pass → NumberFrame → Result (Option CodeFault) E → Type 0

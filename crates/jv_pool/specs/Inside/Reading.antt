@@ -103,7 +103,12 @@ entries_read true (suc n) bytes = entries_read false n bytes
 entries_read false (suc n) bytes = constant_read bytes >>= λ c. entries_read (takes_two c.0) n c.1 >>= λ cs. Some (c.0 ∷ cs.0, cs.1)
 
 abbrev pub entries : ℕ → Format (List Entry)
-entries n = record { spelling = flat_map constant_bytes; fits = λ p. length (table_of p) == n && list_all constant_fits p; read = entries_read false n }
+entries n = record {
+  spelling = flat_map constant_bytes;
+  fits = λ p. length (table_of p) == n
+      && list_all constant_fits p;
+  read = entries_read false n;
+}
 
 -- the constants behind a count, which is one more than the entries
 abbrev pub so_many_constants : ℕ → Format (List Entry)

@@ -36,10 +36,12 @@ settled env left = left >>= within_stack env
 
 -- in every environment of a method of the class with these constants
 abbrev pub FollowsOver : PoolTypes → (Environment → Frame → Option Frame) → NumberFrame → NumberFrame → Outcome → Type 0
-FollowsOver constants rule old new outcome = (env : Environment) → IsOver constants env → Applies constants.types.names (rule env) old new outcome
+FollowsOver constants rule old new outcome =
+    (env : Environment) → IsOver constants env → Applies constants.types.names (rule env) old new outcome
 
 abbrev pub FollowsByPool : PoolTypes → (Environment → Frame → Option Frame) → NumberFrame → NumberFrame → Outcome → Type 0
-FollowsByPool constants rule old new outcome = (env : Environment) → HasPool constants.pool env → Applies constants.types.names (rule env) old new outcome
+FollowsByPool constants rule old new outcome =
+    (env : Environment) → HasPool constants.pool env → Applies constants.types.names (rule env) old new outcome
 
 -- a constant was pushed, whatever the frame is
 abbrev pub PushesByPool : PoolTypes → (Environment → Frame → Option Frame) → Outcome → Type 0
@@ -47,7 +49,8 @@ PushesByPool constants rule outcome =
     (env : Environment) (frame : NumberFrame) → HasPool constants.pool env → Applies constants.types.names (rule env) frame frame outcome
 
 -- the rule of an instruction of the method itself, before its stack's size is asked
-abbrev pub FollowsBoth : {E : Type 0} → MethodContext → PoolTypes → (Environment → Frame → Option Frame) → NumberFrame → NumberFrame → Result Outcome E → Type 0
+abbrev pub FollowsBoth : {E : Type 0} → MethodContext → PoolTypes → (Environment → Frame → Option Frame) → NumberFrame → NumberFrame
+    → Result Outcome E → Type 0
 FollowsBoth context constants rule old new answer =
     (env : Environment) → IsMethodOver context constants env
     → IfOk answer (IsOutcome constants.types.names (rule env (frame_of constants.types.names old)) new)

@@ -35,17 +35,21 @@ pub record Calls (names : List (List ℕ)) (env : Environment) (index : ℕ) (ca
 -- it holds of the method that an index names, in every environment of the method that calls it
 abbrev pub AtCall : MethodContext → ℕ → CalledTypes → (Environment → MethodUse → Type 0) → Type 0
 AtCall context index called P =
-    (env : Environment) → IsOfMethod context env → (named : MethodUse) → Calls context.class.types.names env index called named → P env named
+    (env : Environment) → IsOfMethod context env → (named : MethodUse) → Calls context.class.types.names env index called named
+    → P env named
 
 -- a rule was followed for it
-abbrev pub FollowsCall : MethodContext → ℕ → CalledTypes → (Environment → MethodUse → Frame → Option Frame) → NumberFrame → NumberFrame → Outcome → Type 0
+abbrev pub FollowsCall : MethodContext → ℕ → CalledTypes → (Environment → MethodUse → Frame → Option Frame) → NumberFrame → NumberFrame
+    → Outcome → Type 0
 FollowsCall context index called rule old new outcome =
     AtCall context index called (λ env named. Applies context.class.types.names (rule env named) old new outcome)
 
 -- the type that an object gets where its `<init>` was called
 abbrev pub IsConstructedType : MethodContext → ℕ → CalledTypes → Item → Option Item → Type 0
 IsConstructedType context index called object result =
-    AtCall context index called (λ env named. option_map (typed context.class.types.names) result ≡ constructed_type env named (typed context.class.types.names object))
+    AtCall context index called
+    (λ env named. option_map (typed context.class.types.names) result
+    ≡ constructed_type env named (typed context.class.types.names object))
 
 -- the object that an instruction constructs, or none
 abbrev pub IsObjectOf : MethodContext → (Environment → Frame → Option FrameType) → NumberFrame → Option Item → Type 0

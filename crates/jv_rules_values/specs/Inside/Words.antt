@@ -22,25 +22,30 @@ arranged_words form taken passed = arranged form (items_in taken) (items_in pass
 -- one item was taken, and else nothing has changed; or none could be
 abbrev pub IsWord : List (List ℕ) → Option (List FrameType × List FrameType) → NumberFrame → NumberFrame → Option Item → Type 0
 IsWord names parts old new None = parts ≡ None
-IsWord names parts old new (Some item) = (parts ≡ Some (typed names item ∷ [], typed_all names new.stack)) × (new ≡ with_stack new.stack old)
+IsWord names parts old new (Some item) =
+    (parts ≡ Some (typed names item ∷ [], typed_all names new.stack)) × (new ≡ with_stack new.stack old)
 
 abbrev pub AreTaken : List (List ℕ) → Option (List FrameType × List FrameType) → NumberFrame → NumberFrame → Option Words → Type 0
 AreTaken names parts old new None = parts ≡ None
-AreTaken names parts old new (Some words) = (parts ≡ Some (typed_all names (items_in words), typed_all names new.stack)) × (new ≡ with_stack new.stack old)
+AreTaken names parts old new (Some words) =
+    (parts ≡ Some (typed_all names (items_in words), typed_all names new.stack)) × (new ≡ with_stack new.stack old)
 
 -- an item below another, with which it is one part
 abbrev pub IsBelow : List (List ℕ) → Item → Option (List FrameType × List FrameType) → NumberFrame → NumberFrame → Option Words → Type 0
 IsBelow names first parts old new None = parts ≡ None
 IsBelow names first parts old new (Some words) =
-    (option_map (item_before (typed names first)) parts ≡ Some (typed_all names (items_in words), typed_all names new.stack)) × (new ≡ with_stack new.stack old)
+    (option_map (item_before (typed names first)) parts ≡ Some (typed_all names (items_in words), typed_all names new.stack))
+    × (new ≡ with_stack new.stack old)
 
 -- So many words were taken as one item, or with one below another, or as items, whatever the names are.
 abbrev pub TakesWord : ℕ → NumberFrame → NumberFrame → Option Item → Type 0
-TakesWord count old new answer = (names : List (List ℕ)) → IsWord names (top_words item_width count (typed_all names old.stack)) old new answer
+TakesWord count old new answer =
+    (names : List (List ℕ)) → IsWord names (top_words item_width count (typed_all names old.stack)) old new answer
 
 abbrev pub TakesBelow : Item → ℕ → NumberFrame → NumberFrame → Option Words → Type 0
 TakesBelow first count old new answer =
     (names : List (List ℕ)) → IsBelow names first (top_words item_width count (typed_all names old.stack)) old new answer
 
 abbrev pub TakesWords : ℕ → NumberFrame → NumberFrame → Option Words → Type 0
-TakesWords count old new answer = (names : List (List ℕ)) → AreTaken names (top_words item_width count (typed_all names old.stack)) old new answer
+TakesWords count old new answer =
+    (names : List (List ℕ)) → AreTaken names (top_words item_width count (typed_all names old.stack)) old new answer
