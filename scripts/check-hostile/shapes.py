@@ -474,11 +474,136 @@ def many_finals(folder, scale):
     made.write(folder)
 
 
+TOP = u1(0)
+
+
+def branching(folder, scale, frame, target, max_stack, max_locals):
+    """16,000 branches from one frame to another: 8,000 before the target, and 8,000 behind it."""
+    made = ClassFile("Main")
+    made.main()
+    count = scaled(scale, 8000)
+    at = 1 + 4 * count
+    code = bytes([177])
+    for k in range(count):
+        code += bytes([3, 153]) + struct.pack(">h", at - (2 + 4 * k))
+    code += bytes([177])
+    for k in range(count):
+        code += bytes([3, 153]) + struct.pack(">h", -(2 + 4 * k))
+    code += bytes([177])
+    spelled = full(1, *frame) + full(at - 2, *target) + full(0, *frame)
+    made.method(9, "branches", "()V", max_stack, max_locals, code, b"", (3, spelled))
+    made.write(folder)
+
+
+def branches_apart(folder, scale):
+    """16,000 branches from 65,535 ints to a frame that has all but the first of them."""
+    branching(folder, scale, ([INT] * 65535, []), ([TOP] + [INT] * 65534, []), 1, 65535)
+
+
+def stack_branches(folder, scale):
+    """16,000 branches with 65,533 ints on the stack."""
+    branching(folder, scale, ([], [INT] * 65533), ([], [INT] * 65533), 65535, 0)
+
+
+def switch_apart(folder, scale):
+    """A tableswitch of 15,000 targets, from 65,535 ints to a frame that has all but the first of them."""
+    made = ClassFile("Main")
+    made.main()
+    targets = scaled(scale, 15000)
+    end = 16 + 4 * targets
+    code = bytes([177, 3, 170, 0]) + u4(end - 2) + u4(0) + u4(targets - 1) + u4(end - 2) * targets + bytes([177])
+    spelled = full(1, [INT] * 65535, []) + full(end - 2, [TOP] + [INT] * 65534, [])
+    made.method(9, "ints", "()V", 1, 65535, code, b"", (2, spelled))
+    made.write(folder)
+
+
+def stores_apart(folder, scale):
+    """One handler over 32,000 stores with 65,535 ints, whose frame has all but the first of them."""
+    made = ClassFile("Main")
+    made.main()
+    count = scaled(scale, 32000)
+    code = bytes([177]) + bytes([3, 59]) * count + bytes([177, 191])
+    thrown = u1(7) + u2(made.named("java/lang/Throwable"))
+    spelled = full(1, [INT] * 65535, []) + full(2 * count, [TOP] + [INT] * 65534, [thrown])
+    handlers = u2(1) + u2(1 + 2 * count) + u2(2 * count + 2) + u2(0)
+    made.method(9, "ints", "()V", 1, 65535, code, handlers, (2, spelled))
+    made.write(folder)
+
+
+def frames_in_turn(folder, scale):
+    """5,900 times a frame of 65,535 ints and one of 65,534, with a store between."""
+    made = ClassFile("Main")
+    made.main()
+    count = scaled(scale, 5900)
+    code = bytes([177, 0]) + (bytes([167, 0, 3, 3, 196, 54]) + u2(65534) + bytes([167, 0, 3])) * count + bytes([177])
+    spelled = full(1, [INT] * 65535, [])
+    last = 1
+    for k in range(count):
+        spelled += u1(250) + u2(2 + 11 * k + 3 - last - 1)
+        spelled += u1(252) + u2(7) + INT
+        last = 2 + 11 * (k + 1)
+    made.method(9, "ints", "()V", 1, 65535, code, b"", (1 + 2 * count, spelled))
+    made.write(folder)
+
+
+def new_branches(folder, scale):
+    """8,000 objects that are not initialized on the stack, and 3,000 branches with them."""
+    made = ClassFile("Main")
+    made.main()
+    count, branches = scaled(scale, 8000), scaled(scale, 3000)
+    code = (bytes([187]) + u2(made.named("Main"))) * count
+    end = len(code) + 4 * branches
+    for k in range(branches):
+        code += bytes([3, 153]) + struct.pack(">h", end - len(code) - 1)
+    code += bytes([177])
+    made.method(9, "objects", "()V", 65535, 0, code, b"", (1, full(end, [], [u1(8) + u2(3 * k) for k in range(count)])))
+    made.write(folder)
+
+
+def interfaces_long(folder, scale):
+    """20 classes that each list a name of 65,535 bytes that is not there 65,535 times."""
+    for n in range(scaled(scale, 20)):
+        made = ClassFile(f"C{n}")
+        made.interfaces = ["i" * 65530 + f"{n:05d}"] * 65535
+        made.write(folder)
+    made = ClassFile("Main")
+    made.main()
+    made.write(folder)
+
+
+def interfaces_before(folder, scale):
+    """256 interfaces, each with 65,535 entries that list those before it over and over."""
+    count = scaled(scale, 256)
+    for n in range(count):
+        made = ClassFile(f"I{n}", "java/lang/Object", 0x601)
+        made.interfaces = [f"I{k % n}" for k in range(65535)] if n else []
+        made.write(folder)
+    made = ClassFile("Main")
+    made.interfaces = [f"I{count - 1}"]
+    made.main()
+    made.write(folder)
+
+
+def catches_long(folder, scale):
+    """60,000 handlers that catch one class that is not there, by as many constants over one name of 65,535 bytes."""
+    made = ClassFile("Main")
+    made.main()
+    name = "x" * 65535
+    text = made.text(name)
+    caught = [made.constant(("class", name, k), u1(7) + u2(text)) for k in range(scaled(scale, 60000))]
+    code = bytes(8) + bytes([177, 191])
+    table = b"".join(u2(0) + u2(1) + u2(9) + u2(index) for index in caught)
+    thrown = u1(7) + u2(made.named("java/lang/Throwable"))
+    made.method(9, "covered", "()V", 1, 1, code, table, (1, full(9, [], [thrown])))
+    made.write(folder)
+
+
 SHAPES = [
     long_references, short_references, used_references, interface_often, long_methods, long_methods_final, long_fields, methods_below_final,
     classes_below_final, blank_frames, int_frames, int_frames_and_stores, int_stores, int_switch, handlers_at_front, handlers_and_frames,
     handlers_over_all, handlers_apart, handlers_and_stores, new_popped, new_left, new_made, no_package, interface_entries, supers_chain,
-    supers_diamond, supers_dense, many_finals,
+    supers_diamond, supers_dense, many_finals, branches_apart, stack_branches, switch_apart, stores_apart, frames_in_turn, new_branches,
+    interfaces_long, interfaces_before, catches_long,
 ]
 
 

@@ -3,10 +3,12 @@ pub mod AllFound
 pub mod Chains
 pub mod Followed
 pub mod Hashed
+pub mod Knowing
 pub mod Listing
 pub mod Loaded
 pub mod Numbers
 pub mod OfFile
+pub mod OnceEach
 pub mod Places
 pub mod Rows
 pub mod Tests

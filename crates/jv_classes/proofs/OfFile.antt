@@ -1,6 +1,6 @@
 -- What is kept of the class of a file is what the class says.
-use Rattle.std.proofs.Common.{◌≡◌, ℕ, List, [], ◌∷◌, map, Option, Some, None, refl, sym, ap, subst, ◌∙◌}
-use Rattle.std.specs.Prelude.{Result, Ok, Err, IfOk}
+use Rattle.std.proofs.Common.{◌≡◌, ℕ, zero, suc, ◌<◌, List, [], ◌∷◌, map, length, get_or, Option, Some, None, refl, sym, ap, subst, ◌∙◌, arith}
+use Rattle.std.specs.Prelude.{Result, Ok, Err, IfOk, slice_get}
 use Rattle.std.specs.Option.{option_map, option_copied}
 use Rattle.jv_format.specs.Format.{◌>>=◌}
 use Rattle.jv_meaning_world.specs.of_pool.declared.index.ClassIndex.{ClassIndex}
@@ -13,13 +13,15 @@ use Rattle.jv_meaning_world.specs.of_class_structure.Structure.{ClassStructure}
 use Rattle.jv_meaning_world.specs.of_class.ClassFile.{class_name}
 use Rattle.jv_meaning_world.specs.of_class.Rules.{NoTwoAlike, field_texts as field_info_texts, method_texts as method_info_texts}
 use Rattle.jv_meaning_world.specs.of_class.Class.{Class, all_found, field_of, method_of, super_of, class_of}
-use Rattle.jv_meaning_world.specs.World.{package_of}
+use Rattle.jv_meaning_world.specs.World.{World, package_of}
+use Rattle.jv_meaning_world.specs.Numbers.{number_named}
+use Rattle.std.proofs.lemmas.List.{length-map}
+use Rattle.jv_classes.specs.Inside.Known.{class_number}
 use Rattle.jv_classes.specs.declared.kept.Kept.{Kept}
 use Rattle.jv_classes.specs.Inside.Seen.{MemberSeen, field_seen, method_seen}
 use Rattle.jv_classes.specs.Inside.Found.{member_with, field_texts, field_at, method_texts, method_at, interface_at}
-use Rattle.jv_names.specs.Inside.Kept.{text_of}
 use Rattle.jv_classes.specs.Inside.Kept.{Keeps}
-use Rattle.jv_classes.proofs.AllFound.{found_of_seen, seen_of_found}
+use Rattle.jv_classes.proofs.AllFound.{parts_found, found_of_seen, seen_of_found}
 
 pub if_ok_so : {A F : Type 0} (r : Result A F) (P Q : A → Type 0) → ((x : A) → P x → Q x) → IfOk r P → IfOk r Q
 if_ok_so (Ok x) P Q so h = so x h
@@ -109,23 +111,62 @@ module _ (c : ClassStructure) (pool : List Entry) (same : pool ≡ c.constant_po
 
 -- ---- superinterfaces
 
-interfaces_kept : (c : ClassStructure) (pool : List Entry) (indices : List ClassIndex) → pool ≡ c.constant_pool → map seen_index indices ≡ c.interfaces → (names : List (List ℕ)) → all_found (interface_at pool) indices ≡ Some names
-    → (class : Class) → class_of c ≡ Some class → names ≡ class.interfaces
-interfaces_kept c pool indices same shown names found class e =
-    let own : List Entry = c.constant_pool in
-    let here : all_found (interface_at own) indices ≡ Some names = subst (λ (p : List Entry). all_found (interface_at p) indices ≡ Some names) same found in
-    let both : Some names ≡ Some class.interfaces =
-    sym here ∙ found_of_seen (class_name_at own) seen_index indices ∙ ap (all_found (class_name_at own)) shown ∙ (parts c class e).interfaces in
-    cc
+module _ {X Y : Type 0} (look : X → Option Y) where
+  pub many_found : (xs : List X) (ys : List Y) → all_found look xs ≡ Some ys → length ys ≡ length xs
+  many_found [] ys e =
+      let none : ys ≡ [] = cc in
+      ap length none
+  many_found (x ∷ xs) ys e =
+      let parts = parts_found look x xs ys e in
+      ap length parts.4 ∙ ap (λ n. suc n) (many_found xs parts.1 parts.3)
+
+  pub found_at : (xs : List X) (ys : List Y) (i : ℕ) (d : X) → all_found look xs ≡ Some ys → i < length xs → slice_get ys i ≡ look (get_or xs i d)
+  found_at [] ys i d e h = absurd (omega (arith, h))
+  found_at (x ∷ xs) ys zero d e h =
+      let parts = parts_found look x xs ys e in
+      ap (λ l. slice_get l 0) parts.4 ∙ sym parts.2
+  found_at (x ∷ xs) ys (suc i) d e h =
+      let parts = parts_found look x xs ys e in
+      let less : i < length xs = omega (arith, h) in
+      ap (λ l. slice_get l (suc i)) parts.4 ∙ found_at xs parts.1 i d parts.3 less
+
+  pub each_found : {Z : Type 0} (f : Y → Option Z) (xs : List X) (ys : List Y) → all_found look xs ≡ Some ys → map (λ x. look x >>= f) xs ≡ map f ys
+  each_found f [] ys e =
+      let none : ys ≡ [] = cc in
+      sym (ap (map f) none)
+  each_found f (x ∷ xs) ys e =
+      let parts = parts_found look x xs ys e in
+      ap (λ o. (o >>= f) ∷ map (λ z. look z >>= f) xs) parts.2 ∙ (ap (λ l. f parts.0 ∷ l) (each_found f xs parts.1 parts.3) ∙ sym (ap (map f) parts.4))
+
+module _ (c : ClassStructure) (pool : List Entry) (indices : List ClassIndex) (same : pool ≡ c.constant_pool) (shown : map seen_index indices ≡ c.interfaces) where
+  -- the names of the direct superinterfaces are those that the file's indices name
+  pub interfaces_found : (class : Class) → class_of c ≡ Some class → all_found (interface_at pool) indices ≡ Some class.interfaces
+  interfaces_found class e =
+      subst (λ (p : List Entry). all_found (interface_at p) indices ≡ Some class.interfaces) (sym same)
+      (found_of_seen (class_name_at c.constant_pool) seen_index indices ∙ (ap (all_found (class_name_at c.constant_pool)) shown ∙ (parts c class e).interfaces))
+
+  pub place_within : (place : ℕ) → place < length c.interfaces → place < length indices
+  place_within place h = subst (λ n. place < n) (ap length (sym shown) ∙ length-map indices seen_index) h
+
+  pub count_of : (class : Class) → class_of c ≡ Some class → length indices ≡ length class.interfaces
+  count_of class e = sym (many_found (interface_at pool) indices class.interfaces (interfaces_found class e))
+
+  pub name_of : (class : Class) (place : ℕ) (d : ClassIndex) (name : List ℕ) → class_of c ≡ Some class → place < length indices → class_name_at pool (get_or indices place d).0 ≡ Some name → slice_get class.interfaces place ≡ Some name
+  name_of class place d name e h is = found_at (interface_at pool) indices class.interfaces place d (interfaces_found class e) h ∙ is
+
+  pub numbers_of_file : (world : World) (class : Class) → class_of c ≡ Some class → map (class_number world pool) indices ≡ map (number_named world) class.interfaces
+  numbers_of_file world class e = each_found (interface_at pool) (number_named world) indices class.interfaces (interfaces_found class e)
+
+pub many_interfaces : (c : ClassStructure) (class : Class) → class_of c ≡ Some class → length class.interfaces ≡ length c.interfaces
+many_interfaces c class e = many_found (class_name_at c.constant_pool) c.interfaces class.interfaces (parts c class e).interfaces
 
 -- ---- the whole
 
-module _ (c : ClassStructure) (kept : Kept) (pool : List Entry) (indices : List ClassIndex) where
-  pub keeps : pool ≡ c.constant_pool → map seen_index indices ≡ c.interfaces → all_found (interface_at pool) indices ≡ Some (map text_of kept.interfaces.items)
-      → kept.major ≡ c.major_version → kept.access_flags ≡ c.access_flags → class_name c ≡ Some kept.name.now → kept.package_name.now ≡ package_of kept.name.now → super_of c ≡ Some (option_copied kept.super_name)
+module _ (c : ClassStructure) (kept : Kept) where
+  pub keeps : kept.major ≡ c.major_version → kept.access_flags ≡ c.access_flags → class_name c ≡ Some kept.name.now → kept.package_name.now ≡ package_of kept.name.now → super_of c ≡ Some (option_copied kept.super_name)
       → ((class : Class) → class_of c ≡ Some class → kept.fields ≡ map field_seen class.fields) → ((class : Class) → class_of c ≡ Some class → kept.methods ≡ map method_seen class.methods)
       → (class : Class) → class_of c ≡ Some class → Keeps class kept
-  keeps same shown found major flags name home super_class fields methods class e =
+  keeps major flags name home super_class fields methods class e =
       let of_class = parts c class e in
       let one_name : Some kept.name.now ≡ Some class.name = sym name ∙ of_class.name in
       let same_name : kept.name.now ≡ class.name = cc in
@@ -136,7 +177,6 @@ module _ (c : ClassStructure) (kept : Kept) (pool : List Entry) (indices : List 
         name = cc;
         package_name = home ∙ ap package_of same_name;
         super_class = cc;
-        interfaces = interfaces_kept c pool indices same shown (map text_of kept.interfaces.items) found class e;
         fields = fields class e;
         methods = methods class e;
       }

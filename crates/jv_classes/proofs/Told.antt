@@ -4,32 +4,35 @@ use Rattle.std.specs.Prelude.{◌↔◌, ◌⊎◌, IsTrue, slice_get}
 use Rattle.std.specs.Global.{Vec}
 use Rattle.std.specs.List.{All, Contains, list_any}
 use Rattle.std.proofs.lemmas.Bool.{eqb-true, eqb-false}
-use Rattle.std.proofs.lemmas.List.{length-map, get_or-map}
-use Rattle.std.proofs.lemmas.List.Elements.{Contains-append_cases, All-cons}
+use Rattle.std.proofs.lemmas.List.{length-map, get_or-map, map-append}
+use Rattle.std.proofs.lemmas.List.Elements.{Contains-append_cases, All-cons, All-append}
 use Rattle.std.proofs.lemmas.Option.{slice_get-get_or}
 use Rattle.jv_format.specs.Format.{◌>>=◌}
 use Rattle.jv_names.specs.Ways.{Rows, related, IsBelowSize, is_there}
+use Rattle.jv_meaning_world.specs.of_class.Class.{Class}
 use Rattle.jv_meaning_world.specs.World.{Loaded, World, class_named}
-use Rattle.jv_meaning_world.specs.Above.{super_names, class_if_named}
+use Rattle.jv_meaning_world.specs.Above.{super_names, superclass_names, class_if_named}
 use Rattle.jv_meaning_world.proofs.Up.{none, first, later, single, same_name, found_super}
 use Rattle.std.specs.Str.{bytes_eq}
 use Rattle.jv_meaning_world.proofs.Standing.{named_super}
 use Rattle.jv_meaning_world.specs.Numbers.{number_named, super_numbers, superclass_number, IsNumbered}
+use Rattle.jv_classes.specs.Once.{each_once, direct_numbers}
 use Rattle.jv_classes.specs.Inside.Direct.{IsDirectSuper, IsDirect, IsSuperclass}
-use Rattle.jv_classes.specs.Inside.Rows.{row_of, numbers_of, all_super_numbers, AreAllBelow}
+use Rattle.jv_classes.specs.Inside.Rows.{row_of, numbers_of, all_direct_numbers, AreAllBelow}
 use Rattle.jv_classes.proofs.Numbers.{numbered, number_at, position_within}
+use Rattle.jv_classes.proofs.OnceEach.{any_behind, each_of_once}
 use Rattle.jv_classes.proofs.Rows.{row_there, told_at}
 
 -- ---- rows
 
-pub many_rows : (world : World) (rows : List (Vec (Option ℕ))) → numbers_of rows ≡ all_super_numbers world → length rows ≡ length world
+pub many_rows : (world : World) (rows : List (Vec (Option ℕ))) → numbers_of rows ≡ all_direct_numbers world → length rows ≡ length world
 many_rows world rows e = sym (length-map rows row_of) ∙ (ap length e ∙ length-map world _)
 
-pub row_of_class : (world : World) (rows : List (Vec (Option ℕ))) (from : ℕ) (v : Vec (Option ℕ)) (c : Loaded) → numbers_of rows ≡ all_super_numbers world → from < length world → v ≡ get_or rows from v → c ≡ get_or world from c
-    → v.items ≡ super_numbers world c.class
+pub row_of_class : (world : World) (rows : List (Vec (Option ℕ))) (from : ℕ) (v : Vec (Option ℕ)) (c : Loaded) → numbers_of rows ≡ all_direct_numbers world → from < length world → v ≡ get_or rows from v → c ≡ get_or world from c
+    → v.items ≡ direct_numbers world c.class
 row_of_class world rows from v c e h is c_is =
     sym (row_there rows from v (subst (λ n. from < n) (sym (many_rows world rows e)) h) is)
-    ∙ (ap (λ rs. get_or rs from []) e ∙ (get_or-map (λ l. super_numbers world l.class) world from c [] h ∙ ap (λ l. super_numbers world l.class) (sym c_is)))
+    ∙ (ap (λ rs. get_or rs from []) e ∙ (get_or-map (λ l. direct_numbers world l.class) world from c [] h ∙ ap (λ l. direct_numbers world l.class) (sym c_is)))
 
 -- ---- numbers are below
 
@@ -133,7 +136,10 @@ to_superclass world numbers a b = (there (slice_get world a) refl, back)
 
 -- ---- all direct supers
 
-pub to_supers : (world : World) → IsNumbered world → (a b : ℕ) → IsTrue (list_any (is_there b) (get_or (all_super_numbers world) a [])) ↔ IsDirectSuper world a b
+abbrev all_super_numbers : World → List (List (Option ℕ))
+all_super_numbers world = map (λ l. super_numbers world l.class) world
+
+to_supers : (world : World) → IsNumbered world → (a b : ℕ) → IsTrue (list_any (is_there b) (get_or (all_super_numbers world) a [])) ↔ IsDirectSuper world a b
 to_supers world numbers a b = (there (slice_get world a) refl, back)
   where
     one_name : (names : List (List ℕ)) → IsTrue (list_any (is_there b) (map (number_named world) names)) → (name : List ℕ) × Contains names name × (number_named world name ≡ Some b)
@@ -194,16 +200,36 @@ all_named_below : (world : World) (names : List (List ℕ)) → All (IsBelowSize
 all_named_below world [] k d h = absurd (omega (arith, h))
 all_named_below world (name ∷ names) k d h = All-cons (IsBelowSize (length world)) (number_named world name) (map (number_named world) names) (named_below world name) (all_named_below world names) k d h
 
-rows_below_of : (world : World) (ls : List Loaded) → All (All (IsBelowSize (length world))) (map (λ l. super_numbers world l.class) ls)
-rows_below_of world [] k d h = absurd (omega (arith, h))
-rows_below_of world (l ∷ ls) k d h = All-cons (All (IsBelowSize (length world))) (super_numbers world l.class) (map (λ m. super_numbers world m.class) ls) (all_named_below world (super_names l.class)) (rows_below_of world ls) k d h
+row_below : (world : World) (class : Class) → All (IsBelowSize (length world)) (direct_numbers world class)
+row_below world class =
+    let first = map (number_named world) (superclass_names class.super_class) in
+    let interfaces = map (number_named world) class.interfaces in
+    All-append (IsBelowSize (length world)) first (each_once interfaces) (all_named_below world (superclass_names class.super_class)) (each_of_once (IsBelowSize (length world)) interfaces (all_named_below world class.interfaces))
 
-pub rows_below : (world : World) (rows : List (Vec (Option ℕ))) → numbers_of rows ≡ all_super_numbers world → AreAllBelow (length rows) (numbers_of rows)
+rows_below_of : (world : World) (ls : List Loaded) → All (All (IsBelowSize (length world))) (map (λ l. direct_numbers world l.class) ls)
+rows_below_of world [] k d h = absurd (omega (arith, h))
+rows_below_of world (l ∷ ls) k d h = All-cons (All (IsBelowSize (length world))) (direct_numbers world l.class) (map (λ m. direct_numbers world m.class) ls) (row_below world l.class) (rows_below_of world ls) k d h
+
+pub rows_below : (world : World) (rows : List (Vec (Option ℕ))) → numbers_of rows ≡ all_direct_numbers world → AreAllBelow (length rows) (numbers_of rows)
 rows_below world rows e = subst (λ n. AreAllBelow n (numbers_of rows)) (sym (many_rows world rows e)) (subst (AreAllBelow (length world)) (sym e) (rows_below_of world world))
 
-pub direct_of : (world : World) → IsNumbered world → (rows : Rows) (numbers : List (List (Option ℕ))) → numbers ≡ all_super_numbers world → ((a b : ℕ) → related rows a b ≡ list_any (is_there b) (get_or numbers a [])) → IsDirect world rows
+-- whether some direct super is so is the same where each stands once
+any_in_row : (world : World) (p : Option ℕ → Bool) (class : Class) → list_any p (direct_numbers world class) ≡ list_any p (super_numbers world class)
+any_in_row world p class =
+    let number = number_named world in
+    any_behind p (map number (superclass_names class.super_class)) (map number class.interfaces)
+    ∙ ap (list_any p) (sym (map-append number (superclass_names class.super_class) class.interfaces))
+
+any_in_rows : (world : World) (p : Option ℕ → Bool) (ls : List Loaded) (a : ℕ)
+    → list_any p (get_or (map (λ l. direct_numbers world l.class) ls) a []) ≡ list_any p (get_or (map (λ l. super_numbers world l.class) ls) a [])
+any_in_rows world p [] zero = refl
+any_in_rows world p [] (suc a) = refl
+any_in_rows world p (l ∷ ls) zero = any_in_row world p l.class
+any_in_rows world p (l ∷ ls) (suc a) = any_in_rows world p ls a
+
+pub direct_of : (world : World) → IsNumbered world → (rows : Rows) (numbers : List (List (Option ℕ))) → numbers ≡ all_direct_numbers world → ((a b : ℕ) → related rows a b ≡ list_any (is_there b) (get_or numbers a [])) → IsDirect world rows
 direct_of world numbered rows numbers e same a b =
-    let told = same a b ∙ ap (λ ns. list_any (is_there b) (get_or ns a [])) e in
+    let told = same a b ∙ (ap (λ ns. list_any (is_there b) (get_or ns a [])) e ∙ any_in_rows world (is_there b) world a) in
     let both = to_supers world numbered a b in
     (λ h. both.0 (subst IsTrue told h), λ s. subst IsTrue (sym told) (both.1 s))
 

@@ -3,6 +3,7 @@ pub mod Found
 pub mod Kept
 pub mod Known
 pub mod Listed
+pub mod Once
 pub mod Rows
 pub mod Seen
 pub mod Tests

@@ -5,9 +5,10 @@ ghost use Rattle.jv_meaning_world.specs.Above.{is_above, is_circular, superclass
 ghost use Rattle.jv_meaning_world.specs.Laws.Above.{SystemStandsAlone};
 ghost use Rattle.jv_meaning_world.specs.LookUps.{is_among, is_subclass};
 ghost use Rattle.jv_meaning_world.specs.Verdicts.{is_loadable, each_super, have_right_kind, can_name_supers, has_final_super};
-ghost use Rattle.jv_meaning_world.specs.Numbers.{number_named, superclass_number, super_numbers, IsNumbered, AreNoArrays, HoldsAtBoth, AreSuperclassesOf};
+ghost use Rattle.jv_meaning_world.specs.Numbers.{number_named, superclass_number, IsNumbered, AreNoArrays, HoldsAtBoth, AreSuperclassesOf};
 ghost use Rattle.std.specs.List.{All};
 ghost use Rattle.jv_classes.specs.Faults.{fault_of_supers};
+ghost use Rattle.jv_classes.specs.Once.{direct_numbers};
 ghost use Rattle.jv_meaning_world.specs.Numbers.{HoldsAtNumber};
 
 use crate::list::ClassList;
@@ -120,10 +121,10 @@ impl<'a> ClassTable<'a> {
     }
 
     /// The numbers of the direct supers of a class, each where it is there: that of the superclass comes
-    /// first (JVMS 5.3.5).
+    /// first, and then those of the superinterfaces, each once (JVMS 5.3.5).
     pub fn supers(&self, number: usize) -> &[Option<usize>]
         requires { number < length self.now }
-        ensures { HoldsAtNumber self.now number (λ l. result.now ≡ super_numbers self.now l.class) }
+        ensures { HoldsAtNumber self.now number (λ l. result.now ≡ direct_numbers self.now l.class) }
     {
         &self.supers[number]
     }

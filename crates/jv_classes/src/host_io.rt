@@ -45,7 +45,6 @@ pub(crate) fn kept_of_io<'a>(alloc: Global, state: RandomState) -> Result<Kept<'
         name: b"host/Io".as_slice(),
         package_name: b"host".as_slice(),
         super_name: Some(b"java/lang/Object".as_slice()),
-        interfaces: Vec::new(alloc),
         fields,
         methods,
     })

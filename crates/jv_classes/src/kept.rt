@@ -10,7 +10,6 @@ pub(crate) struct Kept<'a> {
     pub(crate) name: &'a [u8],
     pub(crate) package_name: &'a [u8],
     pub(crate) super_name: Option<&'a [u8]>,
-    pub(crate) interfaces: Vec<&'a [u8]>,
     pub(crate) fields: Members<'a>,
     pub(crate) methods: Members<'a>,
 }

@@ -10,6 +10,7 @@ mod list;
 mod loaded_class;
 mod member;
 mod members;
+mod once;
 mod package;
 mod reading;
 mod supers;

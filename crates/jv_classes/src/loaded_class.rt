@@ -15,7 +15,7 @@ use crate::host_io::kept_of_io;
 use crate::kept::Kept;
 use crate::member::Member;
 use crate::package::is_same_loader;
-use crate::reading::kept_of_file;
+use crate::reading::{interface_in, kept_of_file};
 use jv_meaning_world::of_class::{ClassFile, is_some_class};
 use jv_names::Text;
 use std::alloc::{AllocError, Global};
@@ -155,7 +155,10 @@ impl<'a> LoadedClass<'a> {
     pub fn interface_count(&self) -> usize
         ensures { result ≡ length self.now.class.interfaces }
     {
-        self.kept.interfaces.len()
+        match &self.file {
+            Some(file) => file.interfaces().len(),
+            None => 0,
+        }
     }
 
     /// The name of the direct superinterface at a place, the first at 0.
@@ -163,7 +166,10 @@ impl<'a> LoadedClass<'a> {
         requires { place < length self.now.class.interfaces }
         ensures { slice_get self.now.class.interfaces place ≡ Some result.now }
     {
-        self.kept.interfaces[place]
+        match &self.file {
+            Some(file) => interface_in(file, place),
+            None => b"".as_slice(),
+        }
     }
 
     /// How many fields there are.

@@ -1,23 +1,22 @@
 //! What is kept of the class of a file.
 
-ghost use Rattle.std.specs.Prelude.{◌≡◌, IfOk, IsSome, Some, map};
+ghost use Rattle.std.specs.Prelude.{◌≡◌, ◌<◌, IfOk, IsSome, Some, length, map, slice_get};
 ghost use Rattle.std.specs.List.{All};
 ghost use Rattle.std.specs.Option.{option_copied};
-ghost use Rattle.jv_meaning_world.specs.of_pool.Constants.{class_name_at, utf8_at};
+ghost use Rattle.jv_meaning_world.specs.of_pool.Constants.{utf8_at};
 ghost use Rattle.jv_meaning_world.specs.of_class.Class.{Class, all_found, class_of, super_of};
 ghost use Rattle.jv_meaning_world.specs.of_class.Rules.{NoTwoAlike};
-ghost use Rattle.jv_names.specs.Inside.Kept.{text_of};
 ghost use Rattle.jv_classes.specs.Hashes.{AreHashes};
 ghost use Rattle.jv_classes.specs.Inside.Kept.{Keeps};
 ghost use Rattle.jv_classes.specs.Inside.Seen.{field_seen, kept_seen, method_seen};
-ghost use Rattle.jv_classes.specs.Inside.Found.{field_at, field_texts, interface_at, member_seen_at, method_at, method_texts};
+ghost use Rattle.jv_classes.specs.Inside.Found.{field_at, field_texts, member_seen_at, method_at, method_texts};
 
 use crate::hashing::{pool_hashes, text_in};
 use crate::kept::Kept;
 use crate::members::{KeptMember, Members};
 use crate::package::package;
 use jv_meaning_world::of_class::{ClassFile, Field, Method};
-use jv_meaning_world::of_pool::{ClassIndex, Pool, Utf8Index};
+use jv_meaning_world::of_pool::{Pool, Utf8Index};
 use jv_names::seed_of;
 use std::alloc::{AllocError, Global};
 use std::hash::RandomState;
@@ -127,22 +126,6 @@ fn methods_of<'a>(
     methods_in(alloc, state, seed, hashes, file.pool(), file.methods())
 }
 
-/// The names of these classes.
-fn class_names<'a>(
-    alloc: Global,
-    pool: &Pool<'a>,
-    indices: &[ClassIndex],
-) -> Result<Vec<&'a [u8]>, AllocError>
-    requires { All (λ index. IsSome (class_name_at pool.now index.0)) indices.now }
-    ensures { IfOk result (λ names. all_found (interface_at pool.now) indices.now ≡ Some (map text_of names.items)) }
-{
-    let mut names = Vec::with_capacity(alloc, indices.len())?;
-    for index in indices {
-        names.push(pool.class_name(*index))?;
-    }
-    Ok(names)
-}
-
 fn super_name<'a>(file: &ClassFile<'a>) -> Option<&'a [u8]>
     ensures { super_of file.now ≡ Some (option_copied result) }
 {
@@ -150,6 +133,15 @@ fn super_name<'a>(file: &ClassFile<'a>) -> Option<&'a [u8]>
         Some(index) => Some(file.pool().class_name(index)),
         None => None,
     }
+}
+
+/// The name of the direct superinterface at a place.
+pub(crate) fn interface_in<'a>(file: &ClassFile<'a>, place: usize) -> &'a [u8]
+    requires { place < length file.now.interfaces }
+    ensures { (class : Class) → class_of file.now ≡ Some class → slice_get class.interfaces place ≡ Some result.now }
+{
+    let interfaces = file.interfaces();
+    file.pool().class_name(interfaces[place])
 }
 
 /// What is kept of the class of a file.
@@ -163,7 +155,6 @@ pub(crate) fn kept_of_file<'a>(
     let seed = seed_of(state);
     let hashes = pool_hashes(alloc, seed, file.pool())?;
     let name = file.name();
-    let interfaces = class_names(alloc, file.pool(), file.interfaces())?;
     let fields = fields_of(alloc, state, seed, &hashes, file)?;
     let methods = methods_of(alloc, state, seed, &hashes, file)?;
     Ok(Kept {
@@ -172,7 +163,6 @@ pub(crate) fn kept_of_file<'a>(
         name,
         package_name: package(name),
         super_name: super_name(file),
-        interfaces,
         fields,
         methods,
     })

@@ -1,19 +1,22 @@
 //! The direct supers of a class (JVMS 5.3.5).
 
-ghost use Rattle.std.specs.Prelude.{◌≡◌, IfOk, Some, map, not, true};
-ghost use Rattle.std.specs.List.{list_all};
+ghost use Rattle.std.specs.Prelude.{◌≡◌, List, IfOk, IsSome, map, not, true};
+ghost use Rattle.std.specs.List.{All, list_all};
+ghost use Rattle.jv_meaning_world.specs.of_pool.Constants.{Entry, class_name_at, utf8_at};
 ghost use Rattle.jv_meaning_world.specs.of_class_structure.Flags.{has, acc_final};
 ghost use Rattle.jv_meaning_world.specs.World.{World, can_name};
 ghost use Rattle.jv_meaning_world.specs.Above.{superclass_names, is_circular};
 ghost use Rattle.jv_meaning_world.specs.Laws.Above.{stands_itself};
 ghost use Rattle.jv_meaning_world.specs.Verdicts.{is_interface, have_right_kind, each_super, can_name_supers};
-ghost use Rattle.jv_meaning_world.specs.Numbers.{number_named, super_numbers, superclass_number};
-ghost use Rattle.jv_classes.specs.Inside.Known.{AreFound, IsFound};
+ghost use Rattle.jv_meaning_world.specs.Numbers.{number_named, superclass_number};
+ghost use Rattle.jv_classes.specs.Once.{direct_numbers, each_once, interface_numbers};
+ghost use Rattle.jv_classes.specs.Inside.Known.{AreKnown, class_number, text_number};
 ghost use Rattle.jv_classes.specs.Inside.Tests.{passes_at, marked_at, are_of_right_kind};
 
 use crate::list::ClassList;
 use crate::loaded_class::LoadedClass;
-use jv_meaning_world::of_pool::Constant;
+use crate::once::Once;
+use jv_meaning_world::of_pool::{ClassIndex, Constant, Pool};
 use std::alloc::{AllocError, Global};
 
 /// The number of the superclass, where the class has one and it is there.
@@ -31,93 +34,115 @@ fn first_of_supers(
     Ok(supers)
 }
 
-/// A name that was looked up, and the number of its class, where it is there.
-#[derive(Clone, Copy)]
-struct Found<'n> {
-    name: &'n [u8],
-    number: Option<usize>,
-}
-
-/// The index of the text that names the direct superinterface at a place; any number where there is none.
-fn key_of(class: &LoadedClass<'_>, place: usize) -> usize {
-    let Some(file) = class.file() else {
-        return 0;
-    };
-    let Some(index) = file.interfaces().get(place) else {
-        return 0;
-    };
-    match file.pool().constant(index.0) {
+/// The index of the text that a Class constant names.
+fn text_of(pool: &Pool<'_>, index: ClassIndex) -> usize
+    ensures { class_name_at pool.now index.0 ≡ utf8_at pool.now result }
+{
+    match pool.constant(index.0) {
         Some(Constant::Class(name)) => usize::from(name),
         _ => 0,
     }
 }
 
-/// Room for a name at each index of the class's constants, where it lists many interfaces.
-fn room_for<'n>(
+/// Room for what is known of the text at each index of a constant pool, where many are to be looked up.
+fn room_for(
     alloc: Global,
-    class: &LoadedClass<'_>,
-) -> Result<Vec<Option<Found<'n>>>, AllocError>
-    ensures { (world : World) → IfOk result (λ known. AreFound world known.items) }
+    pool: &Pool<'_>,
+    count: usize,
+) -> Result<Vec<Option<Option<usize>>>, AllocError>
+    ensures { (world : World) (entries : List Entry) → IfOk result (λ known. AreKnown world entries known.items) }
 {
-    let size = match class.file() {
-        Some(file) if class.interface_count() > 16 => usize::from(file.pool().count()),
-        _ => 0,
+    let size = if count > 16 {
+        usize::from(pool.count())
+    } else {
+        0
     };
     let mut known = Vec::new(alloc);
     known.resize(size, None)?;
     Ok(known)
 }
 
-/// Keeps what was found of a name, where there is room for it.
-fn keep<'n>(known: &mut [Option<Found<'n>>], key: usize, found: Found<'n>)
-    ensures { (world : World) → AreFound world known.old → IsFound world (Some found.entry) → AreFound world known.new }
+/// Keeps what was found of a text, where there is room for it.
+fn keep(known: &mut [Option<Option<usize>>], index: usize, number: Option<usize>)
+    ensures { (world : World) (pool : List Entry) → AreKnown world pool known.old → number ≡ text_number world pool index
+        → AreKnown world pool known.new }
 {
-    if key < known.len() {
-        known[key] = Some(found);
+    if index < known.len() {
+        known[index] = Some(number);
     }
 }
 
-/// The number of the class of a name, where it is there; a name that is known under its key is not hashed.
-fn find_once<'n>(
+/// The number of the class that a Class constant names, where it is there; a text that is known is not hashed.
+fn find_once(
     list: &ClassList<'_>,
-    known: &mut [Option<Found<'n>>],
-    key: usize,
-    name: &'n [u8],
+    pool: &Pool<'_>,
+    known: &mut [Option<Option<usize>>],
+    index: ClassIndex,
 ) -> Option<usize>
-    requires { AreFound list.now known.old }
-    ensures found { result ≡ number_named list.now name.now }
-    ensures known { AreFound list.now known.new }
+    requires named { IsSome (class_name_at pool.now index.0) }
+    requires known { AreKnown list.now pool.now known.old }
+    ensures found { result ≡ class_number list.now pool.now index }
+    ensures known { AreKnown list.now pool.now known.new }
 {
-    if let Some(Some(found)) = known.get(key) {
-        if found.name == name {
-            return found.number;
-        }
+    let text = text_of(pool, index);
+    if let Some(Some(number)) = known.get(text) {
+        return *number;
     }
-    let number = list.find(name);
-    keep(known, key, Found { name, number });
+    let number = list.find(pool.class_name(index));
+    keep(known, text, number);
     number
 }
 
-/// The numbers of the direct supers, each where it is there: that of the superclass comes first.
+/// The numbers of the classes that Class constants name, each once and where it is there.
+fn numbers_in(
+    alloc: Global,
+    list: &ClassList<'_>,
+    pool: &Pool<'_>,
+    indices: &[ClassIndex],
+) -> Result<Vec<Option<usize>>, AllocError>
+    requires { All (λ index. IsSome (class_name_at pool.now index.0)) indices.now }
+    ensures { IfOk result (λ s. s.items ≡ each_once (map (class_number list.now pool.now) indices.now)) }
+{
+    let mut known = room_for(alloc, pool, indices.len())?;
+    let mut once = Once::new(alloc, list.count())?;
+    for index in indices {
+        once.add(find_once(list, pool, &mut known, *index))?;
+    }
+    Ok(once.numbers())
+}
+
+/// The numbers of the direct superinterfaces, each once and where it is there.
+fn interfaces_of(
+    alloc: Global,
+    list: &ClassList<'_>,
+    class: &LoadedClass<'_>,
+) -> Result<Vec<Option<usize>>, AllocError>
+    ensures { IfOk result (λ s. s.items ≡ interface_numbers list.now class.now.class) }
+{
+    match class.file() {
+        Some(file) => numbers_in(alloc, list, file.pool(), file.interfaces()),
+        None => Ok(Vec::new(alloc)),
+    }
+}
+
+/// The numbers of the direct supers, each where it is there: that of the superclass comes first, and then those of the
+/// superinterfaces, each once.
 pub(crate) fn supers_of(
     alloc: Global,
     list: &ClassList<'_>,
     class: &LoadedClass<'_>,
 ) -> Result<Vec<Option<usize>>, AllocError>
-    ensures { IfOk result (λ s. s.items ≡ super_numbers list.now class.now.class) }
+    ensures { IfOk result (λ s. s.items ≡ direct_numbers list.now class.now.class) }
 {
+    let interfaces = interfaces_of(alloc, list, class)?;
     let mut supers = first_of_supers(alloc, list, class)?;
-    let mut known = room_for(alloc, class)?;
-    for place in 0..class.interface_count() {
-        let name = class.interface_name(place);
-        supers.push(find_once(list, &mut known, key_of(class, place), name))?;
-    }
+    supers.extend_from_slice(&interfaces)?;
     Ok(supers)
 }
 
 /// The number of the superclass, where the class has one and it is there.
 pub(crate) fn superclass_of(class: &LoadedClass<'_>, supers: &[Option<usize>]) -> Option<usize>
-    ensures { (world : World) → supers.now ≡ super_numbers world class.now.class → result ≡ superclass_number world class.now.class }
+    ensures { (world : World) → supers.now ≡ direct_numbers world class.now.class → result ≡ superclass_number world class.now.class }
 {
     class.super_name()?;
     *supers.first()?
@@ -216,7 +241,7 @@ pub(crate) fn have_right_kind(
     class: &LoadedClass<'_>,
     supers: &[Option<usize>],
 ) -> bool
-    requires { supers.now ≡ super_numbers classes.now class.now.class }
+    requires { supers.now ≡ direct_numbers classes.now class.now.class }
     ensures { result ≡ have_right_kind classes.now class.now.class }
 {
     if class.super_name().is_some() {
@@ -232,7 +257,7 @@ pub(crate) fn are_all_there(
     class: &LoadedClass<'_>,
     supers: &[Option<usize>],
 ) -> bool
-    requires { supers.now ≡ super_numbers classes.now class.now.class }
+    requires { supers.now ≡ direct_numbers classes.now class.now.class }
     ensures { result ≡ each_super classes.now (λ l. true) class.now.class }
 {
     are_there(classes, supers)
@@ -244,7 +269,7 @@ pub(crate) fn can_name_supers(
     class: &LoadedClass<'_>,
     supers: &[Option<usize>],
 ) -> bool
-    requires { supers.now ≡ super_numbers classes.now class.now.class }
+    requires { supers.now ≡ direct_numbers classes.now class.now.class }
     ensures { result ≡ can_name_supers classes.now class.now }
 {
     can_name_each(classes, class, supers)
@@ -258,7 +283,7 @@ pub(crate) fn stands_itself(
     supers: &[Option<usize>],
     circular: bool,
 ) -> bool
-    requires supers { supers.now ≡ super_numbers classes.now class.now.class }
+    requires supers { supers.now ≡ direct_numbers classes.now class.now.class }
     requires circular { circular ≡ is_circular classes.now class.now.class }
     ensures { result ≡ stands_itself classes.now class.now }
 {

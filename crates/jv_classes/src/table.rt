@@ -8,7 +8,7 @@ ghost use Rattle.jv_meaning_world.specs.Laws.Above.{stands_itself, SystemStandsA
 ghost use Rattle.jv_meaning_world.specs.Verdicts.{is_loadable};
 ghost use Rattle.jv_classes.specs.Inside.Direct.{IsToSuperclass};
 ghost use Rattle.jv_classes.specs.Inside.Told.{TellsAbove, TellsSuperclasses, AreAllMarked};
-ghost use Rattle.jv_classes.specs.Inside.Rows.{numbers_of, all_super_numbers, AreAllBelow};
+ghost use Rattle.jv_classes.specs.Inside.Rows.{numbers_of, all_direct_numbers, AreAllBelow};
 ghost use Rattle.jv_meaning_world.specs.Above.{superclasses};
 
 use crate::list::ClassList;
@@ -23,7 +23,7 @@ pub(crate) fn all_supers(
     alloc: Global,
     list: &ClassList<'_>,
 ) -> Result<Vec<Vec<Option<usize>>>, AllocError>
-    ensures { IfOk result (λ all. numbers_of all.items ≡ all_super_numbers list.now) }
+    ensures { IfOk result (λ all. numbers_of all.items ≡ all_direct_numbers list.now) }
 {
     let mut all = Vec::new(alloc);
     for class in list.classes() {
@@ -51,7 +51,7 @@ fn related_to_superclasses(
     classes: &[LoadedClass<'_>],
     rows: &[Vec<Option<usize>>],
 ) -> Result<Relation, AllocError>
-    requires rows { numbers_of rows.now ≡ all_super_numbers classes.now }
+    requires rows { numbers_of rows.now ≡ all_direct_numbers classes.now }
     requires numbered { IsNumbered classes.now }
     ensures size { IfOk result (λ r. length r ≡ length classes.now) }
     ensures related { IfOk result (λ r. IsToSuperclass classes.now r) }
@@ -70,7 +70,7 @@ pub(crate) fn all_stand(
     rows: &[Vec<Option<usize>>],
     above: &Relation,
 ) -> Result<Vec<bool>, AllocError>
-    requires rows { numbers_of rows.now ≡ all_super_numbers classes.now }
+    requires rows { numbers_of rows.now ≡ all_direct_numbers classes.now }
     requires size { length above.now ≡ length classes.now }
     requires above { TellsAbove classes.now above.now }
     ensures { IfOk result (λ stand. stand.items ≡ map (stands_itself classes.now) classes.now) }
@@ -89,7 +89,7 @@ pub(crate) fn above_of(
     classes: &[LoadedClass<'_>],
     rows: &[Vec<Option<usize>>],
 ) -> Result<Relation, AllocError>
-    requires rows { numbers_of rows.now ≡ all_super_numbers classes.now }
+    requires rows { numbers_of rows.now ≡ all_direct_numbers classes.now }
     requires numbered { IsNumbered classes.now }
     ensures size { IfOk result (λ r. length r ≡ length classes.now) }
     ensures above { IfOk result (TellsAbove classes.now) }
@@ -105,7 +105,7 @@ pub(crate) fn superclasses_of(
     classes: &[LoadedClass<'_>],
     rows: &[Vec<Option<usize>>],
 ) -> Result<Relation, AllocError>
-    requires rows { numbers_of rows.now ≡ all_super_numbers classes.now }
+    requires rows { numbers_of rows.now ≡ all_direct_numbers classes.now }
     requires numbered { IsNumbered classes.now }
     ensures size { IfOk result (λ r. length r ≡ length classes.now) }
     ensures superclasses { IfOk result (TellsSuperclasses classes.now) }

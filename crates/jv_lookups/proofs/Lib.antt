@@ -9,6 +9,7 @@ pub mod Looking
 pub mod Marking
 pub mod Next
 pub mod Numbering
+pub mod Once
 pub mod Only
 pub mod Passing
 pub mod Stamped

@@ -1,8 +1,8 @@
 -- A search goes on with what is next.
 use Rattle.std.proofs.Common.{◌≡◌, ℕ, zero, suc, ◌+◌, ◌<◌, true, false, cond, List, [], ◌∷◌, ◌++◌, length, get_or, drop, map, Option, Some, None, refl, sym, ap, ◌∙◌, subst, arith, add-one}
 use Rattle.std.specs.Prelude.{slice_get}
-use Rattle.std.specs.List.{fold, filter_map, cons_option}
-use Rattle.std.proofs.lemmas.List.Elements.{filter_map-append}
+use Rattle.std.specs.List.{All, fold, filter_map, cons_option}
+use Rattle.std.proofs.lemmas.List.Elements.{All-cons, All-head, All-nil, All-tail, filter_map-append}
 use Rattle.std.proofs.lemmas.List.Sums.{fold-append}
 use Rattle.jv_format.specs.Format.{◌>>=◌}
 use Rattle.jv_meaning_world.specs.of_class.Class.{Class}
@@ -16,11 +16,11 @@ use Rattle.jv_classes.proofs.Told.{named_below, superclass_below}
 use Rattle.jv_classes.proofs.Followed.{at_named, at_superclass, some_class}
 use Rattle.jv_meaning_world.specs.Numbers.{classes_at}
 use Rattle.jv_lookups.specs.Inside.Numbers.{NumbersBelow, numbers_below, AreNumbersOf}
+use Rattle.jv_classes.specs.Once.{interface_numbers}
+use Rattle.jv_classes.proofs.OnceEach.{each_of_once}
 use Rattle.jv_lookups.proofs.Among.{one_behind}
-
--- the classes of numbers that are there
-abbrev pub those_at : World → List (Option ℕ) → List Loaded
-those_at world numbers = filter_map (λ number. number >>= slice_get world) numbers
+use Rattle.jv_lookups.proofs.Once.{searched_once}
+pub use Rattle.jv_lookups.proofs.Once.{those_at}
 
 pub those_named : (world : World) (names : List (List ℕ)) → those_at world (map (number_named world) names) ≡ filter_map (class_named world) names
 those_named world [] = refl
@@ -28,11 +28,20 @@ those_named world (name ∷ names) =
     ap (λ o. cons_option o (those_at world (map (number_named world) names))) (at_named world name)
     ∙ ap (λ ls. cons_option (class_named world name) ls) (those_named world names)
 
-pub each_below : (world : World) (names : List (List ℕ)) (i : ℕ) → IsBelowSize (length world) (get_or (map (number_named world) names) i None)
-each_below world [] zero = tt
-each_below world [] (suc i) = tt
-each_below world (name ∷ names) zero = named_below world name
-each_below world (name ∷ names) (suc i) = each_below world names i
+each_or_none : (P : Option ℕ → Type 0) (numbers : List (Option ℕ)) → All P numbers → P None → (i : ℕ) → P (get_or numbers i None)
+each_or_none P [] all p zero = p
+each_or_none P [] all p (suc i) = p
+each_or_none P (n ∷ numbers) all p zero = All-head P n numbers all
+each_or_none P (n ∷ numbers) all p (suc i) = each_or_none P numbers (All-tail P n numbers all) p i
+
+names_below : (world : World) (names : List (List ℕ)) → All (IsBelowSize (length world)) (map (number_named world) names)
+names_below world [] = All-nil (IsBelowSize (length world))
+names_below world (name ∷ names) = All-cons (IsBelowSize (length world)) (number_named world name) (map (number_named world) names) (named_below world name) (names_below world names)
+
+each_below : (world : World) (class : Class) (i : ℕ) → IsBelowSize (length world) (get_or (interface_numbers world class) i None)
+each_below world class =
+    let Below = IsBelowSize (length world) in
+    each_or_none Below (interface_numbers world class) (each_of_once Below (map (number_named world) class.interfaces) (names_below world class.interfaces)) tt
 
 -- the loop over the interfaces: what has been begun with the rest is what all lead to
 pub record GoesOn (world : World) (deeper : ℕ) (first : NumbersBelow) (interfaces : List (Option ℕ)) (place : ℕ) (begun : NumbersBelow) : Type 0 where
@@ -80,12 +89,14 @@ superclass_of_names world (Some name) = refl
 
 -- the interfaces, and then the superclass
 pub by_parts : (world : World) (f : List Loaded → Loaded → List Loaded) (b : List Loaded) (class : Class) (interfaces : List (Option ℕ)) (superclass : Option ℕ)
-    → interfaces ≡ map (number_named world) class.interfaces → superclass ≡ superclass_number world class
+    → fold f b (those_at world (interface_numbers world class)) ≡ fold f b (those_at world (map (number_named world) class.interfaces))
+    → interfaces ≡ interface_numbers world class → superclass ≡ superclass_number world class
     → fold f b (next_in world class) ≡ fold f (fold f b (those_at world interfaces)) (cons_option (superclass >>= slice_get world) [])
-by_parts world f b class interfaces superclass e h =
+by_parts world f b class interfaces superclass once e h =
     ap (fold f b) (filter_map-append (class_named world) class.interfaces (superclass_names class.super_class))
     ∙ (fold-append f b (filter_map (class_named world) class.interfaces) (filter_map (class_named world) (superclass_names class.super_class))
-    ∙ (ap (λ ls. fold f (fold f b ls) (filter_map (class_named world) (superclass_names class.super_class))) (sym (ap (those_at world) e ∙ those_named world class.interfaces))
+    ∙ (ap (λ c. fold f c (filter_map (class_named world) (superclass_names class.super_class)))
+    (ap (fold f b) (sym (those_named world class.interfaces)) ∙ (sym once ∙ ap (λ ns. fold f b (those_at world ns)) (sym e)))
     ∙ ap (fold f (fold f b (those_at world interfaces))) (superclass_of_names world class.super_class ∙ ap (λ o. cons_option o []) (sym (ap (λ n. n >>= slice_get world) h ∙ at_superclass world class)))))
 
 -- ---- steps of a search
@@ -93,8 +104,8 @@ by_parts world f b class interfaces superclass e h =
 below_of : (size : ℕ) (o : Option ℕ) (k : ℕ) → o ≡ Some k → IsBelowSize size o → k < size
 below_of size o k e h = subst (IsBelowSize size) e h
 
-pub next_below : (world : World) (names : List (List ℕ)) (numbers : List (Option ℕ)) (i k : ℕ) → numbers ≡ map (number_named world) names → get_or numbers i None ≡ Some k → k < length world
-next_below world names numbers i k e h = below_of (length world) (get_or (map (number_named world) names) i None) k (sym (ap (λ ns. get_or ns i None) e) ∙ h) (each_below world names i)
+pub next_below : (world : World) (class : Class) (numbers : List (Option ℕ)) (i k : ℕ) → numbers ≡ interface_numbers world class → get_or numbers i None ≡ Some k → k < length world
+next_below world class numbers i k e h = below_of (length world) (get_or (interface_numbers world class) i None) k (sym (ap (λ ns. get_or ns i None) e) ∙ h) (each_below world class i)
 
 pub super_below : (world : World) (class : Class) (number : Option ℕ) (k : ℕ) → number ≡ superclass_number world class → number ≡ Some k → k < length world
 super_below world class number k e h = below_of (length world) (superclass_number world class) k (sym e ∙ h) (superclass_below world class.super_class)
@@ -137,13 +148,13 @@ ends_with world deeper d superclass begun end k depth e less found =
 
 pub finish : (world : World) (deeper : ℕ) (first begun later end : NumbersBelow) (number place : ℕ) (l : Loaded) (interfaces : List (Option ℕ)) (superclass : Option ℕ)
     → slice_get world number ≡ Some l → is_among (classes_at world first.numbers) l ≡ false → begun ≡ numbers_below first.size (first.numbers ++ number ∷ [])
-    → interfaces ≡ map (number_named world) l.class.interfaces → superclass ≡ superclass_number world l.class
+    → interfaces ≡ interface_numbers world l.class → superclass ≡ superclass_number world l.class
     → length interfaces ≡ place → GoesOn world deeper begun interfaces place later → Ends world deeper superclass later end
     → classes_at world end.numbers ≡ searched_within world (suc deeper) (classes_at world first.numbers) l
 finish world deeper first begun later end number place l interfaces superclass at fresh added e h size on ends =
     let f = searched_within world deeper in
     ends ∙ (ap (λ b. fold f b (cons_option (superclass >>= slice_get world) [])) (sym (none_left world f interfaces place (classes_at world later.numbers) size) ∙ on.rest)
-    ∙ (sym (by_parts world f (classes_at world begun.numbers) l.class interfaces superclass e h)
+    ∙ (sym (by_parts world f (classes_at world begun.numbers) l.class interfaces superclass (searched_once world deeper (classes_at world begun.numbers) (map (number_named world) l.class.interfaces)) e h)
     ∙ (ap (λ b. fold f b (next_in world l.class)) (added_class world first begun number l added at)
     ∙ sym (begun_now world deeper (classes_at world first.numbers) l fresh))))
 

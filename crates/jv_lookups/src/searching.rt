@@ -1,8 +1,8 @@
 //! The classes that a search for a member meets (JVMS 5.4.3.2).
 
-ghost use Rattle.std.specs.Prelude.{◌≡◌, ◌<◌, map, length, IfOk, OnOk};
+ghost use Rattle.std.specs.Prelude.{◌≡◌, ◌<◌, length, IfOk, OnOk};
 ghost use Rattle.jv_meaning_world.specs.LookUps.{searched_from};
-ghost use Rattle.jv_meaning_world.specs.Numbers.{number_named};
+ghost use Rattle.jv_classes.specs.Once.{interface_numbers};
 ghost use Rattle.jv_meaning_world.specs.Numbers.{HoldsAtNumber};
 ghost use Rattle.jv_meaning_world.specs.Numbers.{AreNumbers};
 ghost use Rattle.jv_lookups.specs.Inside.Numbers.{AreNumbersOf};
@@ -13,10 +13,10 @@ use crate::begun::Begun;
 use jv_classes::ClassTable;
 use std::alloc::{AllocError, Global};
 
-/// The numbers of the direct superinterfaces of a class, each where it is there.
+/// The numbers of the direct superinterfaces of a class, each once and where it is there.
 pub fn interfaces_of<'t>(table: &'t ClassTable<'_>, number: usize) -> &'t [Option<usize>]
     requires { number < length table.now }
-    ensures { HoldsAtNumber table.now number (λ l. result.now ≡ map (number_named table.now) l.class.interfaces) }
+    ensures { HoldsAtNumber table.now number (λ l. result.now ≡ interface_numbers table.now l.class) }
 {
     let supers = table.supers(number);
     if table.classes()[number].super_name().is_some() {

@@ -1,11 +1,10 @@
 -- What is kept of a class beside its file.
-use Rattle.std.specs.Prelude.{◌≡◌, ℕ, Bool, true, List, map, Option, Some, None, unwrap_or}
+use Rattle.std.specs.Prelude.{◌≡◌, Bool, true, map, Option, Some, None, unwrap_or}
 use Rattle.std.specs.Option.{option_copied}
 use Rattle.jv_meaning_world.specs.of_class_structure.Structure.{ClassStructure}
 use Rattle.jv_meaning_world.specs.of_class.Class.{Class, class_of}
 use Rattle.jv_meaning_world.specs.System.Io.{io}
 use Rattle.jv_meaning_world.specs.World.{package_of}
-use Rattle.jv_names.specs.Inside.Kept.{text_of}
 use Rattle.jv_classes.specs.declared.kept.Kept.{Kept}
 use Rattle.jv_classes.specs.Inside.Seen.{field_seen, method_seen}
 
@@ -16,7 +15,6 @@ pub record Keeps (class : Class) (kept : Kept) : Type 0 where
   pub name : kept.name.now ≡ class.name
   pub package_name : kept.package_name.now ≡ package_of class.name
   pub super_class : option_copied kept.super_name ≡ class.super_class
-  pub interfaces : map text_of kept.interfaces.items ≡ class.interfaces
   pub fields : kept.fields ≡ map field_seen class.fields
   pub methods : kept.methods ≡ map method_seen class.methods
 

@@ -1,14 +1,23 @@
--- Names that were looked up.
-use Rattle.std.specs.Prelude.{◌≡◌, ⊤, List, Option, Some, None}
-use Rattle.std.specs.List.{All}
+-- The numbers of the classes that the texts of a constant pool name, as far as they were looked up.
+use Rattle.std.specs.Prelude.{◌≡◌, ⊤, ℕ, List, get_or, Option, Some, None}
+use Rattle.jv_format.specs.Format.{◌>>=◌}
+use Rattle.jv_meaning_world.specs.of_pool.Constants.{Entry, utf8_at, class_name_at}
+use Rattle.jv_meaning_world.specs.of_pool.declared.index.ClassIndex.{ClassIndex}
 use Rattle.jv_meaning_world.specs.World.{World}
 use Rattle.jv_meaning_world.specs.Numbers.{number_named}
-use Rattle.jv_classes.specs.declared.supers.Found.{Found}
 
--- the number is that of the class of the name
-abbrev pub IsFound : World → Option Found → Type 0
-IsFound world None = ⊤
-IsFound world (Some found) = found.number ≡ number_named world found.name.now
+-- the class whose name is the text at an index
+abbrev pub text_number : World → List Entry → ℕ → Option ℕ
+text_number world pool index = utf8_at pool index >>= number_named world
 
-abbrev pub AreFound : World → List (Option Found) → Type 0
-AreFound world known = All (IsFound world) known
+-- the class that a Class constant names
+abbrev pub class_number : World → List Entry → ClassIndex → Option ℕ
+class_number world pool index = class_name_at pool index.0 >>= number_named world
+
+-- what is known of a text, if anything, is so
+abbrev pub IsKnown : World → List Entry → ℕ → Option (Option ℕ) → Type 0
+IsKnown world pool index None = ⊤
+IsKnown world pool index (Some number) = number ≡ text_number world pool index
+
+abbrev pub AreKnown : World → List Entry → List (Option (Option ℕ)) → Type 0
+AreKnown world pool known = (index : ℕ) → IsKnown world pool index (get_or known index None)

@@ -5,7 +5,7 @@ use Rattle.jv_meaning_world.specs.World.{Loaded, World}
 use Rattle.jv_meaning_world.specs.Above.{is_above, superclasses}
 use Rattle.jv_meaning_world.specs.LookUps.{is_among}
 use Rattle.jv_meaning_world.specs.Verdicts.{is_loadable}
-use Rattle.jv_classes.specs.Inside.Rows.{all_super_numbers}
+use Rattle.jv_classes.specs.Inside.Rows.{all_direct_numbers}
 
 -- which class is above which
 abbrev pub TellsAbove : World → Rows → Type 0
@@ -26,7 +26,7 @@ AreAllMarked rows marks number =
 -- a table tells of a world: who the direct supers are, which class is above which, which is a superclass of which, and which
 -- can be loaded
 pub record IsTable (world : World) (numbers : List (List (Option ℕ))) (ups chains : Rows) (marks : List Bool) : Type 0 where
-  pub supers : numbers ≡ all_super_numbers world
+  pub supers : numbers ≡ all_direct_numbers world
   pub above_size : length ups ≡ length world
   pub above : TellsAbove world ups
   pub superclasses_size : length chains ≡ length world

@@ -16,7 +16,7 @@ pub give-requires : goal.give-requires
 give-requires t c =
     let world = c.args.table.now in
     let class = some_class world c.args.number c.requires.number in
-    (omega arith, (next_below world class.0.class.interfaces c.interfaces_of-interfaces.result.now c.loop-place.place c.in-Some.interface (c.interfaces_of-interfaces.ensures class.0 class.1) c.in-Some.is, c.loop-place.invariant.numbers))
+    (omega arith, (next_below world class.0.class c.interfaces_of-interfaces.result.now c.loop-place.place c.in-Some.interface (c.interfaces_of-interfaces.ensures class.0 class.1) c.in-Some.is, c.loop-place.invariant.numbers))
 
 pub loop-place-preserved : goal.loop-place-preserved
 loop-place-preserved t c =
@@ -26,7 +26,7 @@ loop-place-preserved t c =
       | in-Some+in_ok-give w ↦
           gives_with world (c.args.steps - 1) c.args.given.now c.loop-place.given c.match-interfaces-place.given c.interfaces_of-interfaces.result.now c.loop-place.place w.in-Some.interface
           c.loop-place-test.true w.in-Some.is
-          (next_below world class.0.class.interfaces c.interfaces_of-interfaces.result.now c.loop-place.place w.in-Some.interface (c.interfaces_of-interfaces.ensures class.0 class.1) w.in-Some.is)
+          (next_below world class.0.class c.interfaces_of-interfaces.result.now c.loop-place.place w.in-Some.interface (c.interfaces_of-interfaces.ensures class.0 class.1) w.in-Some.is)
           (rw w.given-is w.in_ok-give.ensures.found) (rw w.given-is w.in_ok-give.ensures.given) c.loop-place.invariant
       | in_default w ↦
           gives_without world (c.args.steps - 1) c.args.given.now c.loop-place.given c.match-interfaces-place.given c.interfaces_of-interfaces.result.now c.loop-place.place c.loop-place-test.true w.in_default.is w.given-is c.loop-place.invariant

@@ -14,7 +14,7 @@ pub give-requires-clause-number : goal.give-requires-clause-number
 give-requires-clause-number c =
     let world = c.args.table.now in
     let class = some_class world c.args.class c.requires in
-    next_below world class.0.class.interfaces c.interfaces_of-interfaces.result.now c.loop-place.place c.in-Some.interface (c.interfaces_of-interfaces.ensures class.0 class.1) c.in-Some.is
+    next_below world class.0.class c.interfaces_of-interfaces.result.now c.loop-place.place c.in-Some.interface (c.interfaces_of-interfaces.ensures class.0 class.1) c.in-Some.is
 
 pub loop-place-preserved : goal.loop-place-preserved
 loop-place-preserved c =
@@ -24,7 +24,7 @@ loop-place-preserved c =
       | in-Some+in_ok-give w ↦
           gives_with world (length world) c.in_ok-given.given c.loop-place.given c.match-interfaces-place.given c.interfaces_of-interfaces.result.now c.loop-place.place w.in-Some.interface
           c.loop-place-test.true w.in-Some.is
-          (next_below world class.0.class.interfaces c.interfaces_of-interfaces.result.now c.loop-place.place w.in-Some.interface (c.interfaces_of-interfaces.ensures class.0 class.1) w.in-Some.is)
+          (next_below world class.0.class c.interfaces_of-interfaces.result.now c.loop-place.place w.in-Some.interface (c.interfaces_of-interfaces.ensures class.0 class.1) w.in-Some.is)
           (subst (λ n. HoldsAtNumber world w.in-Some.interface (λ s. classes_at world c.match-interfaces-place.given.numbers ≡ given_within world n (classes_at world c.loop-place.given.numbers) s)) w.count-in-Some.ensures (rw w.given-is w.in_ok-give.ensures.found))
           (rw w.given-is w.in_ok-give.ensures.given) c.loop-place.invariant
       | in_default w ↦

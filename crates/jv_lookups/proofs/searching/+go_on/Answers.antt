@@ -21,7 +21,7 @@ pub go_on-requires : goal.go_on-requires
 go_on-requires t c =
     let world = c.args.table.now in
     let class = some_class world c.args.number c.requires.number in
-    (omega arith, (next_below world class.0.class.interfaces c.interfaces_of-interfaces.result.now c.loop-place.place c.in-Some.interface (c.interfaces_of-interfaces.ensures class.0 class.1) c.in-Some.is, c.loop-place.invariant.numbers))
+    (omega arith, (next_below world class.0.class c.interfaces_of-interfaces.result.now c.loop-place.place c.in-Some.interface (c.interfaces_of-interfaces.ensures class.0 class.1) c.in-Some.is, c.loop-place.invariant.numbers))
 
 pub loop-place-preserved : goal.loop-place-preserved
 loop-place-preserved t c =
@@ -32,7 +32,7 @@ loop-place-preserved t c =
       | in-Some+in_ok-go_on w ↦
           step_with world c.args.deeper (c.args.deeper - 1) c.add.new.self c.loop-place.begun c.match-interfaces-place.begun c.interfaces_of-interfaces.result.now c.loop-place.place w.in-Some.interface
           depth c.loop-place-test.true w.in-Some.is
-          (next_below world class.0.class.interfaces c.interfaces_of-interfaces.result.now c.loop-place.place w.in-Some.interface (c.interfaces_of-interfaces.ensures class.0 class.1) w.in-Some.is)
+          (next_below world class.0.class c.interfaces_of-interfaces.result.now c.loop-place.place w.in-Some.interface (c.interfaces_of-interfaces.ensures class.0 class.1) w.in-Some.is)
           (rw w.begun-is w.in_ok-go_on.ensures.found) (rw w.begun-is w.in_ok-go_on.ensures.begun) c.loop-place.invariant
       | in_default w ↦
           step_without world c.args.deeper c.add.new.self c.loop-place.begun c.match-interfaces-place.begun c.interfaces_of-interfaces.result.now c.loop-place.place c.loop-place-test.true w.in_default.is w.begun-is c.loop-place.invariant
