@@ -39,41 +39,41 @@ use Rattle.jv_sound_values.specs.Sound.{IsSound, IsChecked}
 use Rattle.jv_sound_values.specs.Frames.{IsRunning, AreVerified, place_of}
 use Rattle.jv_sound_values.specs.Effects.{AreEffects}
 use Rattle.jv_sound_values.proofs.Logic.{clash, Agrees}
-use Rattle.jv_sound_construction.proofs.laws_of_sound_files.Formats.{chained}
-use Rattle.jv_sound_construction.proofs.laws_of_sound_files.Formed.{IsFormed, is_void}
+use Rattle.jv_sound_world.proofs.Formats.{chained}
+use Rattle.jv_sound_world.proofs.Formed.{IsFormed, is_void}
 use Rattle.jv_sound_values.proofs.Taking.{and_parts}
-use Rattle.jv_sound_steps.proofs.laws_of_sound_frames.Leads.{target_there}
-use Rattle.jv_sound_steps.proofs.laws_of_sound_world.Asked.{AreFormed, interfaces_are_static, concrete_have_code, constructor_rules, constructors_have_code, static_have_code}
-use Rattle.jv_sound_steps.proofs.laws_of_sound_world.HostMethods.{built_in}
-use Rattle.jv_sound_construction.proofs.laws_of_sound_files.Limits.{instruction_fits}
-use Rattle.jv_sound_construction.proofs.laws_of_sound_files.Pools.{named_field_is_sort, named_method_has_sorts, string_has_units}
-use Rattle.jv_sound_steps.proofs.laws_of_sound_world.SystemFacts as facts
-use Rattle.jv_sound_steps.proofs.laws_of_sound_world.SystemFacts.{raised, link_error_is_thrown, object_has_none, out_of_memory_is_thrown, string_there_in, throwable_in, root_in}
-use Rattle.jv_sound_arrays.proofs.laws_of_sound_numbers.Pure as pure
-use Rattle.jv_sound_arrays.proofs.laws_of_sound_numbers.LocalInstructions.{load_ok, store_word_ok, store_long_ok}
-use Rattle.jv_sound_arrays.proofs.laws_of_sound_numbers.Branches.{has_targets, goto_ok, if_int_ok, if_ints_ok, if_null_ok, if_references_ok, table_switch_ok, lookup_switch_ok}
-use Rattle.jv_sound_arrays.proofs.laws_of_sound_numbers.StackForms.{stack_ok}
-use Rattle.jv_sound_arrays.proofs.laws_of_sound_numbers.Increments.{increment_ok}
-use Rattle.jv_sound_arrays.proofs.laws_of_sound_numbers.Returns.{return_value_ok, return_ok}
-use Rattle.jv_sound_arrays.proofs.laws_of_sound_numbers.LongConstants.{pool_long_ok}
-use Rattle.jv_sound_arrays.proofs.laws_of_sound_members.Constants.{pool_constant_ok}
-use Rattle.jv_sound_arrays.proofs.Lengths.{array_length_ok}
-use Rattle.jv_sound_arrays.proofs.ArrayLoads.{array_load_ok, reference_array_load_ok}
-use Rattle.jv_sound_arrays.proofs.ArrayStores.{array_store_ok, reference_array_store_ok}
-use Rattle.jv_sound_arrays.proofs.NewArrays.{new_array_ok, new_reference_array_ok, new_multi_array_ok}
-use Rattle.jv_sound_arrays.proofs.Casts.{check_cast_ok, instance_of_ok}
-use Rattle.jv_sound_arrays.proofs.Throwing.{throw_ok}
-use Rattle.jv_sound_arrays.proofs.laws_of_sound_members.GetField.{get_field_ok}
-use Rattle.jv_sound_arrays.proofs.laws_of_sound_members.PutField.{put_field_ok}
-use Rattle.jv_sound_arrays.proofs.laws_of_sound_members.StaticFields.{get_static_ok, put_static_ok}
-use Rattle.jv_sound_construction.proofs.laws_of_sound_calls.StaticCalls.{invoke_static_ok}
-use Rattle.jv_sound_construction.proofs.laws_of_sound_calls.InstanceCalls.{IsRoot}
-use Rattle.jv_sound_construction.proofs.laws_of_sound_calls.VirtualCalls.{invoke_virtual_ok, invoke_interface_ok}
-use Rattle.jv_sound_construction.proofs.ConstructorCalls.{invoke_special_ok}
-use Rattle.jv_sound_construction.proofs.NewObjects.{new_ok}
-use Rattle.jv_sound_arrays.proofs.laws_of_sound_numbers.Ways.{Setting, IsSet, world_of, program_of, memory_of, context_of, here, By, Sound}
-use Rattle.jv_sound_arrays.proofs.laws_of_sound_numbers.Ways as ways
-use Rattle.jv_sound_arrays.proofs.laws_of_sound_memory.Memories.{loadable_of}
+use Rattle.jv_sound_steps.proofs.Leads.{target_there}
+use Rattle.jv_sound_world.proofs.Asked.{AreFormed, interfaces_are_static, concrete_have_code, constructor_rules, constructors_have_code, static_have_code}
+use Rattle.jv_sound_world.proofs.HostMethods.{built_in}
+use Rattle.jv_sound_world.proofs.Limits.{instruction_fits}
+use Rattle.jv_sound_world.proofs.Pools.{named_field_is_sort, named_method_has_sorts, string_has_units}
+use Rattle.jv_sound_world.proofs.SystemFacts as facts
+use Rattle.jv_sound_world.proofs.SystemFacts.{raised, link_error_is_thrown, object_has_none, out_of_memory_is_thrown, string_there_in, throwable_in, root_in}
+use Rattle.jv_sound_instructions.proofs.Pure as pure
+use Rattle.jv_sound_instructions.proofs.LocalInstructions.{load_ok, store_word_ok, store_long_ok}
+use Rattle.jv_sound_instructions.proofs.Branches.{has_targets, goto_ok, if_int_ok, if_ints_ok, if_null_ok, if_references_ok, table_switch_ok, lookup_switch_ok}
+use Rattle.jv_sound_instructions.proofs.StackForms.{stack_ok}
+use Rattle.jv_sound_instructions.proofs.Increments.{increment_ok}
+use Rattle.jv_sound_instructions.proofs.Returns.{return_value_ok, return_ok}
+use Rattle.jv_sound_instructions.proofs.LongConstants.{pool_long_ok}
+use Rattle.jv_sound_instructions.proofs.Constants.{pool_constant_ok}
+use Rattle.jv_sound_instructions.proofs.Lengths.{array_length_ok}
+use Rattle.jv_sound_instructions.proofs.ArrayLoads.{array_load_ok, reference_array_load_ok}
+use Rattle.jv_sound_instructions.proofs.ArrayStores.{array_store_ok, reference_array_store_ok}
+use Rattle.jv_sound_instructions.proofs.NewArrays.{new_array_ok, new_reference_array_ok, new_multi_array_ok}
+use Rattle.jv_sound_instructions.proofs.Casts.{check_cast_ok, instance_of_ok}
+use Rattle.jv_sound_instructions.proofs.Throwing.{throw_ok}
+use Rattle.jv_sound_instructions.proofs.GetField.{get_field_ok}
+use Rattle.jv_sound_instructions.proofs.PutField.{put_field_ok}
+use Rattle.jv_sound_instructions.proofs.StaticFields.{get_static_ok, put_static_ok}
+use Rattle.jv_sound_calls.proofs.StaticCalls.{invoke_static_ok}
+use Rattle.jv_sound_calls.proofs.InstanceCalls.{IsRoot}
+use Rattle.jv_sound_calls.proofs.VirtualCalls.{invoke_virtual_ok, invoke_interface_ok}
+use Rattle.jv_sound_calls.proofs.ConstructorCalls.{invoke_special_ok}
+use Rattle.jv_sound_calls.proofs.NewObjects.{new_ok}
+use Rattle.jv_sound_instructions.proofs.Ways.{Setting, IsSet, world_of, program_of, memory_of, context_of, here, By, Sound}
+use Rattle.jv_sound_instructions.proofs.Ways as ways
+use Rattle.jv_sound_values.proofs.Memories.{loadable_of}
 use Rattle.jv_sound_steps.proofs.Stepping.{rule_ok}
 
 -- what the machine throws in an instruction is among the classes of the system that are thrown

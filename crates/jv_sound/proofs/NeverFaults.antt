@@ -35,26 +35,26 @@ use Rattle.jv_sound_values.proofs.Taking.{and_parts}
 use Rattle.jv_meaning_machine.specs.Faults.{OrFault}
 use Rattle.jv_meaning_machine.specs.Objects.Object.{InstanceOf}
 use Rattle.jv_sound_values.specs.Effects.{IsThrown, ArePassed, AreEffects}
-use Rattle.jv_sound_steps.proofs.laws_of_sound_world.Asked.{AreFormed, tasks_ok, parameters_are_sorts, constructor_rules}
-use Rattle.jv_sound_steps.proofs.laws_of_sound_frames.Acting.{goes, enters, throws as throws_acts, raised as raised_acts, leaves, begins_one}
+use Rattle.jv_sound_world.proofs.Asked.{AreFormed, tasks_ok, parameters_are_sorts, constructor_rules}
+use Rattle.jv_sound_steps.proofs.Acting.{goes, enters, throws as throws_acts, raised as raised_acts, leaves, begins_one}
 use Rattle.jv_sound_steps.proofs.Beginning.{raise_ok, throw_ok, within_ok, begin_ok}
 use Rattle.jv_sound_steps.proofs.Catching.{catch_fits}
 use Rattle.jv_sound_steps.proofs.ConstructsActs.{constructs_acts}
-use Rattle.jv_sound_steps.proofs.laws_of_sound_frames.EnteringAbove.{Raises as RaisesFine, Throws as ThrowsFine, Begins as BeginsFine, WithinWords, FrameBegins}
+use Rattle.jv_sound_steps.proofs.EnteringAbove.{Raises as RaisesFine, Throws as ThrowsFine, Begins as BeginsFine, WithinWords, FrameBegins}
 use Rattle.jv_sound.proofs.Executing.{execute_ok}
-use Rattle.jv_sound_steps.proofs.laws_of_sound_frames.FirstFrame.{method_frame_ok}
-use Rattle.jv_sound_steps.proofs.laws_of_sound_frames.Frames.{IsThrownGood, AreCatching}
+use Rattle.jv_sound_steps.proofs.FirstFrame.{method_frame_ok}
+use Rattle.jv_sound_steps.proofs.Frames.{IsThrownGood, AreCatching}
 use Rattle.jv_sound_values.proofs.Heaps.{ready_any}
 use Rattle.jv_sound_steps.proofs.Initializing.{initialization_step_ok}
-use Rattle.jv_sound_steps.proofs.laws_of_sound_world.Judged.{judged_is_sound}
-use Rattle.jv_sound_arrays.proofs.laws_of_sound_memory.Memories.{exception_ok, loadable_of}
-use Rattle.jv_sound_steps.proofs.laws_of_sound_frames.Replacing.{unwinding_ok}
+use Rattle.jv_sound_world.proofs.Judged.{judged_is_sound}
+use Rattle.jv_sound_values.proofs.Memories.{exception_ok, loadable_of}
+use Rattle.jv_sound_steps.proofs.Replacing.{unwinding_ok}
 use Rattle.jv_sound_steps.proofs.SettingFields.{set_field_ok}
 use Rattle.jv_sound_steps.proofs.Start.{start_ok}
 use Rattle.jv_sound_steps.proofs.Stepping.{running_later, step_ok, alone_ok, is_ok}
-use Rattle.jv_sound_steps.proofs.laws_of_sound_world.SystemFacts.{raised, system_name, makeable, out_of_memory_is_thrown, throwable_is_plain, throwable_is_not_object, string_there_in}
-use Rattle.jv_sound_construction.proofs.laws_of_sound_files.Words.{slots_are_words}
-use Rattle.jv_sound_steps.proofs.laws_of_sound_world.WorldFacts.{world_is_formed}
+use Rattle.jv_sound_world.proofs.SystemFacts.{raised, system_name, makeable, out_of_memory_is_thrown, throwable_is_plain, throwable_is_not_object, string_there_in}
+use Rattle.jv_sound_world.proofs.Words.{slots_are_words}
+use Rattle.jv_sound_world.proofs.WorldFacts.{world_is_formed}
 use Rattle.jv_sound_values.specs.Sound.{IsSystemAccepted}
 use Rattle.jv_sound_system.proofs.InAnyWorld.{system_is_accepted}
 

@@ -30,7 +30,7 @@ use Rattle.jv_sound_values.specs.Effects.{IsReceiver, IsThrown}
 use Rattle.jv_sound_values.proofs.Types.{sort_item}
 use Rattle.jv_sound_values.proofs.Heaps.{moved, stack_later, locals_later, ready_later}
 use Rattle.jv_sound_calls.proofs.Copies.{replaced_locals}
-use Rattle.jv_sound_members.proofs.laws_of_sound_numbers.Ways.{Setting, IsSet, world_of, program_of, memory_of, context_of, here, Does, By, raised_names, stays, anyway}
+use Rattle.jv_sound_instructions.proofs.Ways.{Setting, IsSet, world_of, program_of, memory_of, context_of, here, Does, By, raised_names, stays, anyway}
 
 -- an object that cannot be used any more
 pub dropped_locals : (p : Place) (o : Option FrameType) (ts : List FrameType) (vs : List Value) → HasLocals p ts vs

@@ -47,11 +47,11 @@ use Rattle.jv_sound_values.proofs.Logic.{clash, then2, grouped, then_holds, foun
 use Rattle.jv_sound_values.proofs.Types.{sort_has_type}
 use Rattle.jv_sound_values.proofs.Subtypes.{instance_below, element_loadable}
 use Rattle.jv_sound_values.proofs.Taking.{taken_all, popped_ok}
-use Rattle.jv_sound_members.proofs.laws_of_sound_numbers.Pure.{agrees_from}
+use Rattle.jv_sound_instructions.proofs.Pure.{agrees_from}
 use Rattle.jv_sound_calls.proofs.Special.{special_enterable, special_received}
 use Rattle.jv_sound_values.proofs.Types.{usable_sort}
 use Rattle.jv_sound_calls.proofs.Handlers.{raises_any, raised_any, enters_ok, sorts_mapped}
-use Rattle.jv_sound_members.proofs.laws_of_sound_numbers.Ways.{Setting, IsSet, world_of, program_of, context_of, here, Does, By}
+use Rattle.jv_sound_instructions.proofs.Ways.{Setting, IsSet, world_of, program_of, context_of, here, Does, By}
 
 -- an instance method that is not abstract has code
 abbrev pub HasCode : Program → Type 0
@@ -186,7 +186,7 @@ module _ (x : Setting) (h : IsSet x) (coded : HasCode (program_of x)) (root : Lo
       (λ u same_target.
       subst (λ (u : MethodTarget). Does x insn (with_stack x.given (result_types descriptor.result ++ S))
       (Ok (
-        Rattle.jv_sound_members.proofs.laws_of_sound_numbers.Ways.memory_of x,
+        Rattle.jv_sound_instructions.proofs.Ways.memory_of x,
         Rattle.jv_meaning_machine.specs.Effects.Effect.Enters u.declared (Some id) arguments below,
       ))) (sym same_target)
       (enters_ok x h insn descriptor s.declared (Some id) arguments S below can.enterable falls (ap is_init can.name ∙ plain)

@@ -30,9 +30,9 @@ use Rattle.jv_meaning_machine.specs.Calls.{is_constant_for, call_target, call}
 use Rattle.jv_meaning_machine.specs.Effects.{Outcome, unless_error}
 use Rattle.jv_sound_values.proofs.Logic.{then1, found_holds, tested_holds}
 use Rattle.jv_sound_values.proofs.Subtypes.{above_is_named}
-use Rattle.jv_sound_members.proofs.ResolvedTypes.{IsResolvedArray, IsResolvedClass, resolved_text}
+use Rattle.jv_sound_instructions.proofs.ResolvedTypes.{IsResolvedArray, IsResolvedClass, resolved_text}
 use Rattle.jv_sound_calls.proofs.Handlers.{errs_any}
-use Rattle.jv_sound_members.proofs.laws_of_sound_numbers.Ways.{Setting, IsSet, world_of, context_of, By}
+use Rattle.jv_sound_instructions.proofs.Ways.{Setting, IsSet, world_of, context_of, By}
 
 -- ---- where a called method is declared
 

@@ -31,7 +31,7 @@ use Rattle.jv_meaning_typing.specs.Named.{class_components}
 use Rattle.jv_sound_values.specs.Values.{object_type}
 use Rattle.jv_sound_values.specs.Memory.{IsTypedObject}
 use Rattle.jv_sound_values.specs.Sound.{IsEnterable}
-use Rattle.jv_sound_members.proofs.laws_of_sound_memory.Members.{below_is_one}
+use Rattle.jv_sound_values.proofs.Members.{below_is_one}
 use Rattle.jv_sound_calls.proofs.Receiving.{IsAt, at_above, at_upward, run_enterable}
 
 module _ (program : Program) (rooted : IsRooted program.world) (current : Loaded)

@@ -34,11 +34,11 @@ use Rattle.jv_sound_values.specs.Calls.{write_type, read_type, IsHostMethod}
 use Rattle.jv_sound_values.proofs.Logic.{clash, then2, then_holds}
 use Rattle.jv_sound_values.proofs.Heaps.{same}
 use Rattle.jv_sound_values.proofs.Taking.{and_parts, taken_all}
-use Rattle.jv_sound_members.proofs.laws_of_sound_numbers.Pure.{agrees_from, one_ok, none_ok, int_ok}
-use Rattle.jv_sound_members.proofs.ResolvedTypes.{same_option}
+use Rattle.jv_sound_instructions.proofs.Pure.{agrees_from, one_ok, none_ok, int_ok}
+use Rattle.jv_sound_instructions.proofs.ResolvedTypes.{same_option}
 use Rattle.jv_sound_calls.proofs.Handlers.{once_any, lacks_any, enters_ok, sorts_mapped}
 use Rattle.jv_sound_calls.proofs.MethodUses.{called_there, called_declared, calling, target_ok, method_ok, asked}
-use Rattle.jv_sound_members.proofs.laws_of_sound_numbers.Ways.{Setting, IsSet, world_of, program_of, memory_of, context_of, here, Does, By, Sound, goes_ok, goes_with_ok}
+use Rattle.jv_sound_instructions.proofs.Ways.{Setting, IsSet, world_of, program_of, memory_of, context_of, here, Does, By, Sound, goes_ok, goes_with_ok}
 
 pub plain_name : (method : MethodUse) → has_plain_name method ≡ true → is_init method.reference.name ≡ false
 plain_name method e = not_true (is_init method.reference.name) (and_parts (not (is_init method.reference.name))

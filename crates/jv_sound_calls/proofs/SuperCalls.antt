@@ -44,12 +44,12 @@ use Rattle.jv_sound_values.specs.Sound.{AreSorts, IsResultSort, IsEnterable}
 use Rattle.jv_sound_values.proofs.Logic.{clash}
 use Rattle.jv_sound_values.proofs.Taking.{and_parts}
 use Rattle.jv_sound_calls.proofs.Special.{start_ok, special_enterable, special_received}
-use Rattle.jv_sound_members.proofs.Resolving.{IsNamedClass, named_class, resolved_class}
-use Rattle.jv_sound_members.proofs.ResolvedTypes.{same_option, reference_of_class}
+use Rattle.jv_sound_instructions.proofs.Resolving.{IsNamedClass, named_class, resolved_class}
+use Rattle.jv_sound_instructions.proofs.ResolvedTypes.{same_option, reference_of_class}
 use Rattle.jv_sound_calls.proofs.StaticCalls.{plain_name}
 use Rattle.jv_sound_calls.proofs.InstanceCalls.{HasCode, IsRoot, CanRun, no_static, of_root, call_instance_by, call_ok}
 use Rattle.jv_sound_calls.proofs.MethodUses.{calling, target_ok}
-use Rattle.jv_sound_members.proofs.laws_of_sound_numbers.Ways.{Setting, IsSet, world_of, program_of, context_of, By}
+use Rattle.jv_sound_instructions.proofs.Ways.{Setting, IsSet, world_of, program_of, context_of, By}
 
 -- a class flows to no array
 pub class_owner : (world : _) (x text : List ℕ) (owner : FrameType) → reference_type text ≡ Some owner

@@ -30,11 +30,11 @@ use Rattle.jv_meaning_machine.specs.Calls.{is_constant_for}
 use Rattle.jv_meaning_machine.specs.Initialization.{is_verified}
 use Rattle.jv_sound_values.specs.Sound.{AreSorts, IsResultSort}
 use Rattle.jv_sound_calls.proofs.Receiving.{run_enterable, run_received}
-use Rattle.jv_sound_members.proofs.ResolvedTypes.{reference_is_usable, same_option}
+use Rattle.jv_sound_instructions.proofs.ResolvedTypes.{reference_is_usable, same_option}
 use Rattle.jv_sound_calls.proofs.StaticCalls.{plain_name}
 use Rattle.jv_sound_calls.proofs.InstanceCalls.{HasCode, IsRoot, CanRun, IsClassOf, of_root, call_ok}
 use Rattle.jv_sound_calls.proofs.MethodUses.{calling, target_ok, method_ok, asked}
-use Rattle.jv_sound_members.proofs.laws_of_sound_numbers.Ways.{Setting, IsSet, world_of, program_of, By, Sound}
+use Rattle.jv_sound_instructions.proofs.Ways.{Setting, IsSet, world_of, program_of, By, Sound}
 
 module _ (x : Setting) (h : IsSet x) (coded : HasCode (program_of x)) (root : Loaded) (is_root : IsRoot (program_of x) root)
     (accepted_is_loadable : (l : Loaded) → class_named (world_of x) l.class.name ≡ Some l → IsTrue (is_verified (program_of x) l)

@@ -34,8 +34,8 @@ use Rattle.jv_sound_values.specs.Frames.Promise.{Again}
 use Rattle.jv_sound_values.specs.Effects.{stack_overflow, IsThrown}
 use Rattle.jv_sound_values.proofs.Logic.{holds, then_holds, found_holds}
 use Rattle.jv_sound_values.proofs.Heaps.{weaker}
-use Rattle.jv_sound_frames.proofs.Frames.{IsThrownGood, AreCatching, catching_of, catching_later, waiting_later, again}
-use Rattle.jv_sound_members.proofs.laws_of_sound_memory.Memories.{IsMade}
+use Rattle.jv_sound_steps.proofs.Frames.{IsThrownGood, AreCatching, catching_of, catching_later, waiting_later, again}
+use Rattle.jv_sound_values.proofs.Memories.{IsMade}
 
 pub one_loaded : (a b : Loaded) → Some a ≡ Some b → a ≡ b
 one_loaded a b e = cc

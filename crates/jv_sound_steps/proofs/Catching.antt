@@ -26,9 +26,9 @@ use Rattle.jv_meaning_machine.specs.Throws.{Thrown, catches, is_caught_as}
 use Rattle.jv_sound_values.specs.Values.{Heap, Place, Item, IsObject, object_type}
 use Rattle.jv_sound_values.specs.Sound.{IsChecked}
 use Rattle.jv_sound_values.proofs.Logic.{clash}
-use Rattle.jv_sound_frames.proofs.laws_of_sound_files.Formats.{chained}
+use Rattle.jv_sound_world.proofs.Formats.{chained}
 use Rattle.jv_sound_values.proofs.Subtypes.{class_below}
-use Rattle.jv_sound_frames.proofs.Frames.{IsThrownGood}
+use Rattle.jv_sound_steps.proofs.Frames.{IsThrownGood}
 
 module _ (program : Program) (rooted : IsRooted program.world) (next_starts : NextStarts) (stands_in_list : StandsInList) where
   pub catch_fits : (heap : Heap) (t : Thrown) (f : MethodFrame) (checked : IsChecked program f.method) (h : Handler) (type : FrameType)

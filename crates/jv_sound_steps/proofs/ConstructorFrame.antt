@@ -32,10 +32,10 @@ use Rattle.jv_sound_values.specs.Frames.{Holds, IsRunning, place_of}
 use Rattle.jv_sound_values.specs.Effects.{ArePassed}
 use Rattle.jv_sound_values.proofs.Logic.{clash, holds, then_holds}
 use Rattle.jv_sound_values.proofs.Heaps.{with_set, upd_same, get_set_same}
-use Rattle.jv_sound_frames.proofs.Leads.{begins}
-use Rattle.jv_sound_frames.proofs.Entering.{filled_ok, entered_ok}
-use Rattle.jv_sound_frames.proofs.FirstFrame.{first_there, sorts_are_items}
-use Rattle.jv_sound_frames.proofs.Frames.{arrives}
+use Rattle.jv_sound_steps.proofs.Leads.{begins}
+use Rattle.jv_sound_steps.proofs.Entering.{filled_ok, entered_ok}
+use Rattle.jv_sound_steps.proofs.FirstFrame.{first_there, sorts_are_items}
+use Rattle.jv_sound_steps.proofs.Frames.{arrives}
 
 -- an object on which an `<init>` is entered, in the heap behind that
 module _ (heap : Heap) (depth : ℕ) (id : ℕ) (i : Instance) (there : slice_get heap.objects id ≡ Some (InstanceOf i)) (d : Declared) where

@@ -31,14 +31,14 @@ use Rattle.jv_sound_values.specs.Sound.{AreSorts, IsEnterable, IsSound}
 use Rattle.jv_sound_values.specs.Frames.{Holds, place_of, IsRunning, IsCatching, Promise, promise_by, promise_of, Resumes, AreWaiting, AreVerified, HasMain, IsGood}
 use Rattle.jv_sound_values.specs.Frames.Promise.{Builds}
 use Rattle.jv_sound_values.specs.Effects.{AreEffects, ArePassed, IsUnderConstruction, begun_on}
-use Rattle.jv_sound_frames.proofs.EnteringAbove.{WithinWords, some_code}
+use Rattle.jv_sound_steps.proofs.EnteringAbove.{WithinWords, some_code}
 use Rattle.jv_sound_values.proofs.Logic.{holds, then_holds, found_holds}
 use Rattle.jv_sound_values.specs.Memory.{AreLoadable}
 use Rattle.jv_sound_values.proofs.Heaps.{later, weaker, fits_later, entries_later, ready_any}
-use Rattle.jv_sound_members.proofs.laws_of_sound_memory.Storing.{set_typed}
+use Rattle.jv_sound_values.proofs.Storing.{set_typed}
 use Rattle.jv_sound_steps.proofs.Begun.{begun_on_later}
 use Rattle.jv_sound_steps.proofs.ConstructorFrame.{constructor_frame_ok}
-use Rattle.jv_sound_frames.proofs.Frames.{resumed_ok, waiting_later}
+use Rattle.jv_sound_steps.proofs.Frames.{resumed_ok, waiting_later}
 
 -- what is passed is of its types in a later heap
 zip_later : (world : World) {n : ℕ} {a b : Heap} → IsLater n a b → (ts : List FrameType) (vs : List Value)

@@ -27,8 +27,8 @@ use Rattle.jv_sound_values.specs.Memory.{IsTypedMemory, AreLoadable}
 use Rattle.jv_sound_values.specs.Frames.{Holds, promise_of, Promise, IsBegun, IsRunnable, IsTask, string_array, AreWaiting, AreFrames, AreVerified, HasMain, IsGood}
 use Rattle.jv_sound_values.specs.Frames.Promise.{Again}
 use Rattle.jv_sound_values.proofs.Logic.{holds, then_holds, found_holds}
-use Rattle.jv_sound_frames.proofs.Frames.{AreCatching, again}
-use Rattle.jv_sound_frames.proofs.EnteringAbove.{Begins, WithinWords, FrameBegins, enter_ok}
+use Rattle.jv_sound_steps.proofs.Frames.{AreCatching, again}
+use Rattle.jv_sound_steps.proofs.EnteringAbove.{Begins, WithinWords, FrameBegins, enter_ok}
 use Rattle.jv_sound_steps.proofs.Beginning.{one_loaded}
 
 tasks_kept : (program : Program) (states : ClassStates) (tasks : List Task) → AllByRecursion (IsTask program) tasks

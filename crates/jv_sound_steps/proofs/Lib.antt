@@ -1,3 +1,12 @@
+pub mod Leads
+pub mod Frames
+pub mod Entering
+pub mod FirstFrame
+pub mod Room
+pub mod Replacing
+pub mod Unwinding
+pub mod EnteringAbove
+pub mod Acting
 pub mod Catching
 pub mod Beginning
 pub mod Initializing
@@ -7,5 +16,3 @@ pub mod Stepping
 pub mod Begun
 pub mod ConstructorFrame
 pub mod ConstructsActs
-pub use Rattle.jv_sound_frames.proofs as laws_of_sound_frames
-pub use Rattle.jv_sound_frames.proofs.laws_of_sound_world

@@ -24,13 +24,13 @@ use Rattle.jv_sound_values.specs.Values.{Heap, Fits, FitsDescribed, IsObject}
 use Rattle.jv_sound_values.specs.Memory.{IsTypedMemory, AreLoadable}
 use Rattle.jv_sound_values.specs.Frames.{Holds, AreWaiting, AreVerified, HasMain, IsGood, IsTask}
 use Rattle.jv_sound_values.specs.Frames.Promise.{Again}
-use Rattle.jv_sound_frames.proofs.EnteringAbove.{Throws}
+use Rattle.jv_sound_steps.proofs.EnteringAbove.{Throws}
 use Rattle.jv_sound_values.proofs.Logic.{holds, then_holds, found_holds}
-use Rattle.jv_sound_frames.proofs.Frames.{again, catching_of, waiting_later}
-use Rattle.jv_sound_members.proofs.laws_of_sound_memory.Memories.{IsMakeable}
-use Rattle.jv_sound_members.proofs.laws_of_sound_memory.Storing.{static_typed}
-use Rattle.jv_sound_members.proofs.Constants.{IsConstantIf, constant_ok}
-use Rattle.jv_sound_members.proofs.laws_of_sound_memory.Storing.{narrowed_fits}
+use Rattle.jv_sound_steps.proofs.Frames.{again, catching_of, waiting_later}
+use Rattle.jv_sound_values.proofs.Memories.{IsMakeable}
+use Rattle.jv_sound_values.proofs.Storing.{static_typed}
+use Rattle.jv_sound_instructions.proofs.Constants.{IsConstantIf, constant_ok}
+use Rattle.jv_sound_values.proofs.Storing.{narrowed_fits}
 
 module _ (program : Program) (rooted : IsRooted program.world) (next_starts : NextStarts) (stands_in_list : StandsInList)
     (string : Loaded) (there : class_named program.world string_name ≡ Some string) (makeable : IsMakeable program string)

@@ -38,12 +38,12 @@ use Rattle.jv_sound_values.specs.Memory.{IsTypedObject, IsTypedMemory}
 use Rattle.jv_sound_values.specs.Sound.{IsSound}
 use Rattle.jv_sound_values.specs.Frames.{Holds, AreVerified, HasMain, IsGood, IsRunnable, string_array}
 use Rattle.jv_sound_values.specs.Effects.{IsThrown}
-use Rattle.jv_sound_frames.proofs.EnteringAbove.{Raises, Begins}
+use Rattle.jv_sound_steps.proofs.EnteringAbove.{Raises, Begins}
 use Rattle.jv_sound_values.proofs.Logic.{clash, holds, then_holds, found_holds}
 use Rattle.jv_sound_values.proofs.Taking.{and_parts}
-use Rattle.jv_sound_members.proofs.laws_of_sound_memory.Memories.{described_fits, new_typed, IsMakeable}
-use Rattle.jv_sound_frames.proofs.laws_of_sound_world.SystemFacts.{with_guests, raised, makeable, system_verified}
-use Rattle.jv_sound_frames.proofs.laws_of_sound_world.Asked.{AreFormed, method_stands, needs_have_code}
+use Rattle.jv_sound_values.proofs.Memories.{described_fits, new_typed, IsMakeable}
+use Rattle.jv_sound_world.proofs.SystemFacts.{with_guests, raised, makeable, system_verified}
+use Rattle.jv_sound_world.proofs.Asked.{AreFormed, method_stands, needs_have_code}
 
 string_loadable : (guests : World) → has_loadable_element (with_guests guests) (class_components string_name).element ≡ true
 string_loadable guests = refl

@@ -25,7 +25,7 @@ use Rattle.jv_sound_values.specs.Frames.{Holds, place_of, IsRunning, promise_of,
 use Rattle.jv_sound_values.specs.Effects.{AreEffects}
 use Rattle.jv_sound_values.proofs.Logic.{Agrees, holds, then_holds, found_holds, used}
 use Rattle.jv_sound_values.proofs.Logic.{clash}
-use Rattle.jv_sound_frames.proofs.laws_of_sound_files.Formats.{chained}
+use Rattle.jv_sound_world.proofs.Formats.{chained}
 use Rattle.jv_sound_values.proofs.Heaps.{locals_later, stack_later, ready_later}
 
 -- a frame that runs can run in a later heap: so it can be executed again

@@ -8,11 +8,11 @@ use Rattle.jv_text.specs.declared.descriptor.FieldTypeOf.{FieldTypeOf}
 use Rattle.jv_text.specs.Types.{field_type_of}
 use Rattle.jv_text.specs.declared.descriptor.Element.{Element}
 use Rattle.jv_text.specs.declared.descriptor.Element.TheVariants as elements
-use Rattle.jv_meaning_machine.specs.of_frames.declared.verification.VerificationTypeOf.TheVariants as types
-use Rattle.jv_meaning_machine.specs.of_frames.Types.{FrameType, value_type}
-use Rattle.jv_meaning_machine.specs.of_meaning_world.World.{World}
-use Rattle.jv_meaning_machine.specs.of_meaning_world.Laws.Order.{IsBelow}
-use Rattle.jv_meaning_machine.specs.of_meaning_typing.Named.{current_type}
+use Rattle.jv_frames.specs.declared.verification.VerificationTypeOf.TheVariants as types
+use Rattle.jv_frames.specs.Types.{FrameType, value_type}
+use Rattle.jv_meaning_world.specs.World.{World}
+use Rattle.jv_meaning_world.specs.Laws.Order.{IsBelow}
+use Rattle.jv_meaning_typing.specs.Named.{current_type}
 use Rattle.jv_meaning_machine.specs.Values.{Value}
 use Rattle.jv_meaning_machine.specs.Values.Value.{Null, Reference}
 use Rattle.jv_meaning_machine.specs.Objects.{FieldKey, Content, Instance, Object, is_constructed, type_of_object}

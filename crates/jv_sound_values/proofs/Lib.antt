@@ -3,4 +3,7 @@ pub mod Types
 pub mod Heaps
 pub mod Taking
 pub mod Subtypes
-pub use Rattle.jv_meaning_machine.proofs.laws_of_meaning_world
+pub mod Memories
+pub mod Members
+pub mod Storing
+pub mod Literals

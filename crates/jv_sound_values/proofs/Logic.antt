@@ -1,8 +1,8 @@
 -- A rule of type checking and what the machine does, side by side.
 use Rattle.std.proofs.Common.{◌≡◌, Bool, true, false, Option, Some, None, Ok, Err, refl, subst}
 use Rattle.std.specs.Prelude.{⊤}
-use Rattle.jv_meaning_machine.specs.of_format.Format as rules
-use Rattle.jv_meaning_machine.specs.of_meaning_typing.Named.{when}
+use Rattle.jv_format.specs.Format as rules
+use Rattle.jv_meaning_typing.specs.Named.{when}
 use Rattle.jv_meaning_machine.specs.Faults as machine
 use Rattle.jv_meaning_machine.specs.Faults.{Fault, OrFault, found, tested}
 use Rattle.jv_sound_values.specs.Frames.{Holds}

@@ -7,28 +7,28 @@ use Rattle.std.proofs.lemmas.Bool.{or_cases}
 use Rattle.jv_text.specs.declared.descriptor.Element.{Element}
 use Rattle.jv_text.specs.declared.descriptor.Element.TheVariants as elements
 use Rattle.jv_text.specs.declared.descriptor.FieldTypeOf.{FieldTypeOf}
-use Rattle.jv_meaning_machine.specs.of_frames.declared.verification.VerificationTypeOf.TheVariants as types
-use Rattle.jv_meaning_machine.specs.of_frames.Types.{value_type, value_type_by}
-use Rattle.jv_meaning_machine.specs.of_meaning_world.World.{Loaded, World, class_named}
-use Rattle.jv_meaning_machine.specs.of_meaning_world.Above.{above}
-use Rattle.jv_meaning_machine.specs.of_meaning_world.Laws.Above.{IsWayUp}
-use Rattle.jv_meaning_machine.specs.of_meaning_world.Verdicts.{is_loadable, passes}
-use Rattle.jv_meaning_machine.proofs.laws_of_meaning_world.Up.{above_by_ways, super_is_named, same_name}
-use Rattle.jv_meaning_machine.proofs.laws_of_meaning_world.Order.{below_is_reflexive}
-use Rattle.jv_meaning_machine.proofs.laws_of_meaning_world.OrderAbove.{above_is_below}
-use Rattle.jv_meaning_machine.specs.of_meaning_world.Flow.{component_flows, extended, is_above_arrays}
-use Rattle.jv_meaning_machine.specs.of_meaning_world.Laws.Order.{IsBelow, IsRooted, names_interface, object_name, erased_name, erased_element, has_loadable_element, is_loadable_type}
+use Rattle.jv_frames.specs.declared.verification.VerificationTypeOf.TheVariants as types
+use Rattle.jv_frames.specs.Types.{value_type, value_type_by}
+use Rattle.jv_meaning_world.specs.World.{Loaded, World, class_named}
+use Rattle.jv_meaning_world.specs.Above.{above}
+use Rattle.jv_meaning_world.specs.Laws.Above.{IsWayUp}
+use Rattle.jv_meaning_world.specs.Verdicts.{is_loadable, passes}
+use Rattle.jv_meaning_world.proofs.Up.{above_by_ways, super_is_named, same_name}
+use Rattle.jv_meaning_world.proofs.Order.{below_is_reflexive}
+use Rattle.jv_meaning_world.proofs.OrderAbove.{above_is_below}
+use Rattle.jv_meaning_world.specs.Flow.{component_flows, extended, is_above_arrays}
+use Rattle.jv_meaning_world.specs.Laws.Order.{IsBelow, IsRooted, names_interface, object_name, erased_name, erased_element, has_loadable_element, is_loadable_type}
 use Rattle.jv_meaning_machine.specs.Objects.{Object, type_of_object, is_below, is_at_or_below, is_instance_of}
 use Rattle.jv_meaning_machine.specs.Objects.Object.{InstanceOf, ArrayWith}
 use Rattle.jv_sound_values.specs.Values.{object_type}
 use Rattle.jv_sound_values.proofs.Logic.{clash}
 
 -- what is above a class is found by its name
-pub above_is_named : (world : World) (class : Rattle.jv_meaning_machine.specs.of_class.Class.Class) (to : Loaded)
+pub above_is_named : (world : World) (class : Rattle.jv_class.specs.Class.Class) (to : Loaded)
     → Contains (above world class) to → class_named world to.class.name ≡ Some to
 above_is_named world class to h = let way = (above_by_ways world class to).0 h in by_way class way.0 way.1
   where
-    by_way : (c : Rattle.jv_meaning_machine.specs.of_class.Class.Class) (between : List Loaded) → IsWayUp world c between to
+    by_way : (c : Rattle.jv_class.specs.Class.Class) (between : List Loaded) → IsWayUp world c between to
         → class_named world to.class.name ≡ Some to
     by_way c [] w = super_is_named world c to w
     by_way c (b ∷ more) w = by_way b.class more w.1

@@ -4,12 +4,12 @@ use Rattle.std.specs.Prelude.{if◌then◌else◌}
 use Rattle.std.specs.List.{AllByRecursion, list_all}
 use mathlib.Core.List.{reverse_aux}
 use Rattle.std.proofs.lemmas.List.{reverse-reverse}
-use Rattle.jv_meaning_machine.specs.of_frames.Types.{FrameType}
-use Rattle.jv_meaning_machine.specs.of_code.declared.kinds.ValueKind.{ValueKind}
-use Rattle.jv_meaning_machine.specs.of_meaning_world.FrameFlow.{item_flows}
-use Rattle.jv_meaning_machine.specs.of_meaning_world.Laws.Order.{IsRooted}
-use Rattle.jv_meaning_machine.specs.of_meaning_typing.FrameChanges as rules
-use Rattle.jv_meaning_machine.specs.of_meaning_typing.FrameChanges.{is_of_kind, taken_of_kind, taken_as_all, taken_downward}
+use Rattle.jv_frames.specs.Types.{FrameType}
+use Rattle.jv_code.specs.declared.kinds.ValueKind.{ValueKind}
+use Rattle.jv_meaning_world.specs.FrameFlow.{item_flows}
+use Rattle.jv_meaning_world.specs.Laws.Order.{IsRooted}
+use Rattle.jv_meaning_typing.specs.FrameChanges as rules
+use Rattle.jv_meaning_typing.specs.FrameChanges.{is_of_kind, taken_of_kind, taken_as_all, taken_downward}
 use Rattle.jv_meaning_machine.specs.Faults.{tested, ◌>>=◌}
 use Rattle.jv_meaning_machine.specs.Faults.Fault.{TagFault}
 use Rattle.jv_meaning_machine.specs.Values.{Value, has_kind, has_type}

@@ -1,17 +1,17 @@
 -- Values of types: which kinds they have, and of which other types they are.
 use Rattle.std.proofs.lemmas.Bool.{eqb-true}
 use Rattle.std.proofs.Common.{◌≡◌, ℕ, true, ◌==◌, List, Some, Ok, refl, ap, subst, ◌∙◌}
-use Rattle.jv_meaning_machine.specs.of_frames.declared.verification.VerificationTypeOf.TheVariants as types
-use Rattle.jv_meaning_machine.specs.of_frames.declared.width.Width.TheVariants.{One, Two}
-use Rattle.jv_meaning_machine.specs.of_frames.Types.{FrameType}
-use Rattle.jv_meaning_machine.specs.of_code.declared.kinds.ValueKind.{ValueKind}
-use Rattle.jv_meaning_machine.specs.of_code.declared.kinds.ValueKind.TheVariants as kinds
-use Rattle.jv_meaning_machine.specs.of_meaning_world.World.{World}
-use Rattle.jv_meaning_machine.specs.of_meaning_world.Flow.{flows}
-use Rattle.jv_meaning_machine.specs.of_meaning_world.FrameFlow.{item_flows}
-use Rattle.jv_meaning_machine.specs.of_meaning_world.Laws.Order.{IsRooted, is_usable_reference}
-use Rattle.jv_meaning_machine.proofs.laws_of_meaning_world.Order.{below_is_kept}
-use Rattle.jv_meaning_machine.specs.of_meaning_typing.FrameChanges.{is_of_kind}
+use Rattle.jv_frames.specs.declared.verification.VerificationTypeOf.TheVariants as types
+use Rattle.jv_frames.specs.declared.width.Width.TheVariants.{One, Two}
+use Rattle.jv_frames.specs.Types.{FrameType}
+use Rattle.jv_code.specs.declared.kinds.ValueKind.{ValueKind}
+use Rattle.jv_code.specs.declared.kinds.ValueKind.TheVariants as kinds
+use Rattle.jv_meaning_world.specs.World.{World}
+use Rattle.jv_meaning_world.specs.Flow.{flows}
+use Rattle.jv_meaning_world.specs.FrameFlow.{item_flows}
+use Rattle.jv_meaning_world.specs.Laws.Order.{IsRooted, is_usable_reference}
+use Rattle.jv_meaning_world.proofs.Order.{below_is_kept}
+use Rattle.jv_meaning_typing.specs.FrameChanges.{is_of_kind}
 use Rattle.jv_meaning_machine.specs.Values.{Value, value_width, has_kind, has_type, is_reference_value}
 use Rattle.jv_meaning_machine.specs.Values.Value.{Int, Long, Null, Reference}
 use Rattle.jv_meaning_machine.specs.Objects.{Object}

@@ -3,7 +3,7 @@ use Rattle.std.specs.Prelude.{◌≡◌, ◌⊎◌, true, false, [], ◌∷◌, 
 use Rattle.jv_text.specs.declared.descriptor.Base.TheVariants as bases
 use Rattle.jv_text.specs.Descriptor.{MethodDescriptor}
 use Rattle.jv_text.specs.Types.{method_type_of}
-use Rattle.jv_meaning_machine.specs.of_meaning_world.Overriding.{Declared}
+use Rattle.jv_meaning_world.specs.Overriding.{Declared}
 use Rattle.jv_meaning_machine.specs.Arrays.{base_components}
 use Rattle.jv_meaning_machine.specs.Calls.{names_write}
 

@@ -4,18 +4,18 @@ use Rattle.std.specs.List.{Contains}
 use Rattle.jv_text.specs.Descriptor.{MethodDescriptor}
 use Rattle.jv_text.specs.Name.{is_init}
 use Rattle.jv_text.specs.Types.{method_type_of}
-use Rattle.jv_meaning_machine.specs.of_frames.declared.verification.VerificationTypeOf.TheVariants as types
-use Rattle.jv_meaning_machine.specs.of_frames.Types.{value_type}
-use Rattle.jv_meaning_machine.specs.of_frames.Frames.{Frame as TypesOf}
-use Rattle.jv_meaning_machine.specs.of_code.Insns.{Instruction}
-use Rattle.jv_meaning_machine.specs.of_code.Successors.{falls_through}
+use Rattle.jv_frames.specs.declared.verification.VerificationTypeOf.TheVariants as types
+use Rattle.jv_frames.specs.Types.{value_type}
+use Rattle.jv_frames.specs.Frames.{Frame as TypesOf}
+use Rattle.jv_code.specs.Insns.{Instruction}
+use Rattle.jv_code.specs.Successors.{falls_through}
 use Rattle.jv_sound_values.specs.Following.{IsSuccessor}
-use Rattle.jv_meaning_machine.specs.of_meaning_world.World.{Loaded, World, class_named}
-use Rattle.jv_meaning_machine.specs.of_meaning_world.Overriding.{Declared}
-use Rattle.jv_meaning_machine.specs.of_meaning_linking.Kind.{is_static_method}
-use Rattle.jv_meaning_machine.specs.of_meaning_world.Laws.Order.{IsBelow}
-use Rattle.jv_meaning_machine.specs.of_meaning_typing.Named.{class_type, current_type, throwable_type}
-use Rattle.jv_meaning_machine.specs.of_meaning_typing.Rule.{handler_frame}
+use Rattle.jv_meaning_world.specs.World.{Loaded, World, class_named}
+use Rattle.jv_meaning_world.specs.Overriding.{Declared}
+use Rattle.jv_meaning_linking.specs.Kind.{is_static_method}
+use Rattle.jv_meaning_world.specs.Laws.Order.{IsBelow}
+use Rattle.jv_meaning_typing.specs.Named.{class_type, current_type, throwable_type}
+use Rattle.jv_meaning_typing.specs.Rule.{handler_frame}
 use Rattle.jv_meaning_machine.specs.Objects.{Instance}
 use Rattle.jv_meaning_machine.specs.Objects.Object.{InstanceOf}
 use Rattle.jv_meaning_machine.specs.Values.{Value}

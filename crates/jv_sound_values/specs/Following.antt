@@ -1,8 +1,8 @@
 -- Where control goes from an instruction (JVMS 2.11.7, 4.10.1.9).
 use Rattle.std.specs.Prelude.{◌≡◌, ◌⊎◌, ℕ, ◌+◌, length, Some, IsTrue}
 use Rattle.std.specs.List.{Contains}
-use Rattle.jv_meaning_machine.specs.of_code.Insns.{Instruction, insn_bytes}
-use Rattle.jv_meaning_machine.specs.of_code.Successors.{falls_through, jump_targets}
+use Rattle.jv_code.specs.Insns.{Instruction, insn_bytes}
+use Rattle.jv_code.specs.Successors.{falls_through, jump_targets}
 
 -- control can go from an instruction at an offset to another offset, a throw to a handler aside
 abbrev pub IsSuccessor : ℕ → Instruction → ℕ → Type 0

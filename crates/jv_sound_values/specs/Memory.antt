@@ -2,12 +2,12 @@
 use Rattle.std.specs.Prelude.{◌≡◌, ℕ, List, map, Some, IsTrue, false, slice_get, codes}
 use Rattle.std.specs.List.{AllByRecursion, flat_map}
 use Rattle.jv_text.specs.declared.descriptor.FieldTypeOf.{FieldTypeOf}
-use Rattle.jv_meaning_machine.specs.of_frames.Types.{value_type}
-use Rattle.jv_meaning_machine.specs.of_meaning_world.World.{Loaded, World, class_named}
-use Rattle.jv_meaning_machine.specs.of_meaning_world.Verdicts.{is_loadable, is_interface}
-use Rattle.jv_meaning_machine.specs.of_meaning_linking.Layout.{instance_fields}
-use Rattle.jv_meaning_machine.specs.of_meaning_world.Laws.Order.{has_loadable_element, is_loadable_type}
-use Rattle.jv_meaning_machine.specs.of_meaning_typing.Named.{array_with, class_components, class_type, string_type}
+use Rattle.jv_frames.specs.Types.{value_type}
+use Rattle.jv_meaning_world.specs.World.{Loaded, World, class_named}
+use Rattle.jv_meaning_world.specs.Verdicts.{is_loadable, is_interface}
+use Rattle.jv_meaning_linking.specs.Layout.{instance_fields}
+use Rattle.jv_meaning_world.specs.Laws.Order.{has_loadable_element, is_loadable_type}
+use Rattle.jv_meaning_typing.specs.Named.{array_with, class_components, class_type, string_type}
 use Rattle.jv_meaning_machine.specs.Values.{Value}
 use Rattle.jv_meaning_machine.specs.Objects.{Instance, Object, key_of}
 use Rattle.jv_meaning_machine.specs.Objects.Object.{InstanceOf, ArrayWith}

@@ -3,20 +3,20 @@
 use Rattle.std.specs.Prelude.{◌≡◌, ⊤, ℕ, List, ◌++◌, map, Option, Some, None, IsSome, IsTrue, false, true}
 use Rattle.std.specs.List.{Contains, AllByRecursion}
 use Rattle.jv_text.specs.declared.descriptor.FieldTypeOf.{FieldTypeOf}
-use Rattle.jv_meaning_machine.specs.of_frames.declared.verification.VerificationTypeOf.TheVariants as types
-use Rattle.jv_meaning_machine.specs.of_frames.Types.{FrameType, value_type}
-use Rattle.jv_meaning_machine.specs.of_meaning_world.System.Classes.{system_classes}
-use Rattle.jv_meaning_machine.specs.of_class.Class.{Class, method_named}
-use Rattle.jv_meaning_machine.specs.of_meaning_world.World.{Loaded, World, class_named, loaded}
-use Rattle.jv_meaning_machine.specs.of_meaning_world.Laws.Above.{SystemStandsAlone}
-use Rattle.jv_meaning_machine.specs.of_meaning_world.Verdicts.{is_loadable}
-use Rattle.jv_meaning_machine.specs.of_meaning_world.Overriding.{Declared}
-use Rattle.jv_meaning_machine.specs.of_meaning_world.Laws.Order.{IsRooted}
-use Rattle.jv_meaning_machine.specs.of_meaning_typing.Environment.{Environment, IsEnvironment}
-use Rattle.jv_meaning_machine.specs.of_meaning_typing.Judgement.{AreTyped, IsVerdictOfClass}
-use Rattle.jv_meaning_machine.specs.of_meaning_typing.declared.verdict.Verdict.TheVariants.{Accepted}
-use Rattle.jv_meaning_machine.specs.of_meaning_typing.Typing.{Assignment, IsTyping}
-use Rattle.jv_meaning_machine.specs.of_frames.Frames.{PlacedFrame}
+use Rattle.jv_frames.specs.declared.verification.VerificationTypeOf.TheVariants as types
+use Rattle.jv_frames.specs.Types.{FrameType, value_type}
+use Rattle.jv_meaning_world.specs.System.Classes.{system_classes}
+use Rattle.jv_class.specs.Class.{Class, method_named}
+use Rattle.jv_meaning_world.specs.World.{Loaded, World, class_named, loaded}
+use Rattle.jv_meaning_world.specs.Laws.Above.{SystemStandsAlone}
+use Rattle.jv_meaning_world.specs.Verdicts.{is_loadable}
+use Rattle.jv_meaning_world.specs.Overriding.{Declared}
+use Rattle.jv_meaning_world.specs.Laws.Order.{IsRooted}
+use Rattle.jv_meaning_typing.specs.Environment.{Environment, IsEnvironment}
+use Rattle.jv_meaning_typing.specs.Judgement.{AreTyped, IsVerdictOfClass}
+use Rattle.jv_meaning_typing.specs.declared.verdict.Verdict.TheVariants.{Accepted}
+use Rattle.jv_meaning_typing.specs.Typing.{Assignment, IsTyping}
+use Rattle.jv_frames.specs.Frames.{PlacedFrame}
 use Rattle.jv_meaning_machine.specs.State.{Program, is_class_accepted}
 use Rattle.jv_meaning_machine.specs.Initialization.{is_verified}
 use Rattle.jv_meaning_machine.specs.Alone.{FindsInstructions}

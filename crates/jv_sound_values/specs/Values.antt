@@ -4,15 +4,15 @@ use Rattle.std.specs.Prelude.{◌≡◌, ⊤, ℕ, Bool, true, false, List, [], 
 use Rattle.jv_text.specs.declared.descriptor.FieldTypeOf.{FieldTypeOf}
 use Rattle.jv_text.specs.Name.{is_init}
 use Rattle.jv_text.specs.Types.{field_type_of}
-use Rattle.jv_meaning_machine.specs.of_frames.declared.verification.VerificationTypeOf.TheVariants as types
-use Rattle.jv_meaning_machine.specs.of_frames.declared.width.Width.{Width}
-use Rattle.jv_meaning_machine.specs.of_frames.declared.width.Width.TheVariants.{One, Two}
-use Rattle.jv_meaning_machine.specs.of_frames.Types.{FrameType, value_type}
-use Rattle.jv_meaning_machine.specs.of_meaning_world.World.{World}
-use Rattle.jv_meaning_machine.specs.of_meaning_world.Laws.Order.{IsBelow}
-use Rattle.jv_meaning_machine.specs.of_meaning_typing.Environment.{Environment, current_class, instruction_at}
-use Rattle.jv_meaning_machine.specs.of_meaning_typing.MemberRules.{class_of_new}
-use Rattle.jv_meaning_machine.specs.of_meaning_typing.Named.{current_type}
+use Rattle.jv_frames.specs.declared.verification.VerificationTypeOf.TheVariants as types
+use Rattle.jv_frames.specs.declared.width.Width.{Width}
+use Rattle.jv_frames.specs.declared.width.Width.TheVariants.{One, Two}
+use Rattle.jv_frames.specs.Types.{FrameType, value_type}
+use Rattle.jv_meaning_world.specs.World.{World}
+use Rattle.jv_meaning_world.specs.Laws.Order.{IsBelow}
+use Rattle.jv_meaning_typing.specs.Environment.{Environment, current_class, instruction_at}
+use Rattle.jv_meaning_typing.specs.MemberRules.{class_of_new}
+use Rattle.jv_meaning_typing.specs.Named.{current_type}
 use Rattle.jv_meaning_machine.specs.Values.{Value, value_width}
 use Rattle.jv_meaning_machine.specs.Values.Value.{Int, Long, Null, Reference, Half}
 use Rattle.jv_meaning_machine.specs.Objects.{FieldKey, Instance, Object, is_constructed, type_of_object}

@@ -37,9 +37,9 @@ use Rattle.jv_sound_values.specs.Frames.{IsConstantOf, HasUnits, IsRunnable, IsT
 use Rattle.jv_sound_values.proofs.Logic.{clash}
 use Rattle.jv_sound_values.proofs.Taking.{and_parts}
 use Rattle.jv_sound_values.proofs.Subtypes.{above_is_named}
-use Rattle.jv_sound_files.proofs.Words.{plain_sorts}
+use Rattle.jv_sound_world.proofs.Words.{plain_sorts}
 use Rattle.jv_meaning_machine.specs.Calls.{is_built_in}
-use Rattle.jv_sound_files.proofs.Formed.{field_test, method_test, code_test, constant_test, needs_code, value_is, initial_fits, plain_type, plain_method_type, init_test, clinit_test, is_void, HasText, IsInitialText, IsFormed, IsCoded, or_gives}
+use Rattle.jv_sound_world.proofs.Formed.{field_test, method_test, code_test, constant_test, needs_code, value_is, initial_fits, plain_type, plain_method_type, init_test, clinit_test, is_void, HasText, IsInitialText, IsFormed, IsCoded, or_gives}
 
 -- all classes of the world
 pub record AreFormed (program : Program) : Type 0 where
@@ -179,7 +179,7 @@ module _ (program : Program) (formed : AreFormed program) (named : (l : Loaded) 
       (clinit_test d.method) rest.1).0 in
       let last = and_parts (is_void (method_type_of d.method.descriptor)) (not (has d.method.access_flags acc_static))
       (and_parts (not (has d.by.class.access_flags acc_interface)) _ own).1 in
-      (last.0, Rattle.jv_sound_files.proofs.Formed.not_true (has d.method.access_flags acc_static) last.1)
+      (last.0, Rattle.jv_sound_world.proofs.Formed.not_true (has d.method.access_flags acc_static) last.1)
     where
       by_test : (b : Bool) → b ≡ true → (not b || (not (has d.by.class.access_flags acc_interface) &&
           (is_void (method_type_of d.method.descriptor) && not (has d.method.access_flags acc_static)))) ≡ true

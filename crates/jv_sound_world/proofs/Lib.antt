@@ -1,7 +1,11 @@
+pub mod Formats
+pub mod Bits
+pub mod Formed
+pub mod Pools
+pub mod Limits
+pub mod Words
 pub mod WorldFacts
 pub mod SystemFacts
 pub mod Asked
 pub mod HostMethods
 pub mod Judged
-pub use Rattle.jv_sound_files.proofs as laws_of_sound_files
-pub use Rattle.jv_sound_memory.proofs as laws_of_sound_memory

@@ -28,7 +28,7 @@ use Rattle.jv_sound_values.specs.Sound.{IsSound}
 use Rattle.jv_sound_values.specs.Effects.{stack_overflow, IsThrown}
 use Rattle.jv_sound_values.proofs.Logic.{clash}
 use Rattle.jv_sound_values.proofs.Taking.{and_parts}
-use Rattle.jv_sound_memory.proofs.Memories.{IsMakeable}
+use Rattle.jv_sound_values.proofs.Memories.{IsMakeable}
 use Rattle.jv_sound_world.proofs.Judged.{in_mapped, system_loadable}
 
 abbrev pub with_guests : World → World

@@ -17,7 +17,7 @@ use Rattle.jv_meaning_world.proofs.OrderChains.{all_at}
 use Rattle.jv_meaning_machine.specs.Alone.{Judged, IsJudged}
 use Rattle.jv_sound_values.proofs.Logic.{clash}
 use Rattle.jv_sound_values.proofs.Taking.{and_parts}
-use Rattle.jv_sound_files.proofs.Formed.{class_name_test, super_name_test, field_test, method_test, code_test, constant_test, HasText, IsInitialText, IsFormed, IsCoded, class_is_formed, at_indices}
+use Rattle.jv_sound_world.proofs.Formed.{class_name_test, super_name_test, field_test, method_test, code_test, constant_test, HasText, IsInitialText, IsFormed, IsCoded, class_is_formed, at_indices}
 use Rattle.jv_sound_world.proofs.Judged.{in_mapped}
 
 -- ---- the system's classes, computed

@@ -1,2 +1,0 @@
-//! Instructions on arrays, casts and athrow (JVMS 6.5), at a frame of their types. A private part of `jv_sound`.
-#![tactic(auto)]

@@ -1,1 +1,0 @@
-pub use Rattle.jv_meaning_world.specs as of_meaning_world
