@@ -1,0 +1,56 @@
+-- The command line (own), as a simple command of the library `clap`, which reads it:
+--     jvhost run [--cells N] [--words N] [--output N] [--quantum N] [--rounds N] [--stdin K] FOLDER...
+--     jvhost check FILE...
+use Rattle.std.specs.Prelude.{ℕ, true, List, Some, codes, pos}
+use Rattle.clap.specs.Lexer.{usize_max}
+use Rattle.clap.specs.Walk.{Rule}
+use Rattle.clap.specs.Simple.{App, new_app, new_rule, on_top, with_rule, with_subcommand}
+use Rattle.clap.specs.declared.builder.value_parser.ValueParser.TheVariants as parsers
+
+-- the largest number of 32 bits
+abbrev pub most_of_32_bits : ℕ
+most_of_32_bits = 4294967295
+
+-- the option `--NAME N`, with a number from `least` to `most`
+abbrev pub number_option : (name : List ℕ) → (least most : ℕ) → Rule
+number_option name least most = record (new_rule name) {
+  long = Some name;
+  value_names = 1;
+  parser = Some (parsers.Signed (pos least) (pos most));
+}
+
+-- one word or more, which have to be there
+abbrev pub one_or_more : (name : List ℕ) → Rule
+one_or_more name = record (new_rule name) {
+  range = Some (record { start_inclusive = 1; end_inclusive = usize_max });
+  value_names = 1;
+  required = true;
+}
+
+-- an option with a number of 32 bits, which is at least so much
+abbrev pub with_number : List ℕ → (least : ℕ) → App → App
+with_number name least line = with_rule line (number_option name least most_of_32_bits)
+
+-- with the budget of each guest
+abbrev pub with_budget : App → App
+with_budget line = with_number (codes "output") 0 (with_number (codes "words") 0 (with_number (codes "cells") 0 line))
+
+-- with how many steps each guest gets, and which is fed
+abbrev pub with_steps : App → App
+with_steps line =
+    with_rule (with_number (codes "rounds") 1 (with_number (codes "quantum") 1 line)) (number_option (codes "stdin") 1 64)
+
+abbrev pub run_line : App
+run_line = with_steps (with_budget (with_rule (new_app (codes "run")) (one_or_more (codes "folder"))))
+
+abbrev pub check_line : App
+check_line = with_rule (new_app (codes "check")) (one_or_more (codes "file"))
+
+-- one of the two commands has to be there; `--help` and `--version` are answered
+abbrev pub command_line : App
+command_line =
+    with_subcommand
+    (with_subcommand
+    (on_top (λ top. record top { has_version = true; subcommand_required = true }) (new_app (codes "jvhost")))
+    run_line.top)
+    check_line.top

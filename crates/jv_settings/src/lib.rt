@@ -1,0 +1,11 @@
+//! What the words of the command line ask for, by the definition that the library `clap` has of a simple command.
+#![tactic(auto)]
+
+mod asked;
+mod command_line;
+mod law;
+mod reading;
+
+pub use asked::{Numbers, Settings, usual_numbers};
+pub use law::word_rows;
+pub use reading::settings;

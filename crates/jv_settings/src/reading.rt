@@ -1,0 +1,132 @@
+//! What the words of the command line ask for.
+ghost use Rattle.std.specs.Prelude.{◌≡◌, [], IfErr, IfOk, map, string_bytes};
+ghost use Rattle.clap.specs.Words.{all_of, fault_of, found_of, one_of, rows_of};
+ghost use Rattle.jv_settings.specs.CommandLine.{command_line};
+ghost use Rattle.jv_settings.specs.Settings.{AreNames, IsAskedBy, IsAskedIn, IsRefused, asked_by, guest_in, number_or, numbers_in};
+
+use crate::asked::{Numbers, Settings, usual_numbers};
+use crate::command_line::command_line;
+use clap::error::ErrorKind;
+use clap::{ArgMatches, Error};
+use std::alloc::{AllocError, Global};
+
+/// The number of an option, from `least` to `most`, and the usual one where it isn't used; none where it is no such number.
+fn number_between(
+    found: &ArgMatches<'_>,
+    name: &str,
+    usual: u32,
+    least: u32,
+    most: u32,
+) -> Option<u32>
+    ensures { result ≡ number_or usual least most (one_of name.now (rows_of (found_of found.now))) }
+{
+    let Some(_) = found.get_str(name) else {
+        return Some(usual);
+    };
+    let Some(number) = found.get_one::<u32>(name) else {
+        return None;
+    };
+    if least <= number && number <= most {
+        Some(number)
+    } else {
+        None
+    }
+}
+
+/// The number of the guest that is fed, where one is; none where it is no such number.
+fn guest_in(found: &ArgMatches<'_>) -> Option<Option<u32>>
+    ensures { result ≡ guest_in (rows_of (found_of found.now)) }
+{
+    let Some(_) = found.get_str("stdin") else {
+        return Some(None);
+    };
+    let Some(number) = number_between(found, "stdin", 0, 1, 64) else {
+        return None;
+    };
+    Some(Some(number))
+}
+
+/// The numbers that the options of `run` say.
+fn numbers_in(found: &ArgMatches<'_>) -> Option<Numbers>
+    ensures { result ≡ numbers_in (rows_of (found_of found.now)) }
+{
+    let usual = usual_numbers();
+    let most = u32::MAX;
+    let cells = number_between(found, "cells", usual.cells, 0, most)?;
+    let words = number_between(found, "words", usual.words, 0, most)?;
+    let output = number_between(found, "output", usual.output, 0, most)?;
+    let quantum = number_between(found, "quantum", usual.quantum, 1, most)?;
+    let rounds = number_between(found, "rounds", usual.rounds, 1, most)?;
+    let stdin = guest_in(found)?;
+    Some(Numbers {
+        cells,
+        words,
+        output,
+        quantum,
+        rounds,
+        stdin,
+    })
+}
+
+/// The words of an argument that takes several, where it is used.
+fn names_in<'a>(
+    alloc: Global,
+    found: &ArgMatches<'a>,
+    name: &str,
+) -> Result<Option<Vec<&'a str>>, AllocError>
+    ensures { IfOk result (AreNames (all_of name.now (rows_of (found_of found.now)))) }
+{
+    match found.get_strs(name) {
+        Some(names) => Ok(Some(Vec::from_slice(alloc, names)?)),
+        None => Ok(None),
+    }
+}
+
+/// What a command asks for, by its name and its arguments; none where it has no such name, or no such numbers.
+fn asked_by<'a>(
+    alloc: Global,
+    command: &str,
+    found: &ArgMatches<'a>,
+) -> Result<Option<Settings<'a>>, AllocError>
+    ensures { IfOk result (IsAskedBy (asked_by (command.now, rows_of (found_of found.now)))) }
+{
+    if command == "run" {
+        let Some(numbers) = numbers_in(found) else {
+            return Ok(None);
+        };
+        Ok(names_in(alloc, found, "folder")?.map(|folders| Settings::Run(numbers, folders)))
+    } else if command == "check" {
+        Ok(names_in(alloc, found, "file")?.map(Settings::Check))
+    } else {
+        Ok(None)
+    }
+}
+
+/// What ends the program where words that the command line takes name no command with its numbers.
+fn nothing_asked(alloc: Global) -> Result<Error, AllocError> {
+    let mut line = command_line(alloc)?;
+    line.error(ErrorKind::ValueValidation, "a number is out of its range")
+}
+
+/// What the words ask for, of which the first is the program's own name (own): which command, with its numbers and names, as the
+/// library `clap` takes them from the words.
+///
+/// # Errors
+///
+/// Where `clap` refuses the words, of the kinds that its definition gives; where memory is short, of the kind `OutOfMemory`; and where
+/// the words ask for nothing.
+pub fn settings<'a>(alloc: Global, words: &'a [String]) -> Result<Settings<'a>, Error>
+    ensures ok { IfOk result (IsAskedIn (map string_bytes words.now)) }
+    ensures taken { IfOk result (λ _. fault_of command_line (map string_bytes words.now) ≡ []) }
+    ensures err { IfErr result (IsRefused (map string_bytes words.now)) }
+{
+    let line = command_line(alloc)?;
+    let matches = line.try_get_matches_from(words)?;
+    let Some((command, found)) = matches.subcommand() else {
+        return Err(nothing_asked(alloc)?);
+    };
+    let Some(settings) = asked_by(alloc, command, found)? else {
+        return Err(nothing_asked(alloc)?);
+    };
+    Ok(settings)
+}
