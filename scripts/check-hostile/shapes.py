@@ -546,6 +546,21 @@ def frames_in_turn(folder, scale):
     made.write(folder)
 
 
+def branches_in_turn(folder, scale):
+    """8,000 branches from 65,535 ints to 40 frames in turn, each with an entry less."""
+    made = ClassFile("Main")
+    made.main()
+    count = scaled(scale, 8000)
+    at = 1 + 4 * count
+    code = bytes([177])
+    for k in range(count):
+        code += bytes([3, 153]) + struct.pack(">h", at + k % 40 - (2 + 4 * k))
+    code += bytes([177]) * 40
+    spelled = full(1, [INT] * 65535, []) + u1(250) + u2(at - 2) + (u1(250) + u2(0)) * 39
+    made.method(9, "branches", "()V", 1, 65535, code, b"", (41, spelled))
+    made.write(folder)
+
+
 def new_branches(folder, scale):
     """8,000 objects that are not initialized on the stack, and 3,000 branches with them."""
     made = ClassFile("Main")
@@ -602,8 +617,8 @@ SHAPES = [
     long_references, short_references, used_references, interface_often, long_methods, long_methods_final, long_fields, methods_below_final,
     classes_below_final, blank_frames, int_frames, int_frames_and_stores, int_stores, int_switch, handlers_at_front, handlers_and_frames,
     handlers_over_all, handlers_apart, handlers_and_stores, new_popped, new_left, new_made, no_package, interface_entries, supers_chain,
-    supers_diamond, supers_dense, many_finals, branches_apart, stack_branches, switch_apart, stores_apart, frames_in_turn, new_branches,
-    interfaces_long, interfaces_before, catches_long,
+    supers_diamond, supers_dense, many_finals, branches_apart, stack_branches, switch_apart, stores_apart, frames_in_turn,
+    branches_in_turn, new_branches, interfaces_long, interfaces_before, catches_long,
 ]
 
 

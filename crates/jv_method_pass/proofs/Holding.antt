@@ -74,17 +74,23 @@ one_not world xs ys (p ∷ written) h = by_test (flows_at world xs ys p) refl (�
     by_test false t more = not_at world xs ys p t
     by_test true t more = more (sym (ap (λ b. b && list_all (flows_at world xs ys) written) t) ∙ h)
 
+-- all flow where those at some places do, and all others are known to
+pub flow_at_places : (world : World) (locals held : List FrameType) (places : List ℕ) → length locals ≡ length held
+    → ((k : ℕ) → is_written places k ≡ false → flows_at world locals held k ≡ true) → list_all (flows_at world locals held) places ≡ all_flow (flows world) locals held
+flow_at_places world locals held places many others = by_test (list_all (flows_at world locals held) places) refl
+  where
+    by_place : (k : ℕ) (b : Bool) → is_written places k ≡ b → list_all (flows_at world locals held) places ≡ true → flows_at world locals held k ≡ true
+    by_place k true e all = one_written (flows_at world locals held) places k all e
+    by_place k false e all = others k e
+
+    by_test : (b : Bool) → list_all (flows_at world locals held) places ≡ b → b ≡ all_flow (flows world) locals held
+    by_test true e = sym (all_at world locals held many (λ k. by_place k (is_written places k) refl e))
+    by_test false e = sym (one_not world locals held places e)
+
 pub flow_where_written : (world : World) (locals held : List FrameType) (written : List ℕ) → length locals ≡ length held → AreSameBut written held locals
     → list_all (flows_at world locals held) written ≡ all_flow (flows world) locals held
-flow_where_written world locals held written many same = by_test (list_all (flows_at world locals held) written) refl
-  where
-    by_place : (k : ℕ) (b : Bool) → is_written written k ≡ b → list_all (flows_at world locals held) written ≡ true → flows_at world locals held k ≡ true
-    by_place k true e all = one_written (flows_at world locals held) written k all e
-    by_place k false e all = ap (λ o. both_flow world o (slice_get held k)) (same k e) ∙ itself world (slice_get held k)
-
-    by_test : (b : Bool) → list_all (flows_at world locals held) written ≡ b → b ≡ all_flow (flows world) locals held
-    by_test true e = sym (all_at world locals held many (λ k. by_place k (is_written written k) refl e))
-    by_test false e = sym (one_not world locals held written e)
+flow_where_written world locals held written many same =
+    flow_at_places world locals held written many (λ k e. ap (λ o. both_flow world o (slice_get held k)) (same k e) ∙ itself world (slice_get held k))
 
 -- ---- what was written is put back
 
@@ -119,7 +125,7 @@ set_elsewhere (y ∷ xs) zero (suc k) x e = refl
 set_elsewhere (y ∷ xs) (suc i) zero x e = refl
 set_elsewhere (y ∷ xs) (suc i) (suc k) x e = set_elsewhere xs i k x (λ same. e (ap suc same))
 
-past_none : {X : Type 0} (xs : List X) (k : ℕ) → length xs ≤ k → slice_get xs k ≡ None
+pub past_none : {X : Type 0} (xs : List X) (k : ℕ) → length xs ≤ k → slice_get xs k ≡ None
 past_none [] zero le = refl
 past_none [] (suc k) le = refl
 past_none (x ∷ xs) zero le = absurd (omega (arith, le))
@@ -130,7 +136,7 @@ none_past [] k e = omega arith
 none_past (x ∷ xs) zero e = absurd cc
 none_past (x ∷ xs) (suc k) e = omega (arith, none_past xs k e)
 
-within : {X : Type 0} (xs : List X) (k : ℕ) (x : X) → slice_get xs k ≡ Some x → k < length xs
+pub within : {X : Type 0} (xs : List X) (k : ℕ) (x : X) → slice_get xs k ≡ Some x → k < length xs
 within [] zero x e = absurd cc
 within [] (suc k) x e = absurd cc
 within (y ∷ xs) zero x e = omega arith
@@ -164,7 +170,7 @@ set_typed names [] (suc place) item = refl
 set_typed names (x ∷ items) zero item = refl
 set_typed names (x ∷ items) (suc place) item = ap (λ ts. typed names x ∷ ts) (set_typed names items place item)
 
-typed_many : (names : List (List ℕ)) (xs ys : List Item) → length xs ≡ length ys → length (typed_all names xs) ≡ length (typed_all names ys)
+pub typed_many : (names : List (List ℕ)) (xs ys : List Item) → length xs ≡ length ys → length (typed_all names xs) ≡ length (typed_all names ys)
 typed_many names xs ys e = length-map xs (typed names) ∙ (e ∙ sym (length-map ys (typed names)))
 
 put_back_typed : (names : List (List ℕ)) (held locals : List Item) (place : ℕ) (rest : List ℕ) → length locals ≡ length held

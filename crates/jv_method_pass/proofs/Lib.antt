@@ -11,6 +11,7 @@ pub mod Holding
 pub mod MapFrames
 pub mod Opened
 pub mod Passing
+pub mod Reaching
 pub mod SameTypes
 pub mod Settings
 pub mod Shared

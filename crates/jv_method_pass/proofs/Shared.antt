@@ -1,5 +1,5 @@
--- Frames of the map that have the local entries of the one before.
-use Rattle.std.proofs.Common.{◌≡◌, ℕ, zero, suc, ◌-◌, ◌<◌, Bool, true, ◌&&◌, List, [], ◌∷◌, take, Option, Some, None, refl, sym, ap, ◌∙◌, arith, is_some}
+-- Frames of the map that have the local entries of one before.
+use Rattle.std.proofs.Common.{◌≡◌, ℕ, zero, suc, ◌<◌, Bool, true, ◌&&◌, List, [], ◌∷◌, take, Option, Some, None, refl, sym, ap, ◌∙◌, arith, is_some}
 use Rattle.std.specs.Prelude.{slice_get}
 use Rattle.std.specs.List.{list_all}
 use Rattle.std.specs.Option.{option_map}
@@ -27,10 +27,10 @@ one_there xs k x y e f = of_some (sym e ∙ f)
 
 pub made_before : (env : Environment) (frames : List ReadFrame) (place : ℕ) (f : ReadFrame) → list_all (frame_stands env) (take place frames) ≡ true → SharesBefore frames place
     → slice_get frames place ≡ Some f → true ≡ list_all (is_made_by_new env) f.locals
-made_before env frames place f before shares at = by_frame (slice_get frames (place - 1)) refl
+made_before env frames place f before shares at = by_frame (slice_get frames shares.0) refl
   where
-    there : option_map locals_in (slice_get frames (place - 1)) ≡ Some f.locals
-    there = shares.1 ∙ ap (option_map locals_in) at
+    there : option_map locals_in (slice_get frames shares.0) ≡ Some f.locals
+    there = shares.2 ∙ ap (option_map locals_in) at
 
     of_some : (a b : List FrameEntry) → Some a ≡ Some b → a ≡ b
     of_some a b e = cc
@@ -38,10 +38,10 @@ made_before env frames place f before shares at = by_frame (slice_get frames (pl
     none_some : (b : List FrameEntry) → None ≡ Some b → ⊥
     none_some b e = cc
 
-    by_frame : (o : Option ReadFrame) → slice_get frames (place - 1) ≡ o → true ≡ list_all (is_made_by_new env) f.locals
+    by_frame : (o : Option ReadFrame) → slice_get frames shares.0 ≡ o → true ≡ list_all (is_made_by_new env) f.locals
     by_frame None e = absurd (none_some f.locals (sym (ap (option_map locals_in) e) ∙ there))
     by_frame (Some g) e =
-        let stands : frame_stands env g ≡ true = passes_before (frame_stands env) frames place (place - 1) g before (omega (arith, shares.0)) e in
+        let stands : frame_stands env g ≡ true = passes_before (frame_stands env) frames place shares.0 g before shares.1 e in
         let parts = both (is_some (instruction_at env g.offset)) (list_all (is_made_by_new env) g.locals && list_all (is_made_by_new env) g.stack) stands in
         let made = both (list_all (is_made_by_new env) g.locals) (list_all (is_made_by_new env) g.stack) parts.1 in
         sym (ap (list_all (is_made_by_new env)) (sym (of_some g.locals f.locals (sym (ap (option_map locals_in) e) ∙ there))) ∙ made.0)

@@ -4,5 +4,6 @@ pub mod Kept
 pub mod Locals
 pub mod Opening
 pub mod Parts
+pub mod Reached
 pub mod Settled
 pub mod Walk

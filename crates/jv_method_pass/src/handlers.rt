@@ -12,10 +12,12 @@ ghost use Rattle.jv_types.specs.Numbered.{frame_of};
 ghost use Rattle.jv_method_pass.specs.Pass.{IsOfPass, maps_of, names_in};
 ghost use Rattle.jv_method_pass.specs.Inside.Held.{IsHeld};
 ghost use Rattle.jv_method_pass.specs.Inside.Opening.{passes_at};
+ghost use Rattle.jv_method_pass.specs.Inside.Reached.{AreReached};
 ghost use Rattle.jv_method_pass.specs.Inside.Settled.{is_settled, unsettled_holds};
 
-use crate::held::{Held, thrown_flows_to_map};
+use crate::held::Held;
 use crate::pass::Pass;
+use crate::reached::{Reached, thrown_flows_to_map};
 use jv_format::Handler;
 use jv_types::{Item, TypeFrame};
 
@@ -23,15 +25,18 @@ use jv_types::{Item, TypeFrame};
 fn handles(
     pass: &Pass<'_, '_, '_, '_, '_>,
     held: &Held,
+    reached: &mut Reached,
     frame: &TypeFrame,
     object: Option<Item>,
     handler: Handler,
 ) -> bool
     requires locals { length frame.now.locals ≡ pass.now.max_locals }
     requires held { IsHeld pass.now held.now frame.now }
-    ensures { (env : Environment) (insn : Instruction) → IsOfPass pass.now env
+    requires reached { AreReached pass.now reached.old.frames.items }
+    ensures hold { (env : Environment) (insn : Instruction) → IsOfPass pass.now env
         → option_map (typed (names_in pass.now)) object ≡ constructed_object env insn (frame_of (names_in pass.now) frame.now)
         → result ≡ handles env (maps_of pass.now) (handler_frame env insn (frame_of (names_in pass.now) frame.now)) handler }
+    ensures reached { AreReached pass.now reached.new.frames.items }
 {
     let _types = &pass.types;
     let Some(thrown) = pass.catch_type(handler.catch_type) else {
@@ -39,7 +44,7 @@ fn handles(
     };
     match pass.map_at(u32::from(handler.handler_pc)) {
         Some((place, map)) => {
-            thrown_flows_to_map(pass, held, frame, object, thrown, place, &map)
+            thrown_flows_to_map(pass, held, reached, frame, object, thrown, place, &map)
         }
         None => false,
     }
@@ -65,6 +70,7 @@ fn is_settled(settled: Option<u32>, handler: Handler) -> bool
 fn unsettled_holds(
     pass: &Pass<'_, '_, '_, '_, '_>,
     held: &Held,
+    reached: &mut Reached,
     frame: &TypeFrame,
     object: Option<Item>,
     settled: Option<u32>,
@@ -72,17 +78,20 @@ fn unsettled_holds(
 ) -> bool
     requires locals { length frame.now.locals ≡ pass.now.max_locals }
     requires held { IsHeld pass.now held.now frame.now }
-    ensures { (env : Environment) (insn : Instruction) → IsOfPass pass.now env
+    requires reached { AreReached pass.now reached.old.frames.items }
+    ensures hold { (env : Environment) (insn : Instruction) → IsOfPass pass.now env
         → option_map (typed (names_in pass.now)) object ≡ constructed_object env insn (frame_of (names_in pass.now) frame.now)
         → result ≡ unsettled_holds settled env (maps_of pass.now) insn (frame_of (names_in pass.now) frame.now) handler }
+    ensures reached { AreReached pass.now reached.new.frames.items }
 {
-    is_settled(settled, handler) || handles(pass, held, frame, object, handler)
+    is_settled(settled, handler) || handles(pass, held, reached, frame, object, handler)
 }
 
 /// Whether a handler covers no instruction at an offset, is settled, or what it begins with flows to the frame of the map there.
 fn handler_holds(
     pass: &Pass<'_, '_, '_, '_, '_>,
     held: &Held,
+    reached: &mut Reached,
     frame: &TypeFrame,
     object: Option<Item>,
     settled: Option<u32>,
@@ -91,17 +100,21 @@ fn handler_holds(
 ) -> bool
     requires locals { length frame.now.locals ≡ pass.now.max_locals }
     requires held { IsHeld pass.now held.now frame.now }
-    ensures { (env : Environment) (insn : Instruction) → IsOfPass pass.now env
+    requires reached { AreReached pass.now reached.old.frames.items }
+    ensures hold { (env : Environment) (insn : Instruction) → IsOfPass pass.now env
         → option_map (typed (names_in pass.now)) object ≡ constructed_object env insn (frame_of (names_in pass.now) frame.now)
         → result ≡ passes_at offset (unsettled_holds settled env (maps_of pass.now) insn (frame_of (names_in pass.now) frame.now)) handler }
+    ensures reached { AreReached pass.now reached.new.frames.items }
 {
-    !covers(handler, offset) || unsettled_holds(pass, held, frame, object, settled, handler)
+    !covers(handler, offset)
+        || unsettled_holds(pass, held, reached, frame, object, settled, handler)
 }
 
 /// Whether each of some handlers that covers an instruction, which constructs this object or none, is settled or holds.
 pub(crate) fn handlers_hold(
     pass: &Pass<'_, '_, '_, '_, '_>,
     held: &Held,
+    reached: &mut Reached,
     frame: &TypeFrame,
     object: Option<Item>,
     settled: Option<u32>,
@@ -110,13 +123,24 @@ pub(crate) fn handlers_hold(
 ) -> bool
     requires locals { length frame.now.locals ≡ pass.now.max_locals }
     requires held { IsHeld pass.now held.now frame.now }
-    ensures { (env : Environment) (insn : Instruction) → IsOfPass pass.now env
+    requires reached { AreReached pass.now reached.old.frames.items }
+    ensures hold { (env : Environment) (insn : Instruction) → IsOfPass pass.now env
         → option_map (typed (names_in pass.now)) object ≡ constructed_object env insn (frame_of (names_in pass.now) frame.now)
         → result ≡ list_all (passes_at offset
         (unsettled_holds settled env (maps_of pass.now) insn (frame_of (names_in pass.now) frame.now))) handlers.now }
+    ensures reached { AreReached pass.now reached.new.frames.items }
 {
     for k in 0..handlers.len() {
-        if !handler_holds(pass, held, frame, object, settled, offset, handlers[k]) {
+        if !handler_holds(
+            pass,
+            held,
+            reached,
+            frame,
+            object,
+            settled,
+            offset,
+            handlers[k],
+        ) {
             return false;
         }
     }

@@ -10,15 +10,15 @@ ghost use Rattle.jv_frames.specs.Entries.{locals_in};
 ghost use Rattle.jv_rules.specs.Laws.{is_beside, may_write};
 ghost use Rattle.jv_types.specs.Typed.{typed, typed_all};
 ghost use Rattle.jv_types.specs.Numbered.{Item, frame_of, with_flag, with_locals, with_stack};
-ghost use Rattle.jv_method_pass.specs.Mapped.{local_entry_words, expanded_entries, frame_by_types, flows_to_map, thrown_flows_to_map, names_of_types, stack_of, stack_flows_to, types_of_entries};
+ghost use Rattle.jv_method_pass.specs.Mapped.{expanded_entries, frame_by_types, names_of_types, stack_of, stack_flows_to, types_of_entries};
 ghost use Rattle.jv_method_pass.specs.Pass.{names_in, HasRoom};
 ghost use Rattle.jv_method_pass.specs.Inside.Held.{is_written, AreSameBut, HoldsLocals, IsHeldBy, IsHeld, Notes, Writes, flows_at, held_flag_flows, held_locals_flow, with_held_at};
 
 use crate::cover::mark;
 use crate::entries::EntryTypes;
-use crate::flowing::{frame_flows, stack_flows, thrown_flows, thrown_stack_flows};
+use crate::flowing::{stack_flows, thrown_stack_flows};
 use crate::pass::Pass;
-use crate::setting::{push_items, set_to_map};
+use crate::setting::set_to_map;
 use jv_code::{Insn, Invocation};
 use jv_frames::{MapFrame, VerificationTypeOf};
 use jv_rules::keeps_locals;
@@ -77,7 +77,12 @@ fn is_marked(marks: &[bool], place: u16) -> bool
 }
 
 /// Whether a local variable flows to what was held at its place.
-fn flows_at(names: &TypeNames<'_, '_>, frame: &TypeFrame, base: &TypeFrame, place: u16) -> bool
+pub(crate) fn flows_at(
+    names: &TypeNames<'_, '_>,
+    frame: &TypeFrame,
+    base: &TypeFrame,
+    place: u16,
+) -> bool
     ensures { result ≡ flows_at names.now.world (typed_all names.now.names frame.now.locals)
         (typed_all names.now.names base.now.locals) place }
 {
@@ -88,7 +93,7 @@ fn flows_at(names: &TypeNames<'_, '_>, frame: &TypeFrame, base: &TypeFrame, plac
 }
 
 /// Whether each local variable at these places flows to what was held there.
-fn all_flow_at(
+pub(crate) fn all_flow_at(
     names: &TypeNames<'_, '_>,
     frame: &TypeFrame,
     base: &TypeFrame,
@@ -113,7 +118,7 @@ fn put_back_at(frame: &mut TypeFrame, base: &TypeFrame, place: u16)
 }
 
 /// Puts back what was held at these places, which are all at which local variables differ from it.
-fn put_back(frame: &mut TypeFrame, base: &TypeFrame, places: &[u16])
+pub(crate) fn put_back(frame: &mut TypeFrame, base: &TypeFrame, places: &[u16])
     ensures locals { (names : List (List ℕ)) → length frame.old.locals ≡ length base.now.locals
         → AreSameBut places.now (typed_all names base.now.locals) (typed_all names frame.old.locals)
         → typed_all names frame.new.locals ≡ typed_all names base.now.locals }
@@ -162,7 +167,7 @@ fn is_same(one: Item, other: Item) -> bool
 }
 
 /// Whether two frames have one type at a place, by the numbers of names.
-fn is_same_at(frame: &TypeFrame, base: &TypeFrame, place: u16) -> bool
+pub(crate) fn is_same_at(frame: &TypeFrame, base: &TypeFrame, place: u16) -> bool
     ensures { IsTrue result → slice_get frame.now.locals place ≡ slice_get base.now.locals place }
 {
     match (frame.local(place), base.local(place)) {
@@ -186,8 +191,29 @@ impl Held {
         })
     }
 
+    /// The place of the frame that is held, where one is.
+    pub(crate) fn place(&self) -> Option<usize>
+        ensures { result ≡ self.now.place }
+    {
+        self.place
+    }
+
+    /// The frame that is held, as it was made.
+    pub(crate) fn base(&self) -> &TypeFrame
+        ensures { result.now ≡ self.now.base }
+    {
+        &self.base
+    }
+
+    /// Where local variables may have been written since.
+    pub(crate) fn written(&self) -> &[u16]
+        ensures { result.now ≡ self.now.written }
+    {
+        &self.written
+    }
+
     /// Whether the local entries of the frame of the map at a place are those that are held.
-    fn is_of(&self, pass: &Pass<'_, '_, '_, '_, '_>, place: usize) -> bool
+    pub(crate) fn is_of(&self, pass: &Pass<'_, '_, '_, '_, '_>, place: usize) -> bool
         ensures { IsTrue result → (entries : List FrameEntry) (locals : List Item)
             → option_map locals_in (slice_get pass.now.frames place) ≡ Some entries
             → IsHeldBy pass.now self.now.place self.now locals → HoldsLocals pass.now entries self.now locals }
@@ -199,7 +225,7 @@ impl Held {
     }
 
     /// Whether no object is constructed, and the local entries of the frame of the map at a place are those that are held.
-    fn is_of_without(
+    pub(crate) fn is_of_without(
         &self,
         pass: &Pass<'_, '_, '_, '_, '_>,
         object: Option<Item>,
@@ -336,7 +362,12 @@ impl Held {
     }
 
     /// Whether a frame flows into a frame of the map whose local entries are held.
-    fn flows(&self, types: &EntryTypes<'_, '_, '_>, frame: &TypeFrame, map: &MapFrame<'_>) -> bool
+    pub(crate) fn flows(
+        &self,
+        types: &EntryTypes<'_, '_, '_>,
+        frame: &TypeFrame,
+        map: &MapFrame<'_>,
+    ) -> bool
         ensures { result ≡ (held_locals_flow types.now self.now frame.now
             && stack_flows_to types.now (stack_of types.now frame.now) map.now && held_flag_flows self.now frame.now) }
     {
@@ -345,7 +376,7 @@ impl Held {
 
     /// Whether the frame with which a handler begins, where no object is constructed, flows into a frame of the map whose local
     /// entries are held.
-    fn flows_thrown(
+    pub(crate) fn flows_thrown(
         &self,
         types: &EntryTypes<'_, '_, '_>,
         frame: &TypeFrame,
@@ -361,7 +392,7 @@ impl Held {
     }
 
     /// Makes the local variables and the flag of a frame those that are held.
-    fn put_back(&self, frame: &mut TypeFrame)
+    pub(crate) fn put_back(&self, frame: &mut TypeFrame)
         ensures locals { (names : List (List ℕ)) → length frame.old.locals ≡ length self.now.base.locals
             → AreSameBut self.now.written (typed_all names self.now.base.locals) (typed_all names frame.old.locals)
             → typed_all names frame.new.locals ≡ typed_all names self.now.base.locals }
@@ -370,6 +401,17 @@ impl Held {
     {
         put_back(frame, &self.base, &self.written);
         frame.set_flag(self.base.flag_this_uninit());
+    }
+
+    /// None of so many local variables was written.
+    fn clear_written(&mut self, count: u16) -> Result<(), AllocError>
+        ensures base { self.new.base ≡ self.old.base }
+        ensures written { OnOk result (self.new.written ≡ []) }
+    {
+        self.marks.clear();
+        self.written.clear();
+        self.marks.resize(usize::from(count), false)?;
+        Ok(())
     }
 
     /// Room for a frame of so many local variables, where none of them was written.
@@ -381,14 +423,36 @@ impl Held {
         if self.base.local_count() != usize::from(max_locals) {
             self.base = TypeFrame::new(self.alloc, max_locals)?;
         }
-        self.marks.clear();
-        self.written.clear();
-        self.marks.resize(usize::from(max_locals), false)?;
+        self.clear_written(max_locals)?;
+        Ok(())
+    }
+
+    /// Makes what is held the local variables and the flag of another frame of the map, at a place, which differ from it only at some
+    /// places.
+    pub(crate) fn change(
+        &mut self,
+        made: &TypeFrame,
+        other: &[u16],
+        place: usize,
+        count: u16,
+    ) -> Result<(), AllocError>
+        ensures locals { OnOk result ((names : List (List ℕ)) → length self.old.base.locals ≡ length made.now.locals
+            → AreSameBut other.now (typed_all names made.now.locals) (typed_all names self.old.base.locals)
+            → typed_all names self.new.base.locals ≡ typed_all names made.now.locals) }
+        ensures many { length self.new.base.locals ≡ length self.old.base.locals }
+        ensures flag { self.new.base.flag_this_uninit ≡ made.now.flag_this_uninit }
+        ensures place { OnOk result (self.new.place ≡ Some place) }
+        ensures written { OnOk result (self.new.written ≡ []) }
+    {
+        put_back(&mut self.base, made, other);
+        self.base.set_flag(made.flag_this_uninit());
+        self.clear_written(count)?;
+        self.place = Some(place);
         Ok(())
     }
 
     /// Holds the frame of the map at a place, if it has so many local entries that this is of use.
-    fn begin(
+    pub(crate) fn begin(
         &mut self,
         pass: &Pass<'_, '_, '_, '_, '_>,
         place: usize,
@@ -409,93 +473,4 @@ impl Held {
         self.place = Some(place);
         Ok(())
     }
-}
-
-/// Whether a frame flows into the frame of the map at a place.
-pub(crate) fn flows_to_map(
-    pass: &Pass<'_, '_, '_, '_, '_>,
-    held: &Held,
-    frame: &TypeFrame,
-    place: usize,
-    map: &MapFrame<'_>,
-) -> bool
-    requires at { slice_get pass.now.frames place ≡ Some map.now }
-    requires words { map.now.local_words ≡ local_entry_words pass.now.types map.now }
-    requires locals { length frame.now.locals ≡ pass.now.max_locals }
-    requires held { IsHeld pass.now held.now frame.now }
-    ensures { result ≡ flows_to_map pass.now.types frame.now map.now }
-{
-    if held.is_of(pass, place) {
-        held.flows(pass.types, frame, map)
-    } else {
-        frame_flows(pass.types, frame, map)
-    }
-}
-
-/// Whether the frame with which a handler begins flows into the frame of the map at a place.
-pub(crate) fn thrown_flows_to_map(
-    pass: &Pass<'_, '_, '_, '_, '_>,
-    held: &Held,
-    frame: &TypeFrame,
-    object: Option<Item>,
-    thrown: Item,
-    place: usize,
-    map: &MapFrame<'_>,
-) -> bool
-    requires at { slice_get pass.now.frames place ≡ Some map.now }
-    requires words { map.now.local_words ≡ local_entry_words pass.now.types map.now }
-    requires locals { length frame.now.locals ≡ pass.now.max_locals }
-    requires held { IsHeld pass.now held.now frame.now }
-    ensures { result ≡ thrown_flows_to_map pass.now.types frame.now object thrown map.now }
-{
-    if held.is_of_without(pass, object, place) {
-        held.flows_thrown(pass.types, frame, thrown, map)
-    } else {
-        thrown_flows(pass.types, frame, object, thrown, map)
-    }
-}
-
-/// Gives a frame the stack of a frame of the map.
-fn set_stack(
-    types: &EntryTypes<'_, '_, '_>,
-    frame: &mut TypeFrame,
-    map: &MapFrame<'_>,
-) -> Result<(), AllocError>
-    ensures stack { OnOk result (stack_of types.now frame.new ≡ types_of_entries types.now map.now.stack) }
-    ensures same { frame.new ≡ with_stack frame.new.stack frame.old }
-{
-    frame.clear_stack();
-    push_items(types, frame, map)?;
-    frame.turn_stack();
-    Ok(())
-}
-
-/// Makes a frame the frame of the map at a place.
-///
-/// # Errors
-///
-/// Where the host had no memory for its stack, or for what is held; the frame is then of no more use.
-pub(crate) fn set_frame(
-    pass: &Pass<'_, '_, '_, '_, '_>,
-    held: &mut Held,
-    frame: &mut TypeFrame,
-    place: usize,
-    map: &MapFrame<'_>,
-) -> Result<(), AllocError>
-    requires at { slice_get pass.now.frames place ≡ Some map.now }
-    requires room { HasRoom pass.now.types pass.now.max_locals map.now }
-    requires locals { length frame.old.locals ≡ pass.now.max_locals }
-    requires held { IsHeld pass.now held.old frame.old }
-    ensures ok { OnOk result (frame_of (names_in pass.now) frame.new ≡ frame_by_types pass.now.types pass.now.max_locals map.now) }
-    ensures same { length frame.new.locals ≡ pass.now.max_locals }
-    ensures held { OnOk result (IsHeld pass.now held.new frame.new) }
-{
-    if held.is_of(pass, place) {
-        held.put_back(frame);
-        set_stack(pass.types, frame, map)?;
-        return Ok(());
-    }
-    set_to_map(pass.types, frame, map)?;
-    held.begin(pass, place, map)?;
-    Ok(())
 }

@@ -12,6 +12,7 @@ mod held;
 mod maps;
 mod opening;
 mod pass;
+mod reached;
 mod setting;
 mod standing;
 mod step;

@@ -1,6 +1,6 @@
 //! A method whose code is checked.
 
-ghost use Rattle.std.specs.Prelude.{◌≡◌, ◌≤◌, ℕ, List, slice_get, Some, IfSome, IsTrue};
+ghost use Rattle.std.specs.Prelude.{◌≡◌, ◌≤◌, ◌<◌, ℕ, List, length, slice_get, Some, IfSome, IsTrue};
 ghost use Rattle.std.specs.List.{All};
 ghost use Rattle.std.specs.Option.{option_map};
 ghost use Rattle.jv_format.specs.Handlers.{handlers_of};
@@ -117,7 +117,8 @@ impl<'p, 'm, 'e, 't, 'a> Pass<'p, 'm, 'e, 't, 'a> {
 
     /// Whether two frames of the stack map are known to have the same local entries.
     pub(crate) fn share_locals(&self, place: usize, other: usize) -> bool
-        ensures { IsTrue result → option_map locals_in (slice_get self.now.frames place)
+        ensures there { IsTrue result → other < length self.now.frames }
+        ensures same { IsTrue result → option_map locals_in (slice_get self.now.frames place)
             ≡ option_map locals_in (slice_get self.now.frames other) }
     {
         let count = self.frames.count();

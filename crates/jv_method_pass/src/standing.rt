@@ -13,6 +13,12 @@ use jv_code::{Code, Insn, Starts};
 use jv_frames::{Entries, FrameEntry, MapFrame, MapFrames};
 use jv_meaning_typing::instruction_at_is;
 
+/// How many words of local entries a frame has at least that is looked for far before it.
+const MANY: u16 = 256;
+
+/// How far.
+const NEAR: usize = 64;
+
 /// The instruction that starts at an offset; `None` where none does.
 fn instruction_at<'a>(starts: &Starts<'_>, code: &Code<'a>, offset: u32) -> Option<Insn<&'a [u8]>>
     requires { starts.now ≡ code.now.bytes.now }
@@ -68,26 +74,39 @@ fn are_made_by_new(starts: &Starts<'_>, code: &Code<'_>, mut entries: Entries<'_
     true
 }
 
-/// Whether the frame at a place has the local entries of the one before it.
-fn shares_before(frames: &MapFrames, place: usize) -> bool
+/// How many frames before one are looked at for its local entries, where it has many.
+fn near(map: &MapFrame<'_>) -> usize {
+    if map.local_words() < MANY { 1 } else { NEAR }
+}
+
+/// Whether the frame at a place has the local entries of one of so many before it.
+fn shares_before(frames: &MapFrames, place: usize, near: usize) -> bool
     requires { place < length frames.now }
     ensures { IsTrue result → SharesBefore frames.now place }
 {
-    place > 0 && frames.share_locals(place - 1, place)
+    let first = place.saturating_sub(near);
+    let mut before = place;
+    while before > first {
+        before -= 1;
+        if frames.share_locals(before, place) {
+            return true;
+        }
+    }
+    false
 }
 
 /// Whether what is not initialized in the local entries of the frame at a place was made by a `new`, where the frames before it
-/// stand: the entries that the one before has, too, are not gone through again.
+/// stand: entries that one shortly before it has, too, are not gone through again.
 fn locals_are_made(starts: &Starts<'_>, code: &Code<'_>, frames: &MapFrames, place: usize) -> bool
     requires starts { starts.now ≡ code.now.bytes.now }
     requires place { place < length frames.now }
     ensures { (env : Environment) → HasCode code.now.bytes.now env → list_all (frame_stands env) (take place frames.now) ≡ true
         → (f : ReadFrame) → slice_get frames.now place ≡ Some f → result ≡ list_all (is_made_by_new env) f.locals }
 {
-    if shares_before(frames, place) {
+    let map = frames.frame_at(place);
+    if shares_before(frames, place, near(&map)) {
         return true;
     }
-    let map = frames.frame_at(place);
     are_made_by_new(starts, code, map.locals())
 }
 

@@ -10,14 +10,16 @@ ghost use Rattle.jv_method_pass.specs.Pass.{IsOfPass, maps_of, names_in, Tests};
 ghost use Rattle.jv_method_pass.specs.Inside.Cover.{IsCover};
 ghost use Rattle.jv_method_pass.specs.Inside.Held.{IsHeld};
 ghost use Rattle.jv_method_pass.specs.Inside.Opening.{AreOpenings};
+ghost use Rattle.jv_method_pass.specs.Inside.Reached.{AreReached};
 ghost use Rattle.jv_method_pass.specs.Inside.Settled.{AreSettled, AreSettledIn};
 ghost use Rattle.jv_method_pass.specs.Inside.Walk.{Reaches, IsStep, merged, when_falls, IsMerged};
 
 use crate::cover::{Cover, is_quiet};
 use crate::handlers::handlers_hold;
-use crate::held::{Held, flows_to_map, set_frame};
+use crate::held::Held;
 use crate::opening::Openings;
 use crate::pass::Pass;
+use crate::reached::{Reached, flows_to_map, set_frame};
 use crate::targets::targets_hold;
 use jv_code::{Insn, stands_in_list, starts_apart};
 use jv_meaning_typing::VerifyRule;
@@ -29,24 +31,27 @@ use std::alloc::AllocError;
 fn merge(
     pass: &Pass<'_, '_, '_, '_, '_>,
     held: &mut Held,
+    reached: &mut Reached,
     frame: &mut TypeFrame,
     falls: bool,
     offset: u32,
 ) -> Result<bool, AllocError>
     requires locals { length frame.old.locals ≡ pass.now.max_locals }
     requires held { IsHeld pass.now held.old frame.old }
+    requires reached { AreReached pass.now reached.old.frames.items }
     ensures merged { IsMerged pass.now offset falls frame.old frame.new result }
     ensures locals { length frame.new.locals ≡ pass.now.max_locals }
     ensures held { OnOk result (IsHeld pass.now held.new frame.new) }
+    ensures reached { AreReached pass.now reached.new.frames.items }
 {
     let _types = &pass.types;
     let Some((place, map)) = pass.map_at(offset) else {
         return Ok(falls);
     };
-    if falls && !flows_to_map(pass, held, frame, place, &map) {
+    if falls && !flows_to_map(pass, held, reached, frame, place, &map) {
         return Ok(false);
     }
-    set_frame(pass, held, frame, place, &map)?;
+    set_frame(pass, held, reached, frame, place, &map)?;
     Ok(true)
 }
 
@@ -81,6 +86,7 @@ fn is_handled(
     cover: &Cover,
     openings: &mut Openings,
     held: &Held,
+    reached: &mut Reached,
     frame: &TypeFrame,
     settled: Option<u32>,
     offset: u32,
@@ -91,8 +97,10 @@ fn is_handled(
     requires openings { AreOpenings pass.now openings.old }
     requires settled { AreSettledIn pass.now settled frame.now }
     requires held { IsHeld pass.now held.now frame.now }
+    requires reached { AreReached pass.now reached.old.frames.items }
     ensures hold { IfOk result (Tests pass.now (λ env maps f. handlers_hold env maps offset (instruction_of insn.now) f) frame.now) }
     ensures openings { openings.new.handlers ≡ openings.old.handlers }
+    ensures reached { AreReached pass.now reached.new.frames.items }
 {
     let object = constructed_object(pass.context, frame, insn);
     let settled = settled_without(object, settled);
@@ -101,7 +109,7 @@ fn is_handled(
     }
     openings.go_to(offset)?;
     let opened = openings.opened();
-    Ok(handlers_hold(pass, held, frame, object, settled, offset, opened))
+    Ok(handlers_hold(pass, held, reached, frame, object, settled, offset, opened))
 }
 
 /// Goes over an instruction, and answers the first rule that is broken there, if one is. The frame is what falls into the
@@ -111,6 +119,7 @@ pub(crate) fn step(
     cover: &Cover,
     openings: &mut Openings,
     held: &mut Held,
+    reached: &mut Reached,
     frame: &mut TypeFrame,
     falls: bool,
     settled: Option<u32>,
@@ -122,6 +131,7 @@ pub(crate) fn step(
     requires settled { AreSettledIn pass.now settled frame.old }
     requires openings { AreOpenings pass.now openings.old }
     requires held { IsHeld pass.now held.old frame.old }
+    requires reached { AreReached pass.now reached.old.frames.items }
     requires offset { offset < 65536 }
     requires method { (env : Environment) × IsOfPass pass.now env }
     ensures step { (env : Environment) → IsOfPass pass.now env → instruction_at env offset ≡ Some (instruction_of insn.now)
@@ -129,6 +139,7 @@ pub(crate) fn step(
         → IfOk result (IsStep env (maps_of pass.now) offset (instruction_of insn.now) (frame_of (names_in pass.now) frame.new)) }
     ensures locals { IfOk result (λ found. found ≡ None → length frame.new.locals ≡ pass.now.max_locals) }
     ensures held { IfOk result (λ found. found ≡ None → IsHeld pass.now held.new frame.new) }
+    ensures reached { AreReached pass.now reached.new.frames.items }
     ensures openings { openings.new.handlers ≡ openings.old.handlers }
     ensures settled { (env : Environment) → IsOfPass pass.now env → IsTrue (keeps_locals (instruction_of insn.now))
         → IfOk result (λ found. found ≡ None → AreSettled env (maps_of pass.now) (Some offset) (frame_of (names_in pass.now) frame.new)) }
@@ -138,18 +149,20 @@ pub(crate) fn step(
     keeps_local_count();
     leaves_locals();
     writes_there();
-    if !merge(pass, held, frame, falls, offset)? {
+    if !merge(pass, held, reached, frame, falls, offset)? {
         return Ok(Some(VerifyRule::Merge));
     }
     let settled = settled_at(pass, settled, offset);
-    if !is_handled(pass, cover, openings, held, frame, settled, offset, insn)? {
+    if !is_handled(
+        pass, cover, openings, held, reached, frame, settled, offset, insn,
+    )? {
         return Ok(Some(VerifyRule::CoveredHandler));
     }
     if !apply(pass.context, frame, offset as u16, insn)? {
         return Ok(Some(VerifyRule::Instruction));
     }
     held.note(frame, pass.max_locals, insn)?;
-    if !targets_hold(pass, held, frame, offset, insn) {
+    if !targets_hold(pass, held, reached, frame, offset, insn) {
         return Ok(Some(VerifyRule::BranchTarget));
     }
     Ok(None)

@@ -8,10 +8,12 @@ ghost use Rattle.jv_code.specs.Targets.{target_of};
 ghost use Rattle.jv_meaning_typing.specs.Typing.{flows_into, frame_at};
 ghost use Rattle.jv_method_pass.specs.Inside.Walk.{distance_holds, pair_holds, table_holds, all_hold, distances_of};
 ghost use Rattle.jv_method_pass.specs.Inside.Held.{IsHeld};
+ghost use Rattle.jv_method_pass.specs.Inside.Reached.{AreReached};
 ghost use Rattle.jv_method_pass.specs.Pass.{Tests};
 
-use crate::held::{Held, flows_to_map};
+use crate::held::Held;
 use crate::pass::Pass;
+use crate::reached::{Reached, flows_to_map};
 use jv_code::{Insn, first_distance, first_pair, target_of};
 use jv_types::TypeFrame;
 
@@ -19,16 +21,19 @@ use jv_types::TypeFrame;
 pub(crate) fn flows_into(
     pass: &Pass<'_, '_, '_, '_, '_>,
     held: &Held,
+    reached: &mut Reached,
     frame: &TypeFrame,
     offset: u32,
 ) -> bool
     requires locals { length frame.now.locals ≡ pass.now.max_locals }
     requires held { IsHeld pass.now held.now frame.now }
-    ensures { Tests pass.now (λ env maps f. flows_into env f (frame_at maps offset)) frame.now result }
+    requires reached { AreReached pass.now reached.old.frames.items }
+    ensures flows { Tests pass.now (λ env maps f. flows_into env f (frame_at maps offset)) frame.now result }
+    ensures reached { AreReached pass.now reached.new.frames.items }
 {
     let _types = &pass.types;
     match pass.map_at(offset) {
-        Some((place, map)) => flows_to_map(pass, held, frame, place, &map),
+        Some((place, map)) => flows_to_map(pass, held, reached, frame, place, &map),
         None => false,
     }
 }
@@ -37,16 +42,19 @@ pub(crate) fn flows_into(
 fn distance_holds(
     pass: &Pass<'_, '_, '_, '_, '_>,
     held: &Held,
+    reached: &mut Reached,
     frame: &TypeFrame,
     offset: u32,
     distance: i32,
 ) -> bool
     requires locals { length frame.now.locals ≡ pass.now.max_locals }
     requires held { IsHeld pass.now held.now frame.now }
-    ensures { Tests pass.now (λ env maps f. distance_holds env maps f offset distance) frame.now result }
+    requires reached { AreReached pass.now reached.old.frames.items }
+    ensures flows { Tests pass.now (λ env maps f. distance_holds env maps f offset distance) frame.now result }
+    ensures reached { AreReached pass.now reached.new.frames.items }
 {
     match target_of(offset, distance) {
-        Some(target) => flows_into(pass, held, frame, target),
+        Some(target) => flows_into(pass, held, reached, frame, target),
         None => false,
     }
 }
@@ -55,17 +63,21 @@ fn distance_holds(
 fn distances_hold(
     pass: &Pass<'_, '_, '_, '_, '_>,
     held: &Held,
+    reached: &mut Reached,
     frame: &TypeFrame,
     offset: u32,
     distances: &[u8],
 ) -> bool
     requires locals { length frame.now.locals ≡ pass.now.max_locals }
     requires held { IsHeld pass.now held.now frame.now }
-    ensures { Tests pass.now (λ env maps f. list_all (distance_holds env maps f offset) (distances_in distances.now)) frame.now result }
+    requires reached { AreReached pass.now reached.old.frames.items }
+    ensures flows { Tests pass.now (λ env maps f. list_all (distance_holds env maps f offset) (distances_in distances.now))
+        frame.now result }
+    ensures reached { AreReached pass.now reached.new.frames.items }
 {
     let mut left = distances;
     while let Some((distance, more)) = first_distance(left) {
-        if !distance_holds(pass, held, frame, offset, distance) {
+        if !distance_holds(pass, held, reached, frame, offset, distance) {
             return false;
         }
         left = more;
@@ -77,17 +89,20 @@ fn distances_hold(
 fn pairs_hold(
     pass: &Pass<'_, '_, '_, '_, '_>,
     held: &Held,
+    reached: &mut Reached,
     frame: &TypeFrame,
     offset: u32,
     pairs: &[u8],
 ) -> bool
     requires locals { length frame.now.locals ≡ pass.now.max_locals }
     requires held { IsHeld pass.now held.now frame.now }
-    ensures { Tests pass.now (λ env maps f. list_all (pair_holds env maps f offset) (pairs_in pairs.now)) frame.now result }
+    requires reached { AreReached pass.now reached.old.frames.items }
+    ensures flows { Tests pass.now (λ env maps f. list_all (pair_holds env maps f offset) (pairs_in pairs.now)) frame.now result }
+    ensures reached { AreReached pass.now reached.new.frames.items }
 {
     let mut left = pairs;
     while let Some(((_key, distance), more)) = first_pair(left) {
-        if !distance_holds(pass, held, frame, offset, distance) {
+        if !distance_holds(pass, held, reached, frame, offset, distance) {
             return false;
         }
         left = more;
@@ -99,6 +114,7 @@ fn pairs_hold(
 fn table_holds(
     pass: &Pass<'_, '_, '_, '_, '_>,
     held: &Held,
+    reached: &mut Reached,
     frame: &TypeFrame,
     offset: u32,
     default: i32,
@@ -106,16 +122,19 @@ fn table_holds(
 ) -> bool
     requires locals { length frame.now.locals ≡ pass.now.max_locals }
     requires held { IsHeld pass.now held.now frame.now }
-    ensures { Tests pass.now (λ env maps f. table_holds env maps f offset default (distances_in distances.now)) frame.now result }
+    requires reached { AreReached pass.now reached.old.frames.items }
+    ensures flows { Tests pass.now (λ env maps f. table_holds env maps f offset default (distances_in distances.now)) frame.now result }
+    ensures reached { AreReached pass.now reached.new.frames.items }
 {
-    distance_holds(pass, held, frame, offset, default)
-        && distances_hold(pass, held, frame, offset, distances)
+    distance_holds(pass, held, reached, frame, offset, default)
+        && distances_hold(pass, held, reached, frame, offset, distances)
 }
 
 /// Whether it flows to those of a lookupswitch.
 fn lookup_holds(
     pass: &Pass<'_, '_, '_, '_, '_>,
     held: &Held,
+    reached: &mut Reached,
     frame: &TypeFrame,
     offset: u32,
     default: i32,
@@ -123,32 +142,44 @@ fn lookup_holds(
 ) -> bool
     requires locals { length frame.now.locals ≡ pass.now.max_locals }
     requires held { IsHeld pass.now held.now frame.now }
-    ensures { Tests pass.now (λ env maps f. table_holds env maps f offset default (distances_of pairs.now)) frame.now result }
+    requires reached { AreReached pass.now reached.old.frames.items }
+    ensures flows { Tests pass.now (λ env maps f. table_holds env maps f offset default (distances_of pairs.now)) frame.now result }
+    ensures reached { AreReached pass.now reached.new.frames.items }
 {
-    distance_holds(pass, held, frame, offset, default)
-        && pairs_hold(pass, held, frame, offset, pairs)
+    distance_holds(pass, held, reached, frame, offset, default)
+        && pairs_hold(pass, held, reached, frame, offset, pairs)
 }
 
 /// Whether what an instruction leaves flows to a frame of the map at each of its targets.
 pub(crate) fn targets_hold(
     pass: &Pass<'_, '_, '_, '_, '_>,
     held: &Held,
+    reached: &mut Reached,
     frame: &TypeFrame,
     offset: u32,
     insn: &Insn<&[u8]>,
 ) -> bool
     requires locals { length frame.now.locals ≡ pass.now.max_locals }
     requires held { IsHeld pass.now held.now frame.now }
-    ensures { Tests pass.now (λ env maps f. all_hold env maps f offset (instruction_of insn.now)) frame.now result }
+    requires reached { AreReached pass.now reached.old.frames.items }
+    ensures flows { Tests pass.now (λ env maps f. all_hold env maps f offset (instruction_of insn.now)) frame.now result }
+    ensures reached { AreReached pass.now reached.new.frames.items }
 {
     match *insn {
-        Insn::Branch(_, distance) => distance_holds(pass, held, frame, offset, i32::from(distance)),
-        Insn::Goto(distance, _) => distance_holds(pass, held, frame, offset, distance),
+        Insn::Branch(_, distance) => distance_holds(
+            pass,
+            held,
+            reached,
+            frame,
+            offset,
+            i32::from(distance),
+        ),
+        Insn::Goto(distance, _) => distance_holds(pass, held, reached, frame, offset, distance),
         Insn::TableSwitch(_, default, _, _, distances) => {
-            table_holds(pass, held, frame, offset, default, distances)
+            table_holds(pass, held, reached, frame, offset, default, distances)
         }
         Insn::LookupSwitch(_, default, pairs) => {
-            lookup_holds(pass, held, frame, offset, default, pairs)
+            lookup_holds(pass, held, reached, frame, offset, default, pairs)
         }
         _ => true,
     }

@@ -9,6 +9,7 @@ ghost use Rattle.jv_method_pass.specs.Found.{IsFound};
 ghost use Rattle.jv_method_pass.specs.Inside.Cover.{IsCover};
 ghost use Rattle.jv_method_pass.specs.Inside.Held.{IsHeld};
 ghost use Rattle.jv_method_pass.specs.Inside.Opening.{AreOpenings};
+ghost use Rattle.jv_method_pass.specs.Inside.Reached.{AreReached};
 ghost use Rattle.jv_method_pass.specs.Inside.Walk.{IsFoundFrom};
 
 use crate::cover::{Cover, cover_of};
@@ -16,6 +17,7 @@ use crate::fault::CodeFault;
 use crate::held::Held;
 use crate::opening::Openings;
 use crate::pass::Pass;
+use crate::reached::Reached;
 use crate::setting::set_to_initial;
 use crate::step::step;
 use jv_code::{Insn, falls_through, stands_in_list, starts_apart};
@@ -41,12 +43,14 @@ fn walk(
     cover: &Cover,
     openings: &mut Openings,
     held: &mut Held,
+    reached: &mut Reached,
     frame: &mut TypeFrame,
 ) -> Result<Option<CodeFault>, AllocError>
     requires locals { length frame.old.locals ≡ pass.now.max_locals }
     requires cover { IsCover pass.now.handlers cover.now.begins.items cover.now.end }
     requires openings { AreOpenings pass.now openings.old }
     requires held { IsHeld pass.now held.old frame.old }
+    requires reached { AreReached pass.now reached.old.frames.items }
     requires method { (env : Environment) × IsOfPass pass.now env }
     ensures { IsFoundFrom pass.now frame.old result }
 {
@@ -60,7 +64,7 @@ fn walk(
     while offset < size {
         let (insn, next) = code.insn_at(offset);
         if let Some(rule) = step(
-            pass, cover, openings, held, frame, falls, settled, offset, &insn,
+            pass, cover, openings, held, reached, frame, falls, settled, offset, &insn,
         )? {
             return Ok(Some(CodeFault { offset, rule }));
         }
@@ -97,5 +101,13 @@ pub fn check_code(
     let cover = cover_of(alloc, pass.handlers, pass.context.code().size())?;
     let mut openings = Openings::of(alloc, pass.handlers)?;
     let mut held = Held::new(alloc)?;
-    walk(pass, &cover, &mut openings, &mut held, &mut frame)
+    let mut reached = Reached::new(alloc);
+    walk(
+        pass,
+        &cover,
+        &mut openings,
+        &mut held,
+        &mut reached,
+        &mut frame,
+    )
 }

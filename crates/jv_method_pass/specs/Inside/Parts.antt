@@ -1,5 +1,5 @@
 -- Parts of the rules on a method's tables.
-use Rattle.std.specs.Prelude.{◌≡◌, ◌<◌, ◌-◌, ℕ, Bool, true, ◌&&◌, List, Option, Some, None, is_some, slice_get}
+use Rattle.std.specs.Prelude.{◌≡◌, ◌<◌, ℕ, Bool, true, ◌&&◌, List, Option, Some, None, is_some, slice_get}
 use Rattle.std.specs.List.{list_all}
 use Rattle.std.specs.Option.{option_map}
 use Rattle.jv_frames.specs.declared.entry.FrameEntry.{FrameEntry}
@@ -33,10 +33,10 @@ abbrev pub frame_stands : Environment → ReadFrame → Bool
 frame_stands env f =
     is_some (instruction_at env f.offset) && (list_all (is_made_by_new env) f.locals && list_all (is_made_by_new env) f.stack)
 
--- the frame at a place has the local entries of the one before it
+-- the frame at a place has the local entries of one before it
 abbrev pub SharesBefore : List ReadFrame → ℕ → Type 0
 SharesBefore frames place =
-    (0 < place) × (option_map locals_in (slice_get frames (place - 1)) ≡ option_map locals_in (slice_get frames place))
+    (before : ℕ) × (before < place) × (option_map locals_in (slice_get frames before) ≡ option_map locals_in (slice_get frames place))
 
 -- the bytes spell these frames, or none
 abbrev pub IsSpelled : EntryTypes → Limits → List ℕ → Option (List ReadFrame) → Type 0

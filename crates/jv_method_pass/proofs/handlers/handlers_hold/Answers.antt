@@ -13,21 +13,24 @@ use Rattle.jv_method_pass.proofs.handlers.handlers_hold.Goals as goal
 abbrev any : Handler
 any = record { start_pc = 0; end_pc = 0; handler_pc = 0; catch_type = 0 }
 
-pub returns-then-not-handler_holds : goal.returns-then-not-handler_holds
-returns-then-not-handler_holds c = λ env insn is constructed.
+pub returns-then-not-handler_holds-clause-hold : goal.returns-then-not-handler_holds-clause-hold
+returns-then-not-handler_holds-clause-hold c = λ env insn is constructed.
     let pass = c.args.pass.now in
     let test : Handler → Bool = passes_at c.args.offset (unsettled_holds c.args.settled env (maps_of pass) insn (frame_of (names_in pass) c.args.frame.now)) in
-    sym (list_all_at test c.args.handlers.now c.loop-k.k any c.loop-k-test.true (sym (c.handler_holds.ensures env insn is constructed) ∙ c.if-not-handler_holds.true))
+    sym (list_all_at test c.args.handlers.now c.loop-k.k any c.loop-k-test.true (sym (c.handler_holds.ensures.hold env insn is constructed) ∙ c.if-not-handler_holds.true))
 
 pub loop-k-preserved : goal.loop-k-preserved
-loop-k-preserved c = λ env insn is constructed.
-    let pass = c.args.pass.now in
-    let test : Handler → Bool = passes_at c.args.offset (unsettled_holds c.args.settled env (maps_of pass) insn (frame_of (names_in pass) c.args.frame.now)) in
-    list_all_more test c.args.handlers.now c.loop-k.k any c.loop-k-test.true
-    ∙ joined _ _ (c.loop-k.invariant env insn is constructed) (sym (c.handler_holds.ensures env insn is constructed) ∙ c.if-not-handler_holds.false)
+loop-k-preserved c = (
+  λ env insn is constructed.
+      let pass = c.args.pass.now in
+      let test : Handler → Bool = passes_at c.args.offset (unsettled_holds c.args.settled env (maps_of pass) insn (frame_of (names_in pass) c.args.frame.now)) in
+      list_all_more test c.args.handlers.now c.loop-k.k any c.loop-k-test.true
+      ∙ joined _ _ (c.loop-k.invariant.0 env insn is constructed) (sym (c.handler_holds.ensures.hold env insn is constructed) ∙ c.if-not-handler_holds.false),
+  c.handler_holds.ensures.reached,
+)
 
-pub returns : goal.returns
-returns c = λ env insn is constructed.
+pub returns-clause-hold : goal.returns-clause-hold
+returns-clause-hold c = λ env insn is constructed.
     let pass = c.args.pass.now in
     let test : Handler → Bool = passes_at c.args.offset (unsettled_holds c.args.settled env (maps_of pass) insn (frame_of (names_in pass) c.args.frame.now)) in
-    sym (ap (list_all test) (sym (all_taken c.args.handlers.now c.loop-k.k (omega (arith, c.loop-k-test.false)))) ∙ c.loop-k.invariant env insn is constructed)
+    sym (ap (list_all test) (sym (all_taken c.args.handlers.now c.loop-k.k (omega (arith, c.loop-k-test.false)))) ∙ c.loop-k.invariant.0 env insn is constructed)

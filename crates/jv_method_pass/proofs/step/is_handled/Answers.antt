@@ -31,7 +31,7 @@ returns-clause-hold c = λ env is.
     without_any env (maps_of pass) (names_in pass) c.args.settled c.settled_without-settled.result insn x c.constructed_object-object.result
     c.settled_without-settled.ensures.same c.settled_without-settled.ensures.object constructed (c.requires.settled env is) in
     let test : Handler → Bool = unsettled_holds c.settled_without-settled.result env (maps_of pass) insn x in
-    c.handlers_hold.ensures env insn is constructed
+    c.handlers_hold.ensures.hold env insn is constructed
     ∙ (ap (list_all (passes_at c.args.offset test)) c.opened-opened.ensures
     ∙ (c.in_ok-go_to.ensures.opened test
     ∙ (ap (list_all (passes_at c.args.offset test)) c.go_to.ensures.handlers

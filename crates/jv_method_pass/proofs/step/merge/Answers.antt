@@ -17,7 +17,7 @@ returns-then-not-flows_to_map-clause-merged c = λ env is.
     let o = frame_at (maps_of pass) c.args.offset in
     ap (λ (b : Bool). merged env.world (when_falls b (frame_of (names_in pass) c.args.frame.now)) o) c.if-falls.true
     ∙ merged_not pass entries count kept env is c.args.frame.now c.in-Some.map o (c.in-Some.ensures.frame env is)
-    (flow_is pass entries count kept env is pass.types c.args.frame.now c.in-Some.map false refl c.requires.locals c.if-not-flows_to_map.ensures)
+    (flow_is pass entries count kept env is pass.types c.args.frame.now c.in-Some.map false refl c.requires.locals c.if-not-flows_to_map.ensures.flows)
 
 pub returns-clause-merged : goal.returns-clause-merged
 returns-clause-merged c = λ env is.
@@ -33,10 +33,16 @@ returns-clause-merged c = λ env is.
       | else-falls-via-then-falls+else-not-flows_to_map w ↦
           ap (λ (b : Bool). merged env.world (when_falls b (frame_of (names_in pass) f)) o) w.if-falls.true
           ∙ (merged_flows pass entries count kept env is f map o at
-          (flow_is pass entries count kept env is pass.types f map true refl c.requires.locals (sym w.if-not-flows_to_map.false ∙ w.flows_to_map.ensures))
+          (flow_is pass entries count kept env is pass.types f map true refl c.requires.locals (sym w.if-not-flows_to_map.false ∙ w.flows_to_map.ensures.flows))
           ∙ set_is pass entries count kept env is pass.types pass.max_locals c.set_frame.new.frame map refl refl c.in_ok-set_frame.ensures.ok)
       | else-falls-via-else-falls w ↦
           ap (λ (b : Bool). merged env.world (when_falls b (frame_of (names_in pass) f)) o) w.if-falls.false
           ∙ (merged_map pass entries count kept env is map o at
           ∙ set_is pass entries count kept env is pass.types pass.max_locals c.set_frame.new.frame map refl refl c.in_ok-set_frame.ensures.ok)
     ]
+
+pub set_frame-requires-clause-reached : goal.set_frame-requires-clause-reached
+set_frame-requires-clause-reached c = elim c.else-falls.branch [
+  | else-falls-via-then-falls+else-not-flows_to_map w ↦ rw w.reached-is w.flows_to_map.ensures.reached
+  | else-falls-via-else-falls w ↦ rw w.reached-is c.requires.reached
+]

@@ -98,7 +98,7 @@ returns-then-not-targets_hold-clause-step c = λ env is at r.
     (is_left (names_in pass) _ c.apply.new.frame _ c.if-not-branch-3.false
     (applied pass entries count kept env is c.pass.inside.context.now insn c.merge.new.frame c.apply.new.frame _ c.args.offset _ (ap (λ (p : Pass). p.context) c.pass.view_is)
     refl c.in_ok-apply.ensures))
-    (c.if-not-targets_hold.ensures env is)
+    (c.if-not-targets_hold.ensures.flows env is)
 
 pub returns-clause-step : goal.returns-clause-step
 returns-clause-step c = λ env is at r.
@@ -114,7 +114,7 @@ returns-clause-step c = λ env is at r.
     (is_left (names_in pass) _ c.apply.new.frame _ c.if-not-branch-3.false
     (applied pass entries count kept env is c.pass.inside.context.now insn c.merge.new.frame c.apply.new.frame _ c.args.offset _ (ap (λ (p : Pass). p.context) c.pass.view_is)
     refl c.in_ok-apply.ensures))
-    (c.if-not-targets_hold.ensures env is)
+    (c.if-not-targets_hold.ensures.flows env is)
 
 pub returns-clause-locals : goal.returns-clause-locals
 returns-clause-locals c = λ none.

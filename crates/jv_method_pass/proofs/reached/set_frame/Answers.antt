@@ -8,7 +8,7 @@ use Rattle.jv_method_pass.specs.Mapped.{local_entry_words}
 use Rattle.jv_method_pass.specs.Pass.{Pass, names_in}
 use Rattle.jv_method_pass.specs.Inside.Held.{HoldsLocals}
 use Rattle.jv_method_pass.proofs.Holding.{put_is, held_again, made_is}
-use Rattle.jv_method_pass.proofs.held.set_frame.Goals as goal
+use Rattle.jv_method_pass.proofs.reached.set_frame.Goals as goal
 
 pub returns-then-is_of-clause-ok : goal.returns-then-is_of-clause-ok
 returns-then-is_of-clause-ok c =

@@ -5,10 +5,10 @@ use Rattle.jv_types.specs.Numbered.{Item}
 use Rattle.jv_method_pass.specs.Mapped.{local_entry_words, thrown_flows_to_map}
 use Rattle.jv_method_pass.specs.Pass.{Pass}
 use Rattle.jv_method_pass.proofs.Holding.{thrown_held}
-use Rattle.jv_method_pass.proofs.held.thrown_flows_to_map.Goals as goal
+use Rattle.jv_method_pass.proofs.reached.thrown_flows_to_map.Goals as goal
 
-pub returns-then-is_of_without : goal.returns-then-is_of_without
-returns-then-is_of_without c =
+pub returns-then-is_of_without-clause-flows : goal.returns-then-is_of_without-clause-flows
+returns-then-is_of_without-clause-flows c =
     let pass = c.args.pass.now in
     let map = c.args.map.now in
     let frame = c.args.frame.now in
@@ -17,8 +17,8 @@ returns-then-is_of_without c =
     (c.is_of_without.ensures.held c.if-is_of_without.true map.locals frame.locals (ap (option_map locals_in) c.requires.at) c.requires.held) c.requires.locals c.flows_thrown.ensures)
 
 pub thrown_flows-requires : goal.thrown_flows-requires
-thrown_flows-requires c = c.requires.words ∙ ap (λ (p : Pass). local_entry_words p.types c.args.map.now) (sym c.pass.view_is)
+thrown_flows-requires c = c.requires.room.words ∙ ap (λ (p : Pass). local_entry_words p.types c.args.map.now) (sym c.pass.view_is)
 
-pub returns-else-is_of_without : goal.returns-else-is_of_without
-returns-else-is_of_without c =
+pub returns-then-is_some-clause-flows : goal.returns-then-is_some-clause-flows
+returns-then-is_some-clause-flows c =
     c.thrown_flows.ensures ∙ ap (λ (p : Pass). thrown_flows_to_map p.types c.args.frame.now c.args.object c.args.thrown c.args.map.now) c.pass.view_is

@@ -1,0 +1,20 @@
+use Rattle.std.proofs.Common.{None, length, refl, sym, ap, ◌∙◌}
+use Rattle.std.proofs.lemmas.Option.{slice_get_read}
+use Rattle.jv_method_pass.specs.Mapped.{local_entry_words, thrown_flows_to_map}
+use Rattle.jv_method_pass.specs.Pass.{Pass}
+use Rattle.jv_method_pass.proofs.Reaching.{thrown_reached}
+use Rattle.jv_method_pass.proofs.reached.Reached.flows_thrown.Goals as goal
+
+pub thrown_flows-requires : goal.thrown_flows-requires
+thrown_flows-requires c = c.requires.room.words ∙ ap (λ (p : Pass). local_entry_words p.types c.args.map.now) (sym c.pass.view_is)
+
+pub returns-in-Some-clause-flows : goal.returns-in-Some-clause-flows
+returns-in-Some-clause-flows c =
+    let frames = c.place_of.new.self.frames.items in
+    let r = c.index.result.now in
+    thrown_reached c.args.pass.now c.pass.inside.types.now c.args.held.now r c.args.frame.now c.args.thrown c.args.place c.args.map.now _ (ap (λ (p : Pass). p.types) c.pass.view_is)
+    ((c.in-Some.ensures {u = tt}).found r (slice_get_read frames (length frames) c.in-Some.k r refl (c.in-Some.ensures {u = tt}).within c.index.ensures))
+    c.requires.at c.requires.locals c.flows_thrown.ensures
+
+pub returns-in-None-clause-flows : goal.returns-in-None-clause-flows
+returns-in-None-clause-flows c = c.thrown_flows.ensures ∙ ap (λ (p : Pass). thrown_flows_to_map p.types c.args.frame.now None c.args.thrown c.args.map.now) c.pass.view_is
