@@ -46,6 +46,12 @@ HasEnded guest blocks =
     (g : GuestFiles) (b : Budget) (feeds : List Feed) (n : ℕ) (addresses : List ℕ) (h : GuestStands g b feeds n addresses guest blocks)
     → h.state.control.end ≡ Running → ⊥
 
+-- It takes steps: it has not ended.
+abbrev pub TakesSteps : Guest → Blocks → Type 0
+TakesSteps guest blocks =
+    (g : GuestFiles) (b : Budget) (feeds : List Feed) (n : ℕ) (addresses : List ℕ) (h : GuestStands g b feeds n addresses guest blocks)
+    → h.state.control.end ≡ Running
+
 -- The answer is whether it takes steps.
 abbrev pub IsAnswered : Guest → Bool → Type 0
 IsAnswered guest running =

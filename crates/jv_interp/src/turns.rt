@@ -1,14 +1,14 @@
 //! Steps of a guest.
 
-ghost use Rattle.std.specs.Prelude.{◌≡◌, ◌↔◌, ◌+◌, ◌-◌, ◌<◌, ◌≤◌, ◌^◌, IsTrue, false};
+ghost use Rattle.std.specs.Prelude.{◌≡◌, ◌↔◌, ◌+◌, ◌-◌, ◌<◌, ◌≤◌, ◌^◌, IsOk, IsTrue, OnErr, OnOk, false};
 ghost use Rattle.jv_interp.specs.Standing.{IsSomeGuest, WentOn};
-ghost use Rattle.jv_interp.specs.Showing.{HasEnded, RanToLast, IsAnswered};
+ghost use Rattle.jv_interp.specs.Showing.{HasEnded, TakesSteps, RanToLast, IsAnswered};
 
 use crate::guest::Guest;
-use jv_heap::Store;
+use jv_heap::{Memory, Store};
 use jv_interp_runs::{Turn, run};
 use jv_interp_start::of_interp_frames::End;
-use jv_meaning_machine::{alone_steps_on, end_fits_alone};
+use jv_meaning_machine::{alone_steps_on, end_fits_alone, shows_one_thing};
 use jv_sound::{initializations_are_loadable, never_faults, objects_are_loadable};
 
 impl Guest<'_> {
@@ -62,5 +62,31 @@ impl Guest<'_> {
         );
         self.steps += n - turn.left;
         turn
+    }
+
+    /// Takes one step (JVMS 2.11, 5.5); the guest has not ended.
+    ///
+    /// # Errors
+    ///
+    /// Where the host had no memory for it: the step is then not taken, and the guest and the store are as they were before it.
+    pub fn step<S: Store>(&mut self, store: &mut S) -> Result<(), Memory>
+        requires can { IsSomeGuest self.old (S.content store.old) }
+        requires running { TakesSteps self.old (S.content store.old) }
+        requires cells { self.old.held.cells ≤ S.room_left store.old }
+        requires countable { self.old.steps + 1 < 2 ^ 64 }
+        ensures stepped { OnOk result (WentOn 1 self.old self.new (S.content store.old) (S.content store.new)) }
+        ensures fewer { self.new.held.cells ≤ self.old.held.cells }
+        ensures room { S.room_left store.old + self.new.held.cells ≡ S.room_left store.new + self.old.held.cells }
+        ensures refused { OnErr result (WentOn 0 self.old self.new (S.content store.old) (S.content store.new)) }
+        ensures refused_content { OnErr result (S.content store.new ≡ S.content store.old) }
+        ensures refused_held { OnErr result (self.new.held ≡ self.old.held) }
+        ensures sure { IsTrue S.SURE → IsOk result }
+    {
+        shows_one_thing();
+        let turn = self.turn(store, 1);
+        if turn.refused {
+            return Err(Memory);
+        }
+        Ok(())
     }
 }
