@@ -2,6 +2,7 @@
 
 ghost use Rattle.std.specs.Prelude.{◌≡◌, ℕ, List};
 ghost use Rattle.jv_code.specs.declared.insn.Insn.TheVariants.{Invoke as InvokeInsn, InvokeInterface as InvokeInterfaceInsn};
+ghost use Rattle.jv_code.specs.declared.kinds.Invocation.TheVariants.{Special, Static, Virtual};
 ghost use Rattle.jv_interp_types.specs.of_linked.Linked.{IsLinked};
 ghost use Rattle.jv_interp_types.specs.of_interp_calls.Known.{known};
 ghost use Rattle.jv_interp_types.specs.of_interp_going.Going.{StaysIn};
@@ -20,8 +21,112 @@ use jv_interp_types::of_loader::Classes;
 use jv_interp_words::Registers;
 use jv_meaning_machine::execution_keeps;
 
-/// `invokevirtual`, `invokespecial` and `invokestatic`.
+/// `invokevirtual`.
 #[inline(always)]
+pub(crate) fn execute_invokevirtual<'a, 'l, S: Store>(
+    classes: &Classes<'a>,
+    linked: &mut Linked<'a>,
+    methods: &Methods<'a>,
+    site: Site,
+    states: &[ClassState],
+    store: &S,
+    held: &mut Held,
+    words: &mut [u32],
+    at: &mut Registers<'l>,
+    next: u32,
+    index: u16,
+) -> Effect
+    requires methods { AreMethods classes.now.world methods.now }
+    requires can { (texts : List (List ℕ)) × CanExecuteAt states.now (InvokeInsn Virtual index) next
+        (known classes.now.world linked.old site) texts at.old words.old held.old (S.content store.now) }
+    ensures done { (texts : List (List ℕ)) → ExecutedAt states.now (InvokeInsn Virtual index) next (known classes.now.world linked.old site)
+        texts (place at.old words.old held.old (S.content store.now)) (place at.new words.new held.new (S.content store.now)) result }
+    ensures stays { StaysIn at.old at.new words.new }
+    ensures unmoved { IsUnmoved result (place at.old words.old held.old (S.content store.now))
+        (place at.new words.new held.new (S.content store.now)) }
+    ensures cells { held.new.cells ≡ held.old.cells }
+    ensures linked { IsLinked classes.now.world linked.new }
+{
+    execution_keeps();
+    call_virtual(
+        classes,
+        linked,
+        methods,
+        site,
+        store,
+        held,
+        words,
+        at,
+        Use::Invokevirtual,
+        index,
+    )
+}
+
+/// `invokespecial`.
+#[inline(always)]
+pub(crate) fn execute_invokespecial<'a, 'l, S: Store>(
+    classes: &Classes<'a>,
+    linked: &mut Linked<'a>,
+    methods: &Methods<'a>,
+    site: Site,
+    states: &[ClassState],
+    store: &S,
+    held: &mut Held,
+    words: &mut [u32],
+    at: &mut Registers<'l>,
+    next: u32,
+    index: u16,
+) -> Effect
+    requires methods { AreMethods classes.now.world methods.now }
+    requires can { (texts : List (List ℕ)) × CanExecuteAt states.now (InvokeInsn Special index) next
+        (known classes.now.world linked.old site) texts at.old words.old held.old (S.content store.now) }
+    ensures done { (texts : List (List ℕ)) → ExecutedAt states.now (InvokeInsn Special index) next (known classes.now.world linked.old site)
+        texts (place at.old words.old held.old (S.content store.now)) (place at.new words.new held.new (S.content store.now)) result }
+    ensures stays { StaysIn at.old at.new words.new }
+    ensures unmoved { IsUnmoved result (place at.old words.old held.old (S.content store.now))
+        (place at.new words.new held.new (S.content store.now)) }
+    ensures cells { held.new.cells ≡ held.old.cells }
+    ensures linked { IsLinked classes.now.world linked.new }
+{
+    execution_keeps();
+    call_special(
+        classes, linked, methods, site, store, held, words, at, index,
+    )
+}
+
+/// `invokestatic`.
+#[inline(always)]
+pub(crate) fn execute_invokestatic<'a, 'l, S: Store>(
+    classes: &Classes<'a>,
+    linked: &mut Linked<'a>,
+    methods: &Methods<'a>,
+    site: Site,
+    states: &[ClassState],
+    store: &S,
+    held: &mut Held,
+    words: &mut [u32],
+    at: &mut Registers<'l>,
+    next: u32,
+    index: u16,
+) -> Effect
+    requires methods { AreMethods classes.now.world methods.now }
+    requires can { (texts : List (List ℕ)) × CanExecuteAt states.now (InvokeInsn Static index) next
+        (known classes.now.world linked.old site) texts at.old words.old held.old (S.content store.now) }
+    ensures done { (texts : List (List ℕ)) → ExecutedAt states.now (InvokeInsn Static index) next (known classes.now.world linked.old site)
+        texts (place at.old words.old held.old (S.content store.now)) (place at.new words.new held.new (S.content store.now)) result }
+    ensures stays { StaysIn at.old at.new words.new }
+    ensures unmoved { IsUnmoved result (place at.old words.old held.old (S.content store.now))
+        (place at.new words.new held.new (S.content store.now)) }
+    ensures cells { held.new.cells ≡ held.old.cells }
+    ensures linked { IsLinked classes.now.world linked.new }
+{
+    execution_keeps();
+    call_static(
+        classes, linked, methods, site, states, held, words, at, next, index,
+    )
+}
+
+/// `invokevirtual`, `invokespecial` and `invokestatic`.
 pub(crate) fn execute_invocation<'a, 'l, S: Store>(
     classes: &Classes<'a>,
     linked: &mut Linked<'a>,
@@ -47,27 +152,15 @@ pub(crate) fn execute_invocation<'a, 'l, S: Store>(
     ensures cells { held.new.cells ≡ held.old.cells }
     ensures linked { IsLinked classes.now.world linked.new }
 {
-    execution_keeps();
     match how {
-        Invocation::Virtual => call_virtual(
-            classes,
-            linked,
-            methods,
-            site,
-            store,
-            held,
-            words,
-            at,
-            Use::Invokevirtual,
-            index,
+        Invocation::Virtual => execute_invokevirtual(
+            classes, linked, methods, site, states, store, held, words, at, next, index,
         ),
-        Invocation::Special => {
-            call_special(
-                classes, linked, methods, site, store, held, words, at, index,
-            )
-        }
-        Invocation::Static => call_static(
-            classes, linked, methods, site, states, held, words, at, next, index,
+        Invocation::Special => execute_invokespecial(
+            classes, linked, methods, site, states, store, held, words, at, next, index,
+        ),
+        Invocation::Static => execute_invokestatic(
+            classes, linked, methods, site, states, store, held, words, at, next, index,
         ),
     }
 }

@@ -59,7 +59,7 @@ fn execute_in_words<'l>(
 /// # Errors
 ///
 /// Where the host had no memory for what it makes; all is then as it was, but for what linking has found.
-#[inline(always)]
+#[inline(never)]
 pub fn execute<'a, 'l, S: Store>(
     classes: &Classes<'a>,
     linked: &mut Linked<'a>,

@@ -5,6 +5,7 @@ mod array_loads;
 mod array_stores;
 mod calls;
 mod executing;
+mod families;
 mod fields;
 mod long_constants;
 mod new_arrays;
@@ -12,3 +13,7 @@ mod on_words;
 mod pool_constants;
 
 pub use executing::execute;
+pub use families::{
+    AnyInstruction, Arrays, ConstantLoads, Divisions, Execution, FieldGets, FieldPuts, Objects,
+    Returns, SpecialCalls, StaticCalls, VirtualCalls,
+};

@@ -34,7 +34,7 @@ fn execute_branch<'l>(words: &[u32], at: &mut Registers<'l>, next: u32, test: Te
 
 /// A division: an ArithmeticException is to be thrown where the divisor is 0.
 #[inline(always)]
-fn execute_division<'l>(
+pub(crate) fn execute_division<'l>(
     words: &mut [u32],
     at: &mut Registers<'l>,
     next: u32,
@@ -57,7 +57,7 @@ fn execute_division<'l>(
 
 /// A return with a value of a kind: its words are on top.
 #[inline(always)]
-fn execute_return<'l>(words: &[u32], at: &Registers<'l>, kind: ValueKind) -> Effect
+pub(crate) fn execute_return<'l>(words: &[u32], at: &Registers<'l>, kind: ValueKind) -> Effect
     ensures { (next : ℕ) → DoneOnWords (ReturnValueInsn kind) next at.now words.now at.now words.now result }
 {
     let _words = words;

@@ -21,7 +21,7 @@ use jv_interp_actions::of_interp_methods::{Methods, Texts};
 use jv_interp_actions::of_link::Site;
 use jv_interp_actions::of_linked::Linked;
 use jv_interp_actions::of_loader::Classes;
-use jv_interp_execution::execute;
+use jv_interp_execution::Execution;
 use jv_interp_memory::{Effect, Held};
 use jv_interp_words::Registers;
 use jv_meaning_machine::execution_keeps;
@@ -34,7 +34,7 @@ use jv_meaning_machine::execution_keeps;
 ///
 /// Where the host had no memory for what is made; all is then as it was, but for what linking has found.
 #[inline(always)]
-pub(crate) fn step_by<'a, 'l, S: Store>(
+pub(crate) fn step_by<'a, 'l, E: Execution, S: Store>(
     classes: &Classes<'a>,
     linked: &mut Linked<'a>,
     methods: &Methods<'a>,
@@ -74,7 +74,7 @@ pub(crate) fn step_by<'a, 'l, S: Store>(
     ensures sure { IsTrue S.SURE → IsOk result }
 {
     execution_keeps();
-    match execute(
+    match E::execute(
         classes,
         linked,
         methods,
@@ -98,7 +98,7 @@ pub(crate) fn step_by<'a, 'l, S: Store>(
 
 /// The same, where the bytes of the instruction are known to stand there: so many.
 #[inline(always)]
-pub(crate) fn step_known<'a, 'l, S: Store>(
+pub(crate) fn step_known<'a, 'l, E: Execution, S: Store>(
     classes: &Classes<'a>,
     linked: &mut Linked<'a>,
     methods: &Methods<'a>,
@@ -136,13 +136,10 @@ pub(crate) fn step_known<'a, 'l, S: Store>(
     ensures refused_room { OnErr result (S.room_left store.new ≡ S.room_left store.old) }
     ensures sure { IsTrue S.SURE → IsOk result }
 {
-    let mut own = *at;
-    let site = site_of(methods, own.method, own.pc);
-    let next = own.pc + size;
-    let result = step_by(
-        classes, linked, methods, texts, verified, frames, control, held, store, &mut own, site,
-        insn, next,
-    );
-    *at = own;
-    result
+    let site = site_of(methods, at.method, at.pc);
+    let next = at.pc + size;
+    step_by::<E, S>(
+        classes, linked, methods, texts, verified, frames, control, held, store, at, site, insn,
+        next,
+    )
 }

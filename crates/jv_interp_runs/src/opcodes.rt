@@ -1,9 +1,9 @@
 //! What an opcode says of its instruction (JVMS 6.5).
 
 ghost use Rattle.std.specs.Prelude.{◌≡◌, IfSome};
-ghost use Rattle.jv_code.specs.Opcodes.{array_load_opcode, array_store_opcode, field_opcode, invoke_opcode, return_opcode};
+ghost use Rattle.jv_code.specs.Opcodes.{array_load_opcode, array_store_opcode, return_opcode};
 
-use jv_code::{FieldAccess, Invocation, NumberElement, ValueKind};
+use jv_code::{NumberElement, ValueKind};
 
 /// What numbers `iaload` and its kin load.
 #[inline(always)]
@@ -31,33 +31,6 @@ pub(crate) fn element_stored(opcode: u8) -> Option<NumberElement>
         84 => Some(NumberElement::ByteOrBoolean),
         85 => Some(NumberElement::Char),
         86 => Some(NumberElement::Short),
-        _ => None,
-    }
-}
-
-/// How an instruction works on a field.
-#[inline(always)]
-pub(crate) fn field_access(opcode: u8) -> Option<FieldAccess>
-    ensures { IfSome result (λ x. field_opcode x ≡ opcode) }
-{
-    match opcode {
-        178 => Some(FieldAccess::GetStatic),
-        179 => Some(FieldAccess::PutStatic),
-        180 => Some(FieldAccess::GetField),
-        181 => Some(FieldAccess::PutField),
-        _ => None,
-    }
-}
-
-/// How an instruction calls a method; `invokeinterface` is apart.
-#[inline(always)]
-pub(crate) fn invocation(opcode: u8) -> Option<Invocation>
-    ensures { IfSome result (λ x. invoke_opcode x ≡ opcode) }
-{
-    match opcode {
-        182 => Some(Invocation::Virtual),
-        183 => Some(Invocation::Special),
-        184 => Some(Invocation::Static),
         _ => None,
     }
 }

@@ -10,17 +10,22 @@ ghost use Rattle.jv_interp_runs.specs.Stepping.{CanStepIn, SteppedIn};
 
 use crate::decoding::{decode, index_behind, index_in_byte, opcode_at};
 use crate::instructions::{step_by, step_known};
-use crate::opcodes::{element_loaded, element_stored, field_access, invocation, value_returned};
-use jv_code::{DivisionOperator, IndexForm, Insn, NumberKind};
+use crate::opcodes::{element_loaded, element_stored, value_returned};
+use jv_code::{DivisionOperator, FieldAccess, IndexForm, Insn, Invocation, NumberKind};
 use jv_heap::{Memory, Store};
 use jv_interp_actions::of_interp_frames::{Control, Frames};
 use jv_interp_actions::of_interp_methods::{Methods, Texts};
 use jv_interp_actions::of_linked::Linked;
 use jv_interp_actions::of_loader::Classes;
+use jv_interp_execution::{
+    AnyInstruction, Arrays, ConstantLoads, Divisions, FieldGets, FieldPuts, Objects, Returns,
+    SpecialCalls, StaticCalls, VirtualCalls,
+};
 use jv_interp_memory::Held;
 use jv_interp_words::Registers;
 
 /// A step at any instruction.
+#[inline(never)]
 fn step_decoded<'a, 'l, S: Store>(
     classes: &Classes<'a>,
     linked: &mut Linked<'a>,
@@ -55,7 +60,7 @@ fn step_decoded<'a, 'l, S: Store>(
     ensures sure { IsTrue S.SURE → IsOk result }
 {
     let (site, insn, next) = decode(methods, at.method, at.pc);
-    step_by(
+    step_by::<AnyInstruction, S>(
         classes, linked, methods, texts, verified, frames, control, held, store, at, site, insn,
         next,
     )
@@ -104,7 +109,7 @@ pub(crate) fn step_in_method<'a, 'l, S: Store>(
 {
     let opcode = opcode_at(at.code, at.pc as usize);
     if let Some(kind) = element_loaded(opcode) {
-        return step_known(
+        return step_known::<Arrays, S>(
             classes,
             linked,
             methods,
@@ -120,7 +125,7 @@ pub(crate) fn step_in_method<'a, 'l, S: Store>(
         );
     }
     if let Some(kind) = element_stored(opcode) {
-        return step_known(
+        return step_known::<Arrays, S>(
             classes,
             linked,
             methods,
@@ -135,42 +140,8 @@ pub(crate) fn step_in_method<'a, 'l, S: Store>(
             1,
         );
     }
-    if let Some(access) = field_access(opcode) {
-        let index = index_behind(at.code, at.pc as usize);
-        return step_known(
-            classes,
-            linked,
-            methods,
-            texts,
-            verified,
-            frames,
-            control,
-            held,
-            store,
-            at,
-            Insn::Field(access, index),
-            3,
-        );
-    }
-    if let Some(how) = invocation(opcode) {
-        let index = index_behind(at.code, at.pc as usize);
-        return step_known(
-            classes,
-            linked,
-            methods,
-            texts,
-            verified,
-            frames,
-            control,
-            held,
-            store,
-            at,
-            Insn::Invoke(how, index),
-            3,
-        );
-    }
     if let Some(kind) = value_returned(opcode) {
-        return step_known(
+        return step_known::<Returns, S>(
             classes,
             linked,
             methods,
@@ -186,7 +157,7 @@ pub(crate) fn step_in_method<'a, 'l, S: Store>(
         );
     }
     match opcode {
-        50 => step_known(
+        50 => step_known::<Arrays, S>(
             classes,
             linked,
             methods,
@@ -200,7 +171,7 @@ pub(crate) fn step_in_method<'a, 'l, S: Store>(
             Insn::ReferenceArrayLoad,
             1,
         ),
-        83 => step_known(
+        83 => step_known::<Objects, S>(
             classes,
             linked,
             methods,
@@ -214,7 +185,7 @@ pub(crate) fn step_in_method<'a, 'l, S: Store>(
             Insn::ReferenceArrayStore,
             1,
         ),
-        108 => step_known(
+        108 => step_known::<Divisions, S>(
             classes,
             linked,
             methods,
@@ -228,7 +199,7 @@ pub(crate) fn step_in_method<'a, 'l, S: Store>(
             Insn::Division(NumberKind::Int, DivisionOperator::Divide),
             1,
         ),
-        109 => step_known(
+        109 => step_known::<Divisions, S>(
             classes,
             linked,
             methods,
@@ -242,7 +213,7 @@ pub(crate) fn step_in_method<'a, 'l, S: Store>(
             Insn::Division(NumberKind::Long, DivisionOperator::Divide),
             1,
         ),
-        112 => step_known(
+        112 => step_known::<Divisions, S>(
             classes,
             linked,
             methods,
@@ -256,7 +227,7 @@ pub(crate) fn step_in_method<'a, 'l, S: Store>(
             Insn::Division(NumberKind::Int, DivisionOperator::Remainder),
             1,
         ),
-        113 => step_known(
+        113 => step_known::<Divisions, S>(
             classes,
             linked,
             methods,
@@ -270,7 +241,7 @@ pub(crate) fn step_in_method<'a, 'l, S: Store>(
             Insn::Division(NumberKind::Long, DivisionOperator::Remainder),
             1,
         ),
-        177 => step_known(
+        177 => step_known::<Returns, S>(
             classes,
             linked,
             methods,
@@ -284,7 +255,7 @@ pub(crate) fn step_in_method<'a, 'l, S: Store>(
             Insn::Return,
             1,
         ),
-        190 => step_known(
+        190 => step_known::<Arrays, S>(
             classes,
             linked,
             methods,
@@ -300,7 +271,7 @@ pub(crate) fn step_in_method<'a, 'l, S: Store>(
         ),
         18 => {
             let index = index_in_byte(at.code, at.pc as usize);
-            step_known(
+            step_known::<ConstantLoads, S>(
                 classes,
                 linked,
                 methods,
@@ -317,7 +288,7 @@ pub(crate) fn step_in_method<'a, 'l, S: Store>(
         }
         19 => {
             let index = index_behind(at.code, at.pc as usize);
-            step_known(
+            step_known::<ConstantLoads, S>(
                 classes,
                 linked,
                 methods,
@@ -334,7 +305,7 @@ pub(crate) fn step_in_method<'a, 'l, S: Store>(
         }
         20 => {
             let index = index_behind(at.code, at.pc as usize);
-            step_known(
+            step_known::<ConstantLoads, S>(
                 classes,
                 linked,
                 methods,
@@ -349,9 +320,128 @@ pub(crate) fn step_in_method<'a, 'l, S: Store>(
                 3,
             )
         }
+        178 => {
+            let index = index_behind(at.code, at.pc as usize);
+            step_known::<FieldGets, S>(
+                classes,
+                linked,
+                methods,
+                texts,
+                verified,
+                frames,
+                control,
+                held,
+                store,
+                at,
+                Insn::Field(FieldAccess::GetStatic, index),
+                3,
+            )
+        }
+        179 => {
+            let index = index_behind(at.code, at.pc as usize);
+            step_known::<FieldPuts, S>(
+                classes,
+                linked,
+                methods,
+                texts,
+                verified,
+                frames,
+                control,
+                held,
+                store,
+                at,
+                Insn::Field(FieldAccess::PutStatic, index),
+                3,
+            )
+        }
+        180 => {
+            let index = index_behind(at.code, at.pc as usize);
+            step_known::<FieldGets, S>(
+                classes,
+                linked,
+                methods,
+                texts,
+                verified,
+                frames,
+                control,
+                held,
+                store,
+                at,
+                Insn::Field(FieldAccess::GetField, index),
+                3,
+            )
+        }
+        181 => {
+            let index = index_behind(at.code, at.pc as usize);
+            step_known::<FieldPuts, S>(
+                classes,
+                linked,
+                methods,
+                texts,
+                verified,
+                frames,
+                control,
+                held,
+                store,
+                at,
+                Insn::Field(FieldAccess::PutField, index),
+                3,
+            )
+        }
+        182 => {
+            let index = index_behind(at.code, at.pc as usize);
+            step_known::<VirtualCalls, S>(
+                classes,
+                linked,
+                methods,
+                texts,
+                verified,
+                frames,
+                control,
+                held,
+                store,
+                at,
+                Insn::Invoke(Invocation::Virtual, index),
+                3,
+            )
+        }
+        183 => {
+            let index = index_behind(at.code, at.pc as usize);
+            step_known::<SpecialCalls, S>(
+                classes,
+                linked,
+                methods,
+                texts,
+                verified,
+                frames,
+                control,
+                held,
+                store,
+                at,
+                Insn::Invoke(Invocation::Special, index),
+                3,
+            )
+        }
+        184 => {
+            let index = index_behind(at.code, at.pc as usize);
+            step_known::<StaticCalls, S>(
+                classes,
+                linked,
+                methods,
+                texts,
+                verified,
+                frames,
+                control,
+                held,
+                store,
+                at,
+                Insn::Invoke(Invocation::Static, index),
+                3,
+            )
+        }
         187 => {
             let index = index_behind(at.code, at.pc as usize);
-            step_known(
+            step_known::<Objects, S>(
                 classes,
                 linked,
                 methods,
@@ -368,7 +458,7 @@ pub(crate) fn step_in_method<'a, 'l, S: Store>(
         }
         192 => {
             let index = index_behind(at.code, at.pc as usize);
-            step_known(
+            step_known::<Objects, S>(
                 classes,
                 linked,
                 methods,
@@ -385,7 +475,7 @@ pub(crate) fn step_in_method<'a, 'l, S: Store>(
         }
         193 => {
             let index = index_behind(at.code, at.pc as usize);
-            step_known(
+            step_known::<Objects, S>(
                 classes,
                 linked,
                 methods,

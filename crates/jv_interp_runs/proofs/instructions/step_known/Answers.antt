@@ -11,14 +11,14 @@ site_of-site-requires g c =
     (g.S.Store.content c.args.store.now) w.steps
     c.args.methods.now c.requires.methods
 
-pub step_by-result-requires-clause-stands : goal.step_by-result-requires-clause-stands
-step_by-result-requires-clause-stands g c =
+pub step_by-requires-clause-stands : goal.step_by-requires-clause-stands
+step_by-requires-clause-stands g c =
     stands_next c.args.classes.now.world c.args.verified.now c.args.texts.now.names c.args.at.now c.args.frames.now c.args.control.now c.args.held.now
     (g.S.Store.content c.args.store.now) c.args.methods.now c.requires.methods c.site_of-site.result c.site_of-site.ensures _ c.args.size c.requires.bytes c.requires.fits
     c.requires.size
 
-pub step_by-result-requires-clause-rules : goal.step_by-result-requires-clause-rules
-step_by-result-requires-clause-rules g c =
+pub step_by-requires-clause-rules : goal.step_by-requires-clause-rules
+step_by-requires-clause-rules g c =
     let w = c.requires.can in
     keeps_rules c.args.at.now.code.now c.args.at.now.pc _
     (known_at c.args.classes.now.world c.args.verified.now c.args.at.now w.program c.args.texts.now.names w.s w.t w.addresses c.args.frames.now c.args.control.now c.args.held.now

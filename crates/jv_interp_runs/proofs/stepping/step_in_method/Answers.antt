@@ -1,7 +1,7 @@
-use Rattle.jv_code.specs.Opcodes.{array_load_opcode, array_store_opcode, field_opcode, invoke_opcode, return_opcode}
-use Rattle.std.proofs.Common.{length, sym}
+use Rattle.jv_code.specs.Opcodes.{array_load_opcode, array_store_opcode, return_opcode}
+use Rattle.std.proofs.Common.{sym}
 use Rattle.jv_interp_runs.proofs.Known.{starts}
-use Rattle.jv_interp_runs.proofs.Operands.{field_operands, invoke_operands, room_for, with_index, with_byte, alone}
+use Rattle.jv_interp_runs.proofs.Operands.{with_index, with_byte, alone}
 use Rattle.jv_interp_runs.proofs.stepping.step_in_method.Goals as goal
 
 pub opcode_at-opcode-requires : goal.opcode_at-opcode-requires
@@ -17,26 +17,6 @@ step_known-requires-clause-bytes g c =
 pub step_known-requires-in-Some-element_stored-clause-bytes : goal.step_known-requires-in-Some-element_stored-clause-bytes
 step_known-requires-in-Some-element_stored-clause-bytes g c =
     alone c.args.at.now.code.now c.args.at.now.pc c.opcode_at-opcode.result (array_store_opcode c.in-Some-element_stored.kind) (c.in-Some-element_stored.ensures {u = tt}) c.opcode_at-opcode.ensures.stands
-
-pub index_behind-index-requires : goal.index_behind-index-requires
-index_behind-index-requires g c =
-    room_for c.opcode_at-opcode.result (field_opcode c.in-Some-field_access.access) c.args.at.now.pc (length c.args.at.now.code.now) (c.in-Some-field_access.ensures {u = tt})
-    (field_operands c.in-Some-field_access.access) c.opcode_at-opcode.ensures.room
-
-pub step_known-requires-in-Some-field_access-clause-bytes : goal.step_known-requires-in-Some-field_access-clause-bytes
-step_known-requires-in-Some-field_access-clause-bytes g c =
-    with_index c.args.at.now.code.now c.args.at.now.pc c.opcode_at-opcode.result (field_opcode c.in-Some-field_access.access) c.index_behind-index.result (c.in-Some-field_access.ensures {u = tt})
-    c.opcode_at-opcode.ensures.stands c.index_behind-index.ensures.stands
-
-pub index_behind-index-requires-in-Some-invocation : goal.index_behind-index-requires-in-Some-invocation
-index_behind-index-requires-in-Some-invocation g c =
-    room_for c.opcode_at-opcode.result (invoke_opcode c.in-Some-invocation.how) c.args.at.now.pc (length c.args.at.now.code.now) (c.in-Some-invocation.ensures {u = tt})
-    (invoke_operands c.in-Some-invocation.how) c.opcode_at-opcode.ensures.room
-
-pub step_known-requires-in-Some-invocation-clause-bytes : goal.step_known-requires-in-Some-invocation-clause-bytes
-step_known-requires-in-Some-invocation-clause-bytes g c =
-    with_index c.args.at.now.code.now c.args.at.now.pc c.opcode_at-opcode.result (invoke_opcode c.in-Some-invocation.how) c.index_behind-index-in-Some-invocation.result (c.in-Some-invocation.ensures {u = tt})
-    c.opcode_at-opcode.ensures.stands c.index_behind-index-in-Some-invocation.ensures.stands
 
 pub step_known-requires-in-Some-value_returned-clause-bytes : goal.step_known-requires-in-Some-value_returned-clause-bytes
 step_known-requires-in-Some-value_returned-clause-bytes g c =
@@ -80,11 +60,39 @@ step_known-requires-in-18-clause-bytes g c =
 
 pub step_known-requires-in-19-clause-bytes : goal.step_known-requires-in-19-clause-bytes
 step_known-requires-in-19-clause-bytes g c =
-    with_index c.args.at.now.code.now c.args.at.now.pc c.opcode_at-opcode.result 19 c.index_behind-index-in-19.result (sym c.in-19.is) c.opcode_at-opcode.ensures.stands c.index_behind-index-in-19.ensures.stands
+    with_index c.args.at.now.code.now c.args.at.now.pc c.opcode_at-opcode.result 19 c.index_behind-index.result (sym c.in-19.is) c.opcode_at-opcode.ensures.stands c.index_behind-index.ensures.stands
 
 pub step_known-requires-in-20-clause-bytes : goal.step_known-requires-in-20-clause-bytes
 step_known-requires-in-20-clause-bytes g c =
     with_index c.args.at.now.code.now c.args.at.now.pc c.opcode_at-opcode.result 20 c.index_behind-index-in-20.result (sym c.in-20.is) c.opcode_at-opcode.ensures.stands c.index_behind-index-in-20.ensures.stands
+
+pub step_known-requires-in-178-clause-bytes : goal.step_known-requires-in-178-clause-bytes
+step_known-requires-in-178-clause-bytes g c =
+    with_index c.args.at.now.code.now c.args.at.now.pc c.opcode_at-opcode.result 178 c.index_behind-index-in-178.result (sym c.in-178.is) c.opcode_at-opcode.ensures.stands c.index_behind-index-in-178.ensures.stands
+
+pub step_known-requires-in-179-clause-bytes : goal.step_known-requires-in-179-clause-bytes
+step_known-requires-in-179-clause-bytes g c =
+    with_index c.args.at.now.code.now c.args.at.now.pc c.opcode_at-opcode.result 179 c.index_behind-index-in-179.result (sym c.in-179.is) c.opcode_at-opcode.ensures.stands c.index_behind-index-in-179.ensures.stands
+
+pub step_known-requires-in-180-clause-bytes : goal.step_known-requires-in-180-clause-bytes
+step_known-requires-in-180-clause-bytes g c =
+    with_index c.args.at.now.code.now c.args.at.now.pc c.opcode_at-opcode.result 180 c.index_behind-index-in-180.result (sym c.in-180.is) c.opcode_at-opcode.ensures.stands c.index_behind-index-in-180.ensures.stands
+
+pub step_known-requires-in-181-clause-bytes : goal.step_known-requires-in-181-clause-bytes
+step_known-requires-in-181-clause-bytes g c =
+    with_index c.args.at.now.code.now c.args.at.now.pc c.opcode_at-opcode.result 181 c.index_behind-index-in-181.result (sym c.in-181.is) c.opcode_at-opcode.ensures.stands c.index_behind-index-in-181.ensures.stands
+
+pub step_known-requires-in-182-clause-bytes : goal.step_known-requires-in-182-clause-bytes
+step_known-requires-in-182-clause-bytes g c =
+    with_index c.args.at.now.code.now c.args.at.now.pc c.opcode_at-opcode.result 182 c.index_behind-index-in-182.result (sym c.in-182.is) c.opcode_at-opcode.ensures.stands c.index_behind-index-in-182.ensures.stands
+
+pub step_known-requires-in-183-clause-bytes : goal.step_known-requires-in-183-clause-bytes
+step_known-requires-in-183-clause-bytes g c =
+    with_index c.args.at.now.code.now c.args.at.now.pc c.opcode_at-opcode.result 183 c.index_behind-index-in-183.result (sym c.in-183.is) c.opcode_at-opcode.ensures.stands c.index_behind-index-in-183.ensures.stands
+
+pub step_known-requires-in-184-clause-bytes : goal.step_known-requires-in-184-clause-bytes
+step_known-requires-in-184-clause-bytes g c =
+    with_index c.args.at.now.code.now c.args.at.now.pc c.opcode_at-opcode.result 184 c.index_behind-index-in-184.result (sym c.in-184.is) c.opcode_at-opcode.ensures.stands c.index_behind-index-in-184.ensures.stands
 
 pub step_known-requires-in-187-clause-bytes : goal.step_known-requires-in-187-clause-bytes
 step_known-requires-in-187-clause-bytes g c =

@@ -1,0 +1,24 @@
+use Rattle.std.proofs.lemmas.Result.{IfOk-weaker}
+use Rattle.jv_interp_types.specs.of_interp_calls.Known.{known}
+use Rattle.jv_interp_execution.proofs.AllInstructions.{settled}
+use Rattle.jv_interp_execution.proofs.TypesNamed.{instance_asked, cast_asked, reference_stored, object_made}
+use Rattle.jv_interp_execution.proofs.families.ObjectsExecution.execute.Goals as goal
+
+pub returns-in-ReferenceArrayStore-clause-done : goal.returns-in-ReferenceArrayStore-clause-done
+returns-in-ReferenceArrayStore-clause-done g c =
+    rw c.in-ReferenceArrayStore.is (settled _ _ _ _ _ _ _ _
+    (reference_stored c.execution_keeps.ensures _ (known c.args.classes.now.world c.args.linked.now c.args.site) c.args.texts.now.names _ _ _ _ _ _ _ c.aastore-result.ensures.stores))
+
+pub returns-in-New-clause-done : goal.returns-in-New-clause-done
+returns-in-New-clause-done g c =
+    rw c.in-New.is (IfOk-weaker c.create-result.result _ _ (λ effect m. object_made _ _ c.args.texts.now.names _ _ _ effect _ m) c.create-result.ensures.makes)
+
+pub returns-in-CheckCast-clause-done : goal.returns-in-CheckCast-clause-done
+returns-in-CheckCast-clause-done g c =
+    rw c.in-CheckCast.is (settled _ _ _ _ _ _ _ _
+    (cast_asked c.execution_keeps.ensures _ (known c.args.classes.now.world c.args.linked.now c.args.site) c.args.texts.now.names _ _ _ _ _ _ _ c.checkcast-result.ensures.asks))
+
+pub returns-in-InstanceOf-clause-done : goal.returns-in-InstanceOf-clause-done
+returns-in-InstanceOf-clause-done g c =
+    rw c.in-InstanceOf.is (settled _ _ _ _ _ _ _ _
+    (instance_asked c.execution_keeps.ensures _ (known c.args.classes.now.world c.args.linked.now c.args.site) c.args.texts.now.names _ _ _ _ _ _ _ _ c.instanceof-result.ensures.asks))
