@@ -7,7 +7,7 @@ use Rattle.std.specs.Prelude.{IfErr, IsErrAnd, Result, Ok, Err}
 use Rattle.jv_run.specs.Bytes.{bytes_of}
 use Rattle.jv_run.specs.declared.failure.Failure.{Failure}
 use Rattle.jv_run.specs.Failure.{IsUnread}
-use Rattle.jv_run.specs.declared.failure.Failure.TheVariants.{Unreadable, Refused, TooManyFolders, HostMemory, Memory}
+use Rattle.jv_run.specs.declared.failure.Failure.TheVariants.{Unreadable, StandardInput, Refused, FeedTooLong, TooManyFolders, NoGuest, HostMemory, Memory}
 use Rattle.jv_check.specs.Named.{IsOneUnread}
 
 -- an error that is handed on
@@ -22,7 +22,10 @@ one_unread names place d (Unreadable unread) within same =
     let long = length-map names bytes_of in
     let found = get_or-map bytes_of names place d unread.items within in
     subst (Contains (map bytes_of names)) (found ∙ sym same) (Contains-get_or (map bytes_of names) place unread.items (omega arith))
+one_unread names place d StandardInput within none = none
 one_unread names place d (Refused fault) within none = none
+one_unread names place d FeedTooLong within none = none
 one_unread names place d TooManyFolders within none = none
+one_unread names place d NoGuest within none = none
 one_unread names place d HostMemory within none = none
 one_unread names place d Memory within any = any

@@ -4,7 +4,7 @@ use Rattle.jv_meaning_world.specs.FileContent.{FileContent, AreContents}
 use Rattle.jv_meaning_typing.specs.declared.verdict.Verdict.{Verdict}
 use Rattle.jv_run.specs.of_method.Files.{AreVerdicts}
 use Rattle.jv_run.specs.declared.failure.Failure.{Failure}
-use Rattle.jv_run.specs.declared.failure.Failure.TheVariants.{Unreadable, Refused, TooManyFolders, HostMemory, Memory}
+use Rattle.jv_run.specs.declared.failure.Failure.TheVariants.{Refused, HostMemory, Memory}
 use Rattle.jv_run.specs.declared.outcome.Outcome.{Outcome}
 use Rattle.jv_check.specs.Limits.{first_file_refusal}
 use Rattle.jv_check.specs.Text.{check_text, check_status}
@@ -27,11 +27,9 @@ pub record IsChecked (names files : List (List ℕ)) (outcome : Outcome) : Type 
 
 -- why files within the limits were not checked: the host's memory was refused, or the program's
 abbrev pub IsHostFailure : List (List ℕ) → Failure → Type 0
-IsHostFailure files (Unreadable name) = ⊥
-IsHostFailure files (Refused fault) = ⊥
-IsHostFailure files TooManyFolders = ⊥
 IsHostFailure files HostMemory = ⊤
 IsHostFailure files Memory = ⊤
+IsHostFailure files failure = ⊥
 
 -- why files were not checked: they are refused, for the first reason that applies; or they are within the limits
 abbrev pub IsCheckFailure : List (List ℕ) → Failure → Type 0

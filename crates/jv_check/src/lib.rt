@@ -7,6 +7,5 @@ mod named;
 mod report;
 
 pub use checking::check_files;
-pub use jv_run as of_run;
-pub use jv_run::{of_interp_start, of_method};
+pub use jv_run::of_method;
 pub use named::check_named;

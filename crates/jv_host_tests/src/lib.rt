@@ -8,4 +8,6 @@ mod folder;
 #[cfg(test)]
 mod host;
 #[cfg(test)]
+mod program;
+#[cfg(test)]
 mod report;

@@ -13,9 +13,9 @@ use Rattle.jv_host.specs.Limits.{first_refusal}
 use Rattle.jv_run.specs.declared.brought.Brought.{Brought}
 use Rattle.jv_run.specs.Failure.{failure_of}
 use Rattle.jv_run.specs.Folder.{NamedGuest}
-use Rattle.jv_run.specs.Outcome.{AreAllowed, IsGuestsFailure, IsRefusedAmong}
+use Rattle.jv_run.specs.Outcome.{AreAllowed, IsRefusedAmong}
 use Rattle.jv_run.specs.Inside.Brought.{named_guest_of}
-use Rattle.jv_run.specs.Inside.Play.{at_start}
+use Rattle.jv_run.specs.Inside.Play.{IsAdmitFailure, at_start}
 use Rattle.jv_run.proofs.Places.{found_in_map, length-taken, map-more, map-take-more, some_same}
 
 pub allowed-more : (b : Budget) (guests : List NamedGuest) (k : ℕ) (named : NamedGuest) → slice_get guests k ≡ Some named → first_refusal named.guest b k ≡ None
@@ -61,7 +61,7 @@ module _ (b : Budget) (guests : List Brought) (k : ℕ) (guest : Brought) (found
 
   -- a refusal of the host, as the program's failure
   pub refused : (fault : AdmitFault) → AreAllowed b (map named_guest_of guests) k → (fault ≢ refusals.HostMemory → first_refusal g b (length host) ≡ Some fault)
-      → (fault ≡ refusals.HostMemory → first_refusal g b (length host) ≡ None) → IsGuestsFailure b (map named_guest_of guests) (failure_of fault)
+      → (fault ≡ refusals.HostMemory → first_refusal g b (length host) ≡ None) → IsAdmitFailure b (map named_guest_of guests) (failure_of fault)
   refused refusals.NoFiles before first memory = first_of refusals.NoFiles before (first (λ e. cc))
   refused refusals.TooManyFiles before first memory = first_of refusals.TooManyFiles before (first (λ e. cc))
   refused refusals.FileTooLong before first memory = first_of refusals.FileTooLong before (first (λ e. cc))

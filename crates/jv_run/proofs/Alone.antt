@@ -1,89 +1,116 @@
 -- What the guests of a host that has run show is what they show alone.
-use Rattle.std.proofs.Common.{◌≡◌, ◌≢◌, ℕ, ◌+◌, ◌*◌, ◌-◌, ◌<◌, ◌≤◌, ◌^◌, List, [], length, Some, sym, ap, subst, ◌∙◌, inl, inr, arith}
-use Rattle.std.specs.Prelude.{map, slice_get, Result, Ok, Err, IfOk, string_bytes}
+use Rattle.std.proofs.Common.{◌≡◌, ◌≢◌, ℕ, suc, Bool, false, cond, List, [], ◌∷◌, length, Option, Some, refl, sym, ap, subst, ◌∙◌}
+use Rattle.std.specs.Prelude.{map, slice_get, ◌||◌, Result, Ok, Err, IfOk, string_bytes}
+use Rattle.std.specs.List.{list_any}
 use Rattle.std.proofs.lemmas.List.{length-map}
-use Rattle.std.proofs.lemmas.Nat.{mul-le}
-use Rattle.jv_meaning_machine.specs.State.End.{Running}
+use Rattle.jv_meaning_machine.specs.State.{End}
+use Rattle.jv_meaning_machine.specs.State.End.{Running, Returned, Threw, NoMain}
 use Rattle.jv_meaning_machine.specs.Start.{Budget}
-use Rattle.jv_meaning_machine.specs.Alone.{GuestFiles}
+use Rattle.jv_meaning_machine.specs.Alone.{Feed, GuestFiles}
 use Rattle.jv_meaning_machine.specs.Observation.{Observed, Shows}
 use Rattle.jv_meaning_machine.specs.Laws.Shown.{ShowsOneThing}
 use Rattle.jv_host.specs.of_interp_start.Started.{budget_of}
-use Rattle.jv_host.specs.Host.{Admission, stepped}
-use Rattle.jv_host.specs.Calls.{HadTurn, admission}
+use Rattle.jv_host.specs.Host.{Admission}
+use Rattle.jv_host.specs.Calls.{IsShown, NoneRuns}
 use Rattle.jv_run.specs.declared.settings.Settings.{Settings}
+use Rattle.jv_run.specs.Feeding.{feeds_to}
 use Rattle.jv_run.specs.Folder.{NamedGuest}
 use Rattle.jv_run.specs.declared.brought.Brought.{Brought}
 use Rattle.jv_run.specs.declared.outcome.Outcome.{Outcome}
-use Rattle.jv_run.specs.Outcome.{IsRunAlone, IsRunningAlone, IsRunOutcome, IsToldOf}
-use Rattle.jv_run.specs.Report.{Told, report_text, run_status}
+use Rattle.jv_run.specs.Outcome.{IsRunAlone, IsRunOutcome, IsToldOf}
+use Rattle.jv_run.specs.Report.{Told, is_running, report_text, run_status}
 use Rattle.jv_run.specs.Inside.Brought.{named_guest_of}
-use Rattle.jv_run.specs.Settings.{most_steps}
 use Rattle.jv_run.specs.Inside.Play.{AreReportsOn, HasRun, IsReportOn, at_start}
+use Rattle.jv_run.specs.Inside.Turns.{HasPlayed}
 use Rattle.jv_run.proofs.Places.{found_in_map, some_same}
-use Rattle.jv_run.proofs.Rounds.{in_run, rounds_count}
 
-module _ (one : ShowsOneThing) (g : GuestFiles) (b : Budget) (most : ℕ) (few : most < 2 ^ 64 - 1) where
+module _ (one : ShowsOneThing) where
   -- what a guest that had its turns since its start shows
-  pub shown_alone : (k : ℕ) (later : Admission) (o : Observed) → HadTurn (admission g b) most k → later ≡ stepped k (admission g b)
-      → Shows later.guest later.budget later.feeds later.steps o → IsRunAlone g b most o
-  shown_alone k later o turns same shown =
-      let place : 0 + k ≡ k = omega arith in
-      let least : k ≤ most = turns.most in
-      let there : Shows g b [] (0 + k) o = subst (λ (a : Admission). Shows a.guest a.budget a.feeds a.steps o) same shown in
-      let alone : Shows g b [] k o = subst (λ (n : ℕ). Shows g b [] n o) place there in
+  played_alone : (n turns : ℕ) (a : Admission) (o : Observed) → HasPlayed n turns a → Shows a.guest a.budget a.feeds a.steps o → IsRunAlone a.guest a.budget a.feeds n turns o
+  played_alone n turns a o played shown = record {
+    steps = a.steps;
+    alone = shown;
+    running = played.running;
+    few = played.few;
+    over = λ early.
+        let over = played.over early in
+        let same : over.0 ≡ o = one a.guest a.budget a.feeds a.steps over.0 o over.1 shown in
+        subst (λ (x : Observed). x.end ≢ Running) same over.2;
+    fed = played.fed;
+  }
+
+  shown_alone : (n turns : ℕ) (a : Admission) (o : Observed) (g : GuestFiles) (b : Budget) (feeds : List Feed) → a.guest ≡ g → a.budget ≡ b → a.feeds ≡ feeds
+      → HasPlayed n turns a → Shows a.guest a.budget a.feeds a.steps o → IsRunAlone g b feeds n turns o
+  shown_alone n turns a o g b feeds guest budget fed played shown =
+      subst (λ (x : GuestFiles). IsRunAlone x b feeds n turns o) guest
+      (subst (λ (x : Budget). IsRunAlone a.guest x feeds n turns o) budget
+      (subst (λ (x : List Feed). IsRunAlone a.guest a.budget x n turns o) fed (played_alone n turns a o played shown)))
+
+  -- what is told of the guests of a host that has run
+  told : (s : Settings) (guests : List NamedGuest) (before after : Option (List ℕ)) (host : List Admission) (place : ℕ) (named : NamedGuest) (t : Told)
+      (ran : HasRun s guests before after host) → slice_get guests place ≡ Some named → IsReportOn guests host place t → IsToldOf s ran.feeds ran.rounds place named t
+  told s guests before after host place named t ran found report =
+      let b = budget_of s.budget in
+      let same : report.named ≡ named = some_same report.named named (sym report.found ∙ found) in
+      let start : slice_get ran.start place ≡ Some (at_start b named) =
+      ap (λ (gs : List Admission). slice_get gs place) ran.started ∙ found_in_map (at_start b) guests place named found in
+      let now = ran.played.each place (at_start b named) start in
+      let a = report.shown.guest in
+      let it : now.0 ≡ a = some_same now.0 a (sym now.1 ∙ report.shown.found) in
+      let guest : a.guest ≡ named.guest = sym (ap (λ (x : Admission). x.guest) it) ∙ now.2.guest in
+      let budget : a.budget ≡ b = sym (ap (λ (x : Admission). x.budget) it) ∙ now.2.budget in
+      let played : HasPlayed s.quantum ran.rounds a = subst (λ (x : Admission). HasPlayed s.quantum ran.rounds x) it now.2.played in
       record {
-        steps = k;
-        alone = alone;
-        running = λ n lt. let same : 0 + n ≡ n = omega arith in subst (λ (i : ℕ). IsRunningAlone g b i) same (turns.running n lt);
-        few = least;
-        over = λ early. elim (turns.full early) [
-          | inl ended ↦
-              let same : ended.0 ≡ o = one g b [] (0 + k) ended.0 o ended.1 there in
-              subst (λ (x : Observed). x.end ≢ Running) same ended.2
-          | inr counted ↦ absurd (omega (arith, counted, early, few))
-        ];
+        number = report.number;
+        word = report.word ∙ ap (λ (x : NamedGuest). x.word) same;
+        names = report.names ∙ ap (λ (x : NamedGuest). x.names) same;
+        seen = shown_alone s.quantum ran.rounds a t.seen named.guest b (feeds_to s.stdin ran.feeds place) guest budget (ran.fed place a report.shown.found) played report.shown.alone;
       }
 
--- what is told of the guests of a host that has run
-pub told : (one : ShowsOneThing) (s : Settings) (guests : List NamedGuest) (host : List Admission) (place : ℕ) (named : NamedGuest) (t : Told)
-    → most_steps s < 2 ^ 64 - 1 → HasRun s guests host → slice_get guests place ≡ Some named → IsReportOn guests host place t → IsToldOf s place named t
-told one s guests host place named t few ran found report =
-    let b = budget_of s.budget in
-    let same : report.named ≡ named = some_same report.named named (sym report.found ∙ found) in
-    let start : slice_get ran.before place ≡ Some (at_start b named) =
-    ap (λ (gs : List Admission). slice_get gs place) ran.started ∙ found_in_map (at_start b) guests place named found in
-    let had = in_run one s.quantum s.rounds ran.rounds ran.before host place (at_start b named) (omega arith) start ran.run in
-    let later : report.shown.guest ≡ stepped had.0 (at_start b named) = some_same report.shown.guest (stepped had.0 (at_start b named)) (sym report.shown.found ∙ had.2) in
-    record {
-      number = report.number;
-      word = report.word ∙ ap (λ (x : NamedGuest). x.word) same;
-      names = report.names ∙ ap (λ (x : NamedGuest). x.names) same;
-      seen = shown_alone one named.guest b (most_steps s) few had.0 report.shown.guest t.seen had.1 later report.shown.alone;
-    }
+  -- a guest that is over isn't told to run
+  ended : (e : End) → e ≢ Running → is_running e ≡ false
+  ended Running h = absurd (h refl)
+  ended Returned h = refl
+  ended (Threw name) h = refl
+  ended NoMain h = refl
 
--- fewer than can be counted
-pub few_steps : (s : Settings) → s.quantum < 2 ^ 32 → s.rounds < 2 ^ 32 → most_steps s < 2 ^ 64 - 1
-few_steps s quantum rounds =
-    let most : s.quantum * s.rounds ≤ 4294967295 * 4294967295 = mul-le s.quantum s.rounds 4294967295 4294967295 (omega (arith, quantum)) (omega (arith, rounds)) in
-    omega (arith, most)
+  is_over : (host : List Admission) (place : ℕ) (t : Told) → NoneRuns host → IsShown host place t.seen → is_running t.seen.end ≡ false
+  is_over host place t none shown =
+      let a = shown.guest in
+      let over = none place a shown.found in
+      let same : over.0 ≡ t.seen = one a.guest a.budget a.feeds a.steps over.0 t.seen over.1 shown.alone in
+      ended t.seen.end (subst (λ (x : Observed). x.end ≢ Running) same over.2)
 
--- what is said of the guests of such a host
-pub said : {E : Type 0} (one : ShowsOneThing) (s : Settings) (brought : List Brought) (host : List Admission) (all : List Told) → most_steps s < 2 ^ 64 - 1
-    → HasRun s (map named_guest_of brought) host → AreReportsOn (map named_guest_of brought) host (length brought) all → {lent : List Told} → lent ≡ all → (result : Result Outcome E)
-    → IfOk result (λ outcome. string_bytes outcome.report ≡ report_text lent) → IfOk result (λ outcome. outcome.status ≡ run_status lent)
-    → IfOk result (IsRunOutcome s (map named_guest_of brought))
-said one s brought host all few ran reports same (Err e) report status = tt
-said one s brought host all few ran reports same (Ok outcome) report status = record {
-  told = all;
-  count = reports.many ∙ sym (length-map brought named_guest_of);
-  each = λ place named t found there. told one s (map named_guest_of brought) host place named t few ran found (reports.each place t there);
-  report = subst (λ (ts : List Told). string_bytes outcome.report ≡ report_text ts) same report;
-  status = subst (λ (ts : List Told). outcome.status ≡ run_status ts) same status;
-}
+  none_told : (all : List Told) → ((place : ℕ) (t : Told) → slice_get all place ≡ Some t → is_running t.seen.end ≡ false) → list_any (λ t. is_running t.seen.end) all ≡ false
+  none_told [] each = refl
+  none_told (t ∷ all) each =
+      ap (λ (b : Bool). b || list_any (λ t. is_running t.seen.end) all) (each 0 t refl)
+      ∙ none_told all (λ place other found. each (suc place) other found)
+
+  -- what is said of the guests of such a host
+  pub said : {E : Type 0} (s : Settings) (brought : List Brought) (host : List Admission) (all : List Told) → AreReportsOn (map named_guest_of brought) host (length brought) all
+      → {lent : List Told} → lent ≡ all → (result : Result Outcome E) → IfOk result (λ outcome. string_bytes outcome.report ≡ report_text lent)
+      → IfOk result (λ outcome. outcome.status ≡ run_status lent)
+      → IfOk result (λ outcome. (before after : Option (List ℕ)) → HasRun s (map named_guest_of brought) before after host
+      → IsRunOutcome s (map named_guest_of brought) before after outcome)
+  said s brought host all reports same (Err e) report status = tt
+  said s brought host all reports same (Ok outcome) report status = λ before after ran. record {
+    rounds = ran.rounds;
+    most = ran.most;
+    feeds = ran.feeds;
+    input = ran.input;
+    told = all;
+    count = reports.many ∙ sym (length-map brought named_guest_of);
+    each = λ place named t found there. told s (map named_guest_of brought) before after host place named t ran found (reports.each place t there);
+    full = λ early.
+        ap (λ (b : Bool). cond b 5 0)
+        (none_told all (λ place t found. is_over host place t (ran.full early) (reports.each place t found).shown));
+    report = subst (λ (ts : List Told). string_bytes outcome.report ≡ report_text ts) same report;
+    status = subst (λ (ts : List Told). outcome.status ≡ run_status ts) same status;
+  }
 
 -- such a host has as many guests as were admitted
-pub all_there : (s : Settings) (brought : List Brought) (host : List Admission) → HasRun s (map named_guest_of brought) host → length host ≡ length brought
-all_there s brought host ran =
-    rounds_count s.quantum ran.rounds ran.before host ran.run.went ∙ ap length ran.started
-    ∙ length-map (map named_guest_of brought) (at_start (budget_of s.budget)) ∙ length-map brought named_guest_of
+pub all_there : (s : Settings) (brought : List Brought) (before after : Option (List ℕ)) (host : List Admission) → HasRun s (map named_guest_of brought) before after host
+    → length host ≡ length brought
+all_there s brought before after host ran =
+    ran.played.count ∙ ap length ran.started ∙ length-map (map named_guest_of brought) (at_start (budget_of s.budget)) ∙ length-map brought named_guest_of

@@ -1,8 +1,12 @@
 pub mod Admitted
+pub mod AllTurns
 pub mod Alone
 pub mod ClassFileNames
+pub mod FedRounds
 pub mod Lines
 pub mod Places
+pub mod Played
 pub mod Read
 pub mod Reports
-pub mod Rounds
+pub mod Turns
+pub mod WhatWasRead

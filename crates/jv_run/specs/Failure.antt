@@ -2,24 +2,32 @@
 use Rattle.std.specs.Prelude.{◌≡◌, ℕ, ⊤, List, ◌∷◌, [], ◌++◌, codes}
 use Rattle.jv_host.specs.declared.fault.AdmitFault.{AdmitFault}
 use Rattle.jv_host.specs.declared.fault.AdmitFault.TheVariants as refusals
+use Rattle.jv_host.specs.declared.fault.FeedFault.{FeedFault}
+use Rattle.jv_host.specs.declared.fault.FeedFault.TheVariants as feeds
 use Rattle.jv_host.specs.Fault.{admit_fault_name}
 use Rattle.jv_run.specs.declared.failure.Failure.{Failure}
-use Rattle.jv_run.specs.declared.failure.Failure.TheVariants.{Unreadable, Refused, TooManyFolders, HostMemory, Memory}
+use Rattle.jv_run.specs.declared.failure.Failure.TheVariants.{Unreadable, StandardInput, Refused, FeedTooLong, TooManyFolders, NoGuest, HostMemory, Memory}
 use Rattle.jv_run.specs.Escape.{escaped_text}
 
--- 2 for too many folders, 3 for what can't be read or is refused, and 4 where memory was refused
+-- 2 for too many folders and a guest that isn't there, 3 for what can't be read or is refused, and 4 where memory was refused
 abbrev pub failure_status : Failure → ℕ
 failure_status (Unreadable name) = 3
+failure_status StandardInput = 3
 failure_status (Refused fault) = 3
+failure_status FeedTooLong = 3
 failure_status TooManyFolders = 2
+failure_status NoGuest = 2
 failure_status HostMemory = 4
 failure_status Memory = 4
 
 -- the reason, as it is printed
 abbrev pub failure_reason : Failure → List ℕ
 failure_reason (Unreadable name) = escaped_text name.items ++ codes ": cannot be read"
+failure_reason StandardInput = codes "standard input: cannot be read"
 failure_reason (Refused fault) = admit_fault_name fault
+failure_reason FeedTooLong = codes "InputTooLong"
 failure_reason TooManyFolders = codes "TooManyGuests"
+failure_reason NoGuest = codes "NoGuest"
 failure_reason HostMemory = codes "HostMemory"
 failure_reason Memory = codes "Memory"
 
@@ -31,6 +39,12 @@ failure_line failure = codes "jvhost: " ++ failure_reason failure ++ 10 ∷ []
 abbrev pub failure_of : AdmitFault → Failure
 failure_of refusals.HostMemory = HostMemory
 failure_of fault = Refused fault
+
+-- what a refusal of bytes for a guest is for the program
+abbrev pub failure_of_feed : FeedFault → Failure
+failure_of_feed feeds.NoGuest = NoGuest
+failure_of_feed feeds.InputTooLong = FeedTooLong
+failure_of_feed feeds.HostMemory = HostMemory
 
 -- why the file of a name was not read: the failure holds its name, or the program's memory was refused
 abbrev pub IsUnread : List ℕ → Failure → Type 0

@@ -1,2 +1,3 @@
 pub mod Brought
 pub mod Play
+pub mod Turns

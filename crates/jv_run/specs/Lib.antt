@@ -1,6 +1,7 @@
 pub mod Bytes
 pub mod Escape
 pub mod Failure
+pub mod Feeding
 pub mod Folder
 pub mod Inside
 pub mod MainName

@@ -1,47 +1,50 @@
 -- What the program says of the guests of folders (own).
-use Rattle.std.specs.Prelude.{◌≡◌, ◌≢◌, ⊤, Some, None, ℕ, ◌+◌, ◌<◌, ◌≤◌, List, [], length, slice_get, string_bytes}
+use Rattle.std.specs.Prelude.{◌≡◌, ◌≢◌, ⊤, Option, Some, None, ℕ, ◌+◌, ◌-◌, ◌*◌, ◌<◌, ◌≤◌, List, length, slice_get, string_bytes}
 use Rattle.jv_meaning_machine.specs.State.End.{Running}
 use Rattle.jv_meaning_machine.specs.Start.{Budget}
-use Rattle.jv_meaning_machine.specs.Alone.{GuestFiles}
+use Rattle.jv_meaning_machine.specs.Alone.{GuestFiles, Feed}
 use Rattle.jv_meaning_machine.specs.Observation.{Observed, Shows}
 use Rattle.jv_host.specs.of_interp_start.Started.{budget_of}
 use Rattle.jv_host.specs.declared.fault.AdmitFault.{AdmitFault}
 use Rattle.jv_host.specs.Limits.{first_refusal}
 use Rattle.jv_run.specs.declared.failure.Failure.{Failure}
-use Rattle.jv_run.specs.declared.failure.Failure.TheVariants.{Unreadable, Refused, TooManyFolders, HostMemory, Memory}
+use Rattle.jv_run.specs.declared.failure.Failure.TheVariants.{Unreadable, StandardInput, Refused, FeedTooLong, TooManyFolders, NoGuest, HostMemory, Memory}
 use Rattle.jv_run.specs.declared.outcome.Outcome.{Outcome}
 use Rattle.jv_run.specs.declared.settings.Settings.{Settings}
+use Rattle.jv_run.specs.Feeding.{AreFeedsFrom, CameInTime, IsRunningAlone, IsTooLong, feeds_to}
 use Rattle.jv_run.specs.Folder.{NamedGuest}
 use Rattle.jv_run.specs.Report.{Told, report_text, run_status}
-use Rattle.jv_run.specs.Settings.{most_steps}
 
--- after n of its own steps a guest shows, alone, that it takes steps
-abbrev pub IsRunningAlone : GuestFiles → Budget → ℕ → Type 0
-IsRunningAlone g b n = (o : Observed) × Shows g b [] n o × (o.end ≡ Running)
-
--- What a guest shows alone after some number of its own steps, each of which it took while it ran: as many as there were to its end, or
--- as many as it gets.
-pub record IsRunAlone (g : GuestFiles) (b : Budget) (most : ℕ) (o : Observed) : Type 0 where
+-- What a guest that is fed so shows alone after some number of its own steps, each of which it took while it ran: as many as so many turns
+-- of at most n steps could have, or as there were to its end.
+pub record IsRunAlone (g : GuestFiles) (b : Budget) (feeds : List Feed) (n turns : ℕ) (o : Observed) : Type 0 where
   pub steps : ℕ
-  pub alone : Shows g b [] steps o
-  pub running : (n : ℕ) → n < steps → IsRunningAlone g b n
-  pub few : steps ≤ most
-  pub over : steps < most → o.end ≢ Running
+  pub alone : Shows g b feeds steps o
+  pub running : (k : ℕ) → k < steps → IsRunningAlone g b feeds k
+  pub few : steps ≤ n * turns
+  pub over : steps < n * turns → o.end ≢ Running
+  pub fed : CameInTime g b n feeds
 
 -- What is told of the guest at a place: its number, its folder's word, its files' names, and what that guest shows alone.
-pub record IsToldOf (s : Settings) (place : ℕ) (named : NamedGuest) (told : Told) : Type 0 where
+pub record IsToldOf (s : Settings) (feeds : List Feed) (rounds place : ℕ) (named : NamedGuest) (told : Told) : Type 0 where
   pub number : told.number ≡ place + 1
   pub word : told.word ≡ named.word
   pub names : told.names ≡ named.names
-  pub seen : IsRunAlone named.guest (budget_of s.budget) (most_steps s) told.seen
+  pub seen : IsRunAlone named.guest (budget_of s.budget) (feeds_to s.stdin feeds place) s.quantum rounds told.seen
 
--- The report tells so of each guest, and the status goes with what is told.
-pub record IsRunOutcome (s : Settings) (guests : List NamedGuest) (outcome : Outcome) : Type 0 where
+-- The guests had rounds of turns: all of them, or as many as there were until none ran. Of input with these bytes before and after, what
+-- was read was fed to the one guest that is fed. The report tells so of each guest, and the status goes with what is told.
+pub record IsRunOutcome (s : Settings) (guests : List NamedGuest) (before after : Option (List ℕ)) (outcome : Outcome) : Type 0 where
+  pub rounds : ℕ
+  pub most : rounds ≤ s.rounds
+  pub feeds : List Feed
+  pub input : AreFeedsFrom s.stdin rounds feeds before after
   pub told : List Told
   pub count : length told ≡ length guests
   pub each :
       (place : ℕ) (named : NamedGuest) (t : Told) → slice_get guests place ≡ Some named → slice_get told place ≡ Some t
-      → IsToldOf s place named t
+      → IsToldOf s feeds rounds place named t
+  pub full : rounds < s.rounds → run_status told ≡ 0
   pub report : string_bytes outcome.report ≡ report_text told
   pub status : outcome.status ≡ run_status told
 
@@ -60,11 +63,28 @@ pub record IsRefusedAmong (b : Budget) (guests : List NamedGuest) (fault : Admit
   pub before : AreAllowed b guests place
   pub first : first_refusal named.guest b place ≡ Some fault
 
--- Why there is no report on guests: the host refused one; or it would have the first of them at least, and had no memory; or the program
--- had none.
-abbrev pub IsGuestsFailure : Budget → List NamedGuest → Failure → Type 0
-IsGuestsFailure b guests (Unreadable name) = ⊥
-IsGuestsFailure b guests (Refused fault) = IsRefusedAmong b guests fault
-IsGuestsFailure b guests TooManyFolders = ⊥
-IsGuestsFailure b guests HostMemory = AreAllowed b guests 1
-IsGuestsFailure b guests Memory = ⊤
+-- more came for the guest that is fed than it may have
+abbrev pub IsOverfed : Option ℕ → List NamedGuest → (before after : Option (List ℕ)) → Type 0
+IsOverfed None guests before after = ⊥
+IsOverfed (Some number) guests before after =
+    (named : NamedGuest) × (slice_get guests (number - 1) ≡ Some named) × IsTooLong named.guest before after
+
+-- Why the guests' turns ended early: nothing could be read for the one that is fed, or what was read is more than it may have, or the host
+-- had no memory for it.
+abbrev pub IsFeedingFailure : Option ℕ → List NamedGuest → (before after : Option (List ℕ)) → Failure → Type 0
+IsFeedingFailure stdin guests before after StandardInput = stdin ≢ None
+IsFeedingFailure stdin guests before after FeedTooLong = IsOverfed stdin guests before after
+IsFeedingFailure stdin guests before after HostMemory = stdin ≢ None
+IsFeedingFailure stdin guests before after failure = ⊥
+
+-- Why there is no report on guests: the host refused one; or what was read for one was too long, or nothing could be read; or the host
+-- had no memory, and would have the first of them at least; or the program had none.
+abbrev pub IsGuestsFailure : Settings → List NamedGuest → (before after : Option (List ℕ)) → Failure → Type 0
+IsGuestsFailure s guests before after (Unreadable name) = ⊥
+IsGuestsFailure s guests before after StandardInput = s.stdin ≢ None
+IsGuestsFailure s guests before after (Refused fault) = IsRefusedAmong (budget_of s.budget) guests fault
+IsGuestsFailure s guests before after FeedTooLong = IsOverfed s.stdin guests before after
+IsGuestsFailure s guests before after TooManyFolders = ⊥
+IsGuestsFailure s guests before after NoGuest = ⊥
+IsGuestsFailure s guests before after HostMemory = AreAllowed (budget_of s.budget) guests 1
+IsGuestsFailure s guests before after Memory = ⊤

@@ -8,11 +8,11 @@ ghost use Rattle.jv_run.specs.Names.{is_listed_name};
 
 use crate::failure::Failure;
 use crate::file::read_past_limit;
+use crate::folders::Folders;
 use crate::names::{class_file_names, is_listed_name, names_in};
 use std::alloc::{AllocError, Global};
 use std::io;
 use std::io::{Error, ErrorKind};
-use std::rt::Files;
 
 /// The most bytes of a class file, and of the file `main`.
 const CLASS_FILE_LIMIT: usize = 4_194_304;
@@ -69,20 +69,26 @@ fn failure_at(name: Vec<u8>, error: &Error) -> Failure
 }
 
 /// The bytes of the file at a path, or one more than the limit where there are more than that.
-fn bytes_at<R: Files + AllocGlobal>(rt: &R, path: &[u8], limit: usize) -> io::Result<Vec<u8>>
+fn bytes_at<F: Folders>(
+    alloc: Global,
+    folders: &mut F,
+    path: &[u8],
+    limit: usize,
+) -> io::Result<Vec<u8>>
     requires { limit + 2 < 2 ^ 64 }
     ensures { IfOk result (λ bytes. vec_len bytes ≤ limit + 1) }
 {
     let Ok(path) = std::str::from_utf8(path) else {
         return Err(Error::from(ErrorKind::InvalidFilename));
     };
-    let mut file = std::fs::open(rt, path)?;
-    read_past_limit(rt.alloc(), &mut file, limit)
+    let mut file = folders.open_file(path)?;
+    read_past_limit(alloc, &mut file, limit)
 }
 
 /// The bytes of a file in a folder.
-fn read_file<R: Files + AllocGlobal>(
-    rt: &R,
+fn read_file<F: Folders>(
+    alloc: Global,
+    folders: &mut F,
     folder: &str,
     name: &[u8],
     limit: usize,
@@ -91,39 +97,44 @@ fn read_file<R: Files + AllocGlobal>(
     ensures most { IfOk result (λ bytes. vec_len bytes ≤ limit + 1) }
     ensures err { IfErr result IsNotRead }
 {
-    let path = path_in(rt.alloc(), folder, name)?;
-    match bytes_at(rt, path.as_slice(), limit) {
+    let path = path_in(alloc, folder, name)?;
+    match bytes_at(alloc, folders, path.as_slice(), limit) {
         Ok(bytes) => Ok(bytes),
         Err(error) => Err(failure_at(path, &error)),
     }
 }
 
 /// The listing of a folder: its names, each ended by a NUL.
-fn listing_at<R: Files + AllocGlobal>(rt: &R, folder: &str) -> io::Result<Vec<u8>> {
-    let mut path = String::from_str(rt.alloc(), folder)?;
+fn listing_at<F: Folders>(alloc: Global, folders: &mut F, folder: &str) -> io::Result<Vec<u8>> {
+    let mut path = String::from_str(alloc, folder)?;
     if !folder.is_empty() {
         path.push('/')?;
     }
-    let mut folder = rt.open_dir(path.as_str())?;
-    read_past_limit(rt.alloc(), &mut folder, LISTING_LIMIT)
+    let mut listing = folders.open_folder(path.as_str())?;
+    read_past_limit(alloc, &mut listing, LISTING_LIMIT)
 }
 
 /// The listing of a folder, or the failure that names the folder.
-fn read_listing<R: Files + AllocGlobal>(rt: &R, folder: &str) -> Result<Vec<u8>, Failure>
+fn read_listing<F: Folders>(
+    alloc: Global,
+    folders: &mut F,
+    folder: &str,
+) -> Result<Vec<u8>, Failure>
     ensures err { IfErr result IsNotRead }
 {
-    match listing_at(rt, folder) {
+    match listing_at(alloc, folders, folder) {
         Ok(listing) => Ok(listing),
         Err(error) => {
-            let name = Vec::from_slice(rt.alloc(), folder.as_bytes())?;
+            let name = Vec::from_slice(alloc, folder.as_bytes())?;
             Err(failure_at(name, &error))
         }
     }
 }
 
 /// A class file of a folder.
-fn read_class_file<R: Files + AllocGlobal>(
-    rt: &R,
+fn read_class_file<F: Folders>(
+    alloc: Global,
+    folders: &mut F,
     folder: &str,
     name: &[u8],
 ) -> Result<NamedFile, Failure>
@@ -131,8 +142,8 @@ fn read_class_file<R: Files + AllocGlobal>(
     ensures most { IfOk result IsReadUpToLimit }
     ensures err { IfErr result IsNotRead }
 {
-    let bytes = read_file(rt, folder, name, CLASS_FILE_LIMIT)?;
-    let name = Vec::from_slice(rt.alloc(), name)?;
+    let bytes = read_file(alloc, folders, folder, name, CLASS_FILE_LIMIT)?;
+    let name = Vec::from_slice(alloc, name)?;
     Ok(NamedFile { name, bytes })
 }
 
@@ -141,22 +152,27 @@ fn read_class_file<R: Files + AllocGlobal>(
 /// # Errors
 ///
 /// `Unreadable` with the path, or `Memory` where the program had none.
-pub fn read_class<R: Files + AllocGlobal>(rt: &R, path: &str) -> Result<Vec<u8>, Failure>
+pub fn read_class<F: Folders>(
+    alloc: Global,
+    folders: &mut F,
+    path: &str,
+) -> Result<Vec<u8>, Failure>
     ensures most { IfOk result (λ bytes. vec_len bytes ≤ 4194305) }
     ensures err { IfErr result (IsUnread path.now) }
 {
-    match bytes_at(rt, path.as_bytes(), CLASS_FILE_LIMIT) {
+    match bytes_at(alloc, folders, path.as_bytes(), CLASS_FILE_LIMIT) {
         Ok(bytes) => Ok(bytes),
         Err(error) => {
-            let name = Vec::from_slice(rt.alloc(), path.as_bytes())?;
+            let name = Vec::from_slice(alloc, path.as_bytes())?;
             Err(failure_at(name, &error))
         }
     }
 }
 
 /// The class files of these names.
-fn read_class_files<R: Files + AllocGlobal>(
-    rt: &R,
+fn read_class_files<F: Folders>(
+    alloc: Global,
+    folders: &mut F,
     folder: &str,
     names: &[&[u8]],
 ) -> Result<Vec<NamedFile>, Failure>
@@ -164,42 +180,44 @@ fn read_class_files<R: Files + AllocGlobal>(
     ensures most { IfOk result (λ files. All IsReadUpToLimit files.items) }
     ensures err { IfErr result IsNotRead }
 {
-    let mut class_files = Vec::new(rt.alloc());
+    let mut class_files = Vec::new(alloc);
     for name in names {
-        let class_file = read_class_file(rt, folder, name)?;
+        let class_file = read_class_file(alloc, folders, folder, name)?;
         class_files.push(class_file).map_err(AllocError::from)?;
     }
     Ok(class_files)
 }
 
 /// The class files among these names, in byte order of their names.
-fn read_class_files_among<R: Files + AllocGlobal>(
-    rt: &R,
+fn read_class_files_among<F: Folders>(
+    alloc: Global,
+    folders: &mut F,
     folder: &str,
     names: &[&[u8]],
 ) -> Result<Vec<NamedFile>, Failure>
     ensures ok { IfOk result (λ files. AreClassFilesOf (map bytes_of names.now) files.items) }
     ensures err { IfErr result IsNotRead }
 {
-    let class_names = class_file_names(rt.alloc(), names)?;
-    read_class_files(rt, folder, class_names.as_slice())
+    let class_names = class_file_names(alloc, names)?;
+    read_class_files(alloc, folders, folder, class_names.as_slice())
 }
 
 /// The bytes of the file `main`; one that is longer than the limit can't be read.
-fn read_main<R: Files + AllocGlobal>(rt: &R, folder: &str) -> Result<Vec<u8>, Failure>
+fn read_main<F: Folders>(alloc: Global, folders: &mut F, folder: &str) -> Result<Vec<u8>, Failure>
     ensures most { IfOk result (λ main. vec_len main ≤ 4194304) }
     ensures err { IfErr result IsNotRead }
 {
-    let main = read_file(rt, folder, b"main", CLASS_FILE_LIMIT)?;
+    let main = read_file(alloc, folders, folder, b"main", CLASS_FILE_LIMIT)?;
     if main.len() > CLASS_FILE_LIMIT {
-        return Err(Failure::Unreadable(path_in(rt.alloc(), folder, b"main")?));
+        return Err(Failure::Unreadable(path_in(alloc, folder, b"main")?));
     }
     Ok(main)
 }
 
 /// The bytes of the file `input` where it is among the names, and else none.
-fn read_input<R: Files + AllocGlobal>(
-    rt: &R,
+fn read_input<F: Folders>(
+    alloc: Global,
+    folders: &mut F,
     folder: &str,
     names: &[&[u8]],
 ) -> Result<Vec<u8>, Failure>
@@ -209,15 +227,16 @@ fn read_input<R: Files + AllocGlobal>(
     ensures err { IfErr result IsNotRead }
 {
     if is_listed_name(names, b"input") {
-        read_file(rt, folder, b"input", INPUT_LIMIT)
+        read_file(alloc, folders, folder, b"input", INPUT_LIMIT)
     } else {
-        Ok(Vec::new(rt.alloc()))
+        Ok(Vec::new(alloc))
     }
 }
 
 /// Reads what a folder whose listing has these names holds of a guest.
-fn read_files<'a, R: Files + AllocGlobal>(
-    rt: &R,
+fn read_files<'a, F: Folders>(
+    alloc: Global,
+    folders: &mut F,
     word: &'a str,
     names: &[&[u8]],
 ) -> Result<Folder<'a>, Failure>
@@ -225,9 +244,9 @@ fn read_files<'a, R: Files + AllocGlobal>(
     ensures files { IfOk result (λ found. IsFolderOf (map bytes_of names.now) found) }
     ensures err { IfErr result IsNotRead }
 {
-    let class_files = read_class_files_among(rt, word, names)?;
-    let main = read_main(rt, word)?;
-    let input = read_input(rt, word, names)?;
+    let class_files = read_class_files_among(alloc, folders, word, names)?;
+    let main = read_main(alloc, folders, word)?;
+    let input = read_input(alloc, folders, word, names)?;
     Ok(Folder {
         word,
         class_files,
@@ -238,11 +257,15 @@ fn read_files<'a, R: Files + AllocGlobal>(
 
 /// Reads the folder of a word: its listing, its class files in byte order of their names, its file `main`, and its file
 /// `input` where there is one. What fails first is the failure.
-pub fn read_folder<'a, R: Files + AllocGlobal>(rt: &R, word: &'a str) -> Result<Folder<'a>, Failure>
+pub fn read_folder<'a, F: Folders>(
+    alloc: Global,
+    folders: &mut F,
+    word: &'a str,
+) -> Result<Folder<'a>, Failure>
     ensures ok { IfOk result (IsFolderRead word.now) }
     ensures err { IfErr result IsNotRead }
 {
-    let listing = read_listing(rt, word)?;
-    let names = names_in(rt.alloc(), listing.as_slice())?;
-    read_files(rt, word, names.as_slice())
+    let listing = read_listing(alloc, folders, word)?;
+    let names = names_in(alloc, listing.as_slice())?;
+    read_files(alloc, folders, word, names.as_slice())
 }

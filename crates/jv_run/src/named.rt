@@ -1,42 +1,43 @@
 //! Folders that are named, read and run.
-ghost use Rattle.std.specs.Prelude.{◌≡◌, ◌≤◌, ◌<◌, Err, IfErr, IfOk, length, map};
+ghost use Rattle.std.specs.Prelude.{◌≡◌, ◌≤◌, ◌<◌, false, true, IfErr, IfOk, IsErrAnd, length, map};
 ghost use Rattle.jv_run.specs.Bytes.{bytes_of};
+ghost use Rattle.jv_run.specs.Failure.{IsNotRead};
+ghost use Rattle.jv_run.specs.Feeding.{is_no_guest};
 ghost use Rattle.jv_run.specs.Folder.{named_guest};
-ghost use Rattle.jv_run.specs.Named.{AreFoldersOf, IsReadFailure, IsRunAs, IsRunFailure, IsStartFailure};
+ghost use Rattle.jv_run.specs.Named.{AreFoldersOf, IsRunAs, IsRunFailure, IsStartFailure};
 ghost use Rattle.jv_run.specs.Outcome.{IsRunOutcome};
-ghost use Rattle.jv_run.specs.declared.failure.Failure.TheVariants.{HostMemory};
+ghost use Rattle.jv_run.specs.declared.failure.Failure.TheVariants.{HostMemory, NoGuest, TooManyFolders};
 
 use crate::failure::Failure;
 use crate::folder::{Folder, read_folder};
+use crate::folders::Folders;
 use crate::outcome::{Outcome, run_folders};
 use crate::settings::Settings;
 use jv_host::of_loader::system_files;
-use std::alloc::AllocError;
+use std::alloc::{AllocError, Global};
 use std::hash::RandomState;
+use std::io::Read;
 use std::random::RandomSource;
-use std::rt::Files;
 
 /// The most folders.
 const FOLDERS: usize = 64;
 
-/// Reads the folders of words, in their order; none of more words than folders are taken.
-fn read_folders<'a, R: Files + AllocGlobal>(
-    rt: &R,
+/// Reads the folders of words, in their order.
+fn read_folders<'a, F: Folders>(
+    alloc: Global,
+    folders: &mut F,
     words: &[&'a str],
 ) -> Result<Vec<Folder<'a>>, Failure>
     ensures ok { IfOk result (λ folders. AreFoldersOf (map bytes_of words.now) folders.items) }
-    ensures few { IfOk result (λ folders. length folders.items ≤ 64) }
-    ensures err { IfErr result (IsReadFailure (map bytes_of words.now)) }
+    ensures count { IfOk result (λ folders. length folders.items ≡ length words.now) }
+    ensures err { IfErr result IsNotRead }
 {
-    if words.len() > FOLDERS {
-        return Err(Failure::TooManyFolders);
-    }
-    let mut folders = Vec::new(rt.alloc());
+    let mut read = Vec::new(alloc);
     for word in words {
-        let folder = read_folder(rt, word)?;
-        folders.push(folder).map_err(AllocError::from)?;
+        let folder = read_folder(alloc, folders, word)?;
+        read.push(folder).map_err(AllocError::from)?;
     }
-    Ok(folders)
+    Ok(read)
 }
 
 /// The state with which names are hashed; a system that gives none is short of memory.
@@ -49,38 +50,66 @@ pub fn hashing_state<R: RandomSource>(rt: &R) -> Result<RandomState, Failure>
     }
 }
 
+/// Whether there is no guest with the number of the one that is to be fed, where one is.
+fn is_no_guest(number: Option<u32>, guests: usize) -> bool
+    ensures { result ≡ is_no_guest number guests }
+{
+    match number {
+        Some(number) => number == 0 || guests < number as usize,
+        None => false,
+    }
+}
+
 /// Runs the guests of folders that have been read.
-fn run_read<R: RandomSource + AllocGlobal>(
-    rt: &R,
+fn run_read<I: Read>(
+    alloc: Global,
+    state: RandomState,
     settings: Settings,
     folders: &[Folder<'_>],
+    input: &mut I,
 ) -> Result<Outcome, Failure>
     requires few { length folders.now ≤ 64 }
-    ensures ok { IfOk result (IsRunOutcome settings (map named_guest folders.now)) }
-    ensures err { IfErr result (IsStartFailure settings folders.now) }
+    requires fed { is_no_guest settings.stdin (length folders.now) ≡ false }
+    ensures ok { IfOk result
+        (IsRunOutcome settings (map named_guest folders.now) (I.remaining input.old) (I.remaining input.new)) }
+    ensures err { IfErr result
+        (IsStartFailure settings folders.now (I.remaining input.old) (I.remaining input.new)) }
 {
-    let Ok(system) = system_files(rt.alloc()) else {
+    let Ok(system) = system_files(alloc) else {
         return Err(Failure::Memory);
     };
-    let state = hashing_state(rt)?;
-    run_folders(rt.alloc(), state, &system, settings, folders)
+    run_folders(alloc, state, &system, settings, folders, input)
 }
 
 /// Reads the folders of words, in their order, and runs their guests in one host.
 ///
 /// # Errors
 ///
-/// `TooManyFolders` where there are more than 64 words, and none is then read; `Unreadable` with the name of the first file or
-/// folder that can't be read; and else what `run_folders` says of the folders, `HostMemory` also where the system gives no
-/// state to hash with.
-pub fn run_named<R: Files + RandomSource + AllocGlobal>(
-    rt: &R,
+/// `TooManyFolders` where there are more than 64 words, and `NoGuest` where none is that of the guest that is to be fed; no folder
+/// is then read. `Unreadable` with the name of the first file or folder that can't be read; and else what `run_folders` says of the
+/// folders.
+pub fn run_named<F: Folders, I: Read>(
+    alloc: Global,
+    state: RandomState,
     settings: Settings,
     words: &[&str],
+    folders: &mut F,
+    input: &mut I,
 ) -> Result<Outcome, Failure>
-    ensures ok { IfOk result (IsRunAs settings (map bytes_of words.now)) }
-    ensures err { IfErr result (IsRunFailure settings (map bytes_of words.now)) }
+    ensures ok { IfOk result
+        (IsRunAs settings (map bytes_of words.now) (I.remaining input.old) (I.remaining input.new)) }
+    ensures err { IfErr result
+        (IsRunFailure settings (map bytes_of words.now) (I.remaining input.old) (I.remaining input.new)) }
+    ensures many { 64 < length words.now → IsErrAnd result (λ failure. failure ≡ TooManyFolders) }
+    ensures no_guest { length words.now ≤ 64 → is_no_guest settings.stdin (length words.now) ≡ true
+        → IsErrAnd result (λ failure. failure ≡ NoGuest) }
 {
-    let folders = read_folders(rt, words)?;
-    run_read(rt, settings, folders.as_slice())
+    if words.len() > FOLDERS {
+        return Err(Failure::TooManyFolders);
+    }
+    if is_no_guest(settings.stdin, words.len()) {
+        return Err(Failure::NoGuest);
+    }
+    let folders = read_folders(alloc, folders, words)?;
+    run_read(alloc, state, settings, folders.as_slice(), input)
 }

@@ -1,6 +1,6 @@
 //! The report on the guests of folders, or why there is none.
-ghost use Rattle.std.specs.Prelude.{◌≡◌, ◌≤◌, IfErr, IfOk, length, map, string_bytes};
-ghost use Rattle.jv_host.specs.of_interp_start.Started.{budget_of};
+ghost use Rattle.std.specs.Prelude.{◌≡◌, ◌≤◌, ℕ, false, IfErr, IfOk, List, Option, length, map, string_bytes};
+ghost use Rattle.jv_run.specs.Feeding.{is_no_guest};
 ghost use Rattle.jv_run.specs.Folder.{named_guest};
 ghost use Rattle.jv_run.specs.Outcome.{IsGuestsFailure, IsRunOutcome};
 ghost use Rattle.jv_run.specs.Report.{report_text, run_status};
@@ -19,6 +19,7 @@ use jv_host::of_loader::SystemFiles;
 use jv_meaning_machine::shows_one_thing;
 use std::alloc::{AllocError, Global};
 use std::hash::RandomState;
+use std::io::Read;
 
 /// A report, and the status that the program ends with.
 #[derive(Drop)]
@@ -47,8 +48,10 @@ fn said_of(
     settings: Settings,
 ) -> Result<Outcome, AllocError>
     requires few { length guests.now ≤ 64 }
-    requires run { HasRun settings (map named_guest_of guests.now) host.now }
-    ensures { IfOk result (IsRunOutcome settings (map named_guest_of guests.now)) }
+    requires run { (before after : Option (List ℕ)) × HasRun settings (map named_guest_of guests.now) before after host.now }
+    ensures { IfOk result (λ outcome. (before after : Option (List ℕ))
+        → HasRun settings (map named_guest_of guests.now) before after host.now
+        → IsRunOutcome settings (map named_guest_of guests.now) before after outcome) }
 {
     shows_one_thing();
     let _ = settings;
@@ -57,40 +60,50 @@ fn said_of(
 }
 
 /// Runs the guests of folders, and reports them.
-fn run_guests<'a>(
+fn run_guests<'a, I: Read>(
     alloc: Global,
     state: RandomState,
     system: &'a SystemFiles,
     settings: Settings,
     guests: &'a [Brought<'_>],
+    input: &mut I,
 ) -> Result<Outcome, Failure>
     requires few { length guests.now ≤ 64 }
-    ensures ok { IfOk result (IsRunOutcome settings (map named_guest_of guests.now)) }
-    ensures err { IfErr result (IsGuestsFailure (budget_of settings.budget) (map named_guest_of guests.now)) }
+    requires fed { is_no_guest settings.stdin (length guests.now) ≡ false }
+    ensures ok { IfOk result
+        (IsRunOutcome settings (map named_guest_of guests.now) (I.remaining input.old) (I.remaining input.new)) }
+    ensures err { IfErr result
+        (IsGuestsFailure settings (map named_guest_of guests.now) (I.remaining input.old) (I.remaining input.new)) }
 {
     let mut host = Host::new(alloc, state, system);
-    play(&mut host, guests, settings)?;
+    play(&mut host, guests, settings, input)?;
     Ok(said_of(alloc, &host, guests, settings)?)
 }
 
 /// Runs the guests of folders, at most 64, in one host, and reports them in the order of the folders. Names are hashed with
-/// the state.
+/// the state. Before each round of turns, as long as a guest takes steps and until the input ends, the guest with the number in the
+/// settings is fed what one read of the input gives.
 ///
 /// # Errors
 ///
-/// `Refused` where the host does not admit a guest, with the first reason that applies to the first such guest;
-/// `HostMemory` where the host had no memory, and `Memory` where the program had none.
-pub fn run_folders(
+/// `Refused` where the host does not admit a guest, with the first reason that applies to the first such guest; `StandardInput`
+/// where a read of the input fails, and `FeedTooLong` where more was read for a guest than its input may have; `HostMemory` where the
+/// host had no memory, and `Memory` where the program had none.
+pub fn run_folders<I: Read>(
     alloc: Global,
     state: RandomState,
     system: &SystemFiles,
     settings: Settings,
     folders: &[Folder<'_>],
+    input: &mut I,
 ) -> Result<Outcome, Failure>
     requires few { length folders.now ≤ 64 }
-    ensures ok { IfOk result (IsRunOutcome settings (map named_guest folders.now)) }
-    ensures err { IfErr result (IsGuestsFailure (budget_of settings.budget) (map named_guest folders.now)) }
+    requires fed { is_no_guest settings.stdin (length folders.now) ≡ false }
+    ensures ok { IfOk result
+        (IsRunOutcome settings (map named_guest folders.now) (I.remaining input.old) (I.remaining input.new)) }
+    ensures err { IfErr result
+        (IsGuestsFailure settings (map named_guest folders.now) (I.remaining input.old) (I.remaining input.new)) }
 {
     let guests = all_brought_by(alloc, folders)?;
-    run_guests(alloc, state, system, settings, guests.as_slice())
+    run_guests(alloc, state, system, settings, guests.as_slice(), input)
 }

@@ -1,21 +1,26 @@
 //! Guests in a host, and their turns.
-ghost use Rattle.std.specs.Prelude.{◌≡◌, ◌≤◌, ◌<◌, ◌+◌, [], ℕ, IfErr, IfOk, IsSome, IsTrue, OnOk, Some, length, map, slice_get};
+ghost use Rattle.std.specs.Prelude.{◌≡◌, ◌≤◌, ◌<◌, ◌+◌, [], false, IfErr, IfOk, IsSome, OnOk, length, map, slice_get};
 ghost use Rattle.jv_host.specs.of_interp.Showing.{observed_of};
 ghost use Rattle.jv_host.specs.of_interp_start.Started.{budget_of};
-ghost use Rattle.jv_host.specs.Calls.{IsRun, IsShown};
+ghost use Rattle.jv_host.specs.Calls.{IsShown, NoneRuns};
+ghost use Rattle.jv_run.specs.Feeding.{is_no_guest};
 ghost use Rattle.jv_run.specs.Inside.Brought.{named_guest_of};
-ghost use Rattle.jv_run.specs.Inside.Play.{AreReportsOn, HasRun, IsReportOn, at_start, told_of};
-ghost use Rattle.jv_run.specs.Outcome.{AreAllowed, IsGuestsFailure};
+ghost use Rattle.jv_run.specs.Inside.Play.{AreReportsOn, HasRun, IsAdmitFailure, at_start, told_of};
+ghost use Rattle.jv_run.specs.Inside.Turns.{AreAtStart, NoneFed, PlayedSince};
+ghost use Rattle.jv_run.specs.Outcome.{AreAllowed, IsFeedingFailure, IsGuestsFailure};
 
 use crate::brought::{Brought, guest_files};
 use crate::failure::Failure;
+use crate::feeding::run_fed;
 use crate::report::Report;
 use crate::settings::Settings;
 use jv_heap::Cells;
 use jv_host::of_interp::Observation;
 use jv_host::of_interp_start::Budget;
 use jv_host::{GuestId, Host};
+use jv_meaning_machine::shows_one_thing;
 use std::alloc::{AllocError, Global};
+use std::io::Read;
 
 /// Admits guests to a host without guests, in their order.
 fn admit_all<'a>(
@@ -26,7 +31,7 @@ fn admit_all<'a>(
     requires { host.old ≡ [] }
     ensures ok { OnOk result (host.new ≡ map (at_start (budget_of budget)) (map named_guest_of guests.now)) }
     ensures allowed { OnOk result (AreAllowed (budget_of budget) (map named_guest_of guests.now) (length guests.now)) }
-    ensures err { IfErr result (IsGuestsFailure (budget_of budget) (map named_guest_of guests.now)) }
+    ensures err { IfErr result (IsAdmitFailure (budget_of budget) (map named_guest_of guests.now)) }
 {
     for guest in guests {
         host.admit(guest_files(guest), budget)?;
@@ -34,32 +39,67 @@ fn admit_all<'a>(
     Ok(())
 }
 
-/// Gives the guests of a host their turns; none is refused, since the host's cells never ask for memory.
-fn run_all(host: &mut Host<'_, Cells>, settings: Settings)
-    ensures { (m : ℕ) × IsRun settings.quantum settings.rounds host.old host.new m }
+/// Gives the guests of a host, each of which is at its start, their turns; none is refused, since the host's cells never ask for memory.
+/// Answers how many rounds there were.
+fn run_unfed(host: &mut Host<'_, Cells>, settings: Settings) -> u32
+    requires { AreAtStart host.old }
+    ensures few { result ≤ settings.rounds }
+    ensures played { PlayedSince settings.quantum result host.old host.new }
+    ensures none { NoneFed host.new }
+    ensures full { result < settings.rounds → NoneRuns host.new }
 {
-    let Ok(_) = host.run(settings.quantum, settings.rounds) else {
+    shows_one_thing();
+    let Ok(rounds) = host.run(settings.quantum, settings.rounds) else {
         unreachable!()
     };
+    rounds
 }
 
-/// Admits guests to a host without guests, in their order, and gives them their turns.
-pub(crate) fn play<'a>(
-    host: &mut Host<'a, Cells>,
-    guests: &'a [Brought<'_>],
+/// Gives the guests of a host their turns, and feeds one of them what is read where the settings say so.
+fn run_all<I: Read>(
+    host: &mut Host<'_, Cells>,
+    guests: &[Brought<'_>],
     settings: Settings,
+    input: &mut I,
 ) -> Result<(), Failure>
-    requires { host.old ≡ [] }
-    ensures ok { OnOk result (HasRun settings (map named_guest_of guests.now) host.new) }
-    ensures err { IfErr result (IsGuestsFailure (budget_of settings.budget) (map named_guest_of guests.now)) }
+    requires few { length guests.now ≤ 64 }
+    requires start { host.old ≡ map (at_start (budget_of settings.budget)) (map named_guest_of guests.now) }
+    requires fed { is_no_guest settings.stdin (length guests.now) ≡ false }
+    ensures ok { OnOk result
+        (HasRun settings (map named_guest_of guests.now) (I.remaining input.old) (I.remaining input.new) host.new) }
+    ensures err { IfErr result
+        (IsFeedingFailure settings.stdin (map named_guest_of guests.now) (I.remaining input.old) (I.remaining input.new)) }
 {
-    admit_all(host, guests, settings.budget)?;
-    run_all(host, settings);
+    let Some(number) = settings.stdin else {
+        let _count = run_unfed(host, settings);
+        return Ok(());
+    };
+    let id = GuestId(number - 1);
+    let _count = run_fed(host, guests.len() as u32, id, settings, input)?;
     Ok(())
 }
 
+/// Admits guests to a host without guests, in their order, and gives them their turns.
+pub(crate) fn play<'a, I: Read>(
+    host: &mut Host<'a, Cells>,
+    guests: &'a [Brought<'_>],
+    settings: Settings,
+    input: &mut I,
+) -> Result<(), Failure>
+    requires empty { host.old ≡ [] }
+    requires few { length guests.now ≤ 64 }
+    requires fed { is_no_guest settings.stdin (length guests.now) ≡ false }
+    ensures ok { OnOk result
+        (HasRun settings (map named_guest_of guests.now) (I.remaining input.old) (I.remaining input.new) host.new) }
+    ensures err { IfErr result
+        (IsGuestsFailure settings (map named_guest_of guests.now) (I.remaining input.old) (I.remaining input.new)) }
+{
+    admit_all(host, guests, settings.budget)?;
+    run_all(host, guests, settings, input)
+}
+
 /// What a guest of the host shows.
-fn observation_of<'h>(host: &'h Host<'_, Cells>, id: GuestId) -> Observation<'h>
+pub(crate) fn observation_of<'h>(host: &'h Host<'_, Cells>, id: GuestId) -> Observation<'h>
     requires { IsSome (slice_get host.now id.0) }
     ensures { IsShown host.now id.0 (observed_of result) }
 {

@@ -68,7 +68,7 @@ struct Output<'a>(&'a [u8]);
 struct Ending<'a>(GuestEnd<'a>);
 
 /// Whether a guest that ended so takes steps.
-fn is_running(end: GuestEnd<'_>) -> bool
+pub(crate) fn is_running(end: GuestEnd<'_>) -> bool
     ensures { result ≡ is_running (seen_end end.entry) }
 {
     matches!(end, GuestEnd::Running)

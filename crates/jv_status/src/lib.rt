@@ -1,9 +1,14 @@
-//! The report as it is written, and the status that the program ends with: that of its report, or of
-//! what there is in its place. A private part of the program.
+//! The program, over whatever it reads from and writes to: what words ask for is done, the report is written, and the status that the
+//! program ends with is that of its report, or of what there is in its place. A private part of the program.
 #![tactic(auto)]
 
+mod command_line;
+mod program;
 mod stop;
 mod written;
 
+pub use command_line::not_text;
+pub use jv_run as of_run;
+pub use program::{command, tell};
 pub use stop::{Stop, status_of};
 pub use written::write_report;

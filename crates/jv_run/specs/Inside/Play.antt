@@ -1,26 +1,44 @@
 -- What a host comes to that runs the guests of folders.
-use Rattle.std.specs.Prelude.{◌≡◌, ℕ, ◌+◌, List, Some, map, length, slice_get}
+use Rattle.std.specs.Prelude.{◌≡◌, ℕ, ◌+◌, ◌<◌, ◌≤◌, List, Option, Some, map, length, slice_get}
 use Rattle.jv_meaning_machine.specs.Start.{Budget}
+use Rattle.jv_meaning_machine.specs.Alone.{Feed}
 use Rattle.jv_host.specs.of_interp_start.Started.{budget_of}
 use Rattle.jv_host.specs.of_interp.Showing.{observed_of}
 use Rattle.jv_host.specs.Host.{Admission}
-use Rattle.jv_host.specs.Calls.{IsRun, IsShown, admission}
+use Rattle.jv_host.specs.Calls.{IsShown, NoneRuns, admission}
+use Rattle.jv_run.specs.declared.failure.Failure.{Failure}
+use Rattle.jv_run.specs.declared.failure.Failure.TheVariants.{Refused, HostMemory}
 use Rattle.jv_run.specs.declared.report.Report.{Report}
 use Rattle.jv_run.specs.declared.settings.Settings.{Settings}
 use Rattle.jv_run.specs.Bytes.{bytes_of}
+use Rattle.jv_run.specs.Feeding.{AreFeedsFrom, feeds_to}
 use Rattle.jv_run.specs.Folder.{NamedGuest}
+use Rattle.jv_run.specs.Outcome.{AreAllowed, IsRefusedAmong}
 use Rattle.jv_run.specs.Report.{Told}
+use Rattle.jv_run.specs.Inside.Turns.{PlayedSince}
 
 -- a guest at its start
 abbrev pub at_start : Budget → NamedGuest → Admission
 at_start b named = admission named.guest b
 
--- Guests were admitted, and each had its turns.
-pub record HasRun (s : Settings) (guests : List NamedGuest) (host : List Admission) : Type 0 where
-  pub before : List Admission
-  pub started : before ≡ map (at_start (budget_of s.budget)) guests
+-- Guests were admitted, and had their turns, as many as the settings say or as there were until none ran; what was read came to the guest
+-- that is fed.
+pub record HasRun (s : Settings) (guests : List NamedGuest) (before after : Option (List ℕ)) (host : List Admission) : Type 0 where
+  pub start : List Admission
+  pub started : start ≡ map (at_start (budget_of s.budget)) guests
   pub rounds : ℕ
-  pub run : IsRun s.quantum s.rounds before host rounds
+  pub most : rounds ≤ s.rounds
+  pub played : PlayedSince s.quantum rounds start host
+  pub feeds : List Feed
+  pub input : AreFeedsFrom s.stdin rounds feeds before after
+  pub fed : (place : ℕ) (a : Admission) → slice_get host place ≡ Some a → a.feeds ≡ feeds_to s.stdin feeds place
+  pub full : rounds < s.rounds → NoneRuns host
+
+-- why a guest is not admitted: the host refuses it; or it had no memory, and would have the first guest at least
+abbrev pub IsAdmitFailure : Budget → List NamedGuest → Failure → Type 0
+IsAdmitFailure b guests (Refused fault) = IsRefusedAmong b guests fault
+IsAdmitFailure b guests HostMemory = AreAllowed b guests 1
+IsAdmitFailure b guests failure = ⊥
 
 -- ---- reports
 

@@ -2,8 +2,8 @@ use Rattle.std.proofs.Common.{ap, ◌∙◌, map, Err}
 use Rattle.jv_host.specs.of_interp_start.Started.{budget_of}
 use Rattle.jv_host.specs.Files.{guest_of}
 use Rattle.jv_run.specs.Failure.{failure_of}
-use Rattle.jv_run.specs.Outcome.{IsGuestsFailure}
 use Rattle.jv_run.specs.Inside.Brought.{named_guest_of}
+use Rattle.jv_run.specs.Inside.Play.{IsAdmitFailure}
 use Rattle.jv_run.proofs.Admitted.{allowed_too, held-more, refused}
 use Rattle.jv_run.proofs.Places.{item_at, passed_on}
 use Rattle.jv_run.proofs.play.admit_all.Goals as goal
@@ -16,7 +16,7 @@ returns-in_err-admit-clause-err c =
     let guest = c.guest-item.result in
     let fault = c.in_err-admit.field-0.0 in
     let was = c.in_err-admit.was {u = tt} in
-    passed_on c.from_residual.result (failure_of fault) (IsGuestsFailure b (map named_guest_of guests)) c.from_residual.ensures.1
+    passed_on c.from_residual.result (failure_of fault) (IsAdmitFailure b (map named_guest_of guests)) c.from_residual.ensures.1
     (refused b guests k guest (item_at guests k guest c.loop-guest-test.true c.guest-item.is) c.loop-guest-test.true c.loop-guest.host c.loop-guest.invariant.held
     (guest_of c.guest_files.result) c.guest_files.ensures fault c.loop-guest.invariant.allowed (c.in_err-admit.ensures {u = tt}).refused
     (λ e. c.admit.ensures.memory (was ∙ ap Err e)))

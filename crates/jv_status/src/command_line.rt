@@ -1,18 +1,17 @@
 //! The command line.
-ghost use Rattle.std.specs.Prelude.{◌≡◌, ◌≢◌, IfOk};
+ghost use Rattle.std.specs.Prelude.{◌≡◌, ◌≢◌, IfErr, IfOk};
 ghost use Rattle.clap.specs.Values.{kind_of};
-ghost use Rattle.jv_check.specs.of_run.declared.failure.Failure.TheVariants.{Memory};
+ghost use Rattle.jv_run.specs.declared.failure.Failure.TheVariants.{Memory};
+ghost use Rattle.jv_status.specs.Command.{IsEarly, IsTask};
 ghost use Rattle.jv_status.specs.Status.{HasStatus};
 ghost use Rattle.jv_status.specs.declared.stop.Stop.TheVariants.{CommandLine, Run};
 
+use crate::stop::Stop;
 use clap::error::ErrorKind;
 use clap::{Arg, ArgMatches, Command, value_parser};
-use jv_check::of_interp_start::Budget;
-use jv_check::of_run::{Failure, Settings, default_settings};
-use jv_status::Stop;
+use jv_run::of_interp_start::Budget;
+use jv_run::{Failure, Settings, are_in_range, default_settings};
 use std::alloc::{AllocError, Global};
-use std::rt::Env;
-use std::{env, io};
 
 /// What the words of a command line ask for.
 #[derive(Drop)]
@@ -30,6 +29,15 @@ fn number<'a>(alloc: Global, name: &'a str, least: u32, help: &'a str) -> Arg<'a
         .value_name("N")
         .help(help)
         .value_parser(value_parser!(u32).range(i64::from(least)..))
+}
+
+/// The option with the number of the guest that is fed.
+fn stdin<'a>(alloc: Global) -> Arg<'a> {
+    Arg::new(alloc, "stdin")
+        .long("stdin")
+        .value_name("K")
+        .help("The guest that is fed what comes on standard input, else none")
+        .value_parser(value_parser!(u32).range(1..=64))
 }
 
 /// The command `run FOLDER...`, with the settings.
@@ -63,7 +71,8 @@ fn run_command<'a>(alloc: Global) -> Result<Command<'a>, AllocError> {
             "The bytes that each guest may write, else 65536",
         ))?
         .arg(number(alloc, "quantum", 1, "The most steps of a turn, else 1000"))?
-        .arg(number(alloc, "rounds", 1, "The most rounds of turns, else 10000"))
+        .arg(number(alloc, "rounds", 1, "The most rounds of turns, else 10000"))?
+        .arg(stdin(alloc))
 }
 
 /// The command `check FILE...`.
@@ -89,7 +98,11 @@ fn command<'a>(alloc: Global) -> Result<Command<'a>, AllocError> {
 }
 
 /// What ends the program where a word is no text.
-fn not_text(alloc: Global) -> Result<Stop, AllocError>
+///
+/// # Errors
+///
+/// Where there is no memory for what is said of it.
+pub fn not_text(alloc: Global) -> Result<Stop, AllocError>
     ensures { IfOk result (λ stop. HasStatus stop 2) }
 {
     let mut command = command(alloc)?;
@@ -98,17 +111,9 @@ fn not_text(alloc: Global) -> Result<Stop, AllocError>
     Ok(Stop::CommandLine(error))
 }
 
-/// The words of the command line, of which the first is the program's name.
-pub(crate) fn words<R: Env + AllocGlobal>(rt: &R) -> Result<Vec<String>, Stop> {
-    match env::args(rt) {
-        Ok(words) => Ok(words.collect(rt.alloc())?),
-        Err(error) if error.kind() == io::ErrorKind::OutOfMemory => Err(Stop::Run(Failure::Memory)),
-        Err(_) => Err(not_text(rt.alloc())?),
-    }
-}
-
 /// What a failed parse means.
 fn stop_of(error: clap::Error) -> Stop
+    ensures early { IsEarly result }
     ensures memory { kind_of error ≡ ErrorKind.OutOfMemory → result ≡ Run Memory }
     ensures other { kind_of error ≢ ErrorKind.OutOfMemory → result ≡ CommandLine error }
 {
@@ -145,6 +150,7 @@ fn settings_in(found: &ArgMatches<'_>) -> Settings {
         budget,
         quantum: number_for(found, "quantum", usual.quantum),
         rounds: number_for(found, "rounds", usual.rounds),
+        stdin: found.get_one::<u32>("stdin"),
     }
 }
 
@@ -158,15 +164,42 @@ fn task_in<'a>(alloc: Global, name: &str, found: &ArgMatches<'a>) -> Result<Task
     }
 }
 
-/// What the words ask for.
-pub(crate) fn task_of<'a>(alloc: Global, words: &'a [String]) -> Result<Task<'a>, Stop> {
+/// What ends the program where the numbers are out of their ranges; the command line refuses them before.
+fn out_of_range(alloc: Global) -> Result<Stop, AllocError>
+    ensures { IfOk result IsEarly }
+{
+    let mut command = command(alloc)?;
+    let message = "a number is out of its range";
+    let error = command.error(ErrorKind::ValueValidation, message)?;
+    Ok(Stop::CommandLine(error))
+}
+
+/// What the matched words ask for, with numbers in their ranges.
+fn task_in_range<'a>(alloc: Global, task: Task<'a>) -> Result<Task<'a>, Stop>
+    ensures ok { IfOk result IsTask }
+    ensures err { IfErr result IsEarly }
+{
+    if let Task::Run(settings, _) = &task {
+        if !are_in_range(*settings) {
+            return Err(out_of_range(alloc)?);
+        }
+    }
+    Ok(task)
+}
+
+/// What the words ask for, of which the first is the program's name.
+pub(crate) fn task_of<'a>(alloc: Global, words: &'a [String]) -> Result<Task<'a>, Stop>
+    ensures ok { IfOk result IsTask }
+    ensures err { IfErr result IsEarly }
+{
     let command = command(alloc)?;
     let matches = match command.try_get_matches_from(words) {
         Ok(matches) => matches,
         Err(error) => return Err(stop_of(error)),
     };
-    match matches.subcommand() {
-        Some((name, found)) => Ok(task_in(alloc, name, found)?),
-        None => Ok(Task::Check(Vec::new(alloc))),
-    }
+    let task = match matches.subcommand() {
+        Some((name, found)) => task_in(alloc, name, found)?,
+        None => Task::Check(Vec::new(alloc)),
+    };
+    task_in_range(alloc, task)
 }

@@ -1,0 +1,569 @@
+//! What no clause says of the program: what it prints, and its statuses, over folders, an input and outputs in memory.
+
+use crate::feeds::ECHO_FILE;
+use crate::host::HI;
+use jv_run::Folders;
+use jv_status::command;
+use std::alloc::{AllocError, Global};
+use std::hash::RandomState;
+use std::io;
+use std::io::{Error, ErrorKind, Read, Write};
+
+/// Bytes that are read a piece at a time, and fail behind so many reads.
+#[derive(Clone, Copy)]
+struct Pieces {
+    bytes: &'static [u8],
+    piece: usize,
+    good: u32,
+}
+
+impl Read for Pieces {
+    fn read(&mut self, buf: &mut [u8]) -> io::Result<usize> {
+        if self.good == 0 {
+            return Err(Error::from(ErrorKind::Other));
+        }
+        self.good -= 1;
+        let len = buf.len().min(self.piece);
+        self.bytes.read(&mut buf[..len])
+    }
+}
+
+/// Bytes by their path, the most bytes of a piece, and how many reads are good.
+struct Held {
+    path: &'static str,
+    bytes: &'static [u8],
+    piece: usize,
+    good: u32,
+}
+
+/// More reads than there are.
+const ALL: u32 = 4_294_967_295;
+
+/// The folders.
+static LISTINGS: [Held; 8] = [
+    Held {
+        path: "hi/",
+        bytes: b"Hi.class\0main\0",
+        piece: 4096,
+        good: ALL,
+    },
+    Held {
+        path: "p/",
+        bytes: b"P.class\0main\0",
+        piece: 4096,
+        good: ALL,
+    },
+    Held {
+        path: "in/",
+        bytes: b"input\0P.class\0main\0",
+        piece: 4096,
+        good: ALL,
+    },
+    Held {
+        path: "mainless/",
+        bytes: b"Hi.class\0",
+        piece: 4096,
+        good: ALL,
+    },
+    Held {
+        path: "classless/",
+        bytes: b"B.class\0A.class\0",
+        piece: 4096,
+        good: ALL,
+    },
+    Held {
+        path: "first/",
+        bytes: b"Bad.class\0",
+        piece: 4096,
+        good: ALL,
+    },
+    Held {
+        path: "second/",
+        bytes: b"Cut.class\0",
+        piece: 4096,
+        good: ALL,
+    },
+    Held {
+        path: "cut/",
+        bytes: b"Hi.class\0main\0",
+        piece: 1,
+        good: 3,
+    },
+];
+
+/// The files.
+static FILES: [Held; 10] = [
+    Held {
+        path: "hi/Hi.class",
+        bytes: HI,
+        piece: 100,
+        good: ALL,
+    },
+    Held {
+        path: "hi/main",
+        bytes: b"Hi\n",
+        piece: 1,
+        good: ALL,
+    },
+    Held {
+        path: "p/P.class",
+        bytes: ECHO_FILE,
+        piece: 4096,
+        good: ALL,
+    },
+    Held {
+        path: "p/main",
+        bytes: b"P",
+        piece: 4096,
+        good: ALL,
+    },
+    Held {
+        path: "in/P.class",
+        bytes: ECHO_FILE,
+        piece: 4096,
+        good: ALL,
+    },
+    Held {
+        path: "in/main",
+        bytes: b"P\r\n",
+        piece: 4096,
+        good: ALL,
+    },
+    Held {
+        path: "in/input",
+        bytes: b"Z",
+        piece: 4096,
+        good: ALL,
+    },
+    Held {
+        path: "mainless/Hi.class",
+        bytes: HI,
+        piece: 4096,
+        good: ALL,
+    },
+    Held {
+        path: "first/Bad.class",
+        bytes: HI,
+        piece: 100,
+        good: 0,
+    },
+    Held {
+        path: "second/Cut.class",
+        bytes: HI,
+        piece: 100,
+        good: 1,
+    },
+];
+
+/// Folders and files in memory.
+#[derive(Clone, Copy)]
+struct Memory;
+
+fn found(table: &[Held], path: &str) -> io::Result<Pieces> {
+    for held in table {
+        if held.path == path {
+            return Ok(Pieces {
+                bytes: held.bytes,
+                piece: held.piece,
+                good: held.good,
+            });
+        }
+    }
+    Err(Error::from(ErrorKind::NotFound))
+}
+
+impl Folders for Memory {
+    type File = Pieces;
+
+    type Listing = Pieces;
+
+    fn open_file(&mut self, path: &str) -> io::Result<Pieces> {
+        found(&FILES, path)
+    }
+
+    fn open_folder(&mut self, path: &str) -> io::Result<Pieces> {
+        found(&LISTINGS, path)
+    }
+}
+
+/// An output that takes so many bytes more, and fails then.
+#[derive(Drop)]
+struct Narrow {
+    room: usize,
+    taken: Vec<u8>,
+}
+
+impl Write for Narrow {
+    fn write(&mut self, buf: &[u8]) -> io::Result<usize> {
+        if self.room == 0 {
+            return Err(Error::from(ErrorKind::BrokenPipe));
+        }
+        let len = buf.len().min(self.room);
+        self.taken.extend_from_slice(&buf[..len])?;
+        self.room -= len;
+        Ok(len)
+    }
+
+    fn flush(&mut self) -> io::Result<()> {
+        Ok(())
+    }
+}
+
+/// Words; the input, of which a read gives one byte, and how many reads are good; and what the program does: its status, and what it
+/// prints. What the command line's library prints isn't looked at.
+#[derive(Clone, Copy)]
+struct Row {
+    words: &'static str,
+    input: &'static [u8],
+    good: u32,
+    status: u8,
+    out: [&'static str; 2],
+    err: Option<&'static str>,
+}
+
+/// The words of a line.
+fn words_of(alloc: Global, line: &str) -> Result<Vec<String>, AllocError> {
+    let mut words = Vec::new(alloc);
+    for word in line.split(' ') {
+        let word = String::from_str(alloc, word)?;
+        words.push(word).map_err(AllocError::from)?;
+    }
+    Ok(words)
+}
+
+/// Whether this was printed: one text, and then another.
+fn is_out(out: &[u8], [first, second]: [&str; 2]) -> bool {
+    match out.split_at_checked(first.len()) {
+        Some((front, rest)) => front == first.as_bytes() && rest == second.as_bytes(),
+        None => false,
+    }
+}
+
+/// Whether the program does what a row says, with outputs that have so much room.
+fn does(alloc: Global, state: RandomState, row: &Row, room: usize) -> bool {
+    let Ok(words) = words_of(alloc, row.words) else {
+        return false;
+    };
+    let mut input = Pieces {
+        bytes: row.input,
+        piece: 1,
+        good: row.good,
+    };
+    let mut out = Narrow {
+        room,
+        taken: Vec::new(alloc),
+    };
+    let mut err = Vec::new(alloc);
+    let status = command(
+        alloc,
+        state,
+        words.as_slice(),
+        &mut Memory,
+        &mut input,
+        &mut out,
+        &mut err,
+    );
+    let is_told = match row.err {
+        Some(text) => err.as_slice() == text.as_bytes(),
+        None => !err.is_empty(),
+    };
+    status == row.status && is_out(out.taken.as_slice(), row.out) && is_told
+}
+
+const HI_TOLD: &str =
+    "guest 1 hi\n  Hi.class: Accepted\n  steps 6\n  throws 0\n  output 2: Hi\n  end Returned\n";
+
+static REPORTS: [Row; 6] = [
+    Row {
+        words: "jvhost run hi hi",
+        input: b"",
+        good: 0,
+        status: 0,
+        out: [
+            "guest 1 hi\n  Hi.class: Accepted\n  steps 6\n  throws 0\n  output 2: Hi\n  end Returned\n",
+            "guest 2 hi\n  Hi.class: Accepted\n  steps 6\n  throws 0\n  output 2: Hi\n  end Returned\n",
+        ],
+        err: Some(""),
+    },
+    Row {
+        words: "jvhost run --output 1 hi",
+        input: b"",
+        good: 0,
+        status: 0,
+        out: [
+            "guest 1 hi\n  Hi.class: Accepted\n",
+            "  steps 5\n  throws 1 last java/lang/OutOfMemoryError\n  output 1: H\n  end Threw java/lang/OutOfMemoryError\n",
+        ],
+        err: Some(""),
+    },
+    Row {
+        words: "jvhost run --quantum 3 --rounds 1 hi",
+        input: b"",
+        good: 0,
+        status: 5,
+        out: [
+            "guest 1 hi\n  Hi.class: Accepted\n",
+            "  steps 3\n  throws 0\n  output 1: H\n  end Running\n",
+        ],
+        err: Some(""),
+    },
+    Row {
+        words: "jvhost run --quantum 4 --rounds 1 in",
+        input: b"",
+        good: 0,
+        status: 5,
+        out: [
+            "guest 1 in\n  P.class: Accepted\n",
+            "  steps 4\n  throws 0\n  output 1: Z\n  end Running\n",
+        ],
+        err: Some(""),
+    },
+    Row {
+        words: "jvhost check hi/Hi.class p/P.class",
+        input: b"",
+        good: 0,
+        status: 0,
+        out: ["hi/Hi.class: Accepted\np/P.class: Accepted\n", ""],
+        err: Some(""),
+    },
+    Row {
+        words: "jvhost check hi/main",
+        input: b"",
+        good: 0,
+        status: 1,
+        out: ["hi/main: Format\n", ""],
+        err: Some(""),
+    },
+];
+
+/// Words that are refused, and nothing is on the output.
+static REFUSALS: [Row; 13] = [
+    Row {
+        words: "jvhost run --cells 63 hi",
+        input: b"",
+        good: 0,
+        status: 3,
+        out: ["", ""],
+        err: Some("jvhost: BudgetOutOfRange\n"),
+    },
+    Row {
+        words: "jvhost run --cells 63 hi none",
+        input: b"",
+        good: 0,
+        status: 3,
+        out: ["", ""],
+        err: Some("jvhost: none: cannot be read\n"),
+    },
+    Row {
+        words: "jvhost run mainless",
+        input: b"",
+        good: 0,
+        status: 3,
+        out: ["", ""],
+        err: Some("jvhost: mainless/main: cannot be read\n"),
+    },
+    Row {
+        words: "jvhost run classless",
+        input: b"",
+        good: 0,
+        status: 3,
+        out: ["", ""],
+        err: Some("jvhost: classless/A.class: cannot be read\n"),
+    },
+    Row {
+        words: "jvhost run first",
+        input: b"",
+        good: 0,
+        status: 3,
+        out: ["", ""],
+        err: Some("jvhost: first/Bad.class: cannot be read\n"),
+    },
+    Row {
+        words: "jvhost run second",
+        input: b"",
+        good: 0,
+        status: 3,
+        out: ["", ""],
+        err: Some("jvhost: second/Cut.class: cannot be read\n"),
+    },
+    Row {
+        words: "jvhost run cut",
+        input: b"",
+        good: 0,
+        status: 3,
+        out: ["", ""],
+        err: Some("jvhost: cut: cannot be read\n"),
+    },
+    Row {
+        words: "jvhost check hi/Hi.class first/Bad.class",
+        input: b"",
+        good: 0,
+        status: 3,
+        out: ["", ""],
+        err: Some("jvhost: first/Bad.class: cannot be read\n"),
+    },
+    Row {
+        words: "jvhost run --stdin 2 none",
+        input: b"",
+        good: 0,
+        status: 2,
+        out: ["", ""],
+        err: Some("jvhost: NoGuest\n"),
+    },
+    Row {
+        words: "jvhost run --stdin 1 p",
+        input: b"",
+        good: 0,
+        status: 3,
+        out: ["", ""],
+        err: Some("jvhost: standard input: cannot be read\n"),
+    },
+    Row {
+        words: "jvhost run --stdin 1 p",
+        input: b"AB",
+        good: 1,
+        status: 3,
+        out: ["", ""],
+        err: Some("jvhost: standard input: cannot be read\n"),
+    },
+    Row {
+        words: "jvhost run --stdin 65 hi",
+        input: b"",
+        good: 0,
+        status: 2,
+        out: ["", ""],
+        err: None,
+    },
+    Row {
+        words: "jvhost run --stdin 0 hi",
+        input: b"",
+        good: 0,
+        status: 2,
+        out: ["", ""],
+        err: None,
+    },
+];
+
+static FEEDS: [Row; 5] = [
+    // One piece comes before each round, to the guest with the number alone.
+    Row {
+        words: "jvhost run --stdin 2 --quantum 4 --rounds 2 p p",
+        input: b"AB",
+        good: 2,
+        status: 5,
+        out: [
+            "guest 1 p\n  P.class: Accepted\n  steps 8\n  throws 0\n  output 2: \\xff\\xff\n  end Running\n",
+            "guest 2 p\n  P.class: Accepted\n  steps 8\n  throws 0\n  output 2: AB\n  end Running\n",
+        ],
+        err: Some(""),
+    },
+    // What is fed joins behind the folder's input.
+    Row {
+        words: "jvhost run --stdin 1 --quantum 7 --rounds 1 in",
+        input: b"AB",
+        good: 1,
+        status: 5,
+        out: [
+            "guest 1 in\n  P.class: Accepted\n",
+            "  steps 7\n  throws 0\n  output 2: ZA\n  end Running\n",
+        ],
+        err: Some(""),
+    },
+    // Behind the end nothing is read.
+    Row {
+        words: "jvhost run --stdin 1 --quantum 4 --rounds 4 p",
+        input: b"A",
+        good: 2,
+        status: 5,
+        out: [
+            "guest 1 p\n  P.class: Accepted\n",
+            "  steps 16\n  throws 0\n  output 5: A\\xff\\xff\\xff\\xff\n  end Running\n",
+        ],
+        err: Some(""),
+    },
+    // Where no guest runs nothing is read.
+    Row {
+        words: "jvhost run --stdin 1 hi",
+        input: b"AB",
+        good: 1,
+        status: 0,
+        out: [HI_TOLD, ""],
+        err: Some(""),
+    },
+    // Where no guest is fed nothing is read.
+    Row {
+        words: "jvhost run hi",
+        input: b"",
+        good: 0,
+        status: 0,
+        out: [HI_TOLD, ""],
+        err: Some(""),
+    },
+];
+
+/// Whether the program does what each row says.
+fn does_all(alloc: Global, state: RandomState, rows: &[Row]) -> bool {
+    for row in rows {
+        if !does(alloc, state, row, 65_536) {
+            return false;
+        }
+    }
+    true
+}
+
+/// What of the report goes out where the output takes fewer bytes.
+static LOST: [(usize, &str); 3] = [(0, ""), (1, "g"), (9, "guest 1 h")];
+
+/// Whether an output that fails ends the program with 6, and with the front of the report.
+fn loses(alloc: Global, state: RandomState) -> bool {
+    for (room, out) in &LOST {
+        let row = Row {
+            words: "jvhost run hi",
+            input: b"",
+            good: 0,
+            status: 6,
+            out: [*out, ""],
+            err: Some("jvhost: output\n"),
+        };
+        if !does(alloc, state, &row, *room) {
+            return false;
+        }
+    }
+    true
+}
+
+#[test]
+fn reports(rt: HostRuntime) {
+    let passes = match RandomState::new(&rt) {
+        Ok(state) => does_all(rt.alloc(), state, &REPORTS),
+        Err(_) => false,
+    };
+    assert!(rt; passes);
+}
+
+#[test]
+fn refuses(rt: HostRuntime) {
+    let passes = match RandomState::new(&rt) {
+        Ok(state) => does_all(rt.alloc(), state, &REFUSALS),
+        Err(_) => false,
+    };
+    assert!(rt; passes);
+}
+
+#[test]
+fn feeds(rt: HostRuntime) {
+    let passes = match RandomState::new(&rt) {
+        Ok(state) => does_all(rt.alloc(), state, &FEEDS),
+        Err(_) => false,
+    };
+    assert!(rt; passes);
+}
+
+#[test]
+fn loses_output(rt: HostRuntime) {
+    let passes = match RandomState::new(&rt) {
+        Ok(state) => loses(rt.alloc(), state),
+        Err(_) => false,
+    };
+    assert!(rt; passes);
+}
