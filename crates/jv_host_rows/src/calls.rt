@@ -1,0 +1,124 @@
+//! The calls of a row.
+
+use crate::brought::{Lent, bytes_of, first_word, number_of};
+use crate::shown::{write_guest, write_verdicts};
+use jv_heap::Store;
+use jv_run::of_host::{AdmitFault, FeedFault, GuestFiles, GuestId, Host, TurnFault};
+use std::alloc::AllocError;
+
+/// A guest's files as they are lent.
+fn files_of<'a>(lent: &'a Lent<'a>) -> GuestFiles<'a> {
+    GuestFiles {
+        files: &lent.files,
+        main: lent.main,
+        input: lent.input,
+    }
+}
+
+/// Admits a guest as it is lent, once more where the host had no memory.
+pub(crate) fn write_admission<'a, S: Store>(
+    out: &mut String,
+    host: &mut Host<'a, S>,
+    lent: &'a Lent<'a>,
+) -> Result<(), AllocError> {
+    let mut answer = host.admit(files_of(lent), lent.budget);
+    if matches!(&answer, Err(AdmitFault::HostMemory)) {
+        answer = host.admit(files_of(lent), lent.budget);
+    }
+    match answer {
+        Ok(id) => write!(out, "guest {}", id.0),
+        Err(fault) => out.push_str(fault.name()),
+    }
+}
+
+/// Gives a guest a turn, and what is left of it once more where the host had no memory.
+fn write_turn<S: Store>(
+    out: &mut String,
+    host: &mut Host<'_, S>,
+    id: u32,
+    n: u32,
+) -> Result<(), AllocError> {
+    let mut before: u64 = 0;
+    let mut answer = host.turn(GuestId(id), n);
+    if let Err(TurnFault::HostMemory(taken)) = answer {
+        before = taken;
+        answer = host.turn(GuestId(id), n);
+    }
+    match answer {
+        Ok(steps) => write!(out, "{}", steps.saturating_add(before)),
+        Err(fault) => out.push_str(fault.name()),
+    }
+}
+
+fn write_run<S: Store>(
+    out: &mut String,
+    host: &mut Host<'_, S>,
+    quantum: u32,
+    rounds: u32,
+) -> Result<(), AllocError> {
+    match host.run(quantum, rounds) {
+        Ok(begun) => write!(out, "{begun}"),
+        Err(fault) => out.push_str(fault.name()),
+    }
+}
+
+/// Feeds a guest, once more where the host had no memory.
+fn write_feed<S: Store>(
+    out: &mut String,
+    host: &mut Host<'_, S>,
+    id: u32,
+    bytes: &[u8],
+) -> Result<(), AllocError> {
+    let mut answer = host.feed(GuestId(id), bytes);
+    if matches!(answer, Err(FeedFault::HostMemory)) {
+        answer = host.feed(GuestId(id), bytes);
+    }
+    match answer {
+        Ok(()) => out.push_str("Ok"),
+        Err(fault) => out.push_str(fault.name()),
+    }
+}
+
+/// Writes the answer to a call, whose words are these.
+fn write_answer<'a, S: Store>(
+    out: &mut String,
+    host: &mut Host<'a, S>,
+    lent: &'a [Lent<'a>],
+    verb: &str,
+    rest: &str,
+) -> Result<(), AllocError> {
+    let alloc = *out.allocator();
+    let (first, second) = first_word(rest);
+    let number = number_of(first);
+    match verb {
+        "admit" => match lent.get(number as usize) {
+            Some(guest) => write_admission(out, host, guest),
+            None => out.push_str("nobody"),
+        },
+        "turn" => write_turn(out, host, number, number_of(second)),
+        "run" => write_run(out, host, number, number_of(second)),
+        "feed" => write_feed(out, host, number, &bytes_of(alloc, second)),
+        "verdicts" => write_verdicts(out, host, number),
+        "seen" => write_guest(out, host, number),
+        _ => out.push_str("is no call"),
+    }
+}
+
+/// Writes a line of a row, and the answer to it where it is a call.
+pub(crate) fn answer<'a, S: Store>(
+    out: &mut String,
+    host: &mut Host<'a, S>,
+    lent: &'a [Lent<'a>],
+    line: &str,
+) -> Result<(), AllocError> {
+    let (verb, rest) = first_word(line);
+    if verb == "guest" {
+        return Ok(());
+    }
+    out.push_str(line)?;
+    if verb != "row" && verb != "damage" {
+        out.push_str(": ")?;
+        write_answer(out, host, lent, verb, rest)?;
+    }
+    out.push_str("\n")
+}
