@@ -8,6 +8,10 @@ mod folder;
 #[cfg(test)]
 mod host;
 #[cfg(test)]
+mod hostile;
+#[cfg(test)]
+mod memory;
+#[cfg(test)]
 mod program;
 #[cfg(test)]
 mod report;

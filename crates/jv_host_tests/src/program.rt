@@ -11,10 +11,10 @@ use std::io::{Error, ErrorKind, Read, Write};
 
 /// Bytes that are read a piece at a time, and fail behind so many reads.
 #[derive(Clone, Copy)]
-struct Pieces {
-    bytes: &'static [u8],
-    piece: usize,
-    good: u32,
+pub(crate) struct Pieces {
+    pub(crate) bytes: &'static [u8],
+    pub(crate) piece: usize,
+    pub(crate) good: u32,
 }
 
 impl Read for Pieces {
@@ -36,11 +36,49 @@ struct Held {
     good: u32,
 }
 
+/// The file of a class C with a method whose result is an Object, and which answers an int.
+const INT_AS_OBJECT: &[u8] =
+    b"\xca\xfe\xba\xbe\x00\x00\x004\x00\x08\x01\x00\x01C\x07\x00\x01\x01\x00\x10java/lang/Object\x07\x00\x03\x01\x00\x04Code\x01\x00\x01f\x01\x00\x14()Ljava/lang/Object;\x00!\x00\x02\x00\x04\x00\x00\x00\x00\x00\x01\x00\x09\x00\x06\x00\x07\x00\x01\x00\x05\x00\x00\x00\x0e\x00\x01\x00\x00\x00\x00\x00\x02\x04\xb0\x00\x00\x00\x00\x00\x00";
+
+/// The same with a `main` behind that method.
+const UNVERIFIED_MAIN: &[u8] =
+    b"\xca\xfe\xba\xbe\x00\x00\x004\x00\x0a\x01\x00\x01C\x07\x00\x01\x01\x00\x10java/lang/Object\x07\x00\x03\x01\x00\x04Code\x01\x00\x01f\x01\x00\x14()Ljava/lang/Object;\x01\x00\x04main\x01\x00\x16([Ljava/lang/String;)V\x00!\x00\x02\x00\x04\x00\x00\x00\x00\x00\x02\x00\x09\x00\x06\x00\x07\x00\x01\x00\x05\x00\x00\x00\x0e\x00\x01\x00\x00\x00\x00\x00\x02\x04\xb0\x00\x00\x00\x00\x00\x09\x00\x08\x00\x09\x00\x01\x00\x05\x00\x00\x00\x0d\x00\x00\x00\x01\x00\x00\x00\x01\xb1\x00\x00\x00\x00\x00\x00";
+
 /// More reads than there are.
 const ALL: u32 = 4_294_967_295;
 
 /// The folders.
-static LISTINGS: [Held; 8] = [
+static LISTINGS: [Held; 13] = [
+    Held {
+        path: "ho/",
+        bytes: b"Hi.class\0main\0",
+        piece: 4096,
+        good: ALL,
+    },
+    Held {
+        path: "thrown/",
+        bytes: b"main\0C.class\0",
+        piece: 4096,
+        good: ALL,
+    },
+    Held {
+        path: "bare/",
+        bytes: b"input\0Hi.class\0",
+        piece: 4096,
+        good: ALL,
+    },
+    Held {
+        path: "dry/",
+        bytes: b"input\0Hi.class\0main\0",
+        piece: 4096,
+        good: ALL,
+    },
+    Held {
+        path: "unlisted/",
+        bytes: b"Hi.class\0main\0",
+        piece: 4096,
+        good: 0,
+    },
     Held {
         path: "hi/",
         bytes: b"Hi.class\0main\0",
@@ -92,7 +130,55 @@ static LISTINGS: [Held; 8] = [
 ];
 
 /// The files.
-static FILES: [Held; 10] = [
+static FILES: [Held; 18] = [
+    Held {
+        path: "ho/Hi.class",
+        bytes: HI,
+        piece: 4096,
+        good: ALL,
+    },
+    Held {
+        path: "ho/main",
+        bytes: b"Ho",
+        piece: 4096,
+        good: ALL,
+    },
+    Held {
+        path: "thrown/C.class",
+        bytes: UNVERIFIED_MAIN,
+        piece: 4096,
+        good: ALL,
+    },
+    Held {
+        path: "thrown/main",
+        bytes: b"C",
+        piece: 4096,
+        good: ALL,
+    },
+    Held {
+        path: "bare/Hi.class",
+        bytes: HI,
+        piece: 4096,
+        good: ALL,
+    },
+    Held {
+        path: "dry/Hi.class",
+        bytes: HI,
+        piece: 4096,
+        good: ALL,
+    },
+    Held {
+        path: "dry/main",
+        bytes: b"Hi",
+        piece: 4096,
+        good: ALL,
+    },
+    Held {
+        path: "C.class",
+        bytes: INT_AS_OBJECT,
+        piece: 4096,
+        good: ALL,
+    },
     Held {
         path: "hi/Hi.class",
         bytes: HI,
@@ -157,7 +243,7 @@ static FILES: [Held; 10] = [
 
 /// Folders and files in memory.
 #[derive(Clone, Copy)]
-struct Memory;
+pub(crate) struct Memory;
 
 fn found(table: &[Held], path: &str) -> io::Result<Pieces> {
     for held in table {
@@ -188,9 +274,9 @@ impl Folders for Memory {
 
 /// An output that takes so many bytes more, and fails then.
 #[derive(Drop)]
-struct Narrow {
-    room: usize,
-    taken: Vec<u8>,
+pub(crate) struct Narrow {
+    pub(crate) room: usize,
+    pub(crate) taken: Vec<u8>,
 }
 
 impl Write for Narrow {
@@ -212,17 +298,17 @@ impl Write for Narrow {
 /// Words; the input, of which a read gives one byte, and how many reads are good; and what the program does: its status, and what it
 /// prints. What the command line's library prints isn't looked at.
 #[derive(Clone, Copy)]
-struct Row {
-    words: &'static str,
-    input: &'static [u8],
-    good: u32,
-    status: u8,
-    out: [&'static str; 2],
-    err: Option<&'static str>,
+pub(crate) struct Row {
+    pub(crate) words: &'static str,
+    pub(crate) input: &'static [u8],
+    pub(crate) good: u32,
+    pub(crate) status: u8,
+    pub(crate) out: [&'static str; 2],
+    pub(crate) err: Option<&'static str>,
 }
 
 /// The words of a line.
-fn words_of(alloc: Global, line: &str) -> Result<Vec<String>, AllocError> {
+pub(crate) fn words_of(alloc: Global, line: &str) -> Result<Vec<String>, AllocError> {
     let mut words = Vec::new(alloc);
     for word in line.split(' ') {
         let word = String::from_str(alloc, word)?;
@@ -232,7 +318,7 @@ fn words_of(alloc: Global, line: &str) -> Result<Vec<String>, AllocError> {
 }
 
 /// Whether this was printed: one text, and then another.
-fn is_out(out: &[u8], [first, second]: [&str; 2]) -> bool {
+pub(crate) fn is_out(out: &[u8], [first, second]: [&str; 2]) -> bool {
     match out.split_at_checked(first.len()) {
         Some((front, rest)) => front == first.as_bytes() && rest == second.as_bytes(),
         None => false,
@@ -240,7 +326,7 @@ fn is_out(out: &[u8], [first, second]: [&str; 2]) -> bool {
 }
 
 /// Whether the program does what a row says, with outputs that have so much room.
-fn does(alloc: Global, state: RandomState, row: &Row, room: usize) -> bool {
+pub(crate) fn does(alloc: Global, state: RandomState, row: &Row, room: usize) -> bool {
     let Ok(words) = words_of(alloc, row.words) else {
         return false;
     };
@@ -273,7 +359,27 @@ fn does(alloc: Global, state: RandomState, row: &Row, room: usize) -> bool {
 const HI_TOLD: &str =
     "guest 1 hi\n  Hi.class: Accepted\n  steps 6\n  throws 0\n  output 2: Hi\n  end Returned\n";
 
-static REPORTS: [Row; 6] = [
+pub(crate) static REPORTS: [Row; 8] = [
+    // Each way to end.
+    Row {
+        words: "jvhost run --quantum 6 --rounds 1 p hi ho thrown",
+        input: b"",
+        good: 0,
+        status: 5,
+        out: [
+            "guest 1 p\n  P.class: Accepted\n  steps 6\n  throws 0\n  output 2: \\xff\\xff\n  end Running\nguest 2 hi\n  Hi.class: Accepted\n  steps 6\n  throws 0\n  output 2: Hi\n  end Returned\n",
+            "guest 3 ho\n  Hi.class: Accepted\n  steps 0\n  throws 0\n  output 0:\n  end NoMain\nguest 4 thrown\n  C.class: Verify method 0 offset 1 rule 6\n  steps 0\n  throws 1 last java/lang/VerifyError\n  output 0:\n  end Threw java/lang/VerifyError\n",
+        ],
+        err: Some(""),
+    },
+    Row {
+        words: "jvhost check C.class",
+        input: b"",
+        good: 0,
+        status: 1,
+        out: ["C.class: Verify method 0 offset 1 rule 6\n", ""],
+        err: Some(""),
+    },
     Row {
         words: "jvhost run hi hi",
         input: b"",
@@ -337,7 +443,39 @@ static REPORTS: [Row; 6] = [
 ];
 
 /// Words that are refused, and nothing is on the output.
-static REFUSALS: [Row; 13] = [
+pub(crate) static REFUSALS: [Row; 17] = [
+    Row {
+        words: "jvhost run unlisted",
+        input: b"",
+        good: 0,
+        status: 3,
+        out: ["", ""],
+        err: Some("jvhost: unlisted: cannot be read\n"),
+    },
+    Row {
+        words: "jvhost run bare",
+        input: b"",
+        good: 0,
+        status: 3,
+        out: ["", ""],
+        err: Some("jvhost: bare/main: cannot be read\n"),
+    },
+    Row {
+        words: "jvhost run dry",
+        input: b"",
+        good: 0,
+        status: 3,
+        out: ["", ""],
+        err: Some("jvhost: dry/input: cannot be read\n"),
+    },
+    Row {
+        words: "jvhost run second first",
+        input: b"",
+        good: 0,
+        status: 3,
+        out: ["", ""],
+        err: Some("jvhost: second/Cut.class: cannot be read\n"),
+    },
     Row {
         words: "jvhost run --cells 63 hi",
         input: b"",
@@ -444,7 +582,7 @@ static REFUSALS: [Row; 13] = [
     },
 ];
 
-static FEEDS: [Row; 5] = [
+pub(crate) static FEEDS: [Row; 5] = [
     // One piece comes before each round, to the guest with the number alone.
     Row {
         words: "jvhost run --stdin 2 --quantum 4 --rounds 2 p p",
@@ -511,27 +649,6 @@ fn does_all(alloc: Global, state: RandomState, rows: &[Row]) -> bool {
     true
 }
 
-/// What of the report goes out where the output takes fewer bytes.
-static LOST: [(usize, &str); 3] = [(0, ""), (1, "g"), (9, "guest 1 h")];
-
-/// Whether an output that fails ends the program with 6, and with the front of the report.
-fn loses(alloc: Global, state: RandomState) -> bool {
-    for (room, out) in &LOST {
-        let row = Row {
-            words: "jvhost run hi",
-            input: b"",
-            good: 0,
-            status: 6,
-            out: [*out, ""],
-            err: Some("jvhost: output\n"),
-        };
-        if !does(alloc, state, &row, *room) {
-            return false;
-        }
-    }
-    true
-}
-
 #[test]
 fn reports(rt: HostRuntime) {
     let passes = match RandomState::new(&rt) {
@@ -554,15 +671,6 @@ fn refuses(rt: HostRuntime) {
 fn feeds(rt: HostRuntime) {
     let passes = match RandomState::new(&rt) {
         Ok(state) => does_all(rt.alloc(), state, &FEEDS),
-        Err(_) => false,
-    };
-    assert!(rt; passes);
-}
-
-#[test]
-fn loses_output(rt: HostRuntime) {
-    let passes = match RandomState::new(&rt) {
-        Ok(state) => loses(rt.alloc(), state),
         Err(_) => false,
     };
     assert!(rt; passes);
