@@ -21,7 +21,7 @@ some_at : (host : List Admission) (place : ℕ) (d : Admission) → place < leng
 some_at host place d lt = (get_or host place d, in_place host place d lt)
 
 -- where there is a guest in one list, there is one in another that is as long
-beside : (host other : List Admission) (place : ℕ) (a : Admission) → length other ≡ length host → slice_get host place ≡ Some a → SomeAt other place
+pub beside : (host other : List Admission) (place : ℕ) (a : Admission) → length other ≡ length host → slice_get host place ≡ Some a → SomeAt other place
 beside host other place a same found =
     let there = within host place a found in
     some_at other place a (omega (arith, same, there))
@@ -128,7 +128,7 @@ module _ (id : ℕ) (mid new : List Admission) (bytes : List ℕ) (after : new �
   pub at_fed : (a : Admission) → slice_get mid id ≡ Some a → slice_get new id ≡ Some (fed_now bytes a)
   at_fed a found = ap (λ (host : List Admission). slice_get host id) after ∙ at_changed (fed_now bytes) mid id a found
 
-  at_others : (place : ℕ) → place ≢ id → slice_get new place ≡ slice_get mid place
+  pub at_others : (place : ℕ) → place ≢ id → slice_get new place ≡ slice_get mid place
   at_others place other = ap (λ (host : List Admission). slice_get host place) after ∙ beside_changed (fed_now bytes) mid id place other
 
   pub only_fed : OnlyFed id mid → OnlyFed id new

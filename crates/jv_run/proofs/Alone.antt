@@ -1,5 +1,5 @@
 -- What the guests of a host that has run show is what they show alone.
-use Rattle.std.proofs.Common.{◌≡◌, ◌≢◌, ℕ, suc, Bool, false, cond, List, [], ◌∷◌, length, Option, Some, refl, sym, ap, subst, ◌∙◌}
+use Rattle.std.proofs.Common.{◌≡◌, ◌≢◌, ℕ, zero, suc, ◌*◌, ◌<◌, Bool, false, cond, List, [], ◌∷◌, length, Option, Some, refl, sym, ap, subst, ◌∙◌, arith}
 use Rattle.std.specs.Prelude.{map, slice_get, ◌||◌, Result, Ok, Err, IfOk, string_bytes}
 use Rattle.std.specs.List.{list_any}
 use Rattle.std.proofs.lemmas.List.{length-map}
@@ -17,12 +17,23 @@ use Rattle.jv_run.specs.Feeding.{feeds_to}
 use Rattle.jv_run.specs.Folder.{NamedGuest}
 use Rattle.jv_run.specs.declared.brought.Brought.{Brought}
 use Rattle.jv_run.specs.declared.outcome.Outcome.{Outcome}
-use Rattle.jv_run.specs.Outcome.{IsRunAlone, IsRunOutcome, IsToldOf}
+use Rattle.jv_run.specs.Outcome.{IsRunAlone, IsRunOutcome, IsToldOf, WereNeeded}
 use Rattle.jv_run.specs.Report.{Told, is_running, report_text, run_status}
 use Rattle.jv_run.specs.Inside.Brought.{named_guest_of}
 use Rattle.jv_run.specs.Inside.Play.{AreReportsOn, HasRun, IsReportOn, at_start}
-use Rattle.jv_run.specs.Inside.Turns.{HasPlayed}
-use Rattle.jv_run.proofs.Places.{found_in_map, some_same}
+use Rattle.jv_run.specs.Inside.Turns.{HasPlayed, SomeWent}
+use Rattle.jv_run.proofs.Places.{found_in_map, some_same, within}
+
+-- such a host has as many guests as were admitted
+pub all_there : (s : Settings) (brought : List Brought) (before after : Option (List ℕ)) (host : List Admission) → HasRun s (map named_guest_of brought) before after host
+    → length host ≡ length brought
+all_there s brought before after host ran =
+    ran.played.count ∙ ap length ran.started ∙ length-map (map named_guest_of brought) (at_start (budget_of s.budget)) ∙ length-map brought named_guest_of
+
+some_in : (all : List Told) (place : ℕ) → place < length all → (t : Told) × (slice_get all place ≡ Some t)
+some_in [] place lt = absurd (omega (arith, lt))
+some_in (t ∷ all) zero lt = (t, refl)
+some_in (t ∷ all) (suc place) lt = some_in all place (omega (arith, lt))
 
 module _ (one : ShowsOneThing) where
   -- what a guest that had its turns since its start shows
@@ -87,6 +98,24 @@ module _ (one : ShowsOneThing) where
       ap (λ (b : Bool). b || list_any (λ t. is_running t.seen.end) all) (each 0 t refl)
       ∙ none_told all (λ place other found. each (suc place) other found)
 
+  -- a guest that took more steps is told to have taken more
+  told_at : (n before : ℕ) (guests : List NamedGuest) (host : List Admission) (count : ℕ) (all : List Told) → AreReportsOn guests host count all
+      → length host ≡ count → (place : ℕ) (a : Admission) → slice_get host place ≡ Some a → n * before < a.steps → WereNeeded n (suc before) all
+  told_at n before guests host count all reports same place a found least =
+      let there : place < length host = within host place a found in
+      let many = reports.many in
+      let it = some_in all place (omega (arith, there, many, same)) in
+      let shown = (reports.each place it.0 it.1).shown in
+      let who : shown.guest ≡ a = some_same shown.guest a (sym shown.found ∙ found) in
+      let steps : it.0.seen.steps ≡ shown.guest.steps = ap (λ (o : Observed). o.steps) shown.alone.shown in
+      let taken : shown.guest.steps ≡ a.steps = ap (λ (x : Admission). x.steps) who in
+      (place, it.0, it.1, omega (arith, least, steps, taken))
+
+  were_needed : (n rounds : ℕ) (guests : List NamedGuest) (host : List Admission) (count : ℕ) (all : List Told) → AreReportsOn guests host count all
+      → length host ≡ count → SomeWent n rounds host → WereNeeded n rounds all
+  were_needed n zero guests host count all reports same went = tt
+  were_needed n (suc before) guests host count all reports same went = told_at n before guests host count all reports same went.0 went.1 went.2 went.3
+
   -- what is said of the guests of such a host
   pub said : {E : Type 0} (s : Settings) (brought : List Brought) (host : List Admission) (all : List Told) → AreReportsOn (map named_guest_of brought) host (length brought) all
       → {lent : List Told} → lent ≡ all → (result : Result Outcome E) → IfOk result (λ outcome. string_bytes outcome.report ≡ report_text lent)
@@ -105,12 +134,8 @@ module _ (one : ShowsOneThing) where
     full = λ early.
         ap (λ (b : Bool). cond b 5 0)
         (none_told all (λ place t found. is_over host place t (ran.full early) (reports.each place t found).shown));
+    needed = λ some.
+        were_needed s.quantum ran.rounds (map named_guest_of brought) host (length brought) all reports (all_there s brought before after host ran) (ran.needed some);
     report = subst (λ (ts : List Told). string_bytes outcome.report ≡ report_text ts) same report;
     status = subst (λ (ts : List Told). outcome.status ≡ run_status ts) same status;
   }
-
--- such a host has as many guests as were admitted
-pub all_there : (s : Settings) (brought : List Brought) (before after : Option (List ℕ)) (host : List Admission) → HasRun s (map named_guest_of brought) before after host
-    → length host ≡ length brought
-all_there s brought before after host ran =
-    ran.played.count ∙ ap length ran.started ∙ length-map (map named_guest_of brought) (at_start (budget_of s.budget)) ∙ length-map brought named_guest_of

@@ -1,5 +1,5 @@
 -- Rounds of turns, before each of which a guest is fed what is read.
-use Rattle.std.proofs.Common.{◌≡◌, ℕ, suc, ◌+◌, ◌-◌, ◌*◌, ◌<◌, ◌^◌, Bool, true, false, cond, List, [], ◌∷◌, ◌++◌, length, Option, Some, None, refl, sym, ap, subst, ◌∙◌, inl, inr, arith}
+use Rattle.std.proofs.Common.{◌≡◌, ℕ, suc, ◌+◌, ◌-◌, ◌*◌, ◌<◌, ◌≤◌, ◌^◌, Bool, true, false, cond, List, [], ◌∷◌, ◌++◌, length, Option, Some, None, refl, sym, ap, subst, ◌∙◌, inl, inr, arith}
 use Rattle.std.specs.Prelude.{IsSome, slice_get}
 use Rattle.std.specs.Io.KnownBytes.{Consumes}
 use Rattle.std.proofs.KnownBytes.{Consumes-trans}
@@ -10,13 +10,14 @@ use Rattle.jv_meaning_machine.specs.Laws.Shown.{ShowsOneThing}
 use Rattle.jv_meaning_machine.specs.Laws.Feeds.{FeedShowsLater}
 use Rattle.jv_host.specs.declared.fault.FeedFault.TheVariants as faults
 use Rattle.jv_host.specs.Host.{Admission, fed_bytes, input_bytes}
-use Rattle.jv_host.specs.Calls.{IsRun}
+use Rattle.jv_host.specs.Calls.{IsRun, SomeRuns}
 use Rattle.jv_host.specs.Limits.{feed_refusal, feed_refusal_of}
 use Rattle.jv_run.specs.declared.failure.Failure.{Failure}
 use Rattle.jv_run.specs.declared.failure.Failure.TheVariants.{Unreadable, StandardInput, Refused, FeedTooLong, TooManyFolders, NoGuest, HostMemory, Memory}
 use Rattle.jv_run.specs.Feeding.{IsTooLong, bytes_of_feeds}
-use Rattle.jv_run.specs.Inside.Turns.{AreAtStart, IsFedNext, IsFeedFailure, IsNextFailure, OnlyFed, PlayedSince, ReadSoFar}
+use Rattle.jv_run.specs.Inside.Turns.{AreAtStart, IsFedNext, IsFeedFailure, IsNextFailure, OnlyFed, PlayedSince, ReadSoFar, SomeWent}
 use Rattle.jv_run.proofs.AllTurns.{feed_all, only_at_start, only_fed, only_once, run_once, start_all}
+use Rattle.jv_run.proofs.Needed.{is_round, some_run, some_went, went_on}
 use Rattle.jv_run.proofs.Places.{some_same}
 use Rattle.jv_run.proofs.WhatWasRead.{read_at_start, read_next, read_none, read_once}
 
@@ -25,6 +26,7 @@ pub record FedSoFar (n turns reads id : ℕ) (old mid : List Admission) (before 
   pub played : PlayedSince n turns old mid
   pub only : OnlyFed id mid
   pub read : ReadSoFar id reads mid before now more
+  pub needed : 1 ≤ n → SomeWent n turns mid
 
 pub there_is : {A : Type 0} (o : Option A) → IsSome o → (x : A) × (o ≡ Some x)
 there_is None h = absurd cc
@@ -33,7 +35,7 @@ there_is (Some x) h = (x, refl)
 pub fed_start : (n id : ℕ) (old : List Admission) (before : Option (List ℕ)) → IsSome (slice_get old id) → AreAtStart old → FedSoFar n 0 0 id old old before before true
 fed_start n id old before there start =
     let it = there_is (slice_get old id) there in
-    record { played = start_all n old start; only = only_at_start id old start; read = read_at_start id old before it.0 it.1 start }
+    record { played = start_all n old start; only = only_at_start id old start; read = read_at_start id old before it.0 it.1 start; needed = λ _. tt }
 
 pub fed_next : (later : FeedShowsLater) (n r id : ℕ) (old mid new : List Admission) (b0 b1 b2 : Option (List ℕ)) (was more : Bool) → was ≡ true
     → FedSoFar n r r id old mid b0 b1 was → IsFedNext id mid new b1 b2 more → FedSoFar n r (suc r) id old new b0 b2 more
@@ -43,6 +45,7 @@ fed_next later n r id old mid new b0 b1 b2 was more yes_more before next =
       played = feed_all later n r id old mid new next.bytes so_far.a next.fed so_far.found (so_far.each refl) before.played;
       only = only_fed id mid new next.bytes next.fed before.only;
       read = read_next id r mid new b0 b1 b2 more next so_far;
+      needed = λ some. some_went id mid new next.bytes next.fed n r (before.needed some);
     }
 
 pub fed_none : (n r id : ℕ) (old mid : List Admission) (b0 b1 : Option (List ℕ)) (was : Bool) → was ≡ false → FedSoFar n r r id old mid b0 b1 was
@@ -53,17 +56,19 @@ fed_none n r id old mid b0 b1 was none before =
       played = before.played;
       only = before.only;
       read = subst (λ (b : Bool). ReadSoFar id (suc r) mid b0 b1 b) (sym none) (read_none id r mid b0 b1 so_far);
+      needed = before.needed;
     }
 
 pub fed_round : (one : ShowsOneThing) (n r m id : ℕ) (old mid new : List Admission) (b0 b1 : Option (List ℕ)) (more : Bool) → n * suc r < 2 ^ 64 - 1
-    → FedSoFar n r (suc r) id old mid b0 b1 more → IsRun n 1 mid new m → FedSoFar n (r + 1) (r + 1) id old new b0 b1 more
-fed_round one n r m id old mid new b0 b1 more bound before run =
+    → SomeRuns mid → FedSoFar n r (suc r) id old mid b0 b1 more → IsRun n 1 mid new m → FedSoFar n (r + 1) (r + 1) id old new b0 b1 more
+fed_round one n r m id old mid new b0 b1 more bound runs before run =
     let next : suc r ≡ r + 1 = omega arith in
     subst (λ (k : ℕ). FedSoFar n k k id old new b0 b1 more) next
     (record {
       played = run_once n old one r m mid new before.played run bound;
       only = only_once n id m mid new before.only run;
       read = read_once n id (suc r) m mid new b0 b1 more run before.read;
+      needed = λ some. went_on one n some r old mid new runs before.played (is_round one n m mid new runs run) bound;
     })
 
 -- ---- what can't be fed
@@ -113,6 +118,10 @@ module _ (n r id : ℕ) (old mid : List Admission) (b0 b1 b2 : Option (List ℕ)
   not_fed TooManyFolders h = absurd h
   not_fed NoGuest h = absurd h
   not_fed Memory h = absurd h
+
+-- some guest takes steps after bytes came to one
+pub fed_runs : (later : FeedShowsLater) (id : ℕ) (mid new : List Admission) (b1 b2 : Option (List ℕ)) (more : Bool) → IsFedNext id mid new b1 b2 more → SomeRuns mid → SomeRuns new
+fed_runs later id mid new b1 b2 more next runs = some_run id mid new next.bytes next.fed later runs
 
 -- the same under other names
 pub fed_joined : (n r k id : ℕ) (old mid host : List Admission) (b0 b1 now : Option (List ℕ)) (was more : Bool) → host ≡ mid → now ≡ b1 → more ≡ was

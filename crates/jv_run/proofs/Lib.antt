@@ -4,6 +4,7 @@ pub mod Alone
 pub mod ClassFileNames
 pub mod FedRounds
 pub mod Lines
+pub mod Needed
 pub mod Places
 pub mod Played
 pub mod Read

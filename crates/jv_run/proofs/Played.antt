@@ -17,7 +17,7 @@ use Rattle.jv_run.specs.Feeding.{AreFeedsFrom, IsTooLong, feeds_to, is_no_guest}
 use Rattle.jv_run.specs.Folder.{NamedGuest}
 use Rattle.jv_run.specs.Outcome.{AreAllowed, IsFeedingFailure, IsGuestsFailure}
 use Rattle.jv_run.specs.Inside.Play.{HasRun, IsAdmitFailure, at_start}
-use Rattle.jv_run.specs.Inside.Turns.{AreAtStart, IsFedRun, IsFeedFailure, NoneFed, PlayedSince, ReadSoFar}
+use Rattle.jv_run.specs.Inside.Turns.{AreAtStart, IsFedRun, IsFeedFailure, NoneFed, PlayedSince, ReadSoFar, SomeWent}
 use Rattle.jv_run.proofs.Places.{some_same, within}
 
 -- an item of a list that is made of another
@@ -93,8 +93,8 @@ module _ (b : Budget) (guests : List NamedGuest) (host : List Admission) (starte
 
 pub unfed_run : (s : Settings) (guests : List NamedGuest) (old new : List Admission) (before : Option (List ℕ)) (m : ℕ) → s.stdin ≡ None
     → old ≡ map (at_start (budget_of s.budget)) guests → m ≤ s.rounds → PlayedSince s.quantum m old new → NoneFed new → (m < s.rounds → NoneRuns new)
-    → HasRun s guests before before new
-unfed_run s guests old new before m none started most played unfed full = record {
+    → (1 ≤ s.quantum → SomeWent s.quantum m new) → HasRun s guests before before new
+unfed_run s guests old new before m none started most played unfed full needed = record {
   start = old;
   started = started;
   rounds = m;
@@ -104,6 +104,7 @@ unfed_run s guests old new before m none started most played unfed full = record
   input = subst (λ (o : Option ℕ). AreFeedsFrom o m [] before before) (sym none) (refl, refl);
   fed = λ place a found. unfed place a found ∙ sym (ap (λ (o : Option ℕ). feeds_to o [] place) none);
   full = full;
+  needed = needed;
 }
 
 -- ---- one is
@@ -138,6 +139,7 @@ fed_run s guests old new b0 b1 m number some least started run =
                 run.only place a found beside ∙ sym (ap (λ (b : Bool). cond b feeds []) (ne_eqb number (place + 1) other))
           ]);
       full = run.full;
+      needed = run.needed;
     }
 
 -- ---- why there is no report

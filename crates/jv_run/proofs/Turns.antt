@@ -38,7 +38,7 @@ has_begun n a start none =
 
 module _ (one : ShowsOneThing) where
   -- a guest that is over isn't running
-  over_not_running : (a : Admission) (n m : ℕ) → n ≡ m → IsOverAfter a n → IsRunningAfter a m → ⊥
+  pub over_not_running : (a : Admission) (n m : ℕ) → n ≡ m → IsOverAfter a n → IsRunningAfter a m → ⊥
   over_not_running a n m e over running =
       let shows : Shows a.guest a.budget a.feeds n running.0 = subst (λ (i : ℕ). Shows a.guest a.budget a.feeds i running.0) (sym e) running.1 in
       let same : over.0 ≡ running.0 = one a.guest a.budget a.feeds n over.0 running.0 over.1 shows in

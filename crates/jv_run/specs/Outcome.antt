@@ -1,5 +1,5 @@
 -- What the program says of the guests of folders (own).
-use Rattle.std.specs.Prelude.{◌≡◌, ◌≢◌, ⊤, Option, Some, None, ℕ, ◌+◌, ◌-◌, ◌*◌, ◌<◌, ◌≤◌, List, length, slice_get, string_bytes}
+use Rattle.std.specs.Prelude.{◌≡◌, ◌≢◌, ⊤, Option, Some, None, ℕ, zero, suc, ◌+◌, ◌-◌, ◌*◌, ◌<◌, ◌≤◌, List, length, slice_get, string_bytes}
 use Rattle.jv_meaning_machine.specs.State.End.{Running}
 use Rattle.jv_meaning_machine.specs.Start.{Budget}
 use Rattle.jv_meaning_machine.specs.Alone.{GuestFiles, Feed}
@@ -25,6 +25,11 @@ pub record IsRunAlone (g : GuestFiles) (b : Budget) (feeds : List Feed) (n turns
   pub over : steps < n * turns → o.end ≢ Running
   pub fed : CameInTime g b n feeds
 
+-- There were no more rounds than it took: in the last of so many, of turns of at most n steps, some guest took a step.
+abbrev pub WereNeeded : (n rounds : ℕ) → List Told → Type 0
+WereNeeded n zero told = ⊤
+WereNeeded n (suc before) told = (place : ℕ) × (t : Told) × (slice_get told place ≡ Some t) × (n * before < t.seen.steps)
+
 -- What is told of the guest at a place: its number, its folder's word, its files' names, and what that guest shows alone.
 pub record IsToldOf (s : Settings) (feeds : List Feed) (rounds place : ℕ) (named : NamedGuest) (told : Told) : Type 0 where
   pub number : told.number ≡ place + 1
@@ -32,8 +37,8 @@ pub record IsToldOf (s : Settings) (feeds : List Feed) (rounds place : ℕ) (nam
   pub names : told.names ≡ named.names
   pub seen : IsRunAlone named.guest (budget_of s.budget) (feeds_to s.stdin feeds place) s.quantum rounds told.seen
 
--- The guests had rounds of turns: all of them, or as many as there were until none ran. Of input with these bytes before and after, what
--- was read was fed to the one guest that is fed. The report tells so of each guest, and the status goes with what is told.
+-- The guests had rounds of turns: all of them, or as many as there were until none ran, and no more. Of input with these bytes before and
+-- after, what was read was fed to the one guest that is fed. The report tells so of each guest, and the status goes with what is told.
 pub record IsRunOutcome (s : Settings) (guests : List NamedGuest) (before after : Option (List ℕ)) (outcome : Outcome) : Type 0 where
   pub rounds : ℕ
   pub most : rounds ≤ s.rounds
@@ -45,6 +50,7 @@ pub record IsRunOutcome (s : Settings) (guests : List NamedGuest) (before after 
       (place : ℕ) (named : NamedGuest) (t : Told) → slice_get guests place ≡ Some named → slice_get told place ≡ Some t
       → IsToldOf s feeds rounds place named t
   pub full : rounds < s.rounds → run_status told ≡ 0
+  pub needed : 1 ≤ s.quantum → WereNeeded s.quantum rounds told
   pub report : string_bytes outcome.report ≡ report_text told
   pub status : outcome.status ≡ run_status told
 

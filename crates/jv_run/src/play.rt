@@ -6,7 +6,7 @@ ghost use Rattle.jv_host.specs.Calls.{IsShown, NoneRuns};
 ghost use Rattle.jv_run.specs.Feeding.{is_no_guest};
 ghost use Rattle.jv_run.specs.Inside.Brought.{named_guest_of};
 ghost use Rattle.jv_run.specs.Inside.Play.{AreReportsOn, HasRun, IsAdmitFailure, at_start, told_of};
-ghost use Rattle.jv_run.specs.Inside.Turns.{AreAtStart, NoneFed, PlayedSince};
+ghost use Rattle.jv_run.specs.Inside.Turns.{AreAtStart, NoneFed, PlayedSince, SomeWent};
 ghost use Rattle.jv_run.specs.Outcome.{AreAllowed, IsFeedingFailure, IsGuestsFailure};
 
 use crate::brought::{Brought, guest_files};
@@ -47,6 +47,7 @@ fn run_unfed(host: &mut Host<'_, Cells>, settings: Settings) -> u32
     ensures played { PlayedSince settings.quantum result host.old host.new }
     ensures none { NoneFed host.new }
     ensures full { result < settings.rounds → NoneRuns host.new }
+    ensures needed { 1 ≤ settings.quantum → SomeWent settings.quantum result host.new }
 {
     shows_one_thing();
     let Ok(rounds) = host.run(settings.quantum, settings.rounds) else {

@@ -15,7 +15,7 @@ use Rattle.jv_run.specs.Feeding.{AreFeedsFrom, feeds_to}
 use Rattle.jv_run.specs.Folder.{NamedGuest}
 use Rattle.jv_run.specs.Outcome.{AreAllowed, IsRefusedAmong}
 use Rattle.jv_run.specs.Report.{Told}
-use Rattle.jv_run.specs.Inside.Turns.{PlayedSince}
+use Rattle.jv_run.specs.Inside.Turns.{PlayedSince, SomeWent}
 
 -- a guest at its start
 abbrev pub at_start : Budget → NamedGuest → Admission
@@ -33,6 +33,7 @@ pub record HasRun (s : Settings) (guests : List NamedGuest) (before after : Opti
   pub input : AreFeedsFrom s.stdin rounds feeds before after
   pub fed : (place : ℕ) (a : Admission) → slice_get host place ≡ Some a → a.feeds ≡ feeds_to s.stdin feeds place
   pub full : rounds < s.rounds → NoneRuns host
+  pub needed : 1 ≤ s.quantum → SomeWent s.quantum rounds host
 
 -- why a guest is not admitted: the host refuses it; or it had no memory, and would have the first guest at least
 abbrev pub IsAdmitFailure : Budget → List NamedGuest → Failure → Type 0

@@ -1,5 +1,5 @@
 -- Turns of guests, and what is fed to one of them in between.
-use Rattle.std.specs.Prelude.{◌≡◌, ◌≢◌, ℕ, ◌*◌, ◌<◌, ◌≤◌, ⊤, Bool, false, IsTrue, List, [], All, Option, Some, length, slice_get}
+use Rattle.std.specs.Prelude.{◌≡◌, ◌≢◌, ℕ, zero, suc, ◌*◌, ◌<◌, ◌≤◌, ⊤, Bool, false, IsTrue, List, [], All, Option, Some, length, slice_get}
 use Rattle.std.specs.Io.KnownBytes.{Consumes, IsAtEnd}
 use Rattle.jv_meaning_machine.specs.Alone.{Feed}
 use Rattle.jv_host.specs.declared.fault.FeedFault.TheVariants as feeds
@@ -38,6 +38,11 @@ pub record PlayedSince (n rounds : ℕ) (old new : List Admission) : Type 0 wher
       (place : ℕ) (a : Admission) → slice_get old place ≡ Some a
       → (b : Admission) × (slice_get new place ≡ Some b) × IsSamePlayed n rounds a b
 
+-- in the last of so many rounds some guest took a step
+abbrev pub SomeWent : (n rounds : ℕ) → List Admission → Type 0
+SomeWent n zero host = ⊤
+SomeWent n (suc before) host = (place : ℕ) × (a : Admission) × (slice_get host place ≡ Some a) × (n * before < a.steps)
+
 -- ---- feeds
 
 -- none but the guest at a place was fed
@@ -75,6 +80,7 @@ pub record IsFedRun (n most id : ℕ) (old new : List Admission) (before after :
   pub more : Bool
   pub read : ReadSoFar id rounds new before after more
   pub full : rounds < most → NoneRuns new
+  pub needed : 1 ≤ n → SomeWent n rounds new
 
 -- ---- what can't be fed
 

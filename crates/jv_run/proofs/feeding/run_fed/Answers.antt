@@ -1,6 +1,7 @@
-use Rattle.std.proofs.Common.{◌<◌, ◌^◌, ◌-◌, suc, arith, rules, ap}
+use Rattle.std.proofs.Common.{◌<◌, ◌^◌, suc, arith, rules, ap, subst, sym}
+use Rattle.jv_host.specs.Calls.{SomeRuns}
 use Rattle.jv_run.specs.Inside.Turns.{IsFeedFailure}
-use Rattle.jv_run.proofs.FedRounds.{FedSoFar, fed_joined, fed_next, fed_none, fed_round, not_fed}
+use Rattle.jv_run.proofs.FedRounds.{FedSoFar, fed_joined, fed_next, fed_none, fed_round, fed_runs, not_fed}
 use Rattle.jv_run.proofs.Places.{passed_on}
 use Rattle.jv_run.proofs.Turns.{few_steps}
 use Rattle.jv_run.proofs.feeding.run_fed.Goals as goal
@@ -27,8 +28,15 @@ loop-round-preserved g c =
           c.loop-round.more c.if-more.more w.host-is (ap g.I.Read.remaining w.input-is) w.more-is
           (fed_none n r id old c.loop-round.host b0 (g.I.Read.remaining c.loop-round.input) c.loop-round.more w.if-more.false c.loop-round.invariant)
     ] in
+    let runs : SomeRuns c.if-more.host = elim c.if-more.branch [
+      | then-more+in_ok-more w ↦
+          subst SomeRuns (sym w.host-is)
+          (fed_runs c.feed_shows_later.ensures id c.loop-round.host w.feed_next.new.host (g.I.Read.remaining c.loop-round.input)
+          (g.I.Read.remaining w.feed_next.new.input) w.in_ok-more.more (w.in_ok-more.ensures {u = tt}).ok (c.any_takes_steps.ensures.some (search rules)))
+      | else-more w ↦ subst SomeRuns (sym w.host-is) (c.any_takes_steps.ensures.some (search rules))
+    ] in
     fed_round c.shows_one_thing.ensures n r c.run_round.ensures.0 id old c.if-more.host c.run_round.new.host b0 (g.I.Read.remaining c.if-more.input) c.if-more.more
-    (few_steps n c.args.settings.rounds (suc r) quantum rounds (omega (arith, less))) fed c.run_round.ensures.1
+    (few_steps n c.args.settings.rounds (suc r) quantum rounds (omega (arith, less))) runs fed c.run_round.ensures.1
 
 pub returns-in_err-more-clause-err : goal.returns-in_err-more-clause-err
 returns-in_err-more-clause-err g c =
