@@ -9,7 +9,6 @@ pub mod Named
 pub mod Names
 pub mod Outcome
 pub mod Report
-pub mod Settings
 pub mod Verdict
 pub use Rattle.jv_host.specs as of_host
 pub use Rattle.jv_host.specs.of_loader

@@ -28,5 +28,5 @@ pub use named::{hashing_state, run_named};
 pub use names::{class_file_names, names_in};
 pub use outcome::{Outcome, run_folders};
 pub use report::Report;
-pub use settings::{Settings, are_in_range, default_settings};
+pub use settings::Settings;
 pub use verdict::ShownVerdict;

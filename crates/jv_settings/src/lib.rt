@@ -8,4 +8,4 @@ mod reading;
 
 pub use asked::{Numbers, Settings, usual_numbers};
 pub use law::word_rows;
-pub use reading::settings;
+pub use reading::{not_text, settings};

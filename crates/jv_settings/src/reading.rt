@@ -1,6 +1,6 @@
 //! What the words of the command line ask for.
 ghost use Rattle.std.specs.Prelude.{◌≡◌, [], IfErr, IfOk, map, string_bytes};
-ghost use Rattle.clap.specs.Words.{all_of, fault_of, found_of, one_of, rows_of};
+ghost use Rattle.clap.specs.Words.{all_of, fault_of, found_of, kind_of, one_of, rows_of};
 ghost use Rattle.jv_settings.specs.CommandLine.{command_line};
 ghost use Rattle.jv_settings.specs.Settings.{AreNames, IsAskedBy, IsAskedIn, IsRefused, asked_by, guest_in, number_or, numbers_in};
 
@@ -129,4 +129,19 @@ pub fn settings<'a>(alloc: Global, words: &'a [String]) -> Result<Settings<'a>, 
         return Err(nothing_asked(alloc)?);
     };
     Ok(settings)
+}
+
+/// What is said where a word is no text.
+///
+/// # Errors
+///
+/// Where memory is short.
+pub fn not_text(alloc: Global) -> Result<Error, AllocError>
+    ensures { IfOk result (λ error. kind_of error ≡ ErrorKind.InvalidValue) }
+{
+    let mut line = command_line(alloc)?;
+    line.error(
+        ErrorKind::InvalidValue,
+        "invalid UTF-8 was found in one or more arguments",
+    )
 }

@@ -54,17 +54,17 @@ no_report old new status failures.HostMemory is nothing = failed old new status 
 no_report old new status failures.Memory is nothing = failed old new status 4 (omega arith) (omega arith) is nothing
 
 -- without one, or with a part of it; behind that something may be told
-stopped : (b0 b1 old mid new : Option (List ℕ)) (stop : Stop) (status : ℕ) → IsCarriedOut b0 b1 old mid (Err stop) → ((IsAsked stop → ⊥) → new ≡ mid)
-    → HasStatus stop status → HasEnded b0 b1 old new status
-stopped b0 b1 old mid new (CommandLine error) status done told is =
+stopped : (line : List (List ℕ)) (b0 b1 old mid new : Option (List ℕ)) (stop : Stop) (status : ℕ) → IsCarriedOut line b0 b1 old mid (Err stop) → ((IsAsked stop → ⊥) → new ≡ mid)
+    → HasStatus stop status → HasEnded line b0 b1 old new status
+stopped line b0 b1 old mid new (CommandLine error) status done told is =
     elim (asked_or_not (kind_of error)) [
       | inl asked ↦ inr (inr (inr (is.asked asked)))
       | inr not ↦
           let same : new ≡ mid = told (λ h. elim h [ inl help ↦ not.0 help | inr version ↦ not.1 version ]) in
           inr (inr (inl (failed old new status 2 (omega arith) (omega arith) (is.wrong not.0 not.1) (same ∙ done))))
     ]
-stopped b0 b1 old mid new (Run failure) status done told is = inr (inr (inl (no_report old new status failure is (told (λ h. h) ∙ done))))
-stopped b0 b1 old mid new Output status done told is =
+stopped line b0 b1 old mid new (Run failure) status done told is = inr (inr (inl (no_report old new status failure is (told (λ h. h) ∙ done))))
+stopped line b0 b1 old mid new Output status done told is =
     let same : new ≡ mid = told (λ h. h) in
     inr (inl (record {
       outcome = done.0;
@@ -74,22 +74,22 @@ stopped b0 b1 old mid new Output status done told is =
     }))
 
 -- a report that is written
-pub written : (b0 b1 old new : Option (List ℕ)) (outcome : Outcome) (result : Result Outcome Stop) → IsReport b0 b1 outcome
+pub written : (line : List (List ℕ)) (b0 b1 old new : Option (List ℕ)) (outcome : Outcome) (result : Result Outcome Stop) → IsReport line b0 b1 outcome
     → OnOk result (Appends old new (string_bytes outcome.report)) → IfOk result (λ w. w ≡ outcome) → WritesFront old new (string_bytes outcome.report)
-    → IfErr result (λ stop. stop ≡ Output) → IsCarriedOut b0 b1 old new result
-written b0 b1 old new outcome (Ok w) report whole same front cut =
-    subst (λ (o : Outcome). IsReport b0 b1 o × Appends old new (string_bytes o.report)) (sym same) (report, whole)
-written b0 b1 old new outcome (Err stop) report whole same front cut =
-    subst (λ (s : Stop). IsCarriedOut b0 b1 old new (Err s)) (sym cut) (outcome, report, front)
+    → IfErr result (λ stop. stop ≡ Output) → IsCarriedOut line b0 b1 old new result
+written line b0 b1 old new outcome (Ok w) report whole same front cut =
+    subst (λ (o : Outcome). IsReport line b0 b1 o × Appends old new (string_bytes o.report)) (sym same) (report, whole)
+written line b0 b1 old new outcome (Err stop) report whole same front cut =
+    subst (λ (s : Stop). IsCarriedOut line b0 b1 old new (Err s)) (sym cut) (outcome, report, front)
 
 -- with a report and nothing to tell, or without one
-pub ended : (b0 b1 old mid new : Option (List ℕ)) (end : Result Outcome Stop) (status : ℕ) → IsCarriedOut b0 b1 old mid end → IsTold mid new end → IsStatusOf end status
-    → HasEnded b0 b1 old new status
-ended b0 b1 old mid new (Ok outcome) status done told is =
+pub ended : (line : List (List ℕ)) (b0 b1 old mid new : Option (List ℕ)) (end : Result Outcome Stop) (status : ℕ) → IsCarriedOut line b0 b1 old mid end → IsTold mid new end → IsStatusOf end status
+    → HasEnded line b0 b1 old new status
+ended line b0 b1 old mid new (Ok outcome) status done told is =
     inl (record {
       outcome = outcome;
       report = done.0;
       written = subst (λ (o : Option (List ℕ)). Appends old o (string_bytes outcome.report)) (sym told) done.1;
       ends = is;
     })
-ended b0 b1 old mid new (Err stop) status done told is = stopped b0 b1 old mid new stop status done told is
+ended line b0 b1 old mid new (Err stop) status done told is = stopped line b0 b1 old mid new stop status done told is

@@ -2,13 +2,12 @@
 //! program ends with is that of its report, or of what there is in its place. A private part of the program.
 #![tactic(auto)]
 
-mod command_line;
 mod program;
 mod stop;
 mod written;
 
-pub use command_line::not_text;
 pub use jv_run as of_run;
+pub use jv_settings as of_settings;
 pub use program::{command, tell};
 pub use stop::{Stop, status_of};
 pub use written::write_report;

@@ -1,15 +1,44 @@
 //! The program: what words ask for is done, and told.
-ghost use Rattle.std.specs.Prelude.{◌≡◌, IfErr, IfOk};
-ghost use Rattle.jv_status.specs.Command.{HasEnded, IsAsked, IsCarriedOut, IsEarly, IsReport};
+ghost use Rattle.std.specs.Prelude.{◌≡◌, IfErr, IfOk, map, string_bytes};
+ghost use Rattle.jv_settings.specs.Settings.{IsAskedIn};
+ghost use Rattle.jv_status.specs.Command.{HasEnded, IsAsked, IsCarriedOut, IsEarly, IsReport, settings_of};
 
-use crate::command_line::{Task, task_of};
-use crate::stop::{Stop, status_of};
+use crate::stop::{Stop, status_of, stop_of};
 use crate::written::write_report;
 use jv_check::check_named;
+use jv_run::of_interp_start::Budget;
 use jv_run::{Folders, Outcome, run_named};
+use jv_settings::{Numbers, Settings, settings};
 use std::alloc::Global;
 use std::hash::RandomState;
 use std::io::{Read, Write};
+
+/// The settings with these numbers.
+fn settings_of(numbers: Numbers) -> jv_run::Settings
+    ensures { result ≡ settings_of numbers }
+{
+    jv_run::Settings {
+        budget: Budget {
+            cells: numbers.cells,
+            words: numbers.words,
+            output: numbers.output,
+        },
+        quantum: numbers.quantum,
+        rounds: numbers.rounds,
+        stdin: numbers.stdin,
+    }
+}
+
+/// What words ask for.
+fn asked<'a>(alloc: Global, words: &'a [String]) -> Result<Settings<'a>, Stop>
+    ensures ok { IfOk result (IsAskedIn (map string_bytes words.now)) }
+    ensures err { IfErr result IsEarly }
+{
+    match settings(alloc, words) {
+        Ok(settings) => Ok(settings),
+        Err(error) => Err(stop_of(error)),
+    }
+}
 
 /// Makes the report that words ask for.
 fn outcome_for<F: Folders, I: Read>(
@@ -19,14 +48,15 @@ fn outcome_for<F: Folders, I: Read>(
     folders: &mut F,
     input: &mut I,
 ) -> Result<Outcome, Stop>
-    ensures ok { IfOk result (IsReport (I.remaining input.old) (I.remaining input.new)) }
+    ensures ok { IfOk result (IsReport (map string_bytes words.now) (I.remaining input.old) (I.remaining input.new)) }
     ensures err { IfErr result IsEarly }
 {
-    match task_of(alloc, words)? {
-        Task::Run(settings, words) => {
-            Ok(run_named(alloc, state, settings, words.as_slice(), folders, input)?)
+    match asked(alloc, words)? {
+        Settings::Run(numbers, named) => {
+            let settings = settings_of(numbers);
+            Ok(run_named(alloc, state, settings, named.as_slice(), folders, input)?)
         }
-        Task::Check(names) => Ok(check_named(alloc, state, names.as_slice(), folders)?),
+        Settings::Check(names) => Ok(check_named(alloc, state, names.as_slice(), folders)?),
     }
 }
 
@@ -39,8 +69,8 @@ fn carry_out<F: Folders, I: Read, O: Write>(
     input: &mut I,
     out: &mut O,
 ) -> Result<Outcome, Stop>
-    ensures { IsCarriedOut (I.remaining input.old) (I.remaining input.new) (O.contents out.old) (O.contents out.new)
-        result }
+    ensures { IsCarriedOut (map string_bytes words.now) (I.remaining input.old) (I.remaining input.new)
+        (O.contents out.old) (O.contents out.new) result }
 {
     let outcome = outcome_for(alloc, state, words, folders, input)?;
     write_report(out, outcome)
@@ -76,7 +106,8 @@ pub fn command<F: Folders, I: Read, O: Write, E: Write>(
     out: &mut O,
     err: &mut E,
 ) -> u8
-    ensures { HasEnded (I.remaining input.old) (I.remaining input.new) (O.contents out.old) (O.contents out.new) result }
+    ensures { HasEnded (map string_bytes words.now) (I.remaining input.old) (I.remaining input.new)
+        (O.contents out.old) (O.contents out.new) result }
 {
     let end = carry_out(alloc, state, words, folders, input, out);
     if let Err(stop) = &end {

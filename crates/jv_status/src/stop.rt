@@ -1,9 +1,12 @@
 //! How the program ends.
-ghost use Rattle.std.specs.Prelude.{◌≡◌};
+ghost use Rattle.std.specs.Prelude.{◌≡◌, ◌≢◌};
+ghost use Rattle.clap.specs.Values.{kind_of};
+ghost use Rattle.jv_status.specs.Command.{IsEarly};
 ghost use Rattle.jv_status.specs.Status.{IsStatusOf};
 ghost use Rattle.jv_run.specs.declared.failure.Failure.TheVariants.{Memory};
-ghost use Rattle.jv_status.specs.declared.stop.Stop.TheVariants.{Run};
+ghost use Rattle.jv_status.specs.declared.stop.Stop.TheVariants.{CommandLine, Run};
 
+use clap::error::ErrorKind;
 use jv_run::{Failure, Outcome};
 use std::alloc::AllocError;
 
@@ -30,6 +33,19 @@ impl Stop {
             Stop::Run(failure) => jv_run::status_of(failure),
             Stop::Output => 6,
         }
+    }
+}
+
+/// What an error of the command line means.
+pub(crate) fn stop_of(error: clap::Error) -> Stop
+    ensures early { IsEarly result }
+    ensures memory { kind_of error ≡ ErrorKind.OutOfMemory → result ≡ Run Memory }
+    ensures other { kind_of error ≢ ErrorKind.OutOfMemory → result ≡ CommandLine error }
+{
+    if error.kind() == ErrorKind::OutOfMemory {
+        Stop::Run(Failure::Memory)
+    } else {
+        Stop::CommandLine(error)
     }
 }
 

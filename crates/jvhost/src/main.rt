@@ -2,7 +2,8 @@
 #![tactic(auto)]
 
 use jv_status::of_run::{Failure, SystemFolders, hashing_state};
-use jv_status::{Stop, command, not_text, tell};
+use jv_status::of_settings::not_text;
+use jv_status::{Stop, command, tell};
 use std::env;
 use std::hash::RandomState;
 use std::io::ErrorKind;
@@ -15,7 +16,7 @@ fn words<R: Env + AllocGlobal>(rt: &R) -> Result<Vec<String>, Stop> {
     match env::args(rt) {
         Ok(words) => Ok(words.collect(rt.alloc())?),
         Err(error) if error.kind() == ErrorKind::OutOfMemory => Err(Stop::Run(Failure::Memory)),
-        Err(_) => Err(not_text(rt.alloc())?),
+        Err(_) => Err(Stop::CommandLine(not_text(rt.alloc())?)),
     }
 }
 

@@ -1,4 +1,5 @@
-use Rattle.std.proofs.Common.{Result, ap, sym, subst, ◌∙◌}
+use Rattle.std.proofs.Common.{Result, ap, map, sym, subst, ◌∙◌}
+use Rattle.std.specs.Prelude.{string_bytes}
 use Rattle.jv_run.specs.declared.outcome.Outcome.{Outcome}
 use Rattle.jv_status.specs.declared.stop.Stop.{Stop}
 use Rattle.jv_status.proofs.Ends.{IsTold, ended}
@@ -19,4 +20,4 @@ returns g c =
           (λ not. ap g.O.Write.contents (w.out-is ∙ w.tell.ensures not))
       | in_default w ↦ subst (λ (r : Result Outcome Stop). IsTold mid new r) (sym w.in_default.is) (ap g.O.Write.contents w.out-is)
     ] in
-    ended b0 b1 old mid new end c.status_of.result c.carry_out-end.ensures told c.status_of.ensures
+    ended (map string_bytes c.args.words.now) b0 b1 old mid new end c.status_of.result c.carry_out-end.ensures told c.status_of.ensures
