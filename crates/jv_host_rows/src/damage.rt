@@ -20,13 +20,13 @@ struct Counts {
 
 /// What a host shows of a damaged guest after 1,000 steps and of the whole one beside it after its own: the verdicts and the end of the
 /// first, and what the second shows.
-fn shown_of(
+fn shown_of<'a>(
     alloc: Global,
-    prepared: &Prepared,
-    damaged: &Lent<'_>,
-    whole: &Lent<'_>,
+    prepared: &'a Prepared,
+    damaged: &'a Lent<'a>,
+    whole: &'a Lent<'a>,
 ) -> Result<(String, String, String), AllocError> {
-    let mut host: Host<'_, Cells> = Host::new(alloc, prepared.state, &prepared.system);
+    let mut host: Host<'a, Cells> = Host::new(alloc, prepared.state, &prepared.system);
     let mut out = String::new(alloc);
     write_admission(&mut out, &mut host, damaged)?;
     write_admission(&mut out, &mut host, whole)?;
