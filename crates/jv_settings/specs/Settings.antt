@@ -5,7 +5,8 @@ use Rattle.std.specs.Global.{Vec}
 use Rattle.std.specs.Str.{bytes_eq}
 use Rattle.std.specs.Str.Parse.{digits_value, without_leading_plus}
 use Rattle.clap.specs.ValueTests.{is_unsigned_in}
-use Rattle.clap.specs.Words.{HasKind, fault_of}
+use Rattle.clap.specs.Words.{HasKind, IsAmong, fault_of, kind_of}
+use Rattle.clap.specs.declared.error.kind.ErrorKind.TheVariants as kinds
 use Rattle.clap.specs.declared.error.Error.{Error}
 use Rattle.clap.specs.Walk.{Row, all_of, one_of}
 use Rattle.clap.specs.Simple.{subcommand_of}
@@ -104,6 +105,12 @@ abbrev pub IsAskedIn : (words : List (List ℕ)) → Settings → Type 0
 IsAskedIn words settings = asked_in words ≡ Some (asked_of settings)
 
 -- The words are refused: by the library, in one of the kinds that its definition gives for them, or of want of memory; or they ask for
--- nothing.
+-- nothing, and are called out of range.
 abbrev pub IsRefused : (words : List (List ℕ)) → Error → Type 0
-IsRefused words error = HasKind (fault_of command_line words) error ⊎ (asked_in words ≡ None)
+IsRefused words error =
+    HasKind (fault_of command_line words) error ⊎ ((asked_in words ≡ None) × (kind_of error ≡ kinds.ValueValidation))
+
+-- the words ask for help, or for the version
+abbrev pub AskForHelp : (words : List (List ℕ)) → Type 0
+AskForHelp words =
+    IsAmong kinds.DisplayHelp (fault_of command_line words) ⊎ IsAmong kinds.DisplayVersion (fault_of command_line words)

@@ -103,7 +103,9 @@ fn asked_by<'a>(
 }
 
 /// What ends the program where words that the command line takes name no command with its numbers.
-fn nothing_asked(alloc: Global) -> Result<Error, AllocError> {
+fn nothing_asked(alloc: Global) -> Result<Error, AllocError>
+    ensures { IfOk result (λ error. kind_of error ≡ ErrorKind.ValueValidation) }
+{
     let mut line = command_line(alloc)?;
     line.error(ErrorKind::ValueValidation, "a number is out of its range")
 }

@@ -3,12 +3,16 @@ use Rattle.std.proofs.Common.{◌≡◌, ◌≢◌, ◌⊎◌, ℕ, ◌≤◌, L
 use Rattle.std.specs.Prelude.{IfErr, IfOk, OnOk, string_bytes}
 use Rattle.std.specs.Io.KnownBytes.{Appends}
 use Rattle.clap.specs.Values.{kind_of}
+use Rattle.clap.specs.Words.{IsAmong, fault_of}
+use Rattle.clap.specs.declared.error.Error.{Error}
 use Rattle.clap.specs.declared.error.kind.ErrorKind.{ErrorKind}
 use Rattle.clap.specs.declared.error.kind.ErrorKind.TheVariants as kinds
 use Rattle.jv_run.specs.Failure.{failure_status}
 use Rattle.jv_run.specs.declared.failure.Failure.{Failure}
 use Rattle.jv_run.specs.declared.failure.Failure.TheVariants as failures
 use Rattle.jv_run.specs.declared.outcome.Outcome.{Outcome}
+use Rattle.jv_settings.specs.CommandLine.{command_line}
+use Rattle.jv_settings.specs.Settings.{AskForHelp, IsRefused}
 use Rattle.jv_status.specs.Command.{HasEnded, IsAsked, IsCarriedOut, IsFailed, IsReport}
 use Rattle.jv_status.specs.Status.{HasStatus, IsStatusOf}
 use Rattle.jv_status.specs.Written.{WritesFront}
@@ -35,6 +39,19 @@ asked_or_not kinds.Io = inr (λ e. cc, λ e. cc)
 asked_or_not kinds.Format = inr (λ e. cc, λ e. cc)
 asked_or_not kinds.OutOfMemory = inr (λ e. cc, λ e. cc)
 
+-- words that are refused with help or the version ask for them
+help_asked : (line : List (List ℕ)) (error : Error) → IsRefused line error
+    → (kind_of error ≡ kinds.DisplayHelp) ⊎ (kind_of error ≡ kinds.DisplayVersion) → AskForHelp line
+help_asked line error (inl (inl memory)) (inl help) = let none : kinds.OutOfMemory ≡ kinds.DisplayHelp = sym memory ∙ help in cc
+help_asked line error (inl (inl memory)) (inr version) = let none : kinds.OutOfMemory ≡ kinds.DisplayVersion = sym memory ∙ version in cc
+help_asked line error (inl (inr among)) (inl help) =
+    inl (subst (λ (kind : ErrorKind). IsAmong kind (fault_of command_line line)) help among)
+help_asked line error (inl (inr among)) (inr version) =
+    inr (subst (λ (kind : ErrorKind). IsAmong kind (fault_of command_line line)) version among)
+help_asked line error (inr nothing) (inl help) = let none : kinds.ValueValidation ≡ kinds.DisplayHelp = sym nothing.1 ∙ help in cc
+help_asked line error (inr nothing) (inr version) =
+    let none : kinds.ValueValidation ≡ kinds.DisplayVersion = sym nothing.1 ∙ version in cc
+
 -- what was told: nothing on the output, but where words ask for it
 abbrev pub IsTold : Option (List ℕ) → Option (List ℕ) → Result Outcome Stop → Type 0
 IsTold mid new (Ok outcome) = new ≡ mid
@@ -58,10 +75,10 @@ stopped : (line : List (List ℕ)) (b0 b1 old mid new : Option (List ℕ)) (stop
     → HasStatus stop status → HasEnded line b0 b1 old new status
 stopped line b0 b1 old mid new (CommandLine error) status done told is =
     elim (asked_or_not (kind_of error)) [
-      | inl asked ↦ inr (inr (inr (is.asked asked)))
+      | inl asked ↦ inr (inr (inr (help_asked line error done.0 asked, is.asked asked)))
       | inr not ↦
           let same : new ≡ mid = told (λ h. elim h [ inl help ↦ not.0 help | inr version ↦ not.1 version ]) in
-          inr (inr (inl (failed old new status 2 (omega arith) (omega arith) (is.wrong not.0 not.1) (same ∙ done))))
+          inr (inr (inl (failed old new status 2 (omega arith) (omega arith) (is.wrong not.0 not.1) (same ∙ done.1))))
     ]
 stopped line b0 b1 old mid new (Run failure) status done told is = inr (inr (inl (no_report old new status failure is (told (λ h. h) ∙ done))))
 stopped line b0 b1 old mid new Output status done told is =

@@ -8,7 +8,7 @@ use Rattle.jv_run.specs.declared.outcome.Outcome.{Outcome}
 use Rattle.jv_run.specs.declared.settings.Settings.{Settings}
 use Rattle.jv_run.specs.Named.{IsRunAs}
 use Rattle.jv_settings.specs.declared.asked.Numbers.{Numbers}
-use Rattle.jv_settings.specs.Settings.{asked_in}
+use Rattle.jv_settings.specs.Settings.{AskForHelp, IsRefused, asked_in}
 use Rattle.jv_settings.specs.Settings.Asked.{run, check}
 use Rattle.jv_status.specs.declared.stop.Stop.{Stop}
 use Rattle.jv_status.specs.declared.stop.Stop.TheVariants.{CommandLine, Run, Output}
@@ -66,10 +66,11 @@ pub record IsFailed (old new : Option (List ℕ)) (status : ℕ) : Type 0 where
   pub nothing : new ≡ old
 
 -- How the program ends on the words of a line: with the report that they ask for, and its status; with 6, and the front of that report;
--- with 2 to 4, and nothing on the output; or with 0, where the words ask for help or the version.
+-- with 2 to 4, and nothing on the output; or with 0, where the words ask for help or for the version.
 abbrev pub HasEnded : (line : List (List ℕ)) → (before after old new : Option (List ℕ)) → (status : ℕ) → Type 0
 HasEnded line before after old new status =
-    IsReported line before after old new status ⊎ (IsCut line before after old new status ⊎ (IsFailed old new status ⊎ (status ≡ 0)))
+    IsReported line before after old new status
+    ⊎ (IsCut line before after old new status ⊎ (IsFailed old new status ⊎ (AskForHelp line × (status ≡ 0))))
 
 -- ---- on the way there
 
@@ -79,14 +80,16 @@ IsAsked (CommandLine error) = (kind_of error ≡ kinds.DisplayHelp) ⊎ (kind_of
 IsAsked (Run failure) = ⊥
 IsAsked Output = ⊥
 
--- what ends the program before anything is written
-abbrev pub IsEarly : Stop → Type 0
-IsEarly Output = ⊥
-IsEarly stop = ⊤
+-- What ends the program before anything is written: the words are refused, or there is no report.
+abbrev pub IsEarly : (line : List (List ℕ)) → Stop → Type 0
+IsEarly line (CommandLine error) = IsRefused line error
+IsEarly line (Run failure) = ⊤
+IsEarly line Output = ⊥
 
 -- a report that was written, or what there is in its place
 abbrev pub IsCarriedOut : (line : List (List ℕ)) → (before after old new : Option (List ℕ)) → Result Outcome Stop → Type 0
 IsCarriedOut line before after old new (Ok outcome) = IsReport line before after outcome × Appends old new (string_bytes outcome.report)
 IsCarriedOut line before after old new (Err Output) =
     (outcome : Outcome) × IsReport line before after outcome × WritesFront old new (string_bytes outcome.report)
-IsCarriedOut line before after old new (Err stop) = new ≡ old
+IsCarriedOut line before after old new (Err (CommandLine error)) = IsRefused line error × (new ≡ old)
+IsCarriedOut line before after old new (Err (Run failure)) = new ≡ old

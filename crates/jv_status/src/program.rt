@@ -32,7 +32,7 @@ fn settings_of(numbers: Numbers) -> jv_run::Settings
 /// What words ask for.
 fn asked<'a>(alloc: Global, words: &'a [String]) -> Result<Settings<'a>, Stop>
     ensures ok { IfOk result (IsAskedIn (map string_bytes words.now)) }
-    ensures err { IfErr result IsEarly }
+    ensures err { IfErr result (IsEarly (map string_bytes words.now)) }
 {
     match settings(alloc, words) {
         Ok(settings) => Ok(settings),
@@ -49,7 +49,7 @@ fn outcome_for<F: Folders, I: Read>(
     input: &mut I,
 ) -> Result<Outcome, Stop>
     ensures ok { IfOk result (IsReport (map string_bytes words.now) (I.remaining input.old) (I.remaining input.new)) }
-    ensures err { IfErr result IsEarly }
+    ensures err { IfErr result (IsEarly (map string_bytes words.now)) }
 {
     match asked(alloc, words)? {
         Settings::Run(numbers, named) => {

@@ -1,6 +1,7 @@
 //! How the program ends.
-ghost use Rattle.std.specs.Prelude.{◌≡◌, ◌≢◌};
+ghost use Rattle.std.specs.Prelude.{◌≡◌, ◌≢◌, ℕ, List};
 ghost use Rattle.clap.specs.Values.{kind_of};
+ghost use Rattle.jv_settings.specs.Settings.{IsRefused};
 ghost use Rattle.jv_status.specs.Command.{IsEarly};
 ghost use Rattle.jv_status.specs.Status.{IsStatusOf};
 ghost use Rattle.jv_run.specs.declared.failure.Failure.TheVariants.{Memory};
@@ -38,7 +39,7 @@ impl Stop {
 
 /// What an error of the command line means.
 pub(crate) fn stop_of(error: clap::Error) -> Stop
-    ensures early { IsEarly result }
+    ensures early { (line : List (List ℕ)) → IsRefused line error → IsEarly line result }
     ensures memory { kind_of error ≡ ErrorKind.OutOfMemory → result ≡ Run Memory }
     ensures other { kind_of error ≢ ErrorKind.OutOfMemory → result ≡ CommandLine error }
 {
