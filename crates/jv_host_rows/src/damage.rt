@@ -42,11 +42,11 @@ fn shown_of<'a>(
 }
 
 /// Counts a damaged file.
-fn count(
+fn count<'a>(
     alloc: Global,
-    prepared: &Prepared,
-    file: &[u8],
-    whole: &Lent<'_>,
+    prepared: &'a Prepared,
+    file: &'a [u8],
+    whole: &'a Lent<'a>,
     so_far: Counts,
 ) -> Result<Counts, AllocError> {
     let mut files: Vec<&[u8]> = Vec::new(alloc);
