@@ -49,7 +49,7 @@ fn count<'a>(
     whole: &'a Lent<'a>,
     so_far: Counts,
 ) -> Result<Counts, AllocError> {
-    let mut files: Vec<&[u8]> = Vec::new(alloc);
+    let mut files: Vec<&'a [u8]> = Vec::new(alloc);
     files.push(file)?;
     let damaged = Lent {
         main: whole.main,
@@ -91,11 +91,11 @@ fn write_counts(out: &mut String, name: &str, counts: Counts) -> Result<(), Allo
 }
 
 /// Counts the fronts of the file.
-fn count_fronts(
+fn count_fronts<'a>(
     alloc: Global,
-    prepared: &Prepared,
-    file: &[u8],
-    whole: &Lent<'_>,
+    prepared: &'a Prepared,
+    file: &'a [u8],
+    whole: &'a Lent<'a>,
 ) -> Result<Counts, AllocError> {
     let mut counts = NONE;
     for length in 0..file.len() {
@@ -119,7 +119,7 @@ fn count_change(
     }
     let before = file[place];
     file[place] = byte;
-    let counts = count(alloc, prepared, file, whole, counts)?;
+    let counts = count(alloc, &*prepared, &*file, &*whole, counts)?;
     file[place] = before;
     Ok(counts)
 }
@@ -169,7 +169,7 @@ pub(crate) fn write_damage(
     let Some(file) = whole.files.first() else {
         return out.push_str("no file");
     };
-    write_counts(out, "cut", count_fronts(alloc, prepared, file, whole)?)?;
+    write_counts(out, "cut", count_fronts(alloc, &*prepared, file, &*whole)?)?;
     let mut own = Vec::new(alloc);
     own.extend_from_slice(file)?;
     let magic = count_changes(alloc, prepared, &mut own, whole, 0, 4)?;
