@@ -1,4 +1,5 @@
 pub mod Arms
+pub mod Below
 pub mod Making
 pub mod Named
 pub mod NamedTypes

@@ -1,11 +1,12 @@
 -- Laws of the rules of instructions (JVMS 4.10.1.9).
-use Rattle.std.specs.Prelude.{◌≡◌, ℕ, suc, Bool, true, false, ◌&&◌, nat_le, length, slice_get, Some, IsTrue}
+use Rattle.std.specs.Prelude.{◌≡◌, ℕ, suc, ◌≤◌, Bool, true, false, ◌&&◌, nat_le, List, ◌++◌, length, drop, slice_get, Some, None, IsTrue}
 use Rattle.jv_frames.specs.Frames.{Frame}
+use Rattle.jv_frames.specs.Types.{FrameType}
 use Rattle.jv_code.specs.Insns.{Instruction}
 use Rattle.jv_code.specs.declared.insn.Insn.TheVariants as insns
 use Rattle.jv_code.specs.declared.kinds.Invocation.TheVariants as invocations
 use Rattle.jv_meaning_typing.specs.Environment.{Environment}
-use Rattle.jv_meaning_typing.specs.Rule.{rule}
+use Rattle.jv_meaning_typing.specs.Rule.{rule, constructed_object}
 
 -- An instruction leaves as many local variables as there were.
 abbrev pub KeepsLocalCount : Type 0
@@ -46,3 +47,16 @@ abbrev pub WritesThere : Type 0
 WritesThere =
     (env : Environment) (pc : ℕ) (insn : Instruction) (before behind : Frame) → rule env pc insn before ≡ Some behind
     → (k : ℕ) → may_write insn k ≡ false → slice_get behind.locals k ≡ slice_get before.locals k
+
+-- Some items were taken from the top of a stack, whose top is first, and at most six put on what is left: `dup2_x2` puts as many.
+pub record StandsOn (before behind : List FrameType) : Type 0 where
+  pub given : List FrameType
+  pub taken : ℕ
+  pub few : length given ≤ 6
+  pub is : behind ≡ given ++ drop taken before
+
+-- An instruction that constructs no object leaves what is on the stack below what it takes (4.10.1.4, 4.10.1.9).
+abbrev pub LeavesBelow : Type 0
+LeavesBelow =
+    (env : Environment) (pc : ℕ) (insn : Instruction) (before behind : Frame) → rule env pc insn before ≡ Some behind
+    → constructed_object env insn before ≡ None → StandsOn before.stack behind.stack

@@ -1,6 +1,6 @@
 //! Laws of the rules.
 
-ghost use Rattle.jv_rules.specs.Laws.{KeepsLocalCount, KeepsLocals, WritesThere};
+ghost use Rattle.jv_rules.specs.Laws.{KeepsLocalCount, KeepsLocals, LeavesBelow, WritesThere};
 
 /// An instruction leaves as many local variables as there were. The call does nothing.
 pub fn keeps_local_count()
@@ -15,4 +15,10 @@ pub fn leaves_locals()
 /// An instruction leaves the local variables of which `may_write` is false. The call does nothing.
 pub fn writes_there()
     ensures { WritesThere }
+{}
+
+/// An instruction that constructs no object leaves what is on the stack below what it takes, and puts few items on it. The call does
+/// nothing.
+pub fn leaves_below()
+    ensures { LeavesBelow }
 {}

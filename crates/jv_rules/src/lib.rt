@@ -30,6 +30,6 @@ pub use constructing::constructed_object;
 pub use context::MethodContext;
 pub use jv_constants as of_constants;
 pub use jv_constants::{of_link, of_loader};
-pub use law::{keeps_local_count, leaves_locals, writes_there};
+pub use law::{keeps_local_count, leaves_below, leaves_locals, writes_there};
 pub use locals::keeps_locals;
 pub use rule::apply;
