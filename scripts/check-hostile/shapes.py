@@ -477,22 +477,32 @@ def many_finals(folder, scale):
 TOP = u1(0)
 
 
-def branching(folder, scale, frame, target, max_stack, max_locals):
-    """16,000 branches from one frame to another: 8,000 before the target, and 8,000 behind it."""
+def written_with(folder, add, methods=1):
+    """A class Main with so many methods that add(class, name) gives it."""
     made = ClassFile("Main")
     made.main()
+    for n in range(methods):
+        add(made, f"m{n}")
+    made.write(folder)
+
+
+def branch(target, at):
+    """iconst_0; ifeq, to a target, where the first stands at an offset."""
+    return bytes([3, 153]) + struct.pack(">h", target - (at + 1))
+
+
+def branching(folder, scale, frame, target, max_stack, max_locals, methods=1):
+    """16,000 branches from one frame to another: 8,000 before the target, and 8,000 behind it; in so many methods."""
     count = scaled(scale, 8000)
     at = 1 + 4 * count
-    code = bytes([177])
-    for k in range(count):
-        code += bytes([3, 153]) + struct.pack(">h", at - (2 + 4 * k))
-    code += bytes([177])
-    for k in range(count):
-        code += bytes([3, 153]) + struct.pack(">h", -(2 + 4 * k))
-    code += bytes([177])
-    spelled = full(1, *frame) + full(at - 2, *target) + full(0, *frame)
-    made.method(9, "branches", "()V", max_stack, max_locals, code, b"", (3, spelled))
-    made.write(folder)
+
+    def add(made, name):
+        code = bytes([177]) + b"".join(branch(at, 1 + 4 * k) for k in range(count)) + bytes([177])
+        code += b"".join(branch(at, at + 1 + 4 * k) for k in range(count)) + bytes([177])
+        spelled = full(1, *frame) + full(at - 2, *target) + full(0, *frame)
+        made.method(9, name, "()V", max_stack, max_locals, code, b"", (3, spelled))
+
+    written_with(folder, add, methods)
 
 
 def branches_apart(folder, scale):
@@ -500,9 +510,99 @@ def branches_apart(folder, scale):
     branching(folder, scale, ([INT] * 65535, []), ([TOP] + [INT] * 65534, []), 1, 65535)
 
 
+def branches_apart_often(folder, scale):
+    """The same in 15 methods: 4 MB."""
+    branching(folder, scale, ([INT] * 65535, []), ([TOP] + [INT] * 65534, []), 1, 65535, scaled(scale, 15))
+
+
 def stack_branches(folder, scale):
     """16,000 branches with 65,533 ints on the stack."""
     branching(folder, scale, ([], [INT] * 65533), ([], [INT] * 65533), 65535, 0)
+
+
+def stack_branches_often(folder, scale):
+    """The same in 15 methods: 4 MB."""
+    branching(folder, scale, ([], [INT] * 65533), ([], [INT] * 65533), 65535, 0, scaled(scale, 15))
+
+
+def stack_pushed(folder, scale):
+    """8,000 branches, with no frame before them, with 30,000 items that instructions have pushed; in 43 methods 4 MB."""
+    count, depth = scaled(scale, 8000), scaled(scale, 30000)
+    end = depth + 4 * count
+
+    def add(made, name):
+        code = bytes([3]) * depth + b"".join(branch(end, depth + 4 * k) for k in range(count)) + bytes([177])
+        made.method(9, name, "()V", 65535, 0, code, b"", (1, full(end, [], [INT] * depth)))
+
+    written_with(folder, add, scaled(scale, 43))
+
+
+def stack_in_turn(folder, scale):
+    """8,000 branches with 10,000 items on the stack to 350 frames in turn: more than are kept."""
+    count, depth = scaled(scale, 8000), scaled(scale, 10000)
+    at = 1 + 4 * count
+
+    def add(made, name):
+        code = bytes([177]) + b"".join(branch(at + k % 350, 1 + 4 * k) for k in range(count)) + bytes([177]) * 350
+        spelled = full(1, [], [INT] * depth) + full(at - 2, [], [INT] * depth) + full(0, [], [INT] * depth) * 349
+        made.method(9, name, "()V", 65535, 0, code, b"", (351, spelled))
+
+    written_with(folder, add)
+
+
+def stack_calls(folder, scale):
+    """4,000 calls of a private method with 65,530 items on the stack, with a branch behind each; in 21 methods 3.4 MB."""
+    count = scaled(scale, 4000)
+    end = 1 + 8 * count
+    made = ClassFile("Main")
+    made.main()
+    made.method(2, "p", "()V", 0, 1, bytes([177]))
+    call = bytes([42, 183]) + u2(made.called("Main", "p", "()V"))
+    code = bytes([177]) + b"".join(call + branch(end, 5 + 8 * k) for k in range(count)) + bytes([177])
+    self = u1(7) + u2(made.named("Main"))
+    spelled = full(1, [self], [INT] * 65530) + full(end - 2, [self], [INT] * 65530)
+    for n in range(scaled(scale, 21)):
+        made.method(1, f"m{n}", "()V", 65535, 1, code, b"", (2, spelled))
+    made.write(folder)
+
+
+def stack_constructs(folder, scale):
+    """3,200 times `new` and `<init>` with 65,530 items on the stack, with a branch behind each; in 21 methods 3.4 MB."""
+    count = scaled(scale, 3200)
+    end = 1 + 10 * count
+    made = ClassFile("Main")
+    made.main()
+    made.method(1, "<init>", "()V", 1, 1, bytes([42, 183]) + u2(made.called("java/lang/Object", "<init>", "()V")) + bytes([177]))
+    one = bytes([187]) + u2(made.named("Main")) + bytes([183]) + u2(made.called("Main", "<init>", "()V"))
+    code = bytes([177]) + b"".join(one + branch(end, 7 + 10 * k) for k in range(count)) + bytes([177])
+    spelled = full(1, [], [INT] * 65530) + full(end - 2, [], [INT] * 65530)
+    for n in range(scaled(scale, 21)):
+        made.method(9, f"m{n}", "()V", 65535, 0, code, b"", (2, spelled))
+    made.write(folder)
+
+
+def stack_to_objects(folder, scale):
+    """8,000 branches with 65,533 items of a class on the stack, which flow to as many of Object."""
+    made = ClassFile("Main")
+    made.main()
+    main, above = u1(7) + u2(made.named("Main")), u1(7) + u2(made.named("java/lang/Object"))
+    count = scaled(scale, 8000)
+    at = 1 + 4 * count
+    code = bytes([177]) + b"".join(branch(at, 1 + 4 * k) for k in range(count)) + bytes([177])
+    made.method(9, "m", "()V", 65535, 0, code, b"", (2, full(1, [], [main] * 65533) + full(at - 2, [], [above] * 65533)))
+    made.write(folder)
+
+
+def start_branches(folder, scale):
+    """8,000 branches from the frame that a method begins with to one of 65,535 entries; in 40 methods 4 MB."""
+    count = scaled(scale, 8000)
+    end = 4 * count
+
+    def add(made, name):
+        code = b"".join(branch(end, 4 * k) for k in range(count)) + bytes([177])
+        made.method(9, name, "()V", 1, 65535, code, b"", (1, full(end, [TOP] * 65535, [])))
+
+    written_with(folder, add, scaled(scale, 40))
 
 
 def switch_apart(folder, scale):
@@ -548,17 +648,24 @@ def frames_in_turn(folder, scale):
 
 def branches_in_turn(folder, scale):
     """8,000 branches from 65,535 ints to 40 frames in turn, each with an entry less."""
-    made = ClassFile("Main")
-    made.main()
+    in_turn(folder, scale, 40, 1)
+
+
+def branches_in_turn_often(folder, scale):
+    """The same to 400 frames, in 39 methods: 4 MB."""
+    in_turn(folder, scale, 400, scaled(scale, 39))
+
+
+def in_turn(folder, scale, targets, methods):
     count = scaled(scale, 8000)
     at = 1 + 4 * count
-    code = bytes([177])
-    for k in range(count):
-        code += bytes([3, 153]) + struct.pack(">h", at + k % 40 - (2 + 4 * k))
-    code += bytes([177]) * 40
-    spelled = full(1, [INT] * 65535, []) + u1(250) + u2(at - 2) + (u1(250) + u2(0)) * 39
-    made.method(9, "branches", "()V", 1, 65535, code, b"", (41, spelled))
-    made.write(folder)
+
+    def add(made, name):
+        code = bytes([177]) + b"".join(branch(at + k % targets, 1 + 4 * k) for k in range(count)) + bytes([177]) * targets
+        spelled = full(1, [INT] * 65535, []) + u1(250) + u2(at - 2) + (u1(250) + u2(0)) * (targets - 1)
+        made.method(9, name, "()V", 1, 65535, code, b"", (targets + 1, spelled))
+
+    written_with(folder, add, methods)
 
 
 def new_branches(folder, scale):
@@ -617,8 +724,9 @@ SHAPES = [
     long_references, short_references, used_references, interface_often, long_methods, long_methods_final, long_fields, methods_below_final,
     classes_below_final, blank_frames, int_frames, int_frames_and_stores, int_stores, int_switch, handlers_at_front, handlers_and_frames,
     handlers_over_all, handlers_apart, handlers_and_stores, new_popped, new_left, new_made, no_package, interface_entries, supers_chain,
-    supers_diamond, supers_dense, many_finals, branches_apart, stack_branches, switch_apart, stores_apart, frames_in_turn,
-    branches_in_turn, new_branches, interfaces_long, interfaces_before, catches_long,
+    supers_diamond, supers_dense, many_finals, branches_apart, branches_apart_often, stack_branches, stack_branches_often, stack_pushed,
+    stack_in_turn, stack_calls, stack_constructs, stack_to_objects, start_branches, switch_apart, stores_apart, frames_in_turn, branches_in_turn,
+    branches_in_turn_often, new_branches, interfaces_long, interfaces_before, catches_long,
 ]
 
 
