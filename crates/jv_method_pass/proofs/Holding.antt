@@ -270,13 +270,14 @@ module _ (pass : Pass) where
       (typed_many (names_in pass) f.locals held.base.locals (room ∙ sym h.many)) h.same
       ∙ ap (all_flow (flows (world_of_types pass.types)) (locals_of pass.types f)) (h.made ∙ ap (λ (n : ℕ). expanded_entries pass.types n map.locals) (sym room))
 
-  pub flows_held : (types : EntryTypes) (held : HeldFrame) (f : NumberFrame) (map : ReadFrame) (r : Bool) → types ≡ pass.types → HoldsLocals pass map.locals held f.locals
-      → length f.locals ≡ pass.max_locals
-      → r ≡ (held_locals_flow types held f && stack_flows_to types (stack_of types f) map && held_flag_flows held f) → r ≡ flows_to_map pass.types f map
-  flows_held types held f map r e h room is =
-      is ∙ (ap (λ (t : EntryTypes). held_locals_flow t held f && stack_flows_to t (stack_of t f) map && held_flag_flows held f) e
-      ∙ (ap (λ (b : Bool). b && stack_flows_to pass.types (stack_of pass.types f) map && held_flag_flows held f) (held_flow held f map h room)
-      ∙ ap (λ (b : Bool). locals_flow_to pass.types f None map && stack_flows_to pass.types (stack_of pass.types f) map && (not f.flag_this_uninit || b)) h.flag))
+  pub flows_held : (types : EntryTypes) (held : HeldFrame) (f : NumberFrame) (map : ReadFrame) (stack r : Bool) → types ≡ pass.types
+      → stack ≡ stack_flows_to pass.types (stack_of pass.types f) map → HoldsLocals pass map.locals held f.locals → length f.locals ≡ pass.max_locals
+      → r ≡ (held_locals_flow types held f && stack && held_flag_flows held f) → r ≡ flows_to_map pass.types f map
+  flows_held types held f map stack r e known h room is =
+      is ∙ (ap (λ (t : EntryTypes). held_locals_flow t held f && stack && held_flag_flows held f) e
+      ∙ (ap (λ (b : Bool). b && stack && held_flag_flows held f) (held_flow held f map h room)
+      ∙ (ap (λ (b : Bool). locals_flow_to pass.types f None map && b && held_flag_flows held f) known
+      ∙ ap (λ (b : Bool). locals_flow_to pass.types f None map && stack_flows_to pass.types (stack_of pass.types f) map && (not f.flag_this_uninit || b)) h.flag)))
 
   pub thrown_held : (types : EntryTypes) (held : HeldFrame) (f : NumberFrame) (thrown : Item) (map : ReadFrame) (r : Bool) → types ≡ pass.types
       → HoldsLocals pass map.locals held f.locals → length f.locals ≡ pass.max_locals

@@ -3,6 +3,7 @@ pub mod CaughtTypes
 pub mod CodeFound
 pub mod Covering
 pub mod EntriesMade
+pub mod FlowingStacks
 pub mod FlowsInto
 pub mod FramesAtInstructions
 pub mod FramesSpelled

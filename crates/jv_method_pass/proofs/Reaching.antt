@@ -55,15 +55,16 @@ module _ (pass : Pass) where
       ∙ reach.flow k u)
       ∙ ap (all_flow (flows world) (locals_of pass.types f)) (reach.made ∙ ap (λ (n : ℕ). expanded_entries pass.types n map.locals) (sym room))
 
-  pub flows_reached : (types : EntryTypes) (held : HeldFrame) (r : ReachedFrame) (f : NumberFrame) (to : ℕ) (map : ReadFrame) (b : Bool) → types ≡ pass.types
+  pub flows_reached : (types : EntryTypes) (held : HeldFrame) (r : ReachedFrame) (f : NumberFrame) (to : ℕ) (map : ReadFrame) (stack b : Bool) → types ≡ pass.types
+      → stack ≡ stack_flows_to pass.types (stack_of pass.types f) map
       → ReachesHeld pass held f.locals to r → slice_get pass.frames to ≡ Some map → length f.locals ≡ pass.max_locals
-      → b ≡ (reached_locals_flow types held r f && stack_flows_to types (stack_of types f) map && reached_flag_flows r f) → b ≡ flows_to_map pass.types f map
-  flows_reached types held r f to map b e reaches at room is =
+      → b ≡ (reached_locals_flow types held r f && stack && reached_flag_flows r f) → b ≡ flows_to_map pass.types f map
+  flows_reached types held r f to map stack b e known reaches at room is =
       let found = reaches map.locals (ap (option_map locals_in) at) in
-      is ∙ (ap (λ (t : EntryTypes). reached_locals_flow t held r f && stack_flows_to t (stack_of t f) map && reached_flag_flows r f) e
-      ∙ (ap (λ (b : Bool). b && stack_flows_to pass.types (stack_of pass.types f) map && reached_flag_flows r f)
-      (reached_flow held r f found.0 map found.1 found.2 room)
-      ∙ ap (λ (b : Bool). locals_flow_to pass.types f None map && stack_flows_to pass.types (stack_of pass.types f) map && (not f.flag_this_uninit || b)) found.2.flag))
+      is ∙ (ap (λ (t : EntryTypes). reached_locals_flow t held r f && stack && reached_flag_flows r f) e
+      ∙ (ap (λ (b : Bool). b && stack && reached_flag_flows r f) (reached_flow held r f found.0 map found.1 found.2 room)
+      ∙ (ap (λ (b : Bool). locals_flow_to pass.types f None map && b && reached_flag_flows r f) known
+      ∙ ap (λ (b : Bool). locals_flow_to pass.types f None map && stack_flows_to pass.types (stack_of pass.types f) map && (not f.flag_this_uninit || b)) found.2.flag)))
 
   pub thrown_reached : (types : EntryTypes) (held : HeldFrame) (r : ReachedFrame) (f : NumberFrame) (thrown : Item) (to : ℕ) (map : ReadFrame) (b : Bool) → types ≡ pass.types
       → ReachesHeld pass held f.locals to r → slice_get pass.frames to ≡ Some map → length f.locals ≡ pass.max_locals

@@ -6,4 +6,5 @@ pub mod Opening
 pub mod Parts
 pub mod Reached
 pub mod Settled
+pub mod Stacks
 pub mod Walk

@@ -123,14 +123,18 @@ fn flag_flows(types: &EntryTypes<'_, '_, '_>, frame: &TypeFrame, map: &MapFrame<
     !frame.flag_this_uninit() || has_this(types, map)
 }
 
-/// Whether a frame flows into a frame of the map, with as many local variables.
-pub fn frame_flows(types: &EntryTypes<'_, '_, '_>, frame: &TypeFrame, map: &MapFrame<'_>) -> bool
-    requires { map.now.local_words ≡ local_entry_words types.now map.now }
+/// Whether a frame flows into a frame of the map, with as many local variables, where it is known whether its stack does.
+pub fn frame_flows(
+    types: &EntryTypes<'_, '_, '_>,
+    frame: &TypeFrame,
+    map: &MapFrame<'_>,
+    stack: bool,
+) -> bool
+    requires words { map.now.local_words ≡ local_entry_words types.now map.now }
+    requires stack { stack ≡ stack_flows_to types.now (stack_of types.now frame.now) map.now }
     ensures { result ≡ flows_to_map types.now frame.now map.now }
 {
-    locals_flow(types, frame, None, map)
-        && stack_flows(types, frame, map)
-        && flag_flows(types, frame, map)
+    locals_flow(types, frame, None, map) && stack && flag_flows(types, frame, map)
 }
 
 /// Whether what was thrown alone on the stack flows to a frame's stack.

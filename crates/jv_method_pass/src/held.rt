@@ -10,13 +10,13 @@ ghost use Rattle.jv_frames.specs.Entries.{locals_in};
 ghost use Rattle.jv_rules.specs.Laws.{is_beside, may_write};
 ghost use Rattle.jv_types.specs.Typed.{typed, typed_all};
 ghost use Rattle.jv_types.specs.Numbered.{Item, frame_of, with_flag, with_locals, with_stack};
-ghost use Rattle.jv_method_pass.specs.Mapped.{expanded_entries, frame_by_types, names_of_types, stack_of, stack_flows_to, types_of_entries};
+ghost use Rattle.jv_method_pass.specs.Mapped.{expanded_entries, frame_by_types, names_of_types, stack_flows_to, types_of_entries};
 ghost use Rattle.jv_method_pass.specs.Pass.{names_in, HasRoom};
 ghost use Rattle.jv_method_pass.specs.Inside.Held.{is_written, AreSameBut, HoldsLocals, IsHeldBy, IsHeld, Notes, Writes, flows_at, held_flag_flows, held_locals_flow, with_held_at};
 
 use crate::cover::mark;
 use crate::entries::EntryTypes;
-use crate::flowing::{stack_flows, thrown_stack_flows};
+use crate::flowing::thrown_stack_flows;
 use crate::pass::Pass;
 use crate::setting::set_to_map;
 use jv_code::{Insn, Invocation};
@@ -361,17 +361,16 @@ impl Held {
         !frame.flag_this_uninit() || self.base.flag_this_uninit()
     }
 
-    /// Whether a frame flows into a frame of the map whose local entries are held.
+    /// Whether a frame flows into a frame of the map whose local entries are held, where it is known whether its stack does.
     pub(crate) fn flows(
         &self,
         types: &EntryTypes<'_, '_, '_>,
         frame: &TypeFrame,
-        map: &MapFrame<'_>,
+        stack: bool,
     ) -> bool
-        ensures { result ≡ (held_locals_flow types.now self.now frame.now
-            && stack_flows_to types.now (stack_of types.now frame.now) map.now && held_flag_flows self.now frame.now) }
+        ensures { result ≡ (held_locals_flow types.now self.now frame.now && stack && held_flag_flows self.now frame.now) }
     {
-        self.locals_flow(types, frame) && stack_flows(types, frame, map) && self.flag_flows(frame)
+        self.locals_flow(types, frame) && stack && self.flag_flows(frame)
     }
 
     /// Whether the frame with which a handler begins, where no object is constructed, flows into a frame of the map whose local

@@ -14,6 +14,7 @@ mod opening;
 mod pass;
 mod reached;
 mod setting;
+mod stacks;
 mod standing;
 mod step;
 mod targets;

@@ -168,20 +168,17 @@ impl ReachedFrame {
         !frame.flag_this_uninit() || self.made.flag_this_uninit()
     }
 
-    /// Whether a frame flows into a frame of the map whose local entries these are.
+    /// Whether a frame flows into a frame of the map whose local entries these are, where it is known whether its stack does.
     fn flows(
         &self,
         types: &EntryTypes<'_, '_, '_>,
         held: &Held,
         frame: &TypeFrame,
-        map: &MapFrame<'_>,
+        stack: bool,
     ) -> bool
-        ensures { result ≡ (reached_locals_flow types.now held.now self.now frame.now
-            && stack_flows_to types.now (stack_of types.now frame.now) map.now && reached_flag_flows self.now frame.now) }
+        ensures { result ≡ (reached_locals_flow types.now held.now self.now frame.now && stack && reached_flag_flows self.now frame.now) }
     {
-        self.locals_flow(types, held, frame)
-            && stack_flows(types, frame, map)
-            && self.flag_flows(frame)
+        self.locals_flow(types, held, frame) && stack && self.flag_flows(frame)
     }
 
     /// Whether the frame with which a handler begins, where no object is constructed, flows into a frame of the map whose local
@@ -284,7 +281,7 @@ impl Reached {
         find(&self.frames, pass, from, to)
     }
 
-    /// Whether a frame flows into the frame of the map at a place.
+    /// Whether a frame flows into the frame of the map at a place, where it is known whether its stack does.
     pub(crate) fn flows(
         &mut self,
         pass: &Pass<'_, '_, '_, '_, '_>,
@@ -292,18 +289,20 @@ impl Reached {
         frame: &TypeFrame,
         place: usize,
         map: &MapFrame<'_>,
+        stack: bool,
     ) -> bool
         requires at { slice_get pass.now.frames place ≡ Some map.now }
         requires room { HasRoom pass.now.types pass.now.max_locals map.now }
         requires locals { length frame.now.locals ≡ pass.now.max_locals }
+        requires stack { stack ≡ stack_flows_to pass.now.types (stack_of pass.now.types frame.now) map.now }
         requires held { IsHeld pass.now held.now frame.now }
         requires reached { AreReached pass.now self.old.frames.items }
         ensures flows { result ≡ flows_to_map pass.now.types frame.now map.now }
         ensures reached { AreReached pass.now self.new.frames.items }
     {
         match self.place_of(pass, held, frame, place, map) {
-            Some(k) => self.frames[k].flows(pass.types, held, frame, map),
-            None => frame_flows(pass.types, frame, map),
+            Some(k) => self.frames[k].flows(pass.types, held, frame, stack),
+            None => frame_flows(pass.types, frame, map, stack),
         }
     }
 
@@ -332,6 +331,32 @@ impl Reached {
     }
 }
 
+/// Whether a frame flows into the frame of the map at a place, where it is known whether its stack does.
+pub(crate) fn flows_by_stack(
+    pass: &Pass<'_, '_, '_, '_, '_>,
+    held: &Held,
+    reached: &mut Reached,
+    frame: &TypeFrame,
+    place: usize,
+    map: &MapFrame<'_>,
+    stack: bool,
+) -> bool
+    requires at { slice_get pass.now.frames place ≡ Some map.now }
+    requires room { HasRoom pass.now.types pass.now.max_locals map.now }
+    requires locals { length frame.now.locals ≡ pass.now.max_locals }
+    requires stack { stack ≡ stack_flows_to pass.now.types (stack_of pass.now.types frame.now) map.now }
+    requires held { IsHeld pass.now held.now frame.now }
+    requires reached { AreReached pass.now reached.old.frames.items }
+    ensures flows { result ≡ flows_to_map pass.now.types frame.now map.now }
+    ensures reached { AreReached pass.now reached.new.frames.items }
+{
+    if held.is_of(pass, place) {
+        held.flows(pass.types, frame, stack)
+    } else {
+        reached.flows(pass, held, frame, place, map, stack)
+    }
+}
+
 /// Whether a frame flows into the frame of the map at a place.
 pub(crate) fn flows_to_map(
     pass: &Pass<'_, '_, '_, '_, '_>,
@@ -349,11 +374,8 @@ pub(crate) fn flows_to_map(
     ensures flows { result ≡ flows_to_map pass.now.types frame.now map.now }
     ensures reached { AreReached pass.now reached.new.frames.items }
 {
-    if held.is_of(pass, place) {
-        held.flows(pass.types, frame, map)
-    } else {
-        reached.flows(pass, held, frame, place, map)
-    }
+    let stack = stack_flows(pass.types, frame, map);
+    flows_by_stack(pass, held, reached, frame, place, map, stack)
 }
 
 /// Whether the frame with which a handler begins flows into the frame of the map at a place.

@@ -12,6 +12,7 @@ ghost use Rattle.jv_method_pass.specs.Inside.Held.{IsHeld};
 ghost use Rattle.jv_method_pass.specs.Inside.Opening.{AreOpenings};
 ghost use Rattle.jv_method_pass.specs.Inside.Reached.{AreReached};
 ghost use Rattle.jv_method_pass.specs.Inside.Settled.{AreSettled, AreSettledIn};
+ghost use Rattle.jv_method_pass.specs.Inside.Stacks.{AreFlowed};
 ghost use Rattle.jv_method_pass.specs.Inside.Walk.{Reaches, IsStep, merged, when_falls, IsMerged};
 
 use crate::cover::{Cover, is_quiet};
@@ -20,10 +21,13 @@ use crate::held::Held;
 use crate::opening::Openings;
 use crate::pass::Pass;
 use crate::reached::{Reached, flows_to_map, set_frame};
+use crate::stacks::FlowedStacks;
 use crate::targets::targets_hold;
 use jv_code::{Insn, stands_in_list, starts_apart};
 use jv_meaning_typing::VerifyRule;
-use jv_rules::{apply, constructed_object, keeps_local_count, leaves_locals, writes_there};
+use jv_rules::{
+    apply, constructed_object, keeps_local_count, leaves_below, leaves_locals, writes_there,
+};
 use jv_types::{Item, TypeFrame};
 use std::alloc::AllocError;
 
@@ -32,6 +36,7 @@ fn merge(
     pass: &Pass<'_, '_, '_, '_, '_>,
     held: &mut Held,
     reached: &mut Reached,
+    stacks: &mut FlowedStacks,
     frame: &mut TypeFrame,
     falls: bool,
     offset: u32,
@@ -39,15 +44,18 @@ fn merge(
     requires locals { length frame.old.locals ≡ pass.now.max_locals }
     requires held { IsHeld pass.now held.old frame.old }
     requires reached { AreReached pass.now reached.old.frames.items }
+    requires stacks { AreFlowed pass.now stacks.old.stacks.items frame.old }
     ensures merged { IsMerged pass.now offset falls frame.old frame.new result }
     ensures locals { length frame.new.locals ≡ pass.now.max_locals }
     ensures held { OnOk result (IsHeld pass.now held.new frame.new) }
     ensures reached { AreReached pass.now reached.new.frames.items }
+    ensures stacks { OnOk result (AreFlowed pass.now stacks.new.stacks.items frame.new) }
 {
     let _types = &pass.types;
     let Some((place, map)) = pass.map_at(offset) else {
         return Ok(falls);
     };
+    stacks.clear();
     if falls && !flows_to_map(pass, held, reached, frame, place, &map) {
         return Ok(false);
     }
@@ -120,6 +128,7 @@ pub(crate) fn step(
     openings: &mut Openings,
     held: &mut Held,
     reached: &mut Reached,
+    stacks: &mut FlowedStacks,
     frame: &mut TypeFrame,
     falls: bool,
     settled: Option<u32>,
@@ -132,6 +141,7 @@ pub(crate) fn step(
     requires openings { AreOpenings pass.now openings.old }
     requires held { IsHeld pass.now held.old frame.old }
     requires reached { AreReached pass.now reached.old.frames.items }
+    requires stacks { AreFlowed pass.now stacks.old.stacks.items frame.old }
     requires offset { offset < 65536 }
     requires method { (env : Environment) × IsOfPass pass.now env }
     ensures step { (env : Environment) → IsOfPass pass.now env → instruction_at env offset ≡ Some (instruction_of insn.now)
@@ -140,6 +150,7 @@ pub(crate) fn step(
     ensures locals { IfOk result (λ found. found ≡ None → length frame.new.locals ≡ pass.now.max_locals) }
     ensures held { IfOk result (λ found. found ≡ None → IsHeld pass.now held.new frame.new) }
     ensures reached { AreReached pass.now reached.new.frames.items }
+    ensures stacks { IfOk result (λ found. found ≡ None → AreFlowed pass.now stacks.new.stacks.items frame.new) }
     ensures openings { openings.new.handlers ≡ openings.old.handlers }
     ensures settled { (env : Environment) → IsOfPass pass.now env → IsTrue (keeps_locals (instruction_of insn.now))
         → IfOk result (λ found. found ≡ None → AreSettled env (maps_of pass.now) (Some offset) (frame_of (names_in pass.now) frame.new)) }
@@ -149,7 +160,8 @@ pub(crate) fn step(
     keeps_local_count();
     leaves_locals();
     writes_there();
-    if !merge(pass, held, reached, frame, falls, offset)? {
+    leaves_below();
+    if !merge(pass, held, reached, stacks, frame, falls, offset)? {
         return Ok(Some(VerifyRule::Merge));
     }
     let settled = settled_at(pass, settled, offset);
@@ -158,11 +170,13 @@ pub(crate) fn step(
     )? {
         return Ok(Some(VerifyRule::CoveredHandler));
     }
+    stacks.go_into(pass, frame, insn);
     if !apply(pass.context, frame, offset as u16, insn)? {
         return Ok(Some(VerifyRule::Instruction));
     }
     held.note(frame, pass.max_locals, insn)?;
-    if !targets_hold(pass, held, reached, frame, offset, insn) {
+    stacks.go_behind(frame.height());
+    if !targets_hold(pass, held, reached, stacks, frame, offset, insn) {
         return Ok(Some(VerifyRule::BranchTarget));
     }
     Ok(None)

@@ -9,11 +9,13 @@ ghost use Rattle.jv_meaning_typing.specs.Typing.{flows_into, frame_at};
 ghost use Rattle.jv_method_pass.specs.Inside.Walk.{distance_holds, pair_holds, table_holds, all_hold, distances_of};
 ghost use Rattle.jv_method_pass.specs.Inside.Held.{IsHeld};
 ghost use Rattle.jv_method_pass.specs.Inside.Reached.{AreReached};
+ghost use Rattle.jv_method_pass.specs.Inside.Stacks.{AreFlowed};
 ghost use Rattle.jv_method_pass.specs.Pass.{Tests};
 
 use crate::held::Held;
 use crate::pass::Pass;
-use crate::reached::{Reached, flows_to_map};
+use crate::reached::{Reached, flows_by_stack};
+use crate::stacks::FlowedStacks;
 use jv_code::{Insn, first_distance, first_pair, target_of};
 use jv_types::TypeFrame;
 
@@ -22,18 +24,24 @@ pub(crate) fn flows_into(
     pass: &Pass<'_, '_, '_, '_, '_>,
     held: &Held,
     reached: &mut Reached,
+    stacks: &mut FlowedStacks,
     frame: &TypeFrame,
     offset: u32,
 ) -> bool
     requires locals { length frame.now.locals ≡ pass.now.max_locals }
     requires held { IsHeld pass.now held.now frame.now }
     requires reached { AreReached pass.now reached.old.frames.items }
+    requires stacks { AreFlowed pass.now stacks.old.stacks.items frame.now }
     ensures flows { Tests pass.now (λ env maps f. flows_into env f (frame_at maps offset)) frame.now result }
     ensures reached { AreReached pass.now reached.new.frames.items }
+    ensures stacks { AreFlowed pass.now stacks.new.stacks.items frame.now }
 {
     let _types = &pass.types;
     match pass.map_at(offset) {
-        Some((place, map)) => flows_to_map(pass, held, reached, frame, place, &map),
+        Some((place, map)) => {
+            let stack = stacks.flows(pass, frame, place, &map);
+            flows_by_stack(pass, held, reached, frame, place, &map, stack)
+        }
         None => false,
     }
 }
@@ -43,6 +51,7 @@ fn distance_holds(
     pass: &Pass<'_, '_, '_, '_, '_>,
     held: &Held,
     reached: &mut Reached,
+    stacks: &mut FlowedStacks,
     frame: &TypeFrame,
     offset: u32,
     distance: i32,
@@ -50,11 +59,13 @@ fn distance_holds(
     requires locals { length frame.now.locals ≡ pass.now.max_locals }
     requires held { IsHeld pass.now held.now frame.now }
     requires reached { AreReached pass.now reached.old.frames.items }
+    requires stacks { AreFlowed pass.now stacks.old.stacks.items frame.now }
     ensures flows { Tests pass.now (λ env maps f. distance_holds env maps f offset distance) frame.now result }
     ensures reached { AreReached pass.now reached.new.frames.items }
+    ensures stacks { AreFlowed pass.now stacks.new.stacks.items frame.now }
 {
     match target_of(offset, distance) {
-        Some(target) => flows_into(pass, held, reached, frame, target),
+        Some(target) => flows_into(pass, held, reached, stacks, frame, target),
         None => false,
     }
 }
@@ -64,6 +75,7 @@ fn distances_hold(
     pass: &Pass<'_, '_, '_, '_, '_>,
     held: &Held,
     reached: &mut Reached,
+    stacks: &mut FlowedStacks,
     frame: &TypeFrame,
     offset: u32,
     distances: &[u8],
@@ -71,13 +83,15 @@ fn distances_hold(
     requires locals { length frame.now.locals ≡ pass.now.max_locals }
     requires held { IsHeld pass.now held.now frame.now }
     requires reached { AreReached pass.now reached.old.frames.items }
+    requires stacks { AreFlowed pass.now stacks.old.stacks.items frame.now }
     ensures flows { Tests pass.now (λ env maps f. list_all (distance_holds env maps f offset) (distances_in distances.now))
         frame.now result }
     ensures reached { AreReached pass.now reached.new.frames.items }
+    ensures stacks { AreFlowed pass.now stacks.new.stacks.items frame.now }
 {
     let mut left = distances;
     while let Some((distance, more)) = first_distance(left) {
-        if !distance_holds(pass, held, reached, frame, offset, distance) {
+        if !distance_holds(pass, held, reached, stacks, frame, offset, distance) {
             return false;
         }
         left = more;
@@ -90,6 +104,7 @@ fn pairs_hold(
     pass: &Pass<'_, '_, '_, '_, '_>,
     held: &Held,
     reached: &mut Reached,
+    stacks: &mut FlowedStacks,
     frame: &TypeFrame,
     offset: u32,
     pairs: &[u8],
@@ -97,12 +112,14 @@ fn pairs_hold(
     requires locals { length frame.now.locals ≡ pass.now.max_locals }
     requires held { IsHeld pass.now held.now frame.now }
     requires reached { AreReached pass.now reached.old.frames.items }
+    requires stacks { AreFlowed pass.now stacks.old.stacks.items frame.now }
     ensures flows { Tests pass.now (λ env maps f. list_all (pair_holds env maps f offset) (pairs_in pairs.now)) frame.now result }
     ensures reached { AreReached pass.now reached.new.frames.items }
+    ensures stacks { AreFlowed pass.now stacks.new.stacks.items frame.now }
 {
     let mut left = pairs;
     while let Some(((_key, distance), more)) = first_pair(left) {
-        if !distance_holds(pass, held, reached, frame, offset, distance) {
+        if !distance_holds(pass, held, reached, stacks, frame, offset, distance) {
             return false;
         }
         left = more;
@@ -115,6 +132,7 @@ fn table_holds(
     pass: &Pass<'_, '_, '_, '_, '_>,
     held: &Held,
     reached: &mut Reached,
+    stacks: &mut FlowedStacks,
     frame: &TypeFrame,
     offset: u32,
     default: i32,
@@ -123,11 +141,13 @@ fn table_holds(
     requires locals { length frame.now.locals ≡ pass.now.max_locals }
     requires held { IsHeld pass.now held.now frame.now }
     requires reached { AreReached pass.now reached.old.frames.items }
+    requires stacks { AreFlowed pass.now stacks.old.stacks.items frame.now }
     ensures flows { Tests pass.now (λ env maps f. table_holds env maps f offset default (distances_in distances.now)) frame.now result }
     ensures reached { AreReached pass.now reached.new.frames.items }
+    ensures stacks { AreFlowed pass.now stacks.new.stacks.items frame.now }
 {
-    distance_holds(pass, held, reached, frame, offset, default)
-        && distances_hold(pass, held, reached, frame, offset, distances)
+    distance_holds(pass, held, reached, stacks, frame, offset, default)
+        && distances_hold(pass, held, reached, stacks, frame, offset, distances)
 }
 
 /// Whether it flows to those of a lookupswitch.
@@ -135,6 +155,7 @@ fn lookup_holds(
     pass: &Pass<'_, '_, '_, '_, '_>,
     held: &Held,
     reached: &mut Reached,
+    stacks: &mut FlowedStacks,
     frame: &TypeFrame,
     offset: u32,
     default: i32,
@@ -143,11 +164,13 @@ fn lookup_holds(
     requires locals { length frame.now.locals ≡ pass.now.max_locals }
     requires held { IsHeld pass.now held.now frame.now }
     requires reached { AreReached pass.now reached.old.frames.items }
+    requires stacks { AreFlowed pass.now stacks.old.stacks.items frame.now }
     ensures flows { Tests pass.now (λ env maps f. table_holds env maps f offset default (distances_of pairs.now)) frame.now result }
     ensures reached { AreReached pass.now reached.new.frames.items }
+    ensures stacks { AreFlowed pass.now stacks.new.stacks.items frame.now }
 {
-    distance_holds(pass, held, reached, frame, offset, default)
-        && pairs_hold(pass, held, reached, frame, offset, pairs)
+    distance_holds(pass, held, reached, stacks, frame, offset, default)
+        && pairs_hold(pass, held, reached, stacks, frame, offset, pairs)
 }
 
 /// Whether what an instruction leaves flows to a frame of the map at each of its targets.
@@ -155,6 +178,7 @@ pub(crate) fn targets_hold(
     pass: &Pass<'_, '_, '_, '_, '_>,
     held: &Held,
     reached: &mut Reached,
+    stacks: &mut FlowedStacks,
     frame: &TypeFrame,
     offset: u32,
     insn: &Insn<&[u8]>,
@@ -162,24 +186,31 @@ pub(crate) fn targets_hold(
     requires locals { length frame.now.locals ≡ pass.now.max_locals }
     requires held { IsHeld pass.now held.now frame.now }
     requires reached { AreReached pass.now reached.old.frames.items }
+    requires stacks { AreFlowed pass.now stacks.old.stacks.items frame.now }
     ensures flows { Tests pass.now (λ env maps f. all_hold env maps f offset (instruction_of insn.now)) frame.now result }
     ensures reached { AreReached pass.now reached.new.frames.items }
+    ensures stacks { AreFlowed pass.now stacks.new.stacks.items frame.now }
 {
     match *insn {
         Insn::Branch(_, distance) => distance_holds(
             pass,
             held,
             reached,
+            stacks,
             frame,
             offset,
             i32::from(distance),
         ),
-        Insn::Goto(distance, _) => distance_holds(pass, held, reached, frame, offset, distance),
+        Insn::Goto(distance, _) => distance_holds(
+            pass, held, reached, stacks, frame, offset, distance,
+        ),
         Insn::TableSwitch(_, default, _, _, distances) => {
-            table_holds(pass, held, reached, frame, offset, default, distances)
+            table_holds(
+                pass, held, reached, stacks, frame, offset, default, distances,
+            )
         }
         Insn::LookupSwitch(_, default, pairs) => {
-            lookup_holds(pass, held, reached, frame, offset, default, pairs)
+            lookup_holds(pass, held, reached, stacks, frame, offset, default, pairs)
         }
         _ => true,
     }

@@ -10,6 +10,7 @@ ghost use Rattle.jv_method_pass.specs.Inside.Cover.{IsCover};
 ghost use Rattle.jv_method_pass.specs.Inside.Held.{IsHeld};
 ghost use Rattle.jv_method_pass.specs.Inside.Opening.{AreOpenings};
 ghost use Rattle.jv_method_pass.specs.Inside.Reached.{AreReached};
+ghost use Rattle.jv_method_pass.specs.Inside.Stacks.{AreFlowed};
 ghost use Rattle.jv_method_pass.specs.Inside.Walk.{IsFoundFrom};
 
 use crate::cover::{Cover, cover_of};
@@ -19,6 +20,7 @@ use crate::opening::Openings;
 use crate::pass::Pass;
 use crate::reached::Reached;
 use crate::setting::set_to_initial;
+use crate::stacks::FlowedStacks;
 use crate::step::step;
 use jv_code::{Insn, falls_through, stands_in_list, starts_apart};
 use jv_meaning_typing::VerifyRule;
@@ -44,6 +46,7 @@ fn walk(
     openings: &mut Openings,
     held: &mut Held,
     reached: &mut Reached,
+    stacks: &mut FlowedStacks,
     frame: &mut TypeFrame,
 ) -> Result<Option<CodeFault>, AllocError>
     requires locals { length frame.old.locals ≡ pass.now.max_locals }
@@ -51,6 +54,7 @@ fn walk(
     requires openings { AreOpenings pass.now openings.old }
     requires held { IsHeld pass.now held.old frame.old }
     requires reached { AreReached pass.now reached.old.frames.items }
+    requires stacks { AreFlowed pass.now stacks.old.stacks.items frame.old }
     requires method { (env : Environment) × IsOfPass pass.now env }
     ensures { IsFoundFrom pass.now frame.old result }
 {
@@ -64,7 +68,7 @@ fn walk(
     while offset < size {
         let (insn, next) = code.insn_at(offset);
         if let Some(rule) = step(
-            pass, cover, openings, held, reached, frame, falls, settled, offset, &insn,
+            pass, cover, openings, held, reached, stacks, frame, falls, settled, offset, &insn,
         )? {
             return Ok(Some(CodeFault { offset, rule }));
         }
@@ -102,12 +106,14 @@ pub fn check_code(
     let mut openings = Openings::of(alloc, pass.handlers)?;
     let mut held = Held::new(alloc)?;
     let mut reached = Reached::new(alloc);
+    let mut stacks = FlowedStacks::new(alloc);
     walk(
         pass,
         &cover,
         &mut openings,
         &mut held,
         &mut reached,
+        &mut stacks,
         &mut frame,
     )
 }

@@ -1,13 +1,8 @@
-use Rattle.std.proofs.Common.{ap}
-use Rattle.std.specs.Option.{option_map}
-use Rattle.jv_frames.specs.Entries.{locals_in}
+use Rattle.std.proofs.Common.{ap, ◌∙◌}
+use Rattle.jv_method_pass.specs.Mapped.{stack_flows_to, stack_of}
 use Rattle.jv_method_pass.specs.Pass.{Pass}
-use Rattle.jv_method_pass.proofs.Holding.{flows_held}
 use Rattle.jv_method_pass.proofs.reached.flows_to_map.Goals as goal
 
-pub returns-then-is_of-clause-flows : goal.returns-then-is_of-clause-flows
-returns-then-is_of-clause-flows c =
-    let map = c.args.map.now in
-    let frame = c.args.frame.now in
-    flows_held c.args.pass.now c.pass.inside.types.now c.args.held.now frame map _ (ap (λ (p : Pass). p.types) c.pass.view_is)
-    (c.is_of.ensures c.if-is_of.true map.locals frame.locals (ap (option_map locals_in) c.requires.at) c.requires.held) c.requires.locals c.flows.ensures
+pub flows_by_stack-requires-clause-stack : goal.flows_by_stack-requires-clause-stack
+flows_by_stack-requires-clause-stack c =
+    c.stack_flows-stack.ensures ∙ ap (λ (p : Pass). stack_flows_to p.types (stack_of p.types c.args.frame.now) c.args.map.now) c.pass.view_is

@@ -4,6 +4,7 @@ use Rattle.jv_types.specs.Numbered.{frame_of}
 use Rattle.jv_method_pass.specs.Pass.{Pass, names_in, maps_of}
 use Rattle.jv_method_pass.specs.Inside.Kept.{IsPass}
 use Rattle.jv_method_pass.specs.Inside.Walk.{merged, when_falls}
+use Rattle.jv_method_pass.proofs.FlowingStacks.{none_flowed}
 use Rattle.jv_method_pass.proofs.FlowsInto.{flow_is, merged_not, merged_flows, merged_map, set_is}
 use Rattle.jv_method_pass.proofs.step.merge.Goals.{else-falls-via-then-falls+else-not-flows_to_map, else-falls-via-else-falls}
 use Rattle.jv_method_pass.proofs.step.merge.Goals as goal
@@ -46,3 +47,9 @@ set_frame-requires-clause-reached c = elim c.else-falls.branch [
   | else-falls-via-then-falls+else-not-flows_to_map w ↦ rw w.reached-is w.flows_to_map.ensures.reached
   | else-falls-via-else-falls w ↦ rw w.reached-is c.requires.reached
 ]
+
+pub returns-then-not-flows_to_map-clause-stacks : goal.returns-then-not-flows_to_map-clause-stacks
+returns-then-not-flows_to_map-clause-stacks c = none_flowed c.args.pass.now _ c.args.frame.now c.clear.ensures
+
+pub returns-clause-stacks : goal.returns-clause-stacks
+returns-clause-stacks c = none_flowed c.args.pass.now _ c.set_frame.new.frame c.clear.ensures

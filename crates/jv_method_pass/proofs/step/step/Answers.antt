@@ -1,11 +1,14 @@
-use Rattle.std.proofs.Common.{refl, sym, ap, subst, ◌∙◌}
+use Rattle.std.proofs.Common.{◌-◌, List, map, refl, sym, ap, subst, ◌∙◌}
 use Rattle.jv_code.specs.Insns.{instruction_of}
 use Rattle.jv_types.specs.Numbered.{frame_of}
 use Rattle.jv_method_pass.specs.Pass.{Pass, maps_of, names_in}
+use Rattle.jv_method_pass.specs.declared.stacks.FlowedStack.{FlowedStack}
 use Rattle.jv_method_pass.specs.Inside.Kept.{IsPass}
+use Rattle.jv_method_pass.specs.Inside.Stacks.{AreFlowed, lowered}
 use Rattle.jv_method_pass.specs.Inside.Walk.{Stands}
 use Rattle.jv_method_pass.proofs.Walking.{stand, merge_broken, handler_broken, instruction_broken, target_broken, goes_on}
 use Rattle.jv_method_pass.proofs.FlowsInto.{applied, is_left, is_none_left, as_many}
+use Rattle.jv_method_pass.proofs.FlowingStacks.{flowed_behind}
 use Rattle.jv_method_pass.proofs.Holding.{held_behind}
 use Rattle.jv_method_pass.proofs.Settling.{if_some, now_settled, still_settled}
 use Rattle.jv_method_pass.proofs.step.step.Goals as goal
@@ -83,6 +86,24 @@ targets_hold-requires-clause-held c =
     (applied pass entries count kept env is c.pass.inside.context.now insn c.merge.new.frame c.apply.new.frame _ c.args.offset _ (ap (λ (p : Pass). p.context) c.pass.view_is)
     refl c.in_ok-apply.ensures))
     c.in_ok-note.ensures
+
+pub targets_hold-requires-clause-stacks : goal.targets_hold-requires-clause-stacks
+targets_hold-requires-clause-stacks c =
+    let pass = c.args.pass.now in
+    let entries = c.pass.inside.initial.now in
+    let count = c.pass.inside.words in
+    let kept : IsPass pass entries count = subst (λ (p : Pass). IsPass p entries count) c.pass.view_is c.pass.invariant in
+    let env = c.requires.method.0 in
+    let is = c.requires.method.1 in
+    let insn = instruction_of c.args.insn.now in
+    let stacks = c.go_into.new.self.stacks.items in
+    let new = c.apply.new.frame in
+    subst (λ (ss : List FlowedStack). AreFlowed pass ss new) (sym (c.go_behind.ensures ∙ ap (λ n. map (lowered (n - 6)) stacks) c.height.ensures))
+    (flowed_behind pass c.leaves_below.ensures env c.args.offset insn stacks c.merge.new.frame new c.go_into.ensures.stacks
+    (is_left (names_in pass) _ new _ c.if-not-branch-3.false
+    (applied pass entries count kept env is c.pass.inside.context.now insn c.merge.new.frame new _ c.args.offset _ (ap (λ (p : Pass). p.context) c.pass.view_is)
+    refl c.in_ok-apply.ensures))
+    (c.go_into.ensures.object env is))
 
 pub returns-then-not-targets_hold-clause-step : goal.returns-then-not-targets_hold-clause-step
 returns-then-not-targets_hold-clause-step c = λ env is at r.

@@ -5,6 +5,7 @@ use Rattle.jv_meaning_typing.specs.Environment.{Environment}
 use Rattle.jv_types.specs.Numbered.{frame_of}
 use Rattle.jv_method_pass.specs.Pass.{IsOfPass, maps_of, names_in}
 use Rattle.jv_method_pass.specs.Inside.Reached.{AreReached}
+use Rattle.jv_method_pass.specs.Inside.Stacks.{AreFlowed}
 use Rattle.jv_method_pass.specs.Inside.Walk.{distance_holds}
 use Rattle.jv_method_pass.proofs.targets.distances_hold.Given as goal
 
@@ -14,6 +15,7 @@ invariant-loop-distance l =
     → list_all (distance_holds env (maps_of l.pass) (frame_of (names_in l.pass) l.frame) l.offset) (distances_in l.distances)
     ≡ list_all (distance_holds env (maps_of l.pass) (frame_of (names_in l.pass) l.frame) l.offset) (distances_in l.left))
     × AreReached l.pass l.reached.frames.items
+    × AreFlowed l.pass l.stacks.stacks.items l.frame
 
 abbrev pub decreases-loop-distance : goal.decreases-loop-distance
 decreases-loop-distance l = length l.left

@@ -59,6 +59,7 @@ loop-offset-preserved c =
       c.in_ok-rule.ensures.held c.in_default.is,
       λ offset test. ap (list_all (passes_at offset test)) c.step.ensures.openings ∙ c.loop-offset.invariant.5 offset test,
       c.step.ensures.reached,
+      c.in_ok-rule.ensures.stacks c.in_default.is,
     )
   where
     clash : false ≡ true → ⊥

@@ -7,6 +7,7 @@ use Rattle.jv_method_pass.specs.Inside.Held.{IsHeld}
 use Rattle.jv_method_pass.specs.Inside.Opening.{AreOpenings}
 use Rattle.jv_method_pass.specs.Inside.Reached.{AreReached}
 use Rattle.jv_method_pass.specs.Inside.Settled.{AreSettled}
+use Rattle.jv_method_pass.specs.Inside.Stacks.{AreFlowed}
 use Rattle.jv_method_pass.specs.Inside.Walk.{Reaches, Progress, when_falls}
 use Rattle.jv_method_pass.proofs.walk.walk.Given as goal
 
@@ -20,6 +21,7 @@ invariant-loop-offset l =
     × IsHeld l.pass l.held l.frame
     × AreOpenings l.pass l.openings
     × AreReached l.pass l.reached.frames.items
+    × AreFlowed l.pass l.stacks.stacks.items l.frame
 
 abbrev pub decreases-loop-offset : goal.decreases-loop-offset
 decreases-loop-offset l = length l.pass.context.code - l.offset

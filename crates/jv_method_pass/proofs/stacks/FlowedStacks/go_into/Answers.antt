@@ -1,0 +1,24 @@
+use Rattle.std.proofs.Common.{ap, sym, subst, ◌∙◌, inl, inr}
+use Rattle.std.specs.Option.{option_map}
+use Rattle.jv_code.specs.Insns.{instruction_of}
+use Rattle.jv_types.specs.Typed.{typed}
+use Rattle.jv_method_pass.specs.Pass.{Pass, names_in}
+use Rattle.jv_method_pass.specs.Inside.Kept.{IsPass}
+use Rattle.jv_method_pass.proofs.FlowingStacks.{none_flowed}
+use Rattle.jv_method_pass.proofs.FlowsInto.{constructed_is}
+use Rattle.jv_method_pass.proofs.stacks.FlowedStacks.go_into.Goals as goal
+
+pub returns-in-Some-clause-stacks : goal.returns-in-Some-clause-stacks
+returns-in-Some-clause-stacks c = none_flowed c.args.pass.now _ c.args.frame.now c.clear.ensures
+
+pub returns-in-Some-clause-object : goal.returns-in-Some-clause-object
+returns-in-Some-clause-object c = λ env is. inl c.clear.ensures
+
+pub returns-in-None-clause-object : goal.returns-in-None-clause-object
+returns-in-None-clause-object c = λ env is.
+    let pass = c.args.pass.now in
+    let entries = c.pass.inside.initial.now in
+    let count = c.pass.inside.words in
+    let kept : IsPass pass entries count = subst (λ (p : Pass). IsPass p entries count) c.pass.view_is c.pass.invariant in
+    inr (sym (constructed_is pass entries count kept env is c.pass.inside.context.now (instruction_of c.args.insn.now) c.args.frame.now c.constructed_object.result
+    (ap (λ (p : Pass). p.context) c.pass.view_is) c.constructed_object.ensures) ∙ ap (option_map (typed (names_in pass))) c.in-None.is)

@@ -1,0 +1,258 @@
+//! Deep stacks that flowed into frames of the stack map: what flows into one again is compared only from where the stack has changed
+//! since (JVMS 4.10.1.2).
+
+ghost use Rattle.std.specs.Prelude.{◌≡◌, ◌<◌, ◌≤◌, ◌-◌, [], ◌⊎◌, length, map, set, slice_get, take, Some, None, IfSome};
+ghost use Rattle.jv_code.specs.Insns.{instruction_of};
+ghost use Rattle.jv_meaning_world.specs.FrameFlow.{all_flow, item_flows};
+ghost use Rattle.jv_meaning_typing.specs.Environment.{Environment};
+ghost use Rattle.jv_meaning_typing.specs.Rule.{constructed_object};
+ghost use Rattle.jv_types.specs.Numbered.{frame_of};
+ghost use Rattle.jv_method_pass.specs.Mapped.{stack_of, stack_flows_to, types_of_entries, world_of_types};
+ghost use Rattle.jv_method_pass.specs.Pass.{IsOfPass, names_in};
+ghost use Rattle.jv_method_pass.specs.Inside.Stacks.{AreFlowed, lowered, lower};
+
+use crate::entries::EntryTypes;
+use crate::flowing::stack_flows;
+use crate::pass::Pass;
+use jv_code::Insn;
+use jv_frames::MapFrame;
+use jv_rules::constructed_object;
+use jv_types::TypeFrame;
+use std::alloc::Global;
+
+/// How many items a stack has at least that is kept: fewer are as soon compared.
+const DEEP: usize = 64;
+
+/// How many stacks are kept at most.
+const KEPT: usize = 256;
+
+/// How many items an instruction puts on a stack at most.
+const GIVEN: usize = 6;
+
+/// A frame of the stack map by its place, how many items its stack has, and how many of the lowest items before an instruction flow to
+/// as many of its lowest.
+#[derive(Clone, Copy)]
+pub(crate) struct FlowedStack {
+    place: usize,
+    height: usize,
+    lowest: usize,
+}
+
+/// The stacks that are kept.
+pub(crate) struct FlowedStacks {
+    stacks: Vec<FlowedStack>,
+}
+
+impl Drop for FlowedStacks {
+    fn drop(self) {
+        let FlowedStacks { stacks: _ } = self;
+    }
+}
+
+fn lower(one: usize, other: usize) -> usize
+    ensures { result ≡ lower one other }
+{
+    if one <= other { one } else { other }
+}
+
+/// How many of the lowest items an instruction has left at least, behind which there are so many.
+fn stayed(height: usize) -> usize
+    ensures { result ≡ height - 6 }
+{
+    height.saturating_sub(GIVEN)
+}
+
+/// Where at most so many of the lowest items have stayed.
+fn lowered(stayed: usize, stack: FlowedStack) -> FlowedStack
+    ensures { result ≡ lowered stayed stack }
+{
+    FlowedStack {
+        place: stack.place,
+        height: stack.height,
+        lowest: lower(stack.lowest, stayed),
+    }
+}
+
+fn lower_all(stacks: &mut [FlowedStack], stayed: usize)
+    ensures { stacks.new ≡ map (lowered stayed) stacks.old }
+{
+    for stack in stacks.iter_mut() {
+        *stack = lowered(stayed, *stack);
+    }
+}
+
+/// Puts a stack in the place of another.
+fn set_at(stacks: &mut [FlowedStack], k: usize, stack: FlowedStack)
+    requires { k < length stacks.old }
+    ensures set { stacks.new ≡ set stacks.old k stack }
+    ensures many { length stacks.new ≡ length stacks.old }
+{
+    stacks[k] = stack;
+}
+
+/// The number of what is kept of the frame of the stack map at a place.
+fn find(stacks: &[FlowedStack], place: usize) -> Option<usize>
+    ensures within { IfSome result (λ k. k < length stacks.now) }
+    ensures found { IfSome result (λ k. (s : FlowedStack) → slice_get stacks.now k ≡ Some s → s.place ≡ place) }
+{
+    for k in 0..stacks.len() {
+        if stacks[k].place == place {
+            return Some(k);
+        }
+    }
+    None
+}
+
+/// Whether so many items on top of a stack flow to those of a frame of the stack map, one by one.
+fn top_flows(
+    types: &EntryTypes<'_, '_, '_>,
+    frame: &TypeFrame,
+    map: &MapFrame<'_>,
+    count: usize,
+) -> bool
+    requires { count ≤ length frame.now.stack }
+    ensures { result ≡ all_flow (item_flows (world_of_types types.now)) (take count (stack_of types.now frame.now))
+        (take count (types_of_entries types.now map.now.stack)) }
+{
+    let mut entries = map.stack();
+    for depth in 0..count {
+        let Some(entry) = entries.next() else {
+            return false;
+        };
+        let Some(item) = frame.item(depth) else {
+            return false;
+        };
+        if !types.names().item_flows(item, types.item(entry)) {
+            return false;
+        }
+    }
+    true
+}
+
+impl FlowedStacks {
+    /// None is kept.
+    pub(crate) fn new(alloc: Global) -> FlowedStacks
+        ensures { result.stacks.items ≡ [] }
+    {
+        FlowedStacks {
+            stacks: Vec::new(alloc),
+        }
+    }
+
+    /// Keeps none any more.
+    pub(crate) fn clear(&mut self)
+        ensures { self.new.stacks.items ≡ [] }
+    {
+        self.stacks.clear();
+    }
+
+    /// Keeps none any more where an instruction constructs an object, which may give copies anywhere on the stack another type.
+    pub(crate) fn go_into(
+        &mut self,
+        pass: &Pass<'_, '_, '_, '_, '_>,
+        frame: &TypeFrame,
+        insn: &Insn<&[u8]>,
+    )
+        requires { AreFlowed pass.now self.old.stacks.items frame.now }
+        ensures stacks { AreFlowed pass.now self.new.stacks.items frame.now }
+        ensures object { (env : Environment) → IsOfPass pass.now env → (self.new.stacks.items ≡ [])
+            ⊎ (constructed_object env (instruction_of insn.now) (frame_of (names_in pass.now) frame.now) ≡ None) }
+    {
+        match constructed_object(pass.context, frame, insn) {
+            Some(_) => self.clear(),
+            None => {}
+        }
+    }
+
+    /// An instruction has left a stack of so many items, and put few of them there.
+    pub(crate) fn go_behind(&mut self, height: usize)
+        ensures { self.new.stacks.items ≡ map (lowered (height - 6)) self.old.stacks.items }
+    {
+        lower_all(&mut self.stacks, stayed(height));
+    }
+
+    /// Compares a stack with that of the frame of the map at a place, and keeps that it flows.
+    fn flows_first(
+        &mut self,
+        pass: &Pass<'_, '_, '_, '_, '_>,
+        frame: &TypeFrame,
+        place: usize,
+        map: &MapFrame<'_>,
+    ) -> bool
+        requires at { slice_get pass.now.frames place ≡ Some map.now }
+        requires stacks { AreFlowed pass.now self.old.stacks.items frame.now }
+        ensures flows { result ≡ stack_flows_to pass.now.types (stack_of pass.now.types frame.now) map.now }
+        ensures stacks { AreFlowed pass.now self.new.stacks.items frame.now }
+    {
+        if !stack_flows(pass.types, frame, map) {
+            return false;
+        }
+        let height = frame.height();
+        if self.stacks.len() < KEPT {
+            let _kept = self.stacks.push(FlowedStack {
+                place,
+                height,
+                lowest: height,
+            });
+        }
+        true
+    }
+
+    /// Compares with it only what is above the items that are known to flow.
+    fn flows_again(
+        &mut self,
+        pass: &Pass<'_, '_, '_, '_, '_>,
+        frame: &TypeFrame,
+        k: usize,
+        place: usize,
+        map: &MapFrame<'_>,
+    ) -> bool
+        requires at { slice_get pass.now.frames place ≡ Some map.now }
+        requires within { k < length self.old.stacks.items }
+        requires found { (s : FlowedStack) → slice_get self.old.stacks.items k ≡ Some s → s.place ≡ place }
+        requires stacks { AreFlowed pass.now self.old.stacks.items frame.now }
+        ensures flows { result ≡ stack_flows_to pass.now.types (stack_of pass.now.types frame.now) map.now }
+        ensures stacks { AreFlowed pass.now self.new.stacks.items frame.now }
+    {
+        let known = self.stacks[k];
+        let height = frame.height();
+        if known.height != height {
+            return false;
+        }
+        if !top_flows(pass.types, frame, map, height - known.lowest) {
+            return false;
+        }
+        set_at(
+            &mut self.stacks,
+            k,
+            FlowedStack {
+                place,
+                height,
+                lowest: height,
+            },
+        );
+        true
+    }
+
+    /// Whether the stack of a frame flows to that of the frame of the map at a place.
+    pub(crate) fn flows(
+        &mut self,
+        pass: &Pass<'_, '_, '_, '_, '_>,
+        frame: &TypeFrame,
+        place: usize,
+        map: &MapFrame<'_>,
+    ) -> bool
+        requires at { slice_get pass.now.frames place ≡ Some map.now }
+        requires stacks { AreFlowed pass.now self.old.stacks.items frame.now }
+        ensures flows { result ≡ stack_flows_to pass.now.types (stack_of pass.now.types frame.now) map.now }
+        ensures stacks { AreFlowed pass.now self.new.stacks.items frame.now }
+    {
+        if frame.height() < DEEP {
+            return stack_flows(pass.types, frame, map);
+        }
+        match find(&self.stacks, place) {
+            Some(k) => self.flows_again(pass, frame, k, place, map),
+            None => self.flows_first(pass, frame, place, map),
+        }
+    }
+}
