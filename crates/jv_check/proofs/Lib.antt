@@ -1,4 +1,3 @@
-pub mod Files
 pub mod InLines
 pub mod NotRead
 pub mod Taken

@@ -1,5 +1,4 @@
 pub mod Check
 pub mod Inside
-pub mod Limits
 pub mod Named
 pub mod Text

@@ -6,9 +6,9 @@ ghost use Rattle.jv_check.specs.Check.{AreVerdictsOf, IsChecked, IsCheckFailure,
 ghost use Rattle.jv_check.specs.Inside.Verified.{AreFilesOf};
 ghost use Rattle.jv_check.specs.Text.{check_status, check_text, is_accepted};
 
-use crate::limits::first_file_refusal;
 use crate::report::Lines;
 use jv_meaning_typing::Verdict;
+use jv_run::of_host::first_file_refusal;
 use jv_run::of_loader::{Classes, Memory, SystemFiles, system_files};
 use jv_run::of_method::{Verified, verify};
 use jv_run::{Failure, Outcome};

@@ -2,7 +2,6 @@
 #![tactic(auto)]
 
 mod checking;
-mod limits;
 mod named;
 mod report;
 

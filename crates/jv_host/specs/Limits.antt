@@ -1,6 +1,7 @@
 -- The limits of the host, and the order in which it refuses a guest, or bytes for one (own).
 use Rattle.std.specs.Prelude.{ℕ, ◌+◌, Bool, ◌&&◌, not, nat_le, nat_lt, ◌==◌, if◌then◌else◌, List, length, Option, Some, None, ◌≡◌, ◌≢◌, slice_get}
 use Rattle.std.specs.List.{list_any}
+use Rattle.std.specs.Option.{option_or}
 use Rattle.jv_format.specs.Numbers.{is_from_to}
 use Rattle.jv_meaning_machine.specs.Start.{Budget}
 use Rattle.jv_meaning_machine.specs.Alone.{GuestFiles}
@@ -20,16 +21,25 @@ is_long_file file = nat_lt 4194304 (length file)
 abbrev pub is_in_range : Budget → Bool
 is_in_range b = is_from_to 64 16777216 b.cells && is_from_to 64 1048576 b.words && nat_le b.output 1048576
 
--- the first reason to refuse a guest, where the host holds so many: 64 is the most, and 1,024 the most files of one
-abbrev pub first_refusal : GuestFiles → Budget → ℕ → Option AdmitFault
-first_refusal g b guests =
-    if length g.files == 0 then Some NoFiles
-    else if nat_lt 1024 (length g.files) then Some TooManyFiles
-    else if list_any is_long_file g.files then Some FileTooLong
-    else if nat_lt 16777216 (length g.input) then Some InputTooLong
+-- the first reason to refuse files: there are 1 to 1,024, none of them longer than a file may be
+abbrev pub first_file_refusal : List (List ℕ) → Option AdmitFault
+first_file_refusal files =
+    if length files == 0 then Some NoFiles
+    else if nat_lt 1024 (length files) then Some TooManyFiles
+    else if list_any is_long_file files then Some FileTooLong
+    else None
+
+-- the first other reason to refuse a guest, where the host holds so many, of which 64 is the most
+abbrev pub first_other_refusal : GuestFiles → Budget → (guests : ℕ) → Option AdmitFault
+first_other_refusal g b guests =
+    if nat_lt 16777216 (length g.input) then Some InputTooLong
     else if not (is_in_range b) then Some BudgetOutOfRange
     else if nat_le 64 guests then Some TooManyGuests
     else None
+
+-- the first reason to refuse a guest, where the host holds so many
+abbrev pub first_refusal : GuestFiles → Budget → (guests : ℕ) → Option AdmitFault
+first_refusal g b guests = option_or (first_file_refusal g.files) (first_other_refusal g b guests)
 
 -- the refusal is the first that applies, but for want of memory
 abbrev pub IsRefused : GuestFiles → Budget → ℕ → AdmitFault → Type 0

@@ -1,11 +1,11 @@
 //! What the host takes.
 
-ghost use Rattle.std.specs.Prelude.{◌≡◌, ◌==◌, nat_lt, length};
+ghost use Rattle.std.specs.Prelude.{◌≡◌, ◌==◌, map, nat_lt, length};
 ghost use Rattle.std.specs.List.{list_any};
-ghost use Rattle.jv_host.specs.Files.{guest_of};
+ghost use Rattle.jv_host.specs.Files.{bytes_of, guest_of};
 ghost use Rattle.jv_interp.specs.of_interp_start.Started.{budget_of};
 ghost use Rattle.jv_format.specs.Numbers.{is_from_to};
-ghost use Rattle.jv_host.specs.Limits.{first_refusal, is_long_file, is_in_range};
+ghost use Rattle.jv_host.specs.Limits.{first_file_refusal, first_other_refusal, first_refusal, is_long_file, is_in_range};
 
 use crate::fault::AdmitFault;
 use crate::files::GuestFiles;
@@ -52,29 +52,59 @@ fn any_long_file(files: &[&[u8]]) -> bool
     files.iter().any(|file| is_long_file(file))
 }
 
-fn has_no_files(files: &GuestFiles<'_>) -> bool
-    ensures { result ≡ (length (guest_of files.now).files == 0) }
+fn has_no_files(files: &[&[u8]]) -> bool
+    ensures { result ≡ (length (map bytes_of files.now) == 0) }
 {
-    files.files.is_empty()
+    files.is_empty()
 }
 
-fn has_too_many_files(files: &GuestFiles<'_>) -> bool
-    ensures { result ≡ nat_lt 1024 (length (guest_of files.now).files) }
+fn has_too_many_files(files: &[&[u8]]) -> bool
+    ensures { result ≡ nat_lt 1024 (length (map bytes_of files.now)) }
 {
-    files.files.len() > FILES
+    files.len() > FILES
 }
 
 #[tactic(auto, using(crate::proofs::LongFiles::any_long_file))]
-fn has_long_file(files: &GuestFiles<'_>) -> bool
-    ensures { result ≡ list_any is_long_file (guest_of files.now).files }
+fn has_long_file(files: &[&[u8]]) -> bool
+    ensures { result ≡ list_any is_long_file (map bytes_of files.now) }
 {
-    any_long_file(files.files)
+    any_long_file(files)
+}
+
+/// The first reason to refuse files: there are 1 to 1,024 of a guest, each of at most 4,194,304 bytes.
+pub fn first_file_refusal(files: &[&[u8]]) -> Option<AdmitFault>
+    ensures { result ≡ first_file_refusal (map bytes_of files.now) }
+{
+    if has_no_files(files) {
+        Some(AdmitFault::NoFiles)
+    } else if has_too_many_files(files) {
+        Some(AdmitFault::TooManyFiles)
+    } else if has_long_file(files) {
+        Some(AdmitFault::FileTooLong)
+    } else {
+        None
+    }
 }
 
 fn has_long_input(files: &GuestFiles<'_>) -> bool
     ensures { result ≡ nat_lt 16777216 (length (guest_of files.now).input) }
 {
     files.input.len() > INPUT_BYTES
+}
+
+/// The first other reason to refuse a guest, where so many are held.
+fn first_other_refusal(files: &GuestFiles<'_>, budget: Budget, guests: usize) -> Option<AdmitFault>
+    ensures { result ≡ first_other_refusal (guest_of files.now) (budget_of budget) guests }
+{
+    if has_long_input(files) {
+        Some(AdmitFault::InputTooLong)
+    } else if !is_in_range(budget) {
+        Some(AdmitFault::BudgetOutOfRange)
+    } else if guests >= GUESTS {
+        Some(AdmitFault::TooManyGuests)
+    } else {
+        None
+    }
 }
 
 /// The first reason to refuse a guest, where so many are held.
@@ -85,19 +115,8 @@ pub(crate) fn first_refusal(
 ) -> Option<AdmitFault>
     ensures { result ≡ first_refusal (guest_of files.now) (budget_of budget) guests }
 {
-    if has_no_files(files) {
-        Some(AdmitFault::NoFiles)
-    } else if has_too_many_files(files) {
-        Some(AdmitFault::TooManyFiles)
-    } else if has_long_file(files) {
-        Some(AdmitFault::FileTooLong)
-    } else if has_long_input(files) {
-        Some(AdmitFault::InputTooLong)
-    } else if !is_in_range(budget) {
-        Some(AdmitFault::BudgetOutOfRange)
-    } else if guests >= GUESTS {
-        Some(AdmitFault::TooManyGuests)
-    } else {
-        None
+    match first_file_refusal(files.files) {
+        Some(fault) => Some(fault),
+        None => first_other_refusal(files, budget, guests),
     }
 }
