@@ -14,4 +14,6 @@ mod memory;
 #[cfg(test)]
 mod program;
 #[cfg(test)]
+mod progress;
+#[cfg(test)]
 mod report;

@@ -10,22 +10,23 @@ use Rattle.jv_meaning_machine.specs.Alone.{Feed, GuestFiles}
 use Rattle.jv_meaning_machine.specs.Observation.{Observed, Shows}
 use Rattle.jv_meaning_machine.specs.Laws.Shown.{ShowsOneThing}
 use Rattle.jv_host.specs.of_interp_start.Started.{budget_of}
-use Rattle.jv_host.specs.Host.{Admission}
+use Rattle.jv_host.specs.Host.{Admission, fed_bytes}
 use Rattle.jv_host.specs.Calls.{IsShown, NoneRuns}
-use Rattle.jv_run.specs.declared.settings.Settings.{Settings}
+use Rattle.jv_run.specs.declared.settings.RunSettings.{RunSettings}
 use Rattle.jv_run.specs.Feeding.{feeds_to}
 use Rattle.jv_run.specs.Folder.{NamedGuest}
 use Rattle.jv_run.specs.declared.brought.Brought.{Brought}
 use Rattle.jv_run.specs.declared.outcome.Outcome.{Outcome}
-use Rattle.jv_run.specs.Outcome.{IsRunAlone, IsRunOutcome, IsToldOf, WereNeeded}
+use Rattle.jv_run.specs.Outcome.{AreAllowed, IsRunAlone, IsRunOutcome, IsToldOf, WereNeeded}
 use Rattle.jv_run.specs.Report.{Told, is_running, report_text, run_status}
 use Rattle.jv_run.specs.Inside.Brought.{named_guest_of}
 use Rattle.jv_run.specs.Inside.Play.{AreReportsOn, HasRun, IsReportOn, at_start}
 use Rattle.jv_run.specs.Inside.Turns.{HasPlayed, SomeWent}
 use Rattle.jv_run.proofs.Places.{found_in_map, some_same, within}
+use Rattle.jv_run.proofs.WhatWasRead.{count_of_bytes}
 
 -- such a host has as many guests as were admitted
-pub all_there : (s : Settings) (brought : List Brought) (before after : Option (List ℕ)) (host : List Admission) → HasRun s (map named_guest_of brought) before after host
+pub all_there : (s : RunSettings) (brought : List Brought) (before after : Option (List ℕ)) (host : List Admission) → HasRun s (map named_guest_of brought) before after host
     → length host ≡ length brought
 all_there s brought before after host ran =
     ran.played.count ∙ ap length ran.started ∙ length-map (map named_guest_of brought) (at_start (budget_of s.budget)) ∙ length-map brought named_guest_of
@@ -58,7 +59,7 @@ module _ (one : ShowsOneThing) where
       (subst (λ (x : List Feed). IsRunAlone a.guest a.budget x n turns o) fed (played_alone n turns a o played shown)))
 
   -- what is told of the guests of a host that has run
-  told : (s : Settings) (guests : List NamedGuest) (before after : Option (List ℕ)) (host : List Admission) (place : ℕ) (named : NamedGuest) (t : Told)
+  told : (s : RunSettings) (guests : List NamedGuest) (before after : Option (List ℕ)) (host : List Admission) (place : ℕ) (named : NamedGuest) (t : Told)
       (ran : HasRun s guests before after host) → slice_get guests place ≡ Some named → IsReportOn guests host place t → IsToldOf s ran.feeds ran.rounds place named t
   told s guests before after host place named t ran found report =
       let b = budget_of s.budget in
@@ -75,6 +76,13 @@ module _ (one : ShowsOneThing) where
         number = report.number;
         word = report.word ∙ ap (λ (x : NamedGuest). x.word) same;
         names = report.names ∙ ap (λ (x : NamedGuest). x.names) same;
+        fits = λ some.
+            let fed = ran.fed place a report.shown.found in
+            let few = ran.fits place a report.shown.found (λ none. some (sym fed ∙ none)) in
+            let brought : length a.guest.input ≡ length named.guest.input = ap (λ (g : GuestFiles). length g.input) guest in
+            let came : fed_bytes a.feeds ≡ fed_bytes (feeds_to s.stdin ran.feeds place) = ap fed_bytes fed in
+            let count = count_of_bytes (feeds_to s.stdin ran.feeds place) in
+            omega (arith, few, brought, came, count);
         seen = shown_alone s.quantum ran.rounds a t.seen named.guest b (feeds_to s.stdin ran.feeds place) guest budget (ran.fed place a report.shown.found) played report.shown.alone;
       }
 
@@ -117,13 +125,16 @@ module _ (one : ShowsOneThing) where
   were_needed n (suc before) guests host count all reports same went = told_at n before guests host count all reports same went.0 went.1 went.2 went.3
 
   -- what is said of the guests of such a host
-  pub said : {E : Type 0} (s : Settings) (brought : List Brought) (host : List Admission) (all : List Told) → AreReportsOn (map named_guest_of brought) host (length brought) all
+  pub said : {E : Type 0} (s : RunSettings) (brought : List Brought) (host : List Admission) (all : List Told)
+      → AreAllowed (budget_of s.budget) (map named_guest_of brought) (length brought) → AreReportsOn (map named_guest_of brought) host (length brought) all
       → {lent : List Told} → lent ≡ all → (result : Result Outcome E) → IfOk result (λ outcome. string_bytes outcome.report ≡ report_text lent)
       → IfOk result (λ outcome. outcome.status ≡ run_status lent)
       → IfOk result (λ outcome. (before after : Option (List ℕ)) → HasRun s (map named_guest_of brought) before after host
       → IsRunOutcome s (map named_guest_of brought) before after outcome)
-  said s brought host all reports same (Err e) report status = tt
-  said s brought host all reports same (Ok outcome) report status = λ before after ran. record {
+  said s brought host all allowed reports same (Err e) report status = tt
+  said s brought host all allowed reports same (Ok outcome) report status = λ before after ran. record {
+    allowed =
+        subst (λ (k : ℕ). AreAllowed (budget_of s.budget) (map named_guest_of brought) k) (sym (length-map brought named_guest_of)) allowed;
     rounds = ran.rounds;
     most = ran.most;
     feeds = ran.feeds;

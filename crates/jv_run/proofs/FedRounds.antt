@@ -10,16 +10,16 @@ use Rattle.jv_meaning_machine.specs.Laws.Shown.{ShowsOneThing}
 use Rattle.jv_meaning_machine.specs.Laws.Feeds.{FeedShowsLater}
 use Rattle.jv_host.specs.declared.fault.FeedFault.TheVariants as faults
 use Rattle.jv_host.specs.Host.{Admission, fed_bytes, input_bytes}
-use Rattle.jv_host.specs.Calls.{IsRun, SomeRuns}
+use Rattle.jv_host.specs.Calls.{IsRun, NoneRuns, SomeRuns}
 use Rattle.jv_host.specs.Limits.{feed_refusal, feed_refusal_of}
 use Rattle.jv_run.specs.declared.failure.Failure.{Failure}
 use Rattle.jv_run.specs.declared.failure.Failure.TheVariants.{Unreadable, StandardInput, Refused, FeedTooLong, TooManyFolders, NoGuest, HostMemory, Memory}
 use Rattle.jv_run.specs.Feeding.{IsTooLong, bytes_of_feeds}
-use Rattle.jv_run.specs.Inside.Turns.{AreAtStart, IsFedNext, IsFeedFailure, IsNextFailure, OnlyFed, PlayedSince, ReadSoFar, SomeWent}
+use Rattle.jv_run.specs.Inside.Turns.{AreAtStart, IsFedNext, IsFedRun, IsFeedFailure, IsNextFailure, OnlyFed, PlayedSince, ReadSoFar, SomeWent}
 use Rattle.jv_run.proofs.AllTurns.{feed_all, only_at_start, only_fed, only_once, run_once, start_all}
 use Rattle.jv_run.proofs.Needed.{is_round, some_run, some_went, went_on}
 use Rattle.jv_run.proofs.Places.{some_same}
-use Rattle.jv_run.proofs.WhatWasRead.{read_at_start, read_next, read_none, read_once}
+use Rattle.jv_run.proofs.WhatWasRead.{count_of_bytes, read_at_start, read_next, read_none, read_once}
 
 -- so many turns, and what was read before so many rounds
 pub record FedSoFar (n turns reads id : ℕ) (old mid : List Admission) (before now : Option (List ℕ)) (more : Bool) : Type 0 where
@@ -71,11 +71,20 @@ fed_round one n r m id old mid new b0 b1 more bound runs before run =
       needed = λ some. went_on one n some r old mid new runs before.played (is_round one n m mid new runs run) bound;
     })
 
--- ---- what can't be fed
+-- rounds until none runs
+pub fed_over : (n most r id : ℕ) (old now : List Admission) (b0 b1 : Option (List ℕ)) (more : Bool) → r < most → FedSoFar n r r id old now b0 b1 more
+    → NoneRuns now → IsFedRun n most id old now b0 b1 r
+fed_over n most r id old now b0 b1 more lt h none = record {
+  few = omega (arith, lt);
+  played = h.played;
+  only = h.only;
+  more = more;
+  read = h.read;
+  full = λ _. none;
+  needed = h.needed;
+}
 
-count_of_bytes : (feeds : List Feed) → length (bytes_of_feeds feeds) ≡ fed_bytes feeds
-count_of_bytes [] = refl
-count_of_bytes (feed ∷ more) = length-append feed.bytes (bytes_of_feeds more) ∙ ap (λ (k : ℕ). length feed.bytes + k) (count_of_bytes more)
+-- ---- what can't be fed
 
 too_many : (a : Admission) (count : ℕ) → feed_refusal_of (Some a) count ≡ Some faults.InputTooLong → 16777216 < input_bytes a + count
 too_many a count refused =

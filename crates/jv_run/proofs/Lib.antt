@@ -5,9 +5,12 @@ pub mod ClassFileNames
 pub mod FedRounds
 pub mod Lines
 pub mod Needed
+pub mod NotRead
+pub mod NotRun
 pub mod Places
 pub mod Played
 pub mod Read
 pub mod Reports
+pub mod RoundByRound
 pub mod Turns
 pub mod WhatWasRead

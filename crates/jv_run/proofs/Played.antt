@@ -7,12 +7,12 @@ use Rattle.std.proofs.lemmas.List.{length-map}
 use Rattle.jv_meaning_machine.specs.Start.{Budget}
 use Rattle.jv_meaning_machine.specs.Alone.{GuestFiles}
 use Rattle.jv_host.specs.of_interp_start.Started.{budget_of}
-use Rattle.jv_host.specs.Host.{Admission}
+use Rattle.jv_host.specs.Host.{Admission, input_bytes}
 use Rattle.jv_host.specs.Calls.{NoneRuns}
 use Rattle.jv_host.proofs.Places.{same_or_other}
 use Rattle.jv_run.specs.declared.failure.Failure.{Failure}
 use Rattle.jv_run.specs.declared.failure.Failure.TheVariants.{Unreadable, StandardInput, Refused, FeedTooLong, TooManyFolders, NoGuest, HostMemory, Memory}
-use Rattle.jv_run.specs.declared.settings.Settings.{Settings}
+use Rattle.jv_run.specs.declared.settings.RunSettings.{RunSettings}
 use Rattle.jv_run.specs.Feeding.{AreFeedsFrom, IsTooLong, feeds_to, is_no_guest}
 use Rattle.jv_run.specs.Folder.{NamedGuest}
 use Rattle.jv_run.specs.Outcome.{AreAllowed, IsFeedingFailure, IsGuestsFailure}
@@ -91,7 +91,7 @@ module _ (b : Budget) (guests : List NamedGuest) (host : List Admission) (starte
 
 -- ---- no guest is fed
 
-pub unfed_run : (s : Settings) (guests : List NamedGuest) (old new : List Admission) (before : Option (List ℕ)) (m : ℕ) → s.stdin ≡ None
+pub unfed_run : (s : RunSettings) (guests : List NamedGuest) (old new : List Admission) (before : Option (List ℕ)) (m : ℕ) → s.stdin ≡ None
     → old ≡ map (at_start (budget_of s.budget)) guests → m ≤ s.rounds → PlayedSince s.quantum m old new → NoneFed new → (m < s.rounds → NoneRuns new)
     → (1 ≤ s.quantum → SomeWent s.quantum m new) → HasRun s guests before before new
 unfed_run s guests old new before m none started most played unfed full needed = record {
@@ -103,6 +103,7 @@ unfed_run s guests old new before m none started most played unfed full needed =
   feeds = [];
   input = subst (λ (o : Option ℕ). AreFeedsFrom o m [] before before) (sym none) (refl, refl);
   fed = λ place a found. unfed place a found ∙ sym (ap (λ (o : Option ℕ). feeds_to o [] place) none);
+  fits = λ place a found some. absurd (some (unfed place a found));
   full = full;
   needed = needed;
 }
@@ -113,7 +114,7 @@ read_to_end : (id m : ℕ) (host : List Admission) (b0 b1 : Option (List ℕ)) (
 read_to_end id m host b0 b1 true read lt = let all : length read.a.feeds ≡ m = read.each refl in absurd (omega (arith, all, lt))
 read_to_end id m host b0 b1 false read lt = read.end refl
 
-pub fed_run : (s : Settings) (guests : List NamedGuest) (old new : List Admission) (b0 b1 : Option (List ℕ)) (m number : ℕ) → s.stdin ≡ Some number → 1 ≤ number
+pub fed_run : (s : RunSettings) (guests : List NamedGuest) (old new : List Admission) (b0 b1 : Option (List ℕ)) (m number : ℕ) → s.stdin ≡ Some number → 1 ≤ number
     → old ≡ map (at_start (budget_of s.budget)) guests → IsFedRun s.quantum s.rounds (number - 1) old new b0 b1 m → HasRun s guests b0 b1 new
 fed_run s guests old new b0 b1 m number some least started run =
     let read = run.read in
@@ -126,7 +127,7 @@ fed_run s guests old new b0 b1 m number some least started run =
       played = run.played;
       feeds = feeds;
       input = subst (λ (o : Option ℕ). AreFeedsFrom o m feeds b0 b1) (sym some)
-          (record { few = read.few; pieces = read.pieces; bytes = read.bytes; end = read_to_end (number - 1) m new b0 b1 run.more read });
+          (record { few = read.few; pieces = read.pieces; bytes = read.bytes; end = read_to_end (number - 1) m new b0 b1 run.more read; unread = read.unread });
       fed = λ place a found.
           subst (λ (o : Option ℕ). a.feeds ≡ feeds_to o feeds place) (sym some)
           (elim (same_or_other number (place + 1)) [
@@ -138,15 +139,25 @@ fed_run s guests old new b0 b1 m number some least started run =
                 let beside : place ≢ number - 1 = λ e. other (omega (arith, e, least)) in
                 run.only place a found beside ∙ sym (ap (λ (b : Bool). cond b feeds []) (ne_eqb number (place + 1) other))
           ]);
+      fits = λ place a found some.
+          elim (same_or_other number (place + 1)) [
+            | inl same ↦
+                let here : number - 1 ≡ place = omega (arith, same) in
+                let it : read.a ≡ a = some_same read.a a (sym (subst (λ (k : ℕ). slice_get new k ≡ Some read.a) here read.found) ∙ found) in
+                subst (λ (x : Admission). x.feeds ≢ [] → input_bytes x ≤ 16777216) it read.fits some
+            | inr other ↦
+                let beside : place ≢ number - 1 = λ e. other (omega (arith, e, least)) in
+                absurd (some (run.only place a found beside))
+          ];
       full = run.full;
       needed = run.needed;
     }
 
 -- ---- why there is no report
 
-module _ (s : Settings) (guests : List NamedGuest) (b0 b1 : Option (List ℕ)) where
-  pub not_admitted : (failure : Failure) → IsAdmitFailure (budget_of s.budget) guests failure → IsGuestsFailure s guests b0 b1 failure
-  not_admitted (Refused fault) h = h
+module _ (s : RunSettings) (guests : List NamedGuest) (b0 : Option (List ℕ)) where
+  pub not_admitted : (failure : Failure) → IsAdmitFailure (budget_of s.budget) guests failure → IsGuestsFailure s guests b0 b0 failure
+  not_admitted (Refused fault) h = (h, refl)
   not_admitted HostMemory h = h
   not_admitted StandardInput h = absurd h
   not_admitted FeedTooLong h = absurd h
@@ -155,13 +166,14 @@ module _ (s : Settings) (guests : List NamedGuest) (b0 b1 : Option (List ℕ)) w
   not_admitted NoGuest h = absurd h
   not_admitted Memory h = absurd h
 
+module _ (s : RunSettings) (guests : List NamedGuest) (b0 b1 : Option (List ℕ)) where
   first_allowed : AreAllowed (budget_of s.budget) guests (length guests) → AreAllowed (budget_of s.budget) guests 1
   first_allowed all place named lt found = all place named (within guests place named found) found
 
   pub not_played : (failure : Failure) → AreAllowed (budget_of s.budget) guests (length guests) → IsFeedingFailure s.stdin guests b0 b1 failure
       → IsGuestsFailure s guests b0 b1 failure
-  not_played StandardInput all h = h
-  not_played FeedTooLong all h = h
+  not_played StandardInput all h = (all, h)
+  not_played FeedTooLong all h = (all, h)
   not_played HostMemory all h = first_allowed all
   not_played (Unreadable name) all h = absurd h
   not_played (Refused fault) all h = absurd h

@@ -30,12 +30,13 @@ abbrev pub IsPiece : Feed → Type 0
 IsPiece feed = (1 ≤ length feed.bytes) × (length feed.bytes ≤ 4096)
 
 -- Before each of the first rounds one piece was read, and before the others none was left; the pieces are all that was read, in order, and
--- none is lost.
+-- none is lost. Without a round nothing was read.
 pub record AreRead (rounds : ℕ) (feeds : List Feed) (before after : Option (List ℕ)) : Type 0 where
   pub few : length feeds ≤ rounds
   pub pieces : All IsPiece feeds
   pub bytes : Consumes before after (bytes_of_feeds feeds)
   pub end : length feeds < rounds → IsAtEnd after
+  pub unread : rounds ≡ 0 → after ≡ before
 
 -- What was read for the guest that is fed, of input with these bytes before and after; where none is fed, nothing was.
 abbrev pub AreFeedsFrom : Option ℕ → (rounds : ℕ) → List Feed → (before after : Option (List ℕ)) → Type 0

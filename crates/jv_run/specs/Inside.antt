@@ -1,3 +1,4 @@
 pub mod Brought
 pub mod Play
+pub mod Reading
 pub mod Turns

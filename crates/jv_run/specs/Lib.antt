@@ -8,6 +8,7 @@ pub mod MainName
 pub mod Named
 pub mod Names
 pub mod Outcome
+pub mod Progress
 pub mod Report
 pub mod Verdict
 pub use Rattle.jv_host.specs as of_host

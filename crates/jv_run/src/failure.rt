@@ -29,17 +29,19 @@ pub enum Failure {
     Memory,
 }
 
-/// The status that the program ends with.
-pub fn status_of(failure: &Failure) -> u8
-    ensures { result ≡ failure_status failure.now }
-{
-    match failure {
-        Failure::TooManyFolders | Failure::NoGuest => 2,
-        Failure::Unreadable(_)
-        | Failure::StandardInput
-        | Failure::Refused(_)
-        | Failure::FeedTooLong => 3,
-        Failure::HostMemory | Failure::Memory => 4,
+impl Failure {
+    /// The status that the program ends with.
+    pub fn status(&self) -> u8
+        ensures { result ≡ failure_status self.now }
+    {
+        match self {
+            Failure::TooManyFolders | Failure::NoGuest => 2,
+            Failure::Unreadable(_)
+            | Failure::StandardInput
+            | Failure::Refused(_)
+            | Failure::FeedTooLong => 3,
+            Failure::HostMemory | Failure::Memory => 4,
+        }
     }
 }
 

@@ -1,12 +1,11 @@
 //! Rounds of turns, before each of which a guest is fed what is read.
-ghost use Rattle.std.specs.Prelude.{◌≡◌, ◌≤◌, ℕ, false, IfErr, IfOk, IsSome, IsTrue, length, slice_get};
-ghost use Rattle.jv_host.specs.Calls.{IsRun, NoneRuns, OverAt, RunsAt, SomeRuns};
+ghost use Rattle.std.specs.Prelude.{◌≡◌, IfErr, IfOk, IsSome, length, slice_get};
 ghost use Rattle.jv_run.specs.Inside.Turns.{AreAtStart, IsFedNext, IsFedRun, IsFeedFailure, IsNextFailure};
 
 use crate::failure::Failure;
-use crate::play::observation_of;
-use crate::report::is_running;
-use crate::settings::Settings;
+use crate::rounds::{any_takes_steps, run_round, see};
+use crate::settings::RunSettings;
+use crate::watch::Watch;
 use jv_heap::Cells;
 use jv_host::{GuestId, Host};
 use jv_meaning_machine::{feed_shows_later, shows_one_thing};
@@ -14,30 +13,6 @@ use std::io::Read;
 
 /// The most bytes that are read at a time.
 const PIECE: usize = 4096;
-
-/// Whether a guest of the host takes steps.
-fn takes_steps(host: &Host<'_, Cells>, id: GuestId) -> bool
-    requires { IsSome (slice_get host.now id.0) }
-    ensures running { IsTrue result → RunsAt host.now id.0 }
-    ensures over { result ≡ false → OverAt host.now id.0 }
-{
-    shows_one_thing();
-    is_running(observation_of(host, id).end)
-}
-
-/// Whether one of a host's guests, of which there are so many, takes steps.
-fn any_takes_steps(host: &Host<'_, Cells>, count: u32) -> bool
-    requires { length host.now ≡ count }
-    ensures some { IsTrue result → SomeRuns host.now }
-    ensures none { result ≡ false → NoneRuns host.now }
-{
-    for id in 0..count {
-        if takes_steps(host, GuestId(id)) {
-            return true;
-        }
-    }
-    false
-}
 
 /// Reads once, and feeds what was read to a guest; says whether there is more to read.
 ///
@@ -61,28 +36,21 @@ fn feed_next<I: Read>(
     Ok(count > 0)
 }
 
-/// Gives each guest of a host one turn, in order of admission.
-fn run_round(host: &mut Host<'_, Cells>, quantum: u32)
-    ensures { (m : ℕ) × IsRun quantum 1 host.old host.new m }
-{
-    let Ok(_) = host.run(quantum, 1) else {
-        unreachable!()
-    };
-}
-
 /// Gives the guests of a host, of which there are so many and each is at its start, their turns, round by round, as long as one takes
-/// steps. Before each round, until the input ends, what one read of it gives is fed to a guest. Answers how many rounds there were.
+/// steps. Before each round, until the input ends, what one read of it gives is fed to a guest. Answers how many rounds there were. A watch
+/// sees them.
 ///
 /// # Errors
 ///
 /// `StandardInput` where a read fails, `FeedTooLong` where the guest would have more than 16,777,216 bytes of input, and `HostMemory`
 /// where the host had no memory for them.
-pub(crate) fn run_fed<I: Read>(
+pub(crate) fn run_fed<I: Read, W: Watch>(
     host: &mut Host<'_, Cells>,
     count: u32,
     id: GuestId,
-    settings: Settings,
+    settings: RunSettings,
     input: &mut I,
+    watch: &mut W,
 ) -> Result<u32, Failure>
     requires all { length host.old ≡ count }
     requires there { IsSome (slice_get host.old id.0) }
@@ -102,6 +70,7 @@ pub(crate) fn run_fed<I: Read>(
             more = feed_next(host, id, input)?;
         }
         run_round(host, settings.quantum);
+        see(host, round + 1, watch);
     }
     Ok(settings.rounds)
 }

@@ -3,6 +3,7 @@ ghost use Rattle.std.specs.Prelude.{◌≡◌, ◌≢◌, ◌≤◌, ◌+◌, �
 ghost use Rattle.std.specs.IoError.{error_kind};
 ghost use Rattle.jv_run.specs.Bytes.{bytes_of};
 ghost use Rattle.jv_run.specs.Failure.{IsNotRead, IsUnread};
+ghost use Rattle.jv_run.specs.Inside.Reading.{IsOneUnreadIn};
 ghost use Rattle.jv_run.specs.Folder.{AreClassFilesOf, IsFolderOf, IsFolderRead, IsReadUpToLimit, file_name};
 ghost use Rattle.jv_run.specs.Names.{is_listed_name};
 
@@ -95,7 +96,7 @@ fn read_file<F: Folders>(
 ) -> Result<Vec<u8>, Failure>
     requires { limit + 2 < 2 ^ 64 }
     ensures most { IfOk result (λ bytes. vec_len bytes ≤ limit + 1) }
-    ensures err { IfErr result IsNotRead }
+    ensures err { IfErr result (IsUnread (folder.now ++ 47 ∷ name.now)) }
 {
     let path = path_in(alloc, folder, name)?;
     match bytes_at(alloc, folders, path.as_slice(), limit) {
@@ -120,7 +121,7 @@ fn read_listing<F: Folders>(
     folders: &mut F,
     folder: &str,
 ) -> Result<Vec<u8>, Failure>
-    ensures err { IfErr result IsNotRead }
+    ensures err { IfErr result (IsUnread folder.now) }
 {
     match listing_at(alloc, folders, folder) {
         Ok(listing) => Ok(listing),
@@ -140,7 +141,7 @@ fn read_class_file<F: Folders>(
 ) -> Result<NamedFile, Failure>
     ensures named { IfOk result (λ file. file_name file ≡ name.now) }
     ensures most { IfOk result IsReadUpToLimit }
-    ensures err { IfErr result IsNotRead }
+    ensures err { IfErr result (IsUnread (folder.now ++ 47 ∷ name.now)) }
 {
     let bytes = read_file(alloc, folders, folder, name, CLASS_FILE_LIMIT)?;
     let name = Vec::from_slice(alloc, name)?;
@@ -178,7 +179,7 @@ fn read_class_files<F: Folders>(
 ) -> Result<Vec<NamedFile>, Failure>
     ensures named { IfOk result (λ files. map file_name files.items ≡ map bytes_of names.now) }
     ensures most { IfOk result (λ files. All IsReadUpToLimit files.items) }
-    ensures err { IfErr result IsNotRead }
+    ensures err { IfErr result (IsOneUnreadIn folder.now (map bytes_of names.now)) }
 {
     let mut class_files = Vec::new(alloc);
     for name in names {
@@ -196,7 +197,7 @@ fn read_class_files_among<F: Folders>(
     names: &[&[u8]],
 ) -> Result<Vec<NamedFile>, Failure>
     ensures ok { IfOk result (λ files. AreClassFilesOf (map bytes_of names.now) files.items) }
-    ensures err { IfErr result IsNotRead }
+    ensures err { IfErr result (IsNotRead folder.now) }
 {
     let class_names = class_file_names(alloc, names)?;
     read_class_files(alloc, folders, folder, class_names.as_slice())
@@ -205,7 +206,7 @@ fn read_class_files_among<F: Folders>(
 /// The bytes of the file `main`; one that is longer than the limit can't be read.
 fn read_main<F: Folders>(alloc: Global, folders: &mut F, folder: &str) -> Result<Vec<u8>, Failure>
     ensures most { IfOk result (λ main. vec_len main ≤ 4194304) }
-    ensures err { IfErr result IsNotRead }
+    ensures err { IfErr result (IsNotRead folder.now) }
 {
     let main = read_file(alloc, folders, folder, b"main", CLASS_FILE_LIMIT)?;
     if main.len() > CLASS_FILE_LIMIT {
@@ -224,7 +225,7 @@ fn read_input<F: Folders>(
     ensures most { IfOk result (λ input. vec_len input ≤ 16777217) }
     ensures absent { is_listed_name (codes "input") (map bytes_of names.now) ≡ false
         → IfOk result (λ input. input.items ≡ []) }
-    ensures err { IfErr result IsNotRead }
+    ensures err { IfErr result (IsNotRead folder.now) }
 {
     if is_listed_name(names, b"input") {
         read_file(alloc, folders, folder, b"input", INPUT_LIMIT)
@@ -242,7 +243,7 @@ fn read_files<'a, F: Folders>(
 ) -> Result<Folder<'a>, Failure>
     ensures word { IfOk result (λ found. found.word.now ≡ word.now) }
     ensures files { IfOk result (λ found. IsFolderOf (map bytes_of names.now) found) }
-    ensures err { IfErr result IsNotRead }
+    ensures err { IfErr result (IsNotRead word.now) }
 {
     let class_files = read_class_files_among(alloc, folders, word, names)?;
     let main = read_main(alloc, folders, word)?;
@@ -263,7 +264,7 @@ pub fn read_folder<'a, F: Folders>(
     word: &'a str,
 ) -> Result<Folder<'a>, Failure>
     ensures ok { IfOk result (IsFolderRead word.now) }
-    ensures err { IfErr result IsNotRead }
+    ensures err { IfErr result (IsNotRead word.now) }
 {
     let listing = read_listing(alloc, folders, word)?;
     let names = names_in(alloc, listing.as_slice())?;

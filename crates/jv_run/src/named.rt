@@ -1,18 +1,19 @@
 //! Folders that are named, read and run.
-ghost use Rattle.std.specs.Prelude.{◌≡◌, ◌≤◌, ◌<◌, false, true, IfErr, IfOk, IsErrAnd, length, map};
+ghost use Rattle.std.specs.Prelude.{◌≡◌, ◌≤◌, false, IfErr, IfOk, length, map};
 ghost use Rattle.jv_run.specs.Bytes.{bytes_of};
-ghost use Rattle.jv_run.specs.Failure.{IsNotRead};
+ghost use Rattle.jv_run.specs.Failure.{IsOneNotRead};
 ghost use Rattle.jv_run.specs.Feeding.{is_no_guest};
 ghost use Rattle.jv_run.specs.Folder.{named_guest};
-ghost use Rattle.jv_run.specs.Named.{AreFoldersOf, IsRunAs, IsRunFailure, IsStartFailure};
-ghost use Rattle.jv_run.specs.Outcome.{IsRunOutcome};
-ghost use Rattle.jv_run.specs.declared.failure.Failure.TheVariants.{HostMemory, NoGuest, TooManyFolders};
+ghost use Rattle.jv_run.specs.Named.{AreFoldersOf, AreTaken, IsRunAs, IsRunFailure};
+ghost use Rattle.jv_run.specs.Outcome.{IsGuestsFailure, IsRunOutcome};
+ghost use Rattle.jv_run.specs.declared.failure.Failure.TheVariants.{HostMemory};
 
 use crate::failure::Failure;
 use crate::folder::{Folder, read_folder};
 use crate::folders::Folders;
 use crate::outcome::{Outcome, run_folders};
-use crate::settings::Settings;
+use crate::settings::RunSettings;
+use crate::watch::Watch;
 use jv_host::of_loader::system_files;
 use std::alloc::{AllocError, Global};
 use std::hash::RandomState;
@@ -30,7 +31,7 @@ fn read_folders<'a, F: Folders>(
 ) -> Result<Vec<Folder<'a>>, Failure>
     ensures ok { IfOk result (λ folders. AreFoldersOf (map bytes_of words.now) folders.items) }
     ensures count { IfOk result (λ folders. length folders.items ≡ length words.now) }
-    ensures err { IfErr result IsNotRead }
+    ensures err { IfErr result (IsOneNotRead (map bytes_of words.now)) }
 {
     let mut read = Vec::new(alloc);
     for word in words {
@@ -61,48 +62,48 @@ fn is_no_guest(number: Option<u32>, guests: usize) -> bool
 }
 
 /// Runs the guests of folders that have been read.
-fn run_read<I: Read>(
+fn run_read<I: Read, W: Watch>(
     alloc: Global,
     state: RandomState,
-    settings: Settings,
+    settings: RunSettings,
     folders: &[Folder<'_>],
     input: &mut I,
+    watch: &mut W,
 ) -> Result<Outcome, Failure>
     requires few { length folders.now ≤ 64 }
     requires fed { is_no_guest settings.stdin (length folders.now) ≡ false }
     ensures ok { IfOk result
         (IsRunOutcome settings (map named_guest folders.now) (I.remaining input.old) (I.remaining input.new)) }
     ensures err { IfErr result
-        (IsStartFailure settings folders.now (I.remaining input.old) (I.remaining input.new)) }
+        (IsGuestsFailure settings (map named_guest folders.now) (I.remaining input.old) (I.remaining input.new)) }
 {
     let Ok(system) = system_files(alloc) else {
         return Err(Failure::Memory);
     };
-    run_folders(alloc, state, &system, settings, folders, input)
+    run_folders(alloc, state, &system, settings, folders, input, watch)
 }
 
-/// Reads the folders of words, in their order, and runs their guests in one host.
+/// Reads the folders of words, in their order, and runs their guests in one host. A watch sees the rounds of their turns.
 ///
 /// # Errors
 ///
 /// `TooManyFolders` where there are more than 64 words, and `NoGuest` where none is that of the guest that is to be fed; no folder
 /// is then read. `Unreadable` with the name of the first file or folder that can't be read; and else what `run_folders` says of the
 /// folders.
-pub fn run_named<F: Folders, I: Read>(
+pub fn run_named<F: Folders, I: Read, W: Watch>(
     alloc: Global,
     state: RandomState,
-    settings: Settings,
+    settings: RunSettings,
     words: &[&str],
     folders: &mut F,
     input: &mut I,
+    watch: &mut W,
 ) -> Result<Outcome, Failure>
     ensures ok { IfOk result
         (IsRunAs settings (map bytes_of words.now) (I.remaining input.old) (I.remaining input.new)) }
     ensures err { IfErr result
         (IsRunFailure settings (map bytes_of words.now) (I.remaining input.old) (I.remaining input.new)) }
-    ensures many { 64 < length words.now → IsErrAnd result (λ failure. failure ≡ TooManyFolders) }
-    ensures no_guest { length words.now ≤ 64 → is_no_guest settings.stdin (length words.now) ≡ true
-        → IsErrAnd result (λ failure. failure ≡ NoGuest) }
+    ensures unread { (AreTaken settings (map bytes_of words.now) → ⊥) → folders.new ≡ folders.old }
 {
     if words.len() > FOLDERS {
         return Err(Failure::TooManyFolders);
@@ -111,5 +112,5 @@ pub fn run_named<F: Folders, I: Read>(
         return Err(Failure::NoGuest);
     }
     let folders = read_folders(alloc, folders, words)?;
-    run_read(alloc, state, settings, folders.as_slice(), input)
+    run_read(alloc, state, settings, folders.as_slice(), input, watch)
 }

@@ -2,7 +2,8 @@
 ghost use Rattle.std.specs.Prelude.{◌≡◌, ◌≤◌, ℕ, false, IfErr, IfOk, List, Option, length, map, string_bytes};
 ghost use Rattle.jv_run.specs.Feeding.{is_no_guest};
 ghost use Rattle.jv_run.specs.Folder.{named_guest};
-ghost use Rattle.jv_run.specs.Outcome.{IsGuestsFailure, IsRunOutcome};
+ghost use Rattle.jv_host.specs.of_interp_start.Started.{budget_of};
+ghost use Rattle.jv_run.specs.Outcome.{AreAllowed, IsGuestsFailure, IsRunOutcome};
 ghost use Rattle.jv_run.specs.Report.{report_text, run_status};
 ghost use Rattle.jv_run.specs.Inside.Brought.{named_guest_of};
 ghost use Rattle.jv_run.specs.Inside.Play.{HasRun, told_of};
@@ -12,7 +13,8 @@ use crate::failure::Failure;
 use crate::folder::Folder;
 use crate::play::{play, reports_on};
 use crate::report::{Report, Reports, status_after};
-use crate::settings::Settings;
+use crate::settings::RunSettings;
+use crate::watch::Watch;
 use jv_heap::Cells;
 use jv_host::Host;
 use jv_host::of_loader::SystemFiles;
@@ -45,9 +47,10 @@ fn said_of(
     alloc: Global,
     host: &Host<'_, Cells>,
     guests: &[Brought<'_>],
-    settings: Settings,
+    settings: RunSettings,
 ) -> Result<Outcome, AllocError>
     requires few { length guests.now ≤ 64 }
+    requires allowed { AreAllowed (budget_of settings.budget) (map named_guest_of guests.now) (length guests.now) }
     requires run { (before after : Option (List ℕ)) × HasRun settings (map named_guest_of guests.now) before after host.now }
     ensures { IfOk result (λ outcome. (before after : Option (List ℕ))
         → HasRun settings (map named_guest_of guests.now) before after host.now
@@ -60,13 +63,14 @@ fn said_of(
 }
 
 /// Runs the guests of folders, and reports them.
-fn run_guests<'a, I: Read>(
+fn run_guests<'a, I: Read, W: Watch>(
     alloc: Global,
     state: RandomState,
     system: &'a SystemFiles,
-    settings: Settings,
+    settings: RunSettings,
     guests: &'a [Brought<'_>],
     input: &mut I,
+    watch: &mut W,
 ) -> Result<Outcome, Failure>
     requires few { length guests.now ≤ 64 }
     requires fed { is_no_guest settings.stdin (length guests.now) ≡ false }
@@ -76,26 +80,27 @@ fn run_guests<'a, I: Read>(
         (IsGuestsFailure settings (map named_guest_of guests.now) (I.remaining input.old) (I.remaining input.new)) }
 {
     let mut host = Host::new(alloc, state, system);
-    play(&mut host, guests, settings, input)?;
+    play(&mut host, guests, settings, input, watch)?;
     Ok(said_of(alloc, &host, guests, settings)?)
 }
 
 /// Runs the guests of folders, at most 64, in one host, and reports them in the order of the folders. Names are hashed with
 /// the state. Before each round of turns, as long as a guest takes steps and until the input ends, the guest with the number in the
-/// settings is fed what one read of the input gives.
+/// settings is fed what one read of the input gives. A watch sees the rounds.
 ///
 /// # Errors
 ///
 /// `Refused` where the host does not admit a guest, with the first reason that applies to the first such guest; `StandardInput`
 /// where a read of the input fails, and `FeedTooLong` where more was read for a guest than its input may have; `HostMemory` where the
 /// host had no memory, and `Memory` where the program had none.
-pub fn run_folders<I: Read>(
+pub fn run_folders<I: Read, W: Watch>(
     alloc: Global,
     state: RandomState,
     system: &SystemFiles,
-    settings: Settings,
+    settings: RunSettings,
     folders: &[Folder<'_>],
     input: &mut I,
+    watch: &mut W,
 ) -> Result<Outcome, Failure>
     requires few { length folders.now ≤ 64 }
     requires fed { is_no_guest settings.stdin (length folders.now) ≡ false }
@@ -105,5 +110,13 @@ pub fn run_folders<I: Read>(
         (IsGuestsFailure settings (map named_guest folders.now) (I.remaining input.old) (I.remaining input.new)) }
 {
     let guests = all_brought_by(alloc, folders)?;
-    run_guests(alloc, state, system, settings, guests.as_slice(), input)
+    run_guests(
+        alloc,
+        state,
+        system,
+        settings,
+        guests.as_slice(),
+        input,
+        watch,
+    )
 }

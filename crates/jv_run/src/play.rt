@@ -13,7 +13,9 @@ use crate::brought::{Brought, guest_files};
 use crate::failure::Failure;
 use crate::feeding::run_fed;
 use crate::report::Report;
-use crate::settings::Settings;
+use crate::rounds::run_rounds;
+use crate::settings::RunSettings;
+use crate::watch::Watch;
 use jv_heap::Cells;
 use jv_host::of_interp::Observation;
 use jv_host::of_interp_start::Budget;
@@ -39,10 +41,15 @@ fn admit_all<'a>(
     Ok(())
 }
 
-/// Gives the guests of a host, each of which is at its start, their turns; none is refused, since the host's cells never ask for memory.
-/// Answers how many rounds there were.
-fn run_unfed(host: &mut Host<'_, Cells>, settings: Settings) -> u32
-    requires { AreAtStart host.old }
+/// Gives the guests of a host, of which there are so many and each is at its start, their turns. Answers how many rounds there were.
+fn run_unfed<W: Watch>(
+    host: &mut Host<'_, Cells>,
+    count: u32,
+    settings: RunSettings,
+    watch: &mut W,
+) -> u32
+    requires all { length host.old ≡ count }
+    requires start { AreAtStart host.old }
     ensures few { result ≤ settings.rounds }
     ensures played { PlayedSince settings.quantum result host.old host.new }
     ensures none { NoneFed host.new }
@@ -50,18 +57,16 @@ fn run_unfed(host: &mut Host<'_, Cells>, settings: Settings) -> u32
     ensures needed { 1 ≤ settings.quantum → SomeWent settings.quantum result host.new }
 {
     shows_one_thing();
-    let Ok(rounds) = host.run(settings.quantum, settings.rounds) else {
-        unreachable!()
-    };
-    rounds
+    run_rounds(host, count, settings.quantum, settings.rounds, watch)
 }
 
 /// Gives the guests of a host their turns, and feeds one of them what is read where the settings say so.
-fn run_all<I: Read>(
+fn run_all<I: Read, W: Watch>(
     host: &mut Host<'_, Cells>,
     guests: &[Brought<'_>],
-    settings: Settings,
+    settings: RunSettings,
     input: &mut I,
+    watch: &mut W,
 ) -> Result<(), Failure>
     requires few { length guests.now ≤ 64 }
     requires start { host.old ≡ map (at_start (budget_of settings.budget)) (map named_guest_of guests.now) }
@@ -71,32 +76,36 @@ fn run_all<I: Read>(
     ensures err { IfErr result
         (IsFeedingFailure settings.stdin (map named_guest_of guests.now) (I.remaining input.old) (I.remaining input.new)) }
 {
+    let count = guests.len() as u32;
     let Some(number) = settings.stdin else {
-        let _count = run_unfed(host, settings);
+        let _rounds = run_unfed(host, count, settings, watch);
         return Ok(());
     };
     let id = GuestId(number - 1);
-    let _count = run_fed(host, guests.len() as u32, id, settings, input)?;
+    let _rounds = run_fed(host, count, id, settings, input, watch)?;
     Ok(())
 }
 
 /// Admits guests to a host without guests, in their order, and gives them their turns.
-pub(crate) fn play<'a, I: Read>(
+pub(crate) fn play<'a, I: Read, W: Watch>(
     host: &mut Host<'a, Cells>,
     guests: &'a [Brought<'_>],
-    settings: Settings,
+    settings: RunSettings,
     input: &mut I,
+    watch: &mut W,
 ) -> Result<(), Failure>
     requires empty { host.old ≡ [] }
     requires few { length guests.now ≤ 64 }
     requires fed { is_no_guest settings.stdin (length guests.now) ≡ false }
     ensures ok { OnOk result
         (HasRun settings (map named_guest_of guests.now) (I.remaining input.old) (I.remaining input.new) host.new) }
+    ensures allowed { OnOk result
+        (AreAllowed (budget_of settings.budget) (map named_guest_of guests.now) (length guests.now)) }
     ensures err { IfErr result
         (IsGuestsFailure settings (map named_guest_of guests.now) (I.remaining input.old) (I.remaining input.new)) }
 {
     admit_all(host, guests, settings.budget)?;
-    run_all(host, guests, settings, input)
+    run_all(host, guests, settings, input, watch)
 }
 
 /// What a guest of the host shows.

@@ -4,7 +4,7 @@ use jv_host::of_interp_start::Budget;
 
 /// What each guest may use, how many steps it gets, and which one is fed.
 #[derive(Clone, Copy)]
-pub struct Settings {
+pub struct RunSettings {
     /// Its cells, words and bytes of output.
     pub budget: Budget,
     /// The most steps of a turn.

@@ -1,14 +1,16 @@
 -- What is read of an option's text.
-use Rattle.std.proofs.Common.{◌≡◌, ◌∙◌, ℕ, ◌<◌, ◌≤◌, ◌^◌, Bool, true, false, List, Option, Some, None, ap, codes, cond, refl, sym, arith}
-use Rattle.std.specs.Prelude.{Result, Ok, Err, option_map, option_and_then, slice_get, unwrap_or}
-use Rattle.std.specs.Str.Parse.{IsNumeral, ParsesUnsigned, digits_value, without_leading_plus}
+use Rattle.std.proofs.Common.{◌≡◌, ◌∙◌, ℕ, ◌<◌, ◌≤◌, ◌^◌, Bool, true, false, Decides, List, Option, Some, None, ap, codes, cond, refl, subst, sym, arith}
+use Rattle.std.specs.Prelude.{IfErr, IsErrAnd, Result, Ok, Err, option_map, option_and_then, slice_get, unwrap_or}
+use Rattle.std.specs.Str.{bytes_eq}
+use Rattle.std.specs.Str.Parse.{IsNumeral, ParsesBool, ParsesUnsigned, digits_value, without_leading_plus}
+use Rattle.std.proofs.lemmas.Slice.Eq.{bytes_eq-Decides}
 use Rattle.clap.specs.Words.{ReadsOne, all_of, first_value, found_of, matched_of, one_of, one_text, raw_values, rows_of}
 use Rattle.clap.specs.ValueTests.{is_unsigned_in}
 use Rattle.clap.specs.declared.builder.value_parser.ValueParser.TheVariants as parsers
 use Rattle.clap.specs.declared.parser.matches.ArgMatches.{ArgMatches}
 use Rattle.clap.proofs.ValueTestLemmas.{Accepts-accepts, accepts-Accepts}
 use Rattle.clap.proofs.WalkLemmas.{one_text-rows, raw_values-rows}
-use Rattle.jv_settings.specs.Settings.{guest_in, guest_or_none, number_of, number_or}
+use Rattle.jv_settings.specs.Settings.{fed_guest_in, guest_or_none, is_set, number_of, number_or}
 
 -- ---- numbers
 
@@ -95,6 +97,40 @@ all_in_rows m id = raw_values-rows (found_of m) id
 
 -- the number of a guest is read as that of an option
 pub guest_is : (m : ArgMatches) (text : List ℕ) (r : Option ℕ) → one_of (codes "stdin") (rows_of (found_of m)) ≡ Some text
-    → r ≡ number_or 0 1 64 (one_of (codes "stdin") (rows_of (found_of m))) → guest_in (rows_of (found_of m)) ≡ option_map Some r
+    → r ≡ number_or 0 1 64 (one_of (codes "stdin") (rows_of (found_of m))) → fed_guest_in (rows_of (found_of m)) ≡ option_map Some r
 guest_is m text r there e =
     ap guest_or_none there ∙ ap (option_map Some) (sym (e ∙ ap (number_or 0 1 64) there))
+
+-- ---- the command
+
+-- a command is found by its name and its rows
+pub both_found : {X A B : Type 0} (f : X → A) (g : X → B) (o : Option X) (a : A) (b : B)
+    → Some a ≡ option_map f o → Some b ≡ option_map (λ p. p.1) (option_map {U = A × B} (λ x. (f x, g x)) o)
+    → option_map {U = A × B} (λ x. (f x, g x)) o ≡ Some (a, b)
+both_found f g None a b first second = cc
+both_found f g (Some x) a b first second =
+    let is_first : f x ≡ a = sym (ap (λ m. unwrap_or m a) first) in
+    let is_second : g x ≡ b = sym (ap (λ n. unwrap_or n b) second) in
+    ap (λ m. Some (m, g x)) is_first ∙ ap (λ n. Some (a, n)) is_second
+
+-- an error that is handed on
+pub passed_on : {T E : Type 0} (result : Result T E) (x : E) (P : E → Type 0) → IsErrAnd result (λ e. e ≡ x) → P x → IfErr result P
+passed_on (Ok t) x P h p = tt
+passed_on (Err e) x P h p = subst P (sym h) p
+
+-- ---- flags
+
+-- a text that isn't `true` is no flag's
+other_text : (text : List ℕ) (b : Bool) → Decides b (text ≡ codes "true") → (text ≡ codes "true" → ⊥) → b ≡ false
+other_text text true same other = absurd (other (same.0 refl))
+other_text text false same other = refl
+
+-- a flag is read as its text says
+pub set_as_read : (E : Type 0) (o : Option (List ℕ)) (r : Option Bool) → (o ≡ None → r ≡ None)
+    → ((text : List ℕ) → o ≡ Some text → ReadsOne {E = E} ParsesBool text r) → unwrap_or r false ≡ is_set o
+set_as_read E None r none value = rw (none refl) refl
+set_as_read E (Some text) None none value =
+    let refused = (value text refl).1 in
+    sym (other_text text (bytes_eq text (codes "true")) (bytes_eq-Decides text (codes "true")) refused.0)
+set_as_read E (Some text) (Some true) none value = rw (value text refl) refl
+set_as_read E (Some text) (Some false) none value = rw (value text refl) refl

@@ -1,10 +1,11 @@
 -- The command line (own), as a simple command of the library `clap`, which reads it:
---     jvhost run [--cells N] [--words N] [--output N] [--quantum N] [--rounds N] [--stdin K] FOLDER...
+--     jvhost run [--cells N] [--words N] [--output N] [--quantum N] [--rounds N] [--stdin K] [--progress] FOLDER...
 --     jvhost check FILE...
 use Rattle.std.specs.Prelude.{ℕ, true, List, Some, codes, pos}
 use Rattle.clap.specs.Lexer.{usize_max}
 use Rattle.clap.specs.Walk.{Rule}
 use Rattle.clap.specs.Simple.{App, new_app, new_rule, on_top, with_rule, with_subcommand}
+use Rattle.clap.specs.declared.builder.action.ArgAction.TheVariants.{SetTrue}
 use Rattle.clap.specs.declared.builder.value_parser.ValueParser.TheVariants as parsers
 
 -- the largest number of 32 bits
@@ -18,6 +19,10 @@ number_option name least most = record (new_rule name) {
   value_names = 1;
   parser = Some (parsers.Signed (pos least) (pos most));
 }
+
+-- the option `--NAME`, which takes nothing: it is there, or it isn't
+abbrev pub flag : (name : List ℕ) → Rule
+flag name = record (new_rule name) { long = Some name; action = Some SetTrue }
 
 -- one word or more, which have to be there
 abbrev pub one_or_more : (name : List ℕ) → Rule
@@ -35,13 +40,16 @@ with_number name least line = with_rule line (number_option name least most_of_3
 abbrev pub with_budget : App → App
 with_budget line = with_number (codes "output") 0 (with_number (codes "words") 0 (with_number (codes "cells") 0 line))
 
--- with how many steps each guest gets, and which is fed
+-- with how many steps each guest gets
 abbrev pub with_steps : App → App
-with_steps line =
-    with_rule (with_number (codes "rounds") 1 (with_number (codes "quantum") 1 line)) (number_option (codes "stdin") 1 64)
+with_steps line = with_number (codes "rounds") 1 (with_number (codes "quantum") 1 line)
+
+-- with which guest is fed, and whether it is told how far the run is
+abbrev pub with_company : App → App
+with_company line = with_rule (with_rule line (number_option (codes "stdin") 1 64)) (flag (codes "progress"))
 
 abbrev pub run_line : App
-run_line = with_steps (with_budget (with_rule (new_app (codes "run")) (one_or_more (codes "folder"))))
+run_line = with_company (with_steps (with_budget (with_rule (new_app (codes "run")) (one_or_more (codes "folder")))))
 
 abbrev pub check_line : App
 check_line = with_rule (new_app (codes "check")) (one_or_more (codes "file"))

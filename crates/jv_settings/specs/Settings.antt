@@ -1,5 +1,5 @@
 -- What the words of the command line ask for (own).
-use Rattle.std.specs.Prelude.{◌≡◌, ◌⊎◌, ℕ, if◌then◌else◌, List, map, Option, Some, None, option_and_then, option_map, codes}
+use Rattle.std.specs.Prelude.{◌≡◌, ◌⊎◌, ℕ, Bool, false, if◌then◌else◌, List, [], map, Option, Some, None, option_and_then, option_map, codes}
 use Rattle.std.specs.Borrow.{Bor}
 use Rattle.std.specs.Global.{Vec}
 use Rattle.std.specs.Str.{bytes_eq}
@@ -11,19 +11,20 @@ use Rattle.clap.specs.declared.error.Error.{Error}
 use Rattle.clap.specs.Walk.{Row, all_of, one_of}
 use Rattle.clap.specs.Simple.{subcommand_of}
 use Rattle.jv_settings.specs.CommandLine.{command_line, most_of_32_bits}
-use Rattle.jv_settings.specs.declared.asked.Numbers.{Numbers}
+use Rattle.jv_settings.specs.declared.asked.RunOptions.{RunOptions}
 use Rattle.jv_settings.specs.declared.asked.Settings.{Settings}
 use Rattle.jv_settings.specs.declared.asked.Settings.TheVariants as settings
 
--- 65,536 cells, words and bytes of output, and 10,000 rounds of turns of 1,000 steps; no guest is fed
-abbrev pub usual_numbers : Numbers
-usual_numbers = record {
+-- 65,536 cells, words and bytes of output, and 10,000 rounds of turns of 1,000 steps; no guest is fed, and nothing told on the way
+abbrev pub usual_options : RunOptions
+usual_options = record {
   cells = 65536;
   words = 65536;
   output = 65536;
   quantum = 1000;
   rounds = 10000;
   stdin = None;
+  progress = false;
 }
 
 -- what is found with the one, where there is one
@@ -51,35 +52,50 @@ abbrev pub guest_or_none : Option (List ℕ) → Option (Option ℕ)
 guest_or_none None = Some None
 guest_or_none (Some text) = option_map Some (number_of 1 64 text)
 
-abbrev pub guest_in : List Row → Option (Option ℕ)
-guest_in rows = guest_or_none (one_of (codes "stdin") rows)
+abbrev pub fed_guest_in : List Row → Option (Option ℕ)
+fed_guest_in rows = guest_or_none (one_of (codes "stdin") rows)
 
--- the budget of each guest, and how many steps it gets, as the rows of a command's arguments have them
-abbrev pub numbers_in : List Row → Option Numbers
-numbers_in rows =
-    number_in rows (codes "cells") usual_numbers.cells 0 >>= λ cells.
-    number_in rows (codes "words") usual_numbers.words 0 >>= λ words.
-    number_in rows (codes "output") usual_numbers.output 0 >>= λ output.
-    number_in rows (codes "quantum") usual_numbers.quantum 1 >>= λ quantum.
-    number_in rows (codes "rounds") usual_numbers.rounds 1 >>= λ rounds.
-    guest_in rows >>= λ stdin.
-    Some (record { cells = cells; words = words; output = output; quantum = quantum; rounds = rounds; stdin = stdin })
+-- a flag is there where its text is so
+abbrev pub is_set : Option (List ℕ) → Bool
+is_set None = false
+is_set (Some text) = bytes_eq text (codes "true")
+
+-- what each guest may use, how many steps it gets, which is fed, and whether it is told how far the run is, as the rows of a command's
+-- arguments have it
+abbrev pub options_in : List Row → Option RunOptions
+options_in rows =
+    number_in rows (codes "cells") usual_options.cells 0 >>= λ cells.
+    number_in rows (codes "words") usual_options.words 0 >>= λ words.
+    number_in rows (codes "output") usual_options.output 0 >>= λ output.
+    number_in rows (codes "quantum") usual_options.quantum 1 >>= λ quantum.
+    number_in rows (codes "rounds") usual_options.rounds 1 >>= λ rounds.
+    fed_guest_in rows >>= λ stdin.
+    Some (record {
+      cells = cells;
+      words = words;
+      output = output;
+      quantum = quantum;
+      rounds = rounds;
+      stdin = stdin;
+      progress = is_set (one_of (codes "progress") rows);
+    })
 
 -- ---- what is asked for
 
 -- to run the guests in folders, or to check files
 pub data Asked : Type 0 where
-  run : Numbers → (folders : List (List ℕ)) → Asked
+  run : RunOptions → (folders : List (List ℕ)) → Asked
   check : (files : List (List ℕ)) → Asked
 
 -- what a command asks for, by its name and the rows of its arguments
 abbrev pub asked_by : List ℕ × List Row → Option Asked
 asked_by (name, rows) =
     if bytes_eq name (codes "run")
-    then option_and_then (λ numbers. option_map (run numbers) (all_of (codes "folder") rows)) (numbers_in rows)
+    then option_and_then (λ options. option_map (run options) (all_of (codes "folder") rows)) (options_in rows)
     else if bytes_eq name (codes "check") then option_map check (all_of (codes "file") rows) else None
 
--- What words ask for, of which the first is the program's own name; none where they name no command with its names and numbers.
+-- What words that the library takes ask for, of which the first is the program's own name; none where they name no command with its names
+-- and options.
 abbrev pub asked_in : (words : List (List ℕ)) → Option Asked
 asked_in words = option_and_then asked_by (subcommand_of command_line words)
 
@@ -93,21 +109,25 @@ AreNames texts names = option_map texts_of names ≡ texts
 
 -- what settings ask for
 abbrev pub asked_of : Settings → Asked
-asked_of (settings.Run numbers folders) = run numbers (texts_of folders)
+asked_of (settings.Run options folders) = run options (texts_of folders)
 asked_of (settings.Check files) = check (texts_of files)
 
 -- the settings are what is asked for
 abbrev pub IsAskedBy : Option Asked → Option Settings → Type 0
 IsAskedBy asked settings = option_map asked_of settings ≡ asked
 
--- these words ask for the settings
+-- the library takes the words, and they ask for this
+abbrev pub AskFor : (words : List (List ℕ)) → Asked → Type 0
+AskFor words asked = (fault_of command_line words ≡ []) × (asked_in words ≡ Some asked)
+
+-- they ask for the settings
 abbrev pub IsAskedIn : (words : List (List ℕ)) → Settings → Type 0
-IsAskedIn words settings = asked_in words ≡ Some (asked_of settings)
+IsAskedIn words settings = AskFor words (asked_of settings)
 
 -- The words are refused: by the library, in one of the kinds that its definition gives for them, or of want of memory; or they ask for
 -- nothing, and are called out of range.
-abbrev pub IsRefused : (words : List (List ℕ)) → Error → Type 0
-IsRefused words error =
+abbrev pub AreRefused : (words : List (List ℕ)) → Error → Type 0
+AreRefused words error =
     HasKind (fault_of command_line words) error ⊎ ((asked_in words ≡ None) × (kind_of error ≡ kinds.ValueValidation))
 
 -- the words ask for help, or for the version

@@ -1,9 +1,9 @@
 //! The command line, as the library that reads it takes it.
 ghost use Rattle.std.specs.Prelude.{◌≡◌, IfOk, false};
 ghost use Rattle.clap.specs.Words.{app_of, rule_of};
-ghost use Rattle.jv_settings.specs.CommandLine.{check_line, command_line, number_option, one_or_more, run_line};
+ghost use Rattle.jv_settings.specs.CommandLine.{check_line, command_line, flag, number_option, one_or_more, run_line};
 
-use clap::{Arg, Command, value_parser};
+use clap::{Arg, ArgAction, Command, value_parser};
 use std::alloc::{AllocError, Global};
 
 /// An option that takes a number from `least` to `most`.
@@ -23,6 +23,17 @@ fn number<'a>(
         .value_name(shown)
         .help(help)
         .value_parser(value_parser!(u32).range(i64::from(least)..=i64::from(most)))
+}
+
+/// An option that takes nothing: it is there, or it isn't.
+fn flag<'a>(alloc: Global, name: &'a str, help: &'a str) -> Arg<'a>
+    ensures rule { rule_of result ≡ flag name.entry.now }
+    ensures local { result.global ≡ false }
+{
+    Arg::new(alloc, name)
+        .long(name)
+        .help(help)
+        .action(ArgAction::SetTrue)
 }
 
 /// An argument that takes one word or more.
@@ -98,6 +109,11 @@ fn run_line<'a>(alloc: Global) -> Result<Command<'a>, AllocError>
             1,
             64,
             "The guest that is fed what comes on standard input",
+        ),
+        flag(
+            alloc,
+            "progress",
+            "Tells once a second how far the run is, where standard error is a terminal",
         ),
     ];
     Command::new(alloc, "run")

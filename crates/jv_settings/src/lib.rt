@@ -6,6 +6,6 @@ mod command_line;
 mod law;
 mod reading;
 
-pub use asked::{Numbers, Settings, usual_numbers};
+pub use asked::{RunOptions, Settings, usual_options};
 pub use law::word_rows;
 pub use reading::{not_text, settings};

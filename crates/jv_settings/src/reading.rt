@@ -1,10 +1,9 @@
 //! What the words of the command line ask for.
-ghost use Rattle.std.specs.Prelude.{◌≡◌, [], IfErr, IfOk, map, string_bytes};
-ghost use Rattle.clap.specs.Words.{all_of, fault_of, found_of, kind_of, one_of, rows_of};
-ghost use Rattle.jv_settings.specs.CommandLine.{command_line};
-ghost use Rattle.jv_settings.specs.Settings.{AreNames, IsAskedBy, IsAskedIn, IsRefused, asked_by, guest_in, number_or, numbers_in};
+ghost use Rattle.std.specs.Prelude.{◌≡◌, IfErr, IfOk, map, string_bytes};
+ghost use Rattle.clap.specs.Words.{all_of, found_of, kind_of, one_of, rows_of};
+ghost use Rattle.jv_settings.specs.Settings.{AreNames, IsAskedBy, IsAskedIn, AreRefused, asked_by, fed_guest_in, is_set, number_or, options_in};
 
-use crate::asked::{Numbers, Settings, usual_numbers};
+use crate::asked::{RunOptions, Settings, usual_options};
 use crate::command_line::command_line;
 use clap::error::ErrorKind;
 use clap::{ArgMatches, Error};
@@ -34,8 +33,8 @@ fn number_between(
 }
 
 /// The number of the guest that is fed, where one is; none where it is no such number.
-fn guest_in(found: &ArgMatches<'_>) -> Option<Option<u32>>
-    ensures { result ≡ guest_in (rows_of (found_of found.now)) }
+fn fed_guest_in(found: &ArgMatches<'_>) -> Option<Option<u32>>
+    ensures { result ≡ fed_guest_in (rows_of (found_of found.now)) }
 {
     let Some(_) = found.get_str("stdin") else {
         return Some(None);
@@ -46,25 +45,34 @@ fn guest_in(found: &ArgMatches<'_>) -> Option<Option<u32>>
     Some(Some(number))
 }
 
-/// The numbers that the options of `run` say.
-fn numbers_in(found: &ArgMatches<'_>) -> Option<Numbers>
-    ensures { result ≡ numbers_in (rows_of (found_of found.now)) }
+/// Whether a flag is there.
+fn is_set(found: &ArgMatches<'_>, name: &str) -> bool
+    ensures { result ≡ is_set (one_of name.now (rows_of (found_of found.now))) }
 {
-    let usual = usual_numbers();
+    found.get_one(name).unwrap_or(false)
+}
+
+/// What the options of `run` say.
+fn options_in(found: &ArgMatches<'_>) -> Option<RunOptions>
+    ensures { result ≡ options_in (rows_of (found_of found.now)) }
+{
+    let usual = usual_options();
     let most = u32::MAX;
     let cells = number_between(found, "cells", usual.cells, 0, most)?;
     let words = number_between(found, "words", usual.words, 0, most)?;
     let output = number_between(found, "output", usual.output, 0, most)?;
     let quantum = number_between(found, "quantum", usual.quantum, 1, most)?;
     let rounds = number_between(found, "rounds", usual.rounds, 1, most)?;
-    let stdin = guest_in(found)?;
-    Some(Numbers {
+    let stdin = fed_guest_in(found)?;
+    let progress = is_set(found, "progress");
+    Some(RunOptions {
         cells,
         words,
         output,
         quantum,
         rounds,
         stdin,
+        progress,
     })
 }
 
@@ -82,7 +90,7 @@ fn names_in<'a>(
     }
 }
 
-/// What a command asks for, by its name and its arguments; none where it has no such name, or no such numbers.
+/// What a command asks for, by its name and its arguments; none where it has no such name, or a number is out of its range.
 fn asked_by<'a>(
     alloc: Global,
     command: &str,
@@ -91,10 +99,10 @@ fn asked_by<'a>(
     ensures { IfOk result (IsAskedBy (asked_by (command.now, rows_of (found_of found.now)))) }
 {
     if command == "run" {
-        let Some(numbers) = numbers_in(found) else {
+        let Some(options) = options_in(found) else {
             return Ok(None);
         };
-        Ok(names_in(alloc, found, "folder")?.map(|folders| Settings::Run(numbers, folders)))
+        Ok(names_in(alloc, found, "folder")?.map(|folders| Settings::Run(options, folders)))
     } else if command == "check" {
         Ok(names_in(alloc, found, "file")?.map(Settings::Check))
     } else {
@@ -102,7 +110,7 @@ fn asked_by<'a>(
     }
 }
 
-/// What ends the program where words that the command line takes name no command with its numbers.
+/// What ends the program where words that the command line takes name no command with its options.
 fn nothing_asked(alloc: Global) -> Result<Error, AllocError>
     ensures { IfOk result (λ error. kind_of error ≡ ErrorKind.ValueValidation) }
 {
@@ -110,7 +118,7 @@ fn nothing_asked(alloc: Global) -> Result<Error, AllocError>
     line.error(ErrorKind::ValueValidation, "a number is out of its range")
 }
 
-/// What the words ask for, of which the first is the program's own name (own): which command, with its numbers and names, as the
+/// What the words ask for, of which the first is the program's own name (own): which command, with its options and names, as the
 /// library `clap` takes them from the words.
 ///
 /// # Errors
@@ -119,8 +127,7 @@ fn nothing_asked(alloc: Global) -> Result<Error, AllocError>
 /// the words ask for nothing.
 pub fn settings<'a>(alloc: Global, words: &'a [String]) -> Result<Settings<'a>, Error>
     ensures ok { IfOk result (IsAskedIn (map string_bytes words.now)) }
-    ensures taken { IfOk result (λ _. fault_of command_line (map string_bytes words.now) ≡ []) }
-    ensures err { IfErr result (IsRefused (map string_bytes words.now)) }
+    ensures err { IfErr result (AreRefused (map string_bytes words.now)) }
 {
     let line = command_line(alloc)?;
     let matches = line.try_get_matches_from(words)?;

@@ -1,3 +1,4 @@
 pub mod Command
+pub mod Inside
 pub mod Status
 pub mod Written

@@ -1,5 +1,5 @@
 -- The status of the program.
-use Rattle.std.specs.Prelude.{◌≡◌, ◌≢◌, ◌⊎◌, ℕ, Result, Ok, Err}
+use Rattle.std.specs.Prelude.{◌≡◌, ◌≢◌, ◌⊎◌, ℕ, List, [], ◌∷◌, ◌++◌, Result, Ok, Err, codes}
 use Rattle.clap.specs.Values.{kind_of}
 use Rattle.clap.specs.declared.error.kind.ErrorKind.{ErrorKind}
 use Rattle.clap.specs.declared.error.kind.ErrorKind.TheVariants as kinds
@@ -12,6 +12,16 @@ use Rattle.jv_status.specs.declared.stop.Stop.TheVariants.{CommandLine, Run, Out
 pub record HasWordStatus (kind : ErrorKind) (status : ℕ) : Type 0 where
   pub wrong : kind ≢ kinds.DisplayHelp → kind ≢ kinds.DisplayVersion → status ≡ 2
   pub asked : (kind ≡ kinds.DisplayHelp) ⊎ (kind ≡ kinds.DisplayVersion) → status ≡ 0
+
+-- the line on standard error where standard output failed
+abbrev pub output_line : List ℕ
+output_line = codes "jvhost: output" ++ 10 ∷ []
+
+-- words that ask for help or the version
+abbrev pub IsAsked : Stop → Type 0
+IsAsked (CommandLine error) = (kind_of error ≡ kinds.DisplayHelp) ⊎ (kind_of error ≡ kinds.DisplayVersion)
+IsAsked (Run failure) = ⊥
+IsAsked Output = ⊥
 
 -- that of a wrong command line or of a failure, and 6 where the report was not written whole
 abbrev pub HasStatus : Stop → ℕ → Type 0

@@ -3,11 +3,13 @@
 #![tactic(auto)]
 
 mod program;
+mod progress;
 mod stop;
 mod written;
 
 pub use jv_run as of_run;
 pub use jv_settings as of_settings;
-pub use program::{command, tell};
+pub use program::{command, command_watched, tell};
+pub use progress::ProgressLine;
 pub use stop::{Stop, status_of};
 pub use written::write_report;

@@ -1,8 +1,8 @@
 //! How the program ends.
-ghost use Rattle.std.specs.Prelude.{◌≡◌, ◌≢◌, ℕ, List};
+ghost use Rattle.std.specs.Prelude.{◌≡◌, ◌≢◌, ℕ, List, Option};
 ghost use Rattle.clap.specs.Values.{kind_of};
-ghost use Rattle.jv_settings.specs.Settings.{IsRefused};
-ghost use Rattle.jv_status.specs.Command.{IsEarly};
+ghost use Rattle.jv_settings.specs.Settings.{AreRefused};
+ghost use Rattle.jv_status.specs.Inside.Stops.{IsEarly};
 ghost use Rattle.jv_status.specs.Status.{IsStatusOf};
 ghost use Rattle.jv_run.specs.declared.failure.Failure.TheVariants.{Memory};
 ghost use Rattle.jv_status.specs.declared.stop.Stop.TheVariants.{CommandLine, Run};
@@ -31,7 +31,7 @@ impl Stop {
     {
         match self {
             Stop::CommandLine(error) => u8::try_from(error.exit_code()).unwrap_or(2),
-            Stop::Run(failure) => jv_run::status_of(failure),
+            Stop::Run(failure) => failure.status(),
             Stop::Output => 6,
         }
     }
@@ -39,7 +39,7 @@ impl Stop {
 
 /// What an error of the command line means.
 pub(crate) fn stop_of(error: clap::Error) -> Stop
-    ensures early { (line : List (List ℕ)) → IsRefused line error → IsEarly line result }
+    ensures early { (line : List (List ℕ)) (input : Option (List ℕ)) → AreRefused line error → IsEarly line input input result }
     ensures memory { kind_of error ≡ ErrorKind.OutOfMemory → result ≡ Run Memory }
     ensures other { kind_of error ≢ ErrorKind.OutOfMemory → result ≡ CommandLine error }
 {

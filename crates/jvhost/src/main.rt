@@ -3,7 +3,7 @@
 
 use jv_status::of_run::{Failure, SystemFolders, hashing_state};
 use jv_status::of_settings::not_text;
-use jv_status::{Stop, command, tell};
+use jv_status::{ProgressLine, Stop, command_watched, tell};
 use std::env;
 use std::hash::RandomState;
 use std::io::ErrorKind;
@@ -29,7 +29,7 @@ fn main(rt: HostRuntime) -> ExitCode {
     let mut out = rt.stdout();
     let mut err = rt.stderr();
     let status = match given(&rt) {
-        Ok((words, state)) => command(
+        Ok((words, state)) => command_watched(
             rt.alloc(),
             state,
             words.as_slice(),
@@ -37,9 +37,10 @@ fn main(rt: HostRuntime) -> ExitCode {
             &mut rt.stdin(),
             &mut out,
             &mut err,
+            &mut ProgressLine::new(&rt, rt.stderr()),
         ),
         Err(stop) => {
-            tell(&stop, &mut out, &mut err);
+            let _ = tell(&stop, &mut out, &mut err);
             stop.status()
         }
     };

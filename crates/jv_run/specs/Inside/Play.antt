@@ -1,15 +1,15 @@
 -- What a host comes to that runs the guests of folders.
-use Rattle.std.specs.Prelude.{◌≡◌, ℕ, ◌+◌, ◌<◌, ◌≤◌, List, Option, Some, map, length, slice_get}
+use Rattle.std.specs.Prelude.{◌≡◌, ◌≢◌, ℕ, ◌+◌, ◌<◌, ◌≤◌, List, [], Option, Some, map, length, slice_get}
 use Rattle.jv_meaning_machine.specs.Start.{Budget}
 use Rattle.jv_meaning_machine.specs.Alone.{Feed}
 use Rattle.jv_host.specs.of_interp_start.Started.{budget_of}
 use Rattle.jv_host.specs.of_interp.Showing.{observed_of}
-use Rattle.jv_host.specs.Host.{Admission}
+use Rattle.jv_host.specs.Host.{Admission, input_bytes}
 use Rattle.jv_host.specs.Calls.{IsShown, NoneRuns, admission}
 use Rattle.jv_run.specs.declared.failure.Failure.{Failure}
 use Rattle.jv_run.specs.declared.failure.Failure.TheVariants.{Refused, HostMemory}
 use Rattle.jv_run.specs.declared.report.Report.{Report}
-use Rattle.jv_run.specs.declared.settings.Settings.{Settings}
+use Rattle.jv_run.specs.declared.settings.RunSettings.{RunSettings}
 use Rattle.jv_run.specs.Bytes.{bytes_of}
 use Rattle.jv_run.specs.Feeding.{AreFeedsFrom, feeds_to}
 use Rattle.jv_run.specs.Folder.{NamedGuest}
@@ -23,7 +23,7 @@ at_start b named = admission named.guest b
 
 -- Guests were admitted, and had their turns, as many as the settings say or as there were until none ran; what was read came to the guest
 -- that is fed.
-pub record HasRun (s : Settings) (guests : List NamedGuest) (before after : Option (List ℕ)) (host : List Admission) : Type 0 where
+pub record HasRun (s : RunSettings) (guests : List NamedGuest) (before after : Option (List ℕ)) (host : List Admission) : Type 0 where
   pub start : List Admission
   pub started : start ≡ map (at_start (budget_of s.budget)) guests
   pub rounds : ℕ
@@ -32,6 +32,7 @@ pub record HasRun (s : Settings) (guests : List NamedGuest) (before after : Opti
   pub feeds : List Feed
   pub input : AreFeedsFrom s.stdin rounds feeds before after
   pub fed : (place : ℕ) (a : Admission) → slice_get host place ≡ Some a → a.feeds ≡ feeds_to s.stdin feeds place
+  pub fits : (place : ℕ) (a : Admission) → slice_get host place ≡ Some a → a.feeds ≢ [] → input_bytes a ≤ 16777216
   pub full : rounds < s.rounds → NoneRuns host
   pub needed : 1 ≤ s.quantum → SomeWent s.quantum rounds host
 

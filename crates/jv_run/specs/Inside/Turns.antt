@@ -1,9 +1,9 @@
 -- Turns of guests, and what is fed to one of them in between.
-use Rattle.std.specs.Prelude.{◌≡◌, ◌≢◌, ℕ, zero, suc, ◌*◌, ◌<◌, ◌≤◌, ⊤, Bool, false, IsTrue, List, [], All, Option, Some, length, slice_get}
+use Rattle.std.specs.Prelude.{◌≡◌, ◌≢◌, ℕ, zero, suc, ◌*◌, ◌<◌, ◌≤◌, ⊤, Bool, false, IsTrue, List, [], All, Option, Some, None, length, slice_get}
 use Rattle.std.specs.Io.KnownBytes.{Consumes, IsAtEnd}
 use Rattle.jv_meaning_machine.specs.Alone.{Feed}
 use Rattle.jv_host.specs.declared.fault.FeedFault.TheVariants as feeds
-use Rattle.jv_host.specs.Host.{Admission, IsRunningAfter, IsOverAfter, after_feed}
+use Rattle.jv_host.specs.Host.{Admission, IsRunningAfter, IsOverAfter, after_feed, input_bytes}
 use Rattle.jv_host.specs.Calls.{NoneRuns}
 use Rattle.jv_host.specs.Limits.{feed_refusal}
 use Rattle.jv_run.specs.declared.failure.Failure.{Failure}
@@ -59,6 +59,7 @@ pub record IsFedNext (id : ℕ) (old new : List Admission) (before after : Optio
   pub most : length bytes ≤ 4096
   pub read : Consumes before after bytes
   pub fed : new ≡ after_feed old id bytes
+  pub allowed : feed_refusal old id bytes ≡ None
   pub some : IsTrue more → 1 ≤ length bytes
   pub end : more ≡ false → (bytes ≡ []) × IsAtEnd after
 
@@ -71,6 +72,8 @@ pub record ReadSoFar (id rounds : ℕ) (host : List Admission) (before after : O
   pub bytes : Consumes before after (bytes_of_feeds a.feeds)
   pub each : IsTrue more → length a.feeds ≡ rounds
   pub end : more ≡ false → IsAtEnd after
+  pub unread : rounds ≡ 0 → after ≡ before
+  pub fits : a.feeds ≢ [] → input_bytes a ≤ 16777216
 
 -- Guests had rounds of turns, at most so many, and fewer only where none runs any more; one was fed what was read.
 pub record IsFedRun (n most id : ℕ) (old new : List Admission) (before after : Option (List ℕ)) (rounds : ℕ) : Type 0 where

@@ -1,9 +1,9 @@
 -- Worked rows of the command line: what words ask for, and in which kind others are refused.
-use Rattle.std.specs.Prelude.{◌≡◌, ℕ, List, [], ◌∷◌, Some, None, codes}
+use Rattle.std.specs.Prelude.{◌≡◌, ℕ, true, List, [], ◌∷◌, Some, None, codes}
 use Rattle.clap.specs.Words.{fault_of}
 use Rattle.clap.specs.declared.error.kind.ErrorKind.TheVariants as kinds
 use Rattle.jv_settings.specs.CommandLine.{command_line}
-use Rattle.jv_settings.specs.Settings.{asked_in, check, run, usual_numbers}
+use Rattle.jv_settings.specs.Settings.{asked_in, check, run, usual_options}
 
 -- the words behind the program's own
 abbrev words : List (List ℕ) → List (List ℕ)
@@ -11,13 +11,15 @@ words more = codes "jvhost" ∷ more
 
 pub record WordRows : Type 0 where
   pub folders : asked_in (words (codes "run" ∷ codes "a" ∷ codes "b" ∷ []))
-      ≡ Some (run usual_numbers (codes "a" ∷ codes "b" ∷ []))
+      ≡ Some (run usual_options (codes "a" ∷ codes "b" ∷ []))
   pub cells : asked_in (words (codes "run" ∷ codes "--cells" ∷ codes "64" ∷ codes "a" ∷ []))
-      ≡ Some (run (record usual_numbers { cells = 64 }) (codes "a" ∷ []))
+      ≡ Some (run (record usual_options { cells = 64 }) (codes "a" ∷ []))
   pub behind : asked_in (words (codes "run" ∷ codes "a" ∷ codes "--quantum=3" ∷ codes "--rounds" ∷ codes "1" ∷ []))
-      ≡ Some (run (record usual_numbers { quantum = 3; rounds = 1 }) (codes "a" ∷ []))
+      ≡ Some (run (record usual_options { quantum = 3; rounds = 1 }) (codes "a" ∷ []))
   pub fed : asked_in (words (codes "run" ∷ codes "--stdin" ∷ codes "2" ∷ codes "a" ∷ codes "b" ∷ []))
-      ≡ Some (run (record usual_numbers { stdin = Some 2 }) (codes "a" ∷ codes "b" ∷ []))
+      ≡ Some (run (record usual_options { stdin = Some 2 }) (codes "a" ∷ codes "b" ∷ []))
+  pub told : asked_in (words (codes "run" ∷ codes "--progress" ∷ codes "a" ∷ []))
+      ≡ Some (run (record usual_options { progress = true }) (codes "a" ∷ []))
   pub files : asked_in (words (codes "check" ∷ codes "A.class" ∷ codes "B.class" ∷ []))
       ≡ Some (check (codes "A.class" ∷ codes "B.class" ∷ []))
   pub nothing : asked_in (words []) ≡ None

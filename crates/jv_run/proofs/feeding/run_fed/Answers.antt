@@ -1,7 +1,7 @@
 use Rattle.std.proofs.Common.{◌<◌, ◌^◌, suc, arith, rules, ap, subst, sym}
 use Rattle.jv_host.specs.Calls.{SomeRuns}
 use Rattle.jv_run.specs.Inside.Turns.{IsFeedFailure}
-use Rattle.jv_run.proofs.FedRounds.{FedSoFar, fed_joined, fed_next, fed_none, fed_round, fed_runs, not_fed}
+use Rattle.jv_run.proofs.FedRounds.{FedSoFar, fed_joined, fed_next, fed_none, fed_over, fed_round, fed_runs, not_fed}
 use Rattle.jv_run.proofs.Places.{passed_on}
 use Rattle.jv_run.proofs.Turns.{few_steps}
 use Rattle.jv_run.proofs.feeding.run_fed.Goals as goal
@@ -46,3 +46,8 @@ returns-in_err-more-clause-err g c =
     (IsFeedFailure id c.args.host.now (g.I.Read.remaining c.args.input.now) (g.I.Read.remaining c.feed_next.new.input)) c.from_residual.ensures.1
     (not_fed c.args.settings.quantum r id c.args.host.now c.loop-round.host (g.I.Read.remaining c.args.input.now) (g.I.Read.remaining c.loop-round.input)
     (g.I.Read.remaining c.feed_next.new.input) c.loop-round.more c.requires.there c.loop-round.invariant c.in_err-more.field-0.0 (c.in_err-more.ensures {u = tt}).err)
+
+pub returns-then-not-any_takes_steps-clause-ok : goal.returns-then-not-any_takes_steps-clause-ok
+returns-then-not-any_takes_steps-clause-ok g c =
+    fed_over c.args.settings.quantum c.args.settings.rounds c.loop-round.round c.args.id.0 c.args.host.now c.loop-round.host (g.I.Read.remaining c.args.input.now)
+    (g.I.Read.remaining c.loop-round.input) c.loop-round.more c.loop-round-test.true c.loop-round.invariant (c.any_takes_steps.ensures.none (search rules))

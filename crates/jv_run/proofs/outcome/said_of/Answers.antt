@@ -5,7 +5,8 @@ use Rattle.jv_run.proofs.outcome.said_of.Goals as goal
 
 pub returns : goal.returns
 returns c =
-    said c.shows_one_thing.ensures c.args.settings c.args.guests.now c.args.host.now (map told_of c.in_ok-reports.reports.items) c.in_ok-reports.ensures
+    said c.shows_one_thing.ensures c.args.settings c.args.guests.now c.args.host.now (map told_of c.in_ok-reports.reports.items) c.requires.allowed
+    c.in_ok-reports.ensures
     (ap (map told_of) c.as_slice.ensures.value) c.outcome_of.result c.outcome_of.ensures.report c.outcome_of.ensures.status
 
 pub reports_on-requires-clause-there : goal.reports_on-requires-clause-there

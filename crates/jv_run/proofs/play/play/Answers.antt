@@ -11,4 +11,4 @@ returns-in_err-admit_all-clause-err g c =
     let guests = map named_guest_of c.args.guests.now in
     let b0 = g.I.Read.remaining c.args.input.now in
     passed_on c.from_residual.result c.in_err-admit_all.field-0.0 (IsGuestsFailure s guests b0 b0) c.from_residual.ensures.1
-    (not_admitted s guests b0 b0 c.in_err-admit_all.field-0.0 (c.in_err-admit_all.ensures {u = tt}).err)
+    (not_admitted s guests b0 c.in_err-admit_all.field-0.0 (c.in_err-admit_all.ensures {u = tt}).err)

@@ -10,6 +10,7 @@ rows = record {
   cells = refl;
   behind = refl;
   fed = refl;
+  told = refl;
   files = refl;
   nothing = refl;
   no_command = refl;

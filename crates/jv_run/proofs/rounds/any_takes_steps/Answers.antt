@@ -1,6 +1,6 @@
 use Rattle.std.proofs.Common.{◌≡◌, length, ◌∙◌, arith}
 use Rattle.jv_run.proofs.AllTurns.{none_runs}
-use Rattle.jv_run.proofs.feeding.any_takes_steps.Goals as goal
+use Rattle.jv_run.proofs.rounds.any_takes_steps.Goals as goal
 
 pub returns-clause-none : goal.returns-clause-none
 returns-clause-none c = λ _.

@@ -2,7 +2,7 @@ use Rattle.std.proofs.Common.{rules, ◌≡◌, ◌∙◌, Some, None, ap, codes
 use Rattle.std.specs.Prelude.{option_map}
 use Rattle.clap.specs.Words.{first_value, found_of}
 use Rattle.jv_settings.proofs.Texts.{guest_is, in_rows, unused, used}
-use Rattle.jv_settings.proofs.reading.guest_in.Goals as goal
+use Rattle.jv_settings.proofs.reading.fed_guest_in.Goals as goal
 
 pub returns-in_default : goal.returns-in_default
 returns-in_default c =

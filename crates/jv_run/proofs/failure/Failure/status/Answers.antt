@@ -1,5 +1,5 @@
 use Rattle.std.proofs.Common.{rules}
-use Rattle.jv_run.proofs.failure.status_of.Goals as goal
+use Rattle.jv_run.proofs.failure.Failure.status.Goals as goal
 
 pub returns-in-HostMemory : goal.returns-in-HostMemory
 returns-in-HostMemory c = search rules
