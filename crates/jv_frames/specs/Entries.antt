@@ -1,8 +1,9 @@
 -- What frames that were read hold (JVMS 4.7.4), and which frames by words they stand for. An entry is an item of the map, or
 -- an initial local entry, by its place; so which types the initial ones have is the caller's affair, and an entry has its class by
 -- the index of its constant.
-use Rattle.std.specs.Prelude.{◌≡◌, ℕ, ◌<◌, List, length, map, sum_by, slice_index_or, unwrap_or, IsSome}
+use Rattle.std.specs.Prelude.{◌≡◌, ℕ, ◌<◌, Option, List, length, drop, map, sum_by, slice_index_or, unwrap_or, IsSome}
 use Rattle.std.specs.List.{All}
+use Rattle.std.specs.Option.{option_map}
 use Rattle.jv_pool.specs.Constants.{Entry, class_name_at}
 use Rattle.jv_frames.specs.declared.entry.FrameEntry.{FrameEntry}
 use Rattle.jv_frames.specs.declared.entry.FrameEntry.TheVariants as entries
@@ -41,6 +42,10 @@ offset_of f = f.offset
 
 abbrev pub locals_in : ReadFrame → List FrameEntry
 locals_in f = f.locals
+
+-- two frames have the same local entries below so many of the last of each
+abbrev pub SharesBelow : ℕ × ℕ → Option ReadFrame → Option ReadFrame → Type 0
+SharesBelow above one other = option_map (λ f. drop above.0 f.locals) one ≡ option_map (λ f. drop above.1 f.locals) other
 
 abbrev pub frame_typed : List Entry → List FrameType → ReadFrame → MapFrame FrameType
 frame_typed pool initial f = map_frame f.offset (map (entry_type pool initial) f.locals) (map (entry_type pool initial) f.stack)

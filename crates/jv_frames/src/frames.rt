@@ -6,7 +6,7 @@ ghost use Rattle.std.specs.Option.{option_map};
 ghost use Rattle.jv_frames.specs.declared.fault.FrameFault.TheVariants.{BadFrames};
 ghost use Rattle.jv_frames.specs.Types.{FrameType};
 ghost use Rattle.jv_frames.specs.Frames.{PlacedFrame, Maps};
-ghost use Rattle.jv_frames.specs.Entries.{frames_placed, HaveWidths, HoldsKnown, HasItsWords, offset_of, locals_in};
+ghost use Rattle.jv_frames.specs.Entries.{frames_placed, HaveWidths, HoldsKnown, HasItsWords, offset_of, locals_in, SharesBelow};
 ghost use Rattle.jv_frames.specs.Inside.Nodes.{frame_in, AreRising};
 
 use crate::entries::MapFrame;
@@ -118,6 +118,17 @@ impl MapFrames {
         ensures { IsTrue result → option_map locals_in (slice_get self.now place) ≡ option_map locals_in (slice_get self.now other) }
     {
         self.frames[place].locals == self.frames[other].locals
+    }
+
+    /// How many local entries two frames have, from the last on, above those that they are known to share, where these are at most so
+    /// many in all.
+    pub fn above_shared(&self, place: usize, other: usize, most: usize) -> Option<(usize, usize)>
+        requires place { place < length self.now }
+        requires other { other < length self.now }
+        ensures { IfSome result (λ above. SharesBelow above (slice_get self.now place) (slice_get self.now other)) }
+    {
+        self.nodes
+            .above_shared(self.frames[place].locals, self.frames[other].locals, most)
     }
 
     /// The place of the frame at an offset in the code, in bytes; `None` where none stands there.

@@ -1,6 +1,6 @@
 //! Entries as nodes, each laid on another, so that what frames share is kept once.
 
-ghost use Rattle.std.specs.Prelude.{◌≡◌, ◌<◌, ◌≤◌, ℕ, ◌++◌, [], ◌∷◌, length, IfOk, IfErr, IfSome, MatchOption};
+ghost use Rattle.std.specs.Prelude.{◌≡◌, ◌<◌, ◌≤◌, ℕ, ◌++◌, [], ◌∷◌, drop, length, IfOk, IfErr, IfSome, MatchOption};
 ghost use Rattle.jv_frames.specs.Inside.Nodes.{chain};
 
 use crate::entry::{FrameEntry, is_same};
@@ -113,6 +113,41 @@ impl Nodes {
             Some((found, under)) if under == below && is_same(found, entry) => Some(number),
             _ => None,
         }
+    }
+
+    /// The node below a node.
+    #[inline]
+    fn below(&self, top: u32) -> u32
+        ensures { chain self.now result ≡ drop 1 (chain self.now top) }
+    {
+        match self.at(top) {
+            Some((_entry, below)) => below,
+            None => top,
+        }
+    }
+
+    /// How many entries each of two nodes has above one on which both stand, where these are at most so many in all. As each node
+    /// stands on one of a lower number, the higher of two is left first, and the first node on which both stand is met.
+    pub(crate) fn above_shared(&self, one: u32, other: u32, most: usize) -> Option<(usize, usize)>
+        ensures { IfSome result (λ above. drop above.0 (chain self.now one) ≡ drop above.1 (chain self.now other)) }
+    {
+        let mut first = one;
+        let mut second = other;
+        let mut above_first = 0;
+        let mut above_second = 0;
+        while first != second {
+            if above_first >= most - above_second {
+                return None;
+            }
+            if first > second {
+                first = self.below(first);
+                above_first += 1;
+            } else {
+                second = self.below(second);
+                above_second += 1;
+            }
+        }
+        Some((above_first, above_second))
     }
 
     /// From a node on down there are no more entries than its number. The call does nothing.
