@@ -37,7 +37,8 @@ fn interfaces_listed(
 ) -> Result<(Vec<ClassIndex>, &[u8]), PartsFault>
     ensures { Gives (list_of count half) bytes.now (λ x. (map seen_index x.0.items, x.1.now)) result }
 {
-    let mut interfaces = Vec::new(alloc);
+    let room = usize::from(count).min(bytes.len() / 2);
+    let mut interfaces = Vec::with_capacity(alloc, room)?;
     let mut rest = bytes;
     for _ in 0..count {
         let Some((index, after)) = half_at(rest) else {
@@ -70,7 +71,8 @@ fn fields_listed<'a>(
 ) -> Result<(Vec<Field>, &'a [u8]), PartsFault>
     ensures { Gives (list_of count (field_kept pool.now)) bytes.now (λ x. (map seen_field x.0.items, x.1.now)) result }
 {
-    let mut fields = Vec::new(alloc);
+    let room = usize::from(count).min(bytes.len() / 8);
+    let mut fields = Vec::with_capacity(alloc, room)?;
     let mut rest = bytes;
     for _ in 0..count {
         let Some((field, after)) = field_at(pool, rest) else {
@@ -107,7 +109,8 @@ fn methods_listed<'a>(
 ) -> Result<(Vec<Method<'a>>, &'a [u8]), PartsFault>
     ensures { Gives (list_of count (method_kept pool.now)) bytes.now (λ x. (map seen_method x.0.items, x.1.now)) result }
 {
-    let mut methods = Vec::new(alloc);
+    let room = usize::from(count).min(bytes.len() / 8);
+    let mut methods = Vec::with_capacity(alloc, room)?;
     let mut rest = bytes;
     for _ in 0..count {
         let Some((method, after)) = method_at(pool, rest) else {

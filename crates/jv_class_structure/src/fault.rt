@@ -3,7 +3,7 @@
 ghost use Rattle.std.specs.Prelude.{◌≡◌};
 ghost use Rattle.jv_class_structure.specs.declared.fault.PartsFault.TheVariants.{Memory};
 
-use std::alloc::AllocFailed;
+use std::alloc::{AllocError, AllocFailed};
 
 /// Why there are no parts.
 #[derive(Clone, Copy, Debug)]
@@ -18,6 +18,14 @@ impl<T: Drop> From<AllocFailed<T>> for PartsFault {
     ghost from_gives = { λ _ e. e ≡ Memory };
 
     fn from(_e: AllocFailed<T>) -> PartsFault {
+        PartsFault::Memory
+    }
+}
+
+impl From<AllocError> for PartsFault {
+    ghost from_gives = { λ _ e. e ≡ Memory };
+
+    fn from(_e: AllocError) -> PartsFault {
         PartsFault::Memory
     }
 }

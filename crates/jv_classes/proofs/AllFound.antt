@@ -1,6 +1,6 @@
 -- What is found of each item of a list.
 use Rattle.std.proofs.Common.{◌≡◌, ℕ, List, [], ◌∷◌, ◌++◌, ◌+◌, ◌<◌, length, take, get_or, map, Option, Some, None, refl, sym, ap, ◌∙◌}
-use Rattle.std.specs.Option.{option_map}
+use Rattle.std.specs.Option.{option_map, IsSomeAnd}
 use Rattle.std.proofs.lemmas.List.{take_more}
 use Rattle.jv_format.specs.Format.{◌>>=◌}
 use Rattle.jv_meaning_world.specs.of_class.Class.{all_found}
@@ -33,6 +33,11 @@ module _ {X Y : Type 0} (look : X → Option Y) where
   pub next_found : (xs : List X) (i : ℕ) (d : X) → i < length xs → (ys new : List Y) (y : Y) → new ≡ ys ++ y ∷ [] → all_found look (take i xs) ≡ Some ys → look (get_or xs i d) ≡ Some y → all_found look (take (i + 1) xs) ≡ Some new
   next_found xs i d lt ys new y is found here =
       ap (all_found look) (take_more xs i d lt) ∙ one_more_found (take i xs) ys (get_or xs i d) y found here ∙ ap (λ l. Some l) (sym is)
+
+-- the member that joined, where it was found
+pub joined_by : {Y : Type 0} (found : Option Y) (old new : List Y) → IsSomeAnd found (λ y. new ≡ old ++ y ∷ []) → (y : Y) × (found ≡ Some y) × (new ≡ old ++ y ∷ [])
+joined_by None old new h = absurd h
+joined_by (Some y) old new h = (y, refl, h)
 
 -- what is found of what is seen of each item
 pub found_of_seen : {X Y Z : Type 0} (look : Y → Option Z) (seen : X → Y) (xs : List X) → all_found (λ x. look (seen x)) xs ≡ all_found look (map seen xs)

@@ -6,7 +6,7 @@ ghost use Rattle.jv_classes.specs.Inside.Kept.{Keeps};
 ghost use Rattle.jv_classes.specs.Inside.Seen.{method_seen};
 
 use crate::kept::Kept;
-use crate::members::{KeptMember, Members};
+use crate::members::Members;
 use jv_names::{Text, seed_of};
 use std::alloc::{AllocError, Global};
 use std::hash::RandomState;
@@ -20,16 +20,16 @@ fn io_methods<'a>(alloc: Global, state: RandomState) -> Result<Members<'a>, Allo
 {
     let seed = seed_of(state);
     let mut methods = Members::with_capacity(alloc, state, 2)?;
-    methods.add(KeptMember {
-        access_flags: PUBLIC_STATIC,
-        name: Text::new(seed, b"read".as_slice()),
-        descriptor: Text::new(seed, b"()I".as_slice()),
-    })?;
-    methods.add(KeptMember {
-        access_flags: PUBLIC_STATIC,
-        name: Text::new(seed, b"write".as_slice()),
-        descriptor: Text::new(seed, b"(I)V".as_slice()),
-    })?;
+    methods.add(
+        PUBLIC_STATIC,
+        &Text::new(seed, b"read".as_slice()),
+        &Text::new(seed, b"()I".as_slice()),
+    )?;
+    methods.add(
+        PUBLIC_STATIC,
+        &Text::new(seed, b"write".as_slice()),
+        &Text::new(seed, b"(I)V".as_slice()),
+    )?;
     Ok(methods)
 }
 

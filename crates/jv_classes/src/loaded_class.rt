@@ -245,17 +245,17 @@ impl<'a> LoadedClass<'a> {
     }
 
     /// The name of the method at a place, with its hash.
-    pub fn method_name(&self, place: usize) -> &Text<'a>
+    pub fn method_name(&self, place: usize) -> Text<'a>
         requires { place < length self.now.class.methods }
-        ensures { IsSomeAnd (slice_get self.now.class.methods place) (λ m. m.name ≡ result.now) }
+        ensures { IsSomeAnd (slice_get self.now.class.methods place) (λ m. m.name ≡ result) }
     {
         self.kept.methods.name_at(place)
     }
 
     /// The descriptor of the method at a place, with its hash.
-    pub fn method_descriptor(&self, place: usize) -> &Text<'a>
+    pub fn method_descriptor(&self, place: usize) -> Text<'a>
         requires { place < length self.now.class.methods }
-        ensures { IsSomeAnd (slice_get self.now.class.methods place) (λ m. m.descriptor ≡ result.now) }
+        ensures { IsSomeAnd (slice_get self.now.class.methods place) (λ m. m.descriptor ≡ result) }
     {
         self.kept.methods.descriptor_at(place)
     }

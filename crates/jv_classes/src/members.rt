@@ -2,7 +2,7 @@
 
 ghost use Rattle.std.specs.Prelude.{◌≡◌, ◌<◌, ◌++◌, ◌∷◌, [], IfOk, OnOk, OnErr, Some, length, position, slice_get};
 ghost use Rattle.std.specs.Option.{IsSomeAnd};
-ghost use Rattle.jv_classes.specs.Inside.Seen.{kept_seen, member_seen, declares, hashes_of, IsNoted, FindSame};
+ghost use Rattle.jv_classes.specs.Inside.Seen.{kept_seen, member_made, member_seen, declares, key_of, IsHashed, IsNoted, FindSame};
 
 use crate::member::Member;
 use jv_names::{Text, seed_of};
@@ -11,19 +11,23 @@ use std::collections::HashMap;
 use std::hash::RandomState;
 use std::marker::Model;
 
-/// A field or a method with the hashes of its texts.
+/// A field or a method with the hashes of its texts under the seed of all of them.
 pub(crate) struct KeptMember<'a> {
-    pub(crate) access_flags: u16,
-    pub(crate) name: Text<'a>,
-    pub(crate) descriptor: Text<'a>,
+    name: &'a [u8],
+    name_hash: u64,
+    descriptor: &'a [u8],
+    descriptor_hash: u64,
+    access_flags: u16,
 }
 
 impl Drop for KeptMember<'_> {
     fn drop(self) {
         let KeptMember {
-            access_flags: _,
             name: _,
+            name_hash: _,
             descriptor: _,
+            descriptor_hash: _,
+            access_flags: _,
         } = self;
     }
 }
@@ -34,18 +38,19 @@ impl Drop for KeptMember<'_> {
 pub(crate) struct Members<'a> {
     seed: u64,
     members: Vec<KeptMember<'a>>,
-    places: HashMap<(u64, u64), usize>,
+    places: HashMap<u64, usize>,
 }
 
 impl<'a> Model for Members<'a> {
     ghost use Rattle.std.specs.Prelude.{List, map};
-    ghost use Rattle.jv_classes.specs.Inside.Seen.{MemberSeen, ArePlaces, kept_seen};
+    ghost use Rattle.std.specs.List.{All};
+    ghost use Rattle.jv_classes.specs.Inside.Seen.{MemberSeen, ArePlaces, IsHashed, kept_seen};
 
     ghost Value = { List MemberSeen };
 
     ghost view = { λ m. map kept_seen m.members.items };
 
-    ghost invariant = { λ m. ArePlaces m.seed (map kept_seen m.members.items) m.places };
+    ghost invariant = { λ m. ArePlaces m.seed (map kept_seen m.members.items) m.places × All (IsHashed m.seed) m.members.items };
 }
 
 impl Drop for Members<'_> {
@@ -58,26 +63,38 @@ impl Drop for Members<'_> {
     }
 }
 
-/// The hashes of a name and of a descriptor under a seed.
-fn hashes_of(seed: u64, name: &Text<'_>, descriptor: &Text<'_>) -> (u64, u64)
-    ensures { result ≡ hashes_of seed name.now descriptor.now }
+/// The number under which a member is found, by the hashes of its name and of its descriptor. Members of other texts that have
+/// the same are as rare as texts of one hash: what is in a name is not in a descriptor.
+fn key_of(seed: u64, name: &Text<'_>, descriptor: &Text<'_>) -> u64
+    ensures { result ≡ key_of seed name.now descriptor.now }
 {
-    (name.hash_under(seed), descriptor.hash_under(seed))
+    name.hash_under(seed)
+        .wrapping_add(descriptor.hash_under(seed))
 }
 
-/// Notes a place under hashes, where none is there under them.
-fn note(
-    places: &mut HashMap<(u64, u64), usize>,
-    hashes: (u64, u64),
-    place: usize,
-) -> Result<(), AllocError>
-    ensures ok { OnOk result (IsNoted hashes place places.old places.new) }
+/// Notes a place under a key, where none is there under it.
+fn note(places: &mut HashMap<u64, usize>, key: u64, place: usize) -> Result<(), AllocError>
+    ensures ok { OnOk result (IsNoted key place places.old places.new) }
     ensures refused { OnErr result (FindSame places.old places.new) }
 {
-    if !places.contains_key(&hashes) {
-        places.insert(hashes, place)?;
+    if !places.contains_key(&key) {
+        places.insert(key, place)?;
     }
     Ok(())
+}
+
+/// What is kept of a member.
+fn kept<'a>(seed: u64, access_flags: u16, name: &Text<'a>, descriptor: &Text<'a>) -> KeptMember<'a>
+    ensures seen { kept_seen result ≡ member_made access_flags name.now descriptor.now }
+    ensures hashed { IsHashed seed result }
+{
+    KeptMember {
+        name: name.bytes(),
+        name_hash: name.hash_under(seed),
+        descriptor: descriptor.bytes(),
+        descriptor_hash: descriptor.hash_under(seed),
+        access_flags,
+    }
 }
 
 impl<'a> Members<'a> {
@@ -105,13 +122,19 @@ impl<'a> Members<'a> {
     }
 
     /// Adds a member behind the others.
-    pub(crate) fn add(&mut self, member: KeptMember<'a>) -> Result<(), AllocError>
-        ensures { OnOk result (self.new ≡ self.old ++ kept_seen member.entry ∷ []) }
+    pub(crate) fn add(
+        &mut self,
+        access_flags: u16,
+        name: &Text<'a>,
+        descriptor: &Text<'a>,
+    ) -> Result<(), AllocError>
+        ensures { OnOk result (self.new ≡ self.old ++ member_made access_flags name.now descriptor.now ∷ []) }
     {
-        let hashes = hashes_of(self.seed, &member.name, &member.descriptor);
+        let key = key_of(self.seed, name, descriptor);
         self.members.reserve(1)?;
-        note(&mut self.places, hashes, self.members.len())?;
-        self.members.push_reserved(member);
+        note(&mut self.places, key, self.members.len())?;
+        self.members
+            .push_reserved(kept(self.seed, access_flags, name, descriptor));
         Ok(())
     }
 
@@ -130,25 +153,27 @@ impl<'a> Members<'a> {
         let member = &self.members[place];
         Member {
             access_flags: member.access_flags,
-            name: member.name.bytes(),
-            descriptor: member.descriptor.bytes(),
+            name: member.name,
+            descriptor: member.descriptor,
         }
     }
 
     /// The name of the member at a place.
-    pub(crate) fn name_at(&self, place: usize) -> &Text<'a>
+    pub(crate) fn name_at(&self, place: usize) -> Text<'a>
         requires { place < length self.now }
-        ensures { IsSomeAnd (slice_get self.now place) (λ m. m.name ≡ result.now) }
+        ensures { IsSomeAnd (slice_get self.now place) (λ m. m.name ≡ result) }
     {
-        &self.members[place].name
+        let member = &self.members[place];
+        Text::known(self.seed, member.name_hash, member.name)
     }
 
     /// The descriptor of the member at a place.
-    pub(crate) fn descriptor_at(&self, place: usize) -> &Text<'a>
+    pub(crate) fn descriptor_at(&self, place: usize) -> Text<'a>
         requires { place < length self.now }
-        ensures { IsSomeAnd (slice_get self.now place) (λ m. m.descriptor ≡ result.now) }
+        ensures { IsSomeAnd (slice_get self.now place) (λ m. m.descriptor ≡ result) }
     {
-        &self.members[place].descriptor
+        let member = &self.members[place];
+        Text::known(self.seed, member.descriptor_hash, member.descriptor)
     }
 
     /// Whether the member at a place has a name and a descriptor.
@@ -157,7 +182,7 @@ impl<'a> Members<'a> {
         ensures { IsSomeAnd (slice_get self.now place) (λ m. result ≡ declares name.now descriptor.now m) }
     {
         let member = &self.members[place];
-        member.name.bytes() == name.bytes() && member.descriptor.bytes() == descriptor.bytes()
+        member.name == name.bytes() && member.descriptor == descriptor.bytes()
     }
 
     /// The place of the member with a name and a descriptor, by a look at each.
@@ -172,13 +197,13 @@ impl<'a> Members<'a> {
         None
     }
 
-    /// The place of the member with a name and a descriptor. Where another has the same hashes, which a stranger cannot
+    /// The place of the member with a name and a descriptor. Where another has the same key, which a stranger cannot
     /// bring about, each is looked at.
     pub(crate) fn place_of(&self, name: &Text<'_>, descriptor: &Text<'_>) -> Option<usize>
         ensures { result ≡ position (declares name.now descriptor.now) self.now }
     {
-        let hashes = hashes_of(self.seed, name, descriptor);
-        match self.places.get(&hashes) {
+        let key = key_of(self.seed, name, descriptor);
+        match self.places.get(&key) {
             None => None,
             Some(place) => {
                 let place = *place;

@@ -1,6 +1,6 @@
 //! What is kept of the class of a file.
 
-ghost use Rattle.std.specs.Prelude.{◌≡◌, ◌<◌, IfOk, IsSome, Some, length, map, slice_get};
+ghost use Rattle.std.specs.Prelude.{◌≡◌, ◌<◌, IfOk, OnOk, IsSome, Some, length, map, slice_get};
 ghost use Rattle.std.specs.List.{All};
 ghost use Rattle.std.specs.Option.{option_copied};
 ghost use Rattle.jv_meaning_world.specs.of_pool.Constants.{utf8_at};
@@ -8,12 +8,12 @@ ghost use Rattle.jv_meaning_world.specs.of_class.Class.{Class, all_found, class_
 ghost use Rattle.jv_meaning_world.specs.of_class.Rules.{NoTwoAlike};
 ghost use Rattle.jv_classes.specs.Hashes.{AreHashes};
 ghost use Rattle.jv_classes.specs.Inside.Kept.{Keeps};
-ghost use Rattle.jv_classes.specs.Inside.Seen.{field_seen, kept_seen, method_seen};
-ghost use Rattle.jv_classes.specs.Inside.Found.{field_at, field_texts, member_seen_at, method_at, method_texts};
+ghost use Rattle.jv_classes.specs.Inside.Seen.{field_seen, method_seen};
+ghost use Rattle.jv_classes.specs.Inside.Found.{Joins, field_at, field_texts, member_seen_at, method_at, method_texts};
 
 use crate::hashing::{pool_hashes, text_in};
 use crate::kept::Kept;
-use crate::members::{KeptMember, Members};
+use crate::members::Members;
 use crate::package::package;
 use jv_meaning_world::of_class::{ClassFile, Field, Method};
 use jv_meaning_world::of_pool::{Pool, Utf8Index};
@@ -21,25 +21,24 @@ use jv_names::seed_of;
 use std::alloc::{AllocError, Global};
 use std::hash::RandomState;
 
-/// The member with these flags and texts.
-fn member_in<'a>(
+/// Adds the member with these flags and texts behind the others.
+fn add_member<'a>(
+    members: &mut Members<'a>,
     seed: u64,
     hashes: &[u64],
     pool: &Pool<'a>,
     access_flags: u16,
     name: Utf8Index,
     descriptor: Utf8Index,
-) -> KeptMember<'a>
+) -> Result<(), AllocError>
     requires hashes { AreHashes seed pool.now hashes.now }
     requires name { IsSome (utf8_at pool.now name.0) }
     requires descriptor { IsSome (utf8_at pool.now descriptor.0) }
-    ensures { member_seen_at pool.now access_flags name.0 descriptor.0 ≡ Some (kept_seen result) }
+    ensures { OnOk result (Joins (member_seen_at pool.now access_flags name.0 descriptor.0) members.old members.new) }
 {
-    KeptMember {
-        access_flags,
-        name: text_in(seed, hashes, pool, name),
-        descriptor: text_in(seed, hashes, pool, descriptor),
-    }
+    let name = text_in(seed, hashes, pool, name);
+    let descriptor = text_in(seed, hashes, pool, descriptor);
+    members.add(access_flags, &name, &descriptor)
 }
 
 fn fields_in<'a>(
@@ -58,14 +57,15 @@ fn fields_in<'a>(
 {
     let mut members = Members::with_capacity(alloc, state, fields.len())?;
     for field in fields {
-        members.add(member_in(
+        add_member(
+            &mut members,
             seed,
             hashes,
             pool,
             field.access_flags.0,
             field.name,
             field.descriptor,
-        ))?;
+        )?;
     }
     Ok(members)
 }
@@ -86,14 +86,15 @@ fn methods_in<'a>(
 {
     let mut members = Members::with_capacity(alloc, state, methods.len())?;
     for method in methods {
-        members.add(member_in(
+        add_member(
+            &mut members,
             seed,
             hashes,
             pool,
             method.access_flags.0,
             method.name,
             method.descriptor,
-        ))?;
+        )?;
     }
     Ok(members)
 }

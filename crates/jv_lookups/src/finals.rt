@@ -98,8 +98,8 @@ fn some_overrides_final(
             of,
             chain,
             &class.method(place),
-            class.method_name(place),
-            class.method_descriptor(place),
+            &class.method_name(place),
+            &class.method_descriptor(place),
         ) {
             return true;
         }

@@ -37,7 +37,7 @@ pub(crate) fn all_alike(alloc: Global, table: &Table<'_>) -> Result<Vec<u16>, Po
     ensures err { IfErr result (λ e. e ≡ Memory) }
 {
     let mut firsts = BTreeMap::new(alloc);
-    let mut alike = Vec::new(alloc);
+    let mut alike = Vec::with_capacity(alloc, usize::from(table.count()))?;
     for index in 0..table.count() {
         let first = first_of(table, &mut firsts, index)?;
         alike.push(first)?;

@@ -46,7 +46,7 @@ fn all_known(alloc: Global, table: &Table<'_>) -> Result<Vec<Option<TextFacts>>,
     ensures ok { IfOk result (λ facts. AllKnown table.now facts.items) }
     ensures err { IfErr result (λ e. e ≡ Memory) }
 {
-    let mut facts = Vec::new(alloc);
+    let mut facts = Vec::with_capacity(alloc, usize::from(table.count()))?;
     for index in 0..table.count() {
         facts.push(known_at(table, index))?;
     }

@@ -177,7 +177,8 @@ fn listed(alloc: Global, length: u16, bytes: &[u8]) -> Result<(Table<'_>, &[u8])
     requires { length < 65535 }
     ensures { Gives (entries length) bytes.now (λ x. (x.0, x.1.now)) result }
 {
-    let mut entries = Vec::new(alloc);
+    let room = usize::from(length).min(bytes.len());
+    let mut entries = Vec::with_capacity(alloc, room)?;
     let mut rest = bytes;
     let mut unusable = false;
     for _ in 0..length {

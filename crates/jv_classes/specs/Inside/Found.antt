@@ -1,6 +1,6 @@
 -- What is read of a file, by the texts that its indices name.
-use Rattle.std.specs.Prelude.{ℕ, List, Option}
-use Rattle.std.specs.Option.{option_map}
+use Rattle.std.specs.Prelude.{◌≡◌, ℕ, List, [], ◌∷◌, ◌++◌, Option}
+use Rattle.std.specs.Option.{option_map, IsSomeAnd}
 use Rattle.jv_meaning_world.specs.of_pool.declared.index.ClassIndex.{ClassIndex}
 use Rattle.jv_meaning_world.specs.of_pool.Constants.{Entry, NameAndDescriptor, named_at, class_name_at}
 use Rattle.jv_meaning_world.specs.of_class_structure.declared.member.Field.{Field}
@@ -13,6 +13,10 @@ member_with access_flags texts = member_made access_flags texts.name texts.descr
 -- the member whose name and descriptor these indices name
 abbrev pub member_seen_at : List Entry → ℕ → ℕ → ℕ → Option MemberSeen
 member_seen_at pool access_flags name descriptor = option_map (member_with access_flags) (named_at pool name descriptor)
+
+-- the member that is found joins others
+abbrev pub Joins : Option MemberSeen → List MemberSeen → List MemberSeen → Type 0
+Joins found old new = IsSomeAnd found (λ m. new ≡ old ++ m ∷ [])
 
 abbrev pub field_texts : List Entry → Field → Option NameAndDescriptor
 field_texts pool f = named_at pool f.name.0 f.descriptor.0

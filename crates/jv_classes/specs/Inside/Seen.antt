@@ -1,5 +1,5 @@
 -- A field or a method as it is kept.
-use Rattle.std.specs.Prelude.{◌≡◌, ℕ, Bool, ◌&&◌, ◌==◌, List, cond, Some, is_some}
+use Rattle.std.specs.Prelude.{◌≡◌, ◌+◌, ◌%◌, ◌^◌, ℕ, Bool, ◌&&◌, ◌==◌, List, cond, Some, is_some}
 use Rattle.std.specs.HashMap.{HashMap, get_by}
 use Rattle.std.specs.Str.{bytes_eq}
 use Rattle.jv_names.specs.Inside.Kept.{AreFirstPlaces}
@@ -30,33 +30,37 @@ method_seen m = member_made m.access_flags m.name m.descriptor
 abbrev pub declares : List ℕ → List ℕ → MemberSeen → Bool
 declares name descriptor m = bytes_eq m.name name && bytes_eq m.descriptor descriptor
 
--- a member as it is kept, with the hashes of its texts
+-- a member as it is kept
 abbrev pub kept_seen : KeptMember → MemberSeen
-kept_seen m = member_made m.access_flags m.name m.descriptor
+kept_seen m = member_made m.access_flags m.name.now m.descriptor.now
 
--- the hashes of a name and of a descriptor
-abbrev pub Hashes : Type 0
-Hashes = ℕ × ℕ
+-- the hashes that are kept beside its texts are theirs under a seed
+abbrev pub IsHashed : ℕ → KeptMember → Type 0
+IsHashed seed m = (m.name_hash ≡ text_hash seed m.name.now) × (m.descriptor_hash ≡ text_hash seed m.descriptor.now)
 
-abbrev pub same_hashes : Hashes → Hashes → Bool
-same_hashes one other = one.0 == other.0 && one.1 == other.1
+-- the number under which a member is found, by the hashes of its name and of its descriptor
+abbrev pub Key : Type 0
+Key = ℕ
 
-abbrev pub hashes_of : ℕ → List ℕ → List ℕ → Hashes
-hashes_of seed name descriptor = (text_hash seed name, text_hash seed descriptor)
+abbrev pub same_key : Key → Key → Bool
+same_key one other = one == other
 
-abbrev pub has_hashes : ℕ → Hashes → MemberSeen → Bool
-has_hashes seed hashes m = same_hashes (hashes_of seed m.name m.descriptor) hashes
+abbrev pub key_of : ℕ → List ℕ → List ℕ → Key
+key_of seed name descriptor = (text_hash seed name + text_hash seed descriptor) % 2 ^ 64
 
--- the first member with these hashes is found at its place, and nothing else is found
-abbrev pub ArePlaces : {S : Type 0} → ℕ → List MemberSeen → HashMap Hashes ℕ S → Type 0
-ArePlaces seed members places = AreFirstPlaces same_hashes (has_hashes seed) members places
+abbrev pub has_key : ℕ → Key → MemberSeen → Bool
+has_key seed key m = same_key (key_of seed m.name m.descriptor) key
 
--- a place joins under hashes that are not there yet; else nothing has changed
-abbrev pub IsNoted : {S : Type 0} → Hashes → ℕ → HashMap Hashes ℕ S → HashMap Hashes ℕ S → Type 0
-IsNoted hashes place old new = (other : Hashes)
-    → get_by (same_hashes other) new
-    ≡ cond (is_some (get_by (same_hashes hashes) old)) (get_by (same_hashes other) old)
-    (cond (same_hashes hashes other) (Some place) (get_by (same_hashes other) old))
+-- the first member with a key is found at its place, and nothing else is found
+abbrev pub ArePlaces : {S : Type 0} → ℕ → List MemberSeen → HashMap Key ℕ S → Type 0
+ArePlaces seed members places = AreFirstPlaces same_key (has_key seed) members places
 
-abbrev pub FindSame : {S : Type 0} → HashMap Hashes ℕ S → HashMap Hashes ℕ S → Type 0
-FindSame old new = (other : Hashes) → get_by (same_hashes other) new ≡ get_by (same_hashes other) old
+-- a place joins under a key that is not there yet; else nothing has changed
+abbrev pub IsNoted : {S : Type 0} → Key → ℕ → HashMap Key ℕ S → HashMap Key ℕ S → Type 0
+IsNoted key place old new = (other : Key)
+    → get_by (same_key other) new
+    ≡ cond (is_some (get_by (same_key key) old)) (get_by (same_key other) old)
+    (cond (same_key key other) (Some place) (get_by (same_key other) old))
+
+abbrev pub FindSame : {S : Type 0} → HashMap Key ℕ S → HashMap Key ℕ S → Type 0
+FindSame old new = (other : Key) → get_by (same_key other) new ≡ get_by (same_key other) old

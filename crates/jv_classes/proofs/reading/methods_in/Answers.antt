@@ -1,9 +1,8 @@
 use Rattle.jv_classes.specs.Inside.Found.{method_at}
-use Rattle.jv_classes.specs.Inside.Seen.{kept_seen}
-use Rattle.jv_classes.proofs.AllFound.{next_found}
+use Rattle.jv_classes.proofs.AllFound.{joined_by, next_found}
 use Rattle.jv_classes.proofs.reading.methods_in.Goals as goal
 
 pub loop-method-preserved : goal.loop-method-preserved
 loop-method-preserved c =
-    next_found (method_at c.args.pool.now) c.args.methods.now c.loop-method.method-index _ c.loop-method-test.true c.loop-method.members _ (kept_seen c.member_in.result) c.in_ok-add.ensures
-    c.loop-method.invariant c.member_in.ensures
+    let joined = joined_by _ c.loop-method.members _ c.in_ok-add_member.ensures in
+    next_found (method_at c.args.pool.now) c.args.methods.now c.loop-method.method-index _ c.loop-method-test.true c.loop-method.members _ joined.0 joined.2 c.loop-method.invariant joined.1

@@ -22,4 +22,4 @@ returns c =
     ∙ ap (λ (xs : List Entry). just (xs, c.loop.rest.now)) (sym c.new.ensures)
 
 pub loop-init : goal.loop-init
-loop-init c = rw c.new-entries.ensures.items (Listed-start c.args.length c.args.bytes.now)
+loop-init c = rw c.in_ok-entries.ensures.items (Listed-start c.args.length c.args.bytes.now)

@@ -9,7 +9,5 @@ pub returns : goal.returns
 returns c =
     ap (λ members. slice_get members c.args.place) (sym c.self.view_is)
     ∙ (slice_get-map kept_seen c.self.inside.members.items c.args.place
-    ∙ (ap (option_map kept_seen) (slice_get_read c.self.inside.members.items (length c.args.self.now) c.args.place c.index-member.result.now
-    (ap length (sym c.self.view_is) ∙ length-map c.self.inside.members.items kept_seen) c.requires c.index-member.ensures)
-    ∙ (ap (λ n. Some (member_made c.index-member.result.now.access_flags n c.index-member.result.now.descriptor)) (sym c.bytes.ensures)
-    ∙ ap (λ n. Some (member_made c.index-member.result.now.access_flags c.bytes.result.now n)) (sym c.bytes-2.ensures))))
+    ∙ ap (option_map kept_seen) (slice_get_read c.self.inside.members.items (length c.args.self.now) c.args.place c.index-member.result.now
+    (ap length (sym c.self.view_is) ∙ length-map c.self.inside.members.items kept_seen) c.requires c.index-member.ensures))
