@@ -39,6 +39,7 @@ pub fn read_past_limit<F: Read>(alloc: Global, file: &mut F, limit: usize) -> io
     for _ in 0..limit + 2 {
         let room = limit + 1 - bytes.len();
         if room == 0 || read_piece(file, &mut bytes, room)? == 0 {
+            bytes.shrink_to_fit();
             return Ok(bytes);
         }
     }
