@@ -6,7 +6,7 @@ use Rattle.std.specs.List.{list_any}
 use Rattle.std.specs.Str.{bytes_eq}
 use Rattle.std.proofs.lemmas.Bool.{and_parts, eqb-true, eq-eqb}
 use Rattle.std.proofs.lemmas.Slice.Eq.{bytes_eq-Decides}
-use Rattle.jv_names.proofs.FirstPlace.{joined, joined_known, some_place}
+use Rattle.jv_classes.proofs.FirstPlace.{joined, joined_known, some_place}
 use Rattle.jv_classes.specs.Inside.Seen.{MemberSeen, declares, Key, key_of, same_key, has_key, ArePlaces, IsNoted}
 
 same_number : (one other : Key) → same_key one other ≡ true → one ≡ other

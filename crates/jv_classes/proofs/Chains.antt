@@ -5,7 +5,7 @@ use Rattle.std.specs.List.{Contains}
 use Rattle.std.specs.Str.{bytes_eq}
 use Rattle.std.specs.Cmp.Lexicographic.{nat_list_eq_equiv}
 use Rattle.std.proofs.lemmas.List.Elements.{Contains-append_cases}
-use Rattle.jv_names.specs.Ways.{Rows, related, IsSquare, IsWay, Reaches, ShortWays}
+use Rattle.jv_classes.specs.Ways.{Rows, related, IsSquare, IsWay, Reaches, ShortWays}
 use Rattle.jv_meaning_world.specs.World.{Loaded, World, class_named}
 use Rattle.jv_meaning_world.specs.Above.{superclass_in, class_if_named, chain_within, superclasses}
 use Rattle.jv_meaning_world.specs.LookUps.{is_among}

@@ -7,7 +7,7 @@ use Rattle.std.proofs.lemmas.Bool.{ltb-true, ltb-false}
 use Rattle.std.proofs.lemmas.List.{take_all}
 use Rattle.std.proofs.lemmas.List.Quantifiers.{position-Some}
 use Rattle.std.proofs.lemmas.Iterator.Adapters.{position_from-zero}
-use Rattle.jv_names.proofs.FirstPlace.{some_place}
+use Rattle.jv_classes.proofs.FirstPlace.{some_place}
 
 clash : (b : Bool) → b ≡ true → b ≡ false → ⊥
 clash true e f = cc

@@ -1,3 +1,9 @@
+pub mod RelationRows
+pub mod RelationWays
+pub mod FirstPlace
+pub mod Pushed
+pub mod NamesIn
+pub mod Each
 pub mod Adding
 pub mod AllFound
 pub mod Chains

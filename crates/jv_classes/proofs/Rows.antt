@@ -5,7 +5,7 @@ use Rattle.std.proofs.lemmas.List.{get_or-take, get_or-map}
 use Rattle.std.proofs.lemmas.Bool.{ltb-true, ltb-false, eqb-true, eqb-false}
 use Rattle.std.proofs.lemmas.Grind.{common_steps}
 use Rattle.std.specs.Global.{Vec}
-use Rattle.jv_names.specs.Ways.{is_there}
+use Rattle.jv_classes.specs.Ways.{is_there}
 use Rattle.jv_classes.specs.Inside.Rows.{row_of, numbers_of}
 
 abbrev Rows : Type 0

@@ -8,7 +8,7 @@ use Rattle.std.proofs.lemmas.List.{length-map, get_or-map, map-append}
 use Rattle.std.proofs.lemmas.List.Elements.{Contains-append_cases, All-cons, All-append}
 use Rattle.std.proofs.lemmas.Option.{slice_get-get_or}
 use Rattle.jv_format.specs.Format.{◌>>=◌}
-use Rattle.jv_names.specs.Ways.{Rows, related, IsBelowSize, is_there}
+use Rattle.jv_classes.specs.Ways.{Rows, related, IsBelowSize, is_there}
 use Rattle.jv_meaning_world.specs.of_class.Class.{Class}
 use Rattle.jv_meaning_world.specs.World.{Loaded, World, class_named}
 use Rattle.jv_meaning_world.specs.Above.{super_names, superclass_names, class_if_named}

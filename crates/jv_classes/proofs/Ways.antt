@@ -7,10 +7,10 @@ use Rattle.std.specs.Cmp.Lexicographic.{nat_list_eq_equiv}
 use Rattle.std.proofs.lemmas.List.Elements.{Contains-append_cases}
 use Rattle.std.proofs.lemmas.Option.{slice_get-get_or, slice_get_within, get_or_from_slice_get}
 use Rattle.std.proofs.lemmas.List.{get_or-map}
-use Rattle.jv_names.proofs.Ways.{to_below}
+use Rattle.jv_classes.proofs.RelationWays.{to_below}
 use Rattle.jv_classes.specs.Inside.Told.{TellsAbove, AreAllMarked}
 use Rattle.jv_meaning_world.specs.of_class.Class.{Class}
-use Rattle.jv_names.specs.Ways.{Rows, related, IsSquare, IsWay, Reaches}
+use Rattle.jv_classes.specs.Ways.{Rows, related, IsSquare, IsWay, Reaches}
 use Rattle.jv_meaning_world.specs.World.{Loaded, World, class_named}
 use Rattle.jv_meaning_world.specs.Above.{supers_in, above, is_above}
 use Rattle.jv_meaning_world.specs.Laws.Above.{IsWayUp, stands_itself, SystemStandsAlone, LoadableByAll}

@@ -1,3 +1,5 @@
+pub mod Steps
+pub mod KeptNames
 pub mod Direct
 pub mod Found
 pub mod Kept

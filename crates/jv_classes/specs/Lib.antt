@@ -1,5 +1,8 @@
-pub mod Faults
+pub mod Ways
+pub mod Names
+pub mod Texts
 pub mod Inside
+pub mod Faults
 pub mod Hashes
 pub mod Members
 pub mod Once

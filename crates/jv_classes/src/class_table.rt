@@ -13,10 +13,10 @@ ghost use Rattle.jv_meaning_world.specs.Numbers.{HoldsAtNumber};
 
 use crate::list::ClassList;
 use crate::loaded_class::LoadedClass;
+use crate::relation::Relation;
 use crate::supers::{are_marked, can_name_supers, have_right_kind, is_final_at, superclass_of};
 use crate::table::{above_of, all_loadable, all_stand, all_supers, superclasses_of};
 use jv_meaning_world::LoadVerdict;
-use jv_names::Relation;
 use std::alloc::{AllocError, Global};
 use std::marker::Model;
 

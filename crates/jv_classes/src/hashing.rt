@@ -2,11 +2,11 @@
 
 ghost use Rattle.std.specs.Prelude.{◌≡◌, ℕ, List, IfOk, IsSome, Some};
 ghost use Rattle.jv_meaning_world.specs.of_pool.Constants.{utf8_at};
-ghost use Rattle.jv_names.specs.Texts.{text_hash};
+ghost use Rattle.jv_classes.specs.Texts.{text_hash};
 ghost use Rattle.jv_classes.specs.Hashes.{AreHashes};
 
+use crate::text::{Text, text_hash};
 use jv_meaning_world::of_pool::{Pool, Utf8Index};
-use jv_names::{Text, text_hash};
 use std::alloc::{AllocError, Global};
 
 /// The hash of the text at an index, and any number where there is none.

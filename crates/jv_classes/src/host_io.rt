@@ -7,7 +7,7 @@ ghost use Rattle.jv_classes.specs.Inside.Seen.{method_seen};
 
 use crate::kept::Kept;
 use crate::members::Members;
-use jv_names::{Text, seed_of};
+use crate::text::{Text, seed_of};
 use std::alloc::{AllocError, Global};
 use std::hash::RandomState;
 

@@ -1,23 +1,32 @@
-//! The class table of a guest (JVMS 5.3): each class of its world as it was read, with its members at hand by name, who is
-//! above whom, whose superclass is whose, and which can be loaded, answered without a search.
+//! The class table of a guest (JVMS 5.3): each class of its world as it was read, with its members at hand by name, who is above whom,
+//! whose superclass is whose, and which can be loaded, answered without a search. Below it, tables that number a guest's classes: names in
+//! the order in which they came, and relations on the numbers below some number, with what they reach in one step or more (5.3.5); and
+//! texts that know their hashes.
 #![tactic(auto)]
 
 mod class_table;
 mod hashing;
 mod host_io;
 mod kept;
+mod law;
 mod list;
 mod loaded_class;
 mod member;
 mod members;
+mod names;
 mod once;
 mod package;
 mod reading;
+mod relation;
 mod supers;
 mod table;
+mod text;
 
 pub use class_table::ClassTable;
 pub use hashing::{pool_hashes, text_in};
+pub use law::short_ways;
 pub use list::ClassList;
 pub use loaded_class::LoadedClass;
 pub use member::Member;
+pub use names::Names;
+pub use text::Text;

@@ -4,7 +4,8 @@ ghost use Rattle.std.specs.Prelude.{◌≡◌, ◌<◌, ◌++◌, [], ◌∷◌,
 ghost use Rattle.jv_meaning_world.specs.Numbers.{number_named, IsNumbered, AreNoArrays};
 
 use crate::loaded_class::LoadedClass;
-use jv_names::{Names, seed_of};
+use crate::names::Names;
+use crate::text::seed_of;
 use std::alloc::{AllocError, Global};
 use std::hash::RandomState;
 use std::marker::Model;

@@ -5,7 +5,7 @@ ghost use Rattle.std.specs.Option.{IsSomeAnd};
 ghost use Rattle.jv_classes.specs.Inside.Seen.{kept_seen, member_made, member_seen, declares, key_of, IsHashed, IsNoted, FindSame};
 
 use crate::member::Member;
-use jv_names::{Text, seed_of};
+use crate::text::{Text, seed_of};
 use std::alloc::{AllocError, Global};
 use std::collections::HashMap;
 use std::hash::RandomState;

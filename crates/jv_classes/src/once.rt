@@ -2,7 +2,7 @@
 
 ghost use Rattle.std.specs.Prelude.{◌≡◌, ◌++◌, ◌∷◌, [], IfOk, OnOk, OnErr};
 ghost use Rattle.std.specs.List.{list_any};
-ghost use Rattle.jv_names.specs.Ways.{IsBelowSize};
+ghost use Rattle.jv_classes.specs.Ways.{IsBelowSize};
 ghost use Rattle.jv_classes.specs.Once.{is_same, joined_once};
 ghost use Rattle.jv_classes.specs.Inside.Once.{numbers_once};
 

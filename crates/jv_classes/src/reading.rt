@@ -15,9 +15,9 @@ use crate::hashing::{pool_hashes, text_in};
 use crate::kept::Kept;
 use crate::members::Members;
 use crate::package::package;
+use crate::text::seed_of;
 use jv_meaning_world::of_class::{ClassFile, Field, Method};
 use jv_meaning_world::of_pool::{Pool, Utf8Index};
-use jv_names::seed_of;
 use std::alloc::{AllocError, Global};
 use std::hash::RandomState;
 

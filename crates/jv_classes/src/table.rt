@@ -2,7 +2,7 @@
 
 ghost use Rattle.std.specs.Prelude.{◌≡◌, ◌↔◌, ◌<◌, ℕ, [], IsTrue, IfOk, length, map, get_or};
 ghost use Rattle.std.specs.List.{list_any};
-ghost use Rattle.jv_names.specs.Ways.{related, is_there};
+ghost use Rattle.jv_classes.specs.Ways.{related, is_there};
 ghost use Rattle.jv_meaning_world.specs.Numbers.{IsNumbered};
 ghost use Rattle.jv_meaning_world.specs.Laws.Above.{stands_itself, SystemStandsAlone};
 ghost use Rattle.jv_meaning_world.specs.Verdicts.{is_loadable};
@@ -11,11 +11,12 @@ ghost use Rattle.jv_classes.specs.Inside.Told.{TellsAbove, TellsSuperclasses, Ar
 ghost use Rattle.jv_classes.specs.Inside.Rows.{numbers_of, all_direct_numbers, AreAllBelow};
 ghost use Rattle.jv_meaning_world.specs.Above.{superclasses};
 
+use crate::law::short_ways;
 use crate::list::ClassList;
 use crate::loaded_class::LoadedClass;
+use crate::relation::Relation;
 use crate::supers::{stands_itself, superclass_of, supers_of};
 use jv_meaning_world::loadable_by_all;
-use jv_names::{Relation, short_ways};
 use std::alloc::{AllocError, Global};
 
 /// The numbers of the direct supers of each class.

@@ -4,9 +4,9 @@ use Rattle.std.specs.Borrow.{Bor}
 use Rattle.jv_meaning_world.specs.FileContent.{FileContent, AreContents}
 use Rattle.jv_meaning_machine.specs.Alone.{Feed}
 use Rattle.jv_interp.specs.of_method.Files.{Verified}
-use Rattle.jv_interp_objects.specs.ObjectsInBlocks.{Blocks}
-use Rattle.jv_interp.specs.of_interp_start.Started.{budget_of}
-use Rattle.jv_interp.proofs.laws_of_interp_start.FewClasses.{few_classes}
+use Rattle.jv_interp_memory.specs.ObjectsInBlocks.{Blocks}
+use Rattle.jv_interp.specs.Started.{budget_of}
+use Rattle.jv_interp.proofs.FewClasses.{few_classes}
 use Rattle.jv_interp.specs.Standing.{GuestStands}
 use Rattle.jv_interp.specs.Beginning.{AreFilesOf, Begins}
 use Rattle.jv_host.specs.declared.admission.Fed.{Fed}

@@ -4,8 +4,8 @@ use Rattle.std.proofs.lemmas.Bool.{lt-ltb, le-ltb}
 use Rattle.std.specs.Prelude.{Bool, cond}
 use Rattle.jv_meaning_machine.specs.Start.{Budget as BudgetOfMachine}
 use Rattle.jv_meaning_machine.specs.Alone.{GuestFiles as FilesOfGuest, Feed}
-use Rattle.jv_interp_objects.specs.ObjectsInBlocks.{Blocks}
-use Rattle.jv_interp.specs.of_interp_start.Started.{budget_of}
+use Rattle.jv_interp_memory.specs.ObjectsInBlocks.{Blocks}
+use Rattle.jv_interp.specs.Started.{budget_of}
 use Rattle.jv_interp.specs.Standing.{GuestStands, IsFed, StandsStill}
 use Rattle.jv_host.specs.declared.fault.FeedFault.TheVariants as faults
 use Rattle.jv_host.specs.declared.admission.Fed.{Fed}

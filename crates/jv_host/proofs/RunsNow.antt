@@ -1,7 +1,7 @@
 -- Whether a guest takes steps.
 use Rattle.std.proofs.Common.{ℕ, true, false, List, map, refl}
-use Rattle.jv_interp_objects.specs.ObjectsInBlocks.{Blocks}
-use Rattle.jv_interp.specs.of_interp_start.Started.{budget_of}
+use Rattle.jv_interp_memory.specs.ObjectsInBlocks.{Blocks}
+use Rattle.jv_interp.specs.Started.{budget_of}
 use Rattle.jv_interp.specs.Showing.{IsAnswered}
 use Rattle.jv_meaning_machine.specs.Observation.{observation}
 use Rattle.jv_host.specs.declared.admission.Admitted.{Admitted}

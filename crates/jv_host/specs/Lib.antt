@@ -7,6 +7,5 @@ pub mod Inside
 pub mod Limits
 pub mod Worlds
 pub use Rattle.jv_interp.specs as of_interp
-pub use Rattle.jv_interp.specs.of_interp_start
 pub use Rattle.jv_interp.specs.of_loader
 pub use Rattle.jv_interp.specs.of_method

@@ -2,8 +2,8 @@
 
 ghost use Rattle.std.specs.Prelude.{◌≡◌, ◌≢◌, ◌+◌, ◌-◌, ◌<◌, ◌≤◌, [], Some, None, Err, true, false, length, map, IfOk, IfErr, IsOk, OnOk, OnErr, IsTrue};
 ghost use Rattle.jv_heap.specs.Content.{words_held};
-ghost use Rattle.jv_interp_objects.specs.ObjectsInBlocks.{Blocks};
-ghost use Rattle.jv_interp.specs.of_interp_start.Started.{budget_of};
+ghost use Rattle.jv_interp_memory.specs.ObjectsInBlocks.{Blocks};
+ghost use Rattle.jv_interp.specs.Started.{budget_of};
 ghost use Rattle.jv_interp.specs.Beginning.{AreFilesOf};
 ghost use Rattle.jv_host.specs.declared.fault.FeedFault.TheVariants.{HostMemory};
 ghost use Rattle.jv_host.specs.Files.{bytes_of, guest_of};
@@ -16,10 +16,9 @@ use crate::fault::FeedFault;
 use crate::files::GuestFiles;
 use crate::limits::INPUT_BYTES;
 use jv_heap::{MOST_WORDS, Memory, Store};
-use jv_interp::Guest;
-use jv_interp::of_interp_start::Budget;
 use jv_interp::of_loader::{Classes, SystemFiles};
 use jv_interp::of_method::{Verified, verify};
+use jv_interp::{Budget, Guest};
 use jv_meaning_machine::{ended_guest_stays, one_judged};
 use std::alloc::{AllocError, Global};
 use std::hash::RandomState;

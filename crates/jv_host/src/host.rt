@@ -1,7 +1,7 @@
 //! The host and its calls.
 
 ghost use Rattle.std.specs.Prelude.{◌≡◌, ◌↔◌, [], ◌∷◌, ◌++◌, ℕ, Some, None, Err, true, false, OnOk, OnErr, IfOk, IfErr, IsErr, IsTrue, length, slice_get};
-ghost use Rattle.jv_interp.specs.of_interp_start.Started.{budget_of};
+ghost use Rattle.jv_interp.specs.Started.{budget_of};
 ghost use Rattle.jv_interp.specs.Showing.{observed_of};
 ghost use Rattle.jv_host.specs.Files.{guest_of};
 ghost use Rattle.jv_host.specs.Host.{after_feed};
@@ -14,10 +14,9 @@ use crate::fault::{AdmitFault, FeedFault, NoGuest, TurnFault};
 use crate::files::GuestFiles;
 use crate::limits::first_refusal;
 use jv_heap::Store;
-use jv_interp::Observation;
-use jv_interp::of_interp_start::Budget;
 use jv_interp::of_loader::SystemFiles;
 use jv_interp::of_sound::never_faults;
+use jv_interp::{Budget, Observation};
 use jv_meaning_typing::Verdict;
 use std::alloc::Global;
 use std::hash::RandomState;

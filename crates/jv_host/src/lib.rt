@@ -16,7 +16,6 @@ pub use fault::{AdmitFault, FeedFault, NoGuest, TurnFault};
 pub use files::GuestFiles;
 pub use host::{GuestId, Host};
 pub use jv_interp as of_interp;
-pub use jv_interp::of_interp_start::Budget;
-pub use jv_interp::{GuestEnd, Observation, of_interp_start, of_loader, of_method};
+pub use jv_interp::{Budget, GuestEnd, Observation, of_loader, of_method};
 pub use laws::two_worlds;
 pub use limits::first_file_refusal;

@@ -3,13 +3,13 @@
 ghost use Rattle.std.specs.Prelude.{◌≡◌, ◌==◌, map, nat_lt, length};
 ghost use Rattle.std.specs.List.{list_any};
 ghost use Rattle.jv_host.specs.Files.{bytes_of, guest_of};
-ghost use Rattle.jv_interp.specs.of_interp_start.Started.{budget_of};
+ghost use Rattle.jv_interp.specs.Started.{budget_of};
 ghost use Rattle.jv_format.specs.Numbers.{is_from_to};
 ghost use Rattle.jv_host.specs.Limits.{first_file_refusal, first_other_refusal, first_refusal, is_long_file, is_in_range};
 
 use crate::fault::AdmitFault;
 use crate::files::GuestFiles;
-use jv_interp::of_interp_start::Budget;
+use jv_interp::Budget;
 
 /// The most files of a guest.
 const FILES: usize = 1_024;

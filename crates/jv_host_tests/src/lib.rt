@@ -1,6 +1,9 @@
-//! Tests of the host and of the program's reports.
+//! Tests of the host and of the program's reports; and of the shared store, beside what its contract says: the same list of calls on both
+//! implementations, whose answers and content are compared with plain lists.
 #![tactic(auto)]
 
+#[cfg(test)]
+mod calls;
 #[cfg(test)]
 mod feeds;
 #[cfg(test)]
@@ -17,3 +20,7 @@ mod program;
 mod progress;
 #[cfg(test)]
 mod report;
+#[cfg(test)]
+mod stores;
+#[cfg(test)]
+mod twin;

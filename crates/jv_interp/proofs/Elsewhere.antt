@@ -6,7 +6,7 @@ use Rattle.jv_meaning_machine.specs.Objects.{Object}
 use Rattle.jv_meaning_machine.specs.State.{Memory}
 use Rattle.jv_meaning_machine.specs.Start.{Budget}
 use Rattle.jv_meaning_machine.specs.Alone.{GuestFiles, Feed}
-use Rattle.jv_interp_objects.specs.ObjectsInBlocks.{Blocks, ObjectStands, ObjectsStand}
+use Rattle.jv_interp_memory.specs.ObjectsInBlocks.{Blocks, ObjectStands, ObjectsStand}
 use Rattle.jv_interp_memory.specs.declared.held.Held.{Held}
 use Rattle.jv_interp_memory.specs.HeldInWords.{MemoryStands}
 use Rattle.jv_interp_memory.specs.Growing.{Grows}

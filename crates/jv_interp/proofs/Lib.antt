@@ -1,3 +1,13 @@
+pub mod MainBegins
+pub mod FirstStates
+pub mod AcceptedClasses
+pub mod WithAbove
+pub mod VerifiedTold
+pub mod MainFound
+pub mod Opened
+pub mod StartedStands
+pub mod FewClasses
+pub mod CanStartJudged
 pub mod Safe
 pub mod Later
 pub mod Fed
@@ -5,4 +15,3 @@ pub mod Shown
 pub mod Elsewhere
 pub mod Begun
 mod OneStep
-pub use Rattle.jv_interp_start.proofs as laws_of_interp_start

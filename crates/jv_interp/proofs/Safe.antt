@@ -13,7 +13,7 @@ use Rattle.jv_meaning_machine.specs.Step.{step, after_steps}
 use Rattle.jv_meaning_machine.specs.Laws.Runs.{AloneStepsOn}
 use Rattle.jv_meaning_machine.specs.Laws.Ends.{EndFitsAlone}
 use Rattle.jv_sound.specs.Law.{NeverFaults, ObjectsAreLoadable, InitializationsAreLoadable}
-use Rattle.jv_interp_objects.specs.ObjectsInBlocks.{Blocks}
+use Rattle.jv_interp_memory.specs.ObjectsInBlocks.{Blocks}
 use Rattle.jv_interp_runs.specs.Guests.{IsGuest, IsLoadableOnTop}
 use Rattle.jv_interp_runs.specs.Running.{Leads, IsSafe, RunsFrom}
 use Rattle.jv_interp_runs.proofs.Runs.{after_them}

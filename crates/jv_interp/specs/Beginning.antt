@@ -2,11 +2,11 @@
 use Rattle.std.specs.Prelude.{ℕ, List, []}
 use Rattle.jv_meaning_world.specs.FileContent.{FileContent, AreContents}
 use Rattle.jv_meaning_machine.specs.Alone.{GuestFiles}
-use Rattle.jv_interp_start.specs.of_method.Files.{Verified, AreVerified}
-use Rattle.jv_interp_objects.specs.ObjectsInBlocks.{Blocks}
+use Rattle.jv_method.specs.Files.{Verified, AreVerified}
+use Rattle.jv_interp_memory.specs.ObjectsInBlocks.{Blocks}
 use Rattle.jv_interp_memory.specs.Growing.{Grows}
-use Rattle.jv_interp_start.specs.declared.budget.Budget.{Budget}
-use Rattle.jv_interp_start.specs.Started.{budget_of}
+use Rattle.jv_interp.specs.declared.budget.Budget.{Budget}
+use Rattle.jv_interp.specs.Started.{budget_of}
 use Rattle.jv_interp.specs.declared.guest.Guest.{Guest}
 use Rattle.jv_interp.specs.Standing.{GuestStands}
 

@@ -4,14 +4,17 @@ ghost use Rattle.std.specs.Prelude.{◌≡◌, ◌+◌, ◌<◌, ◌≤◌, ℕ,
 ghost use Rattle.jv_heap.specs.Content.{words_held};
 ghost use Rattle.jv_interp.specs.Beginning.{AreFilesOf, HasBegun};
 
+use crate::budget::Budget;
+use crate::first::Started;
 use crate::guest::Guest;
+use crate::starting::start;
+use crate::verified::verified_classes;
 use jv_heap::{Memory, Store};
-use jv_interp_start::of_interp_methods::{Methods, Texts};
-use jv_interp_start::of_linked::link;
-use jv_interp_start::of_method::Verified;
-use jv_interp_start::{Budget, Started, start, verified_classes};
+use jv_interp_creation::of_interp_calls::{Methods, Texts};
+use jv_interp_creation::of_linked::link;
 use jv_meaning_machine::judged_by_verdicts;
 use jv_meaning_world::one_content;
+use jv_method::Verified;
 use jv_sound::never_faults;
 use std::alloc::Global;
 use std::hash::RandomState;

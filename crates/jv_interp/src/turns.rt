@@ -6,8 +6,8 @@ ghost use Rattle.jv_interp.specs.Showing.{HasEnded, TakesSteps, RanToLast, IsAns
 
 use crate::guest::Guest;
 use jv_heap::{Memory, Store};
+use jv_interp_frames::End;
 use jv_interp_runs::{Turn, run};
-use jv_interp_start::of_interp_frames::End;
 use jv_meaning_machine::{alone_steps_on, end_fits_alone, shows_one_thing};
 use jv_sound::{initializations_are_loadable, never_faults, objects_are_loadable};
 

@@ -5,18 +5,18 @@ use Rattle.jv_text.specs.Descriptor.{slots}
 use Rattle.jv_text.specs.Types.{method_type_of}
 use Rattle.jv_meaning_world.specs.World.{Loaded, World}
 use Rattle.jv_meaning_world.specs.Numbers.{HoldsAtNumber}
-use Rattle.jv_interp_methods.specs.of_lookups.Places.{method_at}
-use Rattle.jv_meaning_linking.specs.Uses.{Site}
-use Rattle.jv_meaning_linking.specs.LinkErrors.{error_class}
-use Rattle.jv_meaning_linking.specs.Kind.{is_static_method}
-use Rattle.jv_meaning_linking.specs.Operands.{method_operand}
-use Rattle.jv_meaning_linking.specs.MethodResolution.{MethodTarget, resolve_method}
-use Rattle.jv_meaning_linking.specs.Laws.{IsCalled, MethodIsCalled}
-use Rattle.jv_interp_methods.specs.of_link.declared.site.Use.{Use}
-use Rattle.jv_interp_methods.specs.of_link.Seen.{place_of, seen_use, method_target_at, IsSite}
-use Rattle.jv_interp_methods.specs.of_linked.declared.method_use.MethodUse.{MethodUse}
-use Rattle.jv_interp_methods.specs.of_linked.Bodies.{argument_words}
-use Rattle.jv_interp_methods.specs.of_linked.MethodUses.{IsMethodUse}
+use Rattle.jv_linked.specs.of_lookups.Places.{method_at}
+use Rattle.jv_meaning_typing.specs.Uses.{Site}
+use Rattle.jv_meaning_typing.specs.LinkErrors.{error_class}
+use Rattle.jv_meaning_typing.specs.Kind.{is_static_method}
+use Rattle.jv_meaning_typing.specs.Operands.{method_operand}
+use Rattle.jv_meaning_typing.specs.MethodResolution.{MethodTarget, resolve_method}
+use Rattle.jv_meaning_typing.specs.LinkingLaws.{IsCalled, MethodIsCalled}
+use Rattle.jv_linked.specs.of_link.declared.site.Use.{Use}
+use Rattle.jv_linked.specs.of_link.Seen.{place_of, seen_use, method_target_at, IsSite}
+use Rattle.jv_linked.specs.declared.method_use.MethodUse.{MethodUse}
+use Rattle.jv_linked.specs.Bodies.{argument_words}
+use Rattle.jv_linked.specs.MethodUses.{IsMethodUse}
 use Rattle.jv_meaning_machine.specs.State.{Memory}
 use Rattle.jv_meaning_machine.specs.Effects.{Effect, Context, Outcome}
 use Rattle.jv_meaning_machine.specs.Calls.{call, call_target}

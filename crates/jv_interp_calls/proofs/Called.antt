@@ -4,12 +4,12 @@ use Rattle.std.specs.List.{flat_map}
 use Rattle.jv_text.specs.Descriptor.{MethodDescriptor, slots}
 use Rattle.jv_text.specs.Types.{method_type_of}
 use Rattle.jv_frames.specs.Types.{value_type}
-use Rattle.jv_meaning_linking.specs.Uses.{Use}
-use Rattle.jv_meaning_linking.specs.LinkErrors.{LinkError, OrError, error_class}
-use Rattle.jv_meaning_linking.specs.Operands.{MethodReference, method_operand}
-use Rattle.jv_meaning_linking.specs.MethodResolution.{MethodTarget, resolve_method}
-use Rattle.jv_meaning_machine.specs.of_meaning_typing.Environment.{current_class}
-use Rattle.jv_meaning_machine.specs.of_meaning_typing.Named.{object_class_type}
+use Rattle.jv_meaning_typing.specs.Uses.{Use}
+use Rattle.jv_meaning_typing.specs.LinkErrors.{LinkError, OrError, error_class}
+use Rattle.jv_meaning_typing.specs.Operands.{MethodReference, method_operand}
+use Rattle.jv_meaning_typing.specs.MethodResolution.{MethodTarget, resolve_method}
+use Rattle.jv_meaning_typing.specs.Environment.{current_class}
+use Rattle.jv_meaning_typing.specs.Named.{object_class_type}
 use Rattle.jv_meaning_machine.specs.Faults.{OrFault, found, tested, ◌>>=◌}
 use Rattle.jv_meaning_machine.specs.Faults.Fault.{OffsetFault, TagFault}
 use Rattle.jv_meaning_machine.specs.Values.{Value, is_reference_value, has_type}

@@ -10,21 +10,21 @@ use Rattle.jv_class.specs.Class.{Method}
 use Rattle.jv_meaning_world.specs.World.{Loaded, World, class_named}
 use Rattle.jv_meaning_world.specs.Overriding.{Declared}
 use Rattle.jv_meaning_world.specs.Verdicts.{is_loadable}
-use Rattle.jv_interp_methods.specs.of_lookups.Places.{method_at}
-use Rattle.jv_meaning_linking.specs.Uses.{Use as UseOfNames}
-use Rattle.jv_meaning_linking.specs.Uses.Use.{Invokevirtual, Invokespecial, Invokeinterface}
-use Rattle.jv_meaning_linking.specs.LinkErrors.{OrError, error_class, ◌>>=◌ as ◌>>==◌}
-use Rattle.jv_meaning_linking.specs.Kind.{is_static_method, has_method_kind}
-use Rattle.jv_meaning_linking.specs.MethodResolution.{MethodTarget, target}
-use Rattle.jv_meaning_linking.specs.Selection.{select, select_special, select_from, special_start}
-use Rattle.jv_meaning_linking.specs.Laws.{MethodIsCalled}
-use Rattle.jv_interp_methods.specs.of_link.declared.site.Use.{Use}
-use Rattle.jv_interp_methods.specs.of_link.declared.site.Use.TheVariants as uses
-use Rattle.jv_interp_methods.specs.of_link.Seen.{seen_use}
-use Rattle.jv_interp_methods.specs.of_link.Objects.{object_class_at, IsObject}
-use Rattle.jv_interp_methods.specs.of_linked.declared.method_use.MethodUse.{MethodUse}
-use Rattle.jv_interp_methods.specs.of_linked.MethodUses.{IsMethodUse}
-use Rattle.jv_meaning_machine.specs.of_meaning_typing.Named.{class_components}
+use Rattle.jv_linked.specs.of_lookups.Places.{method_at}
+use Rattle.jv_meaning_typing.specs.Uses.{Use as UseOfNames}
+use Rattle.jv_meaning_typing.specs.Uses.Use.{Invokevirtual, Invokespecial, Invokeinterface}
+use Rattle.jv_meaning_typing.specs.LinkErrors.{OrError, error_class, ◌>>=◌ as ◌>>==◌}
+use Rattle.jv_meaning_typing.specs.Kind.{is_static_method, has_method_kind}
+use Rattle.jv_meaning_typing.specs.MethodResolution.{MethodTarget, target}
+use Rattle.jv_meaning_typing.specs.Selection.{select, select_special, select_from, special_start}
+use Rattle.jv_meaning_typing.specs.LinkingLaws.{MethodIsCalled}
+use Rattle.jv_linked.specs.of_link.declared.site.Use.{Use}
+use Rattle.jv_linked.specs.of_link.declared.site.Use.TheVariants as uses
+use Rattle.jv_linked.specs.of_link.Seen.{seen_use}
+use Rattle.jv_linked.specs.of_link.Objects.{object_class_at, IsObject}
+use Rattle.jv_linked.specs.declared.method_use.MethodUse.{MethodUse}
+use Rattle.jv_linked.specs.MethodUses.{IsMethodUse}
+use Rattle.jv_meaning_typing.specs.Named.{class_components}
 use Rattle.jv_meaning_machine.specs.Faults.{OrFault, found as found_or, tested, ◌>>=◌}
 use Rattle.jv_meaning_machine.specs.Faults.Fault.{ReferenceFault, ConstructionFault}
 use Rattle.jv_meaning_machine.specs.Values.{Value, is_reference_value}
@@ -42,7 +42,7 @@ use Rattle.jv_meaning_machine.specs.Calls.{call, call_target, call_instance, cal
 use Rattle.jv_interp_words.specs.ValuesInWords.{IsOnTop, AreOnTop}
 use Rattle.jv_interp_words.specs.FramesInWords.{in_use, methods_of}
 use Rattle.jv_interp_words.proofs.Gave.{bound_gave, found_gave, tested_gave}
-use Rattle.jv_interp_objects.specs.ObjectsInBlocks.{HasNumber, ObjectStands}
+use Rattle.jv_interp_memory.specs.ObjectsInBlocks.{HasNumber, ObjectStands}
 use Rattle.jv_interp_memory.specs.declared.effect.Effect.TheVariants as effects
 use Rattle.jv_interp_memory.specs.Executing.{Place, Did}
 use Rattle.jv_interp_memory.proofs.Numbered.{system_numbers}

@@ -19,18 +19,18 @@ use Rattle.jv_meaning_world.specs.LookUps.{DeclaredField, field_by}
 use Rattle.jv_meaning_world.specs.Verdicts.{is_loadable}
 use Rattle.jv_meaning_world.proofs.Up.{none, single, first, later, has_name, named_stands, above_by_ways, above_is_transitive}
 use Rattle.jv_meaning_world.proofs.Standing.{loadable_by_all}
-use Rattle.jv_meaning_linking.specs.Kind.{is_static_field}
-use Rattle.jv_meaning_linking.specs.Selection.{upward}
-use Rattle.jv_meaning_linking.specs.Layout.{own_fields, instance_fields, field_words, object_words, Placed, laid_at, placed_from, layout, end_of}
-use Rattle.jv_meaning_linking.proofs.Chain.{chain_is_above, superclasses_are_named, in_any}
-use Rattle.jv_meaning_linking.proofs.Found.{split, in_filter}
-use Rattle.jv_meaning_linking.proofs.Places.{layout_extends, layout_is_by_rule}
-use Rattle.jv_interp_methods.specs.of_linked.Places.{static_layout, IsWordOf}
-use Rattle.jv_interp_methods.proofs.laws_of_linked.Inherited.{words_are_inherited}
-use Rattle.jv_interp_methods.specs.of_loader.Straight.{IsStraight}
-use Rattle.jv_interp_methods.proofs.laws_of_loader.Straightness.{are_straight}
+use Rattle.jv_meaning_typing.specs.Kind.{is_static_field}
+use Rattle.jv_meaning_typing.specs.Selection.{upward}
+use Rattle.jv_meaning_typing.specs.Layout.{own_fields, instance_fields, field_words, object_words, Placed, laid_at, placed_from, layout, end_of}
+use Rattle.jv_meaning_typing.proofs.Chain.{chain_is_above, superclasses_are_named, in_any}
+use Rattle.jv_meaning_typing.proofs.Found.{split, in_filter}
+use Rattle.jv_meaning_typing.proofs.Places.{layout_extends, layout_is_by_rule}
+use Rattle.jv_linked.specs.Places.{static_layout, IsWordOf}
+use Rattle.jv_linked.proofs.Inherited.{words_are_inherited}
+use Rattle.jv_linked.specs.of_loader.Straight.{IsStraight}
+use Rattle.jv_linked.proofs.laws_of_loader.Straightness.{are_straight}
 use Rattle.jv_meaning_machine.specs.Objects.{FieldKey, key_of, same_key}
-use Rattle.jv_interp_objects.specs.ObjectsInBlocks.{BeginsAt, place_among}
+use Rattle.jv_interp_memory.specs.ObjectsInBlocks.{BeginsAt, place_among}
 use Rattle.jv_interp_memory.specs.HeldInWords.{own_static_fields, static_fields}
 use Rattle.jv_interp_memory.specs.SystemNumbers.{IsGuestsWorld}
 use Rattle.jv_interp_calls.proofs.WorldNames.{HaveOwnNames, names_differ}

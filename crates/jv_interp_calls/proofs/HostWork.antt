@@ -15,7 +15,7 @@ use Rattle.jv_interp_words.specs.declared.registers.Registers.{Registers}
 use Rattle.jv_interp_words.specs.ValuesInWords.{IsOnTop}
 use Rattle.jv_interp_words.specs.FramesInWords.{in_use, FrameStands}
 use Rattle.jv_interp_words.proofs.InUse.{in_use_top, in_use_pushed, length-in_use}
-use Rattle.jv_interp_members.proofs.laws_of_interp_going.FramesStand.{frame_length}
+use Rattle.jv_interp_words.proofs.FramesStand.{frame_length}
 use Rattle.jv_interp_memory.specs.declared.held.Held.{Held}
 use Rattle.jv_interp_memory.specs.declared.effect.Effect.TheVariants as effects
 use Rattle.jv_interp_memory.specs.EffectsInWords.{EffectStands}

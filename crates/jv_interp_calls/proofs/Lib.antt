@@ -1,3 +1,14 @@
+pub mod Got
+pub mod FieldStands
+pub mod Getting
+pub mod Putting
+pub mod FieldChanged
+pub mod PutStands
+pub mod StaticGot
+pub mod StaticPut
+pub mod Numbered
+pub mod InTexts
+pub mod OfClasses
 pub mod Sites
 pub mod Called
 pub mod Widths
@@ -15,8 +26,6 @@ pub mod WorldNames
 pub mod FieldsOfFiles
 pub mod FieldPlaces
 pub mod UsedAtSite
-pub use Rattle.jv_interp_members.proofs as laws_of_interp_members
-pub use Rattle.jv_interp_methods.proofs as laws_of_interp_methods
-pub use Rattle.jv_interp_methods.proofs.laws_of_linked
-pub use Rattle.jv_interp_methods.proofs.laws_of_loader
-pub use Rattle.jv_interp_methods.proofs.laws_of_lookups
+pub use Rattle.jv_linked.proofs as laws_of_linked
+pub use Rattle.jv_linked.proofs.laws_of_loader
+pub use Rattle.jv_linked.proofs.laws_of_lookups

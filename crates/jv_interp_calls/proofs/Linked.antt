@@ -5,15 +5,15 @@ use Rattle.jv_meaning_world.specs.World.{World, world_of}
 use Rattle.jv_meaning_world.specs.System.Classes.{system_classes}
 use Rattle.jv_meaning_world.specs.Overriding.{Declared}
 use Rattle.jv_meaning_world.specs.LookUps.{DeclaredField}
-use Rattle.jv_interp_methods.specs.of_lookups.Places.{field_at, method_at}
-use Rattle.jv_meaning_linking.specs.LinkErrors.{LinkError as ErrorOfNames, OrError, error_class}
-use Rattle.jv_meaning_linking.specs.MethodResolution.{MethodTarget}
-use Rattle.jv_interp_methods.specs.of_link.declared.error.LinkError.{LinkError}
-use Rattle.jv_interp_methods.specs.of_link.declared.target.MethodTarget.{MethodTarget as TargetByNumber}
-use Rattle.jv_interp_methods.specs.of_link.Seen.{answer, error_of, method_target_at}
-use Rattle.jv_interp_methods.specs.of_linked.declared.field_use.FieldUse.{FieldUse}
+use Rattle.jv_linked.specs.of_lookups.Places.{field_at, method_at}
+use Rattle.jv_meaning_typing.specs.LinkErrors.{LinkError as ErrorOfNames, OrError, error_class}
+use Rattle.jv_meaning_typing.specs.MethodResolution.{MethodTarget}
+use Rattle.jv_linked.specs.of_link.declared.error.LinkError.{LinkError}
+use Rattle.jv_linked.specs.of_link.declared.target.MethodTarget.{MethodTarget as TargetByNumber}
+use Rattle.jv_linked.specs.of_link.Seen.{answer, error_of, method_target_at}
+use Rattle.jv_linked.specs.declared.field_use.FieldUse.{FieldUse}
 use Rattle.jv_interp_words.specs.FramesInWords.{methods_of}
-use Rattle.jv_interp_objects.specs.ObjectsInBlocks.{HasNumber}
+use Rattle.jv_interp_memory.specs.ObjectsInBlocks.{HasNumber}
 use Rattle.jv_interp_memory.specs.SystemNumbers.{IsGuestsWorld, AreSystemNumbers, SystemHasNumbers}
 use Rattle.jv_interp_calls.specs.Resolved.{IsErrorOf, IsTargetOf, IsMethodOf, IsFieldOf}
 use Rattle.jv_interp_calls.proofs.Sites.{some_same, target_place}

@@ -9,10 +9,10 @@ use Rattle.jv_meaning_machine.specs.Faults.Fault.{ReferenceFault}
 use Rattle.jv_meaning_machine.specs.Objects.{Object, Instance}
 use Rattle.jv_meaning_machine.specs.Objects.Object.{InstanceOf, ArrayWith}
 use Rattle.jv_meaning_machine.specs.Calls.{class_of_object}
-use Rattle.jv_interp_methods.specs.of_link.Objects.{object_class_at, IsObject}
-use Rattle.jv_interp_methods.proofs.laws_of_linked.Eachwise.{within_list}
+use Rattle.jv_linked.specs.of_link.Objects.{object_class_at, IsObject}
+use Rattle.jv_linked.proofs.Eachwise.{within_list}
 use Rattle.jv_interp_words.proofs.Gave.{bound_gave, found_gave}
-use Rattle.jv_interp_objects.specs.ObjectsInBlocks.{ObjectStands}
+use Rattle.jv_interp_memory.specs.ObjectsInBlocks.{ObjectStands}
 use Rattle.jv_interp_calls.specs.Resolved.{class_number}
 use Rattle.jv_interp_calls.proofs.Sites.{some_same}
 

@@ -9,12 +9,12 @@ use Rattle.jv_meaning_world.specs.Overriding.{Declared}
 use Rattle.jv_meaning_world.specs.Verdicts.{declared_by}
 use Rattle.jv_meaning_world.specs.LookUps.{DeclaredField, field_by}
 use Rattle.jv_meaning_world.proofs.Up.{first, later}
-use Rattle.jv_interp_methods.specs.of_lookups.declared.place.Place.{Place}
-use Rattle.jv_interp_methods.specs.of_lookups.Places.{field_in, field_at, method_of, method_at, IsMethodPlace}
-use Rattle.jv_meaning_linking.specs.MethodResolution.{MethodTarget, target}
-use Rattle.jv_interp_methods.specs.of_link.declared.target.MethodTarget.{MethodTarget as TargetByNumber}
-use Rattle.jv_interp_methods.specs.of_link.Seen.{method_target_at}
-use Rattle.jv_interp_methods.proofs.laws_of_linked.Eachwise.{within_list}
+use Rattle.jv_linked.specs.of_lookups.declared.place.Place.{Place}
+use Rattle.jv_linked.specs.of_lookups.Places.{field_in, field_at, method_of, method_at, IsMethodPlace}
+use Rattle.jv_meaning_typing.specs.MethodResolution.{MethodTarget, target}
+use Rattle.jv_linked.specs.of_link.declared.target.MethodTarget.{MethodTarget as TargetByNumber}
+use Rattle.jv_linked.specs.of_link.Seen.{method_target_at}
+use Rattle.jv_linked.proofs.Eachwise.{within_list}
 
 pub some_same : {A : Type 0} (x y : A) → Some x ≡ Some y → x ≡ y
 some_same x y e = cc

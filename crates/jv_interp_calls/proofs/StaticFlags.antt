@@ -5,8 +5,8 @@ use Rattle.std.proofs.lemmas.Bool.Decides.{Decides-eqb}
 use Rattle.std.proofs.lemmas.Nat.{and_assoc}
 use Rattle.jv_class_structure.specs.Flags.{acc_private, acc_static}
 use Rattle.jv_class.specs.Class.{Method}
-use Rattle.jv_meaning_linking.specs.Uses.Use.{Invokevirtual, Invokespecial, Invokeinterface}
-use Rattle.jv_meaning_linking.specs.Kind.{is_static_method, has_method_kind}
+use Rattle.jv_meaning_typing.specs.Uses.Use.{Invokevirtual, Invokespecial, Invokeinterface}
+use Rattle.jv_meaning_typing.specs.Kind.{is_static_method, has_method_kind}
 
 zero_test : (n : ℕ) → IsTrue (not (not (n == 0))) → n ≡ 0
 zero_test n h = by_test (n == 0) refl h

@@ -8,15 +8,15 @@ use Rattle.jv_meaning_world.specs.World.{Loaded, World, loaded, world_of}
 use Rattle.jv_meaning_world.specs.System.Classes.{system_classes}
 use Rattle.jv_meaning_world.specs.System.Io.{io}
 use Rattle.jv_meaning_world.specs.Overriding.{Declared}
-use Rattle.jv_interp_methods.specs.of_lookups.Places.{method_at}
-use Rattle.jv_meaning_linking.specs.Uses.Use.{Invokestatic}
-use Rattle.jv_meaning_linking.specs.MethodResolution.{MethodTarget, target}
-use Rattle.jv_meaning_linking.specs.Selection.{select}
-use Rattle.jv_meaning_linking.specs.Laws.{MethodIsCalled}
-use Rattle.jv_interp_methods.specs.of_link.declared.site.Use.TheVariants as uses
-use Rattle.jv_interp_methods.specs.of_linked.declared.method_use.MethodUse.{MethodUse}
-use Rattle.jv_interp_methods.specs.of_linked.MethodUses.{IsMethodUse}
-use Rattle.jv_interp_methods.proofs.laws_of_linked.Eachwise.{within_list}
+use Rattle.jv_linked.specs.of_lookups.Places.{method_at}
+use Rattle.jv_meaning_typing.specs.Uses.Use.{Invokestatic}
+use Rattle.jv_meaning_typing.specs.MethodResolution.{MethodTarget, target}
+use Rattle.jv_meaning_typing.specs.Selection.{select}
+use Rattle.jv_meaning_typing.specs.LinkingLaws.{MethodIsCalled}
+use Rattle.jv_linked.specs.of_link.declared.site.Use.TheVariants as uses
+use Rattle.jv_linked.specs.declared.method_use.MethodUse.{MethodUse}
+use Rattle.jv_linked.specs.MethodUses.{IsMethodUse}
+use Rattle.jv_linked.proofs.Eachwise.{within_list}
 use Rattle.jv_meaning_machine.specs.Faults.{◌>>=◌}
 use Rattle.jv_meaning_machine.specs.Values.{Value}
 use Rattle.jv_meaning_machine.specs.Values.Value.{Int}

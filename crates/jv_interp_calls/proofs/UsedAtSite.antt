@@ -13,22 +13,22 @@ use Rattle.jv_code.specs.declared.kinds.FieldAccess.TheVariants as access
 use Rattle.jv_meaning_world.specs.World.{Loaded, World}
 use Rattle.jv_meaning_world.specs.LookUps.{DeclaredField}
 use Rattle.jv_meaning_world.specs.Numbers.{HoldsAtNumber}
-use Rattle.jv_interp_methods.specs.of_lookups.Places.{field_at}
-use Rattle.jv_meaning_linking.specs.LinkErrors.{error_class}
-use Rattle.jv_meaning_linking.specs.Kind.{is_static_field, has_field_kind}
-use Rattle.jv_meaning_linking.specs.Layout.{field_words}
-use Rattle.jv_meaning_linking.specs.Operands.{field_operand}
-use Rattle.jv_meaning_linking.specs.FieldResolution.{resolve_field}
-use Rattle.jv_meaning_linking.specs.Laws.{FieldIsUsed}
-use Rattle.jv_interp_methods.specs.of_link.declared.site.Use.{Use}
-use Rattle.jv_interp_methods.specs.of_link.declared.site.Use.TheVariants as uses
-use Rattle.jv_interp_methods.specs.of_link.Seen.{place_of, seen_use, IsSite}
-use Rattle.jv_interp_methods.specs.of_linked.declared.field_use.FieldKind.{FieldKind}
-use Rattle.jv_interp_methods.specs.of_linked.declared.field_use.FieldUse.{FieldUse}
-use Rattle.jv_interp_methods.specs.of_linked.FieldUses.{kind_of, IsFieldUse}
-use Rattle.jv_interp_methods.specs.of_linked.Places.{IsWordOf}
-use Rattle.jv_interp_methods.proofs.laws_of_linked.Eachwise.{within_list}
-use Rattle.jv_meaning_machine.specs.of_meaning_typing.Environment.{current_class}
+use Rattle.jv_linked.specs.of_lookups.Places.{field_at}
+use Rattle.jv_meaning_typing.specs.LinkErrors.{error_class}
+use Rattle.jv_meaning_typing.specs.Kind.{is_static_field, has_field_kind}
+use Rattle.jv_meaning_typing.specs.Layout.{field_words}
+use Rattle.jv_meaning_typing.specs.Operands.{field_operand}
+use Rattle.jv_meaning_typing.specs.FieldResolution.{resolve_field}
+use Rattle.jv_meaning_typing.specs.LinkingLaws.{FieldIsUsed}
+use Rattle.jv_linked.specs.of_link.declared.site.Use.{Use}
+use Rattle.jv_linked.specs.of_link.declared.site.Use.TheVariants as uses
+use Rattle.jv_linked.specs.of_link.Seen.{place_of, seen_use, IsSite}
+use Rattle.jv_linked.specs.declared.field_use.FieldKind.{FieldKind}
+use Rattle.jv_linked.specs.declared.field_use.FieldUse.{FieldUse}
+use Rattle.jv_linked.specs.FieldUses.{kind_of, IsFieldUse}
+use Rattle.jv_linked.specs.Places.{IsWordOf}
+use Rattle.jv_linked.proofs.Eachwise.{within_list}
+use Rattle.jv_meaning_typing.specs.Environment.{current_class}
 use Rattle.jv_meaning_machine.specs.Faults.{OrFault, found, ◌>>=◌}
 use Rattle.jv_meaning_machine.specs.Faults.Fault.{OffsetFault}
 use Rattle.jv_meaning_machine.specs.State.{Memory, class_state, is_ready}
@@ -36,18 +36,18 @@ use Rattle.jv_meaning_machine.specs.Effects.{Effect, Context, Outcome, world_at,
 use Rattle.jv_meaning_machine.specs.Effects.Effect.{Begins}
 use Rattle.jv_meaning_machine.specs.Fields.{get_static, put_static, get_field, put_field, access_field, use_for, use_field}
 use Rattle.jv_interp_words.proofs.Gave.{bound_gave, found_gave}
-use Rattle.jv_interp_objects.specs.ObjectsInBlocks.{AreLoadable}
-use Rattle.jv_interp_objects.specs.Narrowing.{narrowing_at, narrowing_of}
-use Rattle.jv_interp_objects.specs.declared.narrowing.Narrowing.{Narrowing}
-use Rattle.jv_interp_objects.specs.declared.narrowing.Narrowing.TheVariants as narrowings
-use Rattle.jv_interp_objects.proofs.Widths.{described_words}
+use Rattle.jv_interp_memory.specs.ObjectsInBlocks.{AreLoadable}
+use Rattle.jv_interp_memory.specs.Narrowing.{narrowing_at, narrowing_of}
+use Rattle.jv_interp_memory.specs.declared.narrowing.Narrowing.{Narrowing}
+use Rattle.jv_interp_memory.specs.declared.narrowing.Narrowing.TheVariants as narrowings
+use Rattle.jv_interp_memory.proofs.Widths.{described_words}
 use Rattle.jv_interp_memory.specs.declared.effect.Effect.TheVariants as effects
 use Rattle.jv_interp_memory.specs.Executing.{Place, Executes, Did}
 use Rattle.jv_interp_memory.specs.Growing.{DidIn}
 use Rattle.jv_interp_memory.specs.SystemNumbers.{IsGuestsWorld}
 use Rattle.jv_interp_memory.proofs.Raised.{raised_in}
-use Rattle.jv_interp_members.specs.Fields.{GettingField, PuttingField}
-use Rattle.jv_interp_members.specs.Statics.{GettingStatic, PuttingStatic}
+use Rattle.jv_interp_calls.specs.Fields.{GettingField, PuttingField}
+use Rattle.jv_interp_calls.specs.Statics.{GettingStatic, PuttingStatic}
 use Rattle.jv_interp_calls.specs.Known.{Known}
 use Rattle.jv_interp_calls.specs.Resolved.{IsFieldOf, ResolvesField, IsUsedField}
 use Rattle.jv_interp_calls.specs.Using.{Using}

@@ -11,7 +11,7 @@ use Rattle.jv_meaning_world.specs.declared.content.Content.TheVariants.{OtherVer
 use Rattle.jv_meaning_world.specs.System.Classes.{system_classes}
 use Rattle.jv_meaning_world.specs.World.{Loaded, World, loaded, is_reserved, has_class, with_class_of, joined_all, classes_in, world_of}
 use Rattle.jv_meaning_world.proofs.Up.{none, single, first, later}
-use Rattle.jv_meaning_linking.proofs.Found.{split}
+use Rattle.jv_meaning_typing.proofs.Found.{split}
 
 -- ---- each of them once
 

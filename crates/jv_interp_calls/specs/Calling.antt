@@ -3,11 +3,11 @@ use Rattle.std.specs.Prelude.{◌≡◌, ◌⊎◌, ℕ, List, length}
 use Rattle.jv_meaning_machine.specs.State.{Memory}
 use Rattle.jv_meaning_machine.specs.Effects.{Effect as EffectOfNames, Context}
 use Rattle.jv_meaning_machine.specs.Calls.{call}
-use Rattle.jv_interp_methods.specs.of_link.declared.site.Use.{Use}
-use Rattle.jv_interp_methods.specs.of_link.declared.site.Use.TheVariants as uses
-use Rattle.jv_interp_methods.specs.of_link.Seen.{seen_use}
+use Rattle.jv_linked.specs.of_link.declared.site.Use.{Use}
+use Rattle.jv_linked.specs.of_link.declared.site.Use.TheVariants as uses
+use Rattle.jv_linked.specs.of_link.Seen.{seen_use}
 use Rattle.jv_interp_words.specs.declared.registers.Registers.{Registers}
-use Rattle.jv_interp_objects.specs.ObjectsInBlocks.{Blocks, AreLoadable}
+use Rattle.jv_interp_memory.specs.ObjectsInBlocks.{Blocks, AreLoadable}
 use Rattle.jv_interp_memory.specs.declared.class_state.ClassState.{ClassState}
 use Rattle.jv_interp_memory.specs.ClassStates.{AreClassStates}
 use Rattle.jv_interp_memory.specs.declared.held.Held.{Held}

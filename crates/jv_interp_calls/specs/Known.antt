@@ -2,10 +2,10 @@
 -- place among them.
 use Rattle.std.specs.Prelude.{◌≡◌, ℕ, ◌≤◌, length, Some}
 use Rattle.jv_meaning_world.specs.World.{World}
-use Rattle.jv_interp_methods.specs.of_link.declared.site.Site.{Site}
-use Rattle.jv_interp_methods.specs.of_link.Seen.{seen_site}
-use Rattle.jv_interp_methods.specs.of_linked.declared.linked.Linked.{Linked}
-use Rattle.jv_interp_methods.specs.of_linked.Linked.{IsLinked}
+use Rattle.jv_linked.specs.of_link.declared.site.Site.{Site}
+use Rattle.jv_linked.specs.of_link.Seen.{seen_site}
+use Rattle.jv_linked.specs.declared.linked.Linked.{Linked}
+use Rattle.jv_linked.specs.Linked.{IsLinked}
 use Rattle.jv_meaning_machine.specs.Effects.{Context}
 use Rattle.jv_interp_memory.specs.SystemNumbers.{IsGuestsWorld}
 

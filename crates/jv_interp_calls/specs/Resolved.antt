@@ -4,22 +4,22 @@ use Rattle.std.specs.Prelude.{◌≡◌, ℕ, ◌<◌, Some, None, Option, Resul
 use Rattle.jv_pool.specs.Constants.{MemberReference}
 use Rattle.jv_meaning_world.specs.World.{World}
 use Rattle.jv_meaning_world.specs.LookUps.{DeclaredField}
-use Rattle.jv_interp_methods.specs.of_lookups.Places.{field_at}
-use Rattle.jv_meaning_linking.specs.Uses.{Site as SiteOfNames}
-use Rattle.jv_meaning_linking.specs.LinkErrors.{LinkError, OrError, error_class}
-use Rattle.jv_meaning_linking.specs.Operands.{MethodReference, field_operand, method_operand}
-use Rattle.jv_meaning_linking.specs.FieldResolution.{resolve_field}
-use Rattle.jv_meaning_linking.specs.MethodResolution.{MethodTarget, resolve_method}
-use Rattle.jv_meaning_linking.specs.Selection.{select}
-use Rattle.jv_interp_methods.specs.of_link.declared.site.Site.{Site}
-use Rattle.jv_interp_methods.specs.of_link.declared.site.Use.{Use}
-use Rattle.jv_interp_methods.specs.of_link.declared.target.MethodTarget.{MethodTarget as TargetByNumber}
-use Rattle.jv_interp_methods.specs.of_link.Seen.{method_target_at, seen_site, seen_use}
-use Rattle.jv_interp_methods.specs.of_link.Objects.{object_class_at}
-use Rattle.jv_interp_methods.specs.of_linked.declared.field_use.FieldUse.{FieldUse}
-use Rattle.jv_interp_methods.specs.of_linked.declared.method_use.MethodUse.{MethodUse}
+use Rattle.jv_linked.specs.of_lookups.Places.{field_at}
+use Rattle.jv_meaning_typing.specs.Uses.{Site as SiteOfNames}
+use Rattle.jv_meaning_typing.specs.LinkErrors.{LinkError, OrError, error_class}
+use Rattle.jv_meaning_typing.specs.Operands.{MethodReference, field_operand, method_operand}
+use Rattle.jv_meaning_typing.specs.FieldResolution.{resolve_field}
+use Rattle.jv_meaning_typing.specs.MethodResolution.{MethodTarget, resolve_method}
+use Rattle.jv_meaning_typing.specs.Selection.{select}
+use Rattle.jv_linked.specs.of_link.declared.site.Site.{Site}
+use Rattle.jv_linked.specs.of_link.declared.site.Use.{Use}
+use Rattle.jv_linked.specs.of_link.declared.target.MethodTarget.{MethodTarget as TargetByNumber}
+use Rattle.jv_linked.specs.of_link.Seen.{method_target_at, seen_site, seen_use}
+use Rattle.jv_linked.specs.of_link.Objects.{object_class_at}
+use Rattle.jv_linked.specs.declared.field_use.FieldUse.{FieldUse}
+use Rattle.jv_linked.specs.declared.method_use.MethodUse.{MethodUse}
 use Rattle.jv_interp_words.specs.FramesInWords.{methods_of}
-use Rattle.jv_interp_objects.specs.ObjectsInBlocks.{HasNumber}
+use Rattle.jv_interp_memory.specs.ObjectsInBlocks.{HasNumber}
 
 -- It is an error, whose class has this number.
 pub record IsErrorOf (world : World) {A : Type 0} (expected : OrError A) (number : ℕ) : Type 0 where

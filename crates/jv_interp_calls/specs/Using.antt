@@ -6,7 +6,7 @@ use Rattle.jv_meaning_machine.specs.State.{Memory}
 use Rattle.jv_meaning_machine.specs.Effects.{Effect as EffectOfNames, Context}
 use Rattle.jv_meaning_machine.specs.Fields.{use_field}
 use Rattle.jv_interp_words.specs.declared.registers.Registers.{Registers}
-use Rattle.jv_interp_objects.specs.ObjectsInBlocks.{Blocks, AreLoadable}
+use Rattle.jv_interp_memory.specs.ObjectsInBlocks.{Blocks, AreLoadable}
 use Rattle.jv_interp_memory.specs.declared.class_state.ClassState.{ClassState}
 use Rattle.jv_interp_memory.specs.ClassStates.{AreClassStates}
 use Rattle.jv_interp_memory.specs.declared.held.Held.{Held}

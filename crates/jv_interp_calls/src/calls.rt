@@ -1,25 +1,25 @@
 //! Calls.
 
 ghost use Rattle.std.specs.Prelude.{◌≡◌};
-ghost use Rattle.jv_interp_methods.specs.of_link.declared.site.Use.TheVariants.{Invokespecial};
-ghost use Rattle.jv_interp_methods.specs.of_linked.Linked.{IsLinked};
-ghost use Rattle.jv_interp_members.specs.of_interp_going.Going.{StaysIn};
-ghost use Rattle.jv_interp_objects.specs.ObjectsInBlocks.{Blocks};
+ghost use Rattle.jv_linked.specs.of_link.declared.site.Use.TheVariants.{Invokespecial};
+ghost use Rattle.jv_linked.specs.Linked.{IsLinked};
+ghost use Rattle.jv_interp_words.specs.Going.{StaysIn};
+ghost use Rattle.jv_interp_memory.specs.ObjectsInBlocks.{Blocks};
 ghost use Rattle.jv_interp_memory.specs.Executing.{IsUnmoved, place};
-ghost use Rattle.jv_interp_methods.specs.Methods.{AreMethods};
+ghost use Rattle.jv_interp_calls.specs.Methods.{AreMethods};
 ghost use Rattle.jv_interp_calls.specs.Known.{known};
 ghost use Rattle.jv_interp_calls.specs.Calling.{IsVirtual, CanCall, Calls, CanCallStatic, CallsStatic};
 
 use crate::host::{HOST_IO, WRITE, read, write};
 use crate::linking::{is_ready, resolved, run};
+use crate::methods::Methods;
 use jv_heap::Store;
 use jv_interp_memory::{ClassState, Effect, Held, NULL_POINTER};
-use jv_interp_methods::Methods;
-use jv_interp_methods::of_link::{Site, Use};
-use jv_interp_methods::of_linked::Linked;
-use jv_interp_methods::of_loader::Classes;
 use jv_interp_words::Registers;
-use jv_meaning_linking::method_is_called;
+use jv_linked::Linked;
+use jv_linked::of_link::{Site, Use};
+use jv_linked::of_loader::Classes;
+use jv_meaning_typing::method_is_called;
 
 /// invokestatic: the method that the constant at an index names is entered, once its class is initialized or being initialized; what
 /// host/Io does is done at once.

@@ -1,16 +1,16 @@
 //! Errors of linking, by the numbers of their classes.
 
 ghost use Rattle.jv_meaning_world.specs.World.{World};
-ghost use Rattle.jv_meaning_linking.specs.LinkErrors.{error_class};
-ghost use Rattle.jv_interp_methods.specs.of_link.Seen.{error_of};
-ghost use Rattle.jv_interp_objects.specs.ObjectsInBlocks.{HasNumber};
+ghost use Rattle.jv_meaning_typing.specs.LinkErrors.{error_class};
+ghost use Rattle.jv_linked.specs.of_link.Seen.{error_of};
+ghost use Rattle.jv_interp_memory.specs.ObjectsInBlocks.{HasNumber};
 ghost use Rattle.jv_interp_memory.specs.SystemNumbers.{IsGuestsWorld};
 
 use jv_interp_memory::{
     ABSTRACT_METHOD, CIRCULARITY, CLASS_CHANGE, ILLEGAL_ACCESS, INSTANTIATION, NO_CLASS, NO_FIELD,
     NO_METHOD, VERIFY, system_has_numbers,
 };
-use jv_interp_methods::of_link::LinkError;
+use jv_linked::of_link::LinkError;
 
 /// The number of the class whose object is thrown where linking ends in an error (JVMS 5.4).
 pub fn number_of_error(error: LinkError) -> u32

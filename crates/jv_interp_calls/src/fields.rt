@@ -4,28 +4,25 @@ ghost use Rattle.std.specs.Prelude.{◌≡◌, List, ℕ, if◌then◌else◌};
 ghost use Rattle.jv_text.specs.declared.descriptor.FieldTypeOf.{FieldTypeOf};
 ghost use Rattle.jv_frames.specs.Types.{value_type, width};
 ghost use Rattle.jv_code.specs.declared.kinds.FieldAccess.TheVariants.{GetStatic, PutStatic, GetField, PutField};
-ghost use Rattle.jv_interp_methods.specs.of_linked.FieldUses.{kind_of};
-ghost use Rattle.jv_interp_methods.specs.of_linked.Linked.{IsLinked};
-ghost use Rattle.jv_interp_members.specs.of_interp_going.Going.{StaysIn};
-ghost use Rattle.jv_interp_objects.specs.Narrowing.{narrowing_of};
-ghost use Rattle.jv_interp_objects.specs.ObjectsInBlocks.{Blocks};
+ghost use Rattle.jv_linked.specs.FieldUses.{kind_of};
+ghost use Rattle.jv_linked.specs.Linked.{IsLinked};
+ghost use Rattle.jv_interp_words.specs.Going.{StaysIn};
+ghost use Rattle.jv_interp_memory.specs.Narrowing.{narrowing_of};
+ghost use Rattle.jv_interp_memory.specs.ObjectsInBlocks.{Blocks};
 ghost use Rattle.jv_interp_memory.specs.Executing.{IsUnmoved, place};
 ghost use Rattle.jv_interp_calls.specs.Known.{known};
 ghost use Rattle.jv_interp_calls.specs.Using.{CanUseField, UsesField, PutsInField, CanUseStatic, UsesStatic};
 
+use crate::instance_fields::{get_field, get_long_field, put_field, put_long_field};
 use crate::linking::{is_ready, used};
+use crate::statics::{get_long_static, get_static, put_long_static, put_static};
 use jv_heap::Store;
-use jv_interp_members::{
-    get_field, get_long_field, get_long_static, get_static, put_field, put_long_field,
-    put_long_static, put_static,
-};
-use jv_interp_memory::{ClassState, Effect, Held};
-use jv_interp_methods::of_link::{Site, Use};
-use jv_interp_methods::of_linked::{FieldKind, Linked};
-use jv_interp_methods::of_loader::Classes;
-use jv_interp_objects::Narrowing;
+use jv_interp_memory::{ClassState, Effect, Held, Narrowing};
 use jv_interp_words::Registers;
-use jv_meaning_linking::field_is_used;
+use jv_linked::of_link::{Site, Use};
+use jv_linked::of_loader::Classes;
+use jv_linked::{FieldKind, Linked};
+use jv_meaning_typing::field_is_used;
 
 /// Whether a field of a kind has two words.
 #[inline(always)]

@@ -4,23 +4,23 @@ ghost use Rattle.std.specs.Prelude.{◌≡◌, IsSome, IfOk, Some, slice_get};
 ghost use Rattle.jv_meaning_machine.specs.State.{ClassState as StateOfNames, ClassStates, class_state, is_ready};
 ghost use Rattle.jv_meaning_world.specs.World.{World, Loaded};
 ghost use Rattle.jv_meaning_world.specs.Numbers.{HoldsAtNumber};
-ghost use Rattle.jv_meaning_linking.specs.Operands.{field_operand, method_operand};
-ghost use Rattle.jv_interp_methods.specs.of_link.Seen.{IsSite, IsMethodTarget};
-ghost use Rattle.jv_interp_methods.specs.of_link.Objects.{IsObject};
-ghost use Rattle.jv_interp_methods.specs.of_linked.Linked.{IsLinked};
-ghost use Rattle.jv_interp_methods.specs.of_linked.FieldUses.{IsFieldUse};
-ghost use Rattle.jv_interp_methods.specs.of_linked.MethodUses.{IsMethodUse};
+ghost use Rattle.jv_meaning_typing.specs.Operands.{field_operand, method_operand};
+ghost use Rattle.jv_linked.specs.of_link.Seen.{IsSite, IsMethodTarget};
+ghost use Rattle.jv_linked.specs.of_link.Objects.{IsObject};
+ghost use Rattle.jv_linked.specs.Linked.{IsLinked};
+ghost use Rattle.jv_linked.specs.FieldUses.{IsFieldUse};
+ghost use Rattle.jv_linked.specs.MethodUses.{IsMethodUse};
 ghost use Rattle.jv_interp_memory.specs.ClassStates.{kept_state, AreClassStates};
 ghost use Rattle.jv_interp_memory.specs.SystemNumbers.{IsGuestsWorld};
-ghost use Rattle.jv_interp_methods.specs.Methods.{AreMethods};
+ghost use Rattle.jv_interp_calls.specs.Methods.{AreMethods};
 ghost use Rattle.jv_interp_calls.specs.Resolved.{IsUsedField, IsResolved, class_number, IsRun};
 
 use crate::errors::number_of_error;
+use crate::methods::Methods;
 use jv_interp_memory::ClassState;
-use jv_interp_methods::Methods;
-use jv_interp_methods::of_link::{MethodTarget, Site, Use};
-use jv_interp_methods::of_linked::{FieldUse, Linked, MethodUse};
-use jv_interp_methods::of_loader::Classes;
+use jv_linked::of_link::{MethodTarget, Site, Use};
+use jv_linked::of_loader::Classes;
+use jv_linked::{FieldUse, Linked, MethodUse};
 
 /// Whether a state is that of a class that is initialized or being initialized.
 #[inline(always)]

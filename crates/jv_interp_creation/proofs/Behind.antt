@@ -7,9 +7,9 @@ use Rattle.jv_heap.proofs.Contents.{words_at-append, below, smaller}
 use Rattle.jv_meaning_world.specs.World.{World}
 use Rattle.jv_meaning_machine.specs.Objects.{Object}
 use Rattle.jv_interp_words.specs.ValuesInWords.{AreAddresses}
-use Rattle.jv_interp_objects.specs.ObjectsInBlocks.{Blocks, ObjectStands, ObjectsStand}
-use Rattle.jv_interp_objects.proofs.Grown.{object_grown}
-use Rattle.jv_interp_objects.proofs.Joined.{get_cases, within, others_stay}
+use Rattle.jv_interp_memory.specs.ObjectsInBlocks.{Blocks, ObjectStands, ObjectsStand}
+use Rattle.jv_interp_memory.proofs.Grown.{object_grown}
+use Rattle.jv_interp_memory.proofs.Joined.{get_cases, within, others_stay}
 use Rattle.jv_interp_memory.specs.Growing.{Grows}
 use Rattle.jv_interp_creation.specs.NestedBlocks.{EachAbove}
 use Rattle.jv_interp_memory.proofs.Growths.{joined_grows, same_grows, then_grows}

@@ -18,7 +18,7 @@ use Rattle.jv_interp_words.specs.FramesInWords.{in_use}
 use Rattle.jv_interp_words.proofs.Gave.{bound_gave}
 use Rattle.jv_interp_words.proofs.Grown.{frame_grown}
 use Rattle.jv_interp_words.proofs.InUse.{in_use_pushed, in_use_two}
-use Rattle.jv_interp_objects.specs.ObjectsInBlocks.{Blocks}
+use Rattle.jv_interp_memory.specs.ObjectsInBlocks.{Blocks}
 use Rattle.jv_interp_memory.specs.declared.held.Held.{Held}
 use Rattle.jv_interp_memory.specs.declared.effect.Effect.TheVariants as effects
 use Rattle.jv_interp_memory.specs.Executing.{Place, place, HasRoom, Did}

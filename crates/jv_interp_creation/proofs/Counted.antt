@@ -29,9 +29,9 @@ use Rattle.jv_interp_words.proofs.Gave.{bound_gave, int_gave}
 use Rattle.jv_interp_words.proofs.Taken.{taken_gave}
 use Rattle.jv_interp_words.proofs.Grown.{frame_grown}
 use Rattle.jv_interp_words.proofs.InUse.{in_use_top, in_use_pushed}
-use Rattle.jv_interp_objects.specs.ObjectsInBlocks.{Blocks, HasNumber}
-use Rattle.jv_interp_objects.proofs.NewObjects.{array_joined}
-use Rattle.jv_interp_objects.specs.NewBlocks.{Joins}
+use Rattle.jv_interp_memory.specs.ObjectsInBlocks.{Blocks, HasNumber}
+use Rattle.jv_interp_memory.proofs.NewObjects.{array_joined}
+use Rattle.jv_interp_memory.specs.NewBlocks.{Joins}
 use Rattle.jv_interp_memory.specs.declared.effect.Effect.TheVariants as effects
 use Rattle.jv_interp_memory.specs.Executing.{Place, place}
 use Rattle.jv_interp_memory.specs.Growing.{DidIn}

@@ -1,7 +1,7 @@
 -- `new` on words: what the machine does stands afterwards.
 use Rattle.std.proofs.Common.{◌≡◌, ℕ, ◌+◌, ◌-◌, ◌<◌, ◌≤◌, false, List, [], ◌∷◌, ◌++◌, length, replicate, set, refl, sym, ap, subst, ◌∙◌, arith}
 use Rattle.jv_meaning_world.specs.World.{Loaded}
-use Rattle.jv_meaning_machine.specs.of_meaning_linking.Layout.{object_cells}
+use Rattle.jv_meaning_typing.specs.Layout.{object_cells}
 use Rattle.jv_meaning_machine.specs.Values.Value.{Reference}
 use Rattle.jv_meaning_machine.specs.Objects.{new_object}
 use Rattle.jv_meaning_machine.specs.State.{Memory}
@@ -13,8 +13,8 @@ use Rattle.jv_interp_words.specs.declared.registers.Registers.{Registers}
 use Rattle.jv_interp_words.specs.FramesInWords.{in_use}
 use Rattle.jv_interp_words.proofs.Grown.{frame_grown}
 use Rattle.jv_interp_words.proofs.InUse.{in_use_pushed}
-use Rattle.jv_interp_objects.specs.ObjectsInBlocks.{Blocks}
-use Rattle.jv_interp_objects.proofs.NewObjects.{instance_joined}
+use Rattle.jv_interp_memory.specs.ObjectsInBlocks.{Blocks}
+use Rattle.jv_interp_memory.proofs.NewObjects.{instance_joined}
 use Rattle.jv_interp_memory.specs.declared.effect.Effect.TheVariants as effects
 use Rattle.jv_interp_memory.specs.Executing.{Place, place, HasRoom}
 use Rattle.jv_interp_memory.specs.Growing.{DidIn}

@@ -8,9 +8,9 @@ use Rattle.std.proofs.Math.Seq.{set-append_seam}
 use Rattle.jv_heap.specs.Content.{words_at, written}
 use Rattle.jv_text.specs.Text.{text_bytes, is_unit, Spells}
 use Rattle.jv_text.proofs.Texts.{one_unit, length-unit_bytes}
-use Rattle.jv_interp_objects.specs.ObjectsInBlocks.{Blocks}
-use Rattle.jv_interp_objects.specs.NewBlocks.{Joins}
-use Rattle.jv_interp_objects.proofs.NewWords.{joined_length, then_written}
+use Rattle.jv_interp_memory.specs.ObjectsInBlocks.{Blocks}
+use Rattle.jv_interp_memory.specs.NewBlocks.{Joins}
+use Rattle.jv_interp_memory.proofs.NewWords.{joined_length, then_written}
 use Rattle.jv_interp_creation.specs.Units.{begins_unit, IsSomeText, BeginsWithUnit}
 use Rattle.jv_interp_creation.specs.TextBlocks.{Fills}
 use Rattle.jv_interp_creation.proofs.Spelled.{unit_fits, counted}

@@ -4,7 +4,7 @@ use Rattle.std.proofs.lemmas.List.{length-replicate}
 use Rattle.std.proofs.Math.Nat.{mul-le-mul_left}
 use Rattle.jv_heap.specs.Content.{greatest}
 use Rattle.jv_heap.proofs.LookUps.{greatest-append_above}
-use Rattle.jv_interp_objects.specs.ObjectsInBlocks.{Blocks}
+use Rattle.jv_interp_memory.specs.ObjectsInBlocks.{Blocks}
 use Rattle.jv_interp_creation.specs.NestedBlocks.{nested_cost, outer_slots, inner_size, Follow, AreNested, EachAbove}
 
 -- ---- counts

@@ -1,7 +1,7 @@
 -- Where cells are not left for what is to be made, nothing has changed.
 use Rattle.std.proofs.Common.{◌≡◌, ℕ, List, refl}
 use Rattle.jv_interp_words.specs.declared.registers.Registers.{Registers}
-use Rattle.jv_interp_objects.specs.ObjectsInBlocks.{Blocks}
+use Rattle.jv_interp_memory.specs.ObjectsInBlocks.{Blocks}
 use Rattle.jv_interp_memory.specs.declared.held.Held.{Held}
 use Rattle.jv_interp_memory.specs.Executing.{place}
 use Rattle.jv_interp_creation.specs.Payments.{IsLacking}

@@ -1,3 +1,6 @@
+pub mod Components
+pub mod Length
+pub mod Loaded
 pub mod More
 pub mod Went
 pub mod Lacking
@@ -20,4 +23,19 @@ pub mod ManyMade
 pub mod Thrice
 pub mod StoredIn
 pub mod StoredThere
-pub use Rattle.jv_interp_arrays.proofs as laws_of_interp_arrays
+pub mod ClassNumbers
+pub mod ElementNumbers
+pub mod TypeWords
+pub mod NamedTypes
+pub mod NewClasses
+pub mod TopReference
+pub mod Asked
+pub mod Thrown
+pub mod TakesArray
+pub mod StoredReference
+pub mod Stays
+pub mod ObjectMade
+pub mod ArraySlots
+pub mod NoFloatingArrays
+pub mod ArraysMade
+pub use Rattle.jv_interp_calls.proofs as laws_of_interp_calls

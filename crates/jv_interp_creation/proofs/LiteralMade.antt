@@ -12,7 +12,7 @@ use Rattle.jv_text.specs.declared.descriptor.Base.TheVariants as bases
 use Rattle.jv_text.specs.Text.{is_unit, Spells, IsText}
 use Rattle.jv_meaning_world.specs.World.{Loaded, World, class_named}
 use Rattle.jv_meaning_world.specs.LookUps.{DeclaredField}
-use Rattle.jv_meaning_machine.specs.of_meaning_linking.Layout.{instance_fields, field_words, object_words}
+use Rattle.jv_meaning_typing.specs.Layout.{instance_fields, field_words, object_words}
 use Rattle.jv_meaning_machine.specs.Faults.{OrFault, found, ◌>>=◌}
 use Rattle.jv_meaning_machine.specs.Faults.Fault.{OffsetFault, ReferenceFault}
 use Rattle.jv_meaning_machine.specs.Values.Value.{Reference}
@@ -25,11 +25,11 @@ use Rattle.jv_meaning_machine.specs.Effects.{out_of_memory}
 use Rattle.jv_meaning_machine.specs.Arrays.{base_components}
 use Rattle.jv_meaning_machine.specs.Literals.{string_name, string_value, char_of, chars_of, string_with, literal_in, literal_made, literal_cells, literal_or_new}
 use Rattle.jv_interp_words.proofs.Gave.{bound_gave, found_gave}
-use Rattle.jv_interp_objects.specs.ObjectsInBlocks.{Blocks, AreFields, AreComponents, HasNumber, IsArrayWord, ObjectStands, ObjectsStand}
-use Rattle.jv_interp_objects.proofs.Grown.{get_more, fields_grown}
-use Rattle.jv_interp_objects.proofs.Joined.{within, object_joined}
-use Rattle.jv_interp_objects.proofs.Changed.{Changes, word_written, object_changed}
-use Rattle.jv_interp_objects.proofs.NewObjects.{instance_joined}
+use Rattle.jv_interp_memory.specs.ObjectsInBlocks.{Blocks, AreFields, AreComponents, HasNumber, IsArrayWord, ObjectStands, ObjectsStand}
+use Rattle.jv_interp_memory.proofs.Grown.{get_more, fields_grown}
+use Rattle.jv_interp_memory.proofs.Joined.{within, object_joined}
+use Rattle.jv_interp_memory.proofs.Changed.{Changes, word_written, object_changed}
+use Rattle.jv_interp_memory.proofs.NewObjects.{instance_joined}
 use Rattle.jv_interp_memory.specs.declared.held.Held.{Held}
 use Rattle.jv_interp_memory.specs.HeldInWords.{static_fields, IsLiteral, AreLiterals, MemoryStands}
 use Rattle.jv_interp_memory.specs.Growing.{Grows}

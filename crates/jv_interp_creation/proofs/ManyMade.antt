@@ -22,7 +22,7 @@ use Rattle.jv_interp_words.proofs.Gave.{bound_gave}
 use Rattle.jv_interp_words.proofs.Taken.{all_taken}
 use Rattle.jv_interp_words.proofs.Grown.{frame_grown}
 use Rattle.jv_interp_words.proofs.InUse.{in_use_pushed}
-use Rattle.jv_interp_objects.specs.ObjectsInBlocks.{Blocks, HasNumber, ObjectsStand}
+use Rattle.jv_interp_memory.specs.ObjectsInBlocks.{Blocks, HasNumber, ObjectsStand}
 use Rattle.jv_interp_memory.specs.declared.effect.Effect.TheVariants as effects
 use Rattle.jv_interp_memory.specs.Executing.{Place, place}
 use Rattle.jv_interp_memory.specs.Growing.{Grows, DidIn}

@@ -6,8 +6,8 @@ use Rattle.jv_meaning_machine.specs.Objects.{Object}
 use Rattle.jv_meaning_machine.specs.State.{Memory}
 use Rattle.jv_meaning_machine.specs.Initialization.{main_arguments}
 use Rattle.jv_meaning_machine.specs.Effects.{out_of_memory}
-use Rattle.jv_interp_objects.specs.ObjectsInBlocks.{Blocks, ObjectsStand}
-use Rattle.jv_interp_objects.proofs.Grown.{get_more, fields_grown}
+use Rattle.jv_interp_memory.specs.ObjectsInBlocks.{Blocks, ObjectsStand}
+use Rattle.jv_interp_memory.proofs.Grown.{get_more, fields_grown}
 use Rattle.jv_interp_memory.specs.declared.held.Held.{Held}
 use Rattle.jv_interp_memory.specs.HeldInWords.{static_fields, IsLiteral, AreLiterals, MemoryStands}
 

@@ -14,8 +14,8 @@ use Rattle.jv_meaning_machine.specs.Objects.{Object, new_array}
 use Rattle.jv_meaning_machine.specs.Objects.Object.{ArrayWith}
 use Rattle.jv_meaning_machine.specs.Costs.{arrays_cells}
 use Rattle.jv_meaning_machine.specs.Arrays.{arrays_in, inner_numbers, reference_to, arrays_made}
-use Rattle.jv_interp_objects.specs.ObjectsInBlocks.{Blocks, AreComponents, IsArrayWord, ObjectStands}
-use Rattle.jv_interp_objects.proofs.NewObjects.{components_begin}
+use Rattle.jv_interp_memory.specs.ObjectsInBlocks.{Blocks, AreComponents, IsArrayWord, ObjectStands}
+use Rattle.jv_interp_memory.proofs.NewObjects.{components_begin}
 use Rattle.jv_interp_creation.specs.NestedBlocks.{nested_cost, Follow, AreNested}
 use Rattle.jv_interp_creation.specs.NestedArrays.{AreCounts, HoldsArrays}
 use Rattle.jv_interp_creation.proofs.Behind.{addresses_in, EachStands}

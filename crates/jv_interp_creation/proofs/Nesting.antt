@@ -4,8 +4,8 @@ use Rattle.std.proofs.Math.Seq.{set-append_seam}
 use Rattle.std.proofs.lemmas.List.{length-replicate}
 use Rattle.jv_heap.specs.Content.{words_at, greatest, written}
 use Rattle.jv_heap.proofs.LookUps.{greatest-append_above}
-use Rattle.jv_interp_objects.specs.ObjectsInBlocks.{Blocks}
-use Rattle.jv_interp_objects.specs.NewBlocks.{Joins}
+use Rattle.jv_interp_memory.specs.ObjectsInBlocks.{Blocks}
+use Rattle.jv_interp_memory.specs.NewBlocks.{Joins}
 use Rattle.jv_interp_creation.specs.NestedBlocks.{outer_slots, inner_size, Follow, AreNested, EachAbove, NestedJoin, HasInner, CanTakeInner, TakesInner}
 use Rattle.jv_interp_creation.proofs.Behind.{above_both, own_words, own_written}
 use Rattle.jv_interp_creation.proofs.Following.{first_of, above_as, follow_last, closed}

@@ -12,7 +12,7 @@ use Rattle.jv_text.specs.declared.descriptor.FieldTypeOf.{FieldTypeOf}
 use Rattle.jv_frames.specs.Types.{FrameType, value_type, width}
 use Rattle.jv_code.specs.declared.kinds.NumberElement.{NumberElement}
 use Rattle.jv_meaning_world.specs.World.{World}
-use Rattle.jv_meaning_machine.specs.of_meaning_typing.NumberRules.{element_number}
+use Rattle.jv_meaning_typing.specs.NumberRules.{element_number}
 use Rattle.jv_meaning_machine.specs.Values.{Value, value_words, has_type, narrowed, narrowed_by}
 use Rattle.jv_meaning_machine.specs.Values.Value.{Int, Long, Null, Reference, Half, Unset}
 use Rattle.jv_meaning_machine.specs.Objects.Object.{ArrayWith}
@@ -25,14 +25,14 @@ use Rattle.jv_interp_words.specs.declared.registers.Registers.{Registers}
 use Rattle.jv_interp_words.specs.ValuesInWords.{IsOnTop}
 use Rattle.jv_interp_words.specs.FramesInWords.{in_use, FrameStands}
 use Rattle.jv_interp_words.proofs.InUse.{in_use_top, length-in_use}
-use Rattle.jv_interp_objects.specs.declared.narrowing.Narrowing.{Narrowing}
-use Rattle.jv_interp_objects.specs.ObjectsInBlocks.{Blocks, IsIn, HasNumber, IsArrayWord, ObjectStands, ArrayStands}
-use Rattle.jv_interp_objects.specs.Narrowing.{Narrows}
-use Rattle.jv_interp_objects.proofs.Fields.{own_length}
-use Rattle.jv_interp_objects.proofs.Carried.{word_taken, long_taken, one_own, two_own}
-use Rattle.jv_interp_objects.proofs.Components.{StandsAmong, component_stands, components_length}
-use Rattle.jv_interp_objects.proofs.Changed.{Changes, word_written, then_changed, object_changed}
-use Rattle.jv_interp_objects.proofs.Widths.{typed_words}
+use Rattle.jv_interp_memory.specs.declared.narrowing.Narrowing.{Narrowing}
+use Rattle.jv_interp_memory.specs.ObjectsInBlocks.{Blocks, IsIn, HasNumber, IsArrayWord, ObjectStands, ArrayStands}
+use Rattle.jv_interp_memory.specs.Narrowing.{Narrows}
+use Rattle.jv_interp_memory.proofs.Fields.{own_length}
+use Rattle.jv_interp_memory.proofs.Carried.{word_taken, long_taken, one_own, two_own}
+use Rattle.jv_interp_memory.proofs.Components.{StandsAmong, component_stands, components_length}
+use Rattle.jv_interp_memory.proofs.Changed.{Changes, word_written, then_changed, object_changed}
+use Rattle.jv_interp_memory.proofs.Widths.{typed_words}
 use Rattle.jv_interp_memory.specs.declared.effect.Effect.TheVariants as effects
 use Rattle.jv_interp_memory.specs.EffectsInWords.{EffectStands}
 use Rattle.jv_interp_memory.specs.Executing.{Place, place}
@@ -42,7 +42,7 @@ use Rattle.jv_interp_memory.proofs.Numbered.{system_numbers}
 use Rattle.jv_interp_memory.proofs.Popped.{Popped, frame_popped, some_used, null_word, reference_word, not_zero}
 use Rattle.jv_interp_memory.proofs.Growths.{changed_grows}
 use Rattle.jv_interp_memory.proofs.Raised.{raised_in}
-use Rattle.jv_interp_arrays.proofs.Loaded.{index_within, index_outside}
+use Rattle.jv_interp_creation.proofs.Loaded.{index_within, index_outside}
 use Rattle.jv_interp_creation.specs.Stores.{Storing, NarrowsBy}
 use Rattle.jv_interp_creation.proofs.Went.{done_same}
 use Rattle.jv_interp_creation.proofs.Thrice.{TakesThree, takes_three, StoreOf, store_of, held_type}

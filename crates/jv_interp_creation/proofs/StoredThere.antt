@@ -6,9 +6,9 @@ use Rattle.jv_meaning_machine.specs.State.{Memory}
 use Rattle.jv_meaning_machine.specs.Values.{Value, narrowed}
 use Rattle.jv_meaning_machine.specs.Effects.{Effect, Context}
 use Rattle.jv_interp_words.specs.declared.registers.Registers.{Registers}
-use Rattle.jv_interp_objects.specs.declared.narrowing.Narrowing.{Narrowing}
-use Rattle.jv_interp_objects.specs.ObjectsInBlocks.{Blocks, IsIn}
-use Rattle.jv_interp_objects.specs.Narrowing.{Narrows}
+use Rattle.jv_interp_memory.specs.declared.narrowing.Narrowing.{Narrowing}
+use Rattle.jv_interp_memory.specs.ObjectsInBlocks.{Blocks, IsIn}
+use Rattle.jv_interp_memory.specs.Narrowing.{Narrows}
 use Rattle.jv_interp_memory.specs.declared.effect.Effect.TheVariants as effects
 use Rattle.jv_interp_memory.specs.Executing.{Place, place}
 use Rattle.jv_interp_memory.specs.Growing.{DidIn}

@@ -4,7 +4,7 @@ use Rattle.jv_meaning_world.specs.FileContent.{FileContent}
 use Rattle.jv_meaning_world.specs.System.Classes.{system_classes}
 use Rattle.jv_meaning_world.specs.World.{Loaded, World, class_named, world_of}
 use Rattle.jv_meaning_world.specs.LookUps.{DeclaredField}
-use Rattle.jv_meaning_machine.specs.of_meaning_linking.Layout.{instance_fields, field_words}
+use Rattle.jv_meaning_typing.specs.Layout.{instance_fields, field_words}
 use Rattle.jv_meaning_machine.specs.Objects.{key_of, same_key}
 use Rattle.jv_meaning_machine.specs.Literals.{string_name, string_value}
 

@@ -3,8 +3,8 @@ use Rattle.std.proofs.Common.{◌≡◌, ℕ, suc, ◌+◌, ◌-◌, ◌*◌, �
 use Rattle.std.proofs.Math.Seq.{get_or-append_seam}
 use Rattle.std.proofs.lemmas.List.{nil_from_length}
 use Rattle.jv_heap.specs.Content.{words_at}
-use Rattle.jv_interp_objects.specs.ObjectsInBlocks.{Blocks}
-use Rattle.jv_interp_objects.specs.NewBlocks.{Joins}
+use Rattle.jv_interp_memory.specs.ObjectsInBlocks.{Blocks}
+use Rattle.jv_interp_memory.specs.NewBlocks.{Joins}
 use Rattle.jv_interp_creation.specs.NestedBlocks.{outer_slots, inner_size, Follow, AreNested, EachAbove, HasInner, CanTakeInner, TakesInner}
 use Rattle.jv_interp_creation.proofs.Behind.{above_front, above_behind, own_words}
 use Rattle.jv_interp_creation.proofs.Following.{first_of, LastOf, follow_split, LastAt, last_at, Opened, opened}

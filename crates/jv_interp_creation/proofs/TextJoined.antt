@@ -4,10 +4,10 @@ use Rattle.jv_heap.specs.Content.{words_at, greatest, written, without}
 use Rattle.jv_heap.proofs.LookUps.{greatest-append_above}
 use Rattle.jv_heap.proofs.Contents.{without-append}
 use Rattle.jv_text.specs.Text.{Spells, IsText}
-use Rattle.jv_interp_objects.specs.ObjectsInBlocks.{Blocks}
-use Rattle.jv_interp_objects.specs.NewBlocks.{Joins}
-use Rattle.jv_interp_objects.proofs.Joined.{others_stay}
-use Rattle.jv_interp_objects.proofs.NewWords.{joined_words}
+use Rattle.jv_interp_memory.specs.ObjectsInBlocks.{Blocks}
+use Rattle.jv_interp_memory.specs.NewBlocks.{Joins}
+use Rattle.jv_interp_memory.proofs.Joined.{others_stay}
+use Rattle.jv_interp_memory.proofs.NewWords.{joined_words}
 use Rattle.jv_interp_creation.specs.Units.{HasUnits}
 use Rattle.jv_interp_creation.specs.TextBlocks.{CanFill, Fills, JoinsText}
 

@@ -9,8 +9,8 @@ use Rattle.jv_frames.specs.declared.verification.VerificationTypeOf.TheVariants 
 use Rattle.jv_frames.specs.Types.{FrameType, value_type, value_type_by, primitive_type}
 use Rattle.jv_code.specs.declared.kinds.NumberElement.{NumberElement}
 use Rattle.jv_code.specs.declared.kinds.NumberElement.TheVariants as numbers
-use Rattle.jv_meaning_machine.specs.of_meaning_typing.Named.{object_class_type}
-use Rattle.jv_meaning_machine.specs.of_meaning_typing.NumberRules.{element_number}
+use Rattle.jv_meaning_typing.specs.Named.{object_class_type}
+use Rattle.jv_meaning_typing.specs.NumberRules.{element_number}
 use Rattle.jv_meaning_machine.specs.Faults.{OrFault, tested, ◌>>=◌}
 use Rattle.jv_meaning_machine.specs.Faults.Fault.{ReferenceFault, ConstructionFault, TagFault}
 use Rattle.jv_meaning_machine.specs.Values.{Value, has_type}
@@ -24,7 +24,7 @@ use Rattle.jv_meaning_machine.specs.Arithmetic.{as_int}
 use Rattle.jv_meaning_machine.specs.Arrays.{Components, array_in, holds_base, holds_by, holds_numbers, at_place, store_at, store_number, store_component}
 use Rattle.jv_interp_words.proofs.Gave.{bound_gave, tested_gave, int_gave}
 use Rattle.jv_interp_words.proofs.Taken.{taken_gave}
-use Rattle.jv_interp_arrays.proofs.Loaded.{array_there}
+use Rattle.jv_interp_creation.proofs.Loaded.{array_there}
 
 -- ---- what is taken as of a type is of it
 

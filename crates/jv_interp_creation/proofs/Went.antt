@@ -10,8 +10,8 @@ use Rattle.jv_meaning_machine.specs.Effects.Effect.{Goes, Throws, Raises}
 use Rattle.jv_interp_words.specs.declared.registers.Registers.{Registers}
 use Rattle.jv_interp_words.specs.FramesInWords.{in_use, FrameStands}
 use Rattle.jv_interp_words.proofs.InUse.{length-in_use}
-use Rattle.jv_interp_arrays.proofs.laws_of_interp_going.FramesStand.{frame_length}
-use Rattle.jv_interp_objects.specs.ObjectsInBlocks.{Blocks, HasNumber}
+use Rattle.jv_interp_words.proofs.FramesStand.{frame_length}
+use Rattle.jv_interp_memory.specs.ObjectsInBlocks.{Blocks, HasNumber}
 use Rattle.jv_interp_memory.specs.declared.held.Held.{Held}
 use Rattle.jv_interp_memory.specs.declared.effect.Effect.TheVariants as effects
 use Rattle.jv_interp_memory.specs.EffectsInWords.{EffectStands}

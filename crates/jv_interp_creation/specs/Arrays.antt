@@ -15,7 +15,7 @@ use Rattle.jv_meaning_machine.specs.Arithmetic.{as_int}
 use Rattle.jv_meaning_machine.specs.Arrays.{make_array, base_of, base_components}
 use Rattle.jv_meaning_machine.specs.Instructions.{execute}
 use Rattle.jv_interp_words.specs.declared.registers.Registers.{Registers}
-use Rattle.jv_interp_objects.specs.ObjectsInBlocks.{Blocks, IsArrayWord}
+use Rattle.jv_interp_memory.specs.ObjectsInBlocks.{Blocks, IsArrayWord}
 use Rattle.jv_interp_memory.specs.declared.held.Held.{Held}
 use Rattle.jv_interp_memory.specs.declared.effect.Effect.{Effect}
 use Rattle.jv_interp_memory.specs.Executing.{Place, place, Executes}

@@ -12,7 +12,7 @@ use Rattle.jv_meaning_machine.specs.Faults.{OrFault}
 use Rattle.jv_meaning_machine.specs.Literals.{pool_at, pushed_constant, push_constant, push_long_constant}
 use Rattle.jv_interp_words.specs.declared.registers.Registers.{Registers}
 use Rattle.jv_interp_words.specs.ValuesInWords.{long_of}
-use Rattle.jv_interp_objects.specs.ObjectsInBlocks.{Blocks}
+use Rattle.jv_interp_memory.specs.ObjectsInBlocks.{Blocks}
 use Rattle.jv_interp_memory.specs.declared.held.Held.{Held}
 use Rattle.jv_interp_memory.specs.declared.effect.Effect.{Effect}
 use Rattle.jv_interp_memory.specs.Executing.{Place, place, Executes, HasRoom, Did}

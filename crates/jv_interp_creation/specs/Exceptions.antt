@@ -2,7 +2,7 @@
 use Rattle.std.specs.Prelude.{◌≡◌, ℕ, List, ◌++◌, Some, slice_get}
 use Rattle.jv_meaning_world.specs.World.{World}
 use Rattle.jv_meaning_machine.specs.State.{Memory}
-use Rattle.jv_interp_objects.specs.ObjectsInBlocks.{Blocks}
+use Rattle.jv_interp_memory.specs.ObjectsInBlocks.{Blocks}
 use Rattle.jv_interp_memory.specs.declared.held.Held.{Held}
 use Rattle.jv_interp_memory.specs.HeldInWords.{MemoryStands}
 use Rattle.jv_interp_memory.specs.Growing.{Grows}

@@ -1,3 +1,4 @@
+pub mod Loads
 pub mod Payments
 pub mod Exceptions
 pub mod Objects
@@ -9,5 +10,13 @@ pub mod Constants
 pub mod NestedBlocks
 pub mod NestedArrays
 pub mod Stores
-pub use Rattle.jv_interp_arrays.specs as of_interp_arrays
-pub use Rattle.jv_interp_arrays.specs.of_interp_going
+pub mod Types
+pub mod Named
+pub mod Asking
+pub mod Throwing
+pub mod Storing
+pub mod Making
+pub mod Inside
+pub use Rattle.jv_interp_calls.specs as of_interp_calls
+pub use Rattle.jv_interp_calls.specs.of_link
+pub use Rattle.jv_interp_calls.specs.of_linked

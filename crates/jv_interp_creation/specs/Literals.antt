@@ -4,7 +4,7 @@ use Rattle.jv_meaning_world.specs.World.{World}
 use Rattle.jv_meaning_machine.specs.Alone.{AreUnits}
 use Rattle.jv_meaning_machine.specs.Literals.{literal}
 use Rattle.jv_meaning_machine.specs.State.{Program, Memory}
-use Rattle.jv_interp_objects.specs.ObjectsInBlocks.{Blocks}
+use Rattle.jv_interp_memory.specs.ObjectsInBlocks.{Blocks}
 use Rattle.jv_interp_memory.specs.declared.held.Held.{Held}
 use Rattle.jv_interp_memory.specs.HeldInWords.{MemoryStands}
 use Rattle.jv_interp_memory.specs.SystemNumbers.{IsGuestsWorld}

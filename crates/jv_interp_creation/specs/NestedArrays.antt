@@ -11,7 +11,7 @@ use Rattle.jv_meaning_machine.specs.Operands.{taken}
 use Rattle.jv_meaning_machine.specs.Effects.{Effect as EffectOfNames, Context, Outcome}
 use Rattle.jv_meaning_machine.specs.Arrays.{make_arrays}
 use Rattle.jv_interp_words.specs.declared.registers.Registers.{Registers}
-use Rattle.jv_interp_objects.specs.ObjectsInBlocks.{Blocks, IsArrayWord}
+use Rattle.jv_interp_memory.specs.ObjectsInBlocks.{Blocks, IsArrayWord}
 use Rattle.jv_interp_memory.specs.declared.held.Held.{Held}
 use Rattle.jv_interp_memory.specs.declared.effect.Effect.{Effect}
 use Rattle.jv_interp_memory.specs.Executing.{Place, place, Executes}

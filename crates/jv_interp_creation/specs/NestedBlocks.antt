@@ -2,7 +2,7 @@
 -- after the other.
 use Rattle.std.specs.Prelude.{◌≡◌, ℕ, ◌+◌, ◌-◌, ◌*◌, ◌<◌, ⊤, List, [], ◌∷◌, ◌++◌, length, replicate}
 use Rattle.jv_heap.specs.Content.{greatest}
-use Rattle.jv_interp_objects.specs.ObjectsInBlocks.{Blocks}
+use Rattle.jv_interp_memory.specs.ObjectsInBlocks.{Blocks}
 
 -- ---- what arrays with these counts cost, the outer one's first, where each component of the innermost has so many words
 

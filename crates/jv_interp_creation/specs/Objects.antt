@@ -1,13 +1,13 @@
 -- New objects in words (JVMS 6.5, new), once the class is known and initialized or being initialized.
 use Rattle.std.specs.Prelude.{◌≡◌, ℕ, List, Some, length, slice_get}
 use Rattle.jv_meaning_world.specs.World.{Loaded, class_named}
-use Rattle.jv_meaning_machine.specs.of_meaning_linking.Layout.{object_words, object_cells}
+use Rattle.jv_meaning_typing.specs.Layout.{object_words, object_cells}
 use Rattle.jv_meaning_machine.specs.State.{Memory}
 use Rattle.jv_meaning_machine.specs.Costs.{paid}
 use Rattle.jv_meaning_machine.specs.Effects.{Effect as EffectOfNames, Context, Outcome, world_at}
 use Rattle.jv_meaning_machine.specs.Instructions.{push_object}
 use Rattle.jv_interp_words.specs.declared.registers.Registers.{Registers}
-use Rattle.jv_interp_objects.specs.ObjectsInBlocks.{Blocks}
+use Rattle.jv_interp_memory.specs.ObjectsInBlocks.{Blocks}
 use Rattle.jv_interp_memory.specs.declared.held.Held.{Held}
 use Rattle.jv_interp_memory.specs.declared.effect.Effect.{Effect}
 use Rattle.jv_interp_memory.specs.Executing.{Place, place, Executes, HasRoom}

@@ -1,7 +1,7 @@
 -- New blocks, paid from the cells that are left to a guest (own): one for each word.
 use Rattle.std.specs.Prelude.{◌≡◌, ℕ, ◌+◌, ◌<◌, List, Option, Some, None}
-use Rattle.jv_interp_objects.specs.ObjectsInBlocks.{Blocks}
-use Rattle.jv_interp_objects.specs.NewBlocks.{Joins}
+use Rattle.jv_interp_memory.specs.ObjectsInBlocks.{Blocks}
+use Rattle.jv_interp_memory.specs.NewBlocks.{Joins}
 
 -- The cells are not left, and nothing changes.
 pub record IsLacking (cost cells cells_after : ℕ) (before after : Blocks) : Type 0 where

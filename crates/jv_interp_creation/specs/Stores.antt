@@ -6,14 +6,14 @@ use Rattle.jv_code.specs.declared.kinds.NumberElement.{NumberElement}
 use Rattle.jv_code.specs.declared.kinds.NumberElement.TheVariants as numbers
 use Rattle.jv_heap.specs.Content.{words_at}
 use Rattle.jv_meaning_world.specs.World.{World}
-use Rattle.jv_meaning_machine.specs.of_meaning_typing.NumberRules.{element_number}
+use Rattle.jv_meaning_typing.specs.NumberRules.{element_number}
 use Rattle.jv_meaning_machine.specs.State.{Memory}
 use Rattle.jv_meaning_machine.specs.Effects.{Effect as EffectOfNames, Context}
 use Rattle.jv_meaning_machine.specs.Arrays.{holds_numbers, store_component}
 use Rattle.jv_interp_words.specs.declared.registers.Registers.{Registers}
-use Rattle.jv_interp_objects.specs.ObjectsInBlocks.{Blocks, IsArrayWord}
-use Rattle.jv_interp_objects.specs.declared.narrowing.Narrowing.{Narrowing}
-use Rattle.jv_interp_objects.specs.Narrowing.{narrowing_of}
+use Rattle.jv_interp_memory.specs.ObjectsInBlocks.{Blocks, IsArrayWord}
+use Rattle.jv_interp_memory.specs.declared.narrowing.Narrowing.{Narrowing}
+use Rattle.jv_interp_memory.specs.Narrowing.{narrowing_of}
 use Rattle.jv_interp_memory.specs.declared.held.Held.{Held}
 use Rattle.jv_interp_memory.specs.declared.effect.Effect.{Effect}
 use Rattle.jv_interp_memory.specs.Executing.{Place, place, Executes}

@@ -2,8 +2,8 @@
 use Rattle.std.specs.Prelude.{◌≡◌, ℕ, ◌+◌, List, [], ◌∷◌, Option, Some, None, length, replicate}
 use Rattle.jv_heap.specs.Content.{written}
 use Rattle.jv_text.specs.Text.{Spells}
-use Rattle.jv_interp_objects.specs.ObjectsInBlocks.{Blocks}
-use Rattle.jv_interp_objects.specs.NewBlocks.{Joins}
+use Rattle.jv_interp_memory.specs.ObjectsInBlocks.{Blocks}
+use Rattle.jv_interp_memory.specs.NewBlocks.{Joins}
 use Rattle.jv_interp_memory.specs.declared.numbers.TheConstants.{STRING}
 use Rattle.jv_interp_creation.specs.declared.units.TheConstants.{CHARS}
 use Rattle.jv_interp_creation.specs.Payments.{IsLacking}

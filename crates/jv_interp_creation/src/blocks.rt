@@ -1,7 +1,7 @@
 //! Blocks of new objects, which are paid for.
 
 ghost use Rattle.std.specs.Prelude.{◌≡◌, ◌+◌, ◌*◌, ◌<◌, ◌≤◌, [], ◌∷◌, replicate, IfOk, IsOk, IsTrue, OnOk, OnErr};
-ghost use Rattle.jv_interp_objects.specs.NewBlocks.{Joins};
+ghost use Rattle.jv_interp_memory.specs.NewBlocks.{Joins};
 ghost use Rattle.jv_interp_creation.specs.Payments.{IsPaid};
 
 use jv_heap::{Memory, Store};

@@ -1,8 +1,8 @@
 //! Constants that are pushed.
 
 ghost use Rattle.std.specs.Prelude.{◌≡◌, ◌+◌, ◌<◌, ◌≤◌, length, IfOk, IsOk, IsTrue, OnOk, OnErr};
-ghost use Rattle.jv_interp_arrays.specs.of_interp_going.Going.{StaysIn};
-ghost use Rattle.jv_interp_objects.specs.ObjectsInBlocks.{Blocks};
+ghost use Rattle.jv_interp_words.specs.Going.{StaysIn};
+ghost use Rattle.jv_interp_memory.specs.ObjectsInBlocks.{Blocks};
 ghost use Rattle.jv_interp_memory.specs.Executing.{IsUnmoved, place};
 ghost use Rattle.jv_interp_memory.specs.declared.held.Held.{Held};
 ghost use Rattle.jv_interp_creation.specs.Constants.{CanPushInt, PushesInt, CanPushLong, PushesLong, CanPushString, PushesString};

@@ -1,27 +1,40 @@
-//! Objects and arrays that are made, and numbers that are stored in arrays, in words (JVMS 6.5: new, newarray, anewarray,
-//! multianewarray, ldc, ldc2_w, iastore and its kin; 2.10, 5.1). A room of `jv_interp`.
+//! Objects and arrays that are made, read and stored in, in words (JVMS 6.5: new, newarray, anewarray, multianewarray, ldc, ldc2_w,
+//! arraylength, iaload, iastore and their kin; 2.10, 5.1); and what class or array type an object is (instanceof, checkcast, athrow,
+//! aastore). A room of `jv_interp`.
 #![tactic(auto)]
 
 mod arrays;
+mod asking;
 mod blocks;
 mod constants;
 mod literals;
+mod loads;
+mod making;
 mod multiple;
+mod naming;
 mod nested;
 mod objects;
 mod stores;
+mod storing;
 mod texts;
+mod throwing;
+mod types;
 mod units;
 
-pub use arrays::{new_array, new_base_array};
+pub use arrays::new_base_array;
+pub use asking::{checkcast, instanceof};
 pub use blocks::{array_block, pay_array, pay_object};
 pub use constants::{push_int, push_long, push_string};
-pub use jv_interp_arrays as of_interp_arrays;
-pub use jv_interp_arrays::of_interp_going;
+pub use jv_interp_calls as of_interp_calls;
+pub use jv_interp_calls::{of_link, of_linked, of_loader};
 pub use literals::literal;
-pub use multiple::{new_nested_array, pay_nested};
+pub use loads::{array_length, load, load_long};
+pub use making::{anewarray, create, multianewarray};
+pub use multiple::pay_nested;
 pub use nested::make_nested;
-pub use objects::new_object;
 pub use stores::{store_byte, store_int, store_long};
+pub use storing::aastore;
 pub use texts::pay_text;
+pub use throwing::athrow;
+pub use types::{NumberedType, is_instance};
 pub use units::{CHARS, count_units, fill};

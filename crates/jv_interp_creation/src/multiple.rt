@@ -2,7 +2,7 @@
 
 ghost use Rattle.std.specs.Prelude.{◌≡◌, ◌+◌, ◌*◌, ◌<◌, ◌≤◌, drop, take, min, length, IfOk, IsOk, IsTrue, OnOk, OnErr};
 ghost use Rattle.std.specs.List.{list_any};
-ghost use Rattle.jv_interp_arrays.specs.of_interp_going.Going.{StaysIn};
+ghost use Rattle.jv_interp_words.specs.Going.{StaysIn};
 ghost use Rattle.jv_interp_memory.specs.Executing.{IsUnmoved, place};
 ghost use Rattle.jv_interp_creation.specs.NestedBlocks.{nested_cost, outer_slots as slots_of_outer, inner_size as size_of_inner};
 ghost use Rattle.jv_interp_creation.specs.NestedArrays.{AreCounts, AreWords, is_negative_word, PaysNested, CanMakeArrays, MakesArrays};

@@ -1,7 +1,7 @@
 //! New objects.
 
 ghost use Rattle.std.specs.Prelude.{◌≡◌, ◌+◌, ◌<◌, ◌≤◌, IfOk, IsOk, IsTrue, OnOk, OnErr};
-ghost use Rattle.jv_interp_arrays.specs.of_interp_going.Going.{StaysIn};
+ghost use Rattle.jv_interp_words.specs.Going.{StaysIn};
 ghost use Rattle.jv_interp_memory.specs.Executing.{IsUnmoved, place};
 ghost use Rattle.jv_interp_creation.specs.Objects.{CanCreate, Creates};
 

@@ -1,14 +1,13 @@
 //! Stores of numbers into arrays.
 
 ghost use Rattle.std.specs.Prelude.{◌≡◌};
-ghost use Rattle.jv_interp_arrays.specs.of_interp_going.Going.{StaysIn};
-ghost use Rattle.jv_interp_objects.specs.declared.narrowing.Narrowing.TheVariants.{Whole};
+ghost use Rattle.jv_interp_words.specs.Going.{StaysIn};
+ghost use Rattle.jv_interp_memory.specs.declared.narrowing.Narrowing.TheVariants.{Whole};
 ghost use Rattle.jv_interp_memory.specs.Executing.{IsUnmoved, place};
 ghost use Rattle.jv_interp_creation.specs.Stores.{CanStore, Stores, CanStoreByte, StoresByte, NarrowsByte};
 
 use jv_heap::Store;
-use jv_interp_memory::{ARRAY_INDEX, Effect, Held, NULL_POINTER};
-use jv_interp_objects::{Narrowing, narrowed};
+use jv_interp_memory::{ARRAY_INDEX, Effect, Held, NULL_POINTER, Narrowing, narrowed};
 use jv_interp_words::Registers;
 
 /// The first word of an array of booleans.

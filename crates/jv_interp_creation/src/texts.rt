@@ -8,8 +8,7 @@ ghost use Rattle.jv_interp_creation.specs.TextBlocks.{JoinsText, PaysText};
 use crate::blocks::array_block;
 use crate::units::{CHARS, count_units, fill};
 use jv_heap::{Memory, Store};
-use jv_interp_memory::STRING;
-use jv_interp_objects::make_object;
+use jv_interp_memory::{STRING, make_object};
 
 /// Makes a String of a text with so many units, and then its array of chars, and answers the String's address.
 ///

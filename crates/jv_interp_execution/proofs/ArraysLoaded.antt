@@ -16,12 +16,12 @@ use Rattle.jv_meaning_machine.specs.State.{Memory}
 use Rattle.jv_meaning_machine.specs.Effects.{Effect as EffectOfNames, Context}
 use Rattle.jv_meaning_machine.specs.Arrays.{holds_by, holds_numbers, holds_references, array_length, load_component}
 use Rattle.jv_interp_words.specs.declared.registers.Registers.{Registers}
-use Rattle.jv_interp_objects.specs.ObjectsInBlocks.{Blocks}
+use Rattle.jv_interp_memory.specs.ObjectsInBlocks.{Blocks}
 use Rattle.jv_interp_memory.specs.declared.held.Held.{Held}
 use Rattle.jv_interp_memory.specs.declared.effect.Effect.{Effect}
 use Rattle.jv_interp_memory.specs.Executing.{Place, place}
-use Rattle.jv_interp_types.specs.of_interp_arrays.Loads.{Measuring, CanMeasure, Measures, Loading, CanLoad, Loads}
-use Rattle.jv_interp_types.specs.of_interp_calls.Known.{Known}
+use Rattle.jv_interp_creation.specs.Loads.{Measuring, CanMeasure, Measures, Loading, CanLoad, Loads}
+use Rattle.jv_interp_creation.specs.of_interp_calls.Known.{Known}
 use Rattle.jv_interp_execution.specs.Components.{number_words}
 use Rattle.jv_interp_execution.specs.OnWords.{part_of}
 use Rattle.jv_interp_execution.specs.InGuest.{ExecutesIn, CanExecute, Executed}

@@ -8,11 +8,11 @@ use Rattle.jv_meaning_world.specs.World.{World}
 use Rattle.jv_meaning_machine.specs.Arrays.{base_of, base_components}
 use Rattle.jv_meaning_machine.specs.Laws.Steps.{ExecutionKeeps}
 use Rattle.jv_interp_words.specs.declared.registers.Registers.{Registers}
-use Rattle.jv_interp_objects.specs.ObjectsInBlocks.{Blocks, IsArrayWord, base_number}
+use Rattle.jv_interp_memory.specs.ObjectsInBlocks.{Blocks, IsArrayWord, base_number}
 use Rattle.jv_interp_memory.specs.declared.held.Held.{Held}
 use Rattle.jv_interp_memory.specs.declared.effect.Effect.{Effect}
-use Rattle.jv_interp_types.specs.of_interp_creation.Arrays.{CanMakeBaseArray, MakesBaseArray}
-use Rattle.jv_interp_types.specs.of_interp_calls.Known.{Known}
+use Rattle.jv_interp_creation.specs.Arrays.{CanMakeBaseArray, MakesBaseArray}
+use Rattle.jv_interp_creation.specs.of_interp_calls.Known.{Known}
 use Rattle.jv_interp_memory.specs.Executing.{place}
 use Rattle.jv_interp_execution.specs.InGuest.{CanExecute, Executed}
 use Rattle.jv_interp_execution.proofs.Grown.{guests}

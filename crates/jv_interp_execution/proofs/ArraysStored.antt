@@ -13,15 +13,15 @@ use Rattle.jv_meaning_machine.specs.State.{Memory}
 use Rattle.jv_meaning_machine.specs.Effects.{Effect as EffectOfNames, Context}
 use Rattle.jv_meaning_machine.specs.Arrays.{holds_by}
 use Rattle.jv_interp_words.specs.declared.registers.Registers.{Registers}
-use Rattle.jv_interp_objects.specs.ObjectsInBlocks.{Blocks}
-use Rattle.jv_interp_objects.specs.declared.narrowing.Narrowing.{Narrowing}
-use Rattle.jv_interp_objects.specs.declared.narrowing.Narrowing.TheVariants as narrowings
-use Rattle.jv_interp_objects.specs.Narrowing.{narrowing_at}
+use Rattle.jv_interp_memory.specs.ObjectsInBlocks.{Blocks}
+use Rattle.jv_interp_memory.specs.declared.narrowing.Narrowing.{Narrowing}
+use Rattle.jv_interp_memory.specs.declared.narrowing.Narrowing.TheVariants as narrowings
+use Rattle.jv_interp_memory.specs.Narrowing.{narrowing_at}
 use Rattle.jv_interp_memory.specs.declared.held.Held.{Held}
 use Rattle.jv_interp_memory.specs.declared.effect.Effect.{Effect}
 use Rattle.jv_interp_memory.specs.SystemNumbers.{IsGuestsWorld}
-use Rattle.jv_interp_types.specs.of_interp_creation.Stores.{Storing, NarrowsBy, CanStore, Stores, CanStoreByte, StoresByte}
-use Rattle.jv_interp_types.specs.of_interp_calls.Known.{Known}
+use Rattle.jv_interp_creation.specs.Stores.{Storing, NarrowsBy, CanStore, Stores, CanStoreByte, StoresByte}
+use Rattle.jv_interp_creation.specs.of_interp_calls.Known.{Known}
 use Rattle.jv_interp_memory.specs.Executing.{place}
 use Rattle.jv_interp_execution.specs.InGuest.{ExecutesIn, CanExecute, Executed}
 

@@ -3,23 +3,23 @@ use Rattle.std.proofs.Common.{◌≡◌, ℕ, List, refl, sym, ◌∙◌}
 use Rattle.jv_code.specs.Insns.{Instruction}
 use Rattle.jv_code.specs.declared.insn.Insn.TheVariants as insns
 use Rattle.jv_code.specs.declared.kinds.Invocation.TheVariants as invocations
-use Rattle.jv_interp_types.specs.of_link.declared.site.Use.{Use}
-use Rattle.jv_interp_types.specs.of_link.declared.site.Use.TheVariants as uses
-use Rattle.jv_interp_types.specs.of_link.Seen.{seen_use}
+use Rattle.jv_interp_creation.specs.of_link.declared.site.Use.{Use}
+use Rattle.jv_interp_creation.specs.of_link.declared.site.Use.TheVariants as uses
+use Rattle.jv_interp_creation.specs.of_link.Seen.{seen_use}
 use Rattle.jv_meaning_machine.specs.Calls.{call}
 use Rattle.jv_meaning_machine.specs.Laws.Steps.{ExecutionKeeps}
 use Rattle.jv_meaning_machine.specs.State.{Memory}
 use Rattle.jv_meaning_machine.specs.Effects.{Effect as EffectOfNames, Context, Outcome}
 use Rattle.jv_meaning_machine.specs.Instructions.{execute}
 use Rattle.jv_interp_words.specs.declared.registers.Registers.{Registers}
-use Rattle.jv_interp_objects.specs.ObjectsInBlocks.{Blocks}
+use Rattle.jv_interp_memory.specs.ObjectsInBlocks.{Blocks}
 use Rattle.jv_interp_memory.specs.declared.class_state.ClassState.{ClassState}
 use Rattle.jv_interp_memory.specs.ClassStates.{AreClassStates}
 use Rattle.jv_interp_memory.specs.declared.held.Held.{Held}
 use Rattle.jv_interp_memory.specs.declared.effect.Effect.{Effect}
 use Rattle.jv_interp_memory.specs.Growing.{DidIn}
-use Rattle.jv_interp_types.specs.of_interp_calls.Known.{Known}
-use Rattle.jv_interp_types.specs.of_interp_calls.Calling.{Calling, CanCall, Calls, CanCallStatic, CallsStatic}
+use Rattle.jv_interp_creation.specs.of_interp_calls.Known.{Known}
+use Rattle.jv_interp_creation.specs.of_interp_calls.Calling.{Calling, CanCall, Calls, CanCallStatic, CallsStatic}
 use Rattle.jv_interp_memory.specs.Executing.{place}
 use Rattle.jv_interp_execution.specs.InGuest.{ExecutesIn, CanExecute, Executed, CanExecuteAt, ExecutedAt}
 use Rattle.jv_interp_execution.proofs.Grown.{did_same}

@@ -19,17 +19,17 @@ use Rattle.jv_meaning_machine.specs.Literals.{pushed_constant, pool_at, constant
 use Rattle.jv_meaning_machine.specs.Laws.Steps.{ExecutionKeeps}
 use Rattle.jv_interp_words.specs.declared.registers.Registers.{Registers}
 use Rattle.jv_interp_words.proofs.Gave.{bound_gave}
-use Rattle.jv_interp_objects.specs.ObjectsInBlocks.{Blocks}
+use Rattle.jv_interp_memory.specs.ObjectsInBlocks.{Blocks}
 use Rattle.jv_interp_memory.specs.Executing.{Place, place}
 use Rattle.jv_interp_memory.specs.declared.held.Held.{Held}
 use Rattle.jv_interp_memory.specs.declared.effect.Effect.{Effect}
-use Rattle.jv_interp_types.specs.of_link.declared.site.Site.{Site}
-use Rattle.jv_interp_types.specs.of_link.Seen.{place_of}
-use Rattle.jv_interp_types.specs.of_interp_creation.Constants.{constant_at, CanPushInt, PushesInt, CanPushString, PushesString}
-use Rattle.jv_interp_types.specs.of_interp_methods.declared.texts.Texts.{Texts}
-use Rattle.jv_interp_types.specs.of_interp_methods.Texts.{HasText, AreTexts}
-use Rattle.jv_interp_types.specs.of_interp_calls.Known.{Known}
-use Rattle.jv_interp_types.proofs.laws_of_interp_calls.Sites.{AtPlace, at_place}
+use Rattle.jv_interp_creation.specs.of_link.declared.site.Site.{Site}
+use Rattle.jv_interp_creation.specs.of_link.Seen.{place_of}
+use Rattle.jv_interp_creation.specs.Constants.{constant_at, CanPushInt, PushesInt, CanPushString, PushesString}
+use Rattle.jv_interp_creation.specs.of_interp_calls.declared.texts.Texts.{Texts}
+use Rattle.jv_interp_creation.specs.of_interp_calls.Texts.{HasText, AreTexts}
+use Rattle.jv_interp_creation.specs.of_interp_calls.Known.{Known}
+use Rattle.jv_interp_creation.proofs.laws_of_interp_calls.Sites.{AtPlace, at_place}
 use Rattle.jv_interp_execution.specs.declared.pool_constants.PoolConstant.{PoolConstant}
 use Rattle.jv_interp_execution.specs.declared.pool_constants.PoolConstant.TheVariants as pushed
 use Rattle.jv_interp_execution.specs.InGuest.{ExecutesIn, CanExecute, Executed}

@@ -23,7 +23,7 @@ use Rattle.jv_interp_words.specs.FramesInWords.{in_use, FrameStands}
 use Rattle.jv_interp_words.proofs.Gave.{bound_gave, tested_gave}
 use Rattle.jv_interp_words.proofs.Stacks.{stack_above}
 use Rattle.jv_interp_words.proofs.Taken.{taken_gave}
-use Rattle.jv_interp_objects.specs.ObjectsInBlocks.{Blocks, HasNumber}
+use Rattle.jv_interp_memory.specs.ObjectsInBlocks.{Blocks, HasNumber}
 use Rattle.jv_interp_memory.specs.declared.held.Held.{Held}
 use Rattle.jv_interp_memory.specs.declared.effect.Effect.TheVariants as effects
 use Rattle.jv_interp_memory.specs.declared.numbers.TheConstants.{ARITHMETIC}
@@ -32,11 +32,11 @@ use Rattle.jv_interp_memory.specs.HeldInWords.{MemoryStands}
 use Rattle.jv_interp_memory.specs.SystemNumbers.{IsGuestsWorld, AreSystemNumbers, SystemHasNumbers}
 use Rattle.jv_interp_memory.specs.Executing.{Place, place, Executes, Did}
 use Rattle.jv_interp_memory.proofs.Raised.{raised}
-use Rattle.jv_interp_types.proofs.laws_of_interp_members.Putting.{taken_kind}
-use Rattle.jv_interp_objects.proofs.Widths.{typed_words}
+use Rattle.jv_interp_creation.proofs.laws_of_interp_calls.Putting.{taken_kind}
+use Rattle.jv_interp_memory.proofs.Widths.{typed_words}
 use Rattle.std.proofs.lemmas.List.Sums.{sum_by-cons}
 use Rattle.jv_frames.specs.declared.verification.VerificationTypeOf.TheVariants as types
-use Rattle.jv_interp_types.specs.of_interp_going.Going.{Works, GoesOn, Throws as ThrowsOnWords}
+use Rattle.jv_interp_words.specs.Going.{Works, GoesOn, Throws as ThrowsOnWords}
 use Rattle.jv_interp_execution.specs.OnWords.{part_of, ExecutesInsn, DoneOnWords}
 
 works_of :

@@ -7,12 +7,12 @@ use Rattle.jv_meaning_machine.specs.Laws.Steps.{ExecutionKeeps}
 use Rattle.jv_meaning_machine.specs.State.{Memory}
 use Rattle.jv_meaning_machine.specs.Effects.{Effect as EffectOfNames, Context}
 use Rattle.jv_interp_words.specs.declared.registers.Registers.{Registers}
-use Rattle.jv_interp_objects.specs.ObjectsInBlocks.{Blocks}
+use Rattle.jv_interp_memory.specs.ObjectsInBlocks.{Blocks}
 use Rattle.jv_interp_memory.specs.declared.class_state.ClassState.{ClassState}
 use Rattle.jv_interp_memory.specs.declared.held.Held.{Held}
 use Rattle.jv_interp_memory.specs.declared.effect.Effect.{Effect}
-use Rattle.jv_interp_types.specs.of_interp_calls.Known.{Known}
-use Rattle.jv_interp_types.specs.of_interp_calls.Using.{Using, CanUseField, UsesField, PutsInField, CanUseStatic, UsesStatic}
+use Rattle.jv_interp_creation.specs.of_interp_calls.Known.{Known}
+use Rattle.jv_interp_creation.specs.of_interp_calls.Using.{Using, CanUseField, UsesField, PutsInField, CanUseStatic, UsesStatic}
 use Rattle.jv_interp_memory.specs.Executing.{place}
 use Rattle.jv_interp_execution.specs.InGuest.{ExecutesIn, CanExecuteAt, ExecutedAt}
 use Rattle.jv_interp_execution.proofs.Grown.{did_same}

@@ -8,13 +8,13 @@ use Rattle.jv_meaning_machine.specs.Laws.Steps.{ExecutionKeeps}
 use Rattle.jv_meaning_machine.specs.State.{Memory}
 use Rattle.jv_meaning_machine.specs.Effects.{Effect as EffectOfNames, Context}
 use Rattle.jv_interp_words.specs.declared.registers.Registers.{Registers}
-use Rattle.jv_interp_objects.specs.ObjectsInBlocks.{Blocks}
+use Rattle.jv_interp_memory.specs.ObjectsInBlocks.{Blocks}
 use Rattle.jv_interp_memory.specs.declared.held.Held.{Held}
 use Rattle.jv_interp_memory.specs.declared.effect.Effect.{Effect}
 use Rattle.jv_interp_memory.specs.Executing.{Place, place, Did}
 use Rattle.jv_interp_memory.specs.Growing.{Grows, DidIn}
 use Rattle.jv_interp_memory.specs.SystemNumbers.{IsGuestsWorld}
-use Rattle.jv_interp_types.specs.of_interp_calls.Known.{Known}
+use Rattle.jv_interp_creation.specs.of_interp_calls.Known.{Known}
 use Rattle.jv_interp_execution.specs.OnWords.{part_of, ExecutesInsn, DoneOnWords}
 use Rattle.jv_interp_execution.specs.InGuest.{ExecutesIn, Executed}
 use Rattle.jv_interp_execution.proofs.Unpaid.{no_more}

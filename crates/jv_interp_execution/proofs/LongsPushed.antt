@@ -12,17 +12,17 @@ use Rattle.jv_meaning_machine.specs.State.{Memory}
 use Rattle.jv_meaning_machine.specs.Effects.{Effect as EffectOfNames, Context, goes_on}
 use Rattle.jv_meaning_machine.specs.Literals.{pool_at}
 use Rattle.jv_meaning_machine.specs.Laws.Steps.{ExecutionKeeps}
-use Rattle.jv_interp_types.specs.of_link.declared.site.Site.{Site}
-use Rattle.jv_interp_types.specs.of_link.Seen.{place_of}
+use Rattle.jv_interp_creation.specs.of_link.declared.site.Site.{Site}
+use Rattle.jv_interp_creation.specs.of_link.Seen.{place_of}
 use Rattle.jv_interp_words.specs.declared.registers.Registers.{Registers}
 use Rattle.jv_interp_words.specs.ValuesInWords.{long_of}
 use Rattle.jv_interp_words.proofs.Gave.{bound_gave}
-use Rattle.jv_interp_objects.specs.ObjectsInBlocks.{Blocks}
+use Rattle.jv_interp_memory.specs.ObjectsInBlocks.{Blocks}
 use Rattle.jv_interp_memory.specs.declared.held.Held.{Held}
 use Rattle.jv_interp_memory.specs.declared.effect.Effect.{Effect}
-use Rattle.jv_interp_types.specs.of_interp_creation.Constants.{PushingLong, CanPushLong, PushesLong}
-use Rattle.jv_interp_types.specs.of_interp_calls.Known.{Known}
-use Rattle.jv_interp_types.proofs.laws_of_interp_calls.Sites.{AtPlace, at_place}
+use Rattle.jv_interp_creation.specs.Constants.{PushingLong, CanPushLong, PushesLong}
+use Rattle.jv_interp_creation.specs.of_interp_calls.Known.{Known}
+use Rattle.jv_interp_creation.proofs.laws_of_interp_calls.Sites.{AtPlace, at_place}
 use Rattle.jv_interp_memory.specs.Executing.{place}
 use Rattle.jv_interp_execution.specs.InGuest.{ExecutesIn, CanExecute, Executed}
 use Rattle.jv_interp_execution.specs.PoolConstants.{IsLongOf, IsOfSite}

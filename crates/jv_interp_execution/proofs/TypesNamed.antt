@@ -5,16 +5,16 @@ use Rattle.jv_meaning_machine.specs.Laws.Steps.{ExecutionKeeps}
 use Rattle.jv_meaning_machine.specs.State.{Memory}
 use Rattle.jv_meaning_machine.specs.Effects.{Effect as EffectOfNames, Context}
 use Rattle.jv_interp_words.specs.declared.registers.Registers.{Registers}
-use Rattle.jv_interp_objects.specs.ObjectsInBlocks.{Blocks}
+use Rattle.jv_interp_memory.specs.ObjectsInBlocks.{Blocks}
 use Rattle.jv_interp_memory.specs.declared.class_state.ClassState.{ClassState}
 use Rattle.jv_interp_memory.specs.declared.held.Held.{Held}
 use Rattle.jv_interp_memory.specs.declared.effect.Effect.{Effect}
 use Rattle.jv_interp_memory.specs.Executing.{Place, place}
-use Rattle.jv_interp_types.specs.of_interp_calls.Known.{Known}
-use Rattle.jv_interp_types.specs.Asking.{Asks}
-use Rattle.jv_interp_types.specs.Throwing.{Throws}
-use Rattle.jv_interp_types.specs.Storing.{Stores}
-use Rattle.jv_interp_types.specs.Making.{MakesObject, MakesArray, MakesArrays}
+use Rattle.jv_interp_creation.specs.of_interp_calls.Known.{Known}
+use Rattle.jv_interp_creation.specs.Asking.{Asks}
+use Rattle.jv_interp_creation.specs.Throwing.{Throws}
+use Rattle.jv_interp_creation.specs.Storing.{Stores}
+use Rattle.jv_interp_creation.specs.Making.{MakesObject, MakesArray, MakesArrays}
 use Rattle.jv_interp_execution.specs.OnWords.{part_of}
 use Rattle.jv_interp_execution.specs.InGuest.{ExecutesIn, Executed, ExecutedAt}
 use Rattle.jv_interp_execution.proofs.Grown.{did_same, guests}

@@ -12,7 +12,7 @@ use Rattle.jv_meaning_machine.specs.Laws.Shapes.{Shape, shape_of, shapes, shape_
 use Rattle.jv_meaning_machine.specs.Laws.Shapes.Shape.{ObjectShape, ArrayShape}
 use Rattle.jv_meaning_machine.specs.Laws.Kept.{Keeps}
 use Rattle.jv_meaning_machine.specs.Laws.Steps.{ExecutionKeeps}
-use Rattle.jv_interp_objects.specs.ObjectsInBlocks.{Blocks}
+use Rattle.jv_interp_memory.specs.ObjectsInBlocks.{Blocks}
 use Rattle.jv_interp_memory.specs.declared.held.Held.{Held}
 use Rattle.jv_interp_memory.specs.HeldInWords.{MemoryStands}
 

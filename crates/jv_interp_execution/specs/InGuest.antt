@@ -8,14 +8,14 @@ use Rattle.jv_meaning_machine.specs.Alone.{AreUnits}
 use Rattle.jv_meaning_machine.specs.State.{Memory}
 use Rattle.jv_meaning_machine.specs.Effects.{Effect as EffectOfNames, Context}
 use Rattle.jv_interp_words.specs.declared.registers.Registers.{Registers}
-use Rattle.jv_interp_objects.specs.ObjectsInBlocks.{Blocks, AreLoadable}
+use Rattle.jv_interp_memory.specs.ObjectsInBlocks.{Blocks, AreLoadable}
 use Rattle.jv_interp_memory.specs.declared.class_state.ClassState.{ClassState}
 use Rattle.jv_interp_memory.specs.ClassStates.{AreClassStates}
 use Rattle.jv_interp_memory.specs.declared.held.Held.{Held}
 use Rattle.jv_interp_memory.specs.declared.effect.Effect.{Effect}
 use Rattle.jv_interp_memory.specs.Executing.{Place, place, Executes, HasRoom}
 use Rattle.jv_interp_memory.specs.Growing.{DidIn}
-use Rattle.jv_interp_types.specs.of_interp_calls.Known.{Known, IsKnown}
+use Rattle.jv_interp_creation.specs.of_interp_calls.Known.{Known, IsKnown}
 use Rattle.jv_interp_execution.specs.OnWords.{part_of}
 
 -- An instruction is executed in a frame that stands in words, at a method that is known.

@@ -9,9 +9,9 @@ use Rattle.jv_meaning_world.specs.World.{Loaded, World}
 use Rattle.jv_meaning_world.specs.Numbers.{HoldsAtNumber}
 use Rattle.jv_meaning_machine.specs.Faults.{OrFault}
 use Rattle.jv_meaning_machine.specs.Literals.{pushed_constant}
-use Rattle.jv_interp_types.specs.of_link.declared.site.Site.{Site}
+use Rattle.jv_interp_creation.specs.of_link.declared.site.Site.{Site}
 use Rattle.jv_interp_words.specs.ValuesInWords.{long_of}
-use Rattle.jv_interp_types.specs.of_interp_calls.Known.{Known}
+use Rattle.jv_interp_creation.specs.of_interp_calls.Known.{Known}
 use Rattle.jv_interp_execution.specs.declared.pool_constants.PoolConstant.{PoolConstant}
 use Rattle.jv_interp_execution.specs.declared.pool_constants.PoolConstant.TheVariants as constants
 

@@ -2,16 +2,16 @@
 
 ghost use Rattle.std.specs.Prelude.{◌≡◌, ℕ, List, if◌then◌else◌};
 ghost use Rattle.jv_code.specs.declared.insn.Insn.TheVariants.{ArrayLength as ArrayLengthInsn, ArrayLoad as ArrayLoadInsn, ReferenceArrayLoad as ReferenceArrayLoadInsn};
-ghost use Rattle.jv_interp_types.specs.of_interp_calls.Known.{Known};
-ghost use Rattle.jv_interp_types.specs.of_interp_going.Going.{StaysIn};
+ghost use Rattle.jv_interp_creation.specs.of_interp_calls.Known.{Known};
+ghost use Rattle.jv_interp_words.specs.Going.{StaysIn};
 ghost use Rattle.jv_interp_execution.specs.Components.{number_words};
 ghost use Rattle.jv_interp_memory.specs.Executing.{IsUnmoved, place};
 ghost use Rattle.jv_interp_execution.specs.InGuest.{CanExecute, Executed};
 
 use jv_code::NumberElement;
 use jv_heap::Store;
+use jv_interp_creation::{array_length, load, load_long};
 use jv_interp_memory::{Effect, Held};
-use jv_interp_types::of_interp_arrays::{array_length, load, load_long};
 use jv_interp_words::Registers;
 use jv_meaning_machine::execution_keeps;
 

@@ -2,16 +2,15 @@
 
 ghost use Rattle.std.specs.Prelude.{◌≡◌, ℕ, List};
 ghost use Rattle.jv_code.specs.declared.insn.Insn.TheVariants.{ArrayStore as ArrayStoreInsn};
-ghost use Rattle.jv_interp_types.specs.of_interp_calls.Known.{Known};
-ghost use Rattle.jv_interp_types.specs.of_interp_going.Going.{StaysIn};
+ghost use Rattle.jv_interp_creation.specs.of_interp_calls.Known.{Known};
+ghost use Rattle.jv_interp_words.specs.Going.{StaysIn};
 ghost use Rattle.jv_interp_memory.specs.Executing.{IsUnmoved, place};
 ghost use Rattle.jv_interp_execution.specs.InGuest.{CanExecute, Executed};
 
 use jv_code::NumberElement;
 use jv_heap::Store;
-use jv_interp_memory::{Effect, Held};
-use jv_interp_objects::Narrowing;
-use jv_interp_types::of_interp_creation::{store_byte, store_int, store_long};
+use jv_interp_creation::{store_byte, store_int, store_long};
+use jv_interp_memory::{Effect, Held, Narrowing};
 use jv_interp_words::Registers;
 
 /// `iastore` and its kin.

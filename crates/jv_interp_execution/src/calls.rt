@@ -3,21 +3,20 @@
 ghost use Rattle.std.specs.Prelude.{◌≡◌, ℕ, List};
 ghost use Rattle.jv_code.specs.declared.insn.Insn.TheVariants.{Invoke as InvokeInsn, InvokeInterface as InvokeInterfaceInsn};
 ghost use Rattle.jv_code.specs.declared.kinds.Invocation.TheVariants.{Special, Static, Virtual};
-ghost use Rattle.jv_interp_types.specs.of_linked.Linked.{IsLinked};
-ghost use Rattle.jv_interp_types.specs.of_interp_calls.Known.{known};
-ghost use Rattle.jv_interp_types.specs.of_interp_going.Going.{StaysIn};
-ghost use Rattle.jv_interp_types.specs.of_interp_methods.Methods.{AreMethods};
+ghost use Rattle.jv_interp_creation.specs.of_linked.Linked.{IsLinked};
+ghost use Rattle.jv_interp_creation.specs.of_interp_calls.Known.{known};
+ghost use Rattle.jv_interp_words.specs.Going.{StaysIn};
+ghost use Rattle.jv_interp_creation.specs.of_interp_calls.Methods.{AreMethods};
 ghost use Rattle.jv_interp_memory.specs.Executing.{IsUnmoved, place};
 ghost use Rattle.jv_interp_execution.specs.InGuest.{CanExecute, Executed, CanExecuteAt, ExecutedAt};
 
 use jv_code::Invocation;
 use jv_heap::Store;
+use jv_interp_creation::of_interp_calls::{Methods, call_special, call_static, call_virtual};
+use jv_interp_creation::of_link::{Site, Use};
+use jv_interp_creation::of_linked::Linked;
+use jv_interp_creation::of_loader::Classes;
 use jv_interp_memory::{ClassState, Effect, Held};
-use jv_interp_types::of_interp_calls::{call_special, call_static, call_virtual};
-use jv_interp_types::of_interp_methods::Methods;
-use jv_interp_types::of_link::{Site, Use};
-use jv_interp_types::of_linked::Linked;
-use jv_interp_types::of_loader::Classes;
 use jv_interp_words::Registers;
 use jv_meaning_machine::execution_keeps;
 

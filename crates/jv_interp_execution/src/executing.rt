@@ -2,12 +2,12 @@
 
 ghost use Rattle.std.specs.Prelude.{◌≡◌, ◌+◌, ◌≤◌, true, IfOk, IsOk, IsTrue, OnOk, OnErr};
 ghost use Rattle.jv_code.specs.Insns.{instruction_of};
-ghost use Rattle.jv_interp_types.specs.of_linked.Linked.{IsLinked};
-ghost use Rattle.jv_interp_types.specs.of_interp_calls.Known.{known};
-ghost use Rattle.jv_interp_types.specs.of_interp_going.Going.{CanWork, StaysIn};
-ghost use Rattle.jv_interp_objects.specs.ObjectsInBlocks.{Blocks};
-ghost use Rattle.jv_interp_types.specs.of_interp_methods.Methods.{AreMethods};
-ghost use Rattle.jv_interp_types.specs.of_interp_methods.Texts.{AreTexts};
+ghost use Rattle.jv_interp_creation.specs.of_linked.Linked.{IsLinked};
+ghost use Rattle.jv_interp_creation.specs.of_interp_calls.Known.{known};
+ghost use Rattle.jv_interp_words.specs.Going.{CanWork, StaysIn};
+ghost use Rattle.jv_interp_memory.specs.ObjectsInBlocks.{Blocks};
+ghost use Rattle.jv_interp_creation.specs.of_interp_calls.Methods.{AreMethods};
+ghost use Rattle.jv_interp_creation.specs.of_interp_calls.Texts.{AreTexts};
 ghost use Rattle.jv_interp_memory.specs.Executing.{IsUnmoved, place};
 ghost use Rattle.jv_interp_memory.specs.declared.held.Held.{Held};
 ghost use Rattle.jv_interp_execution.specs.OnWords.{works_on_words, DoneOnWords, KeysRise};
@@ -23,12 +23,14 @@ use crate::on_words::execute_on_words;
 use crate::pool_constants::execute_pool_constant;
 use jv_code::Insn;
 use jv_heap::{Memory, Store};
+use jv_interp_creation::of_interp_calls::{Methods, Texts};
+use jv_interp_creation::of_link::Site;
+use jv_interp_creation::of_linked::Linked;
+use jv_interp_creation::of_loader::Classes;
+use jv_interp_creation::{
+    aastore, anewarray, athrow, checkcast, create, instanceof, multianewarray,
+};
 use jv_interp_memory::{ClassState, Effect, Held};
-use jv_interp_types::of_interp_methods::{Methods, Texts};
-use jv_interp_types::of_link::Site;
-use jv_interp_types::of_linked::Linked;
-use jv_interp_types::of_loader::Classes;
-use jv_interp_types::{aastore, anewarray, athrow, checkcast, create, instanceof, multianewarray};
 use jv_interp_words::Registers;
 use jv_meaning_machine::execution_keeps;
 

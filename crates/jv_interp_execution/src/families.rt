@@ -2,11 +2,11 @@
 
 ghost use Rattle.std.specs.Prelude.{◌≡◌, ◌+◌, ◌≤◌, IfOk, IsOk, IsTrue, OnOk, OnErr};
 ghost use Rattle.jv_code.specs.Insns.{instruction_of};
-ghost use Rattle.jv_interp_types.specs.of_linked.Linked.{IsLinked};
-ghost use Rattle.jv_interp_types.specs.of_interp_calls.Known.{known};
-ghost use Rattle.jv_interp_types.specs.of_interp_going.Going.{StaysIn};
-ghost use Rattle.jv_interp_types.specs.of_interp_methods.Methods.{AreMethods};
-ghost use Rattle.jv_interp_types.specs.of_interp_methods.Texts.{AreTexts};
+ghost use Rattle.jv_interp_creation.specs.of_linked.Linked.{IsLinked};
+ghost use Rattle.jv_interp_creation.specs.of_interp_calls.Known.{known};
+ghost use Rattle.jv_interp_words.specs.Going.{StaysIn};
+ghost use Rattle.jv_interp_creation.specs.of_interp_calls.Methods.{AreMethods};
+ghost use Rattle.jv_interp_creation.specs.of_interp_calls.Texts.{AreTexts};
 ghost use Rattle.jv_interp_memory.specs.Executing.{IsUnmoved, place};
 ghost use Rattle.jv_interp_execution.specs.InGuest.{CanExecuteAt, ExecutedAt, KeepsCodeRules};
 
@@ -20,12 +20,12 @@ use crate::on_words::{execute_division, execute_return};
 use crate::pool_constants::execute_pool_constant;
 use jv_code::{FieldAccess, Insn, Invocation};
 use jv_heap::{Memory, Store};
+use jv_interp_creation::of_interp_calls::{Methods, Texts};
+use jv_interp_creation::of_link::Site;
+use jv_interp_creation::of_linked::Linked;
+use jv_interp_creation::of_loader::Classes;
+use jv_interp_creation::{aastore, checkcast, create, instanceof};
 use jv_interp_memory::{ClassState, Effect, Held};
-use jv_interp_types::of_interp_methods::{Methods, Texts};
-use jv_interp_types::of_link::Site;
-use jv_interp_types::of_linked::Linked;
-use jv_interp_types::of_loader::Classes;
-use jv_interp_types::{aastore, checkcast, create, instanceof};
 use jv_interp_words::Registers;
 use jv_meaning_machine::execution_keeps;
 

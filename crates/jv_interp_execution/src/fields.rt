@@ -3,19 +3,19 @@
 ghost use Rattle.std.specs.Prelude.{◌≡◌, ℕ, List};
 ghost use Rattle.jv_code.specs.declared.insn.Insn.TheVariants.{Field as FieldInsn};
 ghost use Rattle.jv_code.specs.declared.kinds.FieldAccess.TheVariants.{GetField, GetStatic, PutField, PutStatic};
-ghost use Rattle.jv_interp_types.specs.of_linked.Linked.{IsLinked};
-ghost use Rattle.jv_interp_types.specs.of_interp_calls.Known.{known};
-ghost use Rattle.jv_interp_types.specs.of_interp_going.Going.{StaysIn};
+ghost use Rattle.jv_interp_creation.specs.of_linked.Linked.{IsLinked};
+ghost use Rattle.jv_interp_creation.specs.of_interp_calls.Known.{known};
+ghost use Rattle.jv_interp_words.specs.Going.{StaysIn};
 ghost use Rattle.jv_interp_memory.specs.Executing.{IsUnmoved, place};
 ghost use Rattle.jv_interp_execution.specs.InGuest.{CanExecuteAt, ExecutedAt};
 
 use jv_code::FieldAccess;
 use jv_heap::Store;
+use jv_interp_creation::of_interp_calls::{getfield, getstatic, putfield, putstatic};
+use jv_interp_creation::of_link::Site;
+use jv_interp_creation::of_linked::Linked;
+use jv_interp_creation::of_loader::Classes;
 use jv_interp_memory::{ClassState, Effect, Held};
-use jv_interp_types::of_interp_calls::{getfield, getstatic, putfield, putstatic};
-use jv_interp_types::of_link::Site;
-use jv_interp_types::of_linked::Linked;
-use jv_interp_types::of_loader::Classes;
 use jv_interp_words::Registers;
 use jv_meaning_machine::execution_keeps;
 

@@ -2,18 +2,18 @@
 
 ghost use Rattle.std.specs.Prelude.{◌≡◌, ◌<◌, ℕ, List, length};
 ghost use Rattle.jv_code.specs.declared.insn.Insn.TheVariants.{PoolLongConstant as PoolLongConstantInsn};
-ghost use Rattle.jv_interp_types.specs.of_interp_calls.Known.{Known};
-ghost use Rattle.jv_interp_types.specs.of_interp_going.Going.{StaysIn};
+ghost use Rattle.jv_interp_creation.specs.of_interp_calls.Known.{Known};
+ghost use Rattle.jv_interp_words.specs.Going.{StaysIn};
 ghost use Rattle.jv_interp_words.specs.ValuesInWords.{long_of};
 ghost use Rattle.jv_interp_memory.specs.Executing.{IsUnmoved, place};
 ghost use Rattle.jv_interp_execution.specs.InGuest.{CanExecute, Executed};
 ghost use Rattle.jv_interp_execution.specs.PoolConstants.{IsLongOf, IsOfSite};
 
 use jv_heap::Store;
+use jv_interp_creation::of_link::{Site, class_at};
+use jv_interp_creation::of_loader::Classes;
+use jv_interp_creation::push_long;
 use jv_interp_memory::{Effect, Held};
-use jv_interp_types::of_interp_creation::push_long;
-use jv_interp_types::of_link::{Site, class_at};
-use jv_interp_types::of_loader::Classes;
 use jv_interp_words::Registers;
 use jv_meaning_machine::execution_keeps;
 

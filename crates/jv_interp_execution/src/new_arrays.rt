@@ -5,16 +5,16 @@ ghost use Rattle.jv_code.specs.declared.insn.Insn.TheVariants.{NewArray as NewAr
 ghost use Rattle.jv_frames.specs.Types.{value_type, width};
 ghost use Rattle.jv_meaning_machine.specs.Arrays.{base_of, base_components};
 ghost use Rattle.jv_meaning_world.specs.World.{World};
-ghost use Rattle.jv_interp_objects.specs.ObjectsInBlocks.{IsArrayWord};
-ghost use Rattle.jv_interp_types.specs.of_interp_calls.Known.{Known};
-ghost use Rattle.jv_interp_types.specs.of_interp_going.Going.{StaysIn};
+ghost use Rattle.jv_interp_memory.specs.ObjectsInBlocks.{IsArrayWord};
+ghost use Rattle.jv_interp_creation.specs.of_interp_calls.Known.{Known};
+ghost use Rattle.jv_interp_words.specs.Going.{StaysIn};
 ghost use Rattle.jv_interp_memory.specs.Executing.{IsUnmoved, place};
 ghost use Rattle.jv_interp_execution.specs.InGuest.{CanExecute, Executed};
 
 use jv_code::ElementType;
 use jv_heap::{Memory, Store};
+use jv_interp_creation::new_base_array;
 use jv_interp_memory::{Effect, Held};
-use jv_interp_types::of_interp_creation::new_base_array;
 use jv_interp_words::Registers;
 use jv_meaning_machine::execution_keeps;
 

@@ -3,8 +3,8 @@
 ghost use Rattle.std.specs.Prelude.{ℕ, IfSome};
 ghost use Rattle.jv_code.specs.Insns.{instruction_of};
 ghost use Rattle.jv_code.specs.declared.insn.Insn.TheVariants.{Branch as BranchInsn, Division as DivisionInsn, ReturnValue as ReturnValueInsn};
-ghost use Rattle.jv_interp_types.specs.of_interp_going.Going.{CanWork, StaysIn};
-ghost use Rattle.jv_interp_objects.specs.ObjectsInBlocks.{Blocks};
+ghost use Rattle.jv_interp_words.specs.Going.{CanWork, StaysIn};
+ghost use Rattle.jv_interp_memory.specs.ObjectsInBlocks.{Blocks};
 ghost use Rattle.jv_interp_execution.specs.OnWords.{AnswersOnWords, DoneOnWords, KeysRise};
 ghost use Rattle.jv_interp_memory.specs.declared.effect.Effect.TheVariants.{Goes};
 ghost use Rattle.jv_interp_memory.specs.Executing.{IsUnmoved, place};
@@ -12,11 +12,10 @@ ghost use Rattle.jv_interp_memory.specs.declared.held.Held.{Held};
 
 use jv_code::{DivisionOperator, Insn, NumberKind, Test, ValueKind};
 use jv_interp_memory::{ARITHMETIC, Effect, system_has_numbers};
-use jv_interp_types::of_interp_going::{
-    compute, divide, if_int, if_ints, if_null, if_same, increment, jump, load, lookup_switch,
-    move_words, nop, push_null, store, store_long, table_switch,
+use jv_interp_words::{
+    Registers, compute, divide, if_int, if_ints, if_null, if_same, increment, jump, load,
+    lookup_switch, move_words, nop, push_null, store, store_long, table_switch,
 };
-use jv_interp_words::Registers;
 
 /// A branch, by its test.
 fn execute_branch<'l>(words: &[u32], at: &mut Registers<'l>, next: u32, test: Test, distance: i32)

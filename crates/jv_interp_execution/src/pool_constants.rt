@@ -3,19 +3,19 @@
 ghost use Rattle.std.specs.Prelude.{◌≡◌, ◌+◌, ◌≤◌, ◌<◌, ℕ, List, length, IfOk, IsOk, IsTrue, OnOk, OnErr};
 ghost use Rattle.jv_code.specs.declared.insn.Insn.TheVariants.{PoolConstant as PoolConstantInsn};
 ghost use Rattle.jv_code.specs.declared.kinds.IndexForm.{IndexForm};
-ghost use Rattle.jv_interp_types.specs.of_interp_calls.Known.{Known};
-ghost use Rattle.jv_interp_types.specs.of_interp_going.Going.{StaysIn};
-ghost use Rattle.jv_interp_types.specs.of_interp_methods.Texts.{AreTexts};
+ghost use Rattle.jv_interp_creation.specs.of_interp_calls.Known.{Known};
+ghost use Rattle.jv_interp_words.specs.Going.{StaysIn};
+ghost use Rattle.jv_interp_creation.specs.of_interp_calls.Texts.{AreTexts};
 ghost use Rattle.jv_interp_memory.specs.Executing.{IsUnmoved, place};
 ghost use Rattle.jv_interp_execution.specs.InGuest.{CanExecute, Executed};
 ghost use Rattle.jv_interp_execution.specs.PoolConstants.{IsConstantOf, IsOfSite};
 
 use jv_heap::{Memory, Store};
+use jv_interp_creation::of_interp_calls::Texts;
+use jv_interp_creation::of_link::{Site, class_at};
+use jv_interp_creation::of_loader::Classes;
+use jv_interp_creation::{push_int, push_string};
 use jv_interp_memory::{Effect, Held};
-use jv_interp_types::of_interp_creation::{push_int, push_string};
-use jv_interp_types::of_interp_methods::Texts;
-use jv_interp_types::of_link::{Site, class_at};
-use jv_interp_types::of_loader::Classes;
 use jv_interp_words::Registers;
 use jv_meaning_machine::execution_keeps;
 

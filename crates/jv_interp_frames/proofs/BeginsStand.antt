@@ -3,8 +3,8 @@ use Rattle.std.proofs.Common.{◌≡◌, ℕ, ◌+◌, ◌-◌, ◌<◌, ◌≤�
 use Rattle.std.specs.Prelude.{vec_capacity}
 use Rattle.std.proofs.lemmas.List.Sums.{sum_by-cons}
 use Rattle.jv_meaning_world.specs.World.{Loaded, World}
-use Rattle.jv_meaning_typing.specs.of_meaning_linking.LinkErrors.{error_class}
-use Rattle.jv_meaning_typing.specs.of_meaning_linking.LinkErrors.LinkError.{NoClassDefFoundError, VerifyError}
+use Rattle.jv_meaning_typing.specs.LinkErrors.{error_class}
+use Rattle.jv_meaning_typing.specs.LinkErrors.LinkError.{NoClassDefFoundError, VerifyError}
 use Rattle.jv_meaning_machine.specs.Faults.{OrFault}
 use Rattle.jv_meaning_machine.specs.Frames.Frame.{Initializes}
 use Rattle.jv_meaning_machine.specs.State.{Program, Control as ControlOfNames, State, state_of, with_state, class_state, ClassState as StateOfNames}
@@ -18,7 +18,7 @@ use Rattle.jv_interp_words.specs.declared.records.InitializationRecord.{Initiali
 use Rattle.jv_interp_words.specs.declared.records.FrameRecord.{FrameRecord}
 use Rattle.jv_interp_words.specs.declared.records.FrameRecord.TheVariants as records
 use Rattle.jv_interp_words.specs.FramesInWords.{in_use, methods_of, InitializationStands, AreFrames}
-use Rattle.jv_interp_objects.specs.ObjectsInBlocks.{Blocks, HasNumber}
+use Rattle.jv_interp_memory.specs.ObjectsInBlocks.{Blocks, HasNumber}
 use Rattle.jv_interp_memory.specs.declared.held.Held.{Held}
 use Rattle.jv_interp_memory.specs.declared.class_state.ClassState.{ClassState}
 use Rattle.jv_interp_memory.specs.declared.class_state.ClassState.TheVariants as states

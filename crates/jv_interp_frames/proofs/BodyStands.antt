@@ -5,19 +5,19 @@ use Rattle.jv_format.specs.Format.{◌>>=◌}
 use Rattle.jv_class.specs.Class.{Method}
 use Rattle.jv_meaning_world.specs.World.{Loaded, World}
 use Rattle.jv_meaning_world.specs.Verdicts.{declared_by}
-use Rattle.jv_interp_methods.specs.of_lookups.declared.place.Place.{Place}
-use Rattle.jv_interp_methods.specs.of_lookups.Places.{method_of, method_at}
+use Rattle.jv_interp_calls.specs.of_lookups.declared.place.Place.{Place}
+use Rattle.jv_interp_calls.specs.of_lookups.Places.{method_of, method_at}
 use Rattle.std.proofs.lemmas.Option.{slice_get_within}
 use Rattle.jv_class_structure.specs.Parts.{CodeSeen}
 use Rattle.jv_class_structure.specs.Seen.{seen_code}
 use Rattle.jv_meaning_world.specs.Overriding.{Declared}
 use Rattle.jv_meaning_machine.specs.State.{Program}
-use Rattle.jv_interp_methods.specs.of_linked.declared.bodies.Body.{Body}
-use Rattle.jv_interp_methods.specs.of_linked.Bodies.{IsBody}
+use Rattle.jv_interp_calls.specs.of_linked.declared.bodies.Body.{Body}
+use Rattle.jv_interp_calls.specs.of_linked.Bodies.{IsBody}
 use Rattle.jv_interp_words.specs.FramesInWords.{methods_of}
-use Rattle.jv_interp_methods.specs.declared.methods.Methods.{Methods}
+use Rattle.jv_interp_calls.specs.declared.methods.Methods.{Methods}
 use Rattle.std.proofs.lemmas.List.{length-map}
-use Rattle.jv_interp_methods.specs.Methods.{method_in, known}
+use Rattle.jv_interp_calls.specs.Methods.{method_in, known}
 use Rattle.jv_interp_frames.specs.Inside.Codes.{IsCodeOf}
 
 same_some : {A : Type 0} (x y : A) → Some x ≡ Some y → x ≡ y

@@ -10,7 +10,7 @@ use Rattle.jv_meaning_world.specs.World.{Loaded, World, class_named}
 use Rattle.jv_meaning_world.specs.Above.{super_names, supers_in, above_within, is_above}
 use Rattle.jv_meaning_world.specs.Numbers.{IsNumbered, number_named}
 use Rattle.jv_meaning_world.proofs.Up.{same_name}
-use Rattle.jv_interp_methods.proofs.laws_of_classes.Numbers.{number_at, numbered}
+use Rattle.jv_classes.proofs.Numbers.{number_at, numbered}
 use Rattle.jv_meaning_machine.specs.Objects.{is_below, is_at_or_below}
 use Rattle.jv_interp_frames.proofs.StatesSet.{other_name}
 

@@ -5,8 +5,8 @@ use Rattle.jv_meaning_machine.specs.Frames.{MethodFrame}
 use Rattle.jv_meaning_machine.specs.State.{Program}
 use Rattle.jv_interp_words.specs.declared.records.MethodRecord.{MethodRecord}
 use Rattle.jv_interp_words.specs.FramesInWords.{MethodStands}
-use Rattle.jv_interp_methods.specs.declared.methods.Methods.{Methods}
-use Rattle.jv_interp_methods.specs.Methods.{AreMethods}
+use Rattle.jv_interp_calls.specs.declared.methods.Methods.{Methods}
+use Rattle.jv_interp_calls.specs.Methods.{AreMethods}
 use Rattle.jv_interp_frames.specs.Inside.Codes.{IsCodeOf, CanFind}
 use Rattle.jv_interp_frames.proofs.Entered.{is_entered}
 

@@ -11,7 +11,7 @@ use Rattle.jv_interp_words.specs.declared.records.FrameRecord.{FrameRecord}
 use Rattle.jv_interp_words.specs.declared.records.FrameRecord.TheVariants as records
 use Rattle.jv_interp_words.specs.FramesInWords.{in_use, AreFrames}
 use Rattle.jv_interp_words.proofs.InUse.{length-in_use}
-use Rattle.jv_interp_steps.proofs.laws_of_interp_going.FramesStand.{frame_length}
+use Rattle.jv_interp_words.proofs.FramesStand.{frame_length}
 use Rattle.jv_interp_frames.specs.declared.frames.Frames.{Frames}
 use Rattle.jv_interp_frames.specs.FramesStand.{FramesStand}
 

@@ -13,11 +13,11 @@ use Rattle.jv_meaning_machine.specs.Throws.{raise}
 use Rattle.jv_meaning_machine.specs.Entering.{passed_values, method_frame, entered_above, within_words}
 use Rattle.jv_interp_words.specs.declared.records.FrameRecord.TheVariants as records
 use Rattle.jv_interp_words.proofs.Gave.{bound_gave, found_gave}
-use Rattle.jv_interp_objects.specs.ObjectsInBlocks.{Blocks}
+use Rattle.jv_interp_memory.specs.ObjectsInBlocks.{Blocks}
 use Rattle.jv_interp_memory.specs.declared.held.Held.{Held}
 use Rattle.jv_interp_memory.specs.SystemNumbers.{SystemHasNumbers}
-use Rattle.jv_interp_methods.specs.declared.methods.Methods.{Methods}
-use Rattle.jv_interp_methods.specs.Methods.{AreMethods}
+use Rattle.jv_interp_calls.specs.declared.methods.Methods.{Methods}
+use Rattle.jv_interp_calls.specs.Methods.{AreMethods}
 use Rattle.jv_interp_frames.specs.declared.frames.Frames.{Frames}
 use Rattle.jv_interp_frames.specs.declared.control.Control.{Control}
 use Rattle.jv_interp_frames.specs.FramesStand.{FramesStand}

@@ -24,8 +24,8 @@ use Rattle.jv_interp_words.specs.FramesInWords.{in_use, FrameStands, MethodStand
 use Rattle.jv_interp_words.proofs.Gave.{bound_gave, found_gave, tested_gave}
 use Rattle.jv_interp_words.proofs.InUse.{length-in_use}
 use Rattle.jv_interp_words.proofs.Stacks.{stack_above, stack_joined}
-use Rattle.jv_interp_steps.proofs.laws_of_interp_going.FramesStand.{stack_length}
-use Rattle.jv_interp_methods.specs.declared.methods.Methods.{Methods}
+use Rattle.jv_interp_words.proofs.FramesStand.{stack_length}
+use Rattle.jv_interp_calls.specs.declared.methods.Methods.{Methods}
 use Rattle.jv_interp_frames.specs.declared.frames.Frames.{Frames}
 use Rattle.jv_interp_frames.specs.declared.control.Control.{Control}
 use Rattle.jv_interp_frames.specs.declared.control.End.TheVariants as ends

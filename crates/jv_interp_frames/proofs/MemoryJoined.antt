@@ -5,18 +5,18 @@ use Rattle.std.proofs.lemmas.Grind.{common_steps}
 use Rattle.jv_heap.specs.Content.{words_at, greatest}
 use Rattle.jv_heap.proofs.LookUps.{greatest-append_above}
 use Rattle.jv_meaning_world.specs.World.{Loaded, World}
-use Rattle.jv_meaning_typing.specs.of_meaning_linking.Layout.{object_words, object_cells}
+use Rattle.jv_meaning_typing.specs.Layout.{object_words, object_cells}
 use Rattle.jv_meaning_machine.specs.Objects.{Object, made_object}
 use Rattle.jv_meaning_machine.specs.State.{Memory}
 use Rattle.jv_meaning_machine.specs.Costs.{paid}
 use Rattle.jv_meaning_machine.specs.Effects.{out_of_memory}
 use Rattle.jv_meaning_machine.specs.Literals.{literal_in}
 use Rattle.jv_meaning_machine.specs.Throws.{exception_made}
-use Rattle.jv_interp_objects.specs.ObjectsInBlocks.{Blocks, HasNumber, ObjectsStand}
-use Rattle.jv_interp_objects.specs.NewBlocks.{Joins}
-use Rattle.jv_interp_objects.proofs.Grown.{get_more, fields_grown}
-use Rattle.jv_interp_objects.proofs.Joined.{others_stay}
-use Rattle.jv_interp_objects.proofs.NewObjects.{instance_joined}
+use Rattle.jv_interp_memory.specs.ObjectsInBlocks.{Blocks, HasNumber, ObjectsStand}
+use Rattle.jv_interp_memory.specs.NewBlocks.{Joins}
+use Rattle.jv_interp_memory.proofs.Grown.{get_more, fields_grown}
+use Rattle.jv_interp_memory.proofs.Joined.{others_stay}
+use Rattle.jv_interp_memory.proofs.NewObjects.{instance_joined}
 use Rattle.jv_interp_memory.specs.declared.held.Held.{Held}
 use Rattle.jv_interp_memory.specs.HeldInWords.{static_fields, IsLiteral, AreLiterals, MemoryStands}
 use Rattle.jv_interp_memory.specs.Growing.{Grows}
@@ -64,7 +64,7 @@ pub memory_joined :
 memory_joined world texts memory addresses more held after before blocks objects cells h joined same cells_are = record {
   objects = joined;
   statics =
-      subst (λ (g : Held). Rattle.jv_interp_objects.specs.ObjectsInBlocks.AreFields (addresses ++ more) (static_fields world) memory.statics g.statics.items) (sym same)
+      subst (λ (g : Held). Rattle.jv_interp_memory.specs.ObjectsInBlocks.AreFields (addresses ++ more) (static_fields world) memory.statics g.statics.items) (sym same)
       (fields_grown addresses more (static_fields world) memory.statics held.statics.items h.statics);
   literals =
       subst (λ (g : Held). AreLiterals texts (addresses ++ more) memory.literals g.literals.items) (sym same)

@@ -10,13 +10,13 @@ use Rattle.jv_meaning_world.specs.Overriding.{Declared}
 use Rattle.jv_meaning_typing.specs.Environment.{offset_behind}
 use Rattle.jv_meaning_machine.specs.Frames.{MethodFrame}
 use Rattle.jv_meaning_machine.specs.State.{Program}
-use Rattle.jv_interp_methods.specs.of_linked.declared.bodies.Body.{Body}
-use Rattle.jv_interp_methods.specs.of_linked.Bodies.{IsBody}
+use Rattle.jv_interp_calls.specs.of_linked.declared.bodies.Body.{Body}
+use Rattle.jv_interp_calls.specs.of_linked.Bodies.{IsBody}
 use Rattle.jv_interp_words.specs.declared.records.MethodRecord.{MethodRecord}
-use Rattle.jv_interp_methods.specs.declared.methods.Methods.{Methods}
-use Rattle.jv_interp_methods.specs.declared.methods.MethodRow.{MethodRow}
-use Rattle.jv_interp_methods.specs.Methods.{HasCode, IsRowOf}
-use Rattle.jv_interp_steps.proofs.AtPlace.{is_at_place, entered_code}
+use Rattle.jv_interp_calls.specs.declared.methods.Methods.{Methods}
+use Rattle.jv_interp_calls.specs.declared.methods.MethodRow.{MethodRow}
+use Rattle.jv_interp_calls.specs.Methods.{HasCode, IsRowOf}
+use Rattle.jv_interp_words.proofs.AtPlace.{is_at_place, entered_code}
 use Rattle.jv_interp_frames.specs.Inside.Codes.{IsCodeOf}
 use Rattle.jv_interp_frames.specs.Inside.Nexts.{Nexts}
 use Rattle.jv_interp_frames.proofs.BodyStands.{no_body, body_code}

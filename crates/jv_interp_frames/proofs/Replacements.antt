@@ -5,7 +5,7 @@ use Rattle.std.proofs.lemmas.Option.{slice_get_within}
 use Rattle.jv_heap.specs.Content.{words_at}
 use Rattle.jv_meaning_world.specs.World.{Loaded, World, class_named}
 use Rattle.jv_meaning_world.specs.Numbers.{HoldsAtNumber, HoldsAtBoth}
-use Rattle.jv_meaning_typing.specs.of_meaning_linking.Layout.{object_words, object_cells}
+use Rattle.jv_meaning_typing.specs.Layout.{object_words, object_cells}
 use Rattle.jv_meaning_machine.specs.Faults.{OrFault, found, ◌>>=◌}
 use Rattle.jv_meaning_machine.specs.Faults.Fault.{ReferenceFault}
 use Rattle.jv_meaning_machine.specs.Objects.{is_at_or_below}
@@ -13,9 +13,9 @@ use Rattle.jv_meaning_machine.specs.State.{Program, Memory, Control}
 use Rattle.jv_meaning_machine.specs.Costs.{paid}
 use Rattle.jv_meaning_machine.specs.Throws.{Thrown, thrown, exception, exception_made, replacement_if}
 use Rattle.jv_interp_words.proofs.Gave.{bound_gave, found_gave}
-use Rattle.jv_interp_objects.specs.ObjectsInBlocks.{Blocks, HasNumber}
-use Rattle.jv_interp_objects.specs.NewBlocks.{Joins}
-use Rattle.jv_interp_objects.proofs.NewWords.{joined_words}
+use Rattle.jv_interp_memory.specs.ObjectsInBlocks.{Blocks, HasNumber}
+use Rattle.jv_interp_memory.specs.NewBlocks.{Joins}
+use Rattle.jv_interp_memory.proofs.NewWords.{joined_words}
 use Rattle.jv_interp_memory.specs.declared.held.Held.{Held}
 use Rattle.jv_interp_memory.specs.HeldInWords.{MemoryStands}
 use Rattle.jv_interp_memory.specs.SystemNumbers.{IsGuestsWorld, AreSystemNumbers, SystemHasNumbers}

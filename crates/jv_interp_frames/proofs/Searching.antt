@@ -4,7 +4,7 @@ use Rattle.std.specs.List.{find}
 use Rattle.std.specs.Option.{option_or}
 use Rattle.std.proofs.lemmas.List.{take-append-drop}
 use Rattle.std.proofs.lemmas.List.Folds.{find-append}
-use Rattle.jv_interp_methods.proofs.laws_of_classes.Numbers.{take_more}
+use Rattle.jv_classes.proofs.Numbers.{take_more}
 
 module _ {X : Type 0} (p : X → Bool) (xs : List X) (k : ℕ) (x : X) (before : find p (take k xs) ≡ None) (there : slice_get xs k ≡ Some x) where
   pub find_more : p x ≡ false → find p (take (k + 1) xs) ≡ None

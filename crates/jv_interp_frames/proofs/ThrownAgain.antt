@@ -13,7 +13,7 @@ use Rattle.jv_meaning_machine.specs.Fields.{instance_in}
 use Rattle.jv_meaning_machine.specs.State.{Program, Memory, Control}
 use Rattle.jv_meaning_machine.specs.Throws.{Thrown, thrown, thrown_once_more}
 use Rattle.jv_interp_words.proofs.Gave.{bound_gave, found_gave}
-use Rattle.jv_interp_objects.specs.ObjectsInBlocks.{Blocks, HasNumber, InstanceStands}
+use Rattle.jv_interp_memory.specs.ObjectsInBlocks.{Blocks, HasNumber, InstanceStands}
 use Rattle.jv_interp_memory.specs.declared.held.Held.{Held}
 use Rattle.jv_interp_memory.specs.HeldInWords.{MemoryStands}
 use Rattle.jv_interp_frames.specs.declared.throwing.Thrown.{Thrown as ThrownInWords}

@@ -13,10 +13,10 @@ use Rattle.jv_meaning_machine.specs.Throws.{Thrown as ThrownOfNames, at_handler,
 use Rattle.jv_interp_words.specs.FramesInWords.{in_use}
 use Rattle.jv_interp_words.proofs.Gave.{bound_gave, tested_gave}
 use Rattle.jv_interp_words.proofs.Grown.{frames_grown}
-use Rattle.jv_interp_objects.specs.ObjectsInBlocks.{Blocks}
+use Rattle.jv_interp_memory.specs.ObjectsInBlocks.{Blocks}
 use Rattle.jv_interp_memory.specs.declared.held.Held.{Held}
-use Rattle.jv_interp_methods.specs.declared.methods.Methods.{Methods}
-use Rattle.jv_interp_methods.specs.Methods.{AreMethods}
+use Rattle.jv_interp_calls.specs.declared.methods.Methods.{Methods}
+use Rattle.jv_interp_calls.specs.Methods.{AreMethods}
 use Rattle.jv_interp_frames.specs.declared.frames.Frames.{Frames}
 use Rattle.jv_interp_frames.specs.declared.control.Control.{Control}
 use Rattle.jv_interp_frames.specs.declared.control.End.TheVariants as ends
@@ -102,7 +102,7 @@ module _ (world : World) (thrown : Thrown) (program : Program) (texts : List (Li
     last_stands None e = absurd cc
     last_stands (Some name) e =
         let same : name ≡ l.walked.now.class = cc in
-        subst (λ (n : List ℕ). Rattle.jv_interp_objects.specs.ObjectsInBlocks.HasNumber program.world n landing.thrown.class) (sym same) l.walked.stands.class
+        subst (λ (n : List ℕ). Rattle.jv_interp_memory.specs.ObjectsInBlocks.HasNumber program.world n landing.thrown.class) (sym same) l.walked.stands.class
 
     thrown_control : (passed_kept : Control) → ControlStands program.world passed_control passed_kept
         → ControlStands program.world l.walked.now.control (record passed_kept { throws = landing.thrown.throws; last = Some landing.thrown.class })

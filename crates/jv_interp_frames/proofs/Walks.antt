@@ -4,7 +4,7 @@ use Rattle.std.specs.Option.{option_map}
 use Rattle.std.proofs.lemmas.List.{get_or-reverse, length-reverse}
 use Rattle.std.proofs.lemmas.Option.{slice_get-get_or, slice_get_within}
 use Rattle.jv_format.specs.declared.handlers.Handler.{Handler}
-use Rattle.jv_interp_methods.proofs.laws_of_classes.Numbers.{take_more}
+use Rattle.jv_classes.proofs.Numbers.{take_more}
 use Rattle.jv_meaning_world.specs.World.{World}
 use Rattle.jv_meaning_machine.specs.Frames.{MethodFrame, Frame}
 use Rattle.jv_meaning_machine.specs.Frames.Frame.{Runs, Initializes}
@@ -15,7 +15,7 @@ use Rattle.jv_interp_words.specs.declared.records.InitializationRecord.{Initiali
 use Rattle.jv_interp_words.specs.declared.records.FrameRecord.{FrameRecord}
 use Rattle.jv_interp_words.specs.declared.records.FrameRecord.TheVariants as records
 use Rattle.jv_interp_words.proofs.Gave.{bound_gave}
-use Rattle.jv_interp_objects.specs.ObjectsInBlocks.{Blocks}
+use Rattle.jv_interp_memory.specs.ObjectsInBlocks.{Blocks}
 use Rattle.jv_interp_memory.specs.declared.held.Held.{Held}
 use Rattle.jv_interp_frames.specs.declared.throwing.Thrown.{Thrown as ThrownInWords}
 use Rattle.jv_interp_frames.specs.Inside.Handling.{pc_of, Handling}

@@ -6,7 +6,7 @@ use Rattle.jv_meaning_machine.specs.State.{Control as ControlOfNames, End as End
 use Rattle.jv_meaning_machine.specs.State.End.{Running, Returned, Threw, NoMain}
 use Rattle.jv_meaning_machine.specs.Initialization.{main_method}
 use Rattle.jv_interp_words.specs.FramesInWords.{methods_of}
-use Rattle.jv_interp_objects.specs.ObjectsInBlocks.{HasNumber}
+use Rattle.jv_interp_memory.specs.ObjectsInBlocks.{HasNumber}
 use Rattle.jv_interp_memory.specs.ClassStates.{AreClassStates}
 use Rattle.jv_interp_frames.specs.declared.control.Control.{Control}
 use Rattle.jv_interp_frames.specs.declared.control.End.{End}

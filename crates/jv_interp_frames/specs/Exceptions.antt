@@ -1,7 +1,7 @@
 -- Exceptions that the machine makes (own).
 use Rattle.std.specs.Prelude.{◌≡◌, ℕ, ◌+◌, ◌≤◌, ◌∷◌, Option, Some, None, replicate}
-use Rattle.jv_interp_objects.specs.ObjectsInBlocks.{Blocks}
-use Rattle.jv_interp_objects.specs.NewBlocks.{Joins}
+use Rattle.jv_interp_memory.specs.ObjectsInBlocks.{Blocks}
+use Rattle.jv_interp_memory.specs.NewBlocks.{Joins}
 
 -- An object of the class with a number was made, which has so many words and costs a cell more; or it was not, as its cells are not left.
 abbrev pub IsMade : ℕ → ℕ → ℕ → ℕ → Blocks → Blocks → Option ℕ → Type 0

@@ -5,3 +5,9 @@ pub mod Handling
 pub mod Walking
 pub mod Unwinding
 pub mod Nexts
+pub mod Above
+pub mod Returning
+pub mod Tasks
+pub mod DoingTasks
+pub mod Constants
+pub mod Finishing

@@ -9,8 +9,8 @@ use Rattle.jv_meaning_machine.specs.Entering.{leave}
 use Rattle.jv_meaning_machine.specs.Laws.Shapes.{used_words}
 use Rattle.jv_interp_words.specs.ValuesInWords.{AreOnTop}
 use Rattle.jv_interp_words.specs.FramesInWords.{in_use}
-use Rattle.jv_interp_methods.specs.declared.methods.Methods.{Methods}
-use Rattle.jv_interp_methods.specs.Methods.{AreMethods}
+use Rattle.jv_interp_calls.specs.declared.methods.Methods.{Methods}
+use Rattle.jv_interp_calls.specs.Methods.{AreMethods}
 use Rattle.jv_interp_frames.specs.declared.frames.Frames.{Frames}
 use Rattle.jv_interp_frames.specs.declared.control.Control.{Control}
 use Rattle.jv_interp_frames.specs.FramesStand.{FramesStand}

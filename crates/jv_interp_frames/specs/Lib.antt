@@ -6,7 +6,11 @@ pub mod Exceptions
 pub mod Inside
 pub mod Leaving
 pub mod Suspending
-pub use Rattle.jv_interp_methods.specs as of_interp_methods
-pub use Rattle.jv_interp_steps.specs as of_interp_steps
-pub use Rattle.jv_interp_methods.specs.of_linked
-pub use Rattle.jv_interp_methods.specs.of_loader
+pub mod Running
+pub mod Acting
+pub mod Resuming
+pub mod Initializing
+pub use Rattle.jv_interp_calls.specs as of_interp_calls
+pub use Rattle.jv_interp_calls.specs.of_link
+pub use Rattle.jv_interp_calls.specs.of_linked
+pub use Rattle.jv_interp_calls.specs.of_loader

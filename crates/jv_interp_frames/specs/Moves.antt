@@ -15,7 +15,7 @@ use Rattle.jv_meaning_machine.specs.Entering.{within_words, passed_values, enter
 use Rattle.jv_meaning_machine.specs.Initialization.{is_verified, begin}
 use Rattle.jv_interp_words.specs.ValuesInWords.{AreOnTop}
 use Rattle.jv_interp_words.specs.FramesInWords.{in_use, methods_of}
-use Rattle.jv_interp_objects.specs.ObjectsInBlocks.{Blocks, HasNumber}
+use Rattle.jv_interp_memory.specs.ObjectsInBlocks.{Blocks, HasNumber}
 use Rattle.jv_interp_memory.specs.declared.held.Held.{Held}
 use Rattle.jv_interp_memory.specs.HeldInWords.{MemoryStands}
 use Rattle.jv_interp_frames.specs.declared.frames.Frames.{Frames}

@@ -1,8 +1,8 @@
 //! Initializations that are begun (JVMS 5.5).
 
 ghost use Rattle.std.specs.Prelude.{◌≡◌, ◌+◌, ◌<◌, ◌≤◌, IsOk, IsTrue, OnOk, OnErr};
-ghost use Rattle.jv_interp_methods.specs.of_linked.Linked.{IsLinked};
-ghost use Rattle.jv_interp_methods.specs.Methods.{AreMethods};
+ghost use Rattle.jv_interp_calls.specs.of_linked.Linked.{IsLinked};
+ghost use Rattle.jv_interp_calls.specs.Methods.{AreMethods};
 ghost use Rattle.jv_interp_frames.specs.Standing.{kept, CanMove, Moved};
 ghost use Rattle.jv_interp_frames.specs.Moves.{Beginning};
 
@@ -11,11 +11,11 @@ use crate::frames::{Frames, push_record};
 use crate::states::set_state;
 use crate::throws::raise;
 use jv_heap::{Memory, Store};
+use jv_interp_calls::Methods;
+use jv_interp_calls::of_link::class_at;
+use jv_interp_calls::of_linked::Linked;
+use jv_interp_calls::of_loader::Classes;
 use jv_interp_memory::{ClassState, Held, NO_CLASS, STACK_OVERFLOW, VERIFY, system_has_numbers};
-use jv_interp_methods::Methods;
-use jv_interp_methods::of_link::class_at;
-use jv_interp_methods::of_linked::Linked;
-use jv_interp_methods::of_loader::Classes;
 use jv_interp_words::{FrameRecord, InitializationRecord};
 
 /// The initialization of the class with a number is begun, by its state (JVMS 5.5, steps 3 to 6): where it goes on or is done, nothing is

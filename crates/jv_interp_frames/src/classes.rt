@@ -4,7 +4,7 @@ ghost use Rattle.std.specs.Prelude.{◌≡◌, ◌<◌, length};
 ghost use Rattle.jv_meaning_world.specs.Numbers.{HoldsAtNumber, HoldsAtBoth};
 ghost use Rattle.jv_meaning_machine.specs.Objects.{is_at_or_below as is_at_or_below_named};
 
-use jv_interp_methods::of_loader::ClassTable;
+use jv_interp_calls::of_loader::ClassTable;
 
 /// Whether a class is another one, or below it.
 pub(crate) fn is_at_or_below(table: &ClassTable<'_>, class: usize, other: usize) -> bool

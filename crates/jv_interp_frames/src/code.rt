@@ -9,7 +9,7 @@ ghost use Rattle.jv_meaning_machine.specs.Costs.{code_words};
 ghost use Rattle.jv_interp_frames.specs.Inside.Codes.{IsCodeOf, CanFind};
 
 use jv_class::MethodCode;
-use jv_interp_methods::Methods;
+use jv_interp_calls::Methods;
 
 /// The code of the method with a number, which can be entered.
 #[inline(always)]

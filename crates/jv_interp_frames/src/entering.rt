@@ -1,8 +1,8 @@
 //! Methods that are entered (JVMS 2.6).
 
 ghost use Rattle.std.specs.Prelude.{◌≡◌, ◌+◌, ◌<◌, ◌≤◌, IsOk, IsTrue, OnOk, OnErr};
-ghost use Rattle.jv_interp_methods.specs.of_linked.Linked.{IsLinked};
-ghost use Rattle.jv_interp_methods.specs.Methods.{AreMethods};
+ghost use Rattle.jv_interp_calls.specs.of_linked.Linked.{IsLinked};
+ghost use Rattle.jv_interp_calls.specs.Methods.{AreMethods};
 ghost use Rattle.jv_interp_frames.specs.Standing.{kept, CanMove, Moved};
 ghost use Rattle.jv_interp_frames.specs.Moves.{Entering};
 
@@ -11,10 +11,10 @@ use crate::control::Control;
 use crate::frames::{Frames, push_record};
 use crate::throws::raise;
 use jv_heap::{Memory, Store};
+use jv_interp_calls::Methods;
+use jv_interp_calls::of_linked::Linked;
+use jv_interp_calls::of_loader::Classes;
 use jv_interp_memory::{Held, STACK_OVERFLOW, system_has_numbers};
-use jv_interp_methods::Methods;
-use jv_interp_methods::of_linked::Linked;
-use jv_interp_methods::of_loader::Classes;
 use jv_interp_words::{FrameRecord, MethodRecord};
 
 /// The method with a number is entered above the others: its receiver and its arguments are words on those in use, and become its first

@@ -4,8 +4,7 @@ ghost use Rattle.std.specs.Prelude.{◌≡◌, ◌+◌, ◌<◌, ◌≤◌, IfOk
 ghost use Rattle.jv_interp_frames.specs.Exceptions.{IsMade};
 
 use jv_heap::{Memory, Store};
-use jv_interp_memory::Held;
-use jv_interp_objects::make_object;
+use jv_interp_memory::{Held, make_object};
 
 /// A new object of the class with a number, whose objects have so many words, and its address; none where its cells are not left.
 ///

@@ -8,15 +8,15 @@ ghost use Rattle.jv_pool.specs.Constants.{class_name_at};
 ghost use Rattle.jv_meaning_world.specs.Numbers.{HoldsAtNumber, HoldsAtBoth};
 ghost use Rattle.jv_meaning_typing.specs.Typing.{covers as covers_offset};
 ghost use Rattle.jv_meaning_machine.specs.Throws.{catches as catches_class};
-ghost use Rattle.jv_interp_methods.specs.Methods.{AreMethods};
+ghost use Rattle.jv_interp_calls.specs.Methods.{AreMethods};
 ghost use Rattle.jv_interp_frames.specs.Inside.Handling.{takes as takes_at, pc_of, CanHandle, IsHandled};
 
 use crate::classes::is_at_or_below_name;
 use crate::code::{class_of, code_of};
 use jv_format::{ExceptionTable, Handler};
-use jv_interp_methods::Methods;
-use jv_interp_methods::of_link::class_at;
-use jv_interp_methods::of_loader::{ClassTable, Classes};
+use jv_interp_calls::Methods;
+use jv_interp_calls::of_link::class_at;
+use jv_interp_calls::of_loader::{ClassTable, Classes};
 use jv_interp_words::MethodRecord;
 use jv_pool::Pool;
 

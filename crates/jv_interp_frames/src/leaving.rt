@@ -2,13 +2,13 @@
 
 ghost use Rattle.std.specs.Prelude.{◌≡◌, ◌+◌, ◌++◌, ◌≤◌, length, take};
 ghost use Rattle.jv_interp_words.specs.FramesInWords.{in_use};
-ghost use Rattle.jv_interp_methods.specs.Methods.{AreMethods};
+ghost use Rattle.jv_interp_calls.specs.Methods.{AreMethods};
 ghost use Rattle.jv_interp_frames.specs.Leaving.{CanLeave, Leaves};
 ghost use Rattle.jv_interp_frames.specs.Inside.Nexts.{HasNext, IsNext};
 
 use crate::control::{Control, End};
 use crate::frames::{Frames, push_record};
-use jv_interp_methods::Methods;
+use jv_interp_calls::Methods;
 use jv_interp_words::{FrameRecord, MethodRecord};
 
 /// So many words come down to stand on others below them.

@@ -1,16 +1,16 @@
 //! Frames that a throw passes (JVMS 2.10, 5.5).
 
-ghost use Rattle.jv_interp_methods.specs.Methods.{AreMethods};
+ghost use Rattle.jv_interp_calls.specs.Methods.{AreMethods};
 ghost use Rattle.jv_interp_frames.specs.Inside.Passing.{CanPass, Passes, CanPassAll, PassesAll, CanCatch, Catches};
 
 use crate::code::{code_of, words_of};
 use crate::control::Control;
 use crate::frames::{Frames, push_record};
 use crate::states::set_state;
+use jv_interp_calls::Methods;
+use jv_interp_calls::of_link::class_at;
+use jv_interp_calls::of_loader::Classes;
 use jv_interp_memory::ClassState;
-use jv_interp_methods::Methods;
-use jv_interp_methods::of_link::class_at;
-use jv_interp_methods::of_loader::Classes;
 use jv_interp_words::{FrameRecord, MethodRecord, push_word};
 
 /// A throw passes the newest frame: its words are given back, and where it is the initialization of a class, that becomes erroneous.

@@ -1,18 +1,18 @@
 //! Throws (JVMS 2.10): an object goes up the frames until a handler takes it.
 
 ghost use Rattle.std.specs.Prelude.{◌≡◌, ◌+◌, ◌-◌, ◌^◌, ◌<◌, ◌≤◌, length, min, true, false, IfOk, IsOk, IsTrue, OnOk, OnErr};
-ghost use Rattle.jv_interp_methods.specs.of_linked.Linked.{IsLinked};
+ghost use Rattle.jv_interp_calls.specs.of_linked.Linked.{IsLinked};
 ghost use Rattle.jv_interp_frames.specs.Inside.Walking.{CanReplace, Replaces, IsKnown, StaysUnlessMade, CanWalk, Lands};
-ghost use Rattle.jv_interp_methods.specs.Methods.{AreMethods};
+ghost use Rattle.jv_interp_calls.specs.Methods.{AreMethods};
 
 use crate::classes::is_at_or_below;
 use crate::exceptions::make_exception;
 use crate::handlers::handler_of;
 use jv_heap::{Memory, Store};
+use jv_interp_calls::Methods;
+use jv_interp_calls::of_linked::Linked;
+use jv_interp_calls::of_loader::Classes;
 use jv_interp_memory::{ERROR, Held, IN_INITIALIZER, system_has_numbers};
-use jv_interp_methods::Methods;
-use jv_interp_methods::of_linked::Linked;
-use jv_interp_methods::of_loader::Classes;
 use jv_interp_words::FrameRecord;
 
 /// What is thrown: the address of the object, the number of its class, and how many throws there were so far, up to 2^64 - 1 (own).

@@ -1,8 +1,8 @@
 //! Objects that are thrown, and exceptions that the machine throws (JVMS 2.10).
 
 ghost use Rattle.std.specs.Prelude.{◌≡◌, ◌+◌, ◌<◌, ◌≤◌, IsOk, IsTrue, OnOk, OnErr};
-ghost use Rattle.jv_interp_methods.specs.of_linked.Linked.{IsLinked};
-ghost use Rattle.jv_interp_methods.specs.Methods.{AreMethods};
+ghost use Rattle.jv_interp_calls.specs.of_linked.Linked.{IsLinked};
+ghost use Rattle.jv_interp_calls.specs.Methods.{AreMethods};
 ghost use Rattle.jv_interp_frames.specs.Standing.{kept, CanMove, Moved};
 ghost use Rattle.jv_interp_frames.specs.Moves.{Throwing, Raising};
 
@@ -12,10 +12,10 @@ use crate::frames::Frames;
 use crate::throwing::{Thrown, once_more};
 use crate::unwinding::unwind;
 use jv_heap::{Memory, Store};
+use jv_interp_calls::Methods;
+use jv_interp_calls::of_linked::Linked;
+use jv_interp_calls::of_loader::Classes;
 use jv_interp_memory::Held;
-use jv_interp_methods::Methods;
-use jv_interp_methods::of_linked::Linked;
-use jv_interp_methods::of_loader::Classes;
 
 /// The object at an address is thrown in the newest frame (JVMS 2.10, 6.5, athrow).
 ///

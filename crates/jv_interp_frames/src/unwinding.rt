@@ -1,8 +1,8 @@
 //! What is thrown goes up the frames of a guest (JVMS 2.10).
 
 ghost use Rattle.std.specs.Prelude.{◌≡◌, ◌+◌, ◌<◌, ◌≤◌, false, IsOk, IsTrue, OnOk, OnErr};
-ghost use Rattle.jv_interp_methods.specs.of_linked.Linked.{IsLinked};
-ghost use Rattle.jv_interp_methods.specs.Methods.{AreMethods};
+ghost use Rattle.jv_interp_calls.specs.of_linked.Linked.{IsLinked};
+ghost use Rattle.jv_interp_calls.specs.Methods.{AreMethods};
 ghost use Rattle.jv_interp_frames.specs.Standing.{kept};
 ghost use Rattle.jv_interp_frames.specs.Inside.Unwinding.{CanUnwind, Unwinds};
 
@@ -11,10 +11,10 @@ use crate::frames::Frames;
 use crate::passing::{catch_thrown, pass_frames};
 use crate::throwing::{Thrown, walk};
 use jv_heap::{Memory, Store};
+use jv_interp_calls::Methods;
+use jv_interp_calls::of_linked::Linked;
+use jv_interp_calls::of_loader::Classes;
 use jv_interp_memory::Held;
-use jv_interp_methods::Methods;
-use jv_interp_methods::of_linked::Linked;
-use jv_interp_methods::of_loader::Classes;
 
 /// What is thrown goes up the frames, to a handler or out of all of them.
 ///

@@ -3,10 +3,10 @@ use Rattle.std.proofs.Common.{◌≡◌, ℕ, zero, suc, ◌+◌, ◌<◌, inl, 
 use Rattle.std.proofs.lemmas.List.Elements.{Contains-append_cases}
 use Rattle.jv_heap.specs.Content.{words_at, greatest}
 use Rattle.jv_heap.proofs.LookUps.{greatest-append_above}
-use Rattle.jv_interp_objects.specs.ObjectsInBlocks.{Blocks}
-use Rattle.jv_interp_objects.specs.NewBlocks.{Joins}
-use Rattle.jv_interp_objects.proofs.Joined.{within, others_stay}
-use Rattle.jv_interp_objects.proofs.Changed.{Changes}
+use Rattle.jv_interp_memory.specs.ObjectsInBlocks.{Blocks}
+use Rattle.jv_interp_memory.specs.NewBlocks.{Joins}
+use Rattle.jv_interp_memory.proofs.Joined.{within, others_stay}
+use Rattle.jv_interp_memory.proofs.Changed.{Changes}
 use Rattle.jv_interp_memory.specs.Growing.{Grows}
 
 pub one_in : (a x : ℕ) → Contains (a ∷ []) x → a ≡ x

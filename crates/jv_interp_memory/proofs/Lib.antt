@@ -1,6 +1,14 @@
+pub mod Grown
+pub mod Joined
+pub mod Fields
+pub mod Components
+pub mod Changed
+pub mod NewWords
+pub mod Widths
+pub mod NewObjects
+pub mod Carried
 pub mod Popped
 pub mod Numbered
 pub mod Growths
 pub mod Raised
 pub mod Unmoved
-pub use Rattle.jv_interp_objects.proofs as laws_of_interp_objects

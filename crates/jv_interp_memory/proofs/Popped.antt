@@ -1,10 +1,10 @@
 -- What is taken from the top of a frame's stack, and the frame without it.
 use Rattle.std.proofs.Common.{◌≡◌, ℕ, suc, ◌≤◌, List, ◌∷◌, ◌++◌, Some, length, reverse, sym, ap, subst, ◌∙◌, get_or, drop, arith, slice_get}
-use Rattle.jv_interp_objects.specs.of_meaning_machine.Values.{Value}
-use Rattle.jv_interp_objects.specs.of_meaning_machine.Values.Value.{Int, Long, Null, Reference, Half, Unset}
-use Rattle.jv_interp_objects.specs.of_interp_words.ValuesInWords.{AreAddresses, IsOnTop, AreOnTop}
-use Rattle.jv_interp_objects.specs.of_interp_words.FramesInWords.{in_use, FrameStands}
-use Rattle.jv_interp_objects.proofs.laws_of_interp_words.InUse.{length-in_use}
+use Rattle.jv_interp_words.specs.of_meaning_machine.Values.{Value}
+use Rattle.jv_interp_words.specs.of_meaning_machine.Values.Value.{Int, Long, Null, Reference, Half, Unset}
+use Rattle.jv_interp_words.specs.ValuesInWords.{AreAddresses, IsOnTop, AreOnTop}
+use Rattle.jv_interp_words.specs.FramesInWords.{in_use, FrameStands}
+use Rattle.jv_interp_words.proofs.InUse.{length-in_use}
 
 pub record Popped (addresses : List ℕ) (locals : List Value) (value : Value) (rest : List Value) (used below : List ℕ) : Type 0 where
   pub under : List ℕ

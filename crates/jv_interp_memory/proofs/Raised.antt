@@ -1,12 +1,12 @@
 -- An exception that the machine raises, and a frame that goes on over the same memory: they stand, where all else is as it was.
 use Rattle.std.proofs.Common.{◌≡◌, ℕ, List, [], ◌∷◌, ◌++◌, length, refl, sym, ap, subst, ◌∙◌, append-nil}
-use Rattle.jv_interp_objects.specs.of_meaning_machine.Values.{Value}
-use Rattle.jv_interp_objects.specs.of_meaning_machine.State.{Memory}
-use Rattle.jv_interp_objects.specs.of_meaning_machine.Effects.{Effect, Context, Outcome}
-use Rattle.jv_interp_objects.specs.of_meaning_machine.Effects.Effect.{Goes, Raises}
-use Rattle.jv_interp_objects.specs.of_interp_words.declared.registers.Registers.{Registers}
-use Rattle.jv_interp_objects.specs.of_interp_words.FramesInWords.{in_use, FrameStands}
-use Rattle.jv_interp_objects.specs.ObjectsInBlocks.{HasNumber}
+use Rattle.jv_interp_words.specs.of_meaning_machine.Values.{Value}
+use Rattle.jv_interp_words.specs.of_meaning_machine.State.{Memory}
+use Rattle.jv_interp_words.specs.of_meaning_machine.Effects.{Effect, Context, Outcome}
+use Rattle.jv_interp_words.specs.of_meaning_machine.Effects.Effect.{Goes, Raises}
+use Rattle.jv_interp_words.specs.declared.registers.Registers.{Registers}
+use Rattle.jv_interp_words.specs.FramesInWords.{in_use, FrameStands}
+use Rattle.jv_interp_memory.specs.ObjectsInBlocks.{HasNumber}
 use Rattle.jv_interp_memory.specs.declared.effect.Effect.TheVariants as effects
 use Rattle.jv_interp_memory.specs.EffectsInWords.{EffectStands}
 use Rattle.jv_interp_memory.specs.Executing.{Place, Executes, Did}

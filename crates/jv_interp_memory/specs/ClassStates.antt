@@ -1,8 +1,8 @@
 -- How the states of a guest's classes are kept (JVMS 5.5): each at its class's number.
 use Rattle.std.specs.Prelude.{◌≡◌, ℕ, List, Some, slice_get}
-use Rattle.jv_interp_objects.specs.of_meaning_world.World.{Loaded, World}
-use Rattle.jv_interp_objects.specs.of_meaning_machine.State.{ClassState as StateOfNames, ClassStates, class_state}
-use Rattle.jv_interp_objects.specs.of_meaning_machine.State.ClassState.{Untouched, Begun, Initialized, Erroneous}
+use Rattle.jv_interp_words.specs.of_meaning_world.World.{Loaded, World}
+use Rattle.jv_interp_words.specs.of_meaning_machine.State.{ClassState as StateOfNames, ClassStates, class_state}
+use Rattle.jv_interp_words.specs.of_meaning_machine.State.ClassState.{Untouched, Begun, Initialized, Erroneous}
 use Rattle.jv_interp_memory.specs.declared.class_state.ClassState.{ClassState}
 use Rattle.jv_interp_memory.specs.declared.class_state.ClassState.TheVariants as kept
 

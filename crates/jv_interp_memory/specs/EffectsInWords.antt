@@ -2,19 +2,19 @@
 -- on top; where something is thrown, or an initialization is begun, the frame is as it was.
 use Rattle.std.specs.Prelude.{◌≡◌, ℕ, ◌≤◌, List, ◌++◌, Some, length, reverse, slice_get}
 use Rattle.std.specs.List.{flat_map}
-use Rattle.jv_interp_objects.specs.of_meaning_world.World.{World}
-use Rattle.jv_interp_objects.specs.of_meaning_world.Overriding.{Declared}
-use Rattle.jv_interp_objects.specs.of_meaning_machine.Values.{Value, words_of_values}
-use Rattle.jv_interp_objects.specs.of_meaning_machine.Objects.Object.{InstanceOf}
-use Rattle.jv_interp_objects.specs.of_meaning_machine.Frames.{MethodFrame, local_words}
-use Rattle.jv_interp_objects.specs.of_meaning_machine.State.{Memory}
-use Rattle.jv_interp_objects.specs.of_meaning_machine.Effects.{Effect as EffectOfNames}
-use Rattle.jv_interp_objects.specs.of_meaning_machine.Effects.Effect.{Goes, Enters, Constructs, Leaves, Throws, Raises, Begins}
-use Rattle.jv_interp_objects.specs.of_meaning_machine.Entering.{passed_values}
-use Rattle.jv_interp_objects.specs.of_interp_words.declared.registers.Registers.{Registers}
-use Rattle.jv_interp_objects.specs.of_interp_words.ValuesInWords.{AreOnTop}
-use Rattle.jv_interp_objects.specs.of_interp_words.FramesInWords.{FrameStands, methods_of}
-use Rattle.jv_interp_objects.specs.ObjectsInBlocks.{HasNumber}
+use Rattle.jv_interp_words.specs.of_meaning_world.World.{World}
+use Rattle.jv_interp_words.specs.of_meaning_world.Overriding.{Declared}
+use Rattle.jv_interp_words.specs.of_meaning_machine.Values.{Value, words_of_values}
+use Rattle.jv_interp_words.specs.of_meaning_machine.Objects.Object.{InstanceOf}
+use Rattle.jv_interp_words.specs.of_meaning_machine.Frames.{MethodFrame, local_words}
+use Rattle.jv_interp_words.specs.of_meaning_machine.State.{Memory}
+use Rattle.jv_interp_words.specs.of_meaning_machine.Effects.{Effect as EffectOfNames}
+use Rattle.jv_interp_words.specs.of_meaning_machine.Effects.Effect.{Goes, Enters, Constructs, Leaves, Throws, Raises, Begins}
+use Rattle.jv_interp_words.specs.of_meaning_machine.Entering.{passed_values}
+use Rattle.jv_interp_words.specs.declared.registers.Registers.{Registers}
+use Rattle.jv_interp_words.specs.ValuesInWords.{AreOnTop}
+use Rattle.jv_interp_words.specs.FramesInWords.{FrameStands, methods_of}
+use Rattle.jv_interp_memory.specs.ObjectsInBlocks.{HasNumber}
 use Rattle.jv_interp_memory.specs.declared.effect.Effect.{Effect}
 use Rattle.jv_interp_memory.specs.declared.effect.Effect.TheVariants as effects
 

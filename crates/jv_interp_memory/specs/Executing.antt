@@ -1,13 +1,13 @@
 -- What is executed on words, on what is held and on the store (JVMS 2.11, 6.5): where the machine meets no fault, what it does stands
 -- afterwards.
 use Rattle.std.specs.Prelude.{◌≡◌, ℕ, ◌+◌, ◌≤◌, ⊤, List, ◌++◌, Ok, length}
-use Rattle.jv_interp_objects.specs.of_meaning_machine.Values.{words_of_values}
-use Rattle.jv_interp_objects.specs.of_meaning_machine.State.{Memory}
-use Rattle.jv_interp_objects.specs.of_meaning_machine.Effects.{Effect as EffectOfNames, Context, Outcome}
-use Rattle.jv_interp_objects.specs.of_meaning_machine.Effects.Effect.{Goes}
-use Rattle.jv_interp_objects.specs.of_interp_words.declared.registers.Registers.{Registers}
-use Rattle.jv_interp_objects.specs.of_interp_words.FramesInWords.{in_use, FrameStands}
-use Rattle.jv_interp_objects.specs.ObjectsInBlocks.{Blocks}
+use Rattle.jv_interp_words.specs.of_meaning_machine.Values.{words_of_values}
+use Rattle.jv_interp_words.specs.of_meaning_machine.State.{Memory}
+use Rattle.jv_interp_words.specs.of_meaning_machine.Effects.{Effect as EffectOfNames, Context, Outcome}
+use Rattle.jv_interp_words.specs.of_meaning_machine.Effects.Effect.{Goes}
+use Rattle.jv_interp_words.specs.declared.registers.Registers.{Registers}
+use Rattle.jv_interp_words.specs.FramesInWords.{in_use, FrameStands}
+use Rattle.jv_interp_memory.specs.ObjectsInBlocks.{Blocks}
 use Rattle.jv_interp_memory.specs.declared.held.Held.{Held}
 use Rattle.jv_interp_memory.specs.declared.effect.Effect.{Effect}
 use Rattle.jv_interp_memory.specs.declared.effect.Effect.TheVariants as effects

@@ -1,9 +1,9 @@
 -- What a step of a guest does to the blocks of a store that it shares with others (JVMS 2.5.3; own).
 use Rattle.std.specs.Prelude.{ℕ, ◌≡◌, ◌<◌, ◌≤◌, List, Contains}
 use Rattle.jv_heap.specs.Content.{words_at, greatest}
-use Rattle.jv_interp_objects.specs.of_meaning_machine.State.{Memory}
-use Rattle.jv_interp_objects.specs.of_meaning_machine.Effects.{Effect as EffectOfNames, Context}
-use Rattle.jv_interp_objects.specs.ObjectsInBlocks.{Blocks}
+use Rattle.jv_interp_words.specs.of_meaning_machine.State.{Memory}
+use Rattle.jv_interp_words.specs.of_meaning_machine.Effects.{Effect as EffectOfNames, Context}
+use Rattle.jv_interp_memory.specs.ObjectsInBlocks.{Blocks}
 use Rattle.jv_interp_memory.specs.declared.effect.Effect.{Effect}
 use Rattle.jv_interp_memory.specs.Executing.{Place, Did}
 

@@ -1,14 +1,14 @@
 -- How a guest's memory stands in the blocks of the store and in what is held beside them (JVMS 2.5.3 to 2.5.5).
 use Rattle.std.specs.Prelude.{◌≡◌, ℕ, ◌+◌, ◌≤◌, List, Option, Some, None, drop, length, slice_get, vec_capacity}
 use Rattle.std.specs.List.{flat_map}
-use Rattle.jv_interp_objects.specs.of_meaning_world.World.{Loaded, World}
-use Rattle.jv_interp_objects.specs.of_meaning_world.LookUps.{DeclaredField, field_by}
-use Rattle.jv_interp_objects.specs.of_meaning_linking.Kind.{is_static_field}
-use Rattle.jv_interp_objects.specs.of_meaning_machine.Effects.{out_of_memory}
-use Rattle.jv_interp_objects.specs.of_meaning_machine.Initialization.{main_arguments}
-use Rattle.jv_interp_objects.specs.of_meaning_machine.Literals.{literal_in}
-use Rattle.jv_interp_objects.specs.of_meaning_machine.State.{Memory}
-use Rattle.jv_interp_objects.specs.ObjectsInBlocks.{Blocks, AreFields, ObjectsStand}
+use Rattle.jv_interp_words.specs.of_meaning_world.World.{Loaded, World}
+use Rattle.jv_interp_words.specs.of_meaning_world.LookUps.{DeclaredField, field_by}
+use Rattle.jv_interp_words.specs.of_meaning_typing.Kind.{is_static_field}
+use Rattle.jv_interp_words.specs.of_meaning_machine.Effects.{out_of_memory}
+use Rattle.jv_interp_words.specs.of_meaning_machine.Initialization.{main_arguments}
+use Rattle.jv_interp_words.specs.of_meaning_machine.Literals.{literal_in}
+use Rattle.jv_interp_words.specs.of_meaning_machine.State.{Memory}
+use Rattle.jv_interp_memory.specs.ObjectsInBlocks.{Blocks, AreFields, ObjectsStand}
 use Rattle.jv_interp_memory.specs.declared.held.Held.{Held}
 use Rattle.std.specs.Prelude.{filter, map}
 

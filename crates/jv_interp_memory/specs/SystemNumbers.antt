@@ -1,11 +1,11 @@
 -- The numbers of the system's classes whose objects the machine makes or throws, and of java/lang/Error (own): they stand first in
 -- the world of each guest.
 use Rattle.std.specs.Prelude.{◌≡◌, ℕ, ◌++◌, List, codes}
-use Rattle.jv_interp_objects.specs.of_meaning_world.FileContent.{FileContent, AreContents}
-use Rattle.jv_interp_objects.specs.of_meaning_world.System.Classes.{system_classes}
-use Rattle.jv_interp_objects.specs.of_meaning_world.World.{World, world_of}
-use Rattle.jv_interp_objects.specs.of_meaning_machine.Literals.{string_name}
-use Rattle.jv_interp_objects.specs.ObjectsInBlocks.{HasNumber}
+use Rattle.jv_interp_words.specs.of_meaning_world.FileContent.{FileContent, AreContents}
+use Rattle.jv_interp_words.specs.of_meaning_world.System.Classes.{system_classes}
+use Rattle.jv_interp_words.specs.of_meaning_world.World.{World, world_of}
+use Rattle.jv_interp_words.specs.of_meaning_machine.Literals.{string_name}
+use Rattle.jv_interp_memory.specs.ObjectsInBlocks.{HasNumber}
 use Rattle.jv_interp_memory.specs.declared.numbers.TheConstants.{STRING, ERROR, ARITHMETIC, ARRAY_STORE, CLASS_CAST, NEGATIVE_SIZE, NULL_POINTER, ARRAY_INDEX, OUT_OF_MEMORY, STACK_OVERFLOW, CIRCULARITY, IN_INITIALIZER, CLASS_CHANGE, NO_CLASS, VERIFY, ABSTRACT_METHOD, ILLEGAL_ACCESS, INSTANTIATION, NO_FIELD, NO_METHOD}
 
 -- the world of a guest's files, by what they hold

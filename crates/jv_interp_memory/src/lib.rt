@@ -1,15 +1,20 @@
-//! What instructions change beside the words of frames and the blocks of the store (JVMS 2.5), and what they do beside that (2.11): how
-//! both stand for the machine's. A room of `jv_interp`.
+//! What a guest holds beside the words of frames (JVMS 2.5): its objects in the blocks of a store (2.4, 2.7), how they stand there, how
+//! they are made, and how what they hold is read and written; and what instructions change of all that, and what they do beside it
+//! (2.11): how both stand for the machine's. A room of `jv_interp`.
 #![tactic(auto)]
 
+mod blocks;
 mod class_state;
 mod effect;
 mod held;
+mod narrowing;
 mod numbers;
 
+pub use blocks::{make_array, make_object};
 pub use class_state::ClassState;
 pub use effect::Effect;
 pub use held::Held;
+pub use narrowing::{Narrowing, narrowed};
 pub use numbers::{
     ABSTRACT_METHOD, ARITHMETIC, ARRAY_INDEX, ARRAY_STORE, CIRCULARITY, CLASS_CAST, CLASS_CHANGE,
     ERROR, ILLEGAL_ACCESS, IN_INITIALIZER, INSTANTIATION, NEGATIVE_SIZE, NO_CLASS, NO_FIELD,

@@ -2,10 +2,10 @@
 use Rattle.std.proofs.Common.{◌≡◌, ℕ, ◌+◌, ◌≤◌, nat_le, Bool, true, false, List, ◌∷◌, ◌++◌, Some, Ok, length, reverse, sym, ap, subst, ◌∙◌, arith, append_assoc}
 use Rattle.std.proofs.lemmas.List.Sums.{sum_by-cons}
 use Rattle.jv_code.specs.Insns.{Instruction}
-use Rattle.jv_interp_actions.specs.of_link.declared.site.Site.{Site}
-use Rattle.jv_interp_actions.specs.of_link.Seen.{seen_site}
-use Rattle.jv_interp_actions.specs.of_linked.declared.linked.Linked.{Linked}
-use Rattle.jv_interp_actions.specs.of_linked.Linked.{IsLinked}
+use Rattle.jv_interp_frames.specs.of_link.declared.site.Site.{Site}
+use Rattle.jv_interp_frames.specs.of_link.Seen.{seen_site}
+use Rattle.jv_interp_frames.specs.of_linked.declared.linked.Linked.{Linked}
+use Rattle.jv_interp_frames.specs.of_linked.Linked.{IsLinked}
 use Rattle.jv_meaning_world.specs.World.{World}
 use Rattle.jv_meaning_typing.specs.Environment.{instruction_at}
 use Rattle.jv_meaning_machine.specs.Faults.{found, tested, ◌>>=◌}
@@ -25,7 +25,7 @@ use Rattle.jv_interp_words.specs.declared.registers.Registers.{Registers}
 use Rattle.jv_interp_words.specs.FramesInWords.{in_use, AreFrames}
 use Rattle.jv_interp_words.proofs.Gave.{bound_gave, found_gave, tested_gave}
 use Rattle.jv_interp_words.proofs.Grown.{frames_grown}
-use Rattle.jv_interp_objects.specs.ObjectsInBlocks.{Blocks, AreLoadable}
+use Rattle.jv_interp_memory.specs.ObjectsInBlocks.{Blocks, AreLoadable}
 use Rattle.jv_interp_memory.specs.declared.class_state.ClassState.{ClassState}
 use Rattle.jv_interp_memory.specs.ClassStates.{AreClassStates}
 use Rattle.jv_interp_memory.specs.declared.held.Held.{Held}
@@ -33,20 +33,20 @@ use Rattle.jv_interp_memory.specs.declared.effect.Effect.{Effect}
 use Rattle.jv_interp_memory.specs.Executing.{HasRoom, place}
 use Rattle.jv_interp_memory.specs.Growing.{Grows, DidIn}
 use Rattle.jv_interp_memory.specs.SystemNumbers.{IsGuestsWorld}
-use Rattle.jv_interp_actions.specs.of_interp_going.Going.{StaysIn}
-use Rattle.jv_interp_actions.specs.of_interp_methods.declared.methods.Methods.{Methods}
-use Rattle.jv_interp_actions.specs.of_interp_methods.Methods.{AreMethods}
-use Rattle.jv_interp_actions.specs.of_interp_calls.Known.{known, IsKnown}
+use Rattle.jv_interp_words.specs.Going.{StaysIn}
+use Rattle.jv_interp_frames.specs.of_interp_calls.declared.methods.Methods.{Methods}
+use Rattle.jv_interp_frames.specs.of_interp_calls.Methods.{AreMethods}
+use Rattle.jv_interp_frames.specs.of_interp_calls.Known.{known, IsKnown}
 use Rattle.jv_interp_execution.specs.InGuest.{ExecutesIn, CanExecuteAt, ExecutedAt}
-use Rattle.jv_interp_actions.specs.of_interp_frames.declared.frames.Frames.{Frames}
-use Rattle.jv_interp_actions.specs.of_interp_frames.declared.control.Control.{Control}
-use Rattle.jv_interp_actions.specs.of_interp_frames.Inside.Nexts.{Nexts}
-use Rattle.jv_interp_actions.specs.of_interp_frames.Standing.{Kept, kept, StateStands}
-use Rattle.jv_interp_actions.proofs.laws_of_interp_frames.Counted.{frames_bound}
-use Rattle.jv_interp_actions.proofs.laws_of_interp_frames.GrownTwice.{grows_twice}
-use Rattle.jv_interp_actions.proofs.laws_of_interp_frames.Unwound.{fits}
-use Rattle.jv_interp_actions.specs.Running.{HaveRoom, StateRuns}
-use Rattle.jv_interp_actions.specs.Acting.{RunsIn, Acting, ActedTo}
+use Rattle.jv_interp_frames.specs.declared.frames.Frames.{Frames}
+use Rattle.jv_interp_frames.specs.declared.control.Control.{Control}
+use Rattle.jv_interp_frames.specs.Inside.Nexts.{Nexts}
+use Rattle.jv_interp_frames.specs.Standing.{Kept, kept, StateStands}
+use Rattle.jv_interp_frames.proofs.Counted.{frames_bound}
+use Rattle.jv_interp_frames.proofs.GrownTwice.{grows_twice}
+use Rattle.jv_interp_frames.proofs.Unwound.{fits}
+use Rattle.jv_interp_frames.specs.Running.{HaveRoom, StateRuns}
+use Rattle.jv_interp_frames.specs.Acting.{RunsIn, Acting, ActedTo}
 use Rattle.jv_interp_runs.specs.Stepping.{StepsIn, SteppedTo}
 use Rattle.jv_interp_runs.specs.Inside.Decoding.{record_at, CanDecode, IsDecoded, StandsNext}
 use Rattle.jv_interp_runs.proofs.Fewer.{cells_fall}

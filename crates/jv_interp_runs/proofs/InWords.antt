@@ -11,15 +11,15 @@ use Rattle.jv_interp_words.specs.StatesInWords.{RunningStands}
 use Rattle.jv_interp_words.proofs.Gave.{bound_gave}
 use Rattle.jv_interp_memory.specs.declared.held.Held.{Held}
 use Rattle.jv_interp_memory.specs.HeldInWords.{MemoryStands}
-use Rattle.jv_interp_objects.specs.ObjectsInBlocks.{Blocks}
-use Rattle.jv_interp_actions.specs.of_interp_frames.declared.frames.Frames.{Frames}
-use Rattle.jv_interp_actions.specs.of_interp_frames.declared.control.Control.{Control as KeptControl}
-use Rattle.jv_interp_actions.specs.of_interp_frames.ControlStands.{ControlStands}
-use Rattle.jv_interp_actions.specs.of_interp_frames.Standing.{Kept, kept}
-use Rattle.jv_interp_actions.proofs.laws_of_interp_frames.MemoryJoined.{grows_not}
-use Rattle.jv_interp_actions.specs.Running.{StateRuns}
-use Rattle.jv_interp_actions.specs.of_interp_steps.Stepping.{Stepped}
-use Rattle.jv_interp_actions.specs.of_interp_steps.Running.{StandsHere, CanRun, RunsTo}
+use Rattle.jv_interp_memory.specs.ObjectsInBlocks.{Blocks}
+use Rattle.jv_interp_frames.specs.declared.frames.Frames.{Frames}
+use Rattle.jv_interp_frames.specs.declared.control.Control.{Control as KeptControl}
+use Rattle.jv_interp_frames.specs.ControlStands.{ControlStands}
+use Rattle.jv_interp_frames.specs.Standing.{Kept, kept}
+use Rattle.jv_interp_frames.proofs.MemoryJoined.{grows_not}
+use Rattle.jv_interp_frames.specs.Running.{StateRuns}
+use Rattle.jv_interp_words.specs.Stepping.{Stepped}
+use Rattle.jv_interp_words.specs.Running.{StandsHere, CanRun, RunsTo}
 use Rattle.jv_interp_runs.specs.Inside.Words.{OnlyInWords}
 use Rattle.jv_interp_runs.specs.Stepping.{RunsOn}
 use Rattle.jv_interp_runs.specs.Running.{Leads, IsSafe, RunsIn, RanOn}

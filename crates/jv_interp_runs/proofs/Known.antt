@@ -4,21 +4,21 @@ use Rattle.jv_code.specs.Insns.{Instruction, insn_bytes, insn_fits}
 use Rattle.jv_code.specs.Operands.{HasBytes}
 use Rattle.jv_code.specs.Places.{IsAt, IsStart}
 use Rattle.jv_code.proofs.StartLaws.{OneAtOffset-holds, end_within}
-use Rattle.jv_interp_actions.specs.of_link.declared.site.Site.{Site}
+use Rattle.jv_interp_frames.specs.of_link.declared.site.Site.{Site}
 use Rattle.jv_meaning_world.specs.World.{World}
 use Rattle.jv_meaning_typing.specs.Environment.{instruction_at, offset_behind}
 use Rattle.jv_meaning_machine.specs.State.{Program, State}
 use Rattle.jv_interp_words.specs.declared.registers.Registers.{Registers}
-use Rattle.jv_interp_objects.specs.ObjectsInBlocks.{Blocks}
+use Rattle.jv_interp_memory.specs.ObjectsInBlocks.{Blocks}
 use Rattle.jv_interp_memory.specs.declared.held.Held.{Held}
-use Rattle.jv_interp_actions.specs.of_interp_steps.Stepping.{StepsFrom, CanStep}
-use Rattle.jv_interp_actions.proofs.laws_of_interp_steps.StepsStand.{at_hand}
-use Rattle.jv_interp_actions.proofs.laws_of_interp_steps.OpcodesStand.{is_start, stands_at}
-use Rattle.jv_interp_actions.specs.of_interp_methods.declared.methods.Methods.{Methods}
-use Rattle.jv_interp_actions.specs.of_interp_methods.Methods.{AreMethods}
-use Rattle.jv_interp_actions.specs.of_interp_frames.declared.frames.Frames.{Frames}
-use Rattle.jv_interp_actions.specs.of_interp_frames.declared.control.Control.{Control}
-use Rattle.jv_interp_actions.specs.of_interp_frames.Standing.{kept}
+use Rattle.jv_interp_words.specs.Stepping.{StepsFrom, CanStep}
+use Rattle.jv_interp_words.proofs.StepsStand.{at_hand}
+use Rattle.jv_interp_words.proofs.OpcodesStand.{is_start, stands_at}
+use Rattle.jv_interp_frames.specs.of_interp_calls.declared.methods.Methods.{Methods}
+use Rattle.jv_interp_frames.specs.of_interp_calls.Methods.{AreMethods}
+use Rattle.jv_interp_frames.specs.declared.frames.Frames.{Frames}
+use Rattle.jv_interp_frames.specs.declared.control.Control.{Control}
+use Rattle.jv_interp_frames.specs.Standing.{kept}
 use Rattle.jv_interp_runs.specs.Inside.Decoding.{IsSiteOf, StandsNext}
 use Rattle.jv_interp_runs.specs.Stepping.{StepsIn}
 use Rattle.jv_interp_runs.proofs.Executed.{nexts_at}

@@ -2,7 +2,7 @@
 use Rattle.std.proofs.Common.{◌≡◌, ℕ, ◌+◌, List, [], ◌∷◌, sym, subst}
 use Rattle.jv_format.specs.Format.{byte, half}
 use Rattle.jv_code.specs.Operands.{HasBytes}
-use Rattle.jv_interp_actions.proofs.laws_of_interp_steps.OpcodesStand.{opcode_and}
+use Rattle.jv_interp_words.proofs.OpcodesStand.{opcode_and}
 
 pub with_index :
     (code : List ℕ) (pc opcode known index : ℕ) → known ≡ opcode → HasBytes code pc (opcode ∷ []) → HasBytes code (pc + 1) (half.spelling index)

@@ -16,20 +16,20 @@ use Rattle.jv_interp_words.specs.StatesInWords.{RunningStands}
 use Rattle.jv_interp_memory.specs.HeldInWords.{MemoryStands}
 use Rattle.std.specs.Option.{option_and_then}
 use Rattle.jv_interp_memory.specs.ClassStates.{AreClassStates}
-use Rattle.jv_interp_actions.specs.of_interp_frames.ControlStands.{IsClassOf, EndStands, ControlStands}
-use Rattle.jv_interp_objects.specs.ObjectsInBlocks.{Blocks}
+use Rattle.jv_interp_frames.specs.ControlStands.{IsClassOf, EndStands, ControlStands}
+use Rattle.jv_interp_memory.specs.ObjectsInBlocks.{Blocks}
 use Rattle.jv_interp_memory.specs.declared.held.Held.{Held}
-use Rattle.jv_interp_actions.specs.of_interp_methods.declared.methods.Methods.{Methods}
-use Rattle.jv_interp_actions.specs.of_interp_methods.Methods.{AreMethods}
-use Rattle.jv_interp_actions.specs.of_interp_frames.declared.frames.Frames.{Frames}
-use Rattle.jv_interp_actions.specs.of_interp_frames.declared.control.Control.{Control}
-use Rattle.jv_interp_actions.specs.of_interp_frames.FramesStand.{FramesStand}
-use Rattle.jv_interp_actions.specs.of_interp_frames.Standing.{Kept, kept, Moves, StateStands, Reaches}
-use Rattle.jv_interp_actions.specs.of_interp_frames.Suspending.{Suspending, CanSuspend, Suspends}
-use Rattle.jv_interp_actions.specs.Running.{StateRuns}
-use Rattle.jv_interp_actions.specs.Acting.{AreAsBefore}
-use Rattle.jv_interp_actions.specs.Resuming.{Resuming, CanResume, Resumed, NoneRuns}
-use Rattle.jv_interp_actions.specs.Initializing.{Initializing, IsAsBefore}
+use Rattle.jv_interp_frames.specs.of_interp_calls.declared.methods.Methods.{Methods}
+use Rattle.jv_interp_frames.specs.of_interp_calls.Methods.{AreMethods}
+use Rattle.jv_interp_frames.specs.declared.frames.Frames.{Frames}
+use Rattle.jv_interp_frames.specs.declared.control.Control.{Control}
+use Rattle.jv_interp_frames.specs.FramesStand.{FramesStand}
+use Rattle.jv_interp_frames.specs.Standing.{Kept, kept, Moves, StateStands, Reaches}
+use Rattle.jv_interp_frames.specs.Suspending.{Suspending, CanSuspend, Suspends}
+use Rattle.jv_interp_frames.specs.Running.{StateRuns}
+use Rattle.jv_interp_frames.specs.Acting.{AreAsBefore}
+use Rattle.jv_interp_frames.specs.Resuming.{Resuming, CanResume, Resumed, NoneRuns}
+use Rattle.jv_interp_frames.specs.Initializing.{Initializing, IsAsBefore}
 use Rattle.jv_interp_runs.specs.Guests.{IsLoadableOnTop, TakesStep}
 use Rattle.jv_interp_runs.specs.Running.{RunsFrom, RunsIn}
 use Rattle.jv_interp_runs.proofs.Fewer.{cells_fall}

@@ -4,8 +4,8 @@ use Rattle.std.specs.Prelude.{OnErr, vec_capacity}
 use Rattle.jv_interp_memory.specs.declared.effect.Effect.{Effect}
 use Rattle.jv_interp_memory.specs.declared.effect.Effect.TheVariants as effects
 use Rattle.jv_interp_memory.specs.Executing.{Place, IsUnmoved}
-use Rattle.jv_interp_actions.specs.of_interp_frames.declared.frames.Frames.{Frames}
-use Rattle.jv_interp_actions.specs.Acting.{AreAsBefore}
+use Rattle.jv_interp_frames.specs.declared.frames.Frames.{Frames}
+use Rattle.jv_interp_frames.specs.Acting.{AreAsBefore}
 
 not_ok : {E : Type 0} (refused : E) → IsOk {T = Bool} (Err refused) → ⊥
 not_ok refused h = cc

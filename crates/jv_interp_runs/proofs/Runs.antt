@@ -8,10 +8,10 @@ use Rattle.jv_meaning_machine.specs.Step.{step, after_steps}
 use Rattle.jv_interp_words.specs.declared.registers.Registers.{Registers}
 use Rattle.jv_interp_words.proofs.Gave.{bound_gave}
 use Rattle.jv_interp_memory.specs.Growing.{Grows}
-use Rattle.jv_interp_actions.specs.of_interp_frames.Standing.{Kept, StateStands, Reaches}
-use Rattle.jv_interp_actions.proofs.laws_of_interp_frames.GrownTwice.{grows_twice}
-use Rattle.jv_interp_actions.proofs.laws_of_interp_frames.MemoryJoined.{grows_not}
-use Rattle.jv_interp_actions.specs.Running.{StateRuns}
+use Rattle.jv_interp_frames.specs.Standing.{Kept, StateStands, Reaches}
+use Rattle.jv_interp_frames.proofs.GrownTwice.{grows_twice}
+use Rattle.jv_interp_frames.proofs.MemoryJoined.{grows_not}
+use Rattle.jv_interp_frames.specs.Running.{StateRuns}
 use Rattle.jv_interp_runs.specs.Guests.{TakesStep}
 use Rattle.jv_interp_runs.specs.Stepping.{StepsIn, RunsOn}
 use Rattle.jv_interp_runs.specs.Running.{Leads, IsSafe, RunsFrom, Ran, RunsIn, RanOn}

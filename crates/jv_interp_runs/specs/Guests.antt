@@ -7,9 +7,9 @@ use Rattle.jv_meaning_machine.specs.Frames.Frame.{Runs, Initializes}
 use Rattle.jv_meaning_machine.specs.State.{Program, State}
 use Rattle.jv_meaning_machine.specs.Alone.{FindsInstructions, AreUnits}
 use Rattle.jv_meaning_machine.specs.Step.{step}
-use Rattle.jv_interp_objects.specs.ObjectsInBlocks.{AreLoadable}
+use Rattle.jv_interp_memory.specs.ObjectsInBlocks.{AreLoadable}
 use Rattle.jv_interp_memory.specs.SystemNumbers.{IsGuestsWorld}
-use Rattle.jv_interp_actions.specs.of_interp_frames.Moves.{AreVerified}
+use Rattle.jv_interp_frames.specs.Moves.{AreVerified}
 
 -- These are its classes, at most 1,057 of them (own): the system's 33 and those of 1,024 files. The machine knows their code and their
 -- texts, and of each class it is known whether it was verified with all above it.

@@ -4,8 +4,8 @@ use Rattle.jv_meaning_world.specs.World.{World}
 use Rattle.jv_meaning_machine.specs.State.{Program, State}
 use Rattle.jv_meaning_machine.specs.Step.{step, after_steps}
 use Rattle.jv_interp_words.specs.declared.registers.Registers.{Registers}
-use Rattle.jv_interp_actions.specs.of_interp_frames.Standing.{Kept, StateStands, Reaches}
-use Rattle.jv_interp_actions.specs.Running.{StateRuns}
+use Rattle.jv_interp_frames.specs.Standing.{Kept, StateStands, Reaches}
+use Rattle.jv_interp_frames.specs.Running.{StateRuns}
 use Rattle.jv_interp_runs.specs.Guests.{IsGuest, TakesStep}
 use Rattle.jv_interp_runs.specs.Stepping.{RunsOn}
 

@@ -4,8 +4,8 @@ use Rattle.jv_meaning_world.specs.World.{World}
 use Rattle.jv_meaning_machine.specs.State.{Program, State}
 use Rattle.jv_interp_words.specs.declared.registers.Registers.{Registers}
 use Rattle.jv_interp_memory.specs.Growing.{Grows}
-use Rattle.jv_interp_actions.specs.of_interp_frames.Standing.{Kept, Reaches}
-use Rattle.jv_interp_actions.specs.Running.{StateRuns}
+use Rattle.jv_interp_frames.specs.Standing.{Kept, Reaches}
+use Rattle.jv_interp_frames.specs.Running.{StateRuns}
 use Rattle.jv_interp_runs.specs.Guests.{IsGuest, TakesStep}
 
 -- A state from which the next step is taken stands.

@@ -1,12 +1,11 @@
 //! Runs of instructions that work on the words of their frame alone.
 
 ghost use Rattle.std.specs.Prelude.{◌-◌, ◌≤◌};
-ghost use Rattle.jv_interp_actions.specs.of_interp_steps.Running.{CanRun, RunsTo};
+ghost use Rattle.jv_interp_words.specs.Running.{CanRun, RunsTo};
 ghost use Rattle.jv_interp_runs.specs.Inside.Words.{OnlyInWords};
 
-use jv_interp_actions::of_interp_frames::Frames;
-use jv_interp_actions::of_interp_steps::run_in_words;
-use jv_interp_words::Registers;
+use jv_interp_frames::Frames;
+use jv_interp_words::{Registers, run_in_words};
 
 /// Takes at most so many steps of the method in the registers, while they work on its frame's words alone; answers how many are left.
 #[inline(always)]

@@ -9,8 +9,8 @@ ghost use Rattle.jv_interp_execution.specs.InGuest.{KeepsCodeRules};
 ghost use Rattle.jv_interp_runs.specs.Inside.Decoding.{CanDecode, Decodes, IsSiteOf};
 
 use jv_code::Insn;
-use jv_interp_actions::of_interp_methods::Methods;
-use jv_interp_actions::of_link::Site;
+use jv_interp_frames::of_interp_calls::Methods;
+use jv_interp_frames::of_link::Site;
 
 /// The place of a method that stands at an instruction, the instruction, and the offset of the next one.
 #[inline(always)]

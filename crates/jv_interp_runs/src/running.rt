@@ -1,20 +1,19 @@
 //! Steps one after the other, with the registers of the method that runs in a local variable.
 
 ghost use Rattle.std.specs.Prelude.{◌≡◌, ◌+◌, ◌-◌, ◌<◌, ◌≤◌, IsTrue, [], false};
-ghost use Rattle.jv_interp_actions.specs.of_linked.Linked.{IsLinked};
-ghost use Rattle.jv_interp_actions.specs.of_interp_methods.Methods.{AreMethods};
-ghost use Rattle.jv_interp_actions.specs.of_interp_methods.Texts.{AreTexts};
-ghost use Rattle.jv_interp_actions.specs.of_interp_frames.Standing.{kept};
+ghost use Rattle.jv_interp_frames.specs.of_linked.Linked.{IsLinked};
+ghost use Rattle.jv_interp_frames.specs.of_interp_calls.Methods.{AreMethods};
+ghost use Rattle.jv_interp_frames.specs.of_interp_calls.Texts.{AreTexts};
+ghost use Rattle.jv_interp_frames.specs.Standing.{kept};
 ghost use Rattle.jv_interp_runs.specs.Running.{CanRun, RanTo, CanRunIn, RanFrom};
 
 use crate::alone::run_alone;
 use crate::stepping::step_in_method;
 use jv_heap::Store;
-use jv_interp_actions::of_interp_frames::{Control, Frames, suspend};
-use jv_interp_actions::of_interp_methods::{Methods, Texts};
-use jv_interp_actions::of_linked::Linked;
-use jv_interp_actions::of_loader::Classes;
-use jv_interp_actions::{initialization_step, resume};
+use jv_interp_frames::of_interp_calls::{Methods, Texts};
+use jv_interp_frames::of_linked::Linked;
+use jv_interp_frames::of_loader::Classes;
+use jv_interp_frames::{Control, Frames, initialization_step, resume, suspend};
 use jv_interp_memory::Held;
 use jv_interp_words::Registers;
 use jv_meaning_machine::step_keeps;

@@ -1,11 +1,11 @@
 //! Steps of the method that runs, by the opcode at hand.
 
 ghost use Rattle.std.specs.Prelude.{◌≡◌, ◌+◌, ◌<◌, ◌≤◌, IfOk, IsOk, IsTrue, OnOk, OnErr};
-ghost use Rattle.jv_interp_actions.specs.of_linked.Linked.{IsLinked};
-ghost use Rattle.jv_interp_actions.specs.of_interp_methods.Methods.{AreMethods};
-ghost use Rattle.jv_interp_actions.specs.of_interp_methods.Texts.{AreTexts};
-ghost use Rattle.jv_interp_actions.specs.of_interp_frames.Standing.{kept};
-ghost use Rattle.jv_interp_actions.specs.Acting.{AreAsBefore};
+ghost use Rattle.jv_interp_frames.specs.of_linked.Linked.{IsLinked};
+ghost use Rattle.jv_interp_frames.specs.of_interp_calls.Methods.{AreMethods};
+ghost use Rattle.jv_interp_frames.specs.of_interp_calls.Texts.{AreTexts};
+ghost use Rattle.jv_interp_frames.specs.Standing.{kept};
+ghost use Rattle.jv_interp_frames.specs.Acting.{AreAsBefore};
 ghost use Rattle.jv_interp_runs.specs.Stepping.{CanStepIn, SteppedIn};
 
 use crate::decoding::{decode, index_behind, index_in_byte, opcode_at};
@@ -13,14 +13,14 @@ use crate::instructions::{step_by, step_known};
 use crate::opcodes::{element_loaded, element_stored, value_returned};
 use jv_code::{DivisionOperator, FieldAccess, IndexForm, Insn, Invocation, NumberKind};
 use jv_heap::{Memory, Store};
-use jv_interp_actions::of_interp_frames::{Control, Frames};
-use jv_interp_actions::of_interp_methods::{Methods, Texts};
-use jv_interp_actions::of_linked::Linked;
-use jv_interp_actions::of_loader::Classes;
 use jv_interp_execution::{
     AnyInstruction, Arrays, ConstantLoads, Divisions, FieldGets, FieldPuts, Objects, Returns,
     SpecialCalls, StaticCalls, VirtualCalls,
 };
+use jv_interp_frames::of_interp_calls::{Methods, Texts};
+use jv_interp_frames::of_linked::Linked;
+use jv_interp_frames::of_loader::Classes;
+use jv_interp_frames::{Control, Frames};
 use jv_interp_memory::Held;
 use jv_interp_words::Registers;
 

@@ -4,8 +4,8 @@ use Rattle.std.proofs.Common.{◌*◌, FitsSigned}
 use Rattle.std.proofs.lemmas.Int.{to_z-of_z}
 use borrow.Author.Gap.{read_sfits}
 use Rattle.std.specs.Int.{Width, w32, w64, cast_signed, cast_unsigned}
-use Rattle.jv_meaning_machine.specs.of_code.declared.kinds.NumberKind.{NumberKind}
-use Rattle.jv_meaning_machine.specs.of_code.declared.kinds.NumberKind.TheVariants as numbers
+use Rattle.jv_code.specs.declared.kinds.NumberKind.{NumberKind}
+use Rattle.jv_code.specs.declared.kinds.NumberKind.TheVariants as numbers
 use Rattle.jv_meaning_machine.specs.Faults.{OrFault, ◌>>=◌}
 use Rattle.jv_meaning_machine.specs.Values.{Value, value_words}
 use Rattle.jv_meaning_machine.specs.Values.Value.{Int, Long, Null, Reference, Half, Unset}

@@ -13,5 +13,19 @@ pub mod Moved
 pub mod Grown
 pub mod Tops
 pub mod Returned
+pub mod FramesStand
+pub mod OperandsStand
+pub mod Jumped
+pub mod IntBranches
+pub mod PushedOn
+pub mod LocalsWork
+pub mod FormsWork
+pub mod SwitchesWork
+pub mod ReferencesWork
+pub mod DivisionsWork
+pub mod AtPlace
+pub mod StepsStand
+pub mod OpcodesStand
+pub mod RunsOn
 pub use Rattle.jv_meaning_machine.proofs as laws_of_meaning_machine
 pub use Rattle.jv_meaning_machine.proofs.laws_of_meaning_world

@@ -2,8 +2,8 @@
 use Rattle.std.proofs.Common.{◌≡◌, ℕ, zero, suc, ◌+◌, ◌<◌, ◌≤◌, ℤ, true, false, List, [], ◌∷◌, ◌++◌, Some, Ok, length, reverse, get_or, refl, sym, ap, subst, ◌∙◌, arith, slice_get, length-append}
 use Rattle.std.proofs.lemmas.List.{length-reverse}
 use Rattle.std.specs.Int.{w32, cast_signed}
-use Rattle.jv_meaning_machine.specs.of_code.declared.kinds.ValueKind.{ValueKind}
-use Rattle.jv_meaning_machine.specs.of_code.declared.kinds.ValueKind.TheVariants as kinds
+use Rattle.jv_code.specs.declared.kinds.ValueKind.{ValueKind}
+use Rattle.jv_code.specs.declared.kinds.ValueKind.TheVariants as kinds
 use Rattle.jv_meaning_machine.specs.Faults.{found, tested, ◌>>=◌}
 use Rattle.jv_meaning_machine.specs.Faults.Fault.{LocalFault, TagFault}
 use Rattle.jv_meaning_machine.specs.Values.{Value, has_kind}

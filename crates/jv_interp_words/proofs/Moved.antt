@@ -1,8 +1,8 @@
 -- What a form of the stack leaves: values that stand on the words that it leaves (JVMS 6.5, dup_x1 and its kin).
 use Rattle.std.proofs.Common.{◌≡◌, ℕ, zero, suc, ◌+◌, ◌≤◌, List, [], ◌∷◌, ◌++◌, Option, Some, None, length, refl, sym, ap, subst, ◌∙◌, arith, length-append, append_assoc}
-use Rattle.jv_meaning_machine.specs.of_format.Format.{◌>>=◌}
-use Rattle.jv_meaning_machine.specs.of_code.declared.kinds.StackForm.{StackForm}
-use Rattle.jv_meaning_machine.specs.of_code.declared.kinds.StackForm.TheVariants as forms
+use Rattle.jv_format.specs.Format.{◌>>=◌}
+use Rattle.jv_code.specs.declared.kinds.StackForm.{StackForm}
+use Rattle.jv_code.specs.declared.kinds.StackForm.TheVariants as forms
 use Rattle.jv_meaning_machine.specs.of_meaning_typing.StackForms.{item_before, top_words, taken_words, passed_words, arranged, rearranged}
 use Rattle.jv_meaning_machine.specs.Values.{Value, value_width}
 use Rattle.jv_meaning_machine.specs.Values.Value.{Int, Long, Null, Reference, Half, Unset}

@@ -2,8 +2,8 @@
 use Rattle.std.proofs.Common.{◌≡◌, ℕ, zero, suc, ◌+◌, ◌<◌, ℤ, true, false, List, [], ◌∷◌, ◌++◌, Some, length, reverse, get_or, set, refl, sym, ap, subst, ◌∙◌, arith}
 use Rattle.std.proofs.lemmas.List.{reverse-reverse}
 use Rattle.std.specs.Int.{w32, cast_signed, int_wrapping_add}
-use Rattle.jv_meaning_machine.specs.of_code.declared.kinds.ValueKind.{ValueKind}
-use Rattle.jv_meaning_machine.specs.of_code.declared.kinds.ValueKind.TheVariants as kinds
+use Rattle.jv_code.specs.declared.kinds.ValueKind.{ValueKind}
+use Rattle.jv_code.specs.declared.kinds.ValueKind.TheVariants as kinds
 use Rattle.jv_meaning_machine.specs.Values.{Value, has_kind}
 use Rattle.jv_meaning_machine.specs.Values.Value.{Int, Long, Null, Reference, Half, Unset}
 use Rattle.jv_meaning_machine.specs.Frames.{local_words, stored}

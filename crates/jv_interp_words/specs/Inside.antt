@@ -4,3 +4,5 @@ pub mod Divisions
 pub mod Locals
 pub mod Forms
 pub mod Calls
+pub mod Branches
+pub mod Dividing

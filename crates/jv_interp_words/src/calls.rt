@@ -7,7 +7,7 @@ ghost use Rattle.jv_interp_words.specs.FramesInWords.{in_use, FrameStands};
 ghost use Rattle.jv_interp_words.specs.Inside.Calls.{Passes, CanPass, Returns, CanReturn};
 
 use crate::words::{push_two, push_word, top_word};
-use jv_meaning_machine::of_code::ValueKind;
+use jv_code::ValueKind;
 
 /// Where the words of a method that is entered begin: at its arguments, of so many words, which stand on top. No word moves.
 #[inline(always)]

@@ -9,9 +9,7 @@ use crate::numbers::{
     low_char, low_short, shift_of_ints, shift_of_longs,
 };
 use crate::operands::{push_int, push_long, top_int, top_long};
-use jv_meaning_machine::of_code::{
-    ArithmeticOperator, Computation, Conversion, NumberKind, ShiftOperator,
-};
+use jv_code::{ArithmeticOperator, Computation, Conversion, NumberKind, ShiftOperator};
 
 /// `iadd` and its kin.
 #[inline(always)]

@@ -6,7 +6,7 @@ ghost use Rattle.jv_interp_words.specs.Inside.Divisions.{Divides};
 
 use crate::numbers::{divided_int, divided_long, is_zero_int, is_zero_long};
 use crate::operands::{push_int, push_long, top_int, top_long};
-use jv_meaning_machine::of_code::{DivisionOperator, NumberKind};
+use jv_code::{DivisionOperator, NumberKind};
 
 /// `idiv` and `irem`: how many words are then in use, or none where the divisor is 0.
 #[inline(always)]

@@ -6,7 +6,7 @@ ghost use Rattle.jv_meaning_machine.specs.of_meaning_typing.StackForms.{taken_wo
 ghost use Rattle.jv_interp_words.specs.Inside.Forms.{Rearranges, added_words};
 
 use crate::words::{push_two, push_word, top_word};
-use jv_meaning_machine::of_code::StackForm;
+use jv_code::StackForm;
 
 /// `pop`, and how many words are then in use.
 #[inline(always)]

@@ -8,7 +8,7 @@ ghost use Rattle.jv_interp_words.specs.Inside.Locals.{HasLocals, Loads, CanLoad,
 
 use crate::numbers::added_word;
 use crate::words::{push_two, push_word, put_word, top_word, word_at};
-use jv_meaning_machine::of_code::ValueKind;
+use jv_code::ValueKind;
 
 /// Copies a local variable to the top, `iload`, `lload`, `aload`, and answers how many words are then in use.
 #[inline(always)]

@@ -6,7 +6,7 @@ ghost use Rattle.std.specs.Ordering.{int_eq};
 ghost use Rattle.jv_meaning_machine.specs.Values.{low_byte, low_short, low_char};
 ghost use Rattle.jv_meaning_machine.specs.Arithmetic.{arithmetic, shifted, places, compared, divided, holds, long_constant_value};
 
-use jv_meaning_machine::of_code::{
+use jv_code::{
     ArithmeticOperator, Condition, DivisionOperator, LongValue, NumberKind, ShiftOperator,
 };
 

@@ -5,7 +5,7 @@ ghost use Rattle.jv_interp_words.specs.FramesInWords.{in_use};
 ghost use Rattle.jv_interp_words.specs.Inside.Numbers.{Takes, Puts};
 
 use crate::words::{push_two, push_word, top_word};
-use jv_meaning_machine::of_code::NumberKind;
+use jv_code::NumberKind;
 
 /// The int on top.
 #[inline(always)]

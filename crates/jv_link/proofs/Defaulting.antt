@@ -11,14 +11,14 @@ use Rattle.jv_meaning_world.specs.Overriding.{Declared}
 use Rattle.jv_meaning_world.specs.Verdicts.{declared_by}
 use Rattle.jv_meaning_world.specs.Numbers.{number_named, superclass_number}
 use Rattle.jv_meaning_world.specs.Numbers.{HoldsAtNumber}
-use Rattle.jv_loader.proofs.laws_of_classes.Followed.{at_named, some_class}
+use Rattle.jv_classes.proofs.Followed.{at_named, some_class}
 use Rattle.jv_loader.specs.of_lookups.declared.place.Place.{Place}
 use Rattle.jv_loader.specs.of_lookups.Places.{method_of, method_at}
 use Rattle.jv_meaning_world.specs.Numbers.{classes_at}
 use Rattle.jv_loader.proofs.laws_of_lookups.Among.{one_behind}
 use Rattle.jv_loader.proofs.laws_of_lookups.Found.{one_class_more, no_class_left}
 use Rattle.jv_loader.proofs.laws_of_lookups.Next.{those_at}
-use Rattle.jv_meaning_linking.specs.InitializationOrder.{is_default, declares_default}
+use Rattle.jv_meaning_typing.specs.InitializationOrder.{is_default, declares_default}
 use Rattle.jv_link.specs.Inside.Enumerating.{with_default, superclass_first}
 
 open_at : {X : Type 0} → (xs : List X) (i : ℕ) (x : X) → slice_get xs i ≡ Some x → drop i xs ≡ x ∷ drop (suc i) xs

@@ -14,15 +14,15 @@ use Rattle.jv_meaning_world.specs.World.{Loaded, World}
 use Rattle.jv_meaning_world.specs.Above.{superclasses}
 use Rattle.jv_meaning_world.specs.LookUps.{DeclaredField, field_by}
 use Rattle.jv_meaning_world.specs.Numbers.{HoldsAtNumber}
-use Rattle.jv_loader.proofs.laws_of_classes.Followed.{some_class}
-use Rattle.jv_loader.proofs.laws_of_classes.Numbers.{take_more}
+use Rattle.jv_classes.proofs.Followed.{some_class}
+use Rattle.jv_classes.proofs.Numbers.{take_more}
 use Rattle.jv_loader.specs.of_lookups.declared.place.Place.{Place}
 use Rattle.jv_loader.specs.of_lookups.Places.{field_in, field_at}
 use Rattle.jv_meaning_world.specs.Numbers.{classes_at, AreNumbers}
 use Rattle.jv_loader.proofs.laws_of_lookups.Found.{one_class_more}
-use Rattle.jv_meaning_linking.specs.Kind.{is_static_field}
-use Rattle.jv_meaning_linking.specs.Layout.{own_fields, instance_fields, field_words, laid_at, placed_from}
-use Rattle.jv_meaning_linking.proofs.Places.{placed_go_on}
+use Rattle.jv_meaning_typing.specs.Kind.{is_static_field}
+use Rattle.jv_meaning_typing.specs.Layout.{own_fields, instance_fields, field_words, laid_at, placed_from}
+use Rattle.jv_meaning_typing.proofs.Places.{placed_go_on}
 use Rattle.jv_link.specs.declared.layout.Layout.{Layout}
 use Rattle.jv_link.specs.Layouts.{placed_field, placed_at, known, IsLaid, own_field}
 

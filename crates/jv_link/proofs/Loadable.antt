@@ -9,10 +9,10 @@ use Rattle.jv_meaning_world.specs.Above.{super_names, is_circular, superclasses}
 use Rattle.jv_meaning_world.specs.declared.verdict.LoadVerdict.{LoadVerdict}
 use Rattle.jv_meaning_world.specs.declared.verdict.LoadVerdict.TheVariants.{Circular, NoSuper, WrongKind, NoAccess}
 use Rattle.jv_meaning_world.specs.Verdicts.{passes, each_super, have_right_kind, can_name_supers, is_loadable_within, is_loadable, has_final_super, breaks_final, verdict_of_class}
-use Rattle.jv_loader.specs.of_classes.Faults.{fault_of_supers}
-use Rattle.jv_meaning_linking.specs.LinkErrors.{LinkError}
-use Rattle.jv_meaning_linking.specs.ClassResolution.{loading_error, error_of_class}
-use Rattle.jv_meaning_linking.proofs.Loading.{verdict_by, right}
+use Rattle.jv_classes.specs.Faults.{fault_of_supers}
+use Rattle.jv_meaning_typing.specs.LinkErrors.{LinkError}
+use Rattle.jv_meaning_typing.specs.ClassResolution.{loading_error, error_of_class}
+use Rattle.jv_meaning_typing.proofs.Loading.{verdict_by, right}
 
 -- ---- by the four tests and that of finals
 

@@ -6,13 +6,13 @@ use Rattle.jv_pool.specs.Constants.{at_index, class_name_in, class_name_at, fiel
 use Rattle.jv_text.specs.declared.descriptor.FieldTypeOf.{FieldTypeOf}
 use Rattle.jv_text.specs.Descriptor.{IsField}
 use Rattle.jv_text.specs.Types.{field_type_of, TypesAgree}
-use Rattle.jv_meaning_linking.specs.Operands.{through}
-use Rattle.jv_meaning_linking.specs.Operands.MethodConstant.{Methodref, InterfaceMethodref}
+use Rattle.jv_meaning_typing.specs.Operands.{through}
+use Rattle.jv_meaning_typing.specs.Operands.MethodConstant.{Methodref, InterfaceMethodref}
 use Rattle.std.specs.Borrow.{Bor}
 use Rattle.jv_text.specs.Seen.{seen_field_type}
 use Rattle.jv_meaning_world.specs.World.{World, class_named}
-use Rattle.jv_meaning_linking.specs.ClassResolution.{ResolvedClass, member_class}
-use Rattle.jv_meaning_linking.specs.ClassResolution.ResolvedClass.{ArrayOf}
+use Rattle.jv_meaning_typing.specs.ClassResolution.{ResolvedClass, member_class}
+use Rattle.jv_meaning_typing.specs.ClassResolution.ResolvedClass.{ArrayOf}
 use Rattle.jv_link.specs.declared.target.ClassRef.{ClassRef}
 use Rattle.jv_link.specs.declared.target.ClassRef.TheVariants as refs
 use Rattle.jv_link.specs.Seen.{class_ref_at}

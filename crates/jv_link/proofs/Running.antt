@@ -13,15 +13,15 @@ use Rattle.jv_meaning_world.specs.Laws.Above.{AboveByWays, AboveIsTransitive}
 use Rattle.jv_meaning_world.specs.Overriding.{Declared, is_instance, overrides_itself, declared_if, alike_in, with_declared, overriding}
 use Rattle.jv_meaning_world.specs.LookUps.{first_found, else_option, method_if}
 use Rattle.jv_loader.specs.Straight.{IsStraight}
-use Rattle.jv_meaning_linking.specs.Access.{same_class}
-use Rattle.jv_meaning_linking.specs.Selection.{are_alike, classes_below, has_overriding, overrides, overriding_in, first_overriding}
-use Rattle.jv_meaning_linking.specs.Inside.OneWalk.{is_open}
-use Rattle.jv_meaning_linking.specs.Inside.Upward.{is_private, is_near, opened_by, opened_in, OverridingUpward}
-use Rattle.jv_meaning_linking.proofs.Found.{same_text, method_is_named}
-use Rattle.jv_meaning_linking.proofs.Chain.{IsFresh, fresh, chain_goes_on}
-use Rattle.jv_meaning_linking.proofs.Searched.{direct, superclass_is_super, superclass_is_above}
-use Rattle.jv_meaning_linking.proofs.ByRule.{in_parts}
-use Rattle.jv_meaning_linking.proofs.Unchanged.{stays}
+use Rattle.jv_meaning_typing.specs.Access.{same_class}
+use Rattle.jv_meaning_typing.specs.Selection.{are_alike, classes_below, has_overriding, overrides, overriding_in, first_overriding}
+use Rattle.jv_meaning_typing.specs.Inside.OneWalk.{is_open}
+use Rattle.jv_meaning_typing.specs.Inside.Upward.{is_private, is_near, opened_by, opened_in, OverridingUpward}
+use Rattle.jv_meaning_typing.proofs.Found.{same_text, method_is_named}
+use Rattle.jv_meaning_typing.proofs.Chain.{IsFresh, fresh, chain_goes_on}
+use Rattle.jv_meaning_typing.proofs.Searched.{direct, superclass_is_super, superclass_is_above}
+use Rattle.jv_meaning_typing.proofs.ByRule.{in_parts}
+use Rattle.jv_meaning_typing.proofs.Unchanged.{stays}
 use Rattle.jv_link.specs.Inside.Climbing.{met_below, met_in, meets, is_opening, hit, run_of, upward_of, met_upward}
 use Rattle.jv_link.specs.Inside.Climbing.Meeting.{Nothing, Far, Sure, Opens}
 

@@ -6,10 +6,10 @@ use Rattle.jv_pool.specs.Constants.{MemberReference}
 use Rattle.jv_meaning_world.specs.World.{Loaded, World}
 use Rattle.jv_meaning_world.specs.Verdicts.{is_interface}
 use Rattle.jv_meaning_world.specs.LookUps.{lookup_class_method, lookup_interface_method}
-use Rattle.jv_meaning_linking.specs.LinkErrors.{◌>>=◌, provided}
-use Rattle.jv_meaning_linking.specs.LinkErrors.LinkError.{IncompatibleClassChangeError, NoSuchMethodError}
-use Rattle.jv_meaning_linking.specs.Operands.{through}
-use Rattle.jv_meaning_linking.specs.MethodResolution.{names_its_kind, found_method, method_from}
+use Rattle.jv_meaning_typing.specs.LinkErrors.{◌>>=◌, provided}
+use Rattle.jv_meaning_typing.specs.LinkErrors.LinkError.{IncompatibleClassChangeError, NoSuchMethodError}
+use Rattle.jv_meaning_typing.specs.Operands.{through}
+use Rattle.jv_meaning_typing.specs.MethodResolution.{names_its_kind, found_method, method_from}
 use Rattle.jv_link.specs.Inside.References.{constant_of}
 use Rattle.jv_link.specs.Inside.Steps.{looked_up, accessible_method}
 

@@ -1,7 +1,7 @@
 -- A step of resolution, and what goes on with its answer.
 use Rattle.std.proofs.Common.{◌≡◌, refl, Option, Some, None, Ok, Err, sym, ap, ◌∙◌}
 use Rattle.std.specs.Option.{option_map}
-use Rattle.jv_meaning_linking.specs.LinkErrors.{LinkError as ErrorOfNames, OrError}
+use Rattle.jv_meaning_typing.specs.LinkErrors.{LinkError as ErrorOfNames, OrError}
 use Rattle.jv_link.specs.Seen.{answer}
 
 same_some : {A : Type 0} → {x y : A} → Some x ≡ Some y → x ≡ y

@@ -4,7 +4,7 @@ use Rattle.std.specs.Prelude.{IfSome, slice_get, if◌then◌else◌}
 use Rattle.std.specs.List.{list_any}
 use Rattle.std.specs.Option.{option_and_then}
 use Rattle.jv_format.specs.Format.{◌>>=◌}
-use Rattle.jv_names.specs.Ways.{IsBelowSize}
+use Rattle.jv_classes.specs.Ways.{IsBelowSize}
 use Rattle.jv_meaning_world.specs.World.{Loaded, World}
 use Rattle.jv_meaning_world.specs.Above.{superclass_in}
 use Rattle.jv_meaning_world.specs.Laws.Above.{AboveByWays, AboveIsTransitive}
@@ -12,8 +12,8 @@ use Rattle.jv_meaning_world.specs.Overriding.{Declared}
 use Rattle.jv_meaning_world.specs.LookUps.{else_option}
 use Rattle.jv_meaning_world.specs.Numbers.{superclass_number}
 use Rattle.jv_meaning_world.specs.Numbers.{HoldsAtNumber}
-use Rattle.jv_loader.proofs.laws_of_classes.Told.{superclass_below}
-use Rattle.jv_loader.proofs.laws_of_classes.Followed.{at_superclass, some_class}
+use Rattle.jv_classes.proofs.Told.{superclass_below}
+use Rattle.jv_classes.proofs.Followed.{at_superclass, some_class}
 use Rattle.jv_loader.specs.of_lookups.declared.place.Place.{Place}
 use Rattle.jv_loader.specs.of_lookups.Places.{method_at, IsMethodPlace}
 use Rattle.jv_loader.specs.Straight.{IsStraight}

@@ -8,13 +8,13 @@ use Rattle.jv_meaning_world.specs.Overriding.{Declared}
 use Rattle.jv_meaning_world.specs.LookUps.{DeclaredField}
 use Rattle.jv_loader.specs.of_lookups.Places.{field_at, method_at}
 use Rattle.jv_loader.specs.of_lookups.declared.place.Place.{Place}
-use Rattle.jv_meaning_linking.specs.Uses.{Site as SiteOfNames}
-use Rattle.jv_meaning_linking.specs.LinkErrors.{OrError}
-use Rattle.jv_meaning_linking.specs.Operands.{MethodReference, class_operand, field_operand, method_operand}
-use Rattle.jv_meaning_linking.specs.ClassResolution.{ResolvedClass, resolve_text, resolve_class}
-use Rattle.jv_meaning_linking.specs.FieldResolution.{resolved_field, resolve_field}
-use Rattle.jv_meaning_linking.specs.MethodResolution.{MethodTarget as TargetOfNames, resolved_method, resolve_method}
-use Rattle.jv_meaning_linking.specs.Selection.{select}
+use Rattle.jv_meaning_typing.specs.Uses.{Site as SiteOfNames}
+use Rattle.jv_meaning_typing.specs.LinkErrors.{OrError}
+use Rattle.jv_meaning_typing.specs.Operands.{MethodReference, class_operand, field_operand, method_operand}
+use Rattle.jv_meaning_typing.specs.ClassResolution.{ResolvedClass, resolve_text, resolve_class}
+use Rattle.jv_meaning_typing.specs.FieldResolution.{resolved_field, resolve_field}
+use Rattle.jv_meaning_typing.specs.MethodResolution.{MethodTarget as TargetOfNames, resolved_method, resolve_method}
+use Rattle.jv_meaning_typing.specs.Selection.{select}
 use Rattle.jv_link.specs.Seen.{answer_at, class_ref_at, method_target_at, seen_site, seen_use}
 use Rattle.jv_link.specs.Objects.{object_class_at}
 use Rattle.jv_link.specs.declared.error.LinkError.{LinkError}

@@ -5,8 +5,8 @@ use Rattle.jv_meaning_world.specs.World.{World}
 use Rattle.jv_meaning_world.specs.LookUps.{DeclaredField}
 use Rattle.jv_loader.specs.of_lookups.declared.place.Place.{Place}
 use Rattle.jv_loader.specs.of_lookups.Places.{field_at}
-use Rattle.jv_meaning_linking.specs.Kind.{is_static_field}
-use Rattle.jv_meaning_linking.specs.Layout.{Placed, laid_at, placed_from, field_words, own_fields, instance_fields}
+use Rattle.jv_meaning_typing.specs.Kind.{is_static_field}
+use Rattle.jv_meaning_typing.specs.Layout.{Placed, laid_at, placed_from, field_words, own_fields, instance_fields}
 use Rattle.jv_link.specs.declared.layout.PlacedField.{PlacedField}
 use Rattle.jv_link.specs.declared.layout.Layout.{Layout}
 use Rattle.jv_meaning_world.specs.Numbers.{HoldsAtNumber}

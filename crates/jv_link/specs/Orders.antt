@@ -2,7 +2,7 @@
 use Rattle.std.specs.Prelude.{◌≡◌, ℕ, List}
 use Rattle.jv_meaning_world.specs.World.{Loaded, World}
 use Rattle.jv_meaning_world.specs.Numbers.{classes_at, AreNumbers}
-use Rattle.jv_meaning_linking.specs.InitializationOrder.{init_order}
+use Rattle.jv_meaning_typing.specs.InitializationOrder.{init_order}
 
 -- they are the numbers of those that are initialized before a class, in their order
 pub record IsOrder (world : World) (numbers : List ℕ) (l : Loaded) : Type 0 where

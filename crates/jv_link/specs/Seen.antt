@@ -6,13 +6,13 @@ use Rattle.jv_text.specs.Seen.{seen_field_type}
 use Rattle.jv_meaning_world.specs.World.{World}
 use Rattle.jv_loader.specs.of_lookups.declared.place.Place.{Place}
 use Rattle.jv_loader.specs.of_lookups.Places.{method_at, IsMethodPlace}
-use Rattle.jv_meaning_linking.specs.Uses.{Site as SiteOfNames, Use as UseOfNames}
-use Rattle.jv_meaning_linking.specs.Uses.Use.{Getstatic, Putstatic, Getfield, Putfield, Invokevirtual, Invokespecial, Invokestatic, Invokeinterface, New}
-use Rattle.jv_meaning_linking.specs.LinkErrors.{LinkError as ErrorOfNames, OrError}
-use Rattle.jv_meaning_linking.specs.LinkErrors.LinkError.{NoClassDefFoundError, ClassCircularityError, IncompatibleClassChangeError, IllegalAccessError, VerifyError, NoSuchFieldError, NoSuchMethodError, AbstractMethodError, InstantiationError}
-use Rattle.jv_meaning_linking.specs.ClassResolution.{ResolvedClass}
-use Rattle.jv_meaning_linking.specs.ClassResolution.ResolvedClass.{ClassOf, ArrayOf}
-use Rattle.jv_meaning_linking.specs.MethodResolution.{MethodTarget as TargetOfNames, target}
+use Rattle.jv_meaning_typing.specs.Uses.{Site as SiteOfNames, Use as UseOfNames}
+use Rattle.jv_meaning_typing.specs.Uses.Use.{Getstatic, Putstatic, Getfield, Putfield, Invokevirtual, Invokespecial, Invokestatic, Invokeinterface, New}
+use Rattle.jv_meaning_typing.specs.LinkErrors.{LinkError as ErrorOfNames, OrError}
+use Rattle.jv_meaning_typing.specs.LinkErrors.LinkError.{NoClassDefFoundError, ClassCircularityError, IncompatibleClassChangeError, IllegalAccessError, VerifyError, NoSuchFieldError, NoSuchMethodError, AbstractMethodError, InstantiationError}
+use Rattle.jv_meaning_typing.specs.ClassResolution.{ResolvedClass}
+use Rattle.jv_meaning_typing.specs.ClassResolution.ResolvedClass.{ClassOf, ArrayOf}
+use Rattle.jv_meaning_typing.specs.MethodResolution.{MethodTarget as TargetOfNames, target}
 use Rattle.jv_link.specs.declared.site.Site.{Site}
 use Rattle.jv_link.specs.declared.site.Use.{Use}
 use Rattle.jv_link.specs.declared.site.Use.TheVariants as uses

@@ -4,12 +4,12 @@ use Rattle.jv_meaning_world.specs.World.{World}
 use Rattle.jv_meaning_world.specs.LookUps.{DeclaredField}
 use Rattle.jv_loader.specs.of_lookups.declared.place.Place.{Place}
 use Rattle.jv_loader.specs.of_lookups.Places.{field_at}
-use Rattle.jv_meaning_linking.specs.Uses.{Use, Site}
-use Rattle.jv_meaning_linking.specs.LinkErrors.{OrError, ◌>>=◌, provided}
-use Rattle.jv_meaning_linking.specs.LinkErrors.LinkError.{IncompatibleClassChangeError, IllegalAccessError, NoSuchMethodError}
-use Rattle.jv_meaning_linking.specs.Kind.{has_field_kind, can_use_final, has_method_kind}
-use Rattle.jv_meaning_linking.specs.ClassResolution.{ResolvedClass, creatable}
-use Rattle.jv_meaning_linking.specs.MethodResolution.{MethodTarget, is_own_init}
+use Rattle.jv_meaning_typing.specs.Uses.{Use, Site}
+use Rattle.jv_meaning_typing.specs.LinkErrors.{OrError, ◌>>=◌, provided}
+use Rattle.jv_meaning_typing.specs.LinkErrors.LinkError.{IncompatibleClassChangeError, IllegalAccessError, NoSuchMethodError}
+use Rattle.jv_meaning_typing.specs.Kind.{has_field_kind, can_use_final, has_method_kind}
+use Rattle.jv_meaning_typing.specs.ClassResolution.{ResolvedClass, creatable}
+use Rattle.jv_meaning_typing.specs.MethodResolution.{MethodTarget, is_own_init}
 use Rattle.jv_link.specs.declared.error.LinkError.{LinkError}
 use Rattle.jv_link.specs.declared.site.Site.{Site as SiteByNumber}
 use Rattle.jv_link.specs.declared.site.Use.{Use as UseByNumber}

@@ -3,7 +3,7 @@
 ghost use Rattle.std.specs.Prelude.{◌≡◌, ◌<◌, length};
 ghost use Rattle.jv_meaning_world.specs.World.{same_package};
 ghost use Rattle.jv_meaning_world.specs.Numbers.{HoldsAtNumber, HoldsAtBoth};
-ghost use Rattle.jv_meaning_linking.specs.Access.{in_line, is_accessible_below, can_access};
+ghost use Rattle.jv_meaning_typing.specs.Access.{in_line, is_accessible_below, can_access};
 ghost use Rattle.jv_link.specs.Inside.Steps.{IsAccessibleBelow};
 
 use crate::class::same_class;

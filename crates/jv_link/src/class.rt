@@ -5,12 +5,12 @@ ghost use Rattle.std.specs.Option.{option_map, option_and_then};
 ghost use Rattle.jv_text.specs.Types.{field_type_of};
 ghost use Rattle.jv_meaning_world.specs.World.{can_name};
 ghost use Rattle.jv_meaning_world.specs.Numbers.{HoldsAtNumber, HoldsAtBoth};
-ghost use Rattle.jv_meaning_linking.specs.ClassResolution.{ResolvedClass, loading_error, error_of_class, resolve_name, resolve_element, resolve_array, resolve_text, creatable, resolve_class, member_class};
-ghost use Rattle.jv_meaning_linking.specs.Access.{same_class};
+ghost use Rattle.jv_meaning_typing.specs.ClassResolution.{ResolvedClass, loading_error, error_of_class, resolve_name, resolve_element, resolve_array, resolve_text, creatable, resolve_class, member_class};
+ghost use Rattle.jv_meaning_typing.specs.Access.{same_class};
 ghost use Rattle.jv_link.specs.Seen.{error_of, class_ref_at, IsSite};
 ghost use Rattle.jv_link.specs.UseRules.{if_creatable, IsRefWithin, AnswersCreatable};
 ghost use Rattle.jv_link.specs.Inside.Steps.{if_open, named_class, IsWithin, IsResolvedBy, member_class_or, array_resolved};
-ghost use Rattle.jv_meaning_linking.specs.Operands.{class_operand};
+ghost use Rattle.jv_meaning_typing.specs.Operands.{class_operand};
 ghost use Rattle.jv_link.specs.Answers.{AnswersClass, AnswersType, IsConstantsClass, IsClassResolved, HoldsAtType, AnswersClassOf, AnswersTypeOf};
 
 use crate::error::LinkError;

@@ -1,18 +1,18 @@
 //! The first method upward from a class that overrides another (JVMS 5.4.5).
 
 ghost use Rattle.std.specs.Prelude.{◌≡◌, ◌<◌, Some, None, IfSome, length};
-ghost use Rattle.jv_names.specs.Ways.{IsBelowSize};
+ghost use Rattle.jv_classes.specs.Ways.{IsBelowSize};
 ghost use Rattle.jv_meaning_world.specs.World.{World};
 ghost use Rattle.jv_meaning_world.specs.Numbers.{HoldsAtNumber};
 ghost use Rattle.jv_loader.specs.of_lookups.Places.{IsMethodPlace, HoldsAtCall, IsMethodFound};
 ghost use Rattle.jv_loader.specs.Straight.{IsStraight};
-ghost use Rattle.jv_meaning_linking.specs.Selection.{first_overriding};
+ghost use Rattle.jv_meaning_typing.specs.Selection.{first_overriding};
 ghost use Rattle.jv_link.specs.Inside.Climbing.{met_upward, run_of, is_opening, sure_behind, IsMet, IsMetPlace, Meeting, IsStraightAt, IsSureBehind, IsRunBehind};
 
 use crate::alike::is_instance;
 use crate::meeting::{Met, meets};
 use jv_loader::{ClassTable, Place};
-use jv_meaning_linking::overriding_upward;
+use jv_meaning_typing::overriding_upward;
 use jv_meaning_world::{above_by_ways, above_is_transitive};
 
 /// Whether what is met opens the methods further down.

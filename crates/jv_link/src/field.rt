@@ -4,8 +4,8 @@ ghost use Rattle.std.specs.Prelude.{◌≡◌, ◌<◌, Some, IsSome, IfOk, leng
 ghost use Rattle.jv_pool.specs.Seen.{seen_member};
 ghost use Rattle.jv_meaning_world.specs.Numbers.{HoldsAtNumber, HoldsAtBoth};
 ghost use Rattle.jv_loader.specs.of_lookups.Places.{field_at, IsFieldPlace};
-ghost use Rattle.jv_meaning_linking.specs.Operands.{field_operand};
-ghost use Rattle.jv_meaning_linking.specs.FieldResolution.{found_field, field_from, resolved_field, resolve_field};
+ghost use Rattle.jv_meaning_typing.specs.Operands.{field_operand};
+ghost use Rattle.jv_meaning_typing.specs.FieldResolution.{found_field, field_from, resolved_field, resolve_field};
 ghost use Rattle.jv_link.specs.Seen.{IsSite};
 ghost use Rattle.jv_link.specs.Inside.Steps.{accessible_field, AnswersAccessibleField, field_by};
 ghost use Rattle.jv_link.specs.Answers.{AnswersField, IsConstantsField, IsFieldResolved, AnswersFieldOf};

@@ -3,7 +3,7 @@
 ghost use Rattle.std.specs.Prelude.{◌<◌, IfOk, OnOk, length};
 ghost use Rattle.jv_meaning_world.specs.Numbers.{AreNumbers};
 ghost use Rattle.jv_loader.specs.of_lookups.Inside.Numbers.{AreNumbersOf};
-ghost use Rattle.jv_meaning_linking.specs.InitializationOrder.{enumerated};
+ghost use Rattle.jv_meaning_typing.specs.InitializationOrder.{enumerated};
 ghost use Rattle.jv_link.specs.Inside.Enumerating.{GivesBehind, AreEnumerated};
 
 use jv_loader::ClassTable;

@@ -5,7 +5,7 @@ ghost use Rattle.std.specs.Str.{bytes_eq};
 ghost use Rattle.jv_meaning_world.specs.Verdicts.{is_loadable};
 ghost use Rattle.jv_meaning_world.specs.Numbers.{HoldsAtNumber};
 ghost use Rattle.jv_loader.specs.of_lookups.Places.{field_at, IsFieldPlace};
-ghost use Rattle.jv_meaning_linking.specs.Layout.{instance_fields};
+ghost use Rattle.jv_meaning_typing.specs.Layout.{instance_fields};
 ghost use Rattle.jv_link.specs.Layouts.{IsLaid, LaysField, LaysFields, IsLayoutOf};
 
 use crate::layout::{Layout, add_field};

@@ -3,7 +3,7 @@
 ghost use Rattle.std.specs.Prelude.{◌≡◌, ◌<◌, Some, length};
 ghost use Rattle.jv_meaning_world.specs.Overriding.{Declared};
 ghost use Rattle.jv_meaning_world.specs.LookUps.{DeclaredField};
-ghost use Rattle.jv_loader.specs.of_classes.Members.{IsField, IsMethod};
+ghost use Rattle.jv_classes.specs.Members.{IsField, IsMethod};
 ghost use Rattle.jv_meaning_world.specs.Numbers.{HoldsAtNumber};
 ghost use Rattle.jv_loader.specs.of_lookups.Places.{field_at, method_at, IsFieldPlace, IsMethodPlace};
 

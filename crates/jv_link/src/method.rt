@@ -4,8 +4,8 @@ ghost use Rattle.std.specs.Prelude.{◌≡◌, ◌<◌, Some, IsSome, IfOk, leng
 ghost use Rattle.jv_pool.specs.Seen.{seen_member};
 ghost use Rattle.jv_meaning_world.specs.Numbers.{HoldsAtNumber};
 ghost use Rattle.jv_loader.specs.of_lookups.Places.{method_at, IsMethodPlace};
-ghost use Rattle.jv_meaning_linking.specs.Operands.{method_operand};
-ghost use Rattle.jv_meaning_linking.specs.MethodResolution.{names_its_kind, method_from, resolved_method, resolve_method};
+ghost use Rattle.jv_meaning_typing.specs.Operands.{method_operand};
+ghost use Rattle.jv_meaning_typing.specs.MethodResolution.{names_its_kind, method_from, resolved_method, resolve_method};
 ghost use Rattle.jv_link.specs.Seen.{IsSite, IsMethodTarget};
 ghost use Rattle.jv_link.specs.Inside.References.{constant_of, reference_of};
 ghost use Rattle.jv_link.specs.Inside.Steps.{looked_up, accessible_method, AnswersAccessibleMethod, AnswersMethodFrom};

@@ -6,7 +6,7 @@ ghost use Rattle.jv_meaning_world.specs.Verdicts.{is_loadable};
 ghost use Rattle.jv_meaning_world.specs.Numbers.{HoldsAtNumber};
 ghost use Rattle.jv_meaning_world.specs.Numbers.{AreNumbers};
 ghost use Rattle.jv_loader.specs.of_lookups.Places.{method_at, IsMethodPlace};
-ghost use Rattle.jv_meaning_linking.specs.InitializationOrder.{is_default, declares_default};
+ghost use Rattle.jv_meaning_typing.specs.InitializationOrder.{is_default, declares_default};
 ghost use Rattle.jv_link.specs.Orders.{IsOrder};
 ghost use Rattle.jv_link.specs.Inside.Enumerating.{superclass_first, OrdersOne, OrdersAll, BeginsOrder};
 

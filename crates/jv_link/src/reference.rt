@@ -3,7 +3,7 @@
 ghost use Rattle.std.specs.Prelude.{◌≡◌, ◌<◌, [], Some, IsSome, IfSome, IfNone, length};
 ghost use Rattle.jv_pool.specs.Seen.{seen_member};
 ghost use Rattle.jv_meaning_world.specs.Numbers.{HoldsAtNumber};
-ghost use Rattle.jv_meaning_linking.specs.Operands.{class_operand, field_operand, method_operand};
+ghost use Rattle.jv_meaning_typing.specs.Operands.{class_operand, field_operand, method_operand};
 ghost use Rattle.jv_link.specs.Inside.References.{method_operand_in, reference_of};
 
 use crate::member::class_at;

@@ -4,7 +4,7 @@ ghost use Rattle.std.specs.Prelude.{◌≡◌, ◌<◌, Some, IfOk, length, slic
 ghost use Rattle.jv_meaning_world.specs.Numbers.{HoldsAtNumber};
 ghost use Rattle.jv_loader.specs.of_lookups.Places.{IsMethodPlace, HoldsAtCall};
 ghost use Rattle.jv_loader.specs.Straight.{AreStraight, IsStraight};
-ghost use Rattle.jv_meaning_linking.specs.Selection.{object_class, implements, select_virtual, select_interface, selected, select};
+ghost use Rattle.jv_meaning_typing.specs.Selection.{object_class, implements, select_virtual, select_interface, selected, select};
 ghost use Rattle.jv_link.specs.Seen.{answer_at, IsSite, IsMethodTarget};
 ghost use Rattle.jv_link.specs.Objects.{object_class_at, IsObject};
 ghost use Rattle.jv_link.specs.Inside.Called.{virtual_of, interface_of, AnswersInterface, AnswersCall, AnswersVirtual};

@@ -3,7 +3,7 @@
 ghost use Rattle.std.specs.Prelude.{◌≡◌, ◌<◌, Some, IfOk, IfSome, length, slice_get};
 ghost use Rattle.jv_meaning_world.specs.Numbers.{HoldsAtNumber, HoldsAtBoth};
 ghost use Rattle.jv_loader.specs.of_lookups.Places.{method_at, IsMethodPlace, HoldsAtCall, IsMethodFound};
-ghost use Rattle.jv_meaning_linking.specs.Selection.{begins_above, special_start, interface_first, special_first, select_from, select_special};
+ghost use Rattle.jv_meaning_typing.specs.Selection.{begins_above, special_start, interface_first, special_first, select_from, select_special};
 ghost use Rattle.jv_link.specs.Seen.{IsMethodTarget};
 ghost use Rattle.jv_link.specs.Answers.{AnswersMethod};
 ghost use Rattle.jv_link.specs.Inside.Called.{AnswersSpecial};

@@ -2,7 +2,7 @@
 
 ghost use Rattle.std.specs.Prelude.{IsSome};
 ghost use Rattle.jv_meaning_world.specs.Numbers.{HoldsAtNumber};
-ghost use Rattle.jv_meaning_linking.specs.Operands.{field_operand};
+ghost use Rattle.jv_meaning_typing.specs.Operands.{field_operand};
 ghost use Rattle.jv_link.specs.Seen.{IsSite};
 ghost use Rattle.jv_linked.specs.Linked.{IsLinked};
 

@@ -1,7 +1,9 @@
-//! Tests of linking: tables of rows, each with a use at a site and what it comes to, over guests of a few
-//! classes.
+//! Tests of the loader, which show once on real bytes what its contracts say; and of linking: tables of rows, each with a use at a site and
+//! what it comes to, over guests of a few classes.
 #![tactic(auto)]
 
+#[cfg(test)]
+mod assign;
 #[cfg(test)]
 mod class;
 #[cfg(test)]
@@ -17,6 +19,10 @@ mod kept;
 #[cfg(test)]
 mod layout;
 #[cfg(test)]
+mod load;
+#[cfg(test)]
+mod loaded_class;
+#[cfg(test)]
 mod method;
 #[cfg(test)]
 mod named;
@@ -30,6 +36,8 @@ mod row;
 mod site;
 #[cfg(test)]
 mod special;
+#[cfg(test)]
+mod system;
 #[cfg(test)]
 mod tasks;
 #[cfg(test)]

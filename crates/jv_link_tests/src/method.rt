@@ -2,7 +2,7 @@
 
 ghost use Rattle.std.specs.Prelude.{IsSome, IfSome};
 ghost use Rattle.jv_meaning_world.specs.Numbers.{HoldsAtNumber};
-ghost use Rattle.jv_meaning_linking.specs.Operands.{method_operand};
+ghost use Rattle.jv_meaning_typing.specs.Operands.{method_operand};
 ghost use Rattle.jv_link.specs.Seen.{IsSite, IsMethodTarget};
 ghost use Rattle.jv_link.specs.Objects.{IsObject};
 ghost use Rattle.jv_linked.specs.Linked.{IsLinked};

@@ -3,7 +3,7 @@
 ghost use Rattle.std.specs.Prelude.{◌≡◌, ◌<◌, IsSome, IfSome, length};
 ghost use Rattle.jv_class.specs.Class.{Class};
 ghost use Rattle.jv_meaning_world.specs.Numbers.{HoldsAtNumber};
-ghost use Rattle.jv_meaning_linking.specs.Operands.{class_operand, field_operand, method_operand};
+ghost use Rattle.jv_meaning_typing.specs.Operands.{class_operand, field_operand, method_operand};
 ghost use Rattle.jv_link.specs.Seen.{IsSite};
 
 use crate::row::Row;

@@ -6,10 +6,10 @@ use Rattle.std.proofs.lemmas.List.Elements.{Contains-append_left}
 use Rattle.jv_meaning_world.specs.World.{Loaded, World}
 use Rattle.jv_meaning_world.specs.Above.{above, is_circular, superclass_in, chain_within}
 use Rattle.jv_meaning_world.specs.Laws.Above.{AboveByWays, AboveIsTransitive}
-use Rattle.jv_meaning_linking.specs.Layout.{Placed, laid_at, layout}
-use Rattle.jv_meaning_linking.specs.Laws.{LayoutExtends}
-use Rattle.jv_meaning_linking.proofs.Found.{split}
-use Rattle.jv_meaning_linking.proofs.Searched.{superclass_is_super, direct}
+use Rattle.jv_meaning_typing.specs.Layout.{Placed, laid_at, layout}
+use Rattle.jv_meaning_typing.specs.LinkingLaws.{LayoutExtends}
+use Rattle.jv_meaning_typing.proofs.Found.{split}
+use Rattle.jv_meaning_typing.proofs.Searched.{superclass_is_super, direct}
 use Rattle.jv_linked.specs.Places.{static_layout}
 use Rattle.jv_linked.specs.Laws.{WordsAreInherited}
 

@@ -15,9 +15,9 @@ use Rattle.jv_meaning_world.specs.Above.{superclasses}
 use Rattle.jv_meaning_world.specs.LookUps.{DeclaredField, field_by}
 use Rattle.jv_link.specs.of_lookups.declared.place.Place.{Place}
 use Rattle.jv_link.specs.of_lookups.Places.{field_in, field_at}
-use Rattle.jv_meaning_linking.specs.Kind.{is_static_field}
-use Rattle.jv_meaning_linking.specs.Layout.{own_fields, instance_fields, field_words, object_words, Placed, laid_at, placed_from, layout}
-use Rattle.jv_meaning_linking.proofs.Places.{placed_go_on}
+use Rattle.jv_meaning_typing.specs.Kind.{is_static_field}
+use Rattle.jv_meaning_typing.specs.Layout.{own_fields, instance_fields, field_words, object_words, Placed, laid_at, placed_from, layout}
+use Rattle.jv_meaning_typing.proofs.Places.{placed_go_on}
 use Rattle.jv_linked.proofs.Eachwise.{within_list}
 use Rattle.jv_linked.specs.declared.words.Ends.{Ends}
 use Rattle.jv_linked.specs.declared.words.ClassWords.{ClassWords}

@@ -3,10 +3,10 @@ use Rattle.std.proofs.Common.{◌≡◌, ℕ, Option, Some, Result, Ok, refl, sy
 use Rattle.std.specs.Prelude.{slice_get}
 use Rattle.jv_meaning_world.specs.World.{Loaded, World}
 use Rattle.jv_link.proofs.laws_of_lookups.Standing.{method_stands}
-use Rattle.jv_meaning_linking.specs.Uses.{Site as SiteOfNames}
-use Rattle.jv_meaning_linking.specs.LinkErrors.{◌>>=◌}
-use Rattle.jv_meaning_linking.specs.MethodResolution.{MethodTarget as TargetOfNames, target as named_so}
-use Rattle.jv_meaning_linking.specs.Selection.{select, select_special}
+use Rattle.jv_meaning_typing.specs.Uses.{Site as SiteOfNames}
+use Rattle.jv_meaning_typing.specs.LinkErrors.{◌>>=◌}
+use Rattle.jv_meaning_typing.specs.MethodResolution.{MethodTarget as TargetOfNames, target as named_so}
+use Rattle.jv_meaning_typing.specs.Selection.{select, select_special}
 use Rattle.jv_link.specs.declared.error.LinkError.{LinkError}
 use Rattle.jv_link.specs.declared.site.Site.{Site}
 use Rattle.jv_link.specs.declared.site.Use.{Use}

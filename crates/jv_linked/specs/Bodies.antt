@@ -4,7 +4,7 @@ use Rattle.jv_text.specs.Descriptor.{MethodDescriptor, slots}
 use Rattle.jv_text.specs.Types.{method_type_of}
 use Rattle.jv_class.specs.Class.{Method}
 use Rattle.jv_class_structure.specs.Seen.{seen_code}
-use Rattle.jv_meaning_linking.specs.Kind.{is_static_method}
+use Rattle.jv_meaning_typing.specs.Kind.{is_static_method}
 use Rattle.jv_linked.specs.declared.bodies.Body.{Body}
 
 -- the words of a method's arguments: those of its parameters, two for a long, and behind the receiver's where it has one

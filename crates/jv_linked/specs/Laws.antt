@@ -4,9 +4,9 @@ use Rattle.std.specs.List.{Contains}
 use Rattle.jv_meaning_world.specs.World.{Loaded, World}
 use Rattle.jv_meaning_world.specs.Above.{above, is_circular}
 use Rattle.jv_meaning_world.specs.LookUps.{DeclaredField}
-use Rattle.jv_meaning_linking.specs.Kind.{is_static_field}
-use Rattle.jv_meaning_linking.specs.Layout.{laid_at, layout}
-use Rattle.jv_meaning_linking.specs.Selection.{upward}
+use Rattle.jv_meaning_typing.specs.Kind.{is_static_field}
+use Rattle.jv_meaning_typing.specs.Layout.{laid_at, layout}
+use Rattle.jv_meaning_typing.specs.Selection.{upward}
 use Rattle.jv_linked.specs.Places.{IsWordOf}
 
 abbrev pub HasNoCircleAbove : World → Loaded → Type 0

@@ -4,8 +4,8 @@ use Rattle.std.specs.Prelude.{ℕ, List, map, filter, sum_by, if◌then◌else�
 use Rattle.std.specs.List.{Contains, flat_map}
 use Rattle.jv_meaning_world.specs.World.{Loaded, World}
 use Rattle.jv_meaning_world.specs.LookUps.{DeclaredField, field_by}
-use Rattle.jv_meaning_linking.specs.Kind.{is_static_field}
-use Rattle.jv_meaning_linking.specs.Layout.{field_words, Placed, laid_at, placed_from, layout}
+use Rattle.jv_meaning_typing.specs.Kind.{is_static_field}
+use Rattle.jv_meaning_typing.specs.Layout.{field_words, Placed, laid_at, placed_from, layout}
 
 -- ---- static fields (4.5)
 

@@ -4,7 +4,7 @@ ghost use Rattle.std.specs.Prelude.{◌≡◌, ◌<◌, IsSome, IfOk, IfSome, le
 ghost use Rattle.std.specs.List.{All};
 ghost use Rattle.jv_meaning_world.specs.World.{World};
 ghost use Rattle.jv_meaning_world.specs.Numbers.{HoldsAtNumber};
-ghost use Rattle.jv_meaning_linking.specs.Operands.{class_operand};
+ghost use Rattle.jv_meaning_typing.specs.Operands.{class_operand};
 ghost use Rattle.jv_link.specs.Seen.{IsSite};
 ghost use Rattle.jv_link.specs.Answers.{IsConstantsClass, IsClassUsed};
 ghost use Rattle.jv_link.specs.UseRules.{IsRefWithin};

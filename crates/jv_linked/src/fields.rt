@@ -4,7 +4,7 @@ ghost use Rattle.std.specs.Prelude.{◌≡◌, ◌<◌, IsSome, IfOk, IfSome, le
 ghost use Rattle.std.specs.List.{All};
 ghost use Rattle.jv_meaning_world.specs.World.{World};
 ghost use Rattle.jv_meaning_world.specs.Numbers.{HoldsAtNumber};
-ghost use Rattle.jv_meaning_linking.specs.Operands.{field_operand};
+ghost use Rattle.jv_meaning_typing.specs.Operands.{field_operand};
 ghost use Rattle.jv_link.specs.Seen.{IsSite};
 ghost use Rattle.jv_link.specs.Answers.{IsFieldResolved};
 ghost use Rattle.jv_link.specs.UseRules.{AnswersUsable};

@@ -2,7 +2,7 @@
 
 ghost use Rattle.jv_linked.specs.Laws.{WordsAreInherited};
 
-use jv_meaning_linking::layout_extends;
+use jv_meaning_typing::layout_extends;
 use jv_meaning_world::{above_by_ways, above_is_transitive};
 
 /// An object keeps an inherited field at the word where an object of the class that declares it does (own).

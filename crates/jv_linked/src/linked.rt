@@ -4,13 +4,13 @@ ghost use Rattle.std.specs.Prelude.{◌≡◌, ◌<◌, Some, IsSome, IfOk, IsTr
 ghost use Rattle.jv_meaning_world.specs.World.{World};
 ghost use Rattle.jv_meaning_world.specs.LookUps.{DeclaredField};
 ghost use Rattle.jv_meaning_world.specs.Verdicts.{is_loadable};
-ghost use Rattle.jv_meaning_linking.specs.Layout.{object_words};
+ghost use Rattle.jv_meaning_typing.specs.Layout.{object_words};
 ghost use Rattle.jv_link.specs.Orders.{IsOrder};
 ghost use Rattle.jv_meaning_world.specs.Overriding.{Declared};
 ghost use Rattle.jv_linked.specs.Bodies.{IsBody};
 ghost use Rattle.jv_linked.specs.Places.{IsWordOf, static_words};
 ghost use Rattle.jv_meaning_world.specs.Numbers.{HoldsAtNumber};
-ghost use Rattle.jv_meaning_linking.specs.Operands.{class_operand, field_operand, method_operand};
+ghost use Rattle.jv_meaning_typing.specs.Operands.{class_operand, field_operand, method_operand};
 ghost use Rattle.jv_link.specs.of_lookups.Places.{field_at, method_at, IsFieldPlace};
 ghost use Rattle.jv_link.specs.Seen.{IsSite, IsMethodTarget};
 ghost use Rattle.jv_link.specs.Objects.{IsObject};

@@ -10,7 +10,7 @@ ghost use Rattle.jv_linked.specs.Inside.Words.{words_of as words_of_class, word_
 ghost use Rattle.jv_linked.specs.Places.{IsWordOf, static_words};
 ghost use Rattle.jv_meaning_world.specs.World.{World};
 ghost use Rattle.jv_meaning_world.specs.LookUps.{DeclaredField};
-ghost use Rattle.jv_meaning_linking.specs.Layout.{object_words};
+ghost use Rattle.jv_meaning_typing.specs.Layout.{object_words};
 ghost use Rattle.jv_link.specs.of_lookups.Places.{field_at};
 
 use jv_link::class_at;

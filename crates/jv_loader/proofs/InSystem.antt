@@ -18,7 +18,7 @@ use Rattle.jv_meaning_world.proofs.Up.{none, first, later, single, found_super}
 use Rattle.jv_meaning_world.specs.System.Io.{io}
 use Rattle.std.proofs.lemmas.Grind.{common_steps}
 use Rattle.std.proofs.lemmas.List.{map-append}
-use Rattle.jv_lookups.proofs.laws_of_classes.Numbers.{take_more}
+use Rattle.jv_classes.proofs.Numbers.{take_more}
 use Rattle.jv_meaning_world.specs.World.{Loaded, loaded, has_class, class_named, classes_in, world_of}
 use Rattle.jv_meaning_world.specs.Numbers.{number_named}
 

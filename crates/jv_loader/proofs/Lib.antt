@@ -1,3 +1,6 @@
+pub mod Decided
+pub mod Fitting
+pub mod Standing
 pub mod Contents
 pub mod InSystem
 pub mod Joining
@@ -6,5 +9,4 @@ pub mod Searching
 pub mod Straightness
 pub mod Unlike
 pub mod Whole
-pub use Rattle.jv_lookups.proofs.laws_of_classes
 pub use Rattle.jv_lookups.proofs as laws_of_lookups

@@ -3,11 +3,11 @@ use Rattle.std.proofs.Common.{◌≡◌, ℕ, ◌+◌, ◌<◌, List, [], ◌∷
 use Rattle.std.specs.Borrow.{Bor}
 use Rattle.std.proofs.lemmas.List.{map-append}
 use Rattle.std.proofs.lemmas.Option.{slice_get-get_or}
-use Rattle.jv_lookups.proofs.laws_of_classes.Numbers.{take_more}
+use Rattle.jv_classes.proofs.Numbers.{take_more}
 use Rattle.jv_meaning_world.specs.FileContent.{FileContent, IsContent, AreContents}
 use Rattle.jv_meaning_world.specs.declared.verdict.LoadVerdict.{LoadVerdict}
 use Rattle.jv_meaning_world.specs.World.{World}
-use Rattle.jv_names.specs.Inside.Kept.{text_of, texts_of}
+use Rattle.jv_classes.specs.Inside.KeptNames.{text_of, texts_of}
 use Rattle.jv_loader.specs.Inside.Files.{ArePut, with_file, with_files, entry_of, entries_from}
 
 are_more : (bytes : List (List ℕ)) (contents : List FileContent) (b : List ℕ) (f : FileContent) → AreContents bytes contents → IsContent b f → AreContents (bytes ++ b ∷ []) (contents ++ f ∷ [])

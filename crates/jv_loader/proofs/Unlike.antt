@@ -12,7 +12,7 @@ use Rattle.jv_meaning_world.specs.Laws.Above.{IsWayUp}
 use Rattle.jv_meaning_world.specs.Verdicts.{passes}
 use Rattle.jv_meaning_world.proofs.Up.{none, first, later, single, above_by_ways}
 use Rattle.jv_meaning_world.proofs.Standing.{named_super}
-use Rattle.jv_lookups.proofs.laws_of_classes.Ways.{any_if}
+use Rattle.jv_classes.proofs.Ways.{any_if}
 use Rattle.jv_lookups.specs.Finals.{have_other_names, AreUnlike}
 use Rattle.jv_meaning_world.specs.Numbers.{classes_at}
 

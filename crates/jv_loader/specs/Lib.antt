@@ -1,5 +1,4 @@
 pub mod Inside
 pub mod Loading
 pub mod Straight
-pub use Rattle.jv_lookups.specs.of_classes
 pub use Rattle.jv_lookups.specs as of_lookups

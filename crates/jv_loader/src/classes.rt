@@ -6,19 +6,19 @@ ghost use Rattle.jv_lookups.specs.Places.{IsFieldPlace, IsMethodPlace, IsFieldLo
 ghost use Rattle.jv_lookups.specs.Defaults.{IsDefaultPlace, AreDefaultsOf};
 ghost use Rattle.jv_loader.specs.Loading.{AreLoaded};
 ghost use Rattle.jv_loader.specs.Straight.{AreStraight};
-ghost use Rattle.jv_names.specs.Inside.Kept.{texts_of};
+ghost use Rattle.jv_classes.specs.Inside.KeptNames.{texts_of};
 ghost use Rattle.jv_loader.specs.Inside.Files.{IsOfFiles};
 ghost use Rattle.jv_loader.specs.Inside.Searches.{IsSearch};
 
 use crate::entry::put_files;
+use crate::files::SystemFiles;
+use crate::memory::Memory;
 use crate::searches::searches_of;
 use crate::system::system_list;
 use crate::verdicts::verdicts_of;
-use jv_loader_system::{Memory, SystemFiles};
-use jv_lookups::of_classes::ClassTable;
+use jv_classes::{ClassTable, Text};
 use jv_lookups::{Defaults, Place, lookup_field, lookup_method, superinterface_defaults};
 use jv_meaning_world::{LoadVerdict, above_by_ways, loadable_by_all};
-use jv_names::Text;
 use std::alloc::Global;
 use std::hash::RandomState;
 use std::marker::Model;

@@ -3,12 +3,12 @@
 ghost use Rattle.std.specs.Prelude.{◌≡◌, false, IfOk, OnOk};
 ghost use Rattle.jv_meaning_world.specs.declared.content.Content.TheVariants.{Holds};
 ghost use Rattle.jv_meaning_world.specs.World.{is_reserved};
-ghost use Rattle.jv_names.specs.Inside.Kept.{texts_of};
+ghost use Rattle.jv_classes.specs.Inside.KeptNames.{texts_of};
 ghost use Rattle.jv_loader.specs.Inside.Files.{with_file, entry_of, ArePut, IsPut};
 
+use crate::memory::Memory;
 use crate::reading::read_content;
-use jv_loader_system::Memory;
-use jv_lookups::of_classes::{ClassList, LoadedClass};
+use jv_classes::{ClassList, LoadedClass};
 use jv_meaning_world::{Content, LoadVerdict};
 use std::alloc::{AllocError, Global};
 use std::hash::RandomState;

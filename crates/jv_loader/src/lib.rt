@@ -1,4 +1,4 @@
-//! A guest's classes (JVMS 5.3).
+//! A guest's classes (JVMS 5.3), and the files of the system's (2.12, own selection).
 //!
 //! [`Classes::load`] reads the files of a guest, and answers exactly the world of its classes behind the system's, what is
 //! wrong with each file before its methods are looked at, and where a field or a method of a class is found.
@@ -6,15 +6,27 @@
 
 mod classes;
 mod entry;
+mod files;
+mod flag;
+mod interface;
+mod law;
+mod memory;
+mod object;
+mod opcode;
 mod reading;
 mod searches;
+mod string;
 mod system;
+mod throwable;
+mod throwables;
 mod verdicts;
+mod written;
 
 pub use classes::Classes;
-pub use jv_loader_system::{Memory, SystemFiles, system_files};
+pub use files::{SystemFiles, system_files};
+pub use jv_classes::{ClassTable, LoadedClass, Member};
 pub use jv_lookups as of_lookups;
-pub use jv_lookups::of_classes::{ClassTable, LoadedClass, Member};
 pub use jv_lookups::{Defaults, Place};
 pub use jv_meaning_world::LoadVerdict;
+pub use memory::Memory;
 pub use reading::read_content;

@@ -7,9 +7,9 @@ ghost use Rattle.jv_class_structure.specs.Parts.{methods_of};
 ghost use Rattle.jv_meaning_world.specs.FileContent.{HasNoUnsupportedCode, IsContent};
 ghost use Rattle.jv_loader.specs.Inside.Reading.{content_of};
 
+use crate::memory::Memory;
 use jv_class::{ClassFault, ClassFile, Method, is_some_class, read_class};
 use jv_code::unsupported;
-use jv_loader_system::Memory;
 use jv_meaning_world::{Content, FileClass};
 use std::alloc::Global;
 

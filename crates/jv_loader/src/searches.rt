@@ -3,7 +3,7 @@
 ghost use Rattle.std.specs.Prelude.{IfOk};
 ghost use Rattle.jv_loader.specs.Inside.Searches.{AreSearches, lists_of};
 
-use jv_lookups::of_classes::ClassTable;
+use jv_classes::ClassTable;
 use jv_lookups::searched_from;
 use std::alloc::{AllocError, Global};
 

@@ -8,9 +8,10 @@ ghost use Rattle.jv_meaning_world.specs.World.{loaded};
 ghost use Rattle.jv_meaning_world.specs.Numbers.{number_named};
 ghost use Rattle.jv_loader.specs.Inside.System.{system_world};
 
+use crate::files::SystemFiles;
+use crate::memory::Memory;
 use crate::reading::read_content;
-use jv_loader_system::{Memory, SystemFiles};
-use jv_lookups::of_classes::{ClassList, LoadedClass};
+use jv_classes::{ClassList, LoadedClass};
 use jv_meaning_world::{Content, one_content};
 use std::alloc::Global;
 use std::hash::RandomState;

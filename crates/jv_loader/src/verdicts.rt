@@ -9,7 +9,7 @@ ghost use Rattle.jv_loader.specs.Inside.Files.{verdict_of_entry, IsPlace};
 ghost use Rattle.jv_loader.specs.Inside.Finals.{AreTold, breaks_final_above};
 
 use crate::entry::Entry;
-use jv_lookups::of_classes::ClassTable;
+use jv_classes::ClassTable;
 use jv_lookups::{Marks, breaks_final, final_declarers, package_numbers};
 use jv_meaning_world::LoadVerdict;
 use std::alloc::{AllocError, Global};

@@ -2,7 +2,7 @@
 use Rattle.std.proofs.Common.{◌≡◌, ℕ, zero, suc, ◌<◌, List, length, Option, Some, None, refl, sym, ap, ◌∙◌, subst}
 use Rattle.std.specs.Prelude.{slice_get}
 use Rattle.jv_format.specs.Format.{◌>>=◌}
-use Rattle.jv_names.specs.Ways.{IsBelowSize}
+use Rattle.jv_classes.specs.Ways.{IsBelowSize}
 use Rattle.jv_meaning_world.specs.World.{Loaded, World, class_named}
 use Rattle.jv_meaning_world.specs.Above.{superclass_in, chain_within, superclasses}
 use Rattle.jv_meaning_world.specs.LookUps.{first_found, else_option}

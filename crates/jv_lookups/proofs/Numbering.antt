@@ -10,7 +10,7 @@ use Rattle.std.proofs.lemmas.List.Quantifiers.{position-Some}
 use Rattle.std.proofs.lemmas.List.Sums.{fails_before_first}
 use Rattle.std.proofs.Math.Seq.{get_or-append_seam}
 use Rattle.std.proofs.lemmas.Slice.Eq.{bytes_eq-Decides}
-use Rattle.jv_names.specs.Names.{has_name, with_name}
+use Rattle.jv_classes.specs.Names.{has_name, with_name}
 use Rattle.jv_meaning_world.specs.World.{Loaded, package_of, same_loader, same_package}
 use Rattle.jv_lookups.specs.Packages.{AreNumbered}
 use Rattle.jv_lookups.specs.Inside.FinalNumbers.{IsFirstAt, number_at, IsNumber, AreTheirs}

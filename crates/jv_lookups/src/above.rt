@@ -9,8 +9,7 @@ ghost use Rattle.jv_lookups.specs.Finals.{PassesWith};
 
 use crate::marks::Marks;
 use crate::member::{FINAL, PRIVATE, can_override, is_instance, is_overridden};
-use jv_classes::{LoadedClass, Member};
-use jv_names::Text;
+use jv_classes::{LoadedClass, Member, Text};
 
 /// The flags of the instance method of a class with the name and descriptor of another.
 fn flags_alike(

@@ -7,8 +7,7 @@ ghost use Rattle.jv_meaning_world.specs.Numbers.{HoldsAtNumber};
 ghost use Rattle.jv_lookups.specs.Places.{method_at, IsMethodPlace, IsMethodFound};
 
 use crate::place::Place;
-use jv_classes::ClassTable;
-use jv_names::Text;
+use jv_classes::{ClassTable, Text};
 
 // Access flags of methods (JVMS table 4.6-A).
 const PRIVATE_OR_STATIC: u16 = 0x000a;

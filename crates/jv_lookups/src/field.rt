@@ -8,8 +8,7 @@ ghost use Rattle.jv_lookups.specs.Places.{IsFieldPlace, IsFieldFound};
 ghost use Rattle.jv_lookups.specs.Inside.Members.{field_named_in, FindsField};
 
 use crate::place::Place;
-use jv_classes::ClassTable;
-use jv_names::Text;
+use jv_classes::{ClassTable, Text};
 
 /// The field of a name and a descriptor that a class declares.
 fn declared_field(

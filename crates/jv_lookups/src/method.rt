@@ -9,8 +9,7 @@ ghost use Rattle.jv_lookups.specs.Inside.Members.{IsFirstAbove, method_of_object
 use crate::declared::{declared_method, is_public_instance};
 use crate::place::Place;
 use crate::superinterface::superinterface_method;
-use jv_classes::ClassTable;
-use jv_names::Text;
+use jv_classes::{ClassTable, Text};
 
 /// The first method that a superclass of a class declares.
 fn superclass_method(

@@ -1,12 +1,11 @@
 //! Run-time packages by number.
 
 ghost use Rattle.std.specs.Prelude.{◌≡◌, ◌<◌, ◌^◌, IfOk, OnOk, length};
-ghost use Rattle.jv_names.specs.Names.{with_name};
+ghost use Rattle.jv_classes.specs.Names.{with_name};
 ghost use Rattle.jv_lookups.specs.Packages.{AreNumbered};
 ghost use Rattle.jv_lookups.specs.Inside.FinalNumbers.{IsFirstAt, number_at};
 
-use jv_classes::LoadedClass;
-use jv_names::Names;
+use jv_classes::{LoadedClass, Names};
 use std::alloc::{AllocError, Global};
 use std::hash::RandomState;
 

@@ -11,8 +11,7 @@ ghost use Rattle.jv_lookups.specs.Defaults.{defaults, IsDefaultPlace, AreDefault
 use crate::declared::{declared_method, is_concrete, is_inheritable};
 use crate::defaults::Defaults;
 use crate::place::Place;
-use jv_classes::ClassTable;
-use jv_names::Text;
+use jv_classes::{ClassTable, Text};
 
 /// Whether a class is an interface other than that from which the search goes.
 fn is_superinterface(table: &ClassTable<'_>, from: usize, class: usize) -> bool

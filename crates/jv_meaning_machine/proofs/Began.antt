@@ -2,8 +2,8 @@
 -- definition with these as arguments, for lemmas by cases on them.
 use Rattle.std.proofs.Common.{Bool, true, false, List, ◌∷◌, Ok}
 use Rattle.jv_meaning_typing.specs.of_meaning_world.World.{Loaded}
-use Rattle.jv_meaning_typing.specs.of_meaning_linking.LinkErrors.{error_class}
-use Rattle.jv_meaning_typing.specs.of_meaning_linking.LinkErrors.LinkError.{NoClassDefFoundError, VerifyError}
+use Rattle.jv_meaning_typing.specs.LinkErrors.{error_class}
+use Rattle.jv_meaning_typing.specs.LinkErrors.LinkError.{NoClassDefFoundError, VerifyError}
 use Rattle.jv_meaning_machine.specs.Faults.{OrFault}
 use Rattle.jv_meaning_machine.specs.Frames.{Frame}
 use Rattle.jv_meaning_machine.specs.Frames.Frame.{Initializes}

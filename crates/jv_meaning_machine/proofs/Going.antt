@@ -7,8 +7,8 @@ use Rattle.jv_code.specs.Insns.{Instruction}
 use Rattle.jv_meaning_typing.specs.of_meaning_world.World.{Loaded, World}
 use Rattle.jv_meaning_typing.specs.of_meaning_world.Overriding.{Declared}
 use Rattle.jv_meaning_typing.specs.of_meaning_world.LookUps.{DeclaredField}
-use Rattle.jv_meaning_typing.specs.of_meaning_linking.LinkErrors.{error_class}
-use Rattle.jv_meaning_typing.specs.of_meaning_linking.LinkErrors.LinkError.{NoClassDefFoundError, VerifyError}
+use Rattle.jv_meaning_typing.specs.LinkErrors.{error_class}
+use Rattle.jv_meaning_typing.specs.LinkErrors.LinkError.{NoClassDefFoundError, VerifyError}
 use Rattle.jv_meaning_machine.specs.Faults.{OrFault, found, ◌>>=◌}
 use Rattle.jv_meaning_machine.specs.Faults.Fault.{OffsetFault}
 use Rattle.jv_meaning_machine.specs.Values.{Value, narrowed}

@@ -1,9 +1,9 @@
 -- Memory stays over an instruction that calls a method.
 use Rattle.std.proofs.Common.{◌≡◌, ℕ, ◌==◌, ℤ, Bool, true, false, not, ◌&&◌, true≢false, List, [], ◌∷◌, Ok, refl, sym, if◌then◌else◌}
 use Rattle.jv_meaning_typing.specs.of_text.Descriptor.{MethodDescriptor}
-use Rattle.jv_meaning_typing.specs.of_meaning_linking.Uses.{Use}
-use Rattle.jv_meaning_typing.specs.of_meaning_linking.Uses.Use.{Invokestatic, Invokespecial}
-use Rattle.jv_meaning_typing.specs.of_meaning_linking.MethodResolution.{MethodTarget}
+use Rattle.jv_meaning_typing.specs.Uses.{Use}
+use Rattle.jv_meaning_typing.specs.Uses.Use.{Invokestatic, Invokespecial}
+use Rattle.jv_meaning_typing.specs.MethodResolution.{MethodTarget}
 use Rattle.jv_meaning_machine.specs.Faults.{◌>>=◌}
 use Rattle.jv_meaning_machine.specs.Faults.Fault.{TagFault}
 use Rattle.jv_meaning_machine.specs.Values.{Value}

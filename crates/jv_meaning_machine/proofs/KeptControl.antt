@@ -9,10 +9,10 @@ use Rattle.jv_meaning_typing.specs.of_class_structure.Parts.{CodeSeen}
 use Rattle.jv_meaning_typing.specs.of_meaning_world.World.{Loaded, class_named}
 use Rattle.jv_meaning_typing.specs.of_meaning_world.Overriding.{Declared}
 use Rattle.jv_meaning_typing.specs.of_meaning_world.LookUps.{DeclaredField}
-use Rattle.jv_meaning_typing.specs.of_meaning_linking.Layout.{object_cells}
+use Rattle.jv_meaning_typing.specs.Layout.{object_cells}
 use Rattle.jv_meaning_typing.specs.of_text.Types.{method_type_of}
-use Rattle.jv_meaning_typing.specs.of_meaning_linking.LinkErrors.{error_class}
-use Rattle.jv_meaning_typing.specs.of_meaning_linking.LinkErrors.LinkError.{NoClassDefFoundError, VerifyError}
+use Rattle.jv_meaning_typing.specs.LinkErrors.{error_class}
+use Rattle.jv_meaning_typing.specs.LinkErrors.LinkError.{NoClassDefFoundError, VerifyError}
 use Rattle.jv_meaning_typing.specs.Environment.{Environment}
 use Rattle.jv_meaning_machine.specs.Faults.{OrFault, found, tested, ◌>>=◌}
 use Rattle.jv_meaning_machine.specs.Faults.Fault.{OffsetFault, UnverifiedFault, ReferenceFault}

@@ -16,13 +16,13 @@ use Rattle.jv_code.specs.declared.kinds.Test.TheVariants as tests
 use Rattle.jv_code.specs.declared.kinds.ValueKind.{ValueKind}
 use Rattle.jv_code.specs.declared.kinds.ValueKind.TheVariants as kinds
 use Rattle.jv_meaning_typing.specs.of_meaning_world.World.{Loaded, World, class_named, can_name}
-use Rattle.jv_meaning_typing.specs.of_meaning_linking.Uses.{Site}
-use Rattle.jv_meaning_typing.specs.of_meaning_linking.Uses.Use.{New, Invokeinterface}
-use Rattle.jv_meaning_typing.specs.of_meaning_linking.LinkErrors.{LinkError, OrError, provided, unless_wrong, ◌>>=◌}
-use Rattle.jv_meaning_typing.specs.of_meaning_linking.LinkErrors.LinkError.{NoClassDefFoundError, IllegalAccessError, InstantiationError}
-use Rattle.jv_meaning_typing.specs.of_meaning_linking.ClassResolution.{ResolvedClass, error_of_class, resolve_name, resolve_element, resolve_array, resolve_text, creatable, resolve_class}
-use Rattle.jv_meaning_typing.specs.of_meaning_linking.ClassResolution.ResolvedClass.{ClassOf, ArrayOf}
-use Rattle.jv_meaning_typing.specs.of_meaning_linking.Layout.{object_cells}
+use Rattle.jv_meaning_typing.specs.Uses.{Site}
+use Rattle.jv_meaning_typing.specs.Uses.Use.{New, Invokeinterface}
+use Rattle.jv_meaning_typing.specs.LinkErrors.{LinkError, OrError, provided, unless_wrong, ◌>>=◌}
+use Rattle.jv_meaning_typing.specs.LinkErrors.LinkError.{NoClassDefFoundError, IllegalAccessError, InstantiationError}
+use Rattle.jv_meaning_typing.specs.ClassResolution.{ResolvedClass, error_of_class, resolve_name, resolve_element, resolve_array, resolve_text, creatable, resolve_class}
+use Rattle.jv_meaning_typing.specs.ClassResolution.ResolvedClass.{ClassOf, ArrayOf}
+use Rattle.jv_meaning_typing.specs.Layout.{object_cells}
 use Rattle.jv_meaning_typing.specs.NumberRules.{Exchange, fixed_exchange}
 use Rattle.jv_meaning_typing.specs.ValueRules.{value_kind}
 use Rattle.jv_meaning_machine.specs.Faults.Fault.{OffsetFault, TagFault, ReturnFault}

@@ -10,11 +10,11 @@ use Rattle.jv_meaning_typing.specs.of_class.Class.{InitialValue}
 use Rattle.jv_meaning_typing.specs.of_class.Class.InitialValue.{IntValue, LongValue, StringValue}
 use Rattle.jv_meaning_typing.specs.of_meaning_world.World.{Loaded, World, class_named}
 use Rattle.jv_meaning_typing.specs.of_meaning_world.LookUps.{DeclaredField}
-use Rattle.jv_meaning_typing.specs.of_meaning_linking.LinkErrors.{OrError, error_class}
-use Rattle.jv_meaning_typing.specs.of_meaning_linking.Operands.{field_operand}
-use Rattle.jv_meaning_typing.specs.of_meaning_linking.FieldResolution.{resolve_field}
+use Rattle.jv_meaning_typing.specs.LinkErrors.{OrError, error_class}
+use Rattle.jv_meaning_typing.specs.Operands.{field_operand}
+use Rattle.jv_meaning_typing.specs.FieldResolution.{resolve_field}
 use Rattle.jv_meaning_typing.specs.Environment.{current_class}
-use Rattle.jv_meaning_typing.specs.of_meaning_linking.Layout.{instance_fields, field_words, object_cells}
+use Rattle.jv_meaning_typing.specs.Layout.{instance_fields, field_words, object_cells}
 use Rattle.jv_meaning_machine.specs.Faults.{found, tested, ◌>>=◌}
 use Rattle.jv_meaning_machine.specs.Faults.Fault.{OffsetFault, ReferenceFault, TagFault, ConstructionFault}
 use Rattle.jv_meaning_machine.specs.Values.{Value}

@@ -11,13 +11,13 @@ use Rattle.jv_meaning_typing.specs.of_pool.Constants.{at_index}
 use Rattle.jv_meaning_typing.specs.of_class.Class.{InitialValue}
 use Rattle.jv_meaning_typing.specs.of_class.Class.InitialValue.{IntValue, LongValue, StringValue}
 use Rattle.jv_meaning_typing.specs.of_meaning_world.World.{Loaded, class_named}
-use Rattle.jv_meaning_typing.specs.of_meaning_linking.Uses.{Use}
-use Rattle.jv_meaning_typing.specs.of_meaning_linking.Uses.Use.{New}
-use Rattle.jv_meaning_typing.specs.of_meaning_linking.LinkErrors.{OrError, error_class}
-use Rattle.jv_meaning_typing.specs.of_meaning_linking.Operands.{class_operand}
-use Rattle.jv_meaning_typing.specs.of_meaning_linking.ClassResolution.{ResolvedClass, resolve_class}
-use Rattle.jv_meaning_typing.specs.of_meaning_linking.ClassResolution.ResolvedClass.{ClassOf, ArrayOf}
-use Rattle.jv_meaning_typing.specs.of_meaning_linking.Layout.{object_cells}
+use Rattle.jv_meaning_typing.specs.Uses.{Use}
+use Rattle.jv_meaning_typing.specs.Uses.Use.{New}
+use Rattle.jv_meaning_typing.specs.LinkErrors.{OrError, error_class}
+use Rattle.jv_meaning_typing.specs.Operands.{class_operand}
+use Rattle.jv_meaning_typing.specs.ClassResolution.{ResolvedClass, resolve_class}
+use Rattle.jv_meaning_typing.specs.ClassResolution.ResolvedClass.{ClassOf, ArrayOf}
+use Rattle.jv_meaning_typing.specs.Layout.{object_cells}
 use Rattle.jv_meaning_typing.specs.Environment.{current_class}
 use Rattle.jv_meaning_machine.specs.Faults.{found, tested, ◌>>=◌}
 use Rattle.jv_meaning_machine.specs.Faults.Fault.{OffsetFault, ReferenceFault}

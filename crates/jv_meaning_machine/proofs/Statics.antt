@@ -8,7 +8,7 @@ use Rattle.std.proofs.lemmas.Slice.Eq.{bytes_eq-Decides}
 use Rattle.jv_meaning_typing.specs.of_class.Class.{Field}
 use Rattle.jv_meaning_typing.specs.of_meaning_world.World.{Loaded, World}
 use Rattle.jv_meaning_typing.specs.of_meaning_world.LookUps.{field_by}
-use Rattle.jv_meaning_typing.specs.of_meaning_linking.Kind.{is_static_field}
+use Rattle.jv_meaning_typing.specs.Kind.{is_static_field}
 use Rattle.jv_meaning_machine.specs.Values.{Value}
 use Rattle.jv_meaning_machine.specs.Objects.{FieldKey, Content, key_of, same_key, value_at, default_entry}
 use Rattle.jv_meaning_machine.specs.Start.{static_entries}

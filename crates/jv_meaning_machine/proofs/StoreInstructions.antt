@@ -11,9 +11,9 @@ use Rattle.jv_code.specs.declared.kinds.NumberElement.{NumberElement}
 use Rattle.jv_meaning_typing.specs.of_pool.Constants.{MemberReference}
 use Rattle.jv_meaning_typing.specs.of_meaning_world.World.{Loaded}
 use Rattle.jv_meaning_typing.specs.of_meaning_world.LookUps.{DeclaredField}
-use Rattle.jv_meaning_typing.specs.of_meaning_linking.LinkErrors.{OrError, error_class}
-use Rattle.jv_meaning_typing.specs.of_meaning_linking.Operands.{field_operand}
-use Rattle.jv_meaning_typing.specs.of_meaning_linking.FieldResolution.{resolve_field}
+use Rattle.jv_meaning_typing.specs.LinkErrors.{OrError, error_class}
+use Rattle.jv_meaning_typing.specs.Operands.{field_operand}
+use Rattle.jv_meaning_typing.specs.FieldResolution.{resolve_field}
 use Rattle.jv_meaning_typing.specs.Environment.{current_class}
 use Rattle.jv_meaning_typing.specs.Named.{object_class_type, array_with, class_components}
 use Rattle.jv_meaning_typing.specs.NumberRules.{element_number}

@@ -15,8 +15,8 @@ use Rattle.jv_code.specs.declared.kinds.ElementType.{ElementType}
 use Rattle.jv_code.specs.declared.kinds.ElementType.TheVariants as element_types
 use Rattle.jv_code.specs.declared.kinds.NumberElement.{NumberElement}
 use Rattle.jv_code.specs.declared.kinds.NumberElement.TheVariants as numbers
-use Rattle.jv_meaning_typing.specs.of_meaning_linking.ClassResolution.{ResolvedClass, resolve_class}
-use Rattle.jv_meaning_typing.specs.of_meaning_linking.ClassResolution.ResolvedClass.{ClassOf, ArrayOf}
+use Rattle.jv_meaning_typing.specs.ClassResolution.{ResolvedClass, resolve_class}
+use Rattle.jv_meaning_typing.specs.ClassResolution.ResolvedClass.{ClassOf, ArrayOf}
 use Rattle.jv_meaning_typing.specs.FrameChanges.{is_reference}
 use Rattle.jv_meaning_typing.specs.NumberRules.{element_number}
 use Rattle.jv_meaning_machine.specs.Faults.{OrFault, tested, ◌>>=◌}

@@ -14,11 +14,11 @@ use Rattle.jv_code.specs.declared.kinds.Invocation.TheVariants as invocations
 use Rattle.jv_meaning_typing.specs.of_meaning_world.World.{Loaded, World, class_named}
 use Rattle.jv_meaning_typing.specs.of_meaning_world.Overriding.{Declared}
 use Rattle.jv_meaning_typing.specs.of_meaning_world.Verdicts.{is_interface}
-use Rattle.jv_meaning_typing.specs.of_meaning_linking.Uses.{Use}
-use Rattle.jv_meaning_typing.specs.of_meaning_linking.Uses.Use.{Invokestatic, Invokevirtual, Invokespecial, Invokeinterface}
-use Rattle.jv_meaning_typing.specs.of_meaning_linking.Operands.{MethodReference, method_operand}
-use Rattle.jv_meaning_typing.specs.of_meaning_linking.MethodResolution.{MethodTarget, resolve_method}
-use Rattle.jv_meaning_typing.specs.of_meaning_linking.Selection.{select}
+use Rattle.jv_meaning_typing.specs.Uses.{Use}
+use Rattle.jv_meaning_typing.specs.Uses.Use.{Invokestatic, Invokevirtual, Invokespecial, Invokeinterface}
+use Rattle.jv_meaning_typing.specs.Operands.{MethodReference, method_operand}
+use Rattle.jv_meaning_typing.specs.MethodResolution.{MethodTarget, resolve_method}
+use Rattle.jv_meaning_typing.specs.Selection.{select}
 use Rattle.jv_meaning_typing.specs.Environment.{current_class}
 use Rattle.jv_meaning_typing.specs.MemberRules.{is_of_class, is_that_name}
 use Rattle.jv_meaning_typing.specs.Named.{class_components}

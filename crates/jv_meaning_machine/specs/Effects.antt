@@ -3,11 +3,11 @@ use Rattle.std.specs.Prelude.{ℕ, List, Option, Ok, Err, codes, if◌then◌els
 use Rattle.jv_meaning_typing.specs.of_text.declared.descriptor.FieldTypeOf.{FieldTypeOf}
 use Rattle.jv_meaning_typing.specs.of_meaning_world.World.{Loaded, World}
 use Rattle.jv_meaning_typing.specs.of_meaning_world.Overriding.{Declared}
-use Rattle.jv_meaning_typing.specs.of_meaning_linking.Uses.{Site}
-use Rattle.jv_meaning_typing.specs.of_meaning_linking.LinkErrors.{OrError, error_class}
-use Rattle.jv_meaning_typing.specs.of_meaning_linking.Operands.{class_operand}
-use Rattle.jv_meaning_typing.specs.of_meaning_linking.ClassResolution.{ResolvedClass}
-use Rattle.jv_meaning_typing.specs.of_meaning_linking.ClassResolution.ResolvedClass.{ClassOf, ArrayOf}
+use Rattle.jv_meaning_typing.specs.Uses.{Site}
+use Rattle.jv_meaning_typing.specs.LinkErrors.{OrError, error_class}
+use Rattle.jv_meaning_typing.specs.Operands.{class_operand}
+use Rattle.jv_meaning_typing.specs.ClassResolution.{ResolvedClass}
+use Rattle.jv_meaning_typing.specs.ClassResolution.ResolvedClass.{ClassOf, ArrayOf}
 use Rattle.jv_meaning_typing.specs.Environment.{Environment, current_class}
 use Rattle.jv_meaning_typing.specs.Named.{class_components}
 use Rattle.jv_meaning_machine.specs.Faults.{OrFault, found}

@@ -10,10 +10,10 @@ use Rattle.jv_code.specs.declared.kinds.FieldAccess.{FieldAccess}
 use Rattle.jv_code.specs.declared.kinds.FieldAccess.TheVariants as access
 use Rattle.jv_meaning_typing.specs.of_pool.Constants.{MemberReference}
 use Rattle.jv_meaning_typing.specs.of_meaning_world.LookUps.{DeclaredField}
-use Rattle.jv_meaning_typing.specs.of_meaning_linking.Uses.{Use}
-use Rattle.jv_meaning_typing.specs.of_meaning_linking.Uses.Use.{Getstatic, Putstatic, Getfield, Putfield}
-use Rattle.jv_meaning_typing.specs.of_meaning_linking.Operands.{field_operand}
-use Rattle.jv_meaning_typing.specs.of_meaning_linking.FieldResolution.{resolve_field}
+use Rattle.jv_meaning_typing.specs.Uses.{Use}
+use Rattle.jv_meaning_typing.specs.Uses.Use.{Getstatic, Putstatic, Getfield, Putfield}
+use Rattle.jv_meaning_typing.specs.Operands.{field_operand}
+use Rattle.jv_meaning_typing.specs.FieldResolution.{resolve_field}
 use Rattle.jv_meaning_typing.specs.Environment.{current_class}
 use Rattle.jv_meaning_machine.specs.Faults.{OrFault, found, tested, ◌>>=◌}
 use Rattle.jv_meaning_machine.specs.Faults.Fault.{OffsetFault, TagFault, ReferenceFault, ConstructionFault}

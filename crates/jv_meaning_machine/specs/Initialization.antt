@@ -11,9 +11,9 @@ use Rattle.jv_meaning_typing.specs.of_meaning_world.Above.{above}
 use Rattle.jv_meaning_typing.specs.of_meaning_world.Overriding.{Declared}
 use Rattle.jv_meaning_typing.specs.of_meaning_world.Verdicts.{is_loadable}
 use Rattle.jv_meaning_typing.specs.of_meaning_world.LookUps.{DeclaredField, field_by, method_in, method_if}
-use Rattle.jv_meaning_typing.specs.of_meaning_linking.LinkErrors.{error_class}
-use Rattle.jv_meaning_typing.specs.of_meaning_linking.LinkErrors.LinkError.{NoClassDefFoundError, VerifyError}
-use Rattle.jv_meaning_typing.specs.of_meaning_linking.InitializationOrder.{init_order}
+use Rattle.jv_meaning_typing.specs.LinkErrors.{error_class}
+use Rattle.jv_meaning_typing.specs.LinkErrors.LinkError.{NoClassDefFoundError, VerifyError}
+use Rattle.jv_meaning_typing.specs.InitializationOrder.{init_order}
 use Rattle.jv_meaning_machine.specs.Faults.{OrFault, found, ◌>>=◌}
 use Rattle.jv_meaning_machine.specs.Faults.Fault.{OffsetFault}
 use Rattle.jv_meaning_machine.specs.Values.{Value, narrowed}

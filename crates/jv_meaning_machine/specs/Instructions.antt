@@ -19,10 +19,10 @@ use Rattle.jv_code.specs.declared.kinds.ValueKind.{ValueKind}
 use Rattle.jv_code.specs.declared.kinds.ValueKind.TheVariants as kinds
 use Rattle.jv_code.specs.Targets.{target_of}
 use Rattle.jv_meaning_typing.specs.of_meaning_world.World.{Loaded}
-use Rattle.jv_meaning_typing.specs.of_meaning_linking.Uses.Use.{New, Invokeinterface}
-use Rattle.jv_meaning_typing.specs.of_meaning_linking.ClassResolution.{ResolvedClass, resolve_class}
-use Rattle.jv_meaning_typing.specs.of_meaning_linking.ClassResolution.ResolvedClass.{ClassOf, ArrayOf}
-use Rattle.jv_meaning_typing.specs.of_meaning_linking.Layout.{object_cells}
+use Rattle.jv_meaning_typing.specs.Uses.Use.{New, Invokeinterface}
+use Rattle.jv_meaning_typing.specs.ClassResolution.{ResolvedClass, resolve_class}
+use Rattle.jv_meaning_typing.specs.ClassResolution.ResolvedClass.{ClassOf, ArrayOf}
+use Rattle.jv_meaning_typing.specs.Layout.{object_cells}
 use Rattle.jv_meaning_typing.specs.FrameChanges.{is_of_kind}
 use Rattle.jv_meaning_typing.specs.Named.{class_components}
 use Rattle.jv_meaning_typing.specs.NumberRules.{Exchange, fixed_exchange}

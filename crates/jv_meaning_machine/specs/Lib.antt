@@ -25,6 +25,5 @@ pub use Rattle.jv_meaning_typing.specs.of_class
 pub use Rattle.jv_code.specs as of_code
 pub use Rattle.jv_code.specs.of_format
 pub use Rattle.jv_meaning_typing.specs.of_frames
-pub use Rattle.jv_meaning_typing.specs.of_meaning_linking
 pub use Rattle.jv_meaning_typing.specs as of_meaning_typing
 pub use Rattle.jv_meaning_typing.specs.of_meaning_world

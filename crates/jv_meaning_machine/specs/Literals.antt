@@ -9,7 +9,7 @@ use Rattle.jv_meaning_typing.specs.of_pool.Constants.{Entry, at_index, utf8_at, 
 use Rattle.jv_meaning_typing.specs.of_class.Class.{InitialValue}
 use Rattle.jv_meaning_typing.specs.of_class.Class.InitialValue.{IntValue, LongValue, StringValue}
 use Rattle.jv_meaning_typing.specs.of_meaning_world.World.{Loaded, class_named}
-use Rattle.jv_meaning_typing.specs.of_meaning_linking.Layout.{object_cells}
+use Rattle.jv_meaning_typing.specs.Layout.{object_cells}
 use Rattle.jv_meaning_typing.specs.Environment.{current_class}
 use Rattle.jv_meaning_machine.specs.Faults.{OrFault, found, ◌>>=◌}
 use Rattle.jv_meaning_machine.specs.Faults.Fault.{OffsetFault, ReferenceFault}

@@ -7,7 +7,7 @@ use Rattle.jv_meaning_typing.specs.of_pool.Constants.{MemberReference, member_of
 use Rattle.jv_meaning_typing.specs.of_meaning_world.World.{Loaded, World, class_named}
 use Rattle.jv_meaning_typing.specs.of_meaning_world.Above.{is_above}
 use Rattle.jv_meaning_typing.specs.of_meaning_world.LookUps.{DeclaredField}
-use Rattle.jv_meaning_typing.specs.of_meaning_linking.Layout.{instance_fields}
+use Rattle.jv_meaning_typing.specs.Layout.{instance_fields}
 use Rattle.jv_meaning_typing.specs.of_meaning_world.Flow.{extended}
 use Rattle.jv_meaning_typing.specs.Named.{class_components}
 use Rattle.jv_meaning_machine.specs.Values.{Value, default_of, default_of_type}

@@ -5,8 +5,8 @@ use Rattle.std.specs.List.{flat_map}
 use Rattle.jv_meaning_typing.specs.of_meaning_world.World.{Loaded, World, class_named}
 use Rattle.jv_meaning_typing.specs.of_meaning_world.Overriding.{Declared}
 use Rattle.jv_meaning_typing.specs.of_meaning_world.LookUps.{field_by}
-use Rattle.jv_meaning_typing.specs.of_meaning_linking.Kind.{is_static_field}
-use Rattle.jv_meaning_typing.specs.of_meaning_linking.Layout.{object_cells}
+use Rattle.jv_meaning_typing.specs.Kind.{is_static_field}
+use Rattle.jv_meaning_typing.specs.Layout.{object_cells}
 use Rattle.jv_meaning_typing.specs.Named.{class_components}
 use Rattle.jv_meaning_machine.specs.Faults.{OrFault, found, ◌>>=◌}
 use Rattle.jv_meaning_machine.specs.Faults.Fault.{ReferenceFault}

@@ -5,7 +5,7 @@ use Rattle.std.specs.List.{find}
 use Rattle.jv_code.specs.of_format.declared.handlers.Handler.{Handler}
 use Rattle.jv_meaning_typing.specs.of_pool.Constants.{Entry, class_name_at}
 use Rattle.jv_meaning_typing.specs.of_meaning_world.World.{Loaded, World, class_named}
-use Rattle.jv_meaning_typing.specs.of_meaning_linking.Layout.{object_cells}
+use Rattle.jv_meaning_typing.specs.Layout.{object_cells}
 use Rattle.jv_meaning_typing.specs.Environment.{current_class}
 use Rattle.jv_meaning_typing.specs.Typing.{covers}
 use Rattle.jv_meaning_machine.specs.Faults.{OrFault, found, tested, ◌>>=◌}

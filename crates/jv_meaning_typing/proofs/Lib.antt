@@ -1,3 +1,17 @@
+pub mod ByRule
+pub mod Chain
+pub mod Enumerated
+pub mod Errors
+pub mod Finals
+pub mod Found
+pub mod Loading
+pub mod OneWalk
+pub mod Places
+pub mod Resolved
+pub mod Run
+pub mod Searched
+pub mod Unchanged
+pub mod Upward
 pub mod Agreement
 pub mod Falling
 pub mod MapVerdicts
@@ -5,6 +19,5 @@ pub mod OneFault
 pub mod OneVerdict
 pub mod Starts
 pub mod Verdicts
-pub use Rattle.jv_meaning_linking.proofs as laws_of_meaning_linking
-pub use Rattle.jv_meaning_linking.proofs.laws_of_meaning_world
-pub use Rattle.jv_meaning_linking.proofs.laws_of_text
+pub use Rattle.jv_meaning_world.proofs as laws_of_meaning_world
+pub use Rattle.jv_meaning_world.proofs.laws_of_text

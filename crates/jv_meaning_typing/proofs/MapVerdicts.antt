@@ -2,24 +2,24 @@
 use Rattle.std.proofs.Common.{◌≡◌, ℕ, zero, suc, true, false, List, [], ◌∷◌, Some, None, refl, sym, ap, subst, inl, inr, arith, pos, codes}
 use Rattle.std.specs.Prelude.{IsTrue}
 use Rattle.std.proofs.lemmas.List.Elements.{All-cons}
-use Rattle.jv_meaning_linking.specs.of_class_structure.Parts.{CodeSeen}
-use Rattle.jv_meaning_linking.specs.of_frames.declared.item.Item.TheVariants as items
-use Rattle.jv_meaning_linking.specs.of_frames.declared.form.Form.TheVariants.{Same, SameItem, Full}
-use Rattle.jv_meaning_linking.specs.of_frames.declared.verification.VerificationTypeOf.TheVariants as types
-use Rattle.jv_meaning_linking.specs.of_frames.Frames.{Frame, PlacedFrame, map_frame}
-use Rattle.jv_meaning_linking.specs.of_code.declared.insn.Insn.TheVariants as insns
-use Rattle.jv_meaning_linking.specs.of_code.declared.kinds.Invocation.TheVariants as invocations
-use Rattle.jv_meaning_linking.specs.of_code.declared.kinds.JumpForm.TheVariants as jump
-use Rattle.jv_meaning_linking.specs.of_code.declared.kinds.LocalForm.TheVariants as local
-use Rattle.jv_meaning_linking.specs.of_code.declared.kinds.ValueKind.TheVariants as kinds
-use Rattle.jv_meaning_linking.specs.of_code.Handlers.{HandlerFits}
-use Rattle.jv_meaning_linking.specs.of_code.Insns.{Instruction}
-use Rattle.jv_meaning_linking.specs.of_code.Places.{IsStart, StandsInList, StartsApart}
-use Rattle.jv_meaning_linking.specs.of_code.Successors.{falls_through}
-use Rattle.jv_meaning_linking.proofs.laws_of_code.Sizes.{some_bytes}
-use Rattle.jv_meaning_linking.specs.of_meaning_world.FrameFlow.{frame_flows}
-use Rattle.jv_meaning_linking.specs.of_meaning_world.Verdicts.{declared_by}
-use Rattle.jv_meaning_linking.specs.Rows.Samples.{world_with, guest}
+use Rattle.jv_meaning_world.specs.of_class_structure.Parts.{CodeSeen}
+use Rattle.jv_meaning_world.specs.of_frames.declared.item.Item.TheVariants as items
+use Rattle.jv_meaning_world.specs.of_frames.declared.form.Form.TheVariants.{Same, SameItem, Full}
+use Rattle.jv_meaning_world.specs.of_frames.declared.verification.VerificationTypeOf.TheVariants as types
+use Rattle.jv_meaning_world.specs.of_frames.Frames.{Frame, PlacedFrame, map_frame}
+use Rattle.jv_meaning_world.specs.of_code.declared.insn.Insn.TheVariants as insns
+use Rattle.jv_meaning_world.specs.of_code.declared.kinds.Invocation.TheVariants as invocations
+use Rattle.jv_meaning_world.specs.of_code.declared.kinds.JumpForm.TheVariants as jump
+use Rattle.jv_meaning_world.specs.of_code.declared.kinds.LocalForm.TheVariants as local
+use Rattle.jv_meaning_world.specs.of_code.declared.kinds.ValueKind.TheVariants as kinds
+use Rattle.jv_meaning_world.specs.of_code.Handlers.{HandlerFits}
+use Rattle.jv_meaning_world.specs.of_code.Insns.{Instruction}
+use Rattle.jv_meaning_world.specs.of_code.Places.{IsStart, StandsInList, StartsApart}
+use Rattle.jv_meaning_world.specs.of_code.Successors.{falls_through}
+use Rattle.jv_meaning_world.proofs.laws_of_code.Sizes.{some_bytes}
+use Rattle.jv_meaning_world.specs.FrameFlow.{frame_flows}
+use Rattle.jv_meaning_world.specs.Verdicts.{declared_by}
+use Rattle.jv_meaning_typing.specs.Rows.LinkingSamples.{world_with, guest}
 use Rattle.jv_meaning_typing.specs.declared.verdict.VerifyRule.TheVariants as rules
 use Rattle.jv_meaning_typing.specs.declared.verdict.Verdict.TheVariants as verdicts
 use Rattle.jv_meaning_typing.specs.Environment.{Environment, IsEnvironment, instruction_at, offset_behind}

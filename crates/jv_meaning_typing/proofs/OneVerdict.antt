@@ -5,14 +5,14 @@ use Rattle.std.proofs.lemmas.Bool.{cases_order}
 use Rattle.std.proofs.lemmas.List.{length-take}
 use Rattle.std.proofs.lemmas.List.Elements.{All-get_or}
 use Rattle.std.proofs.lemmas.Option.{slice_get_within, get_or_from_slice_get}
-use Rattle.jv_meaning_linking.specs.of_class.Class.{Method}
-use Rattle.jv_meaning_linking.specs.of_frames.Frames.{OneMaps}
-use Rattle.jv_meaning_linking.specs.of_code.Places.{OneList}
-use Rattle.jv_meaning_linking.specs.of_meaning_world.FileContent.{FileContent}
-use Rattle.jv_meaning_linking.specs.of_meaning_world.declared.content.Content.TheVariants.{OtherVersion, NoClassFile, MoreThanProfile, Holds}
-use Rattle.jv_meaning_linking.specs.of_meaning_world.World.{Loaded, World, loaded, world_of}
-use Rattle.jv_meaning_linking.specs.of_meaning_world.declared.verdict.LoadVerdict.{LoadVerdict}
-use Rattle.jv_meaning_linking.specs.of_meaning_world.Verdicts.{verdict_of_class, load_verdict, declared_by}
+use Rattle.jv_meaning_world.specs.of_class.Class.{Method}
+use Rattle.jv_meaning_world.specs.of_frames.Frames.{OneMaps}
+use Rattle.jv_meaning_world.specs.of_code.Places.{OneList}
+use Rattle.jv_meaning_world.specs.FileContent.{FileContent}
+use Rattle.jv_meaning_world.specs.declared.content.Content.TheVariants.{OtherVersion, NoClassFile, MoreThanProfile, Holds}
+use Rattle.jv_meaning_world.specs.World.{Loaded, World, loaded, world_of}
+use Rattle.jv_meaning_world.specs.declared.verdict.LoadVerdict.{LoadVerdict}
+use Rattle.jv_meaning_world.specs.Verdicts.{verdict_of_class, load_verdict, declared_by}
 use Rattle.jv_meaning_typing.specs.declared.verdict.VerifyRule.{VerifyRule}
 use Rattle.jv_meaning_typing.specs.declared.verdict.VerifyFault.{VerifyFault}
 use Rattle.jv_meaning_typing.specs.declared.verdict.Verdict.{Verdict}

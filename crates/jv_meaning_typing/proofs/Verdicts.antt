@@ -3,27 +3,27 @@ use Rattle.std.proofs.Common.{◌≡◌, ℕ, zero, suc, ◌<◌, ◌≤◌, fal
 use Rattle.std.specs.Prelude.{IsTrue}
 use Rattle.std.specs.List.{All, list_all}
 use Rattle.std.proofs.lemmas.List.Elements.{All-cons}
-use Rattle.jv_meaning_linking.specs.of_format.declared.handlers.Handler.{Handler}
-use Rattle.jv_meaning_linking.specs.of_code.Handlers.{HandlerFits, HandlersFit}
-use Rattle.jv_meaning_linking.specs.of_class_structure.Parts.{CodeSeen}
-use Rattle.jv_meaning_linking.specs.of_class.Class.{Method}
-use Rattle.jv_meaning_linking.specs.of_text.Descriptor.{MethodDescriptor}
-use Rattle.jv_meaning_linking.specs.of_text.declared.descriptor.Base.TheVariants as bases
-use Rattle.jv_meaning_linking.specs.of_text.declared.descriptor.Element.TheVariants as elements
-use Rattle.jv_meaning_linking.specs.of_frames.declared.verification.VerificationTypeOf.TheVariants as types
-use Rattle.jv_meaning_linking.specs.of_frames.Bytes.{stack_map_bytes}
-use Rattle.jv_meaning_linking.specs.of_frames.Frames.{Frame, PlacedFrame}
-use Rattle.jv_meaning_linking.specs.of_code.Successors.{falls_through}
-use Rattle.jv_meaning_linking.specs.of_code.declared.insn.Insn.TheVariants as insns
-use Rattle.jv_meaning_linking.specs.of_code.declared.kinds.JumpForm.TheVariants as jump
-use Rattle.jv_meaning_linking.specs.of_code.declared.kinds.ValueKind.TheVariants as kinds
-use Rattle.jv_meaning_linking.specs.of_code.Insns.{Instruction}
-use Rattle.jv_meaning_linking.specs.of_code.Places.{IsStart, OneList, StandsInList, StartsApart}
-use Rattle.jv_meaning_linking.proofs.laws_of_code.Sizes.{some_bytes}
-use Rattle.jv_meaning_linking.specs.of_meaning_world.World.{World}
-use Rattle.jv_meaning_linking.specs.of_meaning_world.Verdicts.{declared_by}
-use Rattle.jv_meaning_linking.specs.Rows.Samples.{world_with, guest}
-use Rattle.jv_meaning_linking.specs.Uses.{Site}
+use Rattle.jv_meaning_world.specs.of_format.declared.handlers.Handler.{Handler}
+use Rattle.jv_meaning_world.specs.of_code.Handlers.{HandlerFits, HandlersFit}
+use Rattle.jv_meaning_world.specs.of_class_structure.Parts.{CodeSeen}
+use Rattle.jv_meaning_world.specs.of_class.Class.{Method}
+use Rattle.jv_meaning_world.specs.of_text.Descriptor.{MethodDescriptor}
+use Rattle.jv_meaning_world.specs.of_text.declared.descriptor.Base.TheVariants as bases
+use Rattle.jv_meaning_world.specs.of_text.declared.descriptor.Element.TheVariants as elements
+use Rattle.jv_meaning_world.specs.of_frames.declared.verification.VerificationTypeOf.TheVariants as types
+use Rattle.jv_meaning_world.specs.of_frames.Bytes.{stack_map_bytes}
+use Rattle.jv_meaning_world.specs.of_frames.Frames.{Frame, PlacedFrame}
+use Rattle.jv_meaning_world.specs.of_code.Successors.{falls_through}
+use Rattle.jv_meaning_world.specs.of_code.declared.insn.Insn.TheVariants as insns
+use Rattle.jv_meaning_world.specs.of_code.declared.kinds.JumpForm.TheVariants as jump
+use Rattle.jv_meaning_world.specs.of_code.declared.kinds.ValueKind.TheVariants as kinds
+use Rattle.jv_meaning_world.specs.of_code.Insns.{Instruction}
+use Rattle.jv_meaning_world.specs.of_code.Places.{IsStart, OneList, StandsInList, StartsApart}
+use Rattle.jv_meaning_world.proofs.laws_of_code.Sizes.{some_bytes}
+use Rattle.jv_meaning_world.specs.World.{World}
+use Rattle.jv_meaning_world.specs.Verdicts.{declared_by}
+use Rattle.jv_meaning_typing.specs.Rows.LinkingSamples.{world_with, guest}
+use Rattle.jv_meaning_typing.specs.Uses.{Site}
 use Rattle.jv_meaning_typing.specs.declared.verdict.VerifyRule.{VerifyRule}
 use Rattle.jv_meaning_typing.specs.declared.verdict.VerifyRule.TheVariants as rules
 use Rattle.jv_meaning_typing.specs.declared.verdict.Verdict.TheVariants as verdicts

@@ -3,16 +3,16 @@
 use Rattle.std.specs.Prelude.{ℕ, zero, suc, Bool, true, false, ◌==◌, nat_le, List, [], ◌∷◌, ◌++◌, length, map, reverse, drop, Option, Some, None, if◌then◌else◌}
 use Rattle.std.specs.List.{list_all, list_any}
 use Rattle.std.specs.Option.{option_map}
-use Rattle.jv_meaning_linking.specs.of_format.Format.{◌>>=◌}
-use Rattle.jv_meaning_linking.specs.of_frames.declared.verification.VerificationTypeOf.TheVariants as types
-use Rattle.jv_meaning_linking.specs.of_frames.declared.width.Width.{Width}
-use Rattle.jv_meaning_linking.specs.of_frames.declared.width.Width.TheVariants.{One, Two}
-use Rattle.jv_meaning_linking.specs.of_frames.Types.{FrameType}
-use Rattle.jv_meaning_linking.specs.of_frames.Frames.{Frame}
-use Rattle.jv_meaning_linking.specs.of_code.declared.kinds.ValueKind.{ValueKind}
-use Rattle.jv_meaning_linking.specs.of_code.declared.kinds.ValueKind.TheVariants as kinds
-use Rattle.jv_meaning_linking.specs.of_meaning_world.World.{World}
-use Rattle.jv_meaning_linking.specs.of_meaning_world.FrameFlow.{item_flows}
+use Rattle.jv_meaning_world.specs.of_format.Format.{◌>>=◌}
+use Rattle.jv_meaning_world.specs.of_frames.declared.verification.VerificationTypeOf.TheVariants as types
+use Rattle.jv_meaning_world.specs.of_frames.declared.width.Width.{Width}
+use Rattle.jv_meaning_world.specs.of_frames.declared.width.Width.TheVariants.{One, Two}
+use Rattle.jv_meaning_world.specs.of_frames.Types.{FrameType}
+use Rattle.jv_meaning_world.specs.of_frames.Frames.{Frame}
+use Rattle.jv_meaning_world.specs.of_code.declared.kinds.ValueKind.{ValueKind}
+use Rattle.jv_meaning_world.specs.of_code.declared.kinds.ValueKind.TheVariants as kinds
+use Rattle.jv_meaning_world.specs.World.{World}
+use Rattle.jv_meaning_world.specs.FrameFlow.{item_flows}
 
 abbrev pub with_stack : Frame → List FrameType → Frame
 with_stack frame stack = record frame { stack = stack }

@@ -1,14 +1,14 @@
 -- What is found of a method, of a class and of a file (JVMS 4.10): a typing, or the first rule that is broken.
 use Rattle.std.specs.Prelude.{◌≡◌, ℕ, ◌≤◌, false, List, length, slice_get, Option, Some, None, IsSome, IsTrue, not, take}
 use Rattle.std.specs.List.{All}
-use Rattle.jv_meaning_linking.specs.of_class.Class.{Class, Method}
-use Rattle.jv_meaning_linking.specs.of_code.Insns.{Instruction}
-use Rattle.jv_meaning_linking.specs.of_meaning_world.FileContent.{FileContent}
-use Rattle.jv_meaning_linking.specs.of_meaning_world.declared.content.Content.TheVariants.{Holds}
-use Rattle.jv_meaning_linking.specs.of_meaning_world.World.{Loaded, World, loaded, world_of}
-use Rattle.jv_meaning_linking.specs.of_meaning_world.declared.verdict.LoadVerdict.{LoadVerdict}
-use Rattle.jv_meaning_linking.specs.of_meaning_world.Verdicts.{verdict_of_class, load_verdict, declared_by}
-use Rattle.jv_meaning_linking.specs.Uses.{Site}
+use Rattle.jv_meaning_world.specs.of_class.Class.{Class, Method}
+use Rattle.jv_meaning_world.specs.of_code.Insns.{Instruction}
+use Rattle.jv_meaning_world.specs.FileContent.{FileContent}
+use Rattle.jv_meaning_world.specs.declared.content.Content.TheVariants.{Holds}
+use Rattle.jv_meaning_world.specs.World.{Loaded, World, loaded, world_of}
+use Rattle.jv_meaning_world.specs.declared.verdict.LoadVerdict.{LoadVerdict}
+use Rattle.jv_meaning_world.specs.Verdicts.{verdict_of_class, load_verdict, declared_by}
+use Rattle.jv_meaning_typing.specs.Uses.{Site}
 use Rattle.jv_meaning_typing.specs.declared.verdict.VerifyRule.{VerifyRule}
 use Rattle.jv_meaning_typing.specs.declared.verdict.VerifyRule.TheVariants as rules
 use Rattle.jv_meaning_typing.specs.declared.verdict.VerifyFault.{VerifyFault}
@@ -16,7 +16,7 @@ use Rattle.jv_meaning_typing.specs.declared.verdict.Verdict.{Verdict}
 use Rattle.jv_meaning_typing.specs.declared.verdict.Verdict.TheVariants as verdicts
 use Rattle.jv_meaning_typing.specs.Environment.{Environment, IsEnvironment, instruction_at, offset_behind}
 use Rattle.jv_meaning_typing.specs.Typing.{argument_words, HandlersKeepRules, AreFrames, frame_at, Assignment, IsAssignedBy, Merges, handlers_hold, instruction_holds, targets_hold, IsTypingBelow, ends_code, HasTyping}
-use Rattle.jv_meaning_linking.specs.of_frames.Frames.{PlacedFrame}
+use Rattle.jv_meaning_world.specs.of_frames.Frames.{PlacedFrame}
 
 -- ---- the first rule that a method breaks, and where
 

@@ -1,12 +1,12 @@
 -- Laws of type checking, as a checker and the soundness of what it accepts need them.
 use Rattle.std.specs.Prelude.{◌≡◌, ◌↔◌, ℕ, ◌<◌, List, Some}
-use Rattle.jv_meaning_linking.specs.of_frames.Frames.{Frame, PlacedFrame}
-use Rattle.jv_meaning_linking.specs.of_code.Insns.{Instruction}
-use Rattle.jv_meaning_linking.specs.of_code.Places.{IsAt}
-use Rattle.jv_meaning_linking.specs.of_class.Class.{Class}
-use Rattle.jv_meaning_linking.specs.of_meaning_world.FileContent.{FileContent}
-use Rattle.jv_meaning_linking.specs.of_meaning_world.World.{Loaded, World}
-use Rattle.jv_meaning_linking.specs.Uses.{Site}
+use Rattle.jv_meaning_world.specs.of_frames.Frames.{Frame, PlacedFrame}
+use Rattle.jv_meaning_world.specs.of_code.Insns.{Instruction}
+use Rattle.jv_meaning_world.specs.of_code.Places.{IsAt}
+use Rattle.jv_meaning_world.specs.of_class.Class.{Class}
+use Rattle.jv_meaning_world.specs.FileContent.{FileContent}
+use Rattle.jv_meaning_world.specs.World.{Loaded, World}
+use Rattle.jv_meaning_typing.specs.Uses.{Site}
 use Rattle.jv_meaning_typing.specs.declared.verdict.VerifyRule.{VerifyRule}
 use Rattle.jv_meaning_typing.specs.declared.verdict.Verdict.{Verdict}
 use Rattle.jv_meaning_typing.specs.Environment.{Environment, IsEnvironment, offset_behind, instruction_at}

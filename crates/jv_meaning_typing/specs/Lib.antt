@@ -1,3 +1,18 @@
+pub mod Access
+pub mod ClassResolution
+pub mod FieldResolution
+pub mod InitializationOrder
+pub mod Inside
+pub mod Kind
+pub mod LinkingLaws
+pub mod Layout
+pub mod LinkErrors
+pub mod MethodResolution
+pub mod Operands
+pub mod OverridingRule
+pub mod Rows
+pub mod Selection
+pub mod Uses
 pub mod Environment
 pub mod FrameChanges
 pub mod Judgement
@@ -5,15 +20,13 @@ pub mod Laws
 pub mod MemberRules
 pub mod Named
 pub mod NumberRules
-pub mod Rows
 pub mod Rule
 pub mod StackForms
 pub mod Typing
 pub mod ValueRules
-pub use Rattle.jv_meaning_linking.specs.of_class
-pub use Rattle.jv_meaning_linking.specs.of_class_structure
-pub use Rattle.jv_meaning_linking.specs.of_frames
-pub use Rattle.jv_meaning_linking.specs as of_meaning_linking
-pub use Rattle.jv_meaning_linking.specs.of_meaning_world
-pub use Rattle.jv_meaning_linking.specs.of_pool
-pub use Rattle.jv_meaning_linking.specs.of_text
+pub use Rattle.jv_meaning_world.specs.of_class
+pub use Rattle.jv_meaning_world.specs.of_class_structure
+pub use Rattle.jv_meaning_world.specs.of_frames
+pub use Rattle.jv_meaning_world.specs as of_meaning_world
+pub use Rattle.jv_meaning_world.specs.of_pool
+pub use Rattle.jv_meaning_world.specs.of_text

@@ -3,24 +3,24 @@ use Rattle.std.specs.Prelude.{ℕ, ◌+◌, Bool, true, false, not, ◌&&◌, �
 use Rattle.std.specs.List.{list_all, list_any}
 use Rattle.std.specs.Option.{option_map}
 use Rattle.std.specs.Str.{bytes_eq}
-use Rattle.jv_meaning_linking.specs.of_format.Format.{◌>>=◌}
-use Rattle.jv_meaning_linking.specs.of_text.Name.{is_init}
-use Rattle.jv_meaning_linking.specs.of_class_structure.Version.{is_below_52}
-use Rattle.jv_meaning_linking.specs.of_class.Rules.{is_clinit}
-use Rattle.jv_meaning_linking.specs.of_frames.declared.verification.VerificationTypeOf.TheVariants as types
-use Rattle.jv_meaning_linking.specs.of_frames.Types.{FrameType, words}
-use Rattle.jv_meaning_linking.specs.of_frames.Frames.{Frame}
-use Rattle.jv_meaning_linking.specs.of_code.Insns.{Instruction}
-use Rattle.jv_meaning_linking.specs.of_code.declared.insn.Insn.TheVariants as insns
-use Rattle.jv_meaning_linking.specs.of_code.declared.kinds.FieldAccess.{FieldAccess}
-use Rattle.jv_meaning_linking.specs.of_code.declared.kinds.FieldAccess.TheVariants as access
-use Rattle.jv_meaning_linking.specs.of_code.declared.kinds.Invocation.{Invocation}
-use Rattle.jv_meaning_linking.specs.of_code.declared.kinds.Invocation.TheVariants as invocations
-use Rattle.jv_meaning_linking.specs.of_meaning_world.World.{Loaded, class_named}
-use Rattle.jv_meaning_linking.specs.of_meaning_world.Verdicts.{is_interface}
-use Rattle.jv_meaning_linking.specs.of_meaning_world.Flow.{flows}
-use Rattle.jv_meaning_linking.specs.Operands.{class_operand, MethodConstant}
-use Rattle.jv_meaning_linking.specs.Operands.MethodConstant.{Methodref, InterfaceMethodref}
+use Rattle.jv_meaning_world.specs.of_format.Format.{◌>>=◌}
+use Rattle.jv_meaning_world.specs.of_text.Name.{is_init}
+use Rattle.jv_meaning_world.specs.of_class_structure.Version.{is_below_52}
+use Rattle.jv_meaning_world.specs.of_class.Rules.{is_clinit}
+use Rattle.jv_meaning_world.specs.of_frames.declared.verification.VerificationTypeOf.TheVariants as types
+use Rattle.jv_meaning_world.specs.of_frames.Types.{FrameType, words}
+use Rattle.jv_meaning_world.specs.of_frames.Frames.{Frame}
+use Rattle.jv_meaning_world.specs.of_code.Insns.{Instruction}
+use Rattle.jv_meaning_world.specs.of_code.declared.insn.Insn.TheVariants as insns
+use Rattle.jv_meaning_world.specs.of_code.declared.kinds.FieldAccess.{FieldAccess}
+use Rattle.jv_meaning_world.specs.of_code.declared.kinds.FieldAccess.TheVariants as access
+use Rattle.jv_meaning_world.specs.of_code.declared.kinds.Invocation.{Invocation}
+use Rattle.jv_meaning_world.specs.of_code.declared.kinds.Invocation.TheVariants as invocations
+use Rattle.jv_meaning_world.specs.World.{Loaded, class_named}
+use Rattle.jv_meaning_world.specs.Verdicts.{is_interface}
+use Rattle.jv_meaning_world.specs.Flow.{flows}
+use Rattle.jv_meaning_typing.specs.Operands.{class_operand, MethodConstant}
+use Rattle.jv_meaning_typing.specs.Operands.MethodConstant.{Methodref, InterfaceMethodref}
 use Rattle.jv_meaning_typing.specs.Environment.{Environment, current_class, instruction_at}
 use Rattle.jv_meaning_typing.specs.FrameChanges.{with_stack, taken, taken_as_all, exchanged, replaced}
 use Rattle.jv_meaning_typing.specs.Named.{FieldUse, field_named_by, MethodUse, method_named_by, current_type, is_guarded_field, is_guarded_method, guard, when}

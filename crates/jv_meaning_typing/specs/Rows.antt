@@ -1,3 +1,8 @@
+pub mod Objects
+pub mod Resolution
+pub mod LinkingSamples
+pub mod Selection
+pub mod WorkedLinking
 pub mod Judgement
 pub mod Locals
 pub mod Members

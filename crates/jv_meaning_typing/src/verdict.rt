@@ -1,6 +1,6 @@
 //! What is found of a class file.
 
-use jv_meaning_linking::of_meaning_world::LoadVerdict;
+use jv_meaning_world::LoadVerdict;
 
 /// The rules by which a method's code is type safe (JVMS 4.10.1), in the order in which they are asked.
 #[derive(Clone, Copy)]

@@ -16,14 +16,14 @@ use Rattle.jv_code.specs.Places.{IsCode}
 use Rattle.jv_frames.specs.declared.verification.VerificationTypeOf.TheVariants as types
 use Rattle.jv_frames.specs.Types.{FrameType, value_type, words}
 use Rattle.jv_frames.specs.Initial.{receiver_entries, receiver_type}
-use Rattle.jv_meaning_linking.specs.Uses.{Site}
+use Rattle.jv_meaning_typing.specs.Uses.{Site}
 use Rattle.jv_meaning_typing.specs.Environment.{Environment, current_class}
 use Rattle.jv_meaning_typing.specs.Typing.{argument_words}
 use Rattle.jv_method_pass.specs.of_types.Typed.{typed_all}
 use Rattle.jv_method_pass.specs.of_types.Numbered.{Item}
-use Rattle.jv_method_pass.specs.of_constants.declared.texts.MethodTypes.{MethodTypes}
-use Rattle.jv_method_pass.specs.of_constants.PoolTypes.{CallTypes, call_types, call_types_at, typed_call}
-use Rattle.jv_method_pass.specs.of_constants.Current.{CurrentClass, IsOfClass}
+use Rattle.jv_method_pass.specs.of_types.declared.texts.MethodTypes.{MethodTypes}
+use Rattle.jv_method_pass.specs.of_types.PoolTypes.{CallTypes, call_types, call_types_at, typed_call}
+use Rattle.jv_method_pass.specs.of_types.Current.{CurrentClass, IsOfClass}
 use Rattle.jv_method.specs.Judged.{IsMethodOf}
 use Rattle.jv_method.specs.Inside.Known.{IsEnvironmentOf, HasTypes}
 use Rattle.jv_method.specs.Inside.Read.{ReadMethod, IsOfRead}

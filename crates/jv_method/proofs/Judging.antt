@@ -4,13 +4,13 @@ use Rattle.std.specs.Prelude.{IfOk}
 use Rattle.jv_class_structure.specs.Parts.{CodeSeen, MethodSeen}
 use Rattle.jv_frames.specs.Frames.{PlacedFrame}
 use Rattle.jv_meaning_world.specs.World.{World}
-use Rattle.jv_meaning_linking.specs.Uses.{Site}
+use Rattle.jv_meaning_typing.specs.Uses.{Site}
 use Rattle.jv_meaning_typing.specs.declared.verdict.VerifyRule.{VerifyRule}
 use Rattle.jv_meaning_typing.specs.declared.verdict.VerifyRule.TheVariants as rules
 use Rattle.jv_meaning_typing.specs.Environment.{Environment}
 use Rattle.jv_meaning_typing.specs.Typing.{AreFrames, HandlersKeepRules}
 use Rattle.jv_meaning_typing.specs.Judgement.{BreaksRule, IsCodeOf, WithFrames}
-use Rattle.jv_method_pass.specs.of_constants.Current.{CurrentClass}
+use Rattle.jv_method_pass.specs.of_types.Current.{CurrentClass}
 use Rattle.jv_method_pass.specs.declared.fault.CodeFault.{CodeFault}
 use Rattle.jv_method_pass.specs.Found.{IsBroken, IsFound}
 use Rattle.jv_method.specs.Judged.{IsVerdictOnMethod, IsMethodOf}

@@ -4,8 +4,8 @@ use Rattle.std.specs.Prelude.{IfOk, IfSome, slice_index_or}
 use Rattle.jv_class_structure.specs.Parts.{CodeSeen}
 use Rattle.jv_frames.specs.Entries.{ReadFrame}
 use Rattle.jv_meaning_typing.specs.Environment.{Environment}
-use Rattle.jv_method_pass.specs.of_constants.PoolTypes.{PoolTypes, typed_result}
-use Rattle.jv_method_pass.specs.of_constants.Current.{CurrentClass, IsOfClass}
+use Rattle.jv_method_pass.specs.of_types.PoolTypes.{PoolTypes, typed_result}
+use Rattle.jv_method_pass.specs.of_types.Current.{CurrentClass, IsOfClass}
 use Rattle.jv_method_pass.specs.of_rules.Method.{MethodContext, IsOfMethod}
 use Rattle.jv_method_pass.specs.Mapped.{EntryTypes, local_entry_words, initial_types}
 use Rattle.jv_method_pass.specs.Tables.{entry_types, HasHandlers, HasMap, MapsTo}

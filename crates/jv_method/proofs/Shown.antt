@@ -21,7 +21,7 @@ use Rattle.jv_meaning_world.specs.Verdicts.{declared_by}
 use Rattle.jv_meaning_typing.specs.declared.verdict.VerifyFault.{VerifyFault}
 use Rattle.jv_meaning_typing.specs.Judgement.{AreTyped, IsFirstFault, BreaksRule}
 use Rattle.jv_meaning_typing.specs.Typing.{HasTyping}
-use Rattle.jv_method_pass.specs.of_constants.Current.{CurrentClass}
+use Rattle.jv_method_pass.specs.of_types.Current.{CurrentClass}
 use Rattle.jv_method_pass.specs.declared.fault.CodeFault.{CodeFault}
 use Rattle.jv_method.specs.Judged.{IsMethodOf, IsVerdictOnMethod}
 use Rattle.jv_method.specs.Inside.Shown.{method_in, AreMethodsOf, IsMethodJudged}

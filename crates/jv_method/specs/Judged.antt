@@ -3,10 +3,10 @@ use Rattle.std.specs.Prelude.{◌≡◌, Option, Some, None}
 use Rattle.jv_pool.specs.Constants.{utf8_at}
 use Rattle.jv_class_structure.specs.Parts.{CodeSeen, MethodSeen}
 use Rattle.jv_meaning_world.specs.World.{World}
-use Rattle.jv_meaning_linking.specs.Uses.{Site}
+use Rattle.jv_meaning_typing.specs.Uses.{Site}
 use Rattle.jv_meaning_typing.specs.Typing.{HasTyping}
 use Rattle.jv_meaning_typing.specs.Judgement.{BreaksRule}
-use Rattle.jv_method_pass.specs.of_constants.Current.{CurrentClass}
+use Rattle.jv_method_pass.specs.of_types.Current.{CurrentClass}
 use Rattle.jv_method_pass.specs.declared.fault.CodeFault.{CodeFault}
 
 -- The method of the class that was shown so, with this body: its name and its descriptor are the texts at its indices.

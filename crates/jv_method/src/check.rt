@@ -2,7 +2,7 @@
 
 ghost use Rattle.std.specs.Prelude.{◌≡◌};
 ghost use Rattle.jv_class_structure.specs.Seen.{seen_code, seen_method};
-ghost use Rattle.jv_meaning_linking.specs.Uses.{Site};
+ghost use Rattle.jv_meaning_typing.specs.Uses.{Site};
 ghost use Rattle.jv_method.specs.Judged.{IsMethodOf};
 ghost use Rattle.jv_method.specs.Inside.Known.{HasEnvironment, IsVerdictWith, IsVerdictOn};
 
@@ -14,7 +14,7 @@ use jv_class_structure::{Method, MethodCode};
 use jv_code::Code;
 use jv_meaning_typing::VerifyRule;
 use jv_method_pass::CodeFault;
-use jv_method_pass::of_constants::{CurrentClass, MethodTypes};
+use jv_method_pass::of_types::{CurrentClass, MethodTypes};
 use std::alloc::{AllocError, Global};
 
 /// Checks a method whose body has this code, and whose descriptor says these types.

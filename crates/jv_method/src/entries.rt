@@ -7,8 +7,7 @@ ghost use Rattle.jv_method_pass.specs.of_types.Typed.{typed, typed_all};
 ghost use Rattle.jv_method.specs.Inside.Known.{IsReceiver, AreReceivers, AreFirstEntries};
 
 use jv_frames::VerificationTypeOf;
-use jv_method_pass::of_constants::CurrentClass;
-use jv_method_pass::of_types::Item;
+use jv_method_pass::of_types::{CurrentClass, Item};
 use std::alloc::{AllocError, Global};
 
 /// Whether the class is java/lang/Object.

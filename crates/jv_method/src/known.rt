@@ -9,7 +9,7 @@ ghost use Rattle.jv_meaning_typing.specs.Typing.{argument_words};
 ghost use Rattle.jv_method.specs.Inside.Known.{AreArgumentWords, AreWithin, AreNotWithin, IsWithinLocals, SaysTypes};
 
 use jv_class_structure::{Method, MethodCode};
-use jv_method_pass::of_constants::{CurrentClass, MethodTypes};
+use jv_method_pass::of_types::{CurrentClass, MethodTypes};
 use jv_text::{is_init, types_agree};
 
 // An access flag of methods (JVMS table 4.6-A).

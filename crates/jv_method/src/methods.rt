@@ -12,9 +12,9 @@ use crate::check::check_method;
 use jv_class::{ClassFile, Method};
 use jv_meaning_typing::VerifyFault;
 use jv_method_pass::CodeFault;
-use jv_method_pass::of_constants::{ConstantTypes, CurrentClass};
 use jv_method_pass::of_link::class_at;
 use jv_method_pass::of_loader::Classes;
+use jv_method_pass::of_types::{ConstantTypes, CurrentClass};
 use std::alloc::{AllocError, Global};
 use std::hash::RandomState;
 

@@ -12,9 +12,8 @@ ghost use Rattle.jv_method.specs.Inside.Read.{IsOfRead, HasReadFrames, HaveRoom,
 use jv_class_structure::MethodCode;
 use jv_code::{Code, Starts};
 use jv_frames::{Limits, MapFrames};
-use jv_method_pass::of_constants::CurrentClass;
 use jv_method_pass::of_rules::MethodContext;
-use jv_method_pass::of_types::Item;
+use jv_method_pass::of_types::{CurrentClass, Item};
 use jv_method_pass::{CodeFault, EntryTypes, Pass, check_code, handlers_hold, read_map};
 use jv_text::FieldTypeOf;
 use std::alloc::{AllocError, Global};

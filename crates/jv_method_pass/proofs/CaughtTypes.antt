@@ -6,7 +6,7 @@ use Rattle.jv_format.specs.declared.handlers.Handler.{Handler}
 use Rattle.jv_code.specs.Handlers.{HandlersFit}
 use Rattle.jv_meaning_typing.specs.Environment.{Environment}
 use Rattle.jv_meaning_typing.specs.Typing.{catches_throwable, HandlersKeepRules}
-use Rattle.jv_rules.specs.of_constants.PoolTypes.{PoolTypes}
+use Rattle.jv_types.specs.PoolTypes.{PoolTypes}
 use Rattle.jv_method_pass.specs.Tables.{HasHandlers}
 use Rattle.jv_method_pass.specs.Inside.Parts.{HasConstants}
 use Rattle.jv_method_pass.proofs.Tests.{both, joined}

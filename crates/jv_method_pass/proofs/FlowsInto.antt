@@ -17,7 +17,7 @@ use Rattle.jv_meaning_typing.specs.Typing.{flows_into, frame_at, handles, catch_
 use Rattle.jv_types.specs.Typed.{TypeWorld, typed, typed_all}
 use Rattle.jv_types.specs.Numbered.{Item, NumberFrame, frame_of}
 use Rattle.jv_types.specs.Outcomes.{IsFrame}
-use Rattle.jv_rules.specs.of_constants.Current.{CurrentClass}
+use Rattle.jv_types.specs.Current.{CurrentClass}
 use Rattle.jv_rules.specs.Method.{MethodContext, IsOfMethod}
 use Rattle.jv_rules.specs.Laws.{KeepsLocalCount}
 use Rattle.std.proofs.lemmas.List.{length-map}

@@ -1,6 +1,6 @@
 -- What was made of constants and of initial local entries, as the crates above have it.
 use Rattle.std.proofs.Common.{◌≡◌, List, refl}
-use Rattle.jv_rules.specs.of_constants.PoolTypes.{PoolTypes}
+use Rattle.jv_types.specs.PoolTypes.{PoolTypes}
 use Rattle.jv_types.specs.Numbered.{Item}
 use Rattle.jv_method_pass.specs.Mapped.{EntryTypes}
 use Rattle.jv_method_pass.specs.Tables.{entry_types}

@@ -3,7 +3,6 @@ pub mod Inside
 pub mod Mapped
 pub mod Pass
 pub mod Tables
-pub use Rattle.jv_rules.specs.of_constants
 pub use Rattle.jv_rules.specs.of_loader
 pub use Rattle.jv_rules.specs as of_rules
 pub use Rattle.jv_types.specs as of_types

@@ -10,7 +10,7 @@ use Rattle.jv_meaning_world.specs.World.{World}
 use Rattle.jv_meaning_typing.specs.Rule.{without_object}
 use Rattle.jv_types.specs.Typed.{typed, typed_all}
 use Rattle.jv_types.specs.Numbered.{Item, NumberFrame, frame_of}
-use Rattle.jv_rules.specs.of_constants.PoolTypes.{PoolTypes}
+use Rattle.jv_types.specs.PoolTypes.{PoolTypes}
 use Rattle.std.specs.List.{All, list_any}
 use Rattle.jv_meaning_world.specs.FrameFlow.{frame_flows, all_flow, item_flows}
 use Rattle.jv_meaning_world.specs.Flow.{flows}

@@ -9,8 +9,7 @@ ghost use Rattle.jv_method_pass.specs.Tables.{IsCatchType, DoHandlersKeepRules};
 
 use jv_code::Starts;
 use jv_format::{ExceptionTable, Handler};
-use jv_rules::of_constants::ConstantTypes;
-use jv_types::Item;
+use jv_types::{ConstantTypes, Item};
 
 /// The type that a handler catches (JVMS 4.7.3): that of the class that the index names, Throwable for 0; `None` where it
 /// names none.

@@ -6,8 +6,7 @@ ghost use Rattle.jv_types.specs.Typed.{typed};
 ghost use Rattle.jv_method_pass.specs.Mapped.{names_of_types, type_of_entry};
 
 use jv_frames::{FrameEntry, VerificationTypeOf};
-use jv_rules::of_constants::ConstantTypes;
-use jv_types::{Item, TypeNames};
+use jv_types::{ConstantTypes, Item, TypeNames};
 use std::marker::Model;
 
 /// What says which types the entries of a method's frames stand for: the constants of its class, and the types of the

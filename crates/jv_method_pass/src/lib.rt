@@ -24,7 +24,7 @@ pub use catching::handlers_hold;
 pub use entries::EntryTypes;
 pub use fault::CodeFault;
 pub use jv_rules as of_rules;
-pub use jv_rules::{of_constants, of_link, of_loader};
+pub use jv_rules::{of_link, of_loader};
 pub use jv_types as of_types;
 pub use maps::read_map;
 pub use pass::Pass;

@@ -16,8 +16,7 @@ use jv_code::{Code, Starts};
 use jv_frames::{
     FrameFault, Limits, MapFrames, VerificationTypeOf, Width, no_frames, one_maps, read_frames,
 };
-use jv_rules::of_constants::ConstantTypes;
-use jv_types::Item;
+use jv_types::{ConstantTypes, Item};
 use std::alloc::{AllocError, Global};
 
 fn width_of(item: Item) -> Width

@@ -12,8 +12,8 @@ use Rattle.jv_types.specs.Typed.{TypeWorld}
 use Rattle.jv_types.specs.Numbered.{NumberFrame}
 use Rattle.jv_types.specs.declared.outcome.Outcome.{Outcome}
 use Rattle.jv_types.specs.Outcomes.{IsOutcome}
-use Rattle.jv_constants.specs.PoolTypes.{PoolTypes, typed_result}
-use Rattle.jv_constants.specs.Current.{CurrentClass}
+use Rattle.jv_types.specs.PoolTypes.{PoolTypes, typed_result}
+use Rattle.jv_types.specs.Current.{CurrentClass}
 use Rattle.jv_rules.specs.Method.{MethodContext, IsOfMethod}
 use Rattle.jv_rules.specs.Inside.Over.{IsMethodOver}
 

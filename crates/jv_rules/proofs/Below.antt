@@ -32,7 +32,7 @@ use Rattle.jv_code.specs.declared.kinds.ValueKind.TheVariants as kinds
 use Rattle.jv_meaning_world.specs.Flow.{flows}
 use Rattle.jv_meaning_world.specs.FrameFlow.{item_flows}
 use Rattle.jv_meaning_world.specs.World.{World}
-use Rattle.jv_meaning_linking.specs.Operands.{MethodReference, method_operand}
+use Rattle.jv_meaning_typing.specs.Operands.{MethodReference, method_operand}
 use Rattle.jv_meaning_typing.specs.Environment.{Environment, current_class}
 use Rattle.jv_meaning_typing.specs.StackForms.{top_words, words_behind, item_before, taken_words, passed_words, arranged, rearranged}
 use Rattle.jv_meaning_typing.specs.FrameChanges.{with_stack, with_locals, is_of_kind, taken, taken_downward, taken_as_all, taken_as_any, taken_of_kind, exchanged, item_width, stored, is_same_object, replaced}

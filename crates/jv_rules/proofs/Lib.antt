@@ -1,3 +1,6 @@
+pub mod NewObjects
+pub mod Parting
+pub mod Storing
 pub mod Arms
 pub mod Below
 pub mod Making

@@ -15,17 +15,17 @@ use Rattle.jv_frames.specs.Types.{FrameType, component, array_of, reference_type
 use Rattle.jv_frames.specs.Frames.{Frame}
 use Rattle.jv_meaning_world.specs.World.{Loaded, World}
 use Rattle.jv_meaning_world.specs.Flow.{flows}
-use Rattle.jv_meaning_linking.specs.Operands.{class_operand, MethodReference}
-use Rattle.jv_constants.specs.of_link.Inside.References.{method_operand_in}
+use Rattle.jv_meaning_typing.specs.Operands.{class_operand, MethodReference}
+use Rattle.jv_types.specs.of_link.Inside.References.{method_operand_in}
 use Rattle.jv_meaning_typing.specs.Environment.{Environment, current_class, instruction_at}
 use Rattle.jv_meaning_typing.specs.FrameChanges.{taken}
 use Rattle.jv_meaning_typing.specs.Named.{when, MethodUse, method_named_by, current_type}
 use Rattle.jv_meaning_typing.specs.MemberRules.{has_plain_name, called_on, is_near, invoke_super, is_that_name, class_of_new, constructs_new, constructs_this, constructed_type, construct_top}
 use Rattle.jv_types.specs.Typed.{TypeWorld, name_at, typed, typed_all}
 use Rattle.jv_types.specs.Numbered.{Item, NumberFrame, frame_of, with_stack}
-use Rattle.jv_constants.specs.Current.{CurrentClass, IsOfClass}
+use Rattle.jv_types.specs.Current.{CurrentClass, IsOfClass}
 use Rattle.jv_rules.specs.Objects.{object_in}
-use Rattle.jv_constants.specs.Operands.{HasPool}
+use Rattle.jv_types.specs.Operands.{HasPool}
 use Rattle.jv_rules.specs.Inside.Constructed.{class_number, one_word, constructed_as, object_below}
 use Rattle.jv_rules.proofs.Using.{method_reference}
 

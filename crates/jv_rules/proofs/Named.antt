@@ -17,9 +17,9 @@ use Rattle.jv_types.specs.Typed.{TypeWorld, typed}
 use Rattle.jv_types.specs.Numbered.{Item, NumberFrame, frame_of}
 use Rattle.jv_types.specs.declared.outcome.Outcome.{Outcome}
 use Rattle.jv_types.specs.Outcomes.{IsOutcome}
-use Rattle.jv_rules_values.specs.Inside.Objects.{new_object as object_at}
-use Rattle.jv_constants.specs.PoolTypes.{PoolTypes, class_type_at}
-use Rattle.jv_constants.specs.Operands.{HasPool, plain_class, class_named_at, array_of_at, array_at}
+use Rattle.jv_rules.specs.Inside.Objects.{new_object as object_at}
+use Rattle.jv_types.specs.PoolTypes.{PoolTypes, class_type_at}
+use Rattle.jv_types.specs.Operands.{HasPool, plain_class, class_named_at, array_of_at, array_at}
 use Rattle.jv_rules.specs.Inside.Over.{IsOver}
 
 -- ---- what is exchanged for a type that is named

@@ -9,17 +9,17 @@ use Rattle.jv_pool.specs.Constants.{Entry, MemberReference, field_reference_at}
 use Rattle.jv_frames.specs.declared.verification.VerificationTypeOf.TheVariants as types
 use Rattle.jv_frames.specs.Types.{reference_type}
 use Rattle.jv_meaning_world.specs.World.{Loaded}
-use Rattle.jv_meaning_linking.specs.Operands.{field_operand, MethodReference, method_operand}
+use Rattle.jv_meaning_typing.specs.Operands.{field_operand, MethodReference, method_operand}
 use Rattle.jv_meaning_typing.specs.Environment.{Environment, current_class}
 use Rattle.jv_meaning_typing.specs.Named.{when, FieldUse, field_named_by, MethodUse, method_named_by, can_be_of, is_guarded_field, is_guarded_method, guard}
 use Rattle.jv_meaning_typing.specs.MemberRules.{field_guard, method_guard}
 use Rattle.jv_types.specs.Typed.{TypeWorld, name_at}
 use Rattle.jv_types.specs.Numbered.{Item}
 use Rattle.jv_types.specs.Outcomes.{given}
-use Rattle.jv_constants.specs.Current.{CurrentClass, IsOfClass}
-use Rattle.jv_constants.specs.declared.fields.FieldTypes.{FieldTypes}
-use Rattle.jv_constants.specs.declared.methods.CalledTypes.{CalledTypes}
-use Rattle.jv_constants.specs.Operands.{HasPool, FindsFieldTypes, IsCalled, FindsCalledTypes}
+use Rattle.jv_types.specs.Current.{CurrentClass, IsOfClass}
+use Rattle.jv_types.specs.declared.fields.FieldTypes.{FieldTypes}
+use Rattle.jv_types.specs.declared.methods.CalledTypes.{CalledTypes}
+use Rattle.jv_types.specs.Operands.{HasPool, FindsFieldTypes, IsCalled, FindsCalledTypes}
 use Rattle.jv_rules.specs.declared.field_access.FieldOperand.{FieldOperand}
 use Rattle.jv_rules.specs.Operands.{IsField}
 use Rattle.jv_rules.specs.Method.{MethodContext, IsOfMethod}

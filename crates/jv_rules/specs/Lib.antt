@@ -3,5 +3,4 @@ pub mod Laws
 pub mod Method
 pub mod Objects
 pub mod Operands
-pub use Rattle.jv_constants.specs as of_constants
-pub use Rattle.jv_constants.specs.of_loader
+pub use Rattle.jv_types.specs.of_loader

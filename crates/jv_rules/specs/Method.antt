@@ -4,8 +4,8 @@ use Rattle.jv_text.specs.declared.descriptor.FieldTypeOf.{FieldTypeOf}
 use Rattle.jv_text.specs.Name.{is_init}
 use Rattle.jv_code.specs.Places.{IsCode}
 use Rattle.jv_meaning_typing.specs.Environment.{Environment}
-use Rattle.jv_constants.specs.PoolTypes.{typed_result}
-use Rattle.jv_constants.specs.Current.{CurrentClass, IsOfClass}
+use Rattle.jv_types.specs.PoolTypes.{typed_result}
+use Rattle.jv_types.specs.Current.{CurrentClass, IsOfClass}
 use Rattle.jv_frames.specs.Frames.{Frame}
 use Rattle.jv_types.specs.Numbered.{NumberFrame, frame_of, Item}
 use Rattle.jv_types.specs.Outcomes.{Applies, IsFrame}

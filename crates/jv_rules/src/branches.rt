@@ -6,9 +6,10 @@ ghost use Rattle.jv_meaning_typing.specs.Rule.{test_references};
 ghost use Rattle.jv_types.specs.Outcomes.{Exchanges};
 ghost use Rattle.jv_rules.specs.Inside.Over.{TestsReferences, branch_of};
 
+use crate::references::{test_reference, test_references};
+use crate::stack::exchange;
 use jv_code::Test;
 use jv_frames::VerificationTypeOf;
-use jv_rules_values::{exchange, test_reference, test_references};
 use jv_types::{Outcome, TypeFrame, TypeNames};
 
 /// Takes an int.

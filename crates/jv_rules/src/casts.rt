@@ -7,8 +7,8 @@ ghost use Rattle.jv_meaning_typing.specs.Named.{object_class_type};
 ghost use Rattle.jv_types.specs.Typed.{typed};
 ghost use Rattle.jv_types.specs.Outcomes.{Exchanges, TakesBy};
 
+use crate::stack::{exchange, take_as};
 use jv_frames::VerificationTypeOf;
-use jv_rules_values::{exchange, take_as};
 use jv_types::{Item, Outcome, TypeFrame, TypeNames};
 
 /// Takes a class or an array, and gives it as the type to which it is cast.

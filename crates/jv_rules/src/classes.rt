@@ -4,10 +4,9 @@ ghost use Rattle.jv_meaning_typing.specs.ValueRules.{new_object, new_reference_a
 ghost use Rattle.jv_rules.specs.Inside.Over.{FollowsOver, FollowsByPool};
 
 use crate::casts::{cast, new_multi_array, new_reference_array, test_instance};
-use jv_constants::{ConstantTypes, array_of, array_type, names_class};
+use crate::references::new_object;
 use jv_pool::kinds_name;
-use jv_rules_values::new_object;
-use jv_types::{Outcome, TypeFrame};
+use jv_types::{ConstantTypes, Outcome, TypeFrame, array_of, array_type, names_class};
 
 /// Makes an object of a class at an offset.
 pub(crate) fn make_object(

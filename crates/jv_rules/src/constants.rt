@@ -3,8 +3,7 @@
 ghost use Rattle.jv_meaning_typing.specs.ValueRules.{push_constant, push_long_constant};
 ghost use Rattle.jv_rules.specs.Inside.Over.{PushesByPool};
 
-use jv_constants::{ConstantTypes, long_constant_type, one_word_constant_type};
-use jv_types::Outcome;
+use jv_types::{ConstantTypes, Outcome, long_constant_type, one_word_constant_type};
 
 /// Pushes a constant of one word.
 pub(crate) fn push_constant(constants: &ConstantTypes<'_, '_>, index: u16) -> Outcome

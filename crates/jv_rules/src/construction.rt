@@ -6,8 +6,8 @@ ghost use Rattle.jv_types.specs.Typed.{typed};
 ghost use Rattle.jv_types.specs.Numbered.{item_words, with_flag};
 ghost use Rattle.jv_rules.specs.Objects.{TakesBelowArguments, Constructs};
 
+use crate::stack::take;
 use jv_frames::VerificationTypeOf;
-use jv_rules_values::take;
 use jv_types::{Item, TypeFrame, TypeNames};
 
 /// Takes the arguments of `<init>`, the first first, and the object below them, and gives this; `None` where the

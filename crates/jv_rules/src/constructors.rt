@@ -14,9 +14,8 @@ use crate::context::MethodContext;
 use crate::guards::flows_to_guard;
 use crate::texts::is_named_with;
 use jv_code::Insn;
-use jv_constants::CalledTypes;
 use jv_frames::VerificationTypeOf;
-use jv_types::{Item, Outcome, TypeFrame};
+use jv_types::{CalledTypes, Item, Outcome, TypeFrame};
 
 /// The number of the name of a class, and no array.
 pub(crate) fn class_number(item: Item) -> Option<u32>

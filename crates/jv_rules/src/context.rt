@@ -7,10 +7,9 @@ ghost use Rattle.jv_meaning_typing.specs.Environment.{Environment, instruction_a
 ghost use Rattle.jv_rules.specs.Method.{IsOfMethod};
 
 use jv_code::{Code, Insn, Starts};
-use jv_constants::{ConstantTypes, CurrentClass};
 use jv_meaning_typing::instruction_at_is;
 use jv_text::FieldTypeOf;
-use jv_types::TypeNames;
+use jv_types::{ConstantTypes, CurrentClass, TypeNames};
 use std::marker::Model;
 
 /// What the rules ask of the method whose code is type checked (JVMS 4.10.1.6): its class, its code with the offsets where

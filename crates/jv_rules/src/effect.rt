@@ -8,21 +8,22 @@ ghost use Rattle.jv_types.specs.Numbered.{frame_of};
 ghost use Rattle.jv_types.specs.Outcomes.{IsOutcome};
 ghost use Rattle.jv_rules.specs.Inside.Over.{FollowsBoth};
 
+use crate::arrays::{array_load, array_store, new_array};
 use crate::branches::{branch, take_int};
 use crate::calls::{invoke, invoke_of_interface};
 use crate::classes::{check_cast, instance_of, make_array, make_multi_array, make_object};
 use crate::constants::{push_constant, push_long_constant};
 use crate::context::MethodContext;
 use crate::fields::use_field;
+use crate::forms::move_words;
+use crate::references::{array_length, reference_array_load, reference_array_store};
 use crate::returns::{leave, leave_with_value};
+use crate::stack::exchange;
+use crate::table::{combine, compute};
+use crate::variables::{increment, load, store};
 use jv_code::{Insn, StackForm, ValueKind, WordKind};
-use jv_constants::ConstantTypes;
 use jv_frames::VerificationTypeOf;
-use jv_rules_values::{
-    array_length, array_load, array_store, combine, compute, exchange, increment, load, move_words,
-    new_array, reference_array_load, reference_array_store, store,
-};
-use jv_types::{Outcome, TypeFrame};
+use jv_types::{ConstantTypes, Outcome, TypeFrame};
 use std::alloc::AllocError;
 
 fn value_kind(kind: WordKind) -> ValueKind

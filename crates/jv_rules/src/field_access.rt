@@ -5,9 +5,9 @@ ghost use Rattle.jv_types.specs.Outcomes.{Applies, TakesBy};
 ghost use Rattle.jv_rules.specs.Operands.{FollowsField, gets, takes_owner, puts, accesses};
 
 use crate::receivers::{is_receiver, take_receiver};
+use crate::stack::{exchange, take};
 use jv_code::FieldAccess;
 use jv_frames::VerificationTypeOf;
-use jv_rules_values::{exchange, take};
 use jv_types::{Item, Outcome, TypeFrame, TypeNames};
 
 /// A field as an instruction names it: the class that is named, and the type of the field's values.

@@ -3,6 +3,7 @@
 //! [`apply`] makes the frame before an instruction exactly the one behind it, or answers that the instruction may not stand there.
 #![tactic(auto)]
 
+mod arrays;
 mod branches;
 mod calls;
 mod casts;
@@ -15,21 +16,27 @@ mod context;
 mod effect;
 mod field_access;
 mod fields;
+mod forms;
 mod guards;
 mod law;
 mod locals;
 mod methods;
 mod operands;
 mod receivers;
+mod references;
 mod returns;
 mod rule;
+mod stack;
+mod table;
 mod texts;
+mod variables;
 mod words;
 
 pub use constructing::constructed_object;
 pub use context::MethodContext;
-pub use jv_constants as of_constants;
-pub use jv_constants::{of_link, of_loader};
+pub use jv_types::{Outcome, of_link, of_loader, value_type};
 pub use law::{keeps_local_count, leaves_below, leaves_locals, writes_there};
 pub use locals::keeps_locals;
 pub use rule::apply;
+pub use table::number_type;
+pub use variables::is_reference;

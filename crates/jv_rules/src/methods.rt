@@ -9,8 +9,8 @@ ghost use Rattle.jv_types.specs.Outcomes.{outcome_of, Applies};
 ghost use Rattle.jv_rules.specs.Operands.{FollowsMethod, FollowsNear, counts_words, calls_guarded};
 
 use crate::receivers::take_receiver;
+use crate::stack::{exchange, take};
 use jv_frames::VerificationTypeOf;
-use jv_rules_values::{exchange, take};
 use jv_types::{Item, Outcome, TypeFrame, TypeNames};
 
 /// A method as an instruction names it: the class that is named, the types of the arguments, the first first, and of the

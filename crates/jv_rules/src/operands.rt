@@ -5,7 +5,7 @@ ghost use Rattle.jv_text.specs.Name.{is_init};
 ghost use Rattle.jv_meaning_typing.specs.Environment.{Environment};
 ghost use Rattle.jv_meaning_typing.specs.Named.{field_named_by, method_named_by};
 ghost use Rattle.jv_rules.specs.Operands.{IsMethod};
-ghost use Rattle.jv_constants.specs.Operands.{FindsFieldTypes, FindsCalledTypes};
+ghost use Rattle.jv_types.specs.Operands.{FindsFieldTypes, FindsCalledTypes};
 ghost use Rattle.jv_rules.specs.Method.{IsOfMethod, names_of_method, InMethod};
 ghost use Rattle.jv_rules.specs.Inside.Used.{UsesField, AtCall, SetsOwn};
 
@@ -13,8 +13,8 @@ use crate::context::MethodContext;
 use crate::field_access::FieldOperand;
 use crate::guards::guard_at;
 use crate::methods::MethodOperand;
-use jv_constants::{CalledTypes, FieldTypes, called_types, field_types};
 use jv_frames::VerificationTypeOf;
+use jv_types::{CalledTypes, FieldTypes, called_types, field_types};
 
 /// The class of the field that an index names, and the type of its values.
 fn field_types_at(context: &MethodContext<'_, '_, '_, '_>, index: u16) -> Option<FieldTypes>

@@ -5,8 +5,8 @@ ghost use Rattle.jv_text.specs.declared.descriptor.FieldTypeOf.{FieldTypeOf};
 ghost use Rattle.jv_meaning_typing.specs.ValueRules.{return_value, return_nothing};
 ghost use Rattle.jv_rules.specs.Inside.Over.{ReturnsValue, ReturnsNothing};
 
+use crate::references::{return_nothing, return_value};
 use jv_code::ValueKind;
-use jv_rules_values::{return_nothing, return_value};
 use jv_text::FieldTypeOf;
 use jv_types::{Outcome, TypeFrame, TypeNames, value_type};
 

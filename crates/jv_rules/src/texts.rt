@@ -2,8 +2,8 @@
 
 ghost use Rattle.std.specs.Prelude.{◌≡◌, ℕ, List, Some, None, IsSome, IfSome, IfNone};
 ghost use Rattle.jv_pool.specs.Constants.{class_name_at, utf8_at};
-ghost use Rattle.jv_meaning_linking.specs.Operands.{MethodReference};
-ghost use Rattle.jv_constants.specs.of_link.Inside.References.{method_operand_in};
+ghost use Rattle.jv_meaning_typing.specs.Operands.{MethodReference};
+ghost use Rattle.jv_types.specs.of_link.Inside.References.{method_operand_in};
 ghost use Rattle.jv_meaning_typing.specs.MemberRules.{is_that_name};
 ghost use Rattle.jv_rules.specs.Inside.Constructed.{class_by, IsFirst, NamesMemberOf};
 

@@ -9,7 +9,7 @@ use Rattle.jv_meaning_machine.specs.Start.{Budget}
 use Rattle.jv_meaning_machine.specs.Alone.{Feed, GuestFiles}
 use Rattle.jv_meaning_machine.specs.Observation.{Observed, Shows}
 use Rattle.jv_meaning_machine.specs.Laws.Shown.{ShowsOneThing}
-use Rattle.jv_host.specs.of_interp_start.Started.{budget_of}
+use Rattle.jv_host.specs.of_interp.Started.{budget_of}
 use Rattle.jv_host.specs.Host.{Admission, fed_bytes}
 use Rattle.jv_host.specs.Calls.{IsShown, NoneRuns}
 use Rattle.jv_run.specs.declared.settings.RunSettings.{RunSettings}

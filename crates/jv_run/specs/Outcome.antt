@@ -4,7 +4,7 @@ use Rattle.jv_meaning_machine.specs.State.End.{Running}
 use Rattle.jv_meaning_machine.specs.Start.{Budget}
 use Rattle.jv_meaning_machine.specs.Alone.{GuestFiles, Feed}
 use Rattle.jv_meaning_machine.specs.Observation.{Observed, Shows}
-use Rattle.jv_host.specs.of_interp_start.Started.{budget_of}
+use Rattle.jv_host.specs.of_interp.Started.{budget_of}
 use Rattle.jv_host.specs.declared.fault.AdmitFault.{AdmitFault}
 use Rattle.jv_host.specs.Limits.{first_refusal}
 use Rattle.jv_run.specs.declared.failure.Failure.{Failure}

@@ -24,7 +24,7 @@ pub use failure::Failure;
 pub use folder::{Folder, NamedFile, read_class, read_folder};
 pub use folders::{Folders, SystemFolders};
 pub use jv_host as of_host;
-pub use jv_host::{of_interp_start, of_loader, of_method};
+pub use jv_host::{of_interp, of_loader, of_method};
 pub use main_name::main_name_of;
 pub use named::{hashing_state, run_named};
 pub use names::{class_file_names, names_in};

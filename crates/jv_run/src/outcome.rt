@@ -2,7 +2,7 @@
 ghost use Rattle.std.specs.Prelude.{◌≡◌, ◌≤◌, ℕ, false, IfErr, IfOk, List, Option, length, map, string_bytes};
 ghost use Rattle.jv_run.specs.Feeding.{is_no_guest};
 ghost use Rattle.jv_run.specs.Folder.{named_guest};
-ghost use Rattle.jv_host.specs.of_interp_start.Started.{budget_of};
+ghost use Rattle.jv_host.specs.of_interp.Started.{budget_of};
 ghost use Rattle.jv_run.specs.Outcome.{AreAllowed, IsGuestsFailure, IsRunOutcome};
 ghost use Rattle.jv_run.specs.Report.{report_text, run_status};
 ghost use Rattle.jv_run.specs.Inside.Brought.{named_guest_of};

@@ -1,7 +1,7 @@
 //! Guests in a host, and their turns.
 ghost use Rattle.std.specs.Prelude.{◌≡◌, ◌≤◌, ◌<◌, ◌+◌, [], false, IfErr, IfOk, IsSome, OnOk, length, map, slice_get};
 ghost use Rattle.jv_host.specs.of_interp.Showing.{observed_of};
-ghost use Rattle.jv_host.specs.of_interp_start.Started.{budget_of};
+ghost use Rattle.jv_host.specs.of_interp.Started.{budget_of};
 ghost use Rattle.jv_host.specs.Calls.{IsShown, NoneRuns};
 ghost use Rattle.jv_run.specs.Feeding.{is_no_guest};
 ghost use Rattle.jv_run.specs.Inside.Brought.{named_guest_of};
@@ -17,8 +17,7 @@ use crate::rounds::run_rounds;
 use crate::settings::RunSettings;
 use crate::watch::Watch;
 use jv_heap::Cells;
-use jv_host::of_interp::Observation;
-use jv_host::of_interp_start::Budget;
+use jv_host::of_interp::{Budget, Observation};
 use jv_host::{GuestId, Host};
 use jv_meaning_machine::shows_one_thing;
 use std::alloc::{AllocError, Global};

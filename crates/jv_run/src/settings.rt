@@ -1,6 +1,6 @@
 //! What each guest may use, and how many steps it gets.
 
-use jv_host::of_interp_start::Budget;
+use jv_host::of_interp::Budget;
 
 /// What each guest may use, how many steps it gets, and which one is fed.
 #[derive(Clone, Copy)]

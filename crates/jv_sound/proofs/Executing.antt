@@ -19,7 +19,7 @@ use Rattle.jv_meaning_world.specs.World.{Loaded, World, class_named}
 use Rattle.jv_meaning_world.specs.Verdicts.{is_loadable}
 use Rattle.jv_meaning_world.proofs.Up.{named_stands, same_name}
 use Rattle.jv_meaning_world.proofs.OrderChains.{all_at, any_found}
-use Rattle.jv_meaning_linking.specs.Operands.{class_operand}
+use Rattle.jv_meaning_typing.specs.Operands.{class_operand}
 use Rattle.jv_meaning_typing.specs.Environment.{current_class, instruction_at, offset_behind}
 use Rattle.jv_meaning_typing.specs.MemberRules.{class_of_new}
 use Rattle.jv_meaning_typing.specs.Named.{when, operand_name}
@@ -33,48 +33,48 @@ use Rattle.jv_meaning_machine.specs.Effects.{Effect, Context}
 use Rattle.jv_meaning_machine.specs.Initialization.{is_verified}
 use Rattle.jv_meaning_machine.specs.Instructions.{execute}
 use Rattle.jv_meaning_machine.specs.Step.{context}
-use Rattle.jv_sound_values.specs.Values.{Heap}
-use Rattle.jv_sound_values.specs.Memory.{IsTypedMemory}
-use Rattle.jv_sound_values.specs.Sound.{IsSound, IsChecked}
-use Rattle.jv_sound_values.specs.Frames.{IsRunning, AreVerified, place_of}
-use Rattle.jv_sound_values.specs.Effects.{AreEffects}
-use Rattle.jv_sound_values.proofs.Logic.{clash, Agrees}
-use Rattle.jv_sound_world.proofs.Formats.{chained}
-use Rattle.jv_sound_world.proofs.Formed.{IsFormed, is_void}
-use Rattle.jv_sound_values.proofs.Taking.{and_parts}
-use Rattle.jv_sound_steps.proofs.Leads.{target_there}
-use Rattle.jv_sound_world.proofs.Asked.{AreFormed, interfaces_are_static, concrete_have_code, constructor_rules, constructors_have_code, static_have_code}
-use Rattle.jv_sound_world.proofs.HostMethods.{built_in}
-use Rattle.jv_sound_world.proofs.Limits.{instruction_fits}
-use Rattle.jv_sound_world.proofs.Pools.{named_field_is_sort, named_method_has_sorts, string_has_units}
-use Rattle.jv_sound_world.proofs.SystemFacts as facts
-use Rattle.jv_sound_world.proofs.SystemFacts.{raised, link_error_is_thrown, object_has_none, out_of_memory_is_thrown, string_there_in, throwable_in, root_in}
-use Rattle.jv_sound_instructions.proofs.Pure as pure
-use Rattle.jv_sound_instructions.proofs.LocalInstructions.{load_ok, store_word_ok, store_long_ok}
-use Rattle.jv_sound_instructions.proofs.Branches.{has_targets, goto_ok, if_int_ok, if_ints_ok, if_null_ok, if_references_ok, table_switch_ok, lookup_switch_ok}
-use Rattle.jv_sound_instructions.proofs.StackForms.{stack_ok}
-use Rattle.jv_sound_instructions.proofs.Increments.{increment_ok}
-use Rattle.jv_sound_instructions.proofs.Returns.{return_value_ok, return_ok}
-use Rattle.jv_sound_instructions.proofs.LongConstants.{pool_long_ok}
-use Rattle.jv_sound_instructions.proofs.Constants.{pool_constant_ok}
-use Rattle.jv_sound_instructions.proofs.Lengths.{array_length_ok}
-use Rattle.jv_sound_instructions.proofs.ArrayLoads.{array_load_ok, reference_array_load_ok}
-use Rattle.jv_sound_instructions.proofs.ArrayStores.{array_store_ok, reference_array_store_ok}
-use Rattle.jv_sound_instructions.proofs.NewArrays.{new_array_ok, new_reference_array_ok, new_multi_array_ok}
-use Rattle.jv_sound_instructions.proofs.Casts.{check_cast_ok, instance_of_ok}
-use Rattle.jv_sound_instructions.proofs.Throwing.{throw_ok}
-use Rattle.jv_sound_instructions.proofs.GetField.{get_field_ok}
-use Rattle.jv_sound_instructions.proofs.PutField.{put_field_ok}
-use Rattle.jv_sound_instructions.proofs.StaticFields.{get_static_ok, put_static_ok}
-use Rattle.jv_sound_calls.proofs.StaticCalls.{invoke_static_ok}
-use Rattle.jv_sound_calls.proofs.InstanceCalls.{IsRoot}
-use Rattle.jv_sound_calls.proofs.VirtualCalls.{invoke_virtual_ok, invoke_interface_ok}
-use Rattle.jv_sound_calls.proofs.ConstructorCalls.{invoke_special_ok}
-use Rattle.jv_sound_calls.proofs.NewObjects.{new_ok}
-use Rattle.jv_sound_instructions.proofs.Ways.{Setting, IsSet, world_of, program_of, memory_of, context_of, here, By, Sound}
-use Rattle.jv_sound_instructions.proofs.Ways as ways
-use Rattle.jv_sound_values.proofs.Memories.{loadable_of}
-use Rattle.jv_sound_steps.proofs.Stepping.{rule_ok}
+use Rattle.jv_sound_invariant.specs.Values.{Heap}
+use Rattle.jv_sound_invariant.specs.Memory.{IsTypedMemory}
+use Rattle.jv_sound_invariant.specs.Sound.{IsSound, IsChecked}
+use Rattle.jv_sound_invariant.specs.Frames.{IsRunning, AreVerified, place_of}
+use Rattle.jv_sound_invariant.specs.Effects.{AreEffects}
+use Rattle.jv_sound_invariant.proofs.Logic.{clash, Agrees}
+use Rattle.jv_sound_invariant.proofs.Formats.{chained}
+use Rattle.jv_sound_invariant.proofs.Formed.{IsFormed, is_void}
+use Rattle.jv_sound_invariant.proofs.Taking.{and_parts}
+use Rattle.jv_sound.proofs.Leads.{target_there}
+use Rattle.jv_sound_invariant.proofs.Asked.{AreFormed, interfaces_are_static, concrete_have_code, constructor_rules, constructors_have_code, static_have_code}
+use Rattle.jv_sound_invariant.proofs.HostMethods.{built_in}
+use Rattle.jv_sound_invariant.proofs.Limits.{instruction_fits}
+use Rattle.jv_sound_invariant.proofs.Pools.{named_field_is_sort, named_method_has_sorts, string_has_units}
+use Rattle.jv_sound_invariant.proofs.SystemFacts as facts
+use Rattle.jv_sound_invariant.proofs.SystemFacts.{raised, link_error_is_thrown, object_has_none, out_of_memory_is_thrown, string_there_in, throwable_in, root_in}
+use Rattle.jv_sound.proofs.Pure as pure
+use Rattle.jv_sound.proofs.LocalInstructions.{load_ok, store_word_ok, store_long_ok}
+use Rattle.jv_sound.proofs.Branches.{has_targets, goto_ok, if_int_ok, if_ints_ok, if_null_ok, if_references_ok, table_switch_ok, lookup_switch_ok}
+use Rattle.jv_sound.proofs.StackForms.{stack_ok}
+use Rattle.jv_sound.proofs.Increments.{increment_ok}
+use Rattle.jv_sound.proofs.Returns.{return_value_ok, return_ok}
+use Rattle.jv_sound.proofs.LongConstants.{pool_long_ok}
+use Rattle.jv_sound.proofs.Constants.{pool_constant_ok}
+use Rattle.jv_sound.proofs.Lengths.{array_length_ok}
+use Rattle.jv_sound.proofs.ArrayLoads.{array_load_ok, reference_array_load_ok}
+use Rattle.jv_sound.proofs.ArrayStores.{array_store_ok, reference_array_store_ok}
+use Rattle.jv_sound.proofs.NewArrays.{new_array_ok, new_reference_array_ok, new_multi_array_ok}
+use Rattle.jv_sound.proofs.Casts.{check_cast_ok, instance_of_ok}
+use Rattle.jv_sound.proofs.Throwing.{throw_ok}
+use Rattle.jv_sound.proofs.GetField.{get_field_ok}
+use Rattle.jv_sound.proofs.PutField.{put_field_ok}
+use Rattle.jv_sound.proofs.StaticFields.{get_static_ok, put_static_ok}
+use Rattle.jv_sound.proofs.StaticCalls.{invoke_static_ok}
+use Rattle.jv_sound.proofs.InstanceCalls.{IsRoot}
+use Rattle.jv_sound.proofs.VirtualCalls.{invoke_virtual_ok, invoke_interface_ok}
+use Rattle.jv_sound.proofs.ConstructorCalls.{invoke_special_ok}
+use Rattle.jv_sound.proofs.NewObjects.{new_ok}
+use Rattle.jv_sound.proofs.Ways.{Setting, IsSet, world_of, program_of, memory_of, context_of, here, By, Sound}
+use Rattle.jv_sound.proofs.Ways as ways
+use Rattle.jv_sound_invariant.proofs.Memories.{loadable_of}
+use Rattle.jv_sound.proofs.Stepping.{rule_ok}
 
 -- what the machine throws in an instruction is among the classes of the system that are thrown
 all_raised : list_all (λ (name : List ℕ). list_any (bytes_eq name) facts.raised_names) ways.raised_names ≡ true

@@ -17,7 +17,7 @@ use Rattle.jv_code.specs.Successors.{falls_through}
 use Rattle.jv_meaning_world.specs.FrameFlow.{frame_flows}
 use Rattle.jv_meaning_world.specs.World.{Loaded, World}
 use Rattle.jv_meaning_world.specs.Verdicts.{declared_by}
-use Rattle.jv_meaning_typing.specs.of_meaning_linking.Uses.{Site}
+use Rattle.jv_meaning_typing.specs.Uses.{Site}
 use Rattle.jv_meaning_typing.specs.Environment.{Environment, current_class, offset_behind, instruction_at}
 use Rattle.jv_meaning_typing.specs.Rule.{rule}
 use Rattle.jv_meaning_typing.specs.Typing.{argument_words, limits_of, entries_before, is_made_by_new, frame_at, first_frame, handlers_hold, instruction_holds, targets_hold, ends_code, last_instruction}

@@ -11,10 +11,10 @@ use Rattle.jv_check.specs.Named.{IsNamedFailure}
 use Rattle.jv_run.specs.declared.failure.Failure.{Failure}
 use Rattle.jv_run.specs.declared.outcome.Outcome.{Outcome}
 use Rattle.jv_run.specs.Named.{IsRunFailure}
-use Rattle.jv_settings.specs.declared.asked.RunOptions.{RunOptions}
-use Rattle.jv_settings.specs.Settings.Asked.{run, check}
-use Rattle.jv_settings.specs.CommandLine.{command_line}
-use Rattle.jv_settings.specs.Settings.{AskFor, AskForHelp, AreRefused}
+use Rattle.jv_status.specs.declared.asked.RunOptions.{RunOptions}
+use Rattle.jv_status.specs.Settings.Asked.{run, check}
+use Rattle.jv_status.specs.CommandLine.{command_line}
+use Rattle.jv_status.specs.Settings.{AskFor, AskForHelp, AreRefused}
 use Rattle.jv_status.specs.Command.{AreWrong, HasEnded, IsReport, settings_of}
 use Rattle.jv_status.specs.Inside.Stops.{IsCarriedOut, IsEarly}
 use Rattle.jv_status.specs.Status.{HasStatus, IsAsked, IsStatusOf}

@@ -1,1 +1,3 @@
+mod Lines
+mod Texts
 pub mod Ends

@@ -11,9 +11,9 @@ use Rattle.jv_run.specs.declared.outcome.Outcome.{Outcome}
 use Rattle.jv_run.specs.declared.settings.RunSettings.{RunSettings}
 use Rattle.jv_run.specs.Failure.{failure_status}
 use Rattle.jv_run.specs.Named.{AreTaken, IsRunAs, IsRunFailure}
-use Rattle.jv_settings.specs.declared.asked.RunOptions.{RunOptions}
-use Rattle.jv_settings.specs.Settings.{AskFor, AskForHelp, AreRefused}
-use Rattle.jv_settings.specs.Settings.Asked.{run, check}
+use Rattle.jv_status.specs.declared.asked.RunOptions.{RunOptions}
+use Rattle.jv_status.specs.Settings.{AskFor, AskForHelp, AreRefused}
+use Rattle.jv_status.specs.Settings.Asked.{run, check}
 use Rattle.jv_status.specs.Written.{WritesCut}
 
 -- the settings with these options

@@ -1,3 +1,6 @@
+pub mod CommandLine
+pub mod Settings
+pub mod Rows
 pub mod Command
 pub mod Inside
 pub mod Status

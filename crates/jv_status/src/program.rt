@@ -3,18 +3,19 @@ ghost use Rattle.std.specs.Prelude.{◌≡◌, ℕ, List, Option, IfErr, IfOk, O
 ghost use Rattle.std.specs.Io.KnownBytes.{Appends};
 ghost use Rattle.jv_run.specs.Failure.{failure_line};
 ghost use Rattle.jv_run.specs.declared.failure.Failure.{Failure};
-ghost use Rattle.jv_settings.specs.Settings.{IsAskedIn};
+ghost use Rattle.jv_status.specs.Settings.{IsAskedIn};
 ghost use Rattle.jv_status.specs.Command.{HasEnded, IsBegun, IsReport, settings_of};
 ghost use Rattle.jv_status.specs.Inside.Stops.{IsCarriedOut, IsEarly};
 ghost use Rattle.jv_status.specs.Status.{IsAsked, output_line};
 ghost use Rattle.jv_status.specs.declared.stop.Stop.TheVariants.{Output, Run};
 
+use crate::asked::{RunOptions, Settings};
+use crate::reading::settings;
 use crate::stop::{Stop, status_of, stop_of};
 use crate::written::write_report;
 use jv_check::check_named;
-use jv_run::of_interp_start::Budget;
+use jv_run::of_interp::Budget;
 use jv_run::{Folders, Outcome, RunSettings, Unwatched, Watch, run_named};
-use jv_settings::{RunOptions, Settings, settings};
 use std::alloc::Global;
 use std::hash::RandomState;
 use std::io;

@@ -1,7 +1,7 @@
 //! How the program ends.
 ghost use Rattle.std.specs.Prelude.{◌≡◌, ◌≢◌, ℕ, List, Option};
 ghost use Rattle.clap.specs.Values.{kind_of};
-ghost use Rattle.jv_settings.specs.Settings.{AreRefused};
+ghost use Rattle.jv_status.specs.Settings.{AreRefused};
 ghost use Rattle.jv_status.specs.Inside.Stops.{IsEarly};
 ghost use Rattle.jv_status.specs.Status.{IsStatusOf};
 ghost use Rattle.jv_run.specs.declared.failure.Failure.TheVariants.{Memory};

@@ -3,8 +3,8 @@ use Rattle.std.proofs.Common.{◌≡◌, ℕ, Bool, List, sym, ap, ◌∙◌}
 use Rattle.jv_text.specs.declared.descriptor.Element.{Element}
 use Rattle.jv_text.specs.declared.descriptor.Element.TheVariants as elements
 use Rattle.jv_text.specs.declared.descriptor.Base.{Base}
-use Rattle.jv_assign.specs.of_meaning_world.World.{World}
-use Rattle.jv_assign.specs.of_meaning_world.Flow.{class_flows, component_flows, same_base}
+use Rattle.jv_meaning_world.specs.World.{World}
+use Rattle.jv_meaning_world.specs.Flow.{class_flows, component_flows, same_base}
 use Rattle.jv_assign.proofs.Components.{as_many}
 use Rattle.jv_types.specs.Typed.{name_at, typed_element}
 

@@ -4,3 +4,17 @@ pub mod MadeBefore
 pub mod Numbered
 pub mod Replacing
 pub mod Storing
+pub mod Arguments
+pub mod Arrays
+pub mod Called
+pub mod Descriptors
+pub mod Finding
+pub mod Guarding
+pub mod Keeping
+pub mod KeepingClass
+pub mod Lasting
+pub mod Marking
+pub mod Members
+pub mod Naming
+pub mod OfClass
+pub mod Plain

@@ -6,9 +6,9 @@ use Rattle.std.proofs.lemmas.Option.{slice_get-get_or}
 use Rattle.std.proofs.lemmas.Bool.{eqb-true}
 use Rattle.std.proofs.lemmas.List.Quantifiers.{position-Some}
 use Rattle.std.proofs.lemmas.Slice.Eq.{bytes_eq-Decides}
-use Rattle.jv_names.specs.Names.{with_name}
-use Rattle.jv_names.proofs.Pushed.{in_two_parts}
-use Rattle.jv_assign.proofs.laws_of_classes.Listing.{found_before, found_last, none_passes}
+use Rattle.jv_classes.specs.Names.{with_name}
+use Rattle.jv_classes.proofs.Pushed.{in_two_parts}
+use Rattle.jv_classes.proofs.Listing.{found_before, found_last, none_passes}
 use Rattle.jv_types.specs.Typed.{GoesOn}
 use Rattle.jv_types.specs.Inside.Kept.{AreDistinct}
 

@@ -3,3 +3,11 @@ pub mod Cut
 pub mod Kept
 pub mod Swapped
 pub mod Tops
+pub mod Calls
+pub mod Guarded
+pub mod KeptTexts
+pub mod KeptClass
+pub mod Lasting
+pub mod Marked
+pub mod Named
+pub mod Parts

@@ -6,7 +6,7 @@ use Rattle.jv_text.specs.declared.descriptor.FieldTypeOf.{FieldTypeOf}
 use Rattle.jv_frames.specs.declared.verification.VerificationTypeOf.{VerificationTypeOf}
 use Rattle.jv_frames.specs.declared.verification.VerificationTypeOf.TheVariants as types
 use Rattle.jv_frames.specs.Types.{FrameType}
-use Rattle.jv_assign.specs.of_meaning_world.World.{World}
+use Rattle.jv_meaning_world.specs.World.{World}
 
 -- names, each with the number of those before it, and the world in which they may be those of classes
 pub record TypeWorld : Type 0 where

@@ -1,18 +1,42 @@
-//! Verification types with numbers for names, so that a name is looked at once and types are compared by number; and the frame
-//! before an instruction, changed in place, over such types (JVMS 4.10.1.2 to 4.10.1.4).
+//! Verification types with numbers for names, so that a name is looked at once and types are compared by number; the frame before an
+//! instruction, changed in place, over such types (JVMS 4.10.1.2 to 4.10.1.4); and what the constants of a class say as such types (4.4),
+//! at hand by index, what the operands of instructions name, and what the rules ask of the class itself.
 #![tactic(auto)]
 
+mod classes;
+mod constant_names;
+mod constants;
+mod current_class;
+mod fields;
 mod flow;
+mod guards;
+mod hashed;
+mod indices;
 mod items;
 mod locals;
+mod marks;
+mod methods;
+mod name_marks;
 mod names;
+mod numbers;
 mod objects;
 mod outcome;
+mod pushed;
+mod texts;
 mod type_frame;
 mod value;
 mod variables;
 
+pub use classes::{array_of, array_type, names_class};
+pub use constants::ConstantTypes;
+pub use current_class::CurrentClass;
+pub use fields::{FieldTypes, field_types};
+pub use jv_link as of_link;
+pub use jv_link::of_loader;
+pub use methods::{CalledTypes, called_types};
 pub use names::{Item, TypeNames};
 pub use outcome::Outcome;
+pub use pushed::{long_constant_type, one_word_constant_type};
+pub use texts::MethodTypes;
 pub use type_frame::TypeFrame;
 pub use value::value_type;

@@ -2,13 +2,12 @@
 
 ghost use Rattle.std.specs.Prelude.{◌≡◌, ◌<◌, ◌++◌, [], ◌∷◌, codes, length, get_or, IfOk, OnErr, ◌≤◌, IfSome, Some, None, slice_get, position};
 ghost use Rattle.std.specs.Str.{bytes_eq};
-ghost use Rattle.jv_assign.specs.of_meaning_world.Numbers.{number_named};
+ghost use Rattle.jv_meaning_world.specs.Numbers.{number_named};
 ghost use Rattle.jv_types.specs.Typed.{name_at, GoesOn};
 ghost use Rattle.jv_types.specs.Inside.Kept.{AreDistinct, AreNames};
 
-use jv_assign::of_classes::ClassTable;
+use jv_classes::{ClassTable, Names};
 use jv_frames::VerificationTypeOf;
-use jv_names::Names;
 use std::alloc::{AllocError, Global};
 use std::hash::RandomState;
 use std::marker::Model;

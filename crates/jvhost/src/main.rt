@@ -2,8 +2,7 @@
 #![tactic(auto)]
 
 use jv_status::of_run::{Failure, SystemFolders, hashing_state};
-use jv_status::of_settings::not_text;
-use jv_status::{ProgressLine, Stop, command_watched, tell};
+use jv_status::{ProgressLine, Stop, command_watched, not_text, tell};
 use std::env;
 use std::hash::RandomState;
 use std::io::ErrorKind;

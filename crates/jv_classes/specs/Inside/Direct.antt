@@ -1,7 +1,7 @@
 -- Relations on the numbers of classes.
 use Rattle.std.specs.Prelude.{◌≡◌, ◌↔◌, ℕ, Some, IsTrue, slice_get}
 use Rattle.std.specs.List.{Contains}
-use Rattle.jv_names.specs.Ways.{Rows, related}
+use Rattle.jv_classes.specs.Ways.{Rows, related}
 use Rattle.jv_meaning_world.specs.World.{Loaded, World}
 use Rattle.jv_meaning_world.specs.Above.{supers_in, superclass_in}
 

@@ -2,7 +2,7 @@
 use Rattle.std.specs.Prelude.{ℕ, List, map, Option}
 use Rattle.std.specs.Global.{Vec}
 use Rattle.std.specs.List.{All}
-use Rattle.jv_names.specs.Ways.{IsBelowSize}
+use Rattle.jv_classes.specs.Ways.{IsBelowSize}
 use Rattle.jv_meaning_world.specs.World.{World}
 use Rattle.jv_classes.specs.Once.{direct_numbers}
 

@@ -2,8 +2,8 @@
 use Rattle.std.specs.Prelude.{◌≡◌, ◌+◌, ◌%◌, ◌^◌, ℕ, Bool, ◌&&◌, ◌==◌, List, cond, Some, is_some}
 use Rattle.std.specs.HashMap.{HashMap, get_by}
 use Rattle.std.specs.Str.{bytes_eq}
-use Rattle.jv_names.specs.Inside.Kept.{AreFirstPlaces}
-use Rattle.jv_names.specs.Texts.{text_hash}
+use Rattle.jv_classes.specs.Inside.KeptNames.{AreFirstPlaces}
+use Rattle.jv_classes.specs.Texts.{text_hash}
 use Rattle.jv_meaning_world.specs.of_class.Class.{Field, Method}
 use Rattle.jv_classes.specs.declared.member.Member.{Member}
 use Rattle.jv_classes.specs.declared.members.KeptMember.{KeptMember}

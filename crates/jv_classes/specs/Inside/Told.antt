@@ -1,6 +1,6 @@
 -- What tables tell of the classes of a world.
 use Rattle.std.specs.Prelude.{◌≡◌, ℕ, Bool, false, List, Option, Some, IsTrue, length, map, slice_get, get_or}
-use Rattle.jv_names.specs.Ways.{Rows, related}
+use Rattle.jv_classes.specs.Ways.{Rows, related}
 use Rattle.jv_meaning_world.specs.World.{Loaded, World}
 use Rattle.jv_meaning_world.specs.Above.{is_above, superclasses}
 use Rattle.jv_meaning_world.specs.LookUps.{is_among}

@@ -1,9 +1,9 @@
 -- What the code keeps of the guests that were admitted, over one store.
 use Rattle.std.specs.Prelude.{◌≡◌, ℕ, ◌+◌, ◌≤◌, List, [], ◌∷◌, ◌++◌, length, map, Some, slice_get}
 use Rattle.jv_meaning_machine.specs.Alone.{Feed}
-use Rattle.jv_interp_objects.specs.ObjectsInBlocks.{Blocks}
+use Rattle.jv_interp_memory.specs.ObjectsInBlocks.{Blocks}
 use Rattle.jv_interp_memory.specs.Growing.{Grows}
-use Rattle.jv_interp.specs.of_interp_start.Started.{budget_of}
+use Rattle.jv_interp.specs.Started.{budget_of}
 use Rattle.jv_interp.specs.Standing.{GuestStands, AreApart}
 use Rattle.jv_host.specs.declared.admission.Fed.{Fed}
 use Rattle.jv_host.specs.declared.admission.Admitted.{Admitted}

@@ -4,8 +4,8 @@ use Rattle.jv_class_structure.specs.Parts.{CodeSeen}
 use Rattle.jv_meaning_world.specs.Overriding.{Declared}
 use Rattle.jv_meaning_machine.specs.State.{Program}
 use Rattle.jv_interp_words.specs.FramesInWords.{methods_of}
-use Rattle.jv_interp_methods.specs.declared.methods.Methods.{Methods}
-use Rattle.jv_interp_methods.specs.Methods.{AreMethods}
+use Rattle.jv_interp_calls.specs.declared.methods.Methods.{Methods}
+use Rattle.jv_interp_calls.specs.Methods.{AreMethods}
 
 -- the method with a number can be entered, and this is its code
 pub record IsCodeOf (methods : Methods) (number : ℕ) (program : Program) (d : Declared) (code : CodeSeen) : Type 0 where

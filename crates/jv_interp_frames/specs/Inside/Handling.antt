@@ -9,7 +9,7 @@ use Rattle.jv_meaning_machine.specs.State.{Program}
 use Rattle.jv_meaning_machine.specs.Throws.{catches, handler_for}
 use Rattle.jv_interp_words.specs.declared.records.MethodRecord.{MethodRecord}
 use Rattle.jv_interp_words.specs.FramesInWords.{MethodStands}
-use Rattle.jv_interp_objects.specs.ObjectsInBlocks.{HasNumber}
+use Rattle.jv_interp_memory.specs.ObjectsInBlocks.{HasNumber}
 
 -- a handler of a method of one class takes an object of another, thrown at an offset
 abbrev pub takes : World → Loaded → Loaded → ℕ → Handler → Bool

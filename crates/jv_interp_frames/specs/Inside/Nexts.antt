@@ -7,8 +7,8 @@ use Rattle.jv_meaning_machine.specs.State.{Program}
 use Rattle.jv_meaning_machine.specs.Alone.{FindsInstructions}
 use Rattle.jv_interp_words.specs.declared.records.MethodRecord.{MethodRecord}
 use Rattle.jv_interp_words.specs.FramesInWords.{MethodStands}
-use Rattle.jv_interp_methods.specs.declared.methods.Methods.{Methods}
-use Rattle.jv_interp_methods.specs.Methods.{AreMethods}
+use Rattle.jv_interp_calls.specs.declared.methods.Methods.{Methods}
+use Rattle.jv_interp_calls.specs.Methods.{AreMethods}
 
 -- it stands at this instruction
 pub record Nexts (methods : Methods) (own : MethodRecord) (program : Program) (addresses : List ℕ) (frame : MethodFrame)

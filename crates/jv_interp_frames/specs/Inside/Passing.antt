@@ -7,8 +7,8 @@ use Rattle.jv_meaning_machine.specs.State.{Program, Control as ControlOfNames, w
 use Rattle.jv_meaning_machine.specs.State.ClassState.{Erroneous}
 use Rattle.jv_meaning_machine.specs.Costs.{method_words, initialization_words, with_words_back}
 use Rattle.jv_meaning_machine.specs.Throws.{at_handler}
-use Rattle.jv_interp_methods.specs.declared.methods.Methods.{Methods}
-use Rattle.jv_interp_methods.specs.Methods.{AreMethods}
+use Rattle.jv_interp_calls.specs.declared.methods.Methods.{Methods}
+use Rattle.jv_interp_calls.specs.Methods.{AreMethods}
 use Rattle.jv_interp_frames.specs.declared.frames.Frames.{Frames}
 use Rattle.jv_interp_frames.specs.declared.control.Control.{Control}
 use Rattle.jv_interp_frames.specs.FramesStand.{FramesStand}

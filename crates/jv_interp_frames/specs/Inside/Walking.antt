@@ -9,7 +9,7 @@ use Rattle.jv_meaning_machine.specs.State.{Program, Control as ControlOfNames, S
 use Rattle.jv_meaning_machine.specs.Throws.{Thrown as ThrownOfNames, handler_for, replacement, unwound}
 use Rattle.jv_interp_words.specs.declared.records.FrameRecord.{FrameRecord}
 use Rattle.jv_interp_words.specs.FramesInWords.{AreFrames}
-use Rattle.jv_interp_objects.specs.ObjectsInBlocks.{Blocks, HasNumber}
+use Rattle.jv_interp_memory.specs.ObjectsInBlocks.{Blocks, HasNumber}
 use Rattle.jv_interp_memory.specs.declared.held.Held.{Held}
 use Rattle.jv_interp_memory.specs.declared.numbers.TheConstants.{IN_INITIALIZER}
 use Rattle.jv_interp_memory.specs.HeldInWords.{MemoryStands}

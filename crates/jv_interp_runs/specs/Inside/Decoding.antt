@@ -1,17 +1,17 @@
 -- The instruction at which a method stands (JVMS 4.9.1, 6.5), with the method's place among the classes.
 use Rattle.std.specs.Prelude.{◌≡◌, ℕ, Bool, List, Some}
 use Rattle.jv_code.specs.Insns.{Instruction}
-use Rattle.jv_interp_actions.specs.of_link.declared.site.Site.{Site}
-use Rattle.jv_interp_actions.specs.of_link.Seen.{seen_site}
+use Rattle.jv_interp_frames.specs.of_link.declared.site.Site.{Site}
+use Rattle.jv_interp_frames.specs.of_link.Seen.{seen_site}
 use Rattle.jv_meaning_world.specs.World.{World}
 use Rattle.jv_meaning_typing.specs.Environment.{instruction_at, offset_behind}
 use Rattle.jv_meaning_machine.specs.Frames.{MethodFrame}
 use Rattle.jv_meaning_machine.specs.State.{Program, State}
 use Rattle.jv_interp_words.specs.declared.records.MethodRecord.{MethodRecord}
 use Rattle.jv_interp_words.specs.declared.registers.Registers.{Registers}
-use Rattle.jv_interp_actions.specs.of_interp_methods.declared.methods.Methods.{Methods}
-use Rattle.jv_interp_actions.specs.of_interp_frames.Inside.Nexts.{HasNext, Nexts}
-use Rattle.jv_interp_actions.specs.of_interp_frames.Standing.{Kept}
+use Rattle.jv_interp_frames.specs.of_interp_calls.declared.methods.Methods.{Methods}
+use Rattle.jv_interp_frames.specs.Inside.Nexts.{HasNext, Nexts}
+use Rattle.jv_interp_frames.specs.Standing.{Kept}
 use Rattle.jv_interp_runs.specs.Stepping.{StepsIn}
 
 abbrev pub record_at : ℕ → ℕ → ℕ → MethodRecord

@@ -1,6 +1,6 @@
 -- What steps that work on the words of their frame alone leave of all frames as it was (JVMS 2.6).
 use Rattle.std.specs.Prelude.{◌≡◌, length, vec_capacity}
-use Rattle.jv_interp_actions.specs.of_interp_frames.declared.frames.Frames.{Frames}
+use Rattle.jv_interp_frames.specs.declared.frames.Frames.{Frames}
 
 -- The words may be others, and as many; the frames that wait and what is left to the guest are those before.
 pub record OnlyInWords (before after : Frames) : Type 0 where

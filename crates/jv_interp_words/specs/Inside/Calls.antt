@@ -1,7 +1,7 @@
 -- Words of frames that are entered and left (JVMS 2.6).
 use Rattle.std.specs.Prelude.{◌≡◌, ℕ, true, List, ◌++◌, Ok, length, reverse}
 use Rattle.std.specs.List.{flat_map}
-use Rattle.jv_meaning_machine.specs.of_code.declared.kinds.ValueKind.{ValueKind}
+use Rattle.jv_code.specs.declared.kinds.ValueKind.{ValueKind}
 use Rattle.jv_meaning_machine.specs.Values.{Value, has_kind}
 use Rattle.jv_meaning_machine.specs.Frames.{local_words, filled}
 use Rattle.jv_interp_words.specs.ValuesInWords.{IsOnTop, AreOnTop}

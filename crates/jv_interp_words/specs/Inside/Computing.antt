@@ -1,6 +1,6 @@
 -- Computations on the words in use (JVMS 6.5).
 use Rattle.std.specs.Prelude.{◌≡◌, ℕ, ◌+◌, ◌≤◌, List, Ok, length, reverse}
-use Rattle.jv_meaning_machine.specs.of_code.declared.kinds.Computation.{Computation}
+use Rattle.jv_code.specs.declared.kinds.Computation.{Computation}
 use Rattle.jv_meaning_machine.specs.Values.{Value, value_words}
 use Rattle.jv_meaning_machine.specs.Arithmetic.{computed}
 use Rattle.jv_interp_words.specs.ValuesInWords.{IsOnTop, AreOnTop}

@@ -1,8 +1,8 @@
 -- Division and remainder on the words in use (JVMS 6.5, idiv and its kin).
 use Rattle.std.specs.Prelude.{◌≡◌, ℕ, ℤ, pos, true, false, List, [], ◌∷◌, Option, Some, None}
 use Rattle.std.specs.Ordering.{int_eq}
-use Rattle.jv_meaning_machine.specs.of_code.declared.kinds.DivisionOperator.{DivisionOperator}
-use Rattle.jv_meaning_machine.specs.of_code.declared.kinds.NumberKind.{NumberKind}
+use Rattle.jv_code.specs.declared.kinds.DivisionOperator.{DivisionOperator}
+use Rattle.jv_code.specs.declared.kinds.NumberKind.{NumberKind}
 use Rattle.jv_meaning_machine.specs.Arithmetic.{number_value, width_of, divided}
 use Rattle.jv_interp_words.specs.ValuesInWords.{IsOnTop, AreOnTop}
 use Rattle.jv_interp_words.specs.FramesInWords.{in_use}

@@ -2,8 +2,8 @@
 use Rattle.std.specs.Prelude.{◌≡◌, ℕ, List, Option, Some}
 use Rattle.jv_meaning_machine.specs.of_frames.declared.width.Width.{Width}
 use Rattle.jv_meaning_machine.specs.of_frames.declared.width.Width.TheVariants.{One}
-use Rattle.jv_meaning_machine.specs.of_code.declared.kinds.StackForm.{StackForm}
-use Rattle.jv_meaning_machine.specs.of_code.declared.kinds.StackForm.TheVariants as forms
+use Rattle.jv_code.specs.declared.kinds.StackForm.{StackForm}
+use Rattle.jv_code.specs.declared.kinds.StackForm.TheVariants as forms
 use Rattle.jv_meaning_machine.specs.of_meaning_typing.StackForms.{rearranged}
 
 abbrev pub word_width : ℕ → Option Width

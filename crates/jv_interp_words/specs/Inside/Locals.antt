@@ -1,8 +1,8 @@
 -- Local variables among the words in use (JVMS 2.6.1).
 use Rattle.std.specs.Prelude.{◌≡◌, ℕ, ◌+◌, ◌≤◌, ℤ, true, List, [], ◌∷◌, ◌++◌, Ok, Some, length, reverse}
 use Rattle.std.specs.Int.{w32, int_wrapping_add}
-use Rattle.jv_meaning_machine.specs.of_code.declared.kinds.ValueKind.{ValueKind}
-use Rattle.jv_meaning_machine.specs.of_code.declared.kinds.ValueKind.TheVariants as kinds
+use Rattle.jv_code.specs.declared.kinds.ValueKind.{ValueKind}
+use Rattle.jv_code.specs.declared.kinds.ValueKind.TheVariants as kinds
 use Rattle.jv_meaning_machine.specs.Values.{Value, has_kind, value_words}
 use Rattle.jv_meaning_machine.specs.Values.Value.{Int}
 use Rattle.jv_meaning_machine.specs.Frames.{local_at, local_words, stored}

@@ -1,6 +1,6 @@
 -- Numbers that are taken from the words in use, and put there.
 use Rattle.std.specs.Prelude.{◌≡◌, ℕ, ℤ, List}
-use Rattle.jv_meaning_machine.specs.of_code.declared.kinds.NumberKind.{NumberKind}
+use Rattle.jv_code.specs.declared.kinds.NumberKind.{NumberKind}
 use Rattle.jv_meaning_machine.specs.Arithmetic.{number_value}
 use Rattle.jv_interp_words.specs.ValuesInWords.{IsOnTop}
 

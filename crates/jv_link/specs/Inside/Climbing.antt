@@ -8,9 +8,9 @@ use Rattle.jv_meaning_world.specs.Overriding.{Declared, alike_in}
 use Rattle.jv_meaning_world.specs.LookUps.{else_option}
 use Rattle.jv_loader.specs.of_lookups.Places.{method_at, IsMethodPlace, IsMethodFound}
 use Rattle.jv_loader.specs.Straight.{IsStraight}
-use Rattle.jv_meaning_linking.specs.Access.{same_class}
-use Rattle.jv_meaning_linking.specs.Inside.OneWalk.{is_open}
-use Rattle.jv_meaning_linking.specs.Inside.Upward.{is_private, is_near}
+use Rattle.jv_meaning_typing.specs.Access.{same_class}
+use Rattle.jv_meaning_typing.specs.Inside.OneWalk.{is_open}
+use Rattle.jv_meaning_typing.specs.Inside.Upward.{is_private, is_near}
 use Rattle.jv_link.specs.declared.meeting.Met.{Met}
 use Rattle.jv_link.specs.declared.meeting.Met.TheVariants as met
 use Rattle.std.specs.Option.{option_and_then}

@@ -3,7 +3,7 @@ use Rattle.std.specs.Prelude.{List, filter, ◌≡◌, ℕ, ◌++◌, ◌∷◌,
 use Rattle.std.specs.List.{filter_map}
 use Rattle.jv_meaning_world.specs.World.{Loaded, World, class_named}
 use Rattle.jv_meaning_world.specs.Above.{superclass_names}
-use Rattle.jv_meaning_linking.specs.InitializationOrder.{declares_default, enumerated, given_within}
+use Rattle.jv_meaning_typing.specs.InitializationOrder.{declares_default, enumerated, given_within}
 use Rattle.jv_meaning_world.specs.Numbers.{HoldsAtNumber, classes_at}
 
 abbrev pub with_default : List Loaded → List Loaded

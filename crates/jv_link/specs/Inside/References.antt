@@ -3,8 +3,8 @@ use Rattle.std.specs.Prelude.{ℕ, Bool, true, false, List, Option}
 use Rattle.std.specs.Option.{option_map, option_or}
 use Rattle.jv_pool.specs.Constants.{Entry, method_reference_at, interface_method_reference_at}
 use Rattle.jv_pool.specs.Seen.{seen_member}
-use Rattle.jv_meaning_linking.specs.Operands.{MethodConstant, MethodReference, through}
-use Rattle.jv_meaning_linking.specs.Operands.MethodConstant.{Methodref, InterfaceMethodref}
+use Rattle.jv_meaning_typing.specs.Operands.{MethodConstant, MethodReference, through}
+use Rattle.jv_meaning_typing.specs.Operands.MethodConstant.{Methodref, InterfaceMethodref}
 use Rattle.jv_link.specs.declared.reference.MethodName.{MethodName}
 
 abbrev pub constant_of : Bool → MethodConstant

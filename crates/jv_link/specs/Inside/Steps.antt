@@ -2,16 +2,16 @@
 use Rattle.std.specs.Prelude.{ℕ, ◌<◌, List, length, Result, IfOk, ◌≡◌, Bool, Option, Some, slice_get}
 use Rattle.std.specs.Option.{ok_or, option_map}
 use Rattle.jv_meaning_world.specs.World.{Loaded, World, can_name}
-use Rattle.jv_meaning_linking.specs.LinkErrors.{LinkError as ErrorOfNames, OrError, ◌>>=◌, provided, unless_wrong}
-use Rattle.jv_meaning_linking.specs.LinkErrors.LinkError.{IllegalAccessError, NoSuchMethodError}
-use Rattle.jv_meaning_linking.specs.Uses.{Site}
-use Rattle.jv_meaning_linking.specs.Kind.{can_use_final, can_set_final}
-use Rattle.jv_meaning_linking.specs.MethodResolution.{MethodTarget, target, is_own_init, method_from}
-use Rattle.jv_meaning_linking.specs.Access.{can_access, is_accessible_below}
+use Rattle.jv_meaning_typing.specs.LinkErrors.{LinkError as ErrorOfNames, OrError, ◌>>=◌, provided, unless_wrong}
+use Rattle.jv_meaning_typing.specs.LinkErrors.LinkError.{IllegalAccessError, NoSuchMethodError}
+use Rattle.jv_meaning_typing.specs.Uses.{Site}
+use Rattle.jv_meaning_typing.specs.Kind.{can_use_final, can_set_final}
+use Rattle.jv_meaning_typing.specs.MethodResolution.{MethodTarget, target, is_own_init, method_from}
+use Rattle.jv_meaning_typing.specs.Access.{can_access, is_accessible_below}
 use Rattle.jv_pool.specs.Constants.{MemberReference}
 use Rattle.jv_meaning_world.specs.Overriding.{Declared}
 use Rattle.jv_meaning_world.specs.LookUps.{DeclaredField, lookup_method}
-use Rattle.jv_meaning_linking.specs.ClassResolution.{ResolvedClass, error_of_class, resolve_text, member_class, resolve_class, resolve_element}
+use Rattle.jv_meaning_typing.specs.ClassResolution.{ResolvedClass, error_of_class, resolve_text, member_class, resolve_class, resolve_element}
 use Rattle.jv_link.specs.declared.error.LinkError.{LinkError}
 use Rattle.jv_link.specs.declared.target.ClassRef.{ClassRef}
 use Rattle.jv_meaning_world.specs.Numbers.{HoldsAtBoth, HoldsAtNumber}
@@ -24,7 +24,7 @@ use Rattle.jv_link.specs.declared.site.Use.{Use as UseByNumber}
 use Rattle.jv_link.specs.declared.target.MethodTarget.{MethodTarget as TargetByNumber}
 use Rattle.jv_pool.specs.Seen.{seen_member}
 use Rattle.jv_pool.specs.declared.constant.MemberName.{MemberName}
-use Rattle.jv_meaning_linking.specs.FieldResolution.{field_from}
+use Rattle.jv_meaning_typing.specs.FieldResolution.{field_from}
 use Rattle.jv_link.specs.Inside.References.{reference_of}
 use Rattle.jv_link.specs.declared.reference.MethodName.{MethodName}
 use Rattle.std.specs.Borrow.{Bor}

@@ -4,7 +4,7 @@ use Rattle.std.specs.Str.{bytes_eq}
 use Rattle.jv_class.specs.Class.{Field}
 use Rattle.jv_meaning_world.specs.World.{Loaded, World}
 use Rattle.jv_meaning_world.specs.Above.{superclasses}
-use Rattle.jv_meaning_linking.specs.Kind.{is_static_field}
+use Rattle.jv_meaning_typing.specs.Kind.{is_static_field}
 use Rattle.jv_linked.specs.declared.words.Ends.{Ends}
 use Rattle.jv_linked.specs.declared.words.ClassWords.{ClassWords}
 

@@ -5,8 +5,8 @@ use Rattle.jv_meaning_typing.specs.of_meaning_world.FileContent.{FileContent}
 use Rattle.jv_meaning_typing.specs.of_meaning_world.World.{Loaded, class_named, world_of}
 use Rattle.jv_meaning_typing.specs.of_class.Class.{Field}
 use Rattle.jv_meaning_typing.specs.of_meaning_world.LookUps.{field_by}
-use Rattle.jv_meaning_typing.specs.of_meaning_linking.Kind.{is_static_field}
-use Rattle.jv_meaning_typing.specs.of_meaning_linking.Layout.{instance_fields}
+use Rattle.jv_meaning_typing.specs.Kind.{is_static_field}
+use Rattle.jv_meaning_typing.specs.Layout.{instance_fields}
 use Rattle.jv_meaning_machine.specs.Faults.{OrFault, ◌>>=◌}
 use Rattle.jv_meaning_machine.specs.Objects.{Instance, Object, key_of}
 use Rattle.jv_meaning_machine.specs.Objects.Object.{InstanceOf}

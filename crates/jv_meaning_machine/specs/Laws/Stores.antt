@@ -10,9 +10,9 @@ use Rattle.jv_code.specs.declared.kinds.FieldAccess.TheVariants as access
 use Rattle.jv_code.specs.declared.kinds.NumberElement.{NumberElement}
 use Rattle.jv_meaning_typing.specs.of_pool.Constants.{MemberReference}
 use Rattle.jv_meaning_typing.specs.of_meaning_world.LookUps.{DeclaredField}
-use Rattle.jv_meaning_typing.specs.of_meaning_linking.LinkErrors.{LinkError, error_class}
-use Rattle.jv_meaning_typing.specs.of_meaning_linking.Operands.{field_operand}
-use Rattle.jv_meaning_typing.specs.of_meaning_linking.FieldResolution.{resolve_field}
+use Rattle.jv_meaning_typing.specs.LinkErrors.{LinkError, error_class}
+use Rattle.jv_meaning_typing.specs.Operands.{field_operand}
+use Rattle.jv_meaning_typing.specs.FieldResolution.{resolve_field}
 use Rattle.jv_meaning_typing.specs.Environment.{current_class}
 use Rattle.jv_meaning_machine.specs.Values.{Value, narrowed}
 use Rattle.jv_meaning_machine.specs.Values.Value.{Int, Null, Reference}

@@ -2,24 +2,24 @@
 use Rattle.std.specs.Prelude.{ℕ, true, false, List, [], ◌∷◌, ◌++◌, replicate, Option, Some, None, codes}
 use Rattle.std.specs.List.{flat_map}
 use Rattle.std.specs.Option.{option_map}
-use Rattle.jv_meaning_linking.specs.of_format.Format.{◌>>=◌}
-use Rattle.jv_meaning_linking.specs.of_text.declared.descriptor.Base.{Base}
-use Rattle.jv_meaning_linking.specs.of_text.declared.descriptor.Element.{Element}
-use Rattle.jv_meaning_linking.specs.of_text.declared.descriptor.Element.TheVariants as elements
-use Rattle.jv_meaning_linking.specs.of_text.declared.descriptor.FieldTypeOf.{FieldTypeOf}
-use Rattle.jv_meaning_linking.specs.of_pool.declared.constant.Constant.TheVariants as constants
-use Rattle.jv_meaning_linking.specs.of_pool.Constants.{Entry}
-use Rattle.jv_meaning_linking.specs.of_class_structure.Parts.{CodeSeen}
-use Rattle.jv_meaning_linking.specs.of_class.Class.{Class, Field, Method}
-use Rattle.jv_meaning_linking.specs.of_frames.declared.verification.VerificationTypeOf.TheVariants as types
-use Rattle.jv_meaning_linking.specs.of_frames.Types.{FrameType}
-use Rattle.jv_meaning_linking.specs.of_frames.Frames.{Frame}
-use Rattle.jv_meaning_linking.specs.of_code.Insns.{Instruction, insn_bytes}
-use Rattle.jv_meaning_linking.specs.of_code.declared.insn.Insn.TheVariants as insns
-use Rattle.jv_meaning_linking.specs.of_meaning_world.declared.content.Content.TheVariants.{Holds}
-use Rattle.jv_meaning_linking.specs.of_meaning_world.World.{World, world_of}
-use Rattle.jv_meaning_linking.specs.of_meaning_world.Rows.Files.{object_name, class_with}
-use Rattle.jv_meaning_linking.specs.Rows.Samples.{system, guest, method, class, interface}
+use Rattle.jv_meaning_world.specs.of_format.Format.{◌>>=◌}
+use Rattle.jv_meaning_world.specs.of_text.declared.descriptor.Base.{Base}
+use Rattle.jv_meaning_world.specs.of_text.declared.descriptor.Element.{Element}
+use Rattle.jv_meaning_world.specs.of_text.declared.descriptor.Element.TheVariants as elements
+use Rattle.jv_meaning_world.specs.of_text.declared.descriptor.FieldTypeOf.{FieldTypeOf}
+use Rattle.jv_meaning_world.specs.of_pool.declared.constant.Constant.TheVariants as constants
+use Rattle.jv_meaning_world.specs.of_pool.Constants.{Entry}
+use Rattle.jv_meaning_world.specs.of_class_structure.Parts.{CodeSeen}
+use Rattle.jv_meaning_world.specs.of_class.Class.{Class, Field, Method}
+use Rattle.jv_meaning_world.specs.of_frames.declared.verification.VerificationTypeOf.TheVariants as types
+use Rattle.jv_meaning_world.specs.of_frames.Types.{FrameType}
+use Rattle.jv_meaning_world.specs.of_frames.Frames.{Frame}
+use Rattle.jv_meaning_world.specs.of_code.Insns.{Instruction, insn_bytes}
+use Rattle.jv_meaning_world.specs.of_code.declared.insn.Insn.TheVariants as insns
+use Rattle.jv_meaning_world.specs.declared.content.Content.TheVariants.{Holds}
+use Rattle.jv_meaning_world.specs.World.{World, world_of}
+use Rattle.jv_meaning_world.specs.Rows.Files.{object_name, class_with}
+use Rattle.jv_meaning_typing.specs.Rows.LinkingSamples.{system, guest, method, class, interface}
 use Rattle.jv_meaning_typing.specs.Environment.{Environment, offset_behind}
 use Rattle.jv_meaning_typing.specs.Rule.{rule}
 

@@ -3,14 +3,14 @@ use Rattle.std.specs.Prelude.{◌≡◌, ◌≤◌, ◌++◌, ◌↔◌, Option,
 use Rattle.jv_class_structure.specs.Parts.{CodeSeen, MethodSeen}
 use Rattle.jv_meaning_typing.specs.Environment.{Environment, IsEnvironment, current_class}
 use Rattle.jv_meaning_typing.specs.Typing.{argument_words}
-use Rattle.jv_method_pass.specs.of_constants.Current.{CurrentClass, IsOfClass}
-use Rattle.jv_method_pass.specs.of_constants.PoolTypes.{CallTypes, call_types, call_types_at, typed_call}
+use Rattle.jv_method_pass.specs.of_types.Current.{CurrentClass, IsOfClass}
+use Rattle.jv_method_pass.specs.of_types.PoolTypes.{CallTypes, call_types, call_types_at, typed_call}
 use Rattle.jv_method.specs.Judged.{IsMethodOf, IsVerdictOnMethod}
-use Rattle.jv_method_pass.specs.of_constants.declared.texts.MethodTypes.{MethodTypes}
+use Rattle.jv_method_pass.specs.of_types.declared.texts.MethodTypes.{MethodTypes}
 use Rattle.jv_method_pass.specs.declared.fault.CodeFault.{CodeFault}
 use Rattle.jv_method_pass.specs.of_types.Typed.{typed, typed_all}
 use Rattle.jv_frames.specs.Initial.{receiver_type, receiver_entries}
-use Rattle.jv_meaning_linking.specs.Uses.{Site}
+use Rattle.jv_meaning_typing.specs.Uses.{Site}
 use Rattle.jv_method_pass.specs.of_types.Numbered.{Item}
 
 -- an environment of the method

@@ -11,8 +11,8 @@ use Rattle.jv_meaning_typing.specs.Typing.{HandlersKeepRules, entries_before}
 use Rattle.jv_meaning_typing.specs.Judgement.{IsCodeOf}
 use Rattle.jv_method_pass.specs.of_types.Typed.{typed_all}
 use Rattle.jv_method_pass.specs.of_types.Numbered.{Item}
-use Rattle.jv_method_pass.specs.of_constants.PoolTypes.{PoolTypes, typed_result}
-use Rattle.jv_method_pass.specs.of_constants.Current.{CurrentClass, IsOfClass}
+use Rattle.jv_method_pass.specs.of_types.PoolTypes.{PoolTypes, typed_result}
+use Rattle.jv_method_pass.specs.of_types.Current.{CurrentClass, IsOfClass}
 use Rattle.jv_method_pass.specs.Mapped.{EntryTypes}
 use Rattle.jv_method_pass.specs.Tables.{entry_types, MapsTo}
 use Rattle.jv_method_pass.specs.Pass.{HasRoom}

@@ -11,7 +11,7 @@ use Rattle.jv_meaning_world.specs.Verdicts.{declared_by}
 use Rattle.jv_meaning_typing.specs.Judgement.{BreaksRule}
 use Rattle.jv_meaning_typing.specs.Typing.{HasTyping}
 use Rattle.jv_method_pass.specs.declared.fault.CodeFault.{CodeFault}
-use Rattle.jv_method_pass.specs.of_constants.Current.{CurrentClass}
+use Rattle.jv_method_pass.specs.of_types.Current.{CurrentClass}
 
 -- the method that is shown so, by its names
 abbrev pub method_in : List Entry → MethodSeen → Option Method

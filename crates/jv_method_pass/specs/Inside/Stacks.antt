@@ -18,7 +18,8 @@ pub record LowestFlow (types : EntryTypes) (stack : List FrameType) (map : ReadF
   pub height : length map.stack ≡ s.height
   pub there : s.lowest ≤ length stack
   pub within : s.lowest ≤ s.height
-  pub flow : all_flow (item_flows (world_of_types types)) (lowest_of s.lowest stack) (lowest_of s.lowest (types_of_entries types map.stack)) ≡ true
+  pub flow :
+      all_flow (item_flows (world_of_types types)) (lowest_of s.lowest stack) (lowest_of s.lowest (types_of_entries types map.stack)) ≡ true
 
 abbrev pub IsFlowed : Pass → List FrameType → FlowedStack → Type 0
 IsFlowed pass stack s = (map : ReadFrame) → slice_get pass.frames s.place ≡ Some map → LowestFlow pass.types stack map s

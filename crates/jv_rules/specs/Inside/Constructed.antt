@@ -7,12 +7,12 @@ use Rattle.jv_pool.specs.Constants.{Entry, class_name_at, utf8_at}
 use Rattle.jv_frames.specs.declared.verification.VerificationTypeOf.TheVariants as types
 use Rattle.jv_frames.specs.Types.{FrameType}
 use Rattle.jv_frames.specs.Frames.{Frame}
-use Rattle.jv_meaning_linking.specs.Operands.{class_operand, MethodReference}
+use Rattle.jv_meaning_typing.specs.Operands.{class_operand, MethodReference}
 use Rattle.jv_meaning_typing.specs.Environment.{Environment, current_class}
 use Rattle.jv_meaning_typing.specs.Named.{method_named_by, when, MethodUse}
 use Rattle.jv_meaning_typing.specs.MemberRules.{constructed, constructed_type, is_that_name}
 use Rattle.jv_types.specs.Numbered.{Item}
-use Rattle.jv_constants.specs.of_link.Inside.References.{method_operand_in}
+use Rattle.jv_types.specs.of_link.Inside.References.{method_operand_in}
 
 -- ---- what is called
 

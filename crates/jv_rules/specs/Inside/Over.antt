@@ -4,8 +4,8 @@ use Rattle.jv_format.specs.Format.{◌>>=◌}
 use Rattle.jv_frames.specs.Frames.{Frame}
 use Rattle.jv_meaning_typing.specs.Environment.{Environment}
 use Rattle.jv_meaning_typing.specs.Rule.{within_stack, by_exchange, test_references}
-use Rattle.jv_constants.specs.PoolTypes.{PoolTypes, typed_result}
-use Rattle.jv_constants.specs.Operands.{HasPool}
+use Rattle.jv_types.specs.PoolTypes.{PoolTypes, typed_result}
+use Rattle.jv_types.specs.Operands.{HasPool}
 use Rattle.jv_rules.specs.Method.{MethodContext, IsOfMethod}
 use Rattle.jv_types.specs.Numbered.{NumberFrame, frame_of, Item, topped}
 use Rattle.jv_types.specs.Outcomes.{Applies, IsOutcome, IsFrame}

@@ -3,8 +3,8 @@ use Rattle.std.specs.Prelude.{◌≡◌, ℕ, List, Option, Some, None, Bool, �
 use Rattle.jv_meaning_typing.specs.Environment.{Environment, current_class}
 use Rattle.jv_meaning_typing.specs.Named.{FieldUse, MethodUse, method_named_by, field_named_by}
 use Rattle.jv_types.specs.Typed.{TypeWorld, typed, name_at}
-use Rattle.jv_constants.specs.declared.methods.CalledTypes.{CalledTypes}
-use Rattle.jv_constants.specs.Operands.{IsCalled}
+use Rattle.jv_types.specs.declared.methods.CalledTypes.{CalledTypes}
+use Rattle.jv_types.specs.Operands.{IsCalled}
 use Rattle.jv_rules.specs.declared.field_access.FieldOperand.{FieldOperand}
 use Rattle.jv_rules.specs.Operands.{IsField}
 use Rattle.std.specs.Option.{option_map}

@@ -2,7 +2,7 @@
 use Rattle.std.specs.Prelude.{◌≡◌, ◌≢◌, ℕ, ◌+◌, ◌<◌, ◌≤◌, List, [], Option, Some, map, length, slice_get}
 use Rattle.jv_meaning_machine.specs.Start.{Budget}
 use Rattle.jv_meaning_machine.specs.Alone.{Feed}
-use Rattle.jv_host.specs.of_interp_start.Started.{budget_of}
+use Rattle.jv_host.specs.of_interp.Started.{budget_of}
 use Rattle.jv_host.specs.of_interp.Showing.{observed_of}
 use Rattle.jv_host.specs.Host.{Admission, input_bytes}
 use Rattle.jv_host.specs.Calls.{IsShown, NoneRuns, admission}

@@ -4,7 +4,7 @@ use Rattle.std.specs.Io.KnownBytes.{Appends}
 use Rattle.clap.specs.Values.{kind_of}
 use Rattle.clap.specs.declared.error.kind.ErrorKind.TheVariants as kinds
 use Rattle.jv_run.specs.declared.outcome.Outcome.{Outcome}
-use Rattle.jv_settings.specs.Settings.{AreRefused}
+use Rattle.jv_status.specs.Settings.{AreRefused}
 use Rattle.jv_status.specs.declared.stop.Stop.{Stop}
 use Rattle.jv_status.specs.declared.stop.Stop.TheVariants.{CommandLine, Run, Output}
 use Rattle.jv_status.specs.Command.{IsFailure, IsReport}

@@ -1,8 +1,8 @@
 -- Names as a table keeps them.
 use Rattle.std.specs.Prelude.{◌≡◌, ℕ, List, map, Option, Some, codes, position, slice_get}
 use Rattle.std.specs.Str.{bytes_eq}
-use Rattle.jv_assign.specs.of_meaning_world.World.{World}
-use Rattle.jv_assign.specs.of_meaning_world.Numbers.{number_named}
+use Rattle.jv_meaning_world.specs.World.{World}
+use Rattle.jv_meaning_world.specs.Numbers.{number_named}
 
 abbrev pub AreDistinct : List (List ℕ) → Type 0
 AreDistinct names = (number : ℕ) (name : List ℕ) → slice_get names number ≡ Some name → position (bytes_eq name) names ≡ Some number

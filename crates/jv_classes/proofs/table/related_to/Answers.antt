@@ -1,7 +1,7 @@
 use Rattle.std.proofs.Common.{◌∙◌, ◌<◌, length, get_or, [], sym, subst}
 use Rattle.std.specs.List.{All}
 use Rattle.std.proofs.lemmas.List.{length-map}
-use Rattle.jv_names.specs.Ways.{IsBelowSize}
+use Rattle.jv_classes.specs.Ways.{IsBelowSize}
 use Rattle.jv_classes.specs.Inside.Rows.{row_of, numbers_of}
 use Rattle.jv_classes.proofs.Rows.{row_there}
 use Rattle.jv_classes.proofs.table.related_to.Goals as goal

@@ -1,6 +1,6 @@
 use Rattle.std.proofs.Common.{◌≡◌, ℕ, [], length, get_or, take}
 use Rattle.std.specs.List.{list_any}
-use Rattle.jv_names.specs.Ways.{related, is_there}
+use Rattle.jv_classes.specs.Ways.{related, is_there}
 use Rattle.jv_classes.specs.Inside.Rows.{numbers_of}
 use Rattle.jv_classes.proofs.table.related_to.Given as goal
 

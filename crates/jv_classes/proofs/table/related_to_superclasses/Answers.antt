@@ -1,6 +1,6 @@
 use Rattle.std.proofs.Common.{◌∙◌, ◌≤◌, IsTrue, ◌||◌, ◌&&◌, nat_eq, take, map, length, None, sym, ap, subst}
 use Rattle.std.proofs.lemmas.List.{get_or-map, length-map}
-use Rattle.jv_names.specs.Ways.{IsBelowSize, is_there}
+use Rattle.jv_classes.specs.Ways.{IsBelowSize, is_there}
 use Rattle.jv_meaning_world.specs.Numbers.{superclass_number}
 use Rattle.jv_classes.proofs.Rows.{told_at, told_more, told_all}
 use Rattle.jv_classes.proofs.Told.{row_of_class, superclass_below, to_superclass}

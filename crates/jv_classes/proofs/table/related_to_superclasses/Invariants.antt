@@ -1,5 +1,5 @@
 use Rattle.std.proofs.Common.{◌≡◌, ℕ, length, take, map}
-use Rattle.jv_names.specs.Ways.{related}
+use Rattle.jv_classes.specs.Ways.{related}
 use Rattle.jv_meaning_world.specs.Numbers.{superclass_number}
 use Rattle.jv_classes.proofs.Rows.{told_at}
 use Rattle.jv_classes.proofs.table.related_to_superclasses.Given as goal

@@ -1,5 +1,5 @@
 use Rattle.std.proofs.Common.{◌≡◌, ℕ, Bool, sym, ◌∙◌, arith}
-use Rattle.jv_interp_methods.specs.of_link.declared.site.Use.TheVariants as uses
+use Rattle.jv_linked.specs.of_link.declared.site.Use.TheVariants as uses
 use Rattle.jv_interp_calls.specs.Known.{known}
 use Rattle.jv_interp_memory.specs.Executing.{place}
 use Rattle.jv_interp_calls.proofs.AtSite.{failed}

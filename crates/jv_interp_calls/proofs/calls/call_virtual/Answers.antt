@@ -1,6 +1,6 @@
 use Rattle.std.proofs.Common.{◌≡◌, ℕ, ◌-◌, ◌<◌, length, sym, subst, ◌∙◌, get_or, arith}
 use Rattle.std.specs.Prelude.{Result, Ok, Err}
-use Rattle.jv_interp_methods.specs.of_link.Objects.{IsObject}
+use Rattle.jv_linked.specs.of_link.Objects.{IsObject}
 use Rattle.jv_interp_calls.specs.Known.{known}
 use Rattle.jv_interp_calls.specs.Resolved.{class_number, IsRun}
 use Rattle.jv_interp_memory.specs.Executing.{place}

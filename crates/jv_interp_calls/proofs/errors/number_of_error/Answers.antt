@@ -1,4 +1,4 @@
-use Rattle.jv_interp_methods.specs.of_link.declared.error.LinkError.TheVariants as errors
+use Rattle.jv_linked.specs.of_link.declared.error.LinkError.TheVariants as errors
 use Rattle.jv_interp_calls.proofs.Linked.{numbered}
 use Rattle.jv_interp_calls.proofs.errors.number_of_error.Goals as goal
 

@@ -1,5 +1,5 @@
 use Rattle.std.proofs.Common.{◌≡◌, ℕ, Bool, refl, sym, ap, ◌∙◌, arith, if◌then◌else◌}
-use Rattle.jv_interp_objects.specs.declared.narrowing.Narrowing.TheVariants as narrowings
+use Rattle.jv_interp_memory.specs.declared.narrowing.Narrowing.TheVariants as narrowings
 use Rattle.jv_code.specs.declared.kinds.FieldAccess.TheVariants as access
 use Rattle.jv_interp_calls.specs.Known.{known}
 use Rattle.jv_interp_memory.specs.Executing.{place}

@@ -1,7 +1,7 @@
 use Rattle.std.proofs.Common.{arith}
 use Rattle.jv_meaning_machine.specs.State.{class_state}
 use Rattle.jv_interp_memory.specs.ClassStates.{kept_state}
-use Rattle.jv_interp_methods.proofs.laws_of_linked.Eachwise.{within_list}
+use Rattle.jv_linked.proofs.Eachwise.{within_list}
 use Rattle.jv_interp_calls.proofs.linking.is_ready.Goals as goal
 
 pub returns-else-class-states : goal.returns-else-class-states

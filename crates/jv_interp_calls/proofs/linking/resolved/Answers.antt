@@ -1,5 +1,5 @@
-use Rattle.jv_meaning_linking.specs.MethodResolution.{resolve_method}
-use Rattle.jv_interp_methods.specs.of_link.Seen.{seen_use}
+use Rattle.jv_meaning_typing.specs.MethodResolution.{resolve_method}
+use Rattle.jv_linked.specs.of_link.Seen.{seen_use}
 use Rattle.jv_interp_calls.proofs.Linked.{target_answered, error_answered}
 use Rattle.jv_interp_calls.proofs.linking.resolved.Goals as goal
 

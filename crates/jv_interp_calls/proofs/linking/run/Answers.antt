@@ -1,10 +1,10 @@
 use Rattle.std.proofs.Common.{◌≡◌, ℕ, Option, Some, Ok, Err, subst, slice_get}
 use Rattle.jv_meaning_world.specs.Overriding.{Declared}
-use Rattle.jv_interp_methods.specs.of_lookups.Places.{method_at}
-use Rattle.jv_meaning_linking.specs.Selection.{select}
-use Rattle.jv_interp_methods.specs.of_link.Seen.{seen_use}
-use Rattle.jv_interp_methods.specs.of_link.Objects.{object_class_at}
-use Rattle.jv_interp_methods.specs.of_link.Answers.{AnswersTarget}
+use Rattle.jv_linked.specs.of_lookups.Places.{method_at}
+use Rattle.jv_meaning_typing.specs.Selection.{select}
+use Rattle.jv_linked.specs.of_link.Seen.{seen_use}
+use Rattle.jv_linked.specs.of_link.Objects.{object_class_at}
+use Rattle.jv_linked.specs.of_link.Answers.{AnswersTarget}
 use Rattle.jv_interp_calls.specs.Resolved.{class_number}
 use Rattle.jv_interp_calls.proofs.Linked.{method_answered, error_answered}
 use Rattle.jv_interp_calls.proofs.linking.run.Goals as goal

@@ -1,5 +1,5 @@
-use Rattle.jv_meaning_linking.specs.FieldResolution.{resolve_field}
-use Rattle.jv_interp_methods.specs.of_link.Seen.{seen_use}
+use Rattle.jv_meaning_typing.specs.FieldResolution.{resolve_field}
+use Rattle.jv_linked.specs.of_link.Seen.{seen_use}
 use Rattle.jv_interp_calls.proofs.Linked.{field_answered, error_answered}
 use Rattle.jv_interp_calls.proofs.linking.used.Goals as goal
 

@@ -1,6 +1,6 @@
 use Rattle.std.proofs.Common.{◌≡◌, ℕ, suc, ◌+◌, ◌*◌, ap, arith}
 use Rattle.std.proofs.lemmas.List.{length-replicate}
-use Rattle.jv_interp_objects.proofs.NewWords.{zeros_joined, joined_length, then_written}
+use Rattle.jv_interp_memory.proofs.NewWords.{zeros_joined, joined_length, then_written}
 use Rattle.jv_interp_creation.proofs.blocks.array_block.Goals as goal
 
 two_more : (n : ℕ) → n + 2 ≡ suc (suc n)

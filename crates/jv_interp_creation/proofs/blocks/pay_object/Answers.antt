@@ -1,6 +1,6 @@
 use Rattle.std.proofs.Common.{◌≡◌, ℕ, suc, ◌+◌, arith}
 use Rattle.std.proofs.lemmas.List.{length-replicate}
-use Rattle.jv_interp_objects.proofs.NewWords.{zeros_joined, joined_length, then_written}
+use Rattle.jv_interp_memory.proofs.NewWords.{zeros_joined, joined_length, then_written}
 use Rattle.jv_interp_creation.proofs.blocks.pay_object.Goals as goal
 
 pub set-requires : goal.set-requires

@@ -1,5 +1,5 @@
 use Rattle.std.proofs.Common.{◌≡◌, ℕ, ◌+◌, ◌-◌, ◌*◌, ◌<◌, ◌≤◌, List, length, drop, get_or, sym, ap, subst, ◌∙◌, arith, length-drop}
-use Rattle.jv_interp_objects.proofs.NewWords.{joined_length}
+use Rattle.jv_interp_memory.proofs.NewWords.{joined_length}
 use Rattle.jv_interp_creation.specs.NestedBlocks.{nested_cost, inner_size, NestedJoin}
 use Rattle.jv_interp_creation.proofs.TextJoined.{newest_address, taken_back}
 use Rattle.jv_interp_creation.proofs.Following.{first_of, cost_parts, inner_words, some_inner, one_at_least, costs_more}

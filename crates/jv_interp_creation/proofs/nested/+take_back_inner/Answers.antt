@@ -1,6 +1,6 @@
 use Rattle.std.proofs.Common.{◌≡◌, ℕ, ◌*◌, ◌<◌, ◌≤◌, List, length, drop, get_or, refl, sym, ap, subst, ◌∙◌, arith, length-drop}
 use Rattle.jv_heap.specs.Content.{words_at, without}
-use Rattle.jv_interp_objects.proofs.NewWords.{joined_length}
+use Rattle.jv_interp_memory.proofs.NewWords.{joined_length}
 use Rattle.jv_interp_creation.specs.NestedBlocks.{nested_cost, inner_size}
 use Rattle.jv_interp_creation.proofs.TextJoined.{newest_address, taken_back}
 use Rattle.jv_interp_creation.proofs.Following.{cost_parts, inner_words, one_at_least, one_less}

@@ -1,5 +1,5 @@
 use Rattle.std.proofs.Common.{◌≡◌, ℕ, ◌+◌, ◌-◌, ◌<◌, [], ◌∷◌, length, refl, sym, ap, subst, get_or, arith}
-use Rattle.jv_interp_objects.specs.ObjectsInBlocks.{Blocks}
+use Rattle.jv_interp_memory.specs.ObjectsInBlocks.{Blocks}
 use Rattle.jv_interp_memory.specs.Executing.{place}
 use Rattle.jv_interp_creation.proofs.StoredIn.{one_above}
 use Rattle.jv_interp_creation.proofs.StoredThere.{below_one, all_there, null_raises, in_array, count_word, block_size, few_values, outside_raises, word_stored}

@@ -1,8 +1,8 @@
 use Rattle.std.proofs.Common.{◌≡◌, ℕ, ◌+◌, ◌-◌, ◌*◌, ◌<◌, List, [], ◌∷◌, length, refl, sym, ap, subst, ◌∙◌, get_or, arith}
 use Rattle.std.proofs.lemmas.List.{length-set}
 use Rattle.jv_heap.specs.Content.{words_at, written}
-use Rattle.jv_interp_objects.specs.ObjectsInBlocks.{Blocks}
-use Rattle.jv_interp_objects.proofs.Changed.{word_written}
+use Rattle.jv_interp_memory.specs.ObjectsInBlocks.{Blocks}
+use Rattle.jv_interp_memory.proofs.Changed.{word_written}
 use Rattle.jv_interp_memory.specs.Executing.{place}
 use Rattle.jv_interp_creation.proofs.StoredIn.{two_above}
 use Rattle.jv_interp_creation.proofs.StoredThere.{below_two, all_there, null_raises, in_array, count_word, block_size, few_values, outside_raises, long_stored}

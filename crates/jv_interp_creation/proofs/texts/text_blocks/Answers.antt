@@ -1,7 +1,7 @@
 use Rattle.std.proofs.Common.{List, ℕ, [], ◌∷◌, length, refl, sym, ap, ◌∙◌, arith}
 use Rattle.jv_heap.specs.Content.{words_at, greatest, without}
-use Rattle.jv_interp_objects.specs.ObjectsInBlocks.{Blocks}
-use Rattle.jv_interp_objects.proofs.NewWords.{joined_length}
+use Rattle.jv_interp_memory.specs.ObjectsInBlocks.{Blocks}
+use Rattle.jv_interp_memory.proofs.NewWords.{joined_length}
 use Rattle.jv_interp_creation.proofs.TextJoined.{newest_address, taken_back, can_fill, string_words, filled_joins}
 use Rattle.jv_interp_creation.proofs.texts.text_blocks.Goals as goal
 

@@ -1,6 +1,6 @@
 use Rattle.std.proofs.Common.{refl}
 use Rattle.jv_code.specs.declared.kinds.NumberElement.TheVariants as numbers
-use Rattle.jv_interp_objects.specs.declared.narrowing.Narrowing.TheVariants as narrowings
+use Rattle.jv_interp_memory.specs.declared.narrowing.Narrowing.TheVariants as narrowings
 use Rattle.jv_interp_execution.proofs.ArraysStored.{keeps_int, keeps_long, keeps_char, keeps_short, stored, byte_stored}
 use Rattle.jv_interp_execution.proofs.array_stores.execute_array_store.Goals as goal
 

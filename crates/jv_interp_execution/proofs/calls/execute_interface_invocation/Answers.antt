@@ -1,6 +1,6 @@
 use Rattle.std.proofs.Common.{refl}
 use Rattle.jv_code.specs.declared.insn.Insn.TheVariants as insns
-use Rattle.jv_interp_types.specs.of_link.declared.site.Use.TheVariants as uses
+use Rattle.jv_interp_creation.specs.of_link.declared.site.Use.TheVariants as uses
 use Rattle.jv_interp_execution.proofs.CallsMade.{called}
 use Rattle.jv_interp_execution.proofs.calls.execute_interface_invocation.Goals as goal
 

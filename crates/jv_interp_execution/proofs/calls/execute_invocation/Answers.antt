@@ -1,7 +1,7 @@
 use Rattle.std.proofs.Common.{ℕ, List, subst}
 use Rattle.jv_code.specs.declared.insn.Insn.TheVariants as insns
 use Rattle.jv_code.specs.declared.kinds.Invocation.{Invocation}
-use Rattle.jv_interp_types.specs.of_interp_calls.Known.{known}
+use Rattle.jv_interp_creation.specs.of_interp_calls.Known.{known}
 use Rattle.jv_interp_execution.specs.InGuest.{CanExecuteAt}
 use Rattle.jv_interp_execution.proofs.calls.execute_invocation.Goals as goal
 

@@ -1,7 +1,7 @@
 use Rattle.std.proofs.Common.{refl}
 use Rattle.jv_code.specs.declared.insn.Insn.TheVariants as insns
 use Rattle.jv_code.specs.declared.kinds.Invocation.TheVariants as invocations
-use Rattle.jv_interp_types.specs.of_link.declared.site.Use.TheVariants as uses
+use Rattle.jv_interp_creation.specs.of_link.declared.site.Use.TheVariants as uses
 use Rattle.jv_interp_execution.proofs.CallsMade.{can_call, called}
 use Rattle.jv_interp_memory.proofs.Unmoved.{stays_unmoved}
 use Rattle.jv_interp_execution.proofs.calls.execute_invokevirtual.Goals as goal

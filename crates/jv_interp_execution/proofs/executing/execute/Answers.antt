@@ -1,6 +1,6 @@
 use Rattle.std.proofs.Common.{refl}
 use Rattle.std.proofs.lemmas.Result.{IfOk-weaker}
-use Rattle.jv_interp_types.specs.of_interp_calls.Known.{known}
+use Rattle.jv_interp_creation.specs.of_interp_calls.Known.{known}
 use Rattle.jv_interp_execution.proofs.AllInstructions.{can_at, settled, keys_kept, works_else}
 use Rattle.jv_interp_execution.proofs.Grown.{executed_on_words, guests}
 use Rattle.jv_interp_execution.proofs.TypesNamed.{instance_asked, cast_asked, thrown, reference_stored, object_made, array_made, arrays_made}

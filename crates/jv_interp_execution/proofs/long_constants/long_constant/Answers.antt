@@ -5,7 +5,7 @@ use Rattle.std.proofs.Common.{◌≡◌, ◌∙◌, ℕ, List, Some, None, sym, 
 use Rattle.jv_pool.specs.Constants.{Entry, long_at}
 use Rattle.jv_interp_words.specs.ValuesInWords.{long_of}
 use Rattle.jv_meaning_world.specs.World.{Loaded, World}
-use Rattle.jv_interp_types.proofs.laws_of_interp_methods.InTexts.{pool_of}
+use Rattle.jv_interp_creation.proofs.laws_of_interp_calls.InTexts.{pool_of}
 use Rattle.jv_interp_execution.proofs.long_constants.long_constant.Goals as goal
 
 pub returns-in-Some-long_index : goal.returns-in-Some-long_index

@@ -5,7 +5,7 @@ use Rattle.std.proofs.Common.{◌≡◌, ◌∙◌, ℕ, ℤ, List, Some, None, 
 use Rattle.jv_pool.specs.Constants.{Entry, at_index, string_at, integer_at}
 use Rattle.jv_meaning_world.specs.World.{Loaded, World}
 use Rattle.jv_meaning_machine.specs.Literals.{pushed_constant}
-use Rattle.jv_interp_types.proofs.laws_of_interp_methods.InTexts.{pool_of}
+use Rattle.jv_interp_creation.proofs.laws_of_interp_calls.InTexts.{pool_of}
 use Rattle.jv_interp_execution.specs.declared.pool_constants.PoolConstant.TheVariants as pushed
 use Rattle.jv_interp_execution.specs.PoolConstants.{IsPushed}
 use Rattle.jv_interp_execution.proofs.Constants.{string_pushed, int_pushed, none_pushed}

@@ -1,5 +1,5 @@
 use Rattle.std.proofs.Common.{List, ℕ, sym, ap, ◌∙◌}
-use Rattle.jv_interp_methods.proofs.laws_of_classes.Told.{stands_at}
+use Rattle.jv_classes.proofs.Told.{stands_at}
 use Rattle.jv_meaning_machine.specs.Objects.{is_at_or_below}
 use Rattle.jv_interp_frames.proofs.ClassesAbove.{found_is_named, by_no_number}
 use Rattle.jv_interp_frames.proofs.classes.is_at_or_below_name.Goals as goal

@@ -4,7 +4,7 @@ use Rattle.jv_meaning_world.specs.World.{World}
 use Rattle.jv_meaning_world.specs.Numbers.{HoldsAtBoth}
 use Rattle.jv_meaning_machine.specs.Objects.{is_at_or_below}
 use Rattle.jv_interp_memory.specs.declared.held.Held.{Held}
-use Rattle.jv_interp_methods.specs.of_linked.Linked.{IsLinked}
+use Rattle.jv_interp_calls.specs.of_linked.Linked.{IsLinked}
 use Rattle.jv_interp_frames.specs.Exceptions.{IsMade}
 use Rattle.jv_interp_frames.proofs.Replacements.{class_within, error_within, is_test, known_error, stays, replaced_by, word_there, new_word}
 use Rattle.jv_interp_frames.proofs.throwing.replaced.Goals as goal

@@ -5,9 +5,9 @@ use Rattle.jv_heap.specs.Content.{words_at, greatest, without}
 use Rattle.jv_heap.proofs.Contents.{without-append}
 use Rattle.jv_heap.proofs.LookUps.{greatest-append_above}
 use Rattle.jv_meaning_world.specs.World.{World}
-use Rattle.jv_interp_methods.specs.of_linked.Linked.{IsLinked}
-use Rattle.jv_interp_objects.specs.ObjectsInBlocks.{Blocks}
-use Rattle.jv_interp_objects.proofs.NewWords.{joined_words}
+use Rattle.jv_interp_calls.specs.of_linked.Linked.{IsLinked}
+use Rattle.jv_interp_memory.specs.ObjectsInBlocks.{Blocks}
+use Rattle.jv_interp_memory.proofs.NewWords.{joined_words}
 use Rattle.jv_interp_memory.specs.declared.held.Held.{Held}
 use Rattle.jv_interp_frames.specs.Exceptions.{IsMade}
 use Rattle.jv_interp_frames.specs.Standing.{kept, Moved}

@@ -2,7 +2,7 @@ use Rattle.std.proofs.Common.{◌≡◌, ℕ, List, ◌++◌, length, sym, refl,
 use Rattle.std.specs.Prelude.{take, drop, ◌-◌}
 use Rattle.std.specs.Vec.{with_items}
 use Rattle.std.proofs.Math.Seq.{take-append_seam}
-use Rattle.jv_interp_actions.specs.of_interp_steps.Running.{CanRun, RunsTo}
+use Rattle.jv_interp_words.specs.Running.{CanRun, RunsTo}
 use Rattle.jv_interp_runs.proofs.alone.run_alone.Goals as goal
 
 pub run_in_words-left-requires : goal.run_in_words-left-requires

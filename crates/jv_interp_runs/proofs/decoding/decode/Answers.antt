@@ -1,8 +1,8 @@
 use Rattle.std.proofs.Common.{sym, ap, ◌∙◌, Some}
 use Rattle.jv_code.proofs.StartLaws.{OneAtOffset-holds}
-use Rattle.jv_interp_actions.proofs.laws_of_interp_frames.NextFound.{is_code, some_bytes, known_bytes, stands_there, next_is}
-use Rattle.jv_interp_actions.proofs.laws_of_interp_frames.BodyStands.{number_within}
-use Rattle.jv_interp_actions.proofs.laws_of_interp_frames.Entered.{is_entered}
+use Rattle.jv_interp_frames.proofs.NextFound.{is_code, some_bytes, known_bytes, stands_there, next_is}
+use Rattle.jv_interp_frames.proofs.BodyStands.{number_within}
+use Rattle.jv_interp_frames.proofs.Entered.{is_entered}
 use Rattle.jv_interp_runs.specs.Inside.Decoding.{record_at}
 use Rattle.jv_interp_runs.proofs.CodeRules.{keeps_rules}
 use Rattle.jv_interp_runs.proofs.decoding.decode.Goals as goal

@@ -1,5 +1,5 @@
 use Rattle.std.proofs.Common.{◌≡◌, ℕ, ◌+◌, get_or, subst, arith}
-use Rattle.jv_interp_actions.proofs.laws_of_interp_steps.OpcodesStand.{half_spelled}
+use Rattle.jv_interp_words.proofs.OpcodesStand.{half_spelled}
 use Rattle.jv_interp_runs.proofs.decoding.index_behind.Goals as goal
 
 pub returns-clause-stands : goal.returns-clause-stands

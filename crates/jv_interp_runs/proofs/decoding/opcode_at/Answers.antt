@@ -1,6 +1,6 @@
 use Rattle.std.proofs.Common.{◌∷◌, get_or, refl, arith}
 use Rattle.jv_code.proofs.OperandLaws.{has_room, operands_there}
-use Rattle.jv_interp_actions.proofs.laws_of_interp_steps.OpcodesStand.{byte_stands}
+use Rattle.jv_interp_words.proofs.OpcodesStand.{byte_stands}
 use Rattle.jv_interp_runs.proofs.decoding.opcode_at.Goals as goal
 
 pub returns-clause-stands : goal.returns-clause-stands

@@ -1,7 +1,7 @@
 use Rattle.std.proofs.Common.{sym, ap, ◌∙◌, Some}
-use Rattle.jv_interp_actions.proofs.laws_of_interp_frames.NextFound.{is_code}
-use Rattle.jv_interp_actions.proofs.laws_of_interp_frames.BodyStands.{number_within}
-use Rattle.jv_interp_actions.proofs.laws_of_interp_frames.Entered.{is_entered}
+use Rattle.jv_interp_frames.proofs.NextFound.{is_code}
+use Rattle.jv_interp_frames.proofs.BodyStands.{number_within}
+use Rattle.jv_interp_frames.proofs.Entered.{is_entered}
 use Rattle.jv_interp_runs.specs.Inside.Decoding.{record_at}
 use Rattle.jv_interp_runs.proofs.decoding.site_of.Goals as goal
 

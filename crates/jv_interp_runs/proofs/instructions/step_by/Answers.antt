@@ -6,9 +6,9 @@ use Rattle.jv_interp_memory.specs.declared.effect.Effect.{Effect}
 use Rattle.jv_interp_memory.specs.declared.effect.Effect.TheVariants as effects
 use Rattle.jv_interp_memory.specs.Executing.{Place, place}
 use Rattle.jv_code.specs.Insns.{instruction_of}
-use Rattle.jv_interp_actions.specs.of_interp_calls.Known.{known}
+use Rattle.jv_interp_frames.specs.of_interp_calls.Known.{known}
 use Rattle.jv_interp_execution.specs.InGuest.{ExecutedAt}
-use Rattle.jv_interp_actions.proofs.Acts.{runs_on}
+use Rattle.jv_interp_frames.proofs.Acts.{runs_on}
 use Rattle.jv_interp_runs.proofs.Refused.{still, both, frames_then}
 use Rattle.jv_interp_runs.proofs.Executed.{decoded_in, can_execute, did, acting, stepped, cells_after}
 use Rattle.jv_interp_runs.proofs.instructions.step_by.Goals as goal

@@ -1,5 +1,5 @@
 use Rattle.std.proofs.Common.{◌≡◌, ℕ, ◌+◌, ◌-◌, ◌++◌, refl, subst, ◌∙◌, arith}
-use Rattle.jv_interp_actions.specs.of_interp_frames.Standing.{kept}
+use Rattle.jv_interp_frames.specs.Standing.{kept}
 use Rattle.jv_interp_runs.specs.Running.{Ran}
 use Rattle.jv_interp_runs.proofs.Records.{can_resume, resuming, runs_in, moves, next, takes, stands_refused, as_before_twice, some_there, none_there, some_frames, fewer}
 use Rattle.jv_interp_runs.proofs.Runs.{ran_not, from_now, ran_then, ran_again, ran_kept, ran_one}

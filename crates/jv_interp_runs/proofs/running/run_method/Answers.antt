@@ -1,5 +1,5 @@
 use Rattle.std.proofs.Common.{◌≡◌, ℕ, suc, Bool, ◌+◌, ◌-◌, ◌++◌, refl, subst, ◌∙◌, arith}
-use Rattle.jv_interp_actions.specs.of_interp_frames.Standing.{kept}
+use Rattle.jv_interp_frames.specs.Standing.{kept}
 use Rattle.jv_interp_runs.specs.Stepping.{SteppedTo}
 use Rattle.jv_interp_runs.specs.Running.{RanOn, Ran}
 use Rattle.jv_interp_runs.proofs.Records.{can_suspend, stands, runs_again}

@@ -1,6 +1,6 @@
 use Rattle.std.proofs.Common.{◌≡◌, ◌+◌, ◌-◌, ◌≤◌}
-use Rattle.jv_interp_actions.specs.of_linked.Linked.{IsLinked}
-use Rattle.jv_interp_actions.specs.of_interp_frames.Standing.{kept}
+use Rattle.jv_interp_frames.specs.of_linked.Linked.{IsLinked}
+use Rattle.jv_interp_frames.specs.Standing.{kept}
 use Rattle.jv_interp_runs.specs.Running.{RanOnTo}
 use Rattle.jv_interp_runs.proofs.running.run_method.Given as goal
 

@@ -1,4 +1,4 @@
-use Rattle.jv_meaning_machine.specs.of_code.declared.kinds.NumberKind.TheVariants as numbers
+use Rattle.jv_code.specs.declared.kinds.NumberKind.TheVariants as numbers
 use Rattle.jv_meaning_machine.specs.Arithmetic.{compared}
 use Rattle.jv_interp_words.proofs.Computed.{two_computed}
 use Rattle.jv_interp_words.proofs.computing.compare_longs.Goals as goal

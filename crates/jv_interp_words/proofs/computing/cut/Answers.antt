@@ -1,6 +1,6 @@
 use Rattle.std.specs.Int.{w32, w64, cast_signed, cast_unsigned}
 use Rattle.std.proofs.Common.{◌%◌}
-use Rattle.jv_meaning_machine.specs.of_code.declared.kinds.NumberKind.TheVariants as numbers
+use Rattle.jv_code.specs.declared.kinds.NumberKind.TheVariants as numbers
 use Rattle.jv_interp_words.proofs.Computed.{one_converted}
 use Rattle.jv_interp_words.proofs.computing.cut.Goals as goal
 

@@ -1,5 +1,5 @@
 use Rattle.std.specs.Int.{w64, int_wrapping_neg}
-use Rattle.jv_meaning_machine.specs.of_code.declared.kinds.NumberKind.TheVariants as numbers
+use Rattle.jv_code.specs.declared.kinds.NumberKind.TheVariants as numbers
 use Rattle.jv_interp_words.proofs.Computed.{one_computed}
 use Rattle.jv_interp_words.proofs.computing.negate_long.Goals as goal
 

@@ -1,5 +1,5 @@
 use Rattle.std.specs.Int.{w32}
-use Rattle.jv_meaning_machine.specs.of_code.declared.kinds.NumberKind.TheVariants as numbers
+use Rattle.jv_code.specs.declared.kinds.NumberKind.TheVariants as numbers
 use Rattle.jv_meaning_machine.specs.Arithmetic.{shifted, places}
 use Rattle.jv_interp_words.proofs.Computed.{two_computed}
 use Rattle.jv_interp_words.proofs.computing.shift_ints.Goals as goal

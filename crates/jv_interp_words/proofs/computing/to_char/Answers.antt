@@ -1,4 +1,4 @@
-use Rattle.jv_meaning_machine.specs.of_code.declared.kinds.NumberKind.TheVariants as numbers
+use Rattle.jv_code.specs.declared.kinds.NumberKind.TheVariants as numbers
 use Rattle.jv_meaning_machine.specs.Values.{low_char}
 use Rattle.jv_interp_words.proofs.Computed.{one_converted}
 use Rattle.jv_interp_words.proofs.computing.to_char.Goals as goal

@@ -1,7 +1,7 @@
 use Rattle.std.proofs.Common.{ℤ, pos, ap, sym, ◌∙◌}
 use Rattle.std.specs.Int.{w32}
 use Rattle.std.specs.Ordering.{int_eq}
-use Rattle.jv_meaning_machine.specs.of_code.declared.kinds.NumberKind.TheVariants as numbers
+use Rattle.jv_code.specs.declared.kinds.NumberKind.TheVariants as numbers
 use Rattle.jv_meaning_machine.specs.Arithmetic.{divided}
 use Rattle.jv_interp_words.proofs.Computed.{known_again, two_done}
 use Rattle.jv_interp_words.proofs.division.divide_ints.Goals as goal

@@ -1,5 +1,5 @@
 use Rattle.std.proofs.Common.{refl}
-use Rattle.jv_meaning_machine.specs.of_code.declared.kinds.StackForm.TheVariants as forms
+use Rattle.jv_code.specs.declared.kinds.StackForm.TheVariants as forms
 use Rattle.jv_interp_words.proofs.Rearranged.{rearranges, one_on, two_on}
 use Rattle.jv_interp_words.proofs.forms.dup2_x2.Goals as goal
 

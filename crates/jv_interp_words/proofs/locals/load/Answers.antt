@@ -1,5 +1,5 @@
 use Rattle.std.proofs.Common.{ℕ, ◌+◌, ◌<◌, ◌∷◌, reverse, get_or, ap, subst, ◌∙◌, arith}
-use Rattle.jv_meaning_machine.specs.of_code.declared.kinds.ValueKind.{ValueKind}
+use Rattle.jv_code.specs.declared.kinds.ValueKind.{ValueKind}
 use Rattle.jv_interp_words.specs.FramesInWords.{in_use}
 use Rattle.jv_interp_words.specs.Inside.Locals.{Loads}
 use Rattle.jv_interp_words.proofs.InUse.{length-in_use}

@@ -1,8 +1,8 @@
 use Rattle.std.proofs.Common.{◌≡◌, ◌∙◌, ◌+◌, ◌-◌, suc, length, Option, Some, sym, subst, arith}
-use Rattle.jv_names.specs.Ways.{IsBelowSize}
+use Rattle.jv_classes.specs.Ways.{IsBelowSize}
 use Rattle.jv_meaning_world.specs.World.{Loaded}
 use Rattle.jv_meaning_world.specs.Overriding.{Declared, alike_in}
-use Rattle.jv_loader.proofs.laws_of_classes.Followed.{some_class}
+use Rattle.jv_classes.proofs.Followed.{some_class}
 use Rattle.jv_loader.proofs.laws_of_lookups.Chain.{Climbs, climb_start, climb_on, climb_found, climb_end}
 use Rattle.jv_loader.proofs.laws_of_lookups.Standing.{method_stands}
 use Rattle.jv_link.proofs.chain.superclass_alike.Goals as goal

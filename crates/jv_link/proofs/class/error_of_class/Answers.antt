@@ -1,6 +1,6 @@
 use Rattle.std.proofs.Common.{◌∙◌, ap, sym}
 use Rattle.std.specs.Option.{option_and_then}
-use Rattle.jv_meaning_linking.specs.ClassResolution.{loading_error}
+use Rattle.jv_meaning_typing.specs.ClassResolution.{loading_error}
 use Rattle.jv_link.proofs.Loadable.{loadable_is_right, error_by_supers}
 use Rattle.jv_link.proofs.class.error_of_class.Goals as goal
 

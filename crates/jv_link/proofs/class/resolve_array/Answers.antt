@@ -1,6 +1,6 @@
 use Rattle.std.proofs.Common.{◌∙◌, ap, sym, Some}
 use Rattle.jv_text.specs.Seen.{seen_field_type}
-use Rattle.jv_meaning_linking.specs.ClassResolution.{resolve_array}
+use Rattle.jv_meaning_typing.specs.ClassResolution.{resolve_array}
 use Rattle.jv_link.proofs.Operands.{no_type}
 use Rattle.jv_link.proofs.class.resolve_array.Goals as goal
 

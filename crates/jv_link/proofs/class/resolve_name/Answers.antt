@@ -1,11 +1,11 @@
 use Rattle.std.proofs.Common.{◌∙◌, ap, sym, Some}
 use Rattle.jv_meaning_world.specs.World.{can_name}
 use Rattle.std.specs.Option.{ok_or}
-use Rattle.jv_loader.proofs.laws_of_classes.Told.{stands_at}
+use Rattle.jv_classes.proofs.Told.{stands_at}
 use Rattle.jv_loader.proofs.laws_of_lookups.Chain.{not_named}
-use Rattle.jv_meaning_linking.specs.LinkErrors.{◌>>=◌, provided, unless_wrong}
-use Rattle.jv_meaning_linking.specs.LinkErrors.LinkError.{NoClassDefFoundError, IllegalAccessError}
-use Rattle.jv_meaning_linking.specs.ClassResolution.{error_of_class}
+use Rattle.jv_meaning_typing.specs.LinkErrors.{◌>>=◌, provided, unless_wrong}
+use Rattle.jv_meaning_typing.specs.LinkErrors.LinkError.{NoClassDefFoundError, IllegalAccessError}
+use Rattle.jv_meaning_typing.specs.ClassResolution.{error_of_class}
 use Rattle.jv_link.proofs.class.resolve_name.Goals as goal
 
 pub returns-in_default-clause-found : goal.returns-in_default-clause-found

@@ -1,5 +1,5 @@
 use Rattle.std.proofs.Common.{◌<◌, ◌∙◌, length, subst, sym}
-use Rattle.jv_loader.proofs.laws_of_classes.Followed.{some_class}
+use Rattle.jv_classes.proofs.Followed.{some_class}
 use Rattle.jv_link.specs.Inside.Climbing.{upward_of, numbered}
 use Rattle.jv_link.proofs.Upward.{Climbs, next_below, next_straight, fewer, climbs_on, climbs_sure, climbs_open, climbs_far}
 use Rattle.jv_link.proofs.climbing.climb.Goals as goal

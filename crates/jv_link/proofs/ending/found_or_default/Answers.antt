@@ -3,7 +3,7 @@ use Rattle.std.specs.Prelude.{IfSome}
 use Rattle.std.specs.Option.{option_and_then}
 use Rattle.jv_loader.specs.of_lookups.Places.{method_at, IsMethodPlace}
 use Rattle.jv_loader.proofs.laws_of_lookups.Standing.{method_stands}
-use Rattle.jv_meaning_linking.specs.Selection.{found_or_default}
+use Rattle.jv_meaning_typing.specs.Selection.{found_or_default}
 use Rattle.jv_link.proofs.ending.found_or_default.Goals as goal
 
 pub returns-in-Some-clause-found : goal.returns-in-Some-clause-found

@@ -1,5 +1,5 @@
 use Rattle.std.proofs.Common.{◌≡◌, ◌∙◌, ◌-◌, suc, sym, arith, length}
-use Rattle.jv_loader.proofs.laws_of_classes.Followed.{some_class}
+use Rattle.jv_classes.proofs.Followed.{some_class}
 use Rattle.jv_meaning_world.specs.Numbers.{classes_at}
 use Rattle.jv_loader.proofs.laws_of_lookups.Among.{among}
 use Rattle.jv_loader.proofs.laws_of_lookups.Next.{next_below}

@@ -1,11 +1,11 @@
 use Rattle.std.proofs.Common.{◌≡◌, ◌∙◌, ap, subst, arith, length}
 use Rattle.std.specs.List.{fold}
 use Rattle.jv_meaning_world.specs.Numbers.{HoldsAtNumber}
-use Rattle.jv_loader.proofs.laws_of_classes.Followed.{some_class}
+use Rattle.jv_classes.proofs.Followed.{some_class}
 use Rattle.jv_meaning_world.specs.Numbers.{classes_at}
 use Rattle.jv_loader.specs.of_lookups.Inside.Numbers.{NumbersBelow}
 use Rattle.jv_loader.proofs.laws_of_lookups.Next.{next_below}
-use Rattle.jv_meaning_linking.specs.InitializationOrder.{interfaces_in, given_within}
+use Rattle.jv_meaning_typing.specs.InitializationOrder.{interfaces_in, given_within}
 use Rattle.jv_link.proofs.GivenSoFar.{gives_with, gives_without, all_given}
 use Rattle.jv_link.proofs.giving.enumerated.Goals as goal
 use Rattle.jv_link.proofs.giving.enumerated.Goals.{in-Some+in_ok-give, in_default}

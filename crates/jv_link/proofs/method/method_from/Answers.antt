@@ -3,7 +3,7 @@ use Rattle.std.specs.Option.{option_map}
 use Rattle.jv_pool.specs.Seen.{seen_member}
 use Rattle.jv_meaning_world.specs.Numbers.{HoldsAtNumber}
 use Rattle.jv_loader.specs.of_lookups.Places.{method_at}
-use Rattle.jv_meaning_linking.specs.LinkErrors.{◌>>=◌}
+use Rattle.jv_meaning_typing.specs.LinkErrors.{◌>>=◌}
 use Rattle.jv_link.specs.Seen.{answer, answer_at, method_target_at}
 use Rattle.jv_link.specs.Inside.Steps.{looked_up, accessible_method}
 use Rattle.jv_link.proofs.Stepping.{goes_on}

@@ -1,7 +1,7 @@
 use Rattle.std.proofs.Common.{◌∙◌, ◌++◌, ◌∷◌, [], ap, sym, subst, length}
-use Rattle.jv_names.specs.Ways.{IsBelowSize}
-use Rattle.jv_loader.proofs.laws_of_classes.Told.{superclass_below}
-use Rattle.jv_loader.proofs.laws_of_classes.Followed.{some_class}
+use Rattle.jv_classes.specs.Ways.{IsBelowSize}
+use Rattle.jv_classes.proofs.Told.{superclass_below}
+use Rattle.jv_classes.proofs.Followed.{some_class}
 use Rattle.jv_meaning_world.specs.Numbers.{classes_at, AreNumbers}
 use Rattle.jv_link.proofs.Defaulting.{no_superclass, one_superclass, one_number}
 use Rattle.jv_link.proofs.order.superclass_first.Goals as goal

@@ -1,7 +1,7 @@
 use Rattle.std.proofs.Common.{sym, subst}
 use Rattle.std.specs.Prelude.{IsSome}
 use Rattle.jv_pool.specs.Constants.{field_reference_at}
-use Rattle.jv_loader.proofs.laws_of_classes.Followed.{some_class}
+use Rattle.jv_classes.proofs.Followed.{some_class}
 use Rattle.jv_link.proofs.Operands.{no_field}
 use Rattle.jv_link.proofs.reference.field_name.Goals as goal
 

@@ -1,6 +1,6 @@
 use Rattle.std.proofs.Common.{sym, subst}
 use Rattle.std.specs.Prelude.{IsSome}
-use Rattle.jv_loader.proofs.laws_of_classes.Followed.{some_class}
+use Rattle.jv_classes.proofs.Followed.{some_class}
 use Rattle.jv_link.specs.Inside.References.{method_operand_in}
 use Rattle.jv_link.proofs.Operands.{no_method}
 use Rattle.jv_link.proofs.reference.method_name.Goals as goal

@@ -2,10 +2,10 @@ use Rattle.std.proofs.Common.{◌∙◌, Some, ap, subst, sym, length}
 use Rattle.std.specs.Prelude.{slice_get, if◌then◌else◌}
 use Rattle.std.specs.Option.{unwrap_or}
 use Rattle.jv_format.specs.Format.{◌>>=◌}
-use Rattle.jv_names.specs.Ways.{IsBelowSize}
+use Rattle.jv_classes.specs.Ways.{IsBelowSize}
 use Rattle.jv_meaning_world.specs.Above.{superclass_in}
-use Rattle.jv_loader.proofs.laws_of_classes.Told.{superclass_below}
-use Rattle.jv_loader.proofs.laws_of_classes.Followed.{at_superclass, some_class}
+use Rattle.jv_classes.proofs.Told.{superclass_below}
+use Rattle.jv_classes.proofs.Followed.{at_superclass, some_class}
 use Rattle.jv_link.proofs.special.special_start.Goals as goal
 
 pub returns-in-Some-clause-start : goal.returns-in-Some-clause-start

@@ -1,5 +1,5 @@
 use Rattle.std.proofs.Common.{take}
-use Rattle.jv_names.specs.Inside.Kept.{texts_of}
+use Rattle.jv_classes.specs.Inside.KeptNames.{texts_of}
 use Rattle.jv_loader.specs.Inside.Files.{ArePut}
 use Rattle.jv_loader.proofs.entry.put_files.Given as goal
 

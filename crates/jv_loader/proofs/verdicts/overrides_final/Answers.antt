@@ -1,6 +1,6 @@
 use Rattle.std.proofs.Common.{sym, subst}
 use Rattle.jv_lookups.specs.Finals.{AreUnlike}
-use Rattle.jv_lookups.proofs.laws_of_classes.Followed.{some_class}
+use Rattle.jv_classes.proofs.Followed.{some_class}
 use Rattle.jv_loader.proofs.Unlike.{are_unlike}
 use Rattle.jv_loader.proofs.verdicts.overrides_final.Goals as goal
 

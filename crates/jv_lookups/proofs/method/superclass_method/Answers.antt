@@ -1,5 +1,5 @@
 use Rattle.std.proofs.Common.{◌≡◌, ◌∙◌, ◌+◌, ◌-◌, suc, length, Some, sym, subst, arith}
-use Rattle.jv_names.specs.Ways.{IsBelowSize}
+use Rattle.jv_classes.specs.Ways.{IsBelowSize}
 use Rattle.jv_meaning_world.specs.LookUps.{method_in}
 use Rattle.jv_classes.proofs.Followed.{some_class}
 use Rattle.jv_lookups.proofs.Chain.{Climbs, climb_start, climb_on, climb_found, climb_end}

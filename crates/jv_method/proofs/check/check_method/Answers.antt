@@ -3,10 +3,10 @@ use Rattle.std.specs.Prelude.{IfOk}
 use Rattle.jv_class_structure.specs.Parts.{CodeSeen}
 use Rattle.jv_class_structure.specs.Seen.{seen_code, seen_method}
 use Rattle.jv_code.specs.Places.{IsCode}
-use Rattle.jv_meaning_linking.specs.Uses.{Site}
+use Rattle.jv_meaning_typing.specs.Uses.{Site}
 use Rattle.jv_meaning_typing.specs.declared.verdict.VerifyRule.TheVariants as rules
 use Rattle.jv_meaning_typing.specs.Typing.{argument_words}
-use Rattle.jv_method_pass.specs.of_constants.PoolTypes.{typed_call}
+use Rattle.jv_method_pass.specs.of_types.PoolTypes.{typed_call}
 use Rattle.jv_method.specs.Judged.{IsVerdictOnMethod}
 use Rattle.jv_method.proofs.Environments.{environment, same_body}
 use Rattle.jv_method.proofs.Judging.{breaks_code, judged_at_start}

@@ -4,7 +4,7 @@ use Rattle.jv_class_structure.specs.Seen.{seen_code, seen_method}
 use Rattle.jv_frames.specs.Types.{words}
 use Rattle.jv_method_pass.specs.of_types.Typed.{typed_all}
 use Rattle.jv_method_pass.specs.of_types.Numbered.{Item}
-use Rattle.jv_method_pass.specs.of_constants.Current.{CurrentClass}
+use Rattle.jv_method_pass.specs.of_types.Current.{CurrentClass}
 use Rattle.jv_method.specs.Judged.{IsVerdictOnMethod}
 use Rattle.jv_method.proofs.Environments.{has_room, of_read, read_in}
 use Rattle.jv_method.proofs.check.check_typed.Goals as goal

@@ -2,7 +2,7 @@ use Rattle.std.proofs.Common.{List, sym, ap, ◌∙◌}
 use Rattle.std.specs.Option.{option_map}
 use Rattle.jv_pool.specs.Constants.{Entry}
 use Rattle.jv_method_pass.specs.of_types.Typed.{TypeWorld}
-use Rattle.jv_method_pass.specs.of_constants.PoolTypes.{call_types_at, typed_call}
+use Rattle.jv_method_pass.specs.of_types.PoolTypes.{call_types_at, typed_call}
 use Rattle.jv_method.proofs.Environments.{said}
 use Rattle.jv_method.proofs.known.known_types.Goals as goal
 

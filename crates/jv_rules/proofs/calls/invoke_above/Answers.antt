@@ -4,7 +4,7 @@ use Rattle.jv_meaning_typing.specs.MemberRules.{is_near, invoke_super}
 use Rattle.jv_types.specs.Typed.{TypeWorld, name_at, typed}
 use Rattle.jv_types.specs.Numbered.{frame_of}
 use Rattle.jv_types.specs.Outcomes.{IsOutcome}
-use Rattle.jv_constants.specs.Current.{CurrentClass}
+use Rattle.jv_types.specs.Current.{CurrentClass}
 use Rattle.jv_rules.specs.Operands.{IsMethod}
 use Rattle.jv_rules.proofs.Using.{of_class}
 use Rattle.jv_rules.proofs.Making.{class_named, not_above}

@@ -3,7 +3,7 @@ use Rattle.std.specs.List.{list_all}
 use Rattle.jv_meaning_world.specs.Flow.{flows}
 use Rattle.jv_meaning_typing.specs.Environment.{instruction_at}
 use Rattle.jv_meaning_typing.specs.MemberRules.{is_that_name, class_of_new, method_guard}
-use Rattle.jv_constants.specs.Operands.{HasPool}
+use Rattle.jv_types.specs.Operands.{HasPool}
 use Rattle.jv_rules.proofs.Using.{has_pool}
 use Rattle.jv_rules.proofs.Making.{is_made}
 use Rattle.jv_rules.proofs.constructors.constructs_new.Goals as goal

@@ -1,7 +1,7 @@
 use Rattle.std.proofs.Common.{◌≡◌, ◌∙◌, ◌||◌, List, ℕ, sym, ap}
 use Rattle.jv_meaning_typing.specs.MemberRules.{is_that_name}
 use Rattle.jv_types.specs.Typed.{name_at}
-use Rattle.jv_constants.specs.Current.{CurrentClass}
+use Rattle.jv_types.specs.Current.{CurrentClass}
 use Rattle.jv_rules.proofs.Using.{of_class}
 use Rattle.jv_rules.proofs.Making.{class_named, this_or_super}
 use Rattle.jv_rules.proofs.constructors.constructs_this.Goals as goal

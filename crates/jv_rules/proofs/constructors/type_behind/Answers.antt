@@ -2,7 +2,7 @@ use Rattle.std.proofs.Common.{◌≡◌, ◌∙◌, Some, true, sym, ap}
 use Rattle.jv_meaning_typing.specs.Named.{when, current_type}
 use Rattle.jv_meaning_typing.specs.MemberRules.{constructs_this, constructed_type}
 use Rattle.jv_types.specs.Typed.{typed}
-use Rattle.jv_constants.specs.Current.{CurrentClass}
+use Rattle.jv_types.specs.Current.{CurrentClass}
 use Rattle.jv_rules.proofs.Using.{of_class}
 use Rattle.jv_rules.proofs.constructors.type_behind.Goals as goal
 

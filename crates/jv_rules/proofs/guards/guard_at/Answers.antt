@@ -1,7 +1,7 @@
 use Rattle.std.proofs.Common.{◌≡◌, ◌∙◌, [], ◌∷◌, ap}
 use Rattle.jv_meaning_typing.specs.Named.{current_type, guard}
 use Rattle.jv_types.specs.Typed.{typed}
-use Rattle.jv_constants.specs.Current.{CurrentClass, IsOfClass}
+use Rattle.jv_types.specs.Current.{CurrentClass, IsOfClass}
 use Rattle.jv_rules.proofs.Using.{of_class, field_guarded, method_guarded}
 use Rattle.jv_rules.proofs.guards.guard_at.Goals as goal
 

@@ -1,6 +1,6 @@
 use Rattle.std.proofs.Common.{ap, sym, subst, ◌∙◌}
 use Rattle.jv_meaning_typing.specs.ValueRules.{return_nothing}
-use Rattle.jv_constants.specs.PoolTypes.{typed_result}
+use Rattle.jv_types.specs.PoolTypes.{typed_result}
 use Rattle.jv_types.specs.Numbered.{frame_of}
 use Rattle.jv_types.specs.Outcomes.{IsOutcome}
 use Rattle.jv_rules.proofs.returns.leave.Goals as goal

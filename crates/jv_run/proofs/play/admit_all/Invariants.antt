@@ -1,5 +1,5 @@
 use Rattle.std.proofs.Common.{◌≡◌, map, take}
-use Rattle.jv_host.specs.of_interp_start.Started.{budget_of}
+use Rattle.jv_host.specs.of_interp.Started.{budget_of}
 use Rattle.jv_run.specs.Inside.Brought.{named_guest_of}
 use Rattle.jv_run.specs.Inside.Play.{at_start}
 use Rattle.jv_run.specs.Outcome.{AreAllowed}

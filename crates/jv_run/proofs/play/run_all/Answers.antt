@@ -1,6 +1,6 @@
 use Rattle.std.proofs.Common.{map, length}
 use Rattle.std.proofs.lemmas.List.{length-map}
-use Rattle.jv_host.specs.of_interp_start.Started.{budget_of}
+use Rattle.jv_host.specs.of_interp.Started.{budget_of}
 use Rattle.jv_run.specs.Inside.Brought.{named_guest_of}
 use Rattle.jv_run.specs.Outcome.{IsFeedingFailure}
 use Rattle.jv_run.proofs.Places.{passed_on}

@@ -4,8 +4,8 @@ use Rattle.jv_run.specs.declared.settings.RunSettings.{RunSettings}
 use Rattle.jv_run.specs.Bytes.{bytes_of}
 use Rattle.jv_run.specs.Named.{IsRunFailure}
 use Rattle.jv_run.proofs.Places.{passed_on}
-use Rattle.jv_settings.specs.Settings.{AskFor, IsAskedIn, texts_of}
-use Rattle.jv_settings.specs.Settings.Asked.{run}
+use Rattle.jv_status.specs.Settings.{AskFor, IsAskedIn, texts_of}
+use Rattle.jv_status.specs.Settings.Asked.{run}
 use Rattle.jv_status.specs.declared.stop.Stop.TheVariants.{Run}
 use Rattle.jv_status.specs.Command.{settings_of}
 use Rattle.jv_status.specs.Inside.Stops.{IsEarly}

@@ -1,5 +1,5 @@
 use Rattle.std.proofs.Common.{◌≡◌, ◌+◌, ◌-◌, suc, length, Some, sym, subst, arith}
-use Rattle.jv_names.specs.Ways.{IsBelowSize}
+use Rattle.jv_classes.specs.Ways.{IsBelowSize}
 use Rattle.jv_classes.proofs.Followed.{HasFollowed, follow_start, follow_step, follow_end, some_class}
 use Rattle.jv_classes.proofs.class_table.ClassTable.superclasses.Goals as goal
 

@@ -1,5 +1,5 @@
 use Rattle.std.proofs.Common.{◌≡◌, ◌∙◌, ap, sym, subst, ◌++◌, ◌∷◌, [], None}
-use Rattle.jv_names.specs.Names.{with_name}
+use Rattle.jv_classes.specs.Names.{with_name}
 use Rattle.jv_meaning_world.specs.Numbers.{number_named, IsNumbered, AreNoArrays}
 use Rattle.jv_classes.specs.Inside.Listed.{names_of}
 use Rattle.jv_classes.proofs.Listing.{new_name, numbered_more, no_arrays_more}

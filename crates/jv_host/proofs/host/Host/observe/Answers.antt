@@ -1,5 +1,5 @@
 use Rattle.std.proofs.Common.{◌≡◌, Some, None, List, map, length, ◌≤◌, slice_get, refl, sym, ap, subst, ◌∙◌}
-use Rattle.jv_interp.specs.of_interp_start.Started.{budget_of}
+use Rattle.jv_interp.specs.Started.{budget_of}
 use Rattle.jv_host.specs.declared.admission.Admitted.{Admitted}
 use Rattle.jv_host.specs.Files.{guest_of}
 use Rattle.jv_host.specs.Host.{Admission}

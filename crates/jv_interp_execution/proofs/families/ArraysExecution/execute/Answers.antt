@@ -1,4 +1,4 @@
-use Rattle.jv_interp_types.specs.of_interp_calls.Known.{known}
+use Rattle.jv_interp_creation.specs.of_interp_calls.Known.{known}
 use Rattle.jv_interp_execution.proofs.AllInstructions.{can_at, settled}
 use Rattle.jv_interp_execution.proofs.families.ArraysExecution.execute.Goals as goal
 

@@ -1,6 +1,6 @@
 use Rattle.std.proofs.Common.{refl}
 use Rattle.std.proofs.lemmas.Result.{IfOk-weaker}
-use Rattle.jv_interp_types.specs.of_interp_calls.Known.{known}
+use Rattle.jv_interp_creation.specs.of_interp_calls.Known.{known}
 use Rattle.jv_interp_execution.proofs.AllInstructions.{can_at, settled}
 use Rattle.jv_interp_execution.proofs.families.ConstantLoadsExecution.execute.Goals as goal
 

@@ -1,5 +1,5 @@
 use Rattle.std.proofs.lemmas.Result.{IfOk-weaker}
-use Rattle.jv_interp_types.specs.of_interp_calls.Known.{known}
+use Rattle.jv_interp_creation.specs.of_interp_calls.Known.{known}
 use Rattle.jv_interp_execution.proofs.AllInstructions.{settled}
 use Rattle.jv_interp_execution.proofs.TypesNamed.{instance_asked, cast_asked, reference_stored, object_made}
 use Rattle.jv_interp_execution.proofs.families.ObjectsExecution.execute.Goals as goal

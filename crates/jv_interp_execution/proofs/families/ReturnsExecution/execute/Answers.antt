@@ -1,4 +1,4 @@
-use Rattle.jv_interp_types.specs.of_interp_calls.Known.{known}
+use Rattle.jv_interp_creation.specs.of_interp_calls.Known.{known}
 use Rattle.jv_interp_execution.proofs.AllInstructions.{settled}
 use Rattle.jv_interp_execution.proofs.Done.{nothing_done}
 use Rattle.jv_interp_execution.proofs.Grown.{executed_on_words}

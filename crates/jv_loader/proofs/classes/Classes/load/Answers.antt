@@ -1,7 +1,7 @@
 use Rattle.std.proofs.Common.{◌∙◌, map, sym, ap, subst}
 use Rattle.std.specs.List.{All}
 use Rattle.jv_loader.specs.Loading.{AreLoaded}
-use Rattle.jv_names.specs.Inside.Kept.{texts_of}
+use Rattle.jv_classes.specs.Inside.KeptNames.{texts_of}
 use Rattle.jv_loader.specs.Inside.Files.{IsOfFiles, IsPlace, verdict_of_entry}
 use Rattle.jv_loader.proofs.Whole.{alone, of_files, places, loaded_all}
 use Rattle.jv_loader.proofs.classes.Classes.load.Goals as goal

@@ -2,7 +2,7 @@ use Rattle.std.proofs.Common.{◌≡◌, ◌∙◌, ap, sym, subst, map, ◌++�
 use Rattle.std.specs.Prelude.{position, slice_get}
 use Rattle.std.specs.Str.{bytes_eq}
 use Rattle.std.proofs.lemmas.List.{map-append}
-use Rattle.jv_assign.specs.of_meaning_world.Numbers.{number_named}
+use Rattle.jv_meaning_world.specs.Numbers.{number_named}
 use Rattle.jv_types.specs.Typed.{TypeWorld}
 use Rattle.jv_types.specs.Inside.Kept.{AreDistinct}
 use Rattle.jv_types.proofs.Numbered.{joined, distinct_more, more_behind, last_one, goes_on_with}

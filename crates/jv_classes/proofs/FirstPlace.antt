@@ -1,0 +1,87 @@
+-- The first item of a list that passes a test, where one more joins behind.
+use Rattle.std.proofs.Common.{◌≡◌, ℕ, Bool, true, false, cond, List, [], ◌∷◌, ◌++◌, ◌||◌, ◌+◌, length, Some, refl, sym, ap, ◌∙◌, arith}
+use Rattle.std.specs.Prelude.{position, is_some}
+use Rattle.std.specs.HashMap.{HashMap, get_by}
+use Rattle.std.specs.List.{list_any, position_from}
+use Rattle.std.proofs.lemmas.Iterator.Adapters.{position_from-zero}
+use Rattle.jv_classes.specs.Inside.KeptNames.{AreFirstPlaces}
+
+neither : (a b : Bool) → (a || b) ≡ false → (a ≡ false) × (b ≡ false)
+neither true b e = absurd cc
+neither false b e = (refl, e)
+
+module _ {A : Type 0} (test : A → Bool) where
+  some_from : (i : ℕ) (xs : List A) → is_some (position_from test i xs) ≡ list_any test xs
+  some_from i [] = refl
+  some_from i (x ∷ xs) = by_test (test x) (some_from (i + 1) xs)
+    where
+      by_test : (b : Bool) → is_some (position_from test (i + 1) xs) ≡ list_any test xs → is_some (cond b (Some i) (position_from test (i + 1) xs)) ≡ (b || list_any test xs)
+      by_test true rest = refl
+      by_test false rest = rest
+
+  last_from : (i : ℕ) (xs : List A) (y : A) → list_any test xs ≡ false → test y ≡ true → position_from test i (xs ++ y ∷ []) ≡ Some (i + length xs)
+  last_from i [] y absent e = rw e (ap Some (omega arith))
+  last_from i (x ∷ xs) y absent e =
+      let others = neither (test x) (list_any test xs) absent in
+      ap (λ b. cond b (Some i) (position_from test (i + 1) (xs ++ y ∷ []))) others.0
+      ∙ (last_from (i + 1) xs y others.1 e ∙ ap Some (omega arith))
+
+  same_from : (i : ℕ) (xs : List A) (y : A) → test y ≡ false → position_from test i (xs ++ y ∷ []) ≡ position_from test i xs
+  same_from i [] y e = rw e refl
+  same_from i (x ∷ xs) y e = ap (cond (test x) (Some i)) (same_from (i + 1) xs y e)
+
+  first_from : (i : ℕ) (xs ys : List A) → list_any test xs ≡ true → position_from test i (xs ++ ys) ≡ position_from test i xs
+  first_from i [] ys there = absurd cc
+  first_from i (x ∷ xs) ys there = by_test (test x) refl (λ h. first_from (i + 1) xs ys h) there
+    where
+      by_test : (b : Bool) → test x ≡ b → (list_any test xs ≡ true → position_from test (i + 1) (xs ++ ys) ≡ position_from test (i + 1) xs)
+          → (test x || list_any test xs) ≡ true → cond (test x) (Some i) (position_from test (i + 1) (xs ++ ys)) ≡ cond (test x) (Some i) (position_from test (i + 1) xs)
+      by_test true e rest h = rw e refl
+      by_test false e rest h = ap (cond (test x) (Some i)) (rest (ap (λ b. b || list_any test xs) (sym e) ∙ h))
+
+  -- the first of some is the first of more
+  pub first_stays : (xs ys : List A) → list_any test xs ≡ true → position test (xs ++ ys) ≡ position test xs
+  first_stays xs ys there = position_from-zero test (xs ++ ys) ∙ (first_from 0 xs ys there ∙ sym (position_from-zero test xs))
+
+  pub some_place : (xs : List A) → is_some (position test xs) ≡ list_any test xs
+  some_place xs = ap is_some (position_from-zero test xs) ∙ some_from 0 xs
+
+  pub last_place : (xs : List A) (y : A) → list_any test xs ≡ false → test y ≡ true → position test (xs ++ y ∷ []) ≡ Some (length xs)
+  last_place xs y absent e = position_from-zero test (xs ++ y ∷ []) ∙ (last_from 0 xs y absent e ∙ ap Some (omega arith))
+
+  pub same_place : (xs : List A) (y : A) → test y ≡ false → position test (xs ++ y ∷ []) ≡ position test xs
+  same_place xs y e = position_from-zero test (xs ++ y ∷ []) ∙ (same_from 0 xs y e ∙ sym (position_from-zero test xs))
+
+-- ---- a map from keys to the first items that they find
+
+module _ {K A S : Type 0} (same : K → K → Bool) (finds : K → A → Bool) where
+  -- an item that joins behind the others, and has their count for its place
+  pub joined : (items : List A) (item : A) (key : K) (old new : HashMap K ℕ S) → AreFirstPlaces same finds items old
+      → ((other : K) → get_by (same other) new ≡ cond (same key other) (Some (length items)) (get_by (same other) old))
+      → ((other : K) → same key other ≡ true → (list_any (finds other) items ≡ false) × (finds other item ≡ true))
+      → ((other : K) → same key other ≡ false → finds other item ≡ false) → AreFirstPlaces same finds (items ++ item ∷ []) new
+  joined items item key old new known told found unlike other = by_test (same key other) refl
+    where
+      by_test : (b : Bool) → same key other ≡ b → get_by (same other) new ≡ position (finds other) (items ++ item ∷ [])
+      by_test true e =
+          let its = found other e in
+          told other
+          ∙ (ap (λ b. cond b (Some (length items)) (get_by (same other) old)) e ∙ sym (last_place (finds other) items item its.0 its.1))
+      by_test false e =
+          told other
+          ∙ (ap (λ b. cond b (Some (length items)) (get_by (same other) old)) e
+          ∙ (known other ∙ sym (same_place (finds other) items item (unlike other e))))
+
+  -- one that joins where its key is there already
+  pub joined_known : (items : List A) (item : A) (key : K) (places : HashMap K ℕ S) → AreFirstPlaces same finds items places
+      → is_some (get_by (same key) places) ≡ true → ((other : K) → same key other ≡ true → other ≡ key)
+      → ((other : K) → same key other ≡ false → finds other item ≡ false) → AreFirstPlaces same finds (items ++ item ∷ []) places
+  joined_known items item key places known there one unlike other = by_test (same key other) refl
+    where
+      by_test : (b : Bool) → same key other ≡ b → get_by (same other) places ≡ position (finds other) (items ++ item ∷ [])
+      by_test true e =
+          let is = one other e in
+          let any : list_any (finds other) items ≡ true =
+          sym (some_place (finds other) items) ∙ (ap is_some (sym (known other)) ∙ (ap (λ k. is_some (get_by (same k) places)) is ∙ there)) in
+          known other ∙ sym (first_stays (finds other) items (item ∷ []) any)
+      by_test false e = known other ∙ sym (same_place (finds other) items item (unlike other e))

@@ -1,6 +1,0 @@
-pub mod Current
-pub mod Inside
-pub mod Operands
-pub mod PoolTypes
-pub use Rattle.jv_link.specs as of_link
-pub use Rattle.jv_link.specs.of_loader

@@ -1,0 +1,114 @@
+//! What is kept of a guest before anything is begun.
+
+ghost use Rattle.std.specs.Prelude.{◌≡◌, ◌+◌, ◌≤◌, [], IfOk, IfSome, OnOk, OnErr, length};
+ghost use Rattle.jv_lookups.specs.Places.{IsMethodPlace};
+ghost use Rattle.jv_interp_frames.specs.of_linked.Linked.{IsLinked};
+ghost use Rattle.jv_interp_frames.specs.of_interp_calls.Methods.{AreMethods};
+ghost use Rattle.jv_interp_frames.specs.of_interp_calls.Texts.{AreTexts};
+ghost use Rattle.jv_interp.specs.Starting.{BothJoin};
+ghost use Rattle.jv_interp.specs.Started.{FirstFrames, FirstControl, FirstStands};
+
+use crate::budget::Budget;
+use crate::main_method::number_of;
+use crate::room::start_memory;
+use crate::states::start_states;
+use jv_heap::{Memory, Store};
+use jv_interp_frames::of_interp_calls::{Methods, Texts};
+use jv_interp_frames::of_linked::Linked;
+use jv_interp_frames::of_loader::{Classes, Place};
+use jv_interp_frames::{Control, End, Frames};
+use jv_interp_memory::Held;
+use std::alloc::{AllocError, Global};
+
+/// What is kept of a guest from its start on, beside the blocks of the store.
+#[derive(Drop)]
+pub struct Started {
+    pub frames: Frames,
+    pub control: Control,
+    pub held: Held,
+}
+
+/// No frames, with room for so many words of them, and for a record of each: a frame has four words at least.
+fn first_frames(alloc: Global, left: u32) -> Result<Frames, AllocError>
+    ensures { IfOk result (FirstFrames left) }
+{
+    let count = left as usize;
+    let words = vec![in alloc; 0; count]?;
+    let records = Vec::with_capacity(alloc, count / 4 + 1)?;
+    Ok(Frames {
+        words,
+        records,
+        top: 0,
+        left,
+    })
+}
+
+/// The control of a guest that runs, and whose main method is at a place, if it has one.
+fn first_control(
+    alloc: Global,
+    classes: &Classes<'_>,
+    methods: &Methods<'_>,
+    place: Option<Place>,
+) -> Result<Control, AllocError>
+    requires methods { AreMethods classes.now.world methods.now }
+    requires place { IfSome place (IsMethodPlace classes.now.world) }
+    ensures { IfOk result (FirstControl classes.now.world place) }
+{
+    let states = start_states(alloc, classes.table().count())?;
+    Ok(Control {
+        states,
+        throws: 0,
+        last: None,
+        main: number_of(methods, place),
+        end: End::Running,
+    })
+}
+
+/// All that is kept of a guest before anything is begun.
+///
+/// # Errors
+///
+/// Where the host had no memory for it; the store is then as it was.
+pub(crate) fn first_kept<S: Store>(
+    alloc: Global,
+    classes: &Classes<'_>,
+    linked: &Linked<'_>,
+    methods: &Methods<'_>,
+    texts: &Texts<'_>,
+    place: Option<Place>,
+    input: &[u8],
+    budget: Budget,
+    store: &mut S,
+) -> Result<Started, Memory>
+    requires linked { IsLinked classes.now.world linked.now }
+    requires methods { AreMethods classes.now.world methods.now }
+    requires texts { AreTexts classes.now.world texts.now }
+    requires place { IfSome place (IsMethodPlace classes.now.world) }
+    requires some { 4 ≤ budget.cells }
+    requires cells { budget.cells ≤ S.room_left store.old }
+    ensures stands { IfOk result (λ first.
+        FirstStands classes.now.world texts.now.names place input.now budget first (S.content store.new)) }
+    ensures made { IfOk result (λ first.
+        BothJoin first.held.out_of_memory first.held.arguments (S.content store.old) (S.content store.new)) }
+    ensures paid { IfOk result (λ first. first.held.cells + 4 ≡ budget.cells) }
+    ensures room { OnOk result (S.room_left store.new + 4 ≡ S.room_left store.old) }
+    ensures refused { OnErr result (S.content store.new ≡ S.content store.old) }
+    ensures refused_room { OnErr result (S.room_left store.new ≡ S.room_left store.old) }
+{
+    let frames = first_frames(alloc, budget.words)?;
+    let control = first_control(alloc, classes, methods, place)?;
+    let held = start_memory(
+        alloc,
+        linked.static_words(),
+        texts.names.count(),
+        input,
+        budget.cells,
+        budget.output,
+        store,
+    )?;
+    Ok(Started {
+        frames,
+        control,
+        held,
+    })
+}

@@ -1,0 +1,64 @@
+//! How a guest that has its memory begins (JVMS 5.2).
+
+ghost use Rattle.std.specs.Prelude.{◌≡◌, ◌+◌, ◌<◌, ◌≤◌, IfSome, OnOk, OnErr, length};
+ghost use Rattle.jv_lookups.specs.Places.{IsMethodPlace};
+ghost use Rattle.jv_interp_frames.specs.of_linked.Linked.{IsLinked};
+ghost use Rattle.jv_interp_frames.specs.of_interp_calls.Methods.{AreMethods};
+ghost use Rattle.jv_interp_frames.specs.Standing.{kept, CanMove, Moved};
+ghost use Rattle.jv_interp.specs.Opening.{Opening};
+
+use jv_heap::{Memory, Store};
+use jv_interp_frames::of_interp_calls::Methods;
+use jv_interp_frames::of_linked::Linked;
+use jv_interp_frames::of_loader::{Classes, Place};
+use jv_interp_frames::{Control, End, Frames, begin};
+use jv_interp_memory::Held;
+
+/// Begins the class of the main method, which is at a place; where there is none the guest has ended (own).
+///
+/// # Errors
+///
+/// Where the host had no memory for an exception that is thrown at once; all is then as it was.
+pub(crate) fn begin_main<S: Store>(
+    classes: &Classes<'_>,
+    linked: &Linked<'_>,
+    methods: &Methods<'_>,
+    verified: &[bool],
+    frames: &mut Frames,
+    control: &mut Control,
+    held: &mut Held,
+    store: &mut S,
+    place: Option<Place>,
+) -> Result<(), Memory>
+    requires can { CanMove classes.now.world (Opening place verified.now) (kept frames.old control.old held.old (S.content store.old)) }
+    requires linked { IsLinked classes.now.world linked.now }
+    requires methods { AreMethods classes.now.world methods.now }
+    requires place { IfSome place (IsMethodPlace classes.now.world) }
+    requires few_classes { length classes.now.world < 2147483648 }
+    requires few { held.old.cells < 2147483648 }
+    requires room { held.old.cells ≤ S.room_left store.old }
+    ensures begun { OnOk result (Moved classes.now.world (Opening place verified.now)
+        (kept frames.old control.old held.old (S.content store.old))
+        (kept frames.new control.new held.new (S.content store.new))) }
+    ensures fewer { held.new.cells ≤ held.old.cells }
+    ensures room { OnOk result (S.room_left store.old + held.new.cells ≡ S.room_left store.new + held.old.cells) }
+    ensures refused { OnErr result (held.new ≡ held.old) }
+    ensures refused_content { OnErr result (S.content store.new ≡ S.content store.old) }
+    ensures refused_room { OnErr result (S.room_left store.new ≡ S.room_left store.old) }
+{
+    let Some(place) = place else {
+        control.end = End::NoMain;
+        return Ok(());
+    };
+    begin(
+        classes,
+        linked,
+        methods,
+        verified,
+        frames,
+        control,
+        held,
+        store,
+        place.class as u32,
+    )
+}

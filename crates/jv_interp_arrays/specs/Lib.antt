@@ -1,2 +1,0 @@
-pub mod Loads
-pub use Rattle.jv_interp_going.specs as of_interp_going

@@ -1,7 +1,0 @@
-pub mod Inside
-pub mod Methods
-pub mod Texts
-pub use Rattle.jv_linked.specs.of_link
-pub use Rattle.jv_linked.specs as of_linked
-pub use Rattle.jv_linked.specs.of_loader
-pub use Rattle.jv_linked.specs.of_lookups

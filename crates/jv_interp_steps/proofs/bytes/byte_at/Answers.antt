@@ -1,5 +1,0 @@
-use Rattle.jv_interp_steps.proofs.OpcodesStand.{byte_stands}
-use Rattle.jv_interp_steps.proofs.bytes.byte_at.Goals as goal
-
-pub returns : goal.returns
-returns c = byte_stands c.args.code.now c.args.at c.requires

@@ -1,8 +1,0 @@
-use Rattle.std.proofs.Common.{◌+◌, arith}
-use Rattle.jv_interp_steps.proofs.OpcodesStand.{half_spelled}
-use Rattle.jv_interp_steps.proofs.bytes.half_at.Goals as goal
-
-pub returns : goal.returns
-returns c =
-    half_spelled c.args.code.now c.args.at c.from.result c.from-2.result c.requires
-    (omega (arith, c.type_inv.code (c.args.at + 1), c.from-2.ensures)) c.from.ensures c.from-2.ensures

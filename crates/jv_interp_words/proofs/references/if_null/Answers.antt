@@ -1,0 +1,23 @@
+use Rattle.std.proofs.Common.{ℤ, ◌-◌, sym, subst}
+use Rattle.std.proofs.lemmas.Int.{to_z-of_z}
+use Rattle.std.specs.Int.{w32}
+use Rattle.jv_interp_words.specs.declared.registers.Registers.{Registers}
+use Rattle.jv_interp_words.specs.Inside.Branches.{LeadsOn, BranchesTo}
+use Rattle.jv_interp_words.proofs.ReferencesWork.{null_leads, null_goes_on}
+use Rattle.jv_interp_words.proofs.references.if_null.Goals as goal
+
+pub branch-at-requires : goal.branch-at-requires
+branch-at-requires c =
+    let at = c.args.at.now in
+    subst (λ (z : ℤ). LeadsOn at.pc z c.meets-taken.result) (sym (to_z-of_z w32 c.args.distance c.ranges.distance))
+    (null_leads c.args.equality c.args.distance c.args.next at c.args.words.now _ c.top_word-a.result c.meets-taken.result c.requires
+    c.top_word-a.ensures c.meets-taken.ensures)
+
+pub returns-clause-went : goal.returns-clause-went
+returns-clause-went c =
+    let at = c.args.at.now in
+    let after : Registers = record at { pc = c.branch-at.result; top = at.top - 1 } in
+    null_goes_on c.args.equality c.args.distance c.args.next at after c.args.words.now c.top_word-a.result c.meets-taken.result
+    c.top_word-a.ensures c.meets-taken.ensures
+    (subst (λ (z : ℤ). BranchesTo at.pc z c.args.next c.meets-taken.result c.branch-at.result) (to_z-of_z w32 c.args.distance c.ranges.distance)
+    c.branch-at.ensures)

@@ -1,5 +1,0 @@
-use Rattle.jv_meaning_linking.proofs.Finals.{final_is_run}
-use Rattle.jv_meaning_linking.proofs.law.final_is_run.Goals as goal
-
-pub returns : goal.returns
-returns c = final_is_run c.above_by_ways.ensures c.above_is_transitive.ensures

@@ -1,5 +1,0 @@
-use Rattle.jv_meaning_linking.proofs.Searched.{init_order_is_above}
-use Rattle.jv_meaning_linking.proofs.law.init_order_is_above.Goals as goal
-
-pub returns : goal.returns
-returns c = λ world l s h. init_order_is_above c.above_by_ways.ensures c.above_is_transitive.ensures world l s h

@@ -1,5 +1,0 @@
-use Rattle.jv_meaning_linking.proofs.Places.{layout_extends}
-use Rattle.jv_meaning_linking.proofs.law.layout_extends.Goals as goal
-
-pub returns : goal.returns
-returns c = layout_extends c.above_by_ways.ensures c.above_is_transitive.ensures

@@ -1,5 +1,0 @@
-use Rattle.jv_meaning_linking.proofs.Resolved.{method_is_called}
-use Rattle.jv_meaning_linking.proofs.law.method_is_called.Goals as goal
-
-pub returns : goal.returns
-returns c = method_is_called c.above_by_ways.ensures c.above_is_transitive.ensures

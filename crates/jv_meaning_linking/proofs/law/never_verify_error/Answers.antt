@@ -1,5 +1,0 @@
-use Rattle.jv_meaning_linking.proofs.Errors.{never_verify_error}
-use Rattle.jv_meaning_linking.proofs.law.never_verify_error.Goals as goal
-
-pub returns : goal.returns
-returns c = never_verify_error

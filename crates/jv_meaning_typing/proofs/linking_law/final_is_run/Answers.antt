@@ -1,0 +1,5 @@
+use Rattle.jv_meaning_typing.proofs.Finals.{final_is_run}
+use Rattle.jv_meaning_typing.proofs.linking_law.final_is_run.Goals as goal
+
+pub returns : goal.returns
+returns c = final_is_run c.above_by_ways.ensures c.above_is_transitive.ensures

@@ -1,7 +1,0 @@
-use Rattle.std.proofs.Common.{◌≡◌, false}
-use Rattle.std.specs.Prelude.{replicate}
-use Rattle.jv_names.specs.Inside.Steps.{rows_of}
-use Rattle.jv_names.proofs.relation.Relation.new.Given as goal
-
-abbrev pub invariant-loop : goal.invariant-loop
-invariant-loop l = rows_of l.rows.items ≡ replicate l.counter (replicate l.size false)

@@ -1,9 +1,0 @@
-use Rattle.std.proofs.Common.{◌≡◌, length}
-use Rattle.std.specs.List.{All}
-use Rattle.jv_names.specs.Inside.Steps.{rows_of}
-use Rattle.jv_names.proofs.Ways.{Closing}
-use Rattle.jv_names.proofs.relation.close_rows.Given as goal
-
-abbrev pub invariant-loop-by : goal.invariant-loop-by
-invariant-loop-by l =
-    (length l.rows ≡ length l.fn.rows) × (length l.other ≡ length l.fn.rows) × All (λ row. length row.items ≡ length l.fn.rows) l.rows × Closing (rows_of l.fn.rows) (rows_of l.rows) l.by

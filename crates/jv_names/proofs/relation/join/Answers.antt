@@ -1,5 +1,0 @@
-use Rattle.std.proofs.Common.{rules}
-use Rattle.jv_names.proofs.relation.join.Goals as goal
-
-pub loop-to-preserved : goal.loop-to-preserved
-loop-to-preserved c = search rules

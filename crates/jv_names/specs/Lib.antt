@@ -1,4 +1,0 @@
-pub mod Ways
-pub mod Names
-pub mod Texts
-pub mod Inside

@@ -1,8 +1,0 @@
-//! The law of ways.
-
-ghost use Rattle.jv_names.specs.Ways.{ShortWays};
-
-/// What is reached at all is reached by way of fewer numbers than there are.
-pub fn short_ways()
-    ensures { ShortWays }
-{}

@@ -1,9 +1,0 @@
-pub mod Logic
-pub mod Types
-pub mod Heaps
-pub mod Taking
-pub mod Subtypes
-pub mod Memories
-pub mod Members
-pub mod Storing
-pub mod Literals

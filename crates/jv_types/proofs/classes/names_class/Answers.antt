@@ -1,0 +1,12 @@
+use Rattle.std.proofs.Common.{ap, ◌∙◌}
+use Rattle.std.specs.Option.{option_map}
+use Rattle.jv_pool.specs.Constants.{class_name_at}
+use Rattle.jv_types.specs.Typed.{name_at}
+use Rattle.jv_types.proofs.Plain.{number_named}
+use Rattle.jv_types.proofs.classes.names_class.Goals as goal
+
+pub returns : goal.returns
+returns c =
+    let names = c.args.constants.now.types.names in
+    ap (option_map (name_at names)) c.class_number.ensures
+    ∙ number_named names c.class_type.result (class_name_at c.args.constants.now.pool c.args.index) c.class_type.ensures

@@ -1,0 +1,76 @@
+-- Protected members by the constants that name them (JVMS 4.10.1.8).
+use Rattle.std.specs.Prelude.{◌≡◌, ℕ, Bool, false, not, ◌&&◌, List, Some, unwrap_or, true, Option}
+use Rattle.jv_format.specs.Format.{◌>>=◌}
+use Rattle.jv_pool.specs.Constants.{Entry, MemberReference, field_reference_at, class_name_at}
+use Rattle.jv_class_structure.specs.Flags.{has, acc_protected, acc_static}
+use Rattle.jv_meaning_world.specs.World.{Loaded, World, same_package, class_named}
+use Rattle.jv_meaning_world.specs.LookUps.{is_subclass, lookup_field, lookup_method}
+use Rattle.jv_meaning_typing.specs.Access.{same_class}
+use Rattle.jv_meaning_typing.specs.Operands.{MethodReference}
+use Rattle.jv_meaning_typing.specs.Named.{is_guarded_field, is_guarded_method}
+use Rattle.jv_link.specs.Inside.References.{method_operand_in}
+use Rattle.jv_meaning_world.specs.Numbers.{HoldsAtNumber, HoldsAtBoth, number_named}
+
+-- the class is a proper superclass of the current one
+abbrev pub is_proper_subclass : World → Loaded → Loaded → Bool
+is_proper_subclass world current named = is_subclass world current named && not (same_class current named)
+
+-- a member with these flags that a class declares is protected, not static, and of another run-time package
+abbrev pub is_far : Loaded → Loaded → ℕ → Bool
+is_far current by flags = has flags acc_protected && not (has flags acc_static) && not (same_package current by)
+
+-- what is found from a superclass is such a member
+abbrev pub field_is_far : World → Loaded → Loaded → MemberReference → Bool
+field_is_far world current named reference =
+    unwrap_or (lookup_field world named reference.name reference.descriptor >>= λ d. Some (is_far current d.by d.field.access_flags)) false
+
+abbrev pub method_is_far : World → Loaded → Loaded → MemberReference → Bool
+method_is_far world current named reference =
+    unwrap_or (lookup_method world named reference.name reference.descriptor
+    >>= λ d. Some (is_far current d.by d.method.access_flags)) false
+
+-- ---- constants
+
+abbrev pub member_named : MethodReference → MemberReference
+member_named m = m.member
+
+-- what the constant at an index names is guarded
+pub record IsGuard (world : World) (current : Loaded) (pool : List Entry) (index : ℕ) (mark : Bool) : Type 0 where
+  pub field : (reference : MemberReference) → field_reference_at pool index ≡ Some reference
+      → is_guarded_field world current reference ≡ mark
+  pub method : (m : MethodReference) → method_operand_in pool index ≡ Some m → is_guarded_method world current m.member ≡ mark
+
+-- ---- by number and index
+
+abbrev pub IsFieldFar : World → ℕ → ℕ → MemberReference → Bool → Type 0
+IsFieldFar world current named field answer = HoldsAtBoth world current named (λ c n. answer ≡ field_is_far world c n field)
+
+abbrev pub IsMethodFar : World → ℕ → ℕ → MemberReference → Bool → Type 0
+IsMethodFar world current named method answer = HoldsAtBoth world current named (λ c n. answer ≡ method_is_far world c n method)
+
+-- the number of the class that the constant at an index names
+abbrev pub IsNumberNamed : World → List Entry → ℕ → Option ℕ → Type 0
+IsNumberNamed world pool index number = (text : List ℕ) → class_name_at pool index ≡ Some text → number ≡ number_named world text
+
+-- and where that is a proper superclass of the current one
+abbrev pub IsFoundAt : World → List Entry → ℕ → ℕ → Type 0
+IsFoundAt world pool index number = (text : List ℕ) → class_name_at pool index ≡ Some text → number_named world text ≡ Some number
+
+abbrev pub IsProperAbove : World → ℕ → ℕ → Type 0
+IsProperAbove world current number = HoldsAtBoth world current number (λ c l. is_proper_subclass world c l ≡ true)
+
+abbrev pub IsNoProperSuper : World → List Entry → ℕ → ℕ → Type 0
+IsNoProperSuper world pool index current =
+    HoldsAtNumber world current (λ c. (text : List ℕ) (l : Loaded) → class_name_at pool index ≡ Some text → class_named world text ≡ Some l
+    → is_proper_subclass world c l ≡ false)
+
+-- whether what the constant at an index names is guarded, a member of the class that another index names
+abbrev pub IsFieldGuarded : World → List Entry → ℕ → ℕ → ℕ → Bool → Type 0
+IsFieldGuarded world pool class index current answer =
+    HoldsAtNumber world current (λ c. (reference : MemberReference) → class_name_at pool class ≡ Some reference.class
+    → field_reference_at pool index ≡ Some reference → is_guarded_field world c reference ≡ answer)
+
+abbrev pub IsMethodGuarded : World → List Entry → ℕ → ℕ → ℕ → Bool → Type 0
+IsMethodGuarded world pool class index current answer =
+    HoldsAtNumber world current (λ c. (m : MethodReference) → class_name_at pool class ≡ Some m.member.class
+    → method_operand_in pool index ≡ Some m → is_guarded_method world c m.member ≡ answer)

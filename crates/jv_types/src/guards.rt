@@ -1,0 +1,262 @@
+//! Which constants name a protected member on whose use the rules ask more (JVMS 4.10.1.8).
+
+ghost use Rattle.std.specs.Prelude.{◌≡◌, ◌<◌, false, length, Some, IfOk, IfSome, IfNone};
+ghost use Rattle.std.specs.Option.{option_map};
+ghost use Rattle.jv_pool.specs.Seen.{seen_member};
+ghost use Rattle.jv_classes.specs.Hashes.{AreHashes};
+ghost use Rattle.jv_meaning_world.specs.Numbers.{HoldsAtBoth};
+ghost use Rattle.jv_meaning_world.specs.Numbers.{HoldsAtNumber};
+ghost use Rattle.jv_link.specs.Inside.References.{method_operand_in};
+ghost use Rattle.jv_meaning_typing.specs.Named.{is_guarded_field, is_guarded_method};
+ghost use Rattle.jv_types.specs.Inside.Guarded.{is_proper_subclass, is_far, field_is_far, method_is_far, member_named, IsGuard, IsNumberNamed, IsFoundAt, IsProperAbove, IsNoProperSuper, IsFieldGuarded, IsMethodGuarded};
+ghost use Rattle.jv_types.specs.Inside.KeptClass.{AreGuardsOf};
+
+use crate::constant_names::class_number;
+use crate::constants::ConstantTypes;
+use crate::hashed::{PoolHashes, called_indices, descriptor_index, name_index, text_with};
+use crate::indices::{MemberIndices, field_indices};
+use jv_classes::pool_hashes;
+use jv_link::of_loader::{ClassTable, Classes};
+use jv_link::{field_at, method_at, same_class, same_package};
+use jv_pool::{Constant, MemberName, Pool, kinds_name};
+use std::alloc::{AllocError, Global};
+
+// Access flags of fields and methods (JVMS tables 4.5-A, 4.6-A).
+const PROTECTED: u16 = 0x0004;
+
+const STATIC: u16 = 0x0008;
+
+/// Whether a class is a proper superclass of the current one.
+fn is_below(table: &ClassTable<'_>, current: usize, named: usize) -> bool
+    requires current { current < length table.now }
+    requires named { named < length table.now }
+    ensures { HoldsAtNumber table.now current (λ c. HoldsAtNumber table.now named (λ n. result ≡ is_proper_subclass table.now c n)) }
+{
+    table.is_subclass(current, named) && !same_class(table, current, named)
+}
+
+/// Whether a member with these flags that a class declares is protected, not static, and of another run-time package.
+fn is_far(table: &ClassTable<'_>, current: usize, by: usize, flags: u16) -> bool
+    requires current { current < length table.now }
+    requires by { by < length table.now }
+    ensures { HoldsAtNumber table.now current (λ c. HoldsAtNumber table.now by (λ l. result ≡ is_far c l flags)) }
+{
+    flags & PROTECTED != 0 && flags & STATIC == 0 && !same_package(table, current, by)
+}
+
+/// Whether the field that is found from a superclass is such a member.
+fn field_is_far(
+    classes: &Classes<'_>,
+    constants: &ConstantTypes<'_, '_>,
+    hashes: PoolHashes<'_>,
+    current: usize,
+    named: usize,
+    indices: Option<MemberIndices>,
+    field: &MemberName<'_>,
+) -> bool
+    requires hashes { AreHashes hashes.seed constants.now.pool hashes.hashes.now }
+    requires current { current < length classes.now.world }
+    requires named { named < length classes.now.world }
+    ensures { HoldsAtBoth classes.now.world current named (λ c n. result ≡ field_is_far classes.now.world c n (seen_member field.now)) }
+{
+    let table = classes.table();
+    let pool = constants.pool();
+    let name = text_with(hashes, pool, name_index(indices), field.name);
+    let descriptor = text_with(hashes, pool, descriptor_index(indices), field.descriptor);
+    match classes.find_field(named, &name, &descriptor) {
+        Some(place) => is_far(
+            table,
+            current,
+            place.class,
+            field_at(table, place).access_flags,
+        ),
+        None => false,
+    }
+}
+
+/// Whether the method that is found from a superclass is such a member.
+fn method_is_far(
+    classes: &Classes<'_>,
+    constants: &ConstantTypes<'_, '_>,
+    hashes: PoolHashes<'_>,
+    current: usize,
+    named: usize,
+    indices: Option<MemberIndices>,
+    method: &MemberName<'_>,
+) -> bool
+    requires hashes { AreHashes hashes.seed constants.now.pool hashes.hashes.now }
+    requires current { current < length classes.now.world }
+    requires named { named < length classes.now.world }
+    ensures { HoldsAtBoth classes.now.world current named (λ c n. result ≡ method_is_far classes.now.world c n (seen_member method.now)) }
+{
+    let table = classes.table();
+    let pool = constants.pool();
+    let name = text_with(hashes, pool, name_index(indices), method.name);
+    let descriptor = text_with(hashes, pool, descriptor_index(indices), method.descriptor);
+    match classes.find_method(named, &name, &descriptor) {
+        Some(place) => is_far(
+            table,
+            current,
+            place.class,
+            method_at(table, place).access_flags,
+        ),
+        None => false,
+    }
+}
+
+/// The number of the class that a Class constant names; of an array there is none.
+fn class_at(constants: &ConstantTypes<'_, '_>, index: u16) -> Option<usize>
+    ensures number { IsNumberNamed constants.now.types.world constants.now.pool index result }
+    ensures within { IfSome result (λ n. n < length constants.now.types.world) }
+{
+    kinds_name();
+    constants.pool().keeps_rules();
+    constants.names().table().are_no_arrays();
+    match class_number(constants, index) {
+        Some(number) => constants.names().class_of(number),
+        None => None,
+    }
+}
+
+/// The number of the class that a Class constant names, where it is a proper superclass of the current one.
+fn superclass_at(constants: &ConstantTypes<'_, '_>, current: usize, index: u16) -> Option<usize>
+    requires { current < length constants.now.types.world }
+    ensures found { IfSome result (IsFoundAt constants.now.types.world constants.now.pool index) }
+    ensures within { IfSome result (λ n. n < length constants.now.types.world) }
+    ensures below { IfSome result (IsProperAbove constants.now.types.world current) }
+    ensures none { IfNone result (IsNoProperSuper constants.now.types.world constants.now.pool index current) }
+{
+    let Some(named) = class_at(constants, index) else {
+        return None;
+    };
+    if is_below(constants.names().table(), current, named) {
+        Some(named)
+    } else {
+        None
+    }
+}
+
+/// Whether a Fieldref constant of a class names a guarded field.
+fn is_guarded_field(
+    classes: &Classes<'_>,
+    constants: &ConstantTypes<'_, '_>,
+    hashes: PoolHashes<'_>,
+    current: usize,
+    class: u16,
+    index: u16,
+) -> bool
+    requires hashes { AreHashes hashes.seed constants.now.pool hashes.hashes.now }
+    requires world { constants.now.types.world ≡ classes.now.world }
+    requires current { current < length classes.now.world }
+    ensures { IsFieldGuarded classes.now.world constants.now.pool class index current result }
+{
+    let Some(named) = superclass_at(constants, current, class) else {
+        return false;
+    };
+    let indices = field_indices(constants.pool(), index);
+    match constants.pool().fieldref_index(index) {
+        Some(index) => {
+            field_is_far(
+                classes,
+                constants,
+                hashes,
+                current,
+                named,
+                indices,
+                &constants.pool().field_reference(index),
+            )
+        }
+        None => false,
+    }
+}
+
+/// The method that a Methodref or an InterfaceMethodref constant names.
+fn method_in<'a>(pool: &Pool<'a>, index: u16) -> Option<MemberName<'a>>
+    ensures { option_map seen_member result ≡ option_map member_named (method_operand_in pool.now index) }
+{
+    match pool.methodref_index(index) {
+        Some(index) => Some(pool.method_reference(index)),
+        None => match pool.interface_methodref_index(index) {
+            Some(index) => Some(pool.interface_method_reference(index)),
+            None => None,
+        },
+    }
+}
+
+/// Whether a Methodref or an InterfaceMethodref constant of a class names a guarded method.
+fn is_guarded_method(
+    classes: &Classes<'_>,
+    constants: &ConstantTypes<'_, '_>,
+    hashes: PoolHashes<'_>,
+    current: usize,
+    class: u16,
+    index: u16,
+) -> bool
+    requires hashes { AreHashes hashes.seed constants.now.pool hashes.hashes.now }
+    requires world { constants.now.types.world ≡ classes.now.world }
+    requires current { current < length classes.now.world }
+    ensures { IsMethodGuarded classes.now.world constants.now.pool class index current result }
+{
+    let Some(named) = superclass_at(constants, current, class) else {
+        return false;
+    };
+    let indices = called_indices(constants.pool(), index);
+    match method_in(constants.pool(), index) {
+        Some(method) => {
+            method_is_far(classes, constants, hashes, current, named, indices, &method)
+        }
+        None => false,
+    }
+}
+
+/// Whether a constant names a guarded member.
+fn is_guarded(
+    classes: &Classes<'_>,
+    constants: &ConstantTypes<'_, '_>,
+    hashes: PoolHashes<'_>,
+    current: usize,
+    index: u16,
+) -> bool
+    requires hashes { AreHashes hashes.seed constants.now.pool hashes.hashes.now }
+    requires world { constants.now.types.world ≡ classes.now.world }
+    requires current { current < length classes.now.world }
+    ensures { HoldsAtNumber classes.now.world current (λ c. IsGuard classes.now.world c constants.now.pool index result) }
+{
+    match constants.pool().constant(index) {
+        Some(Constant::Fieldref(class, _)) => {
+            is_guarded_field(classes, constants, hashes, current, class, index)
+        }
+        Some(Constant::Methodref(class, _)) => {
+            is_guarded_method(classes, constants, hashes, current, class, index)
+        }
+        Some(Constant::InterfaceMethodref(class, _)) => {
+            is_guarded_method(classes, constants, hashes, current, class, index)
+        }
+        _ => false,
+    }
+}
+
+/// For each index, whether the constant there names a guarded member.
+pub(crate) fn guards_of(
+    alloc: Global,
+    classes: &Classes<'_>,
+    constants: &ConstantTypes<'_, '_>,
+    current: usize,
+) -> Result<Vec<bool>, AllocError>
+    requires world { constants.now.types.world ≡ classes.now.world }
+    requires current { current < length classes.now.world }
+    ensures { IfOk result (λ marks. AreGuardsOf classes.now.world current constants.now.pool marks.items) }
+{
+    let seed = classes.table().seed();
+    let kept = pool_hashes(alloc, seed, constants.pool())?;
+    let hashes = PoolHashes {
+        seed,
+        hashes: &kept,
+    };
+    let count = constants.pool().count();
+    let mut marks = Vec::with_capacity(alloc, usize::from(count))?;
+    for index in 0..count {
+        marks.push(is_guarded(classes, constants, hashes, current, index))?;
+    }
+    Ok(marks)
+}
