@@ -68,7 +68,7 @@ class Program:
                 return "(object(%s) instanceof %s)" % (deeper("int"), self.class_name())
             return "(%s ? %s : %s)" % (deeper("boolean"), deeper("boolean"), deeper("boolean"))
         if type in ("byte", "char", "short"):
-            return "((%s) %s)" % (type, deeper(pick.choice(["int", "long", "byte", "char", "short"])))
+            return "((%s) %s)" % (type, deeper(pick.choice(["int", "long", "int", "byte", "char", "short"])))
         wide = type
         how = pick.randrange(14)
         if how < 5:
@@ -76,7 +76,7 @@ class Program:
         if how == 5:
             return "(%s %s %s)" % (deeper(wide), pick.choice(["/", "%"]), deeper(wide))
         if how == 6:
-            return "(%s %s %s)" % (deeper(wide), pick.choice(["<<", ">>", ">>>"]), deeper(pick.choice(["int", "long", ])))
+            return "(%s %s %s)" % (deeper(wide), pick.choice(["<<", ">>", ">>>"]), deeper(pick.choice(["int", "long", "int"])))
         if how == 7:
             return "(%s(%s))" % (pick.choice(["-", "~", "+"]), deeper(wide))
         if how == 8:
