@@ -56,7 +56,6 @@ fn keep(entries: &mut [Option<FieldEntry>], at: usize, entry: FieldEntry)
 }
 
 /// What a constant resolves to, by its names.
-#[inline(never)]
 fn found_anew(
     table: &ClassTable<'_>,
     classes: &Classes<'_>,
@@ -74,6 +73,60 @@ fn found_anew(
         Ok(place) => Ok(field_used(table, words, place)),
         Err(error) => Err(error),
     }
+}
+
+/// What a constant resolves to, by its names; the entry at a place keeps it.
+#[inline(never)]
+fn found_and_kept(
+    entries: &mut [Option<FieldEntry>],
+    at: usize,
+    table: &ClassTable<'_>,
+    classes: &Classes<'_>,
+    words: &[ClassWords],
+    class: usize,
+    index: u16,
+) -> Result<FieldUse, LinkError>
+    requires same { classes.now.world ≡ table.now }
+    requires entries { All (IsEntry table.now) entries.old }
+    requires words { AreWords table.now words.now }
+    requires class { class < length table.now }
+    requires index { HoldsAtNumber table.now class (λ l. IsSome (field_operand l.class index)) }
+    ensures found { IsFound table.now class index result }
+    ensures entries { All (IsEntry table.now) entries.new }
+{
+    let found = found_anew(table, classes, words, class, index);
+    keep(
+        entries,
+        at,
+        FieldEntry {
+            class,
+            index,
+            found,
+        },
+    );
+    found
+}
+
+/// The same, with room of its own for the answer, which is then not made where an entry is there.
+#[inline(always)]
+fn found_apart(
+    entries: &mut [Option<FieldEntry>],
+    at: usize,
+    table: &ClassTable<'_>,
+    classes: &Classes<'_>,
+    words: &[ClassWords],
+    class: usize,
+    index: u16,
+) -> Result<FieldUse, LinkError>
+    requires same { classes.now.world ≡ table.now }
+    requires entries { All (IsEntry table.now) entries.old }
+    requires words { AreWords table.now words.now }
+    requires class { class < length table.now }
+    requires index { HoldsAtNumber table.now class (λ l. IsSome (field_operand l.class index)) }
+    ensures found { IsFound table.now class index result }
+    ensures entries { All (IsEntry table.now) entries.new }
+{
+    found_and_kept(entries, at, table, classes, words, class, index)
 }
 
 /// What a constant resolves to, by the entry at a place, where it is there.
@@ -98,17 +151,7 @@ pub(crate) fn field_by(
     if let Some(found) = known(entries, at, class, index) {
         return found;
     }
-    let found = found_anew(table, classes, words, class, index);
-    keep(
-        entries,
-        at,
-        FieldEntry {
-            class,
-            index,
-            found,
-        },
-    );
-    found
+    found_apart(entries, at, table, classes, words, class, index)
 }
 
 /// So many entries, all of them empty.

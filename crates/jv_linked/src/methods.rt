@@ -54,7 +54,6 @@ fn keep(entries: &mut [Option<MethodEntry>], at: usize, entry: MethodEntry)
 }
 
 /// What a constant resolves to, by its names.
-#[inline(never)]
 fn found_anew(
     table: &ClassTable<'_>,
     classes: &Classes<'_>,
@@ -70,6 +69,56 @@ fn found_anew(
         Ok(target) => Ok(method_called(table, target)),
         Err(error) => Err(error),
     }
+}
+
+/// What a constant resolves to, by its names; the entry at a place keeps it.
+#[inline(never)]
+fn found_and_kept(
+    entries: &mut [Option<MethodEntry>],
+    at: usize,
+    table: &ClassTable<'_>,
+    classes: &Classes<'_>,
+    class: usize,
+    index: u16,
+) -> Result<MethodUse, LinkError>
+    requires same { classes.now.world ≡ table.now }
+    requires entries { All (IsEntry table.now) entries.old }
+    requires class { class < length table.now }
+    requires index { HoldsAtNumber table.now class (λ l. IsSome (method_operand l.class index)) }
+    ensures found { IsFound table.now class index result }
+    ensures entries { All (IsEntry table.now) entries.new }
+{
+    let found = found_anew(table, classes, class, index);
+    keep(
+        entries,
+        at,
+        MethodEntry {
+            class,
+            index,
+            found,
+        },
+    );
+    found
+}
+
+/// The same, with room of its own for the answer, which is then not made where an entry is there.
+#[inline(always)]
+fn found_apart(
+    entries: &mut [Option<MethodEntry>],
+    at: usize,
+    table: &ClassTable<'_>,
+    classes: &Classes<'_>,
+    class: usize,
+    index: u16,
+) -> Result<MethodUse, LinkError>
+    requires same { classes.now.world ≡ table.now }
+    requires entries { All (IsEntry table.now) entries.old }
+    requires class { class < length table.now }
+    requires index { HoldsAtNumber table.now class (λ l. IsSome (method_operand l.class index)) }
+    ensures found { IsFound table.now class index result }
+    ensures entries { All (IsEntry table.now) entries.new }
+{
+    found_and_kept(entries, at, table, classes, class, index)
 }
 
 /// What a constant resolves to, by the entry at a place, where it is there.
@@ -92,17 +141,7 @@ pub(crate) fn method_by(
     if let Some(found) = known(entries, at, class, index) {
         return found;
     }
-    let found = found_anew(table, classes, class, index);
-    keep(
-        entries,
-        at,
-        MethodEntry {
-            class,
-            index,
-            found,
-        },
-    );
-    found
+    found_apart(entries, at, table, classes, class, index)
 }
 
 /// So many entries, all of them empty.

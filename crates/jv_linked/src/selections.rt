@@ -97,6 +97,65 @@ fn place_in(count: usize, target: &MethodTarget, object: Option<usize>) -> usize
         & count.wrapping_sub(1)
 }
 
+/// What a call at a site runs; the entry at a place keeps it.
+#[inline(never)]
+fn selected_and_kept(
+    entries: &mut [Option<Selection>],
+    at: usize,
+    classes: &Classes<'_>,
+    class: usize,
+    site: Site,
+    how: Use,
+    target: &MethodTarget,
+    object: Option<usize>,
+) -> Result<MethodTarget, LinkError>
+    requires entries { All (IsEntry classes.now.world how) entries.old }
+    requires class { IsFor how class site }
+    requires site { IsSite classes.now.world site }
+    requires target { IsMethodTarget classes.now.world target.now }
+    requires object { IsObject classes.now.world object }
+    ensures found { IsSelected classes.now.world site how target.now object result }
+    ensures target { IfOk result (IsMethodTarget classes.now.world) }
+    ensures entries { All (IsEntry classes.now.world how) entries.new }
+{
+    let found = select(classes, site, how, target, object);
+    keep(
+        entries,
+        at,
+        Selection {
+            class,
+            target: *target,
+            object,
+            found,
+        },
+    );
+    found
+}
+
+/// The same, with room of its own for the answer, which is then not made where an entry is there.
+#[inline(always)]
+fn selected_apart(
+    entries: &mut [Option<Selection>],
+    at: usize,
+    classes: &Classes<'_>,
+    class: usize,
+    site: Site,
+    how: Use,
+    target: &MethodTarget,
+    object: Option<usize>,
+) -> Result<MethodTarget, LinkError>
+    requires entries { All (IsEntry classes.now.world how) entries.old }
+    requires class { IsFor how class site }
+    requires site { IsSite classes.now.world site }
+    requires target { IsMethodTarget classes.now.world target.now }
+    requires object { IsObject classes.now.world object }
+    ensures found { IsSelected classes.now.world site how target.now object result }
+    ensures target { IfOk result (IsMethodTarget classes.now.world) }
+    ensures entries { All (IsEntry classes.now.world how) entries.new }
+{
+    selected_and_kept(entries, at, classes, class, site, how, target, object)
+}
+
 /// What a call at a site runs, by its entry, where that is there.
 #[inline(always)]
 pub(crate) fn selection_by(
@@ -121,18 +180,7 @@ pub(crate) fn selection_by(
     if let Some(found) = known(entries, at, class, target, object) {
         return found;
     }
-    let found = select(classes, site, how, target, object);
-    keep(
-        entries,
-        at,
-        Selection {
-            class,
-            target: *target,
-            object,
-            found,
-        },
-    );
-    found
+    selected_apart(entries, at, classes, class, site, how, target, object)
 }
 
 /// So many entries, all of them empty.

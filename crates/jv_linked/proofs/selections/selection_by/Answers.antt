@@ -1,5 +1,3 @@
-use Rattle.jv_linked.proofs.Selecting.{selected_for}
-use Rattle.jv_linked.specs.Inside.Selections.{IsFound}
 use Rattle.jv_linked.proofs.selections.selection_by.Goals as goal
 
 pub returns-in-Some-clause-found : goal.returns-in-Some-clause-found
@@ -8,12 +6,3 @@ returns-in-Some-clause-found c =
 
 pub returns-in-Some-clause-target : goal.returns-in-Some-clause-target
 returns-in-Some-clause-target c = (c.in-Some.ensures {u = tt} c.args.classes.now.world c.args.how c.requires.entries).target_of
-
-pub returns-clause-entries : goal.returns-clause-entries
-returns-clause-entries c =
-    let world = c.args.classes.now.world in
-    let right : IsFound world c.args.how c.args.class c.args.target.now c.args.object c.select-found.result = record {
-      found = λ other is_other. selected_for world c.args.how c.args.class c.args.site other c.args.target.now c.args.object c.select-found.result c.requires.site c.requires.class is_other c.select-found.ensures.found;
-      target_of = c.select-found.ensures.target;
-    } in
-    c.keep.ensures world c.args.how c.requires.entries right
