@@ -668,6 +668,87 @@ def in_turn(folder, scale, targets, methods):
     written_with(folder, add, methods)
 
 
+def stores_and_branches(folder, scale):
+    """7,000 stores to as many local variables, then 7,000 branches; in 51 methods 4 MB."""
+    count = scaled(scale, 7000)
+    at = 1 + 5 * count
+    end = at + 4 * count
+
+    def add(made, name):
+        code = bytes([177]) + b"".join(bytes([3, 196, 54]) + u2(k) for k in range(count))
+        code += b"".join(branch(end, at + 4 * k) for k in range(count)) + bytes([177])
+        spelled = full(1, [TOP] * count, []) + full(end - 2, [INT] * count, [])
+        made.method(9, name, "()V", 1, count, code, b"", (2, spelled))
+
+    written_with(folder, add, scaled(scale, 51))
+
+
+def stores_below_handler(folder, scale):
+    """One handler over 13,000 stores to as many local variables; in 43 methods 4 MB."""
+    count = scaled(scale, 13000)
+    size = 1 + 5 * count
+
+    def add(made, name):
+        code = bytes([177]) + b"".join(bytes([3, 196, 54]) + u2(k) for k in range(count)) + bytes([177, 191])
+        thrown = u1(7) + u2(made.named("java/lang/Throwable"))
+        spelled = full(1, [TOP] * count, []) + full(size - 1, [TOP] * count, [thrown])
+        made.method(9, name, "()V", 1, count, code, u2(1) + u2(size) + u2(size + 1) + u2(0), (2, spelled))
+
+    written_with(folder, add, scaled(scale, 43))
+
+
+def new_held(folder, scale):
+    """`new, pop` 16,000 times behind a frame of 65,535 ints; in 30 methods 4 MB."""
+    count = scaled(scale, 16000)
+
+    def add(made, name):
+        code = bytes([177]) + (bytes([187]) + u2(made.named("Main")) + bytes([87])) * count + bytes([177])
+        made.method(9, name, "()V", 1, 65535, code, b"", (1, full(1, [INT] * 65535, [])))
+
+    written_with(folder, add, scaled(scale, 30))
+
+
+def made_below_handler(folder, scale):
+    """One handler over `new, <init>` 9,000 times, with 65,535 ints; in 20 methods 4 MB."""
+    count = scaled(scale, 9000)
+    size = 1 + 7 * count
+
+    def add(made, name):
+        one = bytes([187]) + u2(made.named("java/lang/Object")) + bytes([183]) + u2(made.called("java/lang/Object", "<init>", "()V"))
+        code = bytes([177]) + (one + bytes([0])) * count + bytes([177, 191])
+        thrown = u1(7) + u2(made.named("java/lang/Throwable"))
+        spelled = full(1, [INT] * 65535, []) + full(size - 1, [INT] * 65535, [thrown])
+        made.method(9, name, "()V", 1, 65535, code, u2(1) + u2(size) + u2(size + 1) + u2(0), (2, spelled))
+
+    written_with(folder, add, scaled(scale, 20))
+
+
+def frames_fall_in_turn(folder, scale):
+    """16,000 frames one behind the other, each with an entry less than that before it, from 65,535 ints on; in 30 methods 4 MB."""
+    count = scaled(scale, 16000)
+
+    def add(made, name):
+        code = bytes([177]) + bytes(count) + bytes([177])
+        spelled = full(1, [INT] * 65535, []) + u1(250) + u2(0)
+        spelled += (u1(250) + u2(0)) * (count - 2)
+        made.method(9, name, "()V", 0, 65535, code, b"", (count, spelled))
+
+    written_with(folder, add, scaled(scale, 30))
+
+
+def start_in_turn(folder, scale):
+    """8,000 branches from the frame that a method begins with to as many frames, each with an entry more; in 30 methods 4 MB."""
+    count = scaled(scale, 8000)
+    at = 4 * count
+
+    def add(made, name):
+        code = b"".join(branch(at + k, 4 * k) for k in range(count)) + bytes([177]) * count
+        spelled = full(at, [TOP] * 57000, []) + (u1(252) + u2(0) + TOP) * (count - 1)
+        made.method(9, name, "()V", 1, 65535, code, b"", (count, spelled))
+
+    written_with(folder, add, scaled(scale, 30))
+
+
 def new_branches(folder, scale):
     """8,000 objects that are not initialized on the stack, and 3,000 branches with them."""
     made = ClassFile("Main")
@@ -721,12 +802,14 @@ def catches_long(folder, scale):
 
 
 SHAPES = [
-    long_references, short_references, used_references, interface_often, long_methods, long_methods_final, long_fields, methods_below_final,
-    classes_below_final, blank_frames, int_frames, int_frames_and_stores, int_stores, int_switch, handlers_at_front, handlers_and_frames,
-    handlers_over_all, handlers_apart, handlers_and_stores, new_popped, new_left, new_made, no_package, interface_entries, supers_chain,
-    supers_diamond, supers_dense, many_finals, branches_apart, branches_apart_often, stack_branches, stack_branches_often, stack_pushed,
-    stack_in_turn, stack_calls, stack_constructs, stack_to_objects, start_branches, switch_apart, stores_apart, frames_in_turn, branches_in_turn,
-    branches_in_turn_often, new_branches, interfaces_long, interfaces_before, catches_long,
+    long_references, short_references, used_references, interface_often, long_methods, long_methods_final, long_fields,
+    methods_below_final, classes_below_final, blank_frames, int_frames, int_frames_and_stores, int_stores, int_switch,
+    handlers_at_front, handlers_and_frames, handlers_over_all, handlers_apart, handlers_and_stores, new_popped, new_left, new_made,
+    no_package, interface_entries, supers_chain, supers_diamond, supers_dense, many_finals, branches_apart, branches_apart_often,
+    stack_branches, stack_branches_often, stack_pushed, stack_in_turn, stack_calls, stack_constructs, stack_to_objects,
+    start_branches, switch_apart, stores_apart, frames_in_turn, branches_in_turn, branches_in_turn_often, new_branches,
+    interfaces_long, interfaces_before, catches_long, stores_and_branches, stores_below_handler, new_held, made_below_handler,
+    frames_fall_in_turn, start_in_turn,
 ]
 
 
