@@ -44,7 +44,7 @@ some_none : {A : Type 0} (a : A) → Some a ≡ None → ⊥
 some_none a e = absurd cc
 
 module _ (x : Setting) (h : IsSet x)
-    -- an `<init>` has no result (F1)
+    -- an `<init>` has no result
     (constructors_are_void : IsTrue (is_init x.frame.method.site.method.name) → x.frame.method.descriptor.result ≡ None) where
   pub return_value_ok : (kind : ValueKind) → Sound x (insns.ReturnValue kind)
   return_value_ok kind = by_result x.frame.method.descriptor.result refl

@@ -1,4 +1,4 @@
--- What unwinding asks: a handler has room for what is thrown (by F7), objects are loadable, and a class that a throw passes stays out of
+-- What unwinding asks: a handler has room for what is thrown, by the limits of its frame, objects are loadable, and a class that a throw passes stays out of
 -- the verified ones' way.
 use Rattle.std.proofs.Common.{◌≡◌, ℕ, ◌+◌, ◌≤◌, Bool, true, false, not, ◌&&◌, ◌||◌, ◌==◌, List, [], ◌∷◌, Option, Some, None, refl, ap, subst, ◌∙◌, arith}
 use Rattle.std.specs.Prelude.{IsTrue, nat_le, unwrap_or, if◌then◌else◌}

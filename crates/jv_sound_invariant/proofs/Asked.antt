@@ -1,5 +1,4 @@
--- What the other parts ask of the classes of a judged guest's world, from their files' rules (F1 to F6), and the tasks of initializations
--- (F15).
+-- What soundness asks of the classes of a judged guest's world, from their files' rules, and of the tasks of initializations.
 use Rattle.std.proofs.Common.{◌≡◌, ◌⊎◌, inl, inr, ℕ, Bool, true, false, not, ◌&&◌, ◌||◌, List, [], ◌∷◌, ◌++◌, map, Option, Some, None, refl, sym, ap, subst, ◌∙◌}
 use Rattle.std.specs.Prelude.{IsTrue, IsSome, is_some, codes}
 use Rattle.std.specs.List.{AllByRecursion, Contains, list_any, filter_map, cons_option}
@@ -86,7 +85,7 @@ tasks_join program (x ∷ xs) ys h k = (h.0, tasks_join program xs ys h.1 k)
 
 module _ (program : Program) (formed : AreFormed program) (named : (l : Loaded) → Contains program.world l
     → class_named program.world l.class.name ≡ Some l) (units : AreUnits program.units) where
-  -- F1
+  -- an interface's fields are static
   pub interfaces_are_static : (l : Loaded) → Contains program.world l → is_interface l ≡ true → (name descriptor : List ℕ) (f : Field)
       → field_named l.class name descriptor ≡ Some f → is_static_field f ≡ true
   interfaces_are_static l here i name descriptor f e =
@@ -98,7 +97,7 @@ module _ (program : Program) (formed : AreFormed program) (named : (l : Loaded) 
       (not (has l.class.access_flags acc_interface) || has f.access_flags acc_static) rest.1 in
       or_gives (has l.class.access_flags acc_interface) (has f.access_flags acc_static) last.1 i
 
-  -- F2: fields
+  -- a field's descriptor has a type, and no floating point number
   pub field_is_sort : (l : Loaded) → Contains program.world l → (f : Field) → Contains l.class.fields f
       → (type : FieldTypeOf (List ℕ)) × (field_type_of f.descriptor ≡ Some type) × (not (is_floating type) ≡ true)
   field_is_sort l here f there = by_type (field_type_of f.descriptor) refl
@@ -110,7 +109,7 @@ module _ (program : Program) (formed : AreFormed program) (named : (l : Loaded) 
       by_type None e k = absurd (clash k)
       by_type (Some type) e k = (type, e, k)
 
-  -- F2: methods
+  -- a method's descriptor has types, and no floating point number
   pub method_is_plain : (l : Loaded) → Contains program.world l → (m : Method) → Contains l.class.methods m
       → (d : MethodDescriptor) × (method_type_of m.descriptor ≡ Some d) × (not (is_floating_method d) ≡ true)
   method_is_plain l here m there = by_type (method_type_of m.descriptor) refl
@@ -138,7 +137,7 @@ module _ (program : Program) (formed : AreFormed program) (named : (l : Loaded) 
       → method_type_of d.method.descriptor ≡ Some descriptor → AreSorts descriptor.parameters
   parameters_are_sorts d descriptor h e = (method_sorts d descriptor h.here h.declared e).0
 
-  -- F3: all but host/Io's
+  -- what needs code has it, but for host/Io's methods
   pub needs_have_code : (l : Loaded) → Contains program.world l → (l ≡ loaded true io → ⊥) → (m : Method) → Contains l.class.methods m
       → needs_code m ≡ true → IsSome m.code
   needs_have_code l here other m there need = by_kind (formed.each l here).1
@@ -221,7 +220,7 @@ module _ (program : Program) (formed : AreFormed program) (named : (l : Loaded) 
       (or_third (is_clinit d.method.name) (is_init d.method.name) (has d.method.access_flags acc_static)
       (not (has d.method.access_flags acc_abstract)) static)
 
-  -- F4, F6: constant values
+  -- a constant value is of its field's type
   setting_ok : (l : Loaded) → Contains program.world l → (f : Field) → Contains l.class.fields f → (v : InitialValue) → f.initial ≡ Some v
       → IsTask program (SetsField (field_by l f) v)
   setting_ok l here f there v e =
@@ -299,7 +298,7 @@ module _ (program : Program) (formed : AreFormed program) (named : (l : Loaded) 
       by_method None e = tt
       by_method (Some m) e = (clinit_ok l here verified m e, tt)
 
-  -- F15
+  -- the tasks of a verified class
   pub tasks_ok : (l : Loaded) → Contains program.world l → IsTrue (is_verified program l)
       → AllByRecursion (IsTask program) (tasks_of program.world l)
   tasks_ok l here verified =

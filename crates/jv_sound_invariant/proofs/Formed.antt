@@ -711,7 +711,7 @@ parts_of c class e =
       methods = methods.1 ∙ ap (λ (l : List Method). Some l) cc;
     }
 
--- the law ClassIsFormed (F1 to F4 and F6)
+-- the law ClassIsFormed: the class of a well-formed file is formed, and its methods have the code that they need
 pub class_is_formed : TypesAgree → (c : ClassStructure) (class : Class) → IsWellFormed c → IsSupported c → class_of c ≡ Some class
     → IsFormed class × IsCoded class
 class_is_formed agree c class formed supported e =

@@ -30,7 +30,7 @@ use Rattle.jv_sound_invariant.specs.Sound.{IsSystemAccepted, IsSound}
 use Rattle.jv_sound_invariant.proofs.Logic.{clash}
 use Rattle.jv_sound_invariant.proofs.Taking.{and_parts}
 
--- ---- names differ (F10)
+-- ---- names differ
 
 found_left : (xs ys : World) (name : List ℕ) (l : Loaded) → class_named xs name ≡ Some l → class_named (xs ++ ys) name ≡ Some l
 found_left [] ys name l e = absurd cc
@@ -214,7 +214,7 @@ world_is_named contents l h = by_loader (Contains-append_cases (map (loaded true
         (passed_all true system_classes (map (loaded false) (classes_in contents)) c.0.name
         (not_of_system system_classes c.0.name system_reserved (own.free c.0 c.1)) ∙ own.named c.0 c.1)
 
--- ---- what is accepted (F11)
+-- ---- what is accepted
 
 record IsAcceptedFile (contents : List FileContent) (verdicts : List Verdict) (name : List ℕ) : Type 0 where
   place : ℕ
@@ -389,7 +389,7 @@ stands_alone world rooted l s here by h =
     subst (λ (o : Option Loaded). passes (λ (s : Loaded). s.by_system) o ≡ true) found.2
     (all_at (λ (name : List ℕ). passes (λ (s : Loaded). s.by_system) (class_named world name)) (super_names l.class) found.0 each.0 found.1)
 
--- ---- the whole (F12)
+-- ---- the whole
 
 module _ (files : List (List ℕ)) (judged : Judged) (right : IsJudged files judged) (system : IsSystemAccepted judged.program.world) where
   abbrev whole : World

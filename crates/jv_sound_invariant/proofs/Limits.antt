@@ -1,4 +1,4 @@
--- A stack map's frames are within the limits (F7), and an instruction fits where it stands (F8).
+-- A stack map's frames are within the limits, and an instruction fits where it stands.
 use Rattle.std.proofs.Common.{◌≡◌, ◌⊎◌, inl, inr, ℕ, ◌+◌, ◌≤◌, Bool, true, false, ◌==◌, List, [], ◌∷◌, length, map, reverse, Option, Some, None, refl, sym, subst, arith}
 use Rattle.std.specs.Prelude.{nat_le, if◌then◌else◌}
 use Rattle.std.specs.List.{Contains}
@@ -62,7 +62,7 @@ in_map {A = A} {B = B} f (x ∷ xs) y h = by_part (λ k. in_map f xs y k) (Conta
 from_leb : (a b : ℕ) → nat_le a b ≡ true → a ≤ b
 from_leb a b e = grind (arith, Rattle.std.proofs.lemmas.Bool.Decides.nat_tests)
 
--- F7
+-- the stack of a frame that a map spells is within the limit
 pub maps_within : (pool : List Entry) (limits : Limits) (initial : List FrameType) (bytes : List ℕ) (frames : List PlacedFrame)
     → Maps pool limits initial bytes frames → (f : PlacedFrame) → Contains frames f → words f.frame.stack ≤ limits.max_stack
 maps_within pool limits initial bytes frames maps f h =
@@ -71,7 +71,7 @@ maps_within pool limits initial bytes frames maps f h =
     let parts = and_parts (nat_le (words found.0.locals) limits.max_locals) (nat_le (words found.0.stack) limits.max_stack) test in
     subst (λ (x : PlacedFrame). words x.frame.stack ≤ limits.max_stack) found.2 (from_leb (words found.0.stack) limits.max_stack parts.1)
 
--- F8
+-- where all instructions fit, each does where it stands
 pub fits_there : (start : ℕ) (all : List Instruction) (pc : ℕ) (i : Instruction) → all_fit start all ≡ true
     → instruction_from start all pc ≡ Some i → insn_fits pc i ≡ true
 fits_there start [] pc i fit e = absurd cc

@@ -1,5 +1,5 @@
--- What a class's own constants name: descriptors without floating point numbers (F2), array types without them, and texts of strings that
--- spell units (F6).
+-- What a class's own constants name: descriptors without floating point numbers, array types without them, and texts of strings that
+-- spell units.
 use Rattle.std.proofs.Common.{◌≡◌, ℕ, true, not, List, Option, Some, None, refl, subst}
 use Rattle.std.specs.Option.{option_map, option_or}
 use Rattle.jv_text.specs.declared.descriptor.FieldTypeOf.{FieldTypeOf}

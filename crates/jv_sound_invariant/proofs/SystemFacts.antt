@@ -1,4 +1,4 @@
--- Facts of the system's classes in the world of any guest (F13): what the machine throws, and of which classes it makes objects.
+-- Facts of the system's classes in the world of any guest: what the machine throws, and of which classes it makes objects.
 use Rattle.std.proofs.Common.{◌≡◌, ◌⊎◌, inl, inr, ℕ, Bool, true, false, not, ◌&&◌, ◌||◌, List, [], ◌∷◌, ◌++◌, map, Option, Some, None, refl, sym, ap, subst, ◌∙◌}
 use Rattle.std.specs.Prelude.{IsTrue, codes}
 use Rattle.std.specs.List.{Contains, list_all, list_any}

@@ -1,4 +1,4 @@
--- What holds of each class in the world of a judged guest: its file's rules, or the same by computation for a class of the system (F5).
+-- What holds of each class in the world of a judged guest: its file's rules, or the same by computation for a class of the system.
 use Rattle.std.proofs.Common.{◌≡◌, ◌⊎◌, inl, inr, ℕ, Bool, true, false, ◌&&◌, ◌||◌, List, [], ◌∷◌, ◌++◌, map, Option, Some, None, refl, sym, ap, subst}
 use Rattle.std.specs.Prelude.{is_none, if◌then◌else◌}
 use Rattle.std.specs.List.{Contains, list_all, All}
