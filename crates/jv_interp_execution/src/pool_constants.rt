@@ -36,11 +36,11 @@ fn constant_of<'a>(classes: &Classes<'a>, class: usize, index: u16) -> Option<Po
         return None;
     };
     let pool = file.pool();
-    if let Some(text) = pool.string_index(index) {
-        return Some(PoolConstant::String(pool.string(text)));
+    if let Some(number) = pool.integer_index(index) {
+        return Some(PoolConstant::Int(pool.integer(number).cast_unsigned()));
     }
-    match pool.integer_index(index) {
-        Some(number) => Some(PoolConstant::Int(pool.integer(number).cast_unsigned())),
+    match pool.string_index(index) {
+        Some(text) => Some(PoolConstant::String(pool.string(text))),
         None => None,
     }
 }
@@ -84,7 +84,10 @@ pub(crate) fn execute_pool_constant<'a, 'l, S: Store>(
         Some(PoolConstant::Int(bits)) => Ok(push_int(words, at, next, bits)),
         Some(PoolConstant::String(text)) => {
             let number = texts.number(site.class, index) as usize;
-            push_string(store, held, words, at, next, number, text)
+            let mut own = *at;
+            let result = push_string(store, held, words, &mut own, next, number, text);
+            *at = own;
+            result
         }
         None => unreachable!(),
     }

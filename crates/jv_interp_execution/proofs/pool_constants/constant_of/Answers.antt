@@ -36,4 +36,4 @@ returns-in-None c l at =
     let pool_is = c.pool-pool.ensures ∙ pool_of c.in-Some.file.now c.class_at.result.now.class c.in-Some.ensures.file ∙ ap (λ (m : Loaded). m.class.constant_pool) class in
     let index = c.args.index in
     subst (λ (p : List Entry). IsPushed p index (pushed_constant p (at_index p index)) None) pool_is
-    (none_pushed c.pool-pool.result.now index c.in_default-string_index.ensures.none c.in-None.ensures.none)
+    (none_pushed c.pool-pool.result.now index c.in-None.ensures.none c.in_default-integer_index.ensures.none)

@@ -19,16 +19,16 @@ unreachable-requires g c =
     c.in-None.is c.constant_of.ensures in
     no_constant c.args.index r.0 _ r.1 _ c.args.site c.args.texts.now _ _ _ _ _ r.2 r.4.executes clause
 
-pub push_string-requires-clause-few : goal.push_string-requires-clause-few
-push_string-requires-clause-few g c =
+pub push_string-result-requires-clause-few : goal.push_string-result-requires-clause-few
+push_string-result-requires-clause-few g c =
     let r = c.requires.can in
     let clause = subst (λ (o : Option PoolConstant). IsConstantOf c.args.classes.now.world c.args.site.class c.args.index o)
     (c.in-Some-String.is ∙ ap Some c.in-Some-String.field-0-is) c.constant_of.ensures in
     short_text c.execution_keeps.ensures c.args.index r.0 _ r.1 _ c.args.site c.args.texts.now _ _ _ _ r.2 r.3 c.in-Some-String.text clause
     c.number-number.result c.number-number.ensures r.4
 
-pub push_string-requires-clause-can : goal.push_string-requires-clause-can
-push_string-requires-clause-can g c =
+pub push_string-result-requires-clause-can : goal.push_string-result-requires-clause-can
+push_string-result-requires-clause-can g c =
     let r = c.requires.can in
     let clause = subst (λ (o : Option PoolConstant). IsConstantOf c.args.classes.now.world c.args.site.class c.args.index o)
     (c.in-Some-String.is ∙ ap Some c.in-Some-String.field-0-is) c.constant_of.ensures in
@@ -45,7 +45,7 @@ pub returns-in-Some-String-clause-done : goal.returns-in-Some-String-clause-done
 returns-in-Some-String-clause-done g c =
     let clause = subst (λ (o : Option PoolConstant). IsConstantOf c.args.classes.now.world c.args.site.class c.args.index o)
     (c.in-Some-String.is ∙ ap Some c.in-Some-String.field-0-is) c.constant_of.ensures in
-    IfOk-weaker c.push_string.result _ _
+    IfOk-weaker c.push_string-result.result _ _
     (λ effect pushes form k of_site are. string_done c.execution_keeps.ensures c.args.index form _ k _ c.args.site c.args.texts.now _ _ _ _ of_site are
     c.in-Some-String.text clause c.number-number.result c.number-number.ensures _ _ _ _ effect pushes)
-    c.push_string.ensures.pushes
+    c.push_string-result.ensures.pushes
