@@ -10,24 +10,20 @@ use Rattle.jv_frames.specs.declared.entry.FrameEntry.{FrameEntry}
 use Rattle.jv_frames.specs.Entries.{ReadFrame, locals_in}
 use Rattle.jv_frames.specs.Frames.{Frame}
 use Rattle.jv_frames.specs.Types.{FrameType}
-use Rattle.jv_code.specs.Insns.{Instruction}
 use Rattle.jv_meaning_world.specs.Flow.{flows}
 use Rattle.jv_meaning_world.specs.FrameFlow.{all_flow}
 use Rattle.jv_meaning_world.specs.World.{World}
 use Rattle.jv_meaning_world.proofs.Order.{flows_is_reflexive}
-use Rattle.jv_meaning_typing.specs.Environment.{Environment}
-use Rattle.jv_meaning_typing.specs.Rule.{rule}
-use Rattle.jv_rules.specs.Laws.{may_write, WritesThere}
 use Rattle.jv_types.specs.Typed.{typed, typed_all}
 use Rattle.jv_types.specs.Numbered.{Item, NumberFrame, frame_of, with_flag, with_locals, with_stack}
 use Rattle.jv_method_pass.specs.Mapped.{EntryTypes, names_of_types, world_of_types, types_of_entries, expanded_entries, frame_by_types, locals_of, stack_of, locals_flow_to, stack_flows_to, flows_to_map, thrown_flows_to_map}
 use Rattle.jv_method_pass.specs.Pass.{Pass, names_in}
-use Rattle.jv_method_pass.specs.Inside.Held.{HeldFrame, is_written, AreSameBut, HoldsLocals, IsHeldBy, Notes, NotesBy, Writes, WritesBy, both_flow, flows_at, with_item, with_held_at, held_locals_flow, held_flag_flows}
+use Rattle.jv_method_pass.specs.Inside.Held.{HeldFrame, is_written, AreSameBut, HoldsLocals, IsHeldBy, Writes, WritesBy, both_flow, flows_at, with_item, with_held_at, held_locals_flow, held_flag_flows}
 use Rattle.jv_method_pass.proofs.Settings.{frame_made}
 
 -- ---- all flow where all that were written do
 
-all_at : (world : World) (xs ys : List FrameType) → length xs ≡ length ys → ((k : ℕ) → flows_at world xs ys k ≡ true) → all_flow (flows world) xs ys ≡ true
+pub all_at : (world : World) (xs ys : List FrameType) → length xs ≡ length ys → ((k : ℕ) → flows_at world xs ys k ≡ true) → all_flow (flows world) xs ys ≡ true
 all_at world [] [] e h = refl
 all_at world [] (y ∷ ys) e h = absurd (omega (arith, e))
 all_at world (x ∷ xs) [] e h = absurd (omega (arith, e))
@@ -41,7 +37,7 @@ none_at : (world : World) (k : ℕ) → both_flow world (slice_get {X = FrameTyp
 none_at world zero = refl
 none_at world (suc k) = refl
 
-not_at : (world : World) (xs ys : List FrameType) (k : ℕ) → flows_at world xs ys k ≡ false → all_flow (flows world) xs ys ≡ false
+pub not_at : (world : World) (xs ys : List FrameType) (k : ℕ) → flows_at world xs ys k ≡ false → all_flow (flows world) xs ys ≡ false
 not_at world [] [] zero h = absurd cc
 not_at world [] [] (suc k) h = absurd cc
 not_at world [] (y ∷ ys) k h = refl
@@ -57,7 +53,7 @@ itself world (Some t) = flows_is_reflexive world t
 clash : true ≡ false → ⊥
 clash e = cc
 
-one_written : (test : ℕ → Bool) (written : List ℕ) (k : ℕ) → list_all test written ≡ true → is_written written k ≡ true → test k ≡ true
+pub one_written : (test : ℕ → Bool) (written : List ℕ) (k : ℕ) → list_all test written ≡ true → is_written written k ≡ true → test k ≡ true
 one_written test [] k all is = absurd cc
 one_written test (p ∷ written) k all is = by_test (test p) refl (p == k) refl (λ rest found. one_written test written k rest found)
   where
@@ -66,7 +62,7 @@ one_written test (p ∷ written) k all is = by_test (test p) refl (p == k) refl 
     by_test true t true e more = subst (λ (n : ℕ). test n ≡ true) (eqb-true p k e) t
     by_test true t false e more = more (sym (ap (λ b. b && list_all test written) t) ∙ all) (sym (ap (λ b. b || is_written written k) e) ∙ is)
 
-one_not : (world : World) (xs ys : List FrameType) (written : List ℕ) → list_all (flows_at world xs ys) written ≡ false → all_flow (flows world) xs ys ≡ false
+pub one_not : (world : World) (xs ys : List FrameType) (written : List ℕ) → list_all (flows_at world xs ys) written ≡ false → all_flow (flows world) xs ys ≡ false
 one_not world xs ys [] h = absurd (clash h)
 one_not world xs ys (p ∷ written) h = by_test (flows_at world xs ys p) refl (λ rest. one_not world xs ys written rest)
   where
@@ -112,12 +108,12 @@ same_everywhere (x ∷ xs) (y ∷ ys) h =
 
 -- ---- what is written at a place, and put back
 
-set_here : {X : Type 0} (xs : List X) (i : ℕ) (x : X) → i < length xs → slice_get (set xs i x) i ≡ Some x
+pub set_here : {X : Type 0} (xs : List X) (i : ℕ) (x : X) → i < length xs → slice_get (set xs i x) i ≡ Some x
 set_here [] i x lt = absurd (omega (arith, lt))
 set_here (y ∷ xs) zero x lt = refl
 set_here (y ∷ xs) (suc i) x lt = set_here xs i x (omega (arith, lt))
 
-set_elsewhere : {X : Type 0} (xs : List X) (i k : ℕ) (x : X) → (i ≡ k → ⊥) → slice_get (set xs i x) k ≡ slice_get xs k
+pub set_elsewhere : {X : Type 0} (xs : List X) (i k : ℕ) (x : X) → (i ≡ k → ⊥) → slice_get (set xs i x) k ≡ slice_get xs k
 set_elsewhere [] zero k x e = refl
 set_elsewhere [] (suc i) k x e = refl
 set_elsewhere (y ∷ xs) zero zero x e = absurd (e refl)
@@ -164,7 +160,7 @@ none_there locals held place rest many none same k e = by_place (place == k) ref
 
 -- ---- by the numbers of names
 
-set_typed : (names : List (List ℕ)) (items : List Item) (place : ℕ) (item : Item) → typed_all names (set items place item) ≡ set (typed_all names items) place (typed names item)
+pub set_typed : (names : List (List ℕ)) (items : List Item) (place : ℕ) (item : Item) → typed_all names (set items place item) ≡ set (typed_all names items) place (typed names item)
 set_typed names [] zero item = refl
 set_typed names [] (suc place) item = refl
 set_typed names (x ∷ items) zero item = refl
@@ -223,29 +219,14 @@ all_put names held locals places k past same =
 
 -- ---- what is held in a pass
 
-pub notes_all : (may : ℕ → Bool) (old new : HeldFrame) (frame : NumberFrame) → new.place ≡ old.place → new.base ≡ old.base
-    → ((names : List (List ℕ)) → AreSameBut new.written (typed_all names old.base.locals) (typed_all names frame.locals)) → Notes may old new frame
-notes_all may old new frame place base same = by_place new.place place
-  where
-    by_place : (o : Option ℕ) → o ≡ old.place → NotesBy may old o new frame
-    by_place None e = tt
-    by_place (Some p) e = (sym e, base, λ names before b s. same names)
-
-pub notes_writes : (may : ℕ → Bool) (old new : HeldFrame) (frame : NumberFrame) → Writes may old new → Notes may old new frame
-notes_writes may old new frame writes = by_place new.place writes
-  where
-    by_place : (o : Option ℕ) → WritesBy may old o new → NotesBy may old o new frame
-    by_place None w = tt
-    by_place (Some p) w = (w.0, w.1, λ names before b s k e. let not = w.2 k e in s k not.0 ∙ b k not.1)
-
 module _ (pass : Pass) where
   -- what is held behind an instruction
-  still_held : (may : ℕ → Bool) (old new : HeldFrame) (before : List Item) (behind : NumberFrame) → IsHeldBy pass old.place old before → Notes may old new behind
-      → ((k : ℕ) → may k ≡ false → slice_get (typed_all (names_in pass) behind.locals) k ≡ slice_get (typed_all (names_in pass) before) k)
-      → IsHeldBy pass new.place new behind.locals
-  still_held may old new before behind held notes same = by_place new.place notes
+  pub held_behind : (may : ℕ → Bool) (old new : HeldFrame) (before behind : List Item) → IsHeldBy pass old.place old before → Writes may old new
+      → ((k : ℕ) → may k ≡ false → slice_get (typed_all (names_in pass) behind) k ≡ slice_get (typed_all (names_in pass) before) k)
+      → IsHeldBy pass new.place new behind
+  held_behind may old new before behind held writes same = by_place new.place writes
     where
-      by_place : (o : Option ℕ) → NotesBy may old o new behind → IsHeldBy pass o new behind.locals
+      by_place : (o : Option ℕ) → WritesBy may old o new → IsHeldBy pass o new behind
       by_place None w = tt
       by_place (Some p) w = λ entries at.
           let h : HoldsLocals pass entries old before = subst (λ (o : Option ℕ). IsHeldBy pass o old before) w.0 held entries at in
@@ -253,14 +234,8 @@ module _ (pass : Pass) where
             made = ap (λ (f : NumberFrame). locals_of pass.types f) w.1 ∙ h.made;
             flag = ap (λ (f : NumberFrame). f.flag_this_uninit) w.1 ∙ h.flag;
             many = ap (λ (f : NumberFrame). length f.locals) w.1 ∙ h.many;
-            same = subst (λ (f : NumberFrame). AreSameBut new.written (locals_of pass.types f) (typed_all (names_in pass) behind.locals)) (sym w.1) (w.2 (names_in pass) before h.same same);
+            same = λ k e. let not = w.2 k e in same k not.0 ∙ (h.same k not.1 ∙ ap (λ (f : NumberFrame). slice_get (locals_of pass.types f) k) (sym w.1));
           }
-
-  -- what is held behind an instruction, of which this is known in some environment
-  pub held_behind : WritesThere → (env : Environment) (pc : ℕ) (insn : Instruction) (old new : HeldFrame) (f g : NumberFrame) → IsHeldBy pass old.place old f.locals
-      → rule env pc insn (frame_of (names_in pass) f) ≡ Some (frame_of (names_in pass) g) → Notes (may_write insn) old new g → IsHeldBy pass new.place new g.locals
-  held_behind law env pc insn old new f g held left notes =
-      still_held (may_write insn) old new f.locals g held notes (law env pc insn (frame_of (names_in pass) f) (frame_of (names_in pass) g) left)
 
   -- what flows to the local entries that are held
   pub held_flow : (held : HeldFrame) (f : NumberFrame) (map : ReadFrame) → HoldsLocals pass map.locals held f.locals → length f.locals ≡ pass.max_locals

@@ -1,8 +1,10 @@
 pub mod Behind
 pub mod CaughtTypes
+pub mod Changing
 pub mod CodeFound
 pub mod Covering
 pub mod EntriesMade
+pub mod FlowingAgain
 pub mod FlowingStacks
 pub mod FlowsInto
 pub mod FramesAtInstructions
@@ -10,9 +12,9 @@ pub mod FramesSpelled
 pub mod Lists
 pub mod Holding
 pub mod MapFrames
+pub mod MovedLocals
 pub mod Opened
 pub mod Passing
-pub mod Reaching
 pub mod SameTypes
 pub mod Settings
 pub mod Shared

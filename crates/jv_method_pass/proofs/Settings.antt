@@ -120,16 +120,16 @@ pushed stack left whole e es so_far is =
 
 -- ---- the flag
 
+pub one_typed : (names : List (List ℕ)) (x : Item) → is_this x ≡ is_uninitialized_this (typed names x)
+one_typed names types.Top = refl
+one_typed names types.Int = refl
+one_typed names types.Long = refl
+one_typed names types.Null = refl
+one_typed names types.UninitializedThis = refl
+one_typed names (types.Class n) = refl
+one_typed names (types.Array c) = refl
+one_typed names (types.Uninitialized o) = refl
+
 pub this_typed : (names : List (List ℕ)) (items : List Item) → list_any is_this items ≡ list_any is_uninitialized_this (typed_all names items)
 this_typed names [] = refl
-this_typed names (x ∷ items) = ap (λ b. b || list_any is_this items) (one x) ∙ ap (λ b. is_uninitialized_this (typed names x) || b) (this_typed names items)
-  where
-    one : (x : Item) → is_this x ≡ is_uninitialized_this (typed names x)
-    one types.Top = refl
-    one types.Int = refl
-    one types.Long = refl
-    one types.Null = refl
-    one types.UninitializedThis = refl
-    one (types.Class n) = refl
-    one (types.Array c) = refl
-    one (types.Uninitialized o) = refl
+this_typed names (x ∷ items) = ap (λ b. b || list_any is_this items) (one_typed names x) ∙ ap (λ b. is_uninitialized_this (typed names x) || b) (this_typed names items)

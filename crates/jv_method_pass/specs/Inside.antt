@@ -1,10 +1,12 @@
+pub mod Changes
 pub mod Cover
+pub mod Flowed
 pub mod Held
 pub mod Kept
 pub mod Locals
+pub mod Moved
 pub mod Opening
 pub mod Parts
-pub mod Reached
 pub mod Settled
 pub mod Stacks
 pub mod Walk

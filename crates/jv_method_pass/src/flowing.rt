@@ -53,7 +53,7 @@ fn left_in(object: Option<Item>, local: Item) -> Item
 }
 
 /// Whether the local variables flow to a frame's entries, once an object cannot be used any more.
-fn locals_flow(
+pub(crate) fn locals_flow(
     types: &EntryTypes<'_, '_, '_>,
     frame: &TypeFrame,
     object: Option<Item>,
@@ -117,7 +117,11 @@ pub(crate) fn has_this(types: &EntryTypes<'_, '_, '_>, map: &MapFrame<'_>) -> bo
 }
 
 /// Whether a frame of the map may have `this` as the frame before it has it.
-fn flag_flows(types: &EntryTypes<'_, '_, '_>, frame: &TypeFrame, map: &MapFrame<'_>) -> bool
+pub(crate) fn flag_flows(
+    types: &EntryTypes<'_, '_, '_>,
+    frame: &TypeFrame,
+    map: &MapFrame<'_>,
+) -> bool
     ensures { result ≡ (not frame.now.flag_this_uninit || has_uninitialized_this types.now map.now) }
 {
     !frame.flag_this_uninit() || has_this(types, map)

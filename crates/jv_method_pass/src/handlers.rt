@@ -12,12 +12,13 @@ ghost use Rattle.jv_types.specs.Numbered.{frame_of};
 ghost use Rattle.jv_method_pass.specs.Pass.{IsOfPass, maps_of, names_in};
 ghost use Rattle.jv_method_pass.specs.Inside.Held.{IsHeld};
 ghost use Rattle.jv_method_pass.specs.Inside.Opening.{passes_at};
-ghost use Rattle.jv_method_pass.specs.Inside.Reached.{AreReached};
+ghost use Rattle.jv_method_pass.specs.Inside.Flowed.{HaveFlowed};
 ghost use Rattle.jv_method_pass.specs.Inside.Settled.{is_settled, unsettled_holds};
 
+use crate::flowed::FlowedLocals;
 use crate::held::Held;
+use crate::merging::thrown_flows_to_map;
 use crate::pass::Pass;
-use crate::reached::{Reached, thrown_flows_to_map};
 use jv_format::Handler;
 use jv_types::{Item, TypeFrame};
 
@@ -25,18 +26,18 @@ use jv_types::{Item, TypeFrame};
 fn handles(
     pass: &Pass<'_, '_, '_, '_, '_>,
     held: &Held,
-    reached: &mut Reached,
+    flowed: &mut FlowedLocals,
     frame: &TypeFrame,
     object: Option<Item>,
     handler: Handler,
 ) -> bool
     requires locals { length frame.now.locals ≡ pass.now.max_locals }
     requires held { IsHeld pass.now held.now frame.now }
-    requires reached { AreReached pass.now reached.old.frames.items }
+    requires flowed { HaveFlowed pass.now flowed.old.writes.items flowed.old.frames.items frame.now.locals }
     ensures hold { (env : Environment) (insn : Instruction) → IsOfPass pass.now env
         → option_map (typed (names_in pass.now)) object ≡ constructed_object env insn (frame_of (names_in pass.now) frame.now)
         → result ≡ handles env (maps_of pass.now) (handler_frame env insn (frame_of (names_in pass.now) frame.now)) handler }
-    ensures reached { AreReached pass.now reached.new.frames.items }
+    ensures flowed { HaveFlowed pass.now flowed.new.writes.items flowed.new.frames.items frame.now.locals }
 {
     let _types = &pass.types;
     let Some(thrown) = pass.catch_type(handler.catch_type) else {
@@ -44,7 +45,7 @@ fn handles(
     };
     match pass.map_at(u32::from(handler.handler_pc)) {
         Some((place, map)) => {
-            thrown_flows_to_map(pass, held, reached, frame, object, thrown, place, &map)
+            thrown_flows_to_map(pass, held, flowed, frame, object, thrown, place, &map)
         }
         None => false,
     }
@@ -70,7 +71,7 @@ fn is_settled(settled: Option<u32>, handler: Handler) -> bool
 fn unsettled_holds(
     pass: &Pass<'_, '_, '_, '_, '_>,
     held: &Held,
-    reached: &mut Reached,
+    flowed: &mut FlowedLocals,
     frame: &TypeFrame,
     object: Option<Item>,
     settled: Option<u32>,
@@ -78,20 +79,20 @@ fn unsettled_holds(
 ) -> bool
     requires locals { length frame.now.locals ≡ pass.now.max_locals }
     requires held { IsHeld pass.now held.now frame.now }
-    requires reached { AreReached pass.now reached.old.frames.items }
+    requires flowed { HaveFlowed pass.now flowed.old.writes.items flowed.old.frames.items frame.now.locals }
     ensures hold { (env : Environment) (insn : Instruction) → IsOfPass pass.now env
         → option_map (typed (names_in pass.now)) object ≡ constructed_object env insn (frame_of (names_in pass.now) frame.now)
         → result ≡ unsettled_holds settled env (maps_of pass.now) insn (frame_of (names_in pass.now) frame.now) handler }
-    ensures reached { AreReached pass.now reached.new.frames.items }
+    ensures flowed { HaveFlowed pass.now flowed.new.writes.items flowed.new.frames.items frame.now.locals }
 {
-    is_settled(settled, handler) || handles(pass, held, reached, frame, object, handler)
+    is_settled(settled, handler) || handles(pass, held, flowed, frame, object, handler)
 }
 
 /// Whether a handler covers no instruction at an offset, is settled, or what it begins with flows to the frame of the map there.
 fn handler_holds(
     pass: &Pass<'_, '_, '_, '_, '_>,
     held: &Held,
-    reached: &mut Reached,
+    flowed: &mut FlowedLocals,
     frame: &TypeFrame,
     object: Option<Item>,
     settled: Option<u32>,
@@ -100,21 +101,20 @@ fn handler_holds(
 ) -> bool
     requires locals { length frame.now.locals ≡ pass.now.max_locals }
     requires held { IsHeld pass.now held.now frame.now }
-    requires reached { AreReached pass.now reached.old.frames.items }
+    requires flowed { HaveFlowed pass.now flowed.old.writes.items flowed.old.frames.items frame.now.locals }
     ensures hold { (env : Environment) (insn : Instruction) → IsOfPass pass.now env
         → option_map (typed (names_in pass.now)) object ≡ constructed_object env insn (frame_of (names_in pass.now) frame.now)
         → result ≡ passes_at offset (unsettled_holds settled env (maps_of pass.now) insn (frame_of (names_in pass.now) frame.now)) handler }
-    ensures reached { AreReached pass.now reached.new.frames.items }
+    ensures flowed { HaveFlowed pass.now flowed.new.writes.items flowed.new.frames.items frame.now.locals }
 {
-    !covers(handler, offset)
-        || unsettled_holds(pass, held, reached, frame, object, settled, handler)
+    !covers(handler, offset) || unsettled_holds(pass, held, flowed, frame, object, settled, handler)
 }
 
 /// Whether each of some handlers that covers an instruction, which constructs this object or none, is settled or holds.
 pub(crate) fn handlers_hold(
     pass: &Pass<'_, '_, '_, '_, '_>,
     held: &Held,
-    reached: &mut Reached,
+    flowed: &mut FlowedLocals,
     frame: &TypeFrame,
     object: Option<Item>,
     settled: Option<u32>,
@@ -123,18 +123,18 @@ pub(crate) fn handlers_hold(
 ) -> bool
     requires locals { length frame.now.locals ≡ pass.now.max_locals }
     requires held { IsHeld pass.now held.now frame.now }
-    requires reached { AreReached pass.now reached.old.frames.items }
+    requires flowed { HaveFlowed pass.now flowed.old.writes.items flowed.old.frames.items frame.now.locals }
     ensures hold { (env : Environment) (insn : Instruction) → IsOfPass pass.now env
         → option_map (typed (names_in pass.now)) object ≡ constructed_object env insn (frame_of (names_in pass.now) frame.now)
         → result ≡ list_all (passes_at offset
         (unsettled_holds settled env (maps_of pass.now) insn (frame_of (names_in pass.now) frame.now))) handlers.now }
-    ensures reached { AreReached pass.now reached.new.frames.items }
+    ensures flowed { HaveFlowed pass.now flowed.new.writes.items flowed.new.frames.items frame.now.locals }
 {
     for k in 0..handlers.len() {
         if !handler_holds(
             pass,
             held,
-            reached,
+            flowed,
             frame,
             object,
             settled,

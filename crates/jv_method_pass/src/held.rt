@@ -7,22 +7,24 @@ ghost use Rattle.std.specs.Option.{option_map};
 ghost use Rattle.jv_code.specs.Insns.{instruction_of};
 ghost use Rattle.jv_frames.specs.declared.entry.FrameEntry.{FrameEntry};
 ghost use Rattle.jv_frames.specs.Entries.{locals_in};
-ghost use Rattle.jv_rules.specs.Laws.{is_beside, may_write};
+ghost use Rattle.jv_rules.specs.Laws.{is_beside};
+ghost use Rattle.jv_method_pass.specs.Inside.Changes.{may_change_at};
 ghost use Rattle.jv_types.specs.Typed.{typed, typed_all};
 ghost use Rattle.jv_types.specs.Numbered.{Item, frame_of, with_flag, with_locals, with_stack};
 ghost use Rattle.jv_method_pass.specs.Mapped.{expanded_entries, frame_by_types, names_of_types, stack_flows_to, types_of_entries};
 ghost use Rattle.jv_method_pass.specs.Pass.{names_in, HasRoom};
-ghost use Rattle.jv_method_pass.specs.Inside.Held.{is_written, AreSameBut, HoldsLocals, IsHeldBy, IsHeld, Notes, Writes, flows_at, held_flag_flows, held_locals_flow, with_held_at};
+ghost use Rattle.jv_method_pass.specs.Inside.Flowed.{is_between};
+ghost use Rattle.jv_method_pass.specs.Inside.Held.{is_written, AreSameBut, HoldsLocals, IsHeldBy, IsHeld, Writes, flows_at, held_flag_flows, held_locals_flow, with_held_at};
 
+use crate::changes::stored_index;
 use crate::cover::mark;
 use crate::entries::EntryTypes;
 use crate::flowing::thrown_stack_flows;
+use crate::moving::follow;
 use crate::pass::Pass;
 use crate::setting::set_to_map;
-use jv_code::{Insn, Invocation};
-use jv_frames::{MapFrame, VerificationTypeOf};
-use jv_rules::keeps_locals;
-use jv_text::{Element, FieldTypeOf};
+use jv_code::Insn;
+use jv_frames::MapFrame;
 use jv_types::{Item, TypeFrame, TypeNames};
 use std::alloc::{AllocError, Global};
 use std::marker::Model;
@@ -60,11 +62,6 @@ impl Drop for Held {
             marks: _,
         } = self;
     }
-}
-
-/// Whether an instruction can replace types in all local variables.
-fn may_write_anywhere(insn: &Insn<&[u8]>) -> bool {
-    matches!(insn, Insn::New(_) | Insn::Invoke(Invocation::Special, _))
 }
 
 fn is_marked(marks: &[bool], place: u16) -> bool
@@ -130,52 +127,6 @@ pub(crate) fn put_back(frame: &mut TypeFrame, base: &TypeFrame, places: &[u16])
     }
 }
 
-fn is_same_element(one: Element<u32>, other: Element<u32>) -> bool
-    ensures { IsTrue result → one ≡ other }
-{
-    match (one, other) {
-        (Element::Class(one), Element::Class(other)) => one == other,
-        _ => false,
-    }
-}
-
-fn is_same_field(one: FieldTypeOf<u32>, other: FieldTypeOf<u32>) -> bool
-    ensures { IsTrue result → one ≡ other }
-{
-    one.dimensions == other.dimensions && is_same_element(one.element, other.element)
-}
-
-/// Whether two types are known to be one, by the numbers of their names.
-fn is_same(one: Item, other: Item) -> bool
-    ensures { IsTrue result → one ≡ other }
-{
-    match (one, other) {
-        (VerificationTypeOf::Top, VerificationTypeOf::Top) => true,
-        (VerificationTypeOf::Int, VerificationTypeOf::Int) => true,
-        (VerificationTypeOf::Long, VerificationTypeOf::Long) => true,
-        (VerificationTypeOf::Null, VerificationTypeOf::Null) => true,
-        (VerificationTypeOf::UninitializedThis, VerificationTypeOf::UninitializedThis) => true,
-        (VerificationTypeOf::Class(one), VerificationTypeOf::Class(other)) => one == other,
-        (VerificationTypeOf::Array(one), VerificationTypeOf::Array(other)) => {
-            is_same_field(one, other)
-        }
-        (VerificationTypeOf::Uninitialized(one), VerificationTypeOf::Uninitialized(other)) => {
-            one == other
-        }
-        _ => false,
-    }
-}
-
-/// Whether two frames have one type at a place, by the numbers of names.
-pub(crate) fn is_same_at(frame: &TypeFrame, base: &TypeFrame, place: u16) -> bool
-    ensures { IsTrue result → slice_get frame.now.locals place ≡ slice_get base.now.locals place }
-{
-    match (frame.local(place), base.local(place)) {
-        (Some(one), Some(other)) => is_same(one, other),
-        _ => false,
-    }
-}
-
 impl Held {
     /// Nothing is held.
     pub(crate) fn new(alloc: Global) -> Result<Held, AllocError>
@@ -189,20 +140,6 @@ impl Held {
             written: Vec::new(alloc),
             marks: Vec::new(alloc),
         })
-    }
-
-    /// The place of the frame that is held, where one is.
-    pub(crate) fn place(&self) -> Option<usize>
-        ensures { result ≡ self.now.place }
-    {
-        self.place
-    }
-
-    /// The frame that is held, as it was made.
-    pub(crate) fn base(&self) -> &TypeFrame
-        ensures { result.now ≡ self.now.base }
-    {
-        &self.base
     }
 
     /// Where local variables may have been written since.
@@ -221,24 +158,6 @@ impl Held {
         match self.place {
             Some(held) => pass.share_locals(held, place),
             None => false,
-        }
-    }
-
-    /// Whether no object is constructed, and the local entries of the frame of the map at a place are those that are held.
-    pub(crate) fn is_of_without(
-        &self,
-        pass: &Pass<'_, '_, '_, '_, '_>,
-        object: Option<Item>,
-        place: usize,
-    ) -> bool
-        ensures object { IsTrue result → object ≡ None }
-        ensures held { IsTrue result → (entries : List FrameEntry) (locals : List Item)
-            → option_map locals_in (slice_get pass.now.frames place) ≡ Some entries
-            → IsHeldBy pass.now self.now.place self.now locals → HoldsLocals pass.now entries self.now locals }
-    {
-        match object {
-            Some(_) => false,
-            None => self.is_of(pass, place),
         }
     }
 
@@ -277,74 +196,38 @@ impl Held {
         self.add(next)
     }
 
-    /// Where an instruction may write.
-    fn note_writes(&mut self, insn: &Insn<&[u8]>) -> Result<(), AllocError>
-        ensures { IfOk result (λ _. Writes (may_write (instruction_of insn.now)) self.old self.new) }
+    /// Local variables at these places may be written.
+    fn add_all(&mut self, places: &[u16]) -> Result<(), AllocError>
+        ensures { IfOk result (λ _. Writes (is_written places.now) self.old self.new) }
     {
-        if keeps_locals(insn) {
-            return Ok(());
-        }
-        match *insn {
-            Insn::Store(_, index, _) => self.add_beside(index),
-            Insn::StoreLong(index, _) => self.add_beside(index),
-            _ => {
-                self.forget();
-                Ok(())
-            }
-        }
-    }
-
-    /// Compares local variables, of which there are so many, with those that are held: where they differ they may have been written.
-    fn compare(&mut self, frame: &TypeFrame, count: u16) -> Result<(), AllocError>
-        requires frame { length frame.now.locals ≡ count }
-        requires base { length self.old.base.locals ≡ count }
-        ensures place { self.new.place ≡ self.old.place }
-        ensures base { self.new.base ≡ self.old.base }
-        ensures same { IfOk result
-            (λ _. (names : List (List ℕ))
-            → AreSameBut self.new.written (typed_all names self.old.base.locals) (typed_all names frame.now.locals)) }
-    {
-        for place in 0..count {
-            if !is_same_at(frame, &self.base, place) {
-                self.add(place)?;
-            }
+        for k in 0..places.len() {
+            self.add(places[k])?;
         }
         Ok(())
     }
 
-    /// Looks where local variables, of which there are so many, differ from those that are held.
-    fn renew(&mut self, frame: &TypeFrame, count: u16) -> Result<(), AllocError>
-        requires { length frame.now.locals ≡ count }
-        ensures { IfOk result (λ _. (may : ℕ → Bool) → Notes may self.old self.new frame.now) }
+    /// Local variables may be written where an instruction stores, or at some other places.
+    pub(crate) fn note(&mut self, copies: &[u16], insn: &Insn<&[u8]>) -> Result<(), AllocError>
+        ensures { IfOk result (λ _. Writes (may_change_at copies.now (instruction_of insn.now)) self.old self.new) }
     {
-        if self.base.local_count() != usize::from(count) {
-            self.forget();
+        if let Some(index) = stored_index(insn) {
+            self.add_beside(index)?;
             return Ok(());
         }
-        self.compare(frame, count)?;
+        self.add_all(copies)?;
         Ok(())
     }
 
-    /// What an instruction may have written of the local variables that it has left, of which there are so many.
-    pub(crate) fn note(
-        &mut self,
-        frame: &TypeFrame,
-        count: u16,
-        insn: &Insn<&[u8]>,
-    ) -> Result<(), AllocError>
-        requires { length frame.now.locals ≡ count }
-        ensures { IfOk result (λ _. Notes (may_write (instruction_of insn.now)) self.old self.new frame.now) }
+    /// What memory is got from.
+    pub(crate) fn alloc(&self) -> Global {
+        self.alloc
+    }
+
+    /// Whether nothing is held.
+    pub(crate) fn is_none(&self) -> bool
+        ensures { IsTrue result → self.now.place ≡ None }
     {
-        if self.place.is_none() {
-            self.forget();
-            return Ok(());
-        }
-        if may_write_anywhere(insn) {
-            self.renew(frame, count)?;
-            return Ok(());
-        }
-        self.note_writes(insn)?;
-        Ok(())
+        self.place.is_none()
     }
 
     /// Whether the local variables of a frame flow to those that are held.
@@ -409,7 +292,7 @@ impl Held {
     {
         self.marks.clear();
         self.written.clear();
-        self.marks.resize(usize::from(count), false)?;
+        self.marks.resize(usize::from(count) + 1, false)?;
         Ok(())
     }
 
@@ -426,27 +309,42 @@ impl Held {
         Ok(())
     }
 
-    /// Makes what is held the local variables and the flag of another frame of the map, at a place, which differ from it only at some
-    /// places.
-    pub(crate) fn change(
-        &mut self,
-        made: &TypeFrame,
-        other: &[u16],
-        place: usize,
-        count: u16,
-    ) -> Result<(), AllocError>
-        ensures locals { OnOk result ((names : List (List ℕ)) → length self.old.base.locals ≡ length made.now.locals
-            → AreSameBut other.now (typed_all names made.now.locals) (typed_all names self.old.base.locals)
-            → typed_all names self.new.base.locals ≡ typed_all names made.now.locals) }
-        ensures many { length self.new.base.locals ≡ length self.old.base.locals }
-        ensures flag { self.new.base.flag_this_uninit ≡ made.now.flag_this_uninit }
-        ensures place { OnOk result (self.new.place ≡ Some place) }
-        ensures written { OnOk result (self.new.written ≡ []) }
+    /// Local variables from a place on, before another, may be written.
+    fn add_between(&mut self, from: u16, to: u16) -> Result<(), AllocError>
+        ensures place { self.new.place ≡ self.old.place }
+        ensures base { self.new.base ≡ self.old.base }
+        ensures written { IfOk result (λ _. (k : ℕ) → is_written self.new.written k ≡ false
+            → (is_between from to k ≡ false) × (is_written self.old.written k ≡ false)) }
     {
-        put_back(&mut self.base, made, other);
-        self.base.set_flag(made.flag_this_uninit());
-        self.clear_written(count)?;
+        for place in from..to {
+            self.add(place)?;
+        }
+        Ok(())
+    }
+
+    /// Comes to hold the frame of the map at a place, if it shares all but few local entries with the one that is held.
+    pub(crate) fn follow(
+        &mut self,
+        pass: &Pass<'_, '_, '_, '_, '_>,
+        place: usize,
+        map: &MapFrame<'_>,
+    ) -> Result<(), AllocError>
+        requires at { slice_get pass.now.frames place ≡ Some map.now }
+        requires room { HasRoom pass.now.types pass.now.max_locals map.now }
+        ensures { OnOk result ((locals : List Item) → IsHeldBy pass.now self.old.place self.old locals
+            → IsHeldBy pass.now self.new.place self.new locals) }
+    {
+        let Some(held) = self.place else {
+            return Ok(());
+        };
+        if pass.share_locals(held, place) {
+            return Ok(());
+        }
+        let Some((from, to)) = follow(pass, &mut self.base, held, place, map) else {
+            return Ok(());
+        };
         self.place = Some(place);
+        self.add_between(from, to)?;
         Ok(())
     }
 

@@ -3,16 +3,19 @@
 #![tactic(auto)]
 
 mod catching;
+mod changes;
 mod cover;
 mod entries;
 mod fault;
+mod flowed;
 mod flowing;
 mod handlers;
 mod held;
 mod maps;
+mod merging;
+mod moving;
 mod opening;
 mod pass;
-mod reached;
 mod setting;
 mod stacks;
 mod standing;

@@ -10,6 +10,7 @@ ghost use Rattle.jv_meaning_typing.specs.Environment.{Environment};
 ghost use Rattle.jv_meaning_typing.specs.Typing.{catch_type, frame_at};
 ghost use Rattle.jv_types.specs.Typed.{typed, typed_all};
 ghost use Rattle.jv_method_pass.specs.Pass.{IsOfPass, HasRoom, names_in, IsFrameAt};
+ghost use Rattle.jv_method_pass.specs.Inside.Kept.{SharesWith};
 
 use crate::catching::catch_type;
 use crate::entries::EntryTypes;
@@ -18,6 +19,9 @@ use jv_frames::{MapFrame, MapFrames, offsets_rise};
 use jv_rules::MethodContext;
 use jv_types::Item;
 use std::marker::Model;
+
+/// The part of the words of a frame's local entries that it has apart from another at most that shares all but few: one in so many.
+const FAR: u16 = 4;
 
 /// A method whose code is checked: what the rules ask of it, its initial local entries, with their words, its handlers, and
 /// the frames of its stack map.
@@ -123,6 +127,21 @@ impl<'p, 'm, 'e, 't, 'a> Pass<'p, 'm, 'e, 't, 'a> {
     {
         let count = self.frames.count();
         place < count && other < count && self.frames.share_locals(place, other)
+    }
+
+    /// The words of the local entries of the frame of the map at a place, and how many of the last entries of another are above those that
+    /// both are known to share, where it has but few others.
+    pub(crate) fn shared_with(&self, place: usize, other: usize) -> Option<(u16, usize)>
+        ensures { IfSome result (λ x. SharesWith self.now place other x.0 x.1) }
+    {
+        let count = self.frames.count();
+        if place >= count || other >= count {
+            return None;
+        }
+        let words = self.frames.frame_at(place).local_words();
+        let most = usize::from(words / FAR);
+        let above = self.frames.above_shared(place, other, most)?;
+        Some((words, above.1))
     }
 
     /// The type that a handler with this index catches; `None` where the index names none.

@@ -15,7 +15,7 @@ use jv_types::{Item, TypeFrame};
 use std::alloc::AllocError;
 
 /// Gives the local variables, which hold nothing, the types of a frame's entries.
-fn set_locals(types: &EntryTypes<'_, '_, '_>, frame: &mut TypeFrame, map: &MapFrame<'_>)
+pub(crate) fn set_locals(types: &EntryTypes<'_, '_, '_>, frame: &mut TypeFrame, map: &MapFrame<'_>)
     requires blank { frame.old ≡ blank (length frame.old.locals) }
     requires words { map.now.local_words ≡ local_entry_words types.now map.now }
     requires room { map.now.local_words ≤ length frame.old.locals }
@@ -91,7 +91,8 @@ fn set_initial_locals(frame: &mut TypeFrame, entries: &[Item], count: u16)
     }
 }
 
-fn is_this(item: Item) -> bool
+/// Whether a type is that of `this` where it is not initialized.
+pub(crate) fn is_this(item: Item) -> bool
     ensures { result ≡ is_this item }
 {
     matches!(item, VerificationTypeOf::UninitializedThis)

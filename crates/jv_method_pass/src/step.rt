@@ -1,32 +1,36 @@
 //! A step over an instruction.
 
-ghost use Rattle.std.specs.Prelude.{◌≡◌, ◌<◌, None, Some, IfOk, OnOk, IfSome, IsTrue, length};
+ghost use Rattle.std.specs.Prelude.{◌≡◌, ◌<◌, [], None, Some, IfOk, OnOk, IfSome, IsTrue, length};
 ghost use Rattle.jv_code.specs.Insns.{instruction_of};
 ghost use Rattle.jv_meaning_typing.specs.Environment.{Environment, instruction_at};
 ghost use Rattle.jv_meaning_typing.specs.Typing.{frame_at, handlers_hold};
 ghost use Rattle.jv_rules.specs.Laws.{keeps_locals};
 ghost use Rattle.jv_types.specs.Numbered.{frame_of};
-ghost use Rattle.jv_method_pass.specs.Pass.{IsOfPass, maps_of, names_in, Tests};
+ghost use Rattle.jv_method_pass.specs.Pass.{IsOfPass, InPass, maps_of, names_in, Tests};
+ghost use Rattle.jv_method_pass.specs.Inside.Changes.{may_change};
 ghost use Rattle.jv_method_pass.specs.Inside.Cover.{IsCover};
-ghost use Rattle.jv_method_pass.specs.Inside.Held.{IsHeld};
+ghost use Rattle.jv_method_pass.specs.Inside.Held.{IsHeld, Writes};
 ghost use Rattle.jv_method_pass.specs.Inside.Opening.{AreOpenings};
-ghost use Rattle.jv_method_pass.specs.Inside.Reached.{AreReached};
+ghost use Rattle.jv_method_pass.specs.Inside.Flowed.{HaveFlowed, Lists};
 ghost use Rattle.jv_method_pass.specs.Inside.Settled.{AreSettled, AreSettledIn};
 ghost use Rattle.jv_method_pass.specs.Inside.Stacks.{AreFlowed};
 ghost use Rattle.jv_method_pass.specs.Inside.Walk.{Reaches, IsStep, merged, when_falls, IsMerged};
 
+use crate::changes::copies_changed;
 use crate::cover::{Cover, is_quiet};
+use crate::flowed::FlowedLocals;
 use crate::handlers::handlers_hold;
 use crate::held::Held;
+use crate::merging::{flows_to_map, set_frame};
 use crate::opening::Openings;
 use crate::pass::Pass;
-use crate::reached::{Reached, flows_to_map, set_frame};
 use crate::stacks::FlowedStacks;
 use crate::targets::targets_hold;
 use jv_code::{Insn, stands_in_list, starts_apart};
 use jv_meaning_typing::VerifyRule;
 use jv_rules::{
-    apply, constructed_object, keeps_local_count, leaves_below, leaves_locals, writes_there,
+    apply, constructed_object, keeps_local_count, keeps_locals, leaves_below, leaves_locals,
+    writes_there,
 };
 use jv_types::{Item, TypeFrame};
 use std::alloc::AllocError;
@@ -35,7 +39,7 @@ use std::alloc::AllocError;
 fn merge(
     pass: &Pass<'_, '_, '_, '_, '_>,
     held: &mut Held,
-    reached: &mut Reached,
+    flowed: &mut FlowedLocals,
     stacks: &mut FlowedStacks,
     frame: &mut TypeFrame,
     falls: bool,
@@ -43,12 +47,12 @@ fn merge(
 ) -> Result<bool, AllocError>
     requires locals { length frame.old.locals ≡ pass.now.max_locals }
     requires held { IsHeld pass.now held.old frame.old }
-    requires reached { AreReached pass.now reached.old.frames.items }
+    requires flowed { HaveFlowed pass.now flowed.old.writes.items flowed.old.frames.items frame.old.locals }
     requires stacks { AreFlowed pass.now stacks.old.stacks.items frame.old }
     ensures merged { IsMerged pass.now offset falls frame.old frame.new result }
     ensures locals { length frame.new.locals ≡ pass.now.max_locals }
     ensures held { OnOk result (IsHeld pass.now held.new frame.new) }
-    ensures reached { AreReached pass.now reached.new.frames.items }
+    ensures flowed { OnOk result (HaveFlowed pass.now flowed.new.writes.items flowed.new.frames.items frame.new.locals) }
     ensures stacks { OnOk result (AreFlowed pass.now stacks.new.stacks.items frame.new) }
 {
     let _types = &pass.types;
@@ -56,10 +60,10 @@ fn merge(
         return Ok(falls);
     };
     stacks.clear();
-    if falls && !flows_to_map(pass, held, reached, frame, place, &map) {
+    if falls && !flows_to_map(pass, held, flowed, frame, place, &map) {
         return Ok(false);
     }
-    set_frame(pass, held, reached, frame, place, &map)?;
+    set_frame(pass, held, flowed, frame, place, &map)?;
     Ok(true)
 }
 
@@ -94,7 +98,7 @@ fn is_handled(
     cover: &Cover,
     openings: &mut Openings,
     held: &Held,
-    reached: &mut Reached,
+    flowed: &mut FlowedLocals,
     frame: &TypeFrame,
     settled: Option<u32>,
     offset: u32,
@@ -105,10 +109,10 @@ fn is_handled(
     requires openings { AreOpenings pass.now openings.old }
     requires settled { AreSettledIn pass.now settled frame.now }
     requires held { IsHeld pass.now held.now frame.now }
-    requires reached { AreReached pass.now reached.old.frames.items }
+    requires flowed { HaveFlowed pass.now flowed.old.writes.items flowed.old.frames.items frame.now.locals }
     ensures hold { IfOk result (Tests pass.now (λ env maps f. handlers_hold env maps offset (instruction_of insn.now) f) frame.now) }
     ensures openings { openings.new.handlers ≡ openings.old.handlers }
-    ensures reached { AreReached pass.now reached.new.frames.items }
+    ensures flowed { HaveFlowed pass.now flowed.new.writes.items flowed.new.frames.items frame.now.locals }
 {
     let object = constructed_object(pass.context, frame, insn);
     let settled = settled_without(object, settled);
@@ -117,7 +121,44 @@ fn is_handled(
     }
     openings.go_to(offset)?;
     let opened = openings.opened();
-    Ok(handlers_hold(pass, held, reached, frame, object, settled, offset, opened))
+    Ok(handlers_hold(pass, held, flowed, frame, object, settled, offset, opened))
+}
+
+/// Whether nothing is held, and nothing kept.
+fn keeps_none(held: &Held, flowed: &FlowedLocals) -> bool
+    ensures held { IsTrue result → held.now.place ≡ None }
+    ensures flowed { IsTrue result → flowed.now.frames.items ≡ [] }
+{
+    held.is_none() && flowed.is_none()
+}
+
+/// Notes where an instruction can change local variables.
+fn note(
+    pass: &Pass<'_, '_, '_, '_, '_>,
+    held: &mut Held,
+    flowed: &mut FlowedLocals,
+    frame: &TypeFrame,
+    offset: u16,
+    insn: &Insn<&[u8]>,
+) -> Result<(), AllocError>
+    requires { length frame.now.locals ≡ pass.now.max_locals }
+    ensures held { OnOk result (InPass pass.now (λ env.
+        Writes (may_change env offset (instruction_of insn.now) (frame_of (names_in pass.now) frame.now)) held.old held.new)) }
+    ensures flowed { OnOk result (InPass pass.now (λ env.
+        Lists (may_change env offset (instruction_of insn.now) (frame_of (names_in pass.now) frame.now))
+        flowed.old.writes.items flowed.old.frames.items flowed.new.writes.items flowed.new.frames.items)) }
+{
+    let _types = &pass.types;
+    if keeps_locals(insn) {
+        return Ok(());
+    }
+    if keeps_none(held, flowed) {
+        return Ok(());
+    }
+    let copies = copies_changed(held.alloc(), pass, frame, offset, insn)?;
+    held.note(&copies, insn)?;
+    flowed.note(&copies, insn);
+    Ok(())
 }
 
 /// Goes over an instruction, and answers the first rule that is broken there, if one is. The frame is what falls into the
@@ -127,7 +168,7 @@ pub(crate) fn step(
     cover: &Cover,
     openings: &mut Openings,
     held: &mut Held,
-    reached: &mut Reached,
+    flowed: &mut FlowedLocals,
     stacks: &mut FlowedStacks,
     frame: &mut TypeFrame,
     falls: bool,
@@ -140,7 +181,7 @@ pub(crate) fn step(
     requires settled { AreSettledIn pass.now settled frame.old }
     requires openings { AreOpenings pass.now openings.old }
     requires held { IsHeld pass.now held.old frame.old }
-    requires reached { AreReached pass.now reached.old.frames.items }
+    requires flowed { HaveFlowed pass.now flowed.old.writes.items flowed.old.frames.items frame.old.locals }
     requires stacks { AreFlowed pass.now stacks.old.stacks.items frame.old }
     requires offset { offset < 65536 }
     requires method { (env : Environment) × IsOfPass pass.now env }
@@ -149,7 +190,8 @@ pub(crate) fn step(
         → IfOk result (IsStep env (maps_of pass.now) offset (instruction_of insn.now) (frame_of (names_in pass.now) frame.new)) }
     ensures locals { IfOk result (λ found. found ≡ None → length frame.new.locals ≡ pass.now.max_locals) }
     ensures held { IfOk result (λ found. found ≡ None → IsHeld pass.now held.new frame.new) }
-    ensures reached { AreReached pass.now reached.new.frames.items }
+    ensures flowed { IfOk result (λ found. found ≡ None
+        → HaveFlowed pass.now flowed.new.writes.items flowed.new.frames.items frame.new.locals) }
     ensures stacks { IfOk result (λ found. found ≡ None → AreFlowed pass.now stacks.new.stacks.items frame.new) }
     ensures openings { openings.new.handlers ≡ openings.old.handlers }
     ensures settled { (env : Environment) → IsOfPass pass.now env → IsTrue (keeps_locals (instruction_of insn.now))
@@ -161,22 +203,22 @@ pub(crate) fn step(
     leaves_locals();
     writes_there();
     leaves_below();
-    if !merge(pass, held, reached, stacks, frame, falls, offset)? {
+    if !merge(pass, held, flowed, stacks, frame, falls, offset)? {
         return Ok(Some(VerifyRule::Merge));
     }
     let settled = settled_at(pass, settled, offset);
     if !is_handled(
-        pass, cover, openings, held, reached, frame, settled, offset, insn,
+        pass, cover, openings, held, flowed, frame, settled, offset, insn,
     )? {
         return Ok(Some(VerifyRule::CoveredHandler));
     }
     stacks.go_into(pass, frame, insn);
+    note(pass, held, flowed, frame, offset as u16, insn)?;
     if !apply(pass.context, frame, offset as u16, insn)? {
         return Ok(Some(VerifyRule::Instruction));
     }
-    held.note(frame, pass.max_locals, insn)?;
     stacks.go_behind(frame.height());
-    if !targets_hold(pass, held, reached, stacks, frame, offset, insn) {
+    if !targets_hold(pass, held, flowed, stacks, frame, offset, insn) {
         return Ok(Some(VerifyRule::BranchTarget));
     }
     Ok(None)

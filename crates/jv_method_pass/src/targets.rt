@@ -8,13 +8,14 @@ ghost use Rattle.jv_code.specs.Targets.{target_of};
 ghost use Rattle.jv_meaning_typing.specs.Typing.{flows_into, frame_at};
 ghost use Rattle.jv_method_pass.specs.Inside.Walk.{distance_holds, pair_holds, table_holds, all_hold, distances_of};
 ghost use Rattle.jv_method_pass.specs.Inside.Held.{IsHeld};
-ghost use Rattle.jv_method_pass.specs.Inside.Reached.{AreReached};
+ghost use Rattle.jv_method_pass.specs.Inside.Flowed.{HaveFlowed};
 ghost use Rattle.jv_method_pass.specs.Inside.Stacks.{AreFlowed};
 ghost use Rattle.jv_method_pass.specs.Pass.{Tests};
 
+use crate::flowed::FlowedLocals;
 use crate::held::Held;
+use crate::merging::flows_by_stack;
 use crate::pass::Pass;
-use crate::reached::{Reached, flows_by_stack};
 use crate::stacks::FlowedStacks;
 use jv_code::{Insn, first_distance, first_pair, target_of};
 use jv_types::TypeFrame;
@@ -23,24 +24,24 @@ use jv_types::TypeFrame;
 pub(crate) fn flows_into(
     pass: &Pass<'_, '_, '_, '_, '_>,
     held: &Held,
-    reached: &mut Reached,
+    flowed: &mut FlowedLocals,
     stacks: &mut FlowedStacks,
     frame: &TypeFrame,
     offset: u32,
 ) -> bool
     requires locals { length frame.now.locals ≡ pass.now.max_locals }
     requires held { IsHeld pass.now held.now frame.now }
-    requires reached { AreReached pass.now reached.old.frames.items }
+    requires flowed { HaveFlowed pass.now flowed.old.writes.items flowed.old.frames.items frame.now.locals }
     requires stacks { AreFlowed pass.now stacks.old.stacks.items frame.now }
     ensures flows { Tests pass.now (λ env maps f. flows_into env f (frame_at maps offset)) frame.now result }
-    ensures reached { AreReached pass.now reached.new.frames.items }
+    ensures flowed { HaveFlowed pass.now flowed.new.writes.items flowed.new.frames.items frame.now.locals }
     ensures stacks { AreFlowed pass.now stacks.new.stacks.items frame.now }
 {
     let _types = &pass.types;
     match pass.map_at(offset) {
         Some((place, map)) => {
             let stack = stacks.flows(pass, frame, place, &map);
-            flows_by_stack(pass, held, reached, frame, place, &map, stack)
+            flows_by_stack(pass, held, flowed, frame, place, &map, stack)
         }
         None => false,
     }
@@ -50,7 +51,7 @@ pub(crate) fn flows_into(
 fn distance_holds(
     pass: &Pass<'_, '_, '_, '_, '_>,
     held: &Held,
-    reached: &mut Reached,
+    flowed: &mut FlowedLocals,
     stacks: &mut FlowedStacks,
     frame: &TypeFrame,
     offset: u32,
@@ -58,14 +59,14 @@ fn distance_holds(
 ) -> bool
     requires locals { length frame.now.locals ≡ pass.now.max_locals }
     requires held { IsHeld pass.now held.now frame.now }
-    requires reached { AreReached pass.now reached.old.frames.items }
+    requires flowed { HaveFlowed pass.now flowed.old.writes.items flowed.old.frames.items frame.now.locals }
     requires stacks { AreFlowed pass.now stacks.old.stacks.items frame.now }
     ensures flows { Tests pass.now (λ env maps f. distance_holds env maps f offset distance) frame.now result }
-    ensures reached { AreReached pass.now reached.new.frames.items }
+    ensures flowed { HaveFlowed pass.now flowed.new.writes.items flowed.new.frames.items frame.now.locals }
     ensures stacks { AreFlowed pass.now stacks.new.stacks.items frame.now }
 {
     match target_of(offset, distance) {
-        Some(target) => flows_into(pass, held, reached, stacks, frame, target),
+        Some(target) => flows_into(pass, held, flowed, stacks, frame, target),
         None => false,
     }
 }
@@ -74,7 +75,7 @@ fn distance_holds(
 fn distances_hold(
     pass: &Pass<'_, '_, '_, '_, '_>,
     held: &Held,
-    reached: &mut Reached,
+    flowed: &mut FlowedLocals,
     stacks: &mut FlowedStacks,
     frame: &TypeFrame,
     offset: u32,
@@ -82,16 +83,16 @@ fn distances_hold(
 ) -> bool
     requires locals { length frame.now.locals ≡ pass.now.max_locals }
     requires held { IsHeld pass.now held.now frame.now }
-    requires reached { AreReached pass.now reached.old.frames.items }
+    requires flowed { HaveFlowed pass.now flowed.old.writes.items flowed.old.frames.items frame.now.locals }
     requires stacks { AreFlowed pass.now stacks.old.stacks.items frame.now }
     ensures flows { Tests pass.now (λ env maps f. list_all (distance_holds env maps f offset) (distances_in distances.now))
         frame.now result }
-    ensures reached { AreReached pass.now reached.new.frames.items }
+    ensures flowed { HaveFlowed pass.now flowed.new.writes.items flowed.new.frames.items frame.now.locals }
     ensures stacks { AreFlowed pass.now stacks.new.stacks.items frame.now }
 {
     let mut left = distances;
     while let Some((distance, more)) = first_distance(left) {
-        if !distance_holds(pass, held, reached, stacks, frame, offset, distance) {
+        if !distance_holds(pass, held, flowed, stacks, frame, offset, distance) {
             return false;
         }
         left = more;
@@ -103,7 +104,7 @@ fn distances_hold(
 fn pairs_hold(
     pass: &Pass<'_, '_, '_, '_, '_>,
     held: &Held,
-    reached: &mut Reached,
+    flowed: &mut FlowedLocals,
     stacks: &mut FlowedStacks,
     frame: &TypeFrame,
     offset: u32,
@@ -111,15 +112,15 @@ fn pairs_hold(
 ) -> bool
     requires locals { length frame.now.locals ≡ pass.now.max_locals }
     requires held { IsHeld pass.now held.now frame.now }
-    requires reached { AreReached pass.now reached.old.frames.items }
+    requires flowed { HaveFlowed pass.now flowed.old.writes.items flowed.old.frames.items frame.now.locals }
     requires stacks { AreFlowed pass.now stacks.old.stacks.items frame.now }
     ensures flows { Tests pass.now (λ env maps f. list_all (pair_holds env maps f offset) (pairs_in pairs.now)) frame.now result }
-    ensures reached { AreReached pass.now reached.new.frames.items }
+    ensures flowed { HaveFlowed pass.now flowed.new.writes.items flowed.new.frames.items frame.now.locals }
     ensures stacks { AreFlowed pass.now stacks.new.stacks.items frame.now }
 {
     let mut left = pairs;
     while let Some(((_key, distance), more)) = first_pair(left) {
-        if !distance_holds(pass, held, reached, stacks, frame, offset, distance) {
+        if !distance_holds(pass, held, flowed, stacks, frame, offset, distance) {
             return false;
         }
         left = more;
@@ -131,7 +132,7 @@ fn pairs_hold(
 fn table_holds(
     pass: &Pass<'_, '_, '_, '_, '_>,
     held: &Held,
-    reached: &mut Reached,
+    flowed: &mut FlowedLocals,
     stacks: &mut FlowedStacks,
     frame: &TypeFrame,
     offset: u32,
@@ -140,21 +141,21 @@ fn table_holds(
 ) -> bool
     requires locals { length frame.now.locals ≡ pass.now.max_locals }
     requires held { IsHeld pass.now held.now frame.now }
-    requires reached { AreReached pass.now reached.old.frames.items }
+    requires flowed { HaveFlowed pass.now flowed.old.writes.items flowed.old.frames.items frame.now.locals }
     requires stacks { AreFlowed pass.now stacks.old.stacks.items frame.now }
     ensures flows { Tests pass.now (λ env maps f. table_holds env maps f offset default (distances_in distances.now)) frame.now result }
-    ensures reached { AreReached pass.now reached.new.frames.items }
+    ensures flowed { HaveFlowed pass.now flowed.new.writes.items flowed.new.frames.items frame.now.locals }
     ensures stacks { AreFlowed pass.now stacks.new.stacks.items frame.now }
 {
-    distance_holds(pass, held, reached, stacks, frame, offset, default)
-        && distances_hold(pass, held, reached, stacks, frame, offset, distances)
+    distance_holds(pass, held, flowed, stacks, frame, offset, default)
+        && distances_hold(pass, held, flowed, stacks, frame, offset, distances)
 }
 
 /// Whether it flows to those of a lookupswitch.
 fn lookup_holds(
     pass: &Pass<'_, '_, '_, '_, '_>,
     held: &Held,
-    reached: &mut Reached,
+    flowed: &mut FlowedLocals,
     stacks: &mut FlowedStacks,
     frame: &TypeFrame,
     offset: u32,
@@ -163,21 +164,21 @@ fn lookup_holds(
 ) -> bool
     requires locals { length frame.now.locals ≡ pass.now.max_locals }
     requires held { IsHeld pass.now held.now frame.now }
-    requires reached { AreReached pass.now reached.old.frames.items }
+    requires flowed { HaveFlowed pass.now flowed.old.writes.items flowed.old.frames.items frame.now.locals }
     requires stacks { AreFlowed pass.now stacks.old.stacks.items frame.now }
     ensures flows { Tests pass.now (λ env maps f. table_holds env maps f offset default (distances_of pairs.now)) frame.now result }
-    ensures reached { AreReached pass.now reached.new.frames.items }
+    ensures flowed { HaveFlowed pass.now flowed.new.writes.items flowed.new.frames.items frame.now.locals }
     ensures stacks { AreFlowed pass.now stacks.new.stacks.items frame.now }
 {
-    distance_holds(pass, held, reached, stacks, frame, offset, default)
-        && pairs_hold(pass, held, reached, stacks, frame, offset, pairs)
+    distance_holds(pass, held, flowed, stacks, frame, offset, default)
+        && pairs_hold(pass, held, flowed, stacks, frame, offset, pairs)
 }
 
 /// Whether what an instruction leaves flows to a frame of the map at each of its targets.
 pub(crate) fn targets_hold(
     pass: &Pass<'_, '_, '_, '_, '_>,
     held: &Held,
-    reached: &mut Reached,
+    flowed: &mut FlowedLocals,
     stacks: &mut FlowedStacks,
     frame: &TypeFrame,
     offset: u32,
@@ -185,32 +186,32 @@ pub(crate) fn targets_hold(
 ) -> bool
     requires locals { length frame.now.locals ≡ pass.now.max_locals }
     requires held { IsHeld pass.now held.now frame.now }
-    requires reached { AreReached pass.now reached.old.frames.items }
+    requires flowed { HaveFlowed pass.now flowed.old.writes.items flowed.old.frames.items frame.now.locals }
     requires stacks { AreFlowed pass.now stacks.old.stacks.items frame.now }
     ensures flows { Tests pass.now (λ env maps f. all_hold env maps f offset (instruction_of insn.now)) frame.now result }
-    ensures reached { AreReached pass.now reached.new.frames.items }
+    ensures flowed { HaveFlowed pass.now flowed.new.writes.items flowed.new.frames.items frame.now.locals }
     ensures stacks { AreFlowed pass.now stacks.new.stacks.items frame.now }
 {
     match *insn {
         Insn::Branch(_, distance) => distance_holds(
             pass,
             held,
-            reached,
+            flowed,
             stacks,
             frame,
             offset,
             i32::from(distance),
         ),
         Insn::Goto(distance, _) => distance_holds(
-            pass, held, reached, stacks, frame, offset, distance,
+            pass, held, flowed, stacks, frame, offset, distance,
         ),
         Insn::TableSwitch(_, default, _, _, distances) => {
             table_holds(
-                pass, held, reached, stacks, frame, offset, default, distances,
+                pass, held, flowed, stacks, frame, offset, default, distances,
             )
         }
         Insn::LookupSwitch(_, default, pairs) => {
-            lookup_holds(pass, held, reached, stacks, frame, offset, default, pairs)
+            lookup_holds(pass, held, flowed, stacks, frame, offset, default, pairs)
         }
         _ => true,
     }

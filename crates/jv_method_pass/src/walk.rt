@@ -9,16 +9,16 @@ ghost use Rattle.jv_method_pass.specs.Found.{IsFound};
 ghost use Rattle.jv_method_pass.specs.Inside.Cover.{IsCover};
 ghost use Rattle.jv_method_pass.specs.Inside.Held.{IsHeld};
 ghost use Rattle.jv_method_pass.specs.Inside.Opening.{AreOpenings};
-ghost use Rattle.jv_method_pass.specs.Inside.Reached.{AreReached};
+ghost use Rattle.jv_method_pass.specs.Inside.Flowed.{HaveFlowed};
 ghost use Rattle.jv_method_pass.specs.Inside.Stacks.{AreFlowed};
 ghost use Rattle.jv_method_pass.specs.Inside.Walk.{IsFoundFrom};
 
 use crate::cover::{Cover, cover_of};
 use crate::fault::CodeFault;
+use crate::flowed::FlowedLocals;
 use crate::held::Held;
 use crate::opening::Openings;
 use crate::pass::Pass;
-use crate::reached::Reached;
 use crate::setting::set_to_initial;
 use crate::stacks::FlowedStacks;
 use crate::step::step;
@@ -45,7 +45,7 @@ fn walk(
     cover: &Cover,
     openings: &mut Openings,
     held: &mut Held,
-    reached: &mut Reached,
+    flowed: &mut FlowedLocals,
     stacks: &mut FlowedStacks,
     frame: &mut TypeFrame,
 ) -> Result<Option<CodeFault>, AllocError>
@@ -53,7 +53,7 @@ fn walk(
     requires cover { IsCover pass.now.handlers cover.now.begins.items cover.now.end }
     requires openings { AreOpenings pass.now openings.old }
     requires held { IsHeld pass.now held.old frame.old }
-    requires reached { AreReached pass.now reached.old.frames.items }
+    requires flowed { HaveFlowed pass.now flowed.old.writes.items flowed.old.frames.items frame.old.locals }
     requires stacks { AreFlowed pass.now stacks.old.stacks.items frame.old }
     requires method { (env : Environment) × IsOfPass pass.now env }
     ensures { IsFoundFrom pass.now frame.old result }
@@ -68,7 +68,7 @@ fn walk(
     while offset < size {
         let (insn, next) = code.insn_at(offset);
         if let Some(rule) = step(
-            pass, cover, openings, held, reached, stacks, frame, falls, settled, offset, &insn,
+            pass, cover, openings, held, flowed, stacks, frame, falls, settled, offset, &insn,
         )? {
             return Ok(Some(CodeFault { offset, rule }));
         }
@@ -105,14 +105,14 @@ pub fn check_code(
     let cover = cover_of(alloc, pass.handlers, pass.context.code().size())?;
     let mut openings = Openings::of(alloc, pass.handlers)?;
     let mut held = Held::new(alloc)?;
-    let mut reached = Reached::new(alloc);
+    let mut flowed = FlowedLocals::new(alloc);
     let mut stacks = FlowedStacks::new(alloc);
     walk(
         pass,
         &cover,
         &mut openings,
         &mut held,
-        &mut reached,
+        &mut flowed,
         &mut stacks,
         &mut frame,
     )

@@ -57,18 +57,6 @@ WritesBy may old (Some place) new =
 abbrev pub Writes : (ℕ → Bool) → HeldFrame → HeldFrame → Type 0
 Writes may old new = WritesBy may old new.place new
 
--- What is held goes on behind a frame, whose local variables are others where a test says so, or nothing is held any more.
-abbrev pub NotesBy : (ℕ → Bool) → HeldFrame → Option ℕ → HeldFrame → NumberFrame → Type 0
-NotesBy may old None new frame = ⊤
-NotesBy may old (Some place) new frame =
-    (old.place ≡ Some place) × (new.base ≡ old.base)
-    × ((names : List (List ℕ)) (before : List Item) → AreSameBut old.written (typed_all names old.base.locals) (typed_all names before)
-    → ((k : ℕ) → may k ≡ false → slice_get (typed_all names frame.locals) k ≡ slice_get (typed_all names before) k)
-    → AreSameBut new.written (typed_all names old.base.locals) (typed_all names frame.locals))
-
-abbrev pub Notes : (ℕ → Bool) → HeldFrame → HeldFrame → NumberFrame → Type 0
-Notes may old new frame = NotesBy may old new.place new frame
-
 -- a local variable flows to what was held at its place, where both are there
 abbrev pub both_flow : World → Option FrameType → Option FrameType → Bool
 both_flow world (Some from) (Some to) = flows world from to

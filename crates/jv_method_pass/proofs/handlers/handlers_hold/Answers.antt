@@ -26,7 +26,7 @@ loop-k-preserved c = (
       let test : Handler → Bool = passes_at c.args.offset (unsettled_holds c.args.settled env (maps_of pass) insn (frame_of (names_in pass) c.args.frame.now)) in
       list_all_more test c.args.handlers.now c.loop-k.k any c.loop-k-test.true
       ∙ joined _ _ (c.loop-k.invariant.0 env insn is constructed) (sym (c.handler_holds.ensures.hold env insn is constructed) ∙ c.if-not-handler_holds.false),
-  c.handler_holds.ensures.reached,
+  c.handler_holds.ensures.flowed,
 )
 
 pub returns-clause-hold : goal.returns-clause-hold

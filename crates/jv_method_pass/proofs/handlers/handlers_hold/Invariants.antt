@@ -8,7 +8,7 @@ use Rattle.jv_types.specs.Typed.{typed}
 use Rattle.jv_types.specs.Numbered.{frame_of}
 use Rattle.jv_method_pass.specs.Pass.{IsOfPass, maps_of, names_in}
 use Rattle.jv_method_pass.specs.Inside.Opening.{passes_at}
-use Rattle.jv_method_pass.specs.Inside.Reached.{AreReached}
+use Rattle.jv_method_pass.specs.Inside.Flowed.{HaveFlowed}
 use Rattle.jv_method_pass.specs.Inside.Settled.{unsettled_holds}
 use Rattle.jv_method_pass.proofs.handlers.handlers_hold.Given as goal
 
@@ -17,4 +17,4 @@ invariant-loop-k l =
     ((env : Environment) (insn : Instruction) → IsOfPass l.pass env
     → option_map (typed (names_in l.pass)) l.object ≡ constructed_object env insn (frame_of (names_in l.pass) l.frame)
     → list_all (passes_at l.offset (unsettled_holds l.settled env (maps_of l.pass) insn (frame_of (names_in l.pass) l.frame))) (take l.k l.handlers) ≡ true)
-    × AreReached l.pass l.reached.frames.items
+    × HaveFlowed l.pass l.flowed.writes.items l.flowed.frames.items l.frame.locals

@@ -42,10 +42,10 @@ returns-clause-merged c = λ env is.
           ∙ set_is pass entries count kept env is pass.types pass.max_locals c.set_frame.new.frame map refl refl c.in_ok-set_frame.ensures.ok)
     ]
 
-pub set_frame-requires-clause-reached : goal.set_frame-requires-clause-reached
-set_frame-requires-clause-reached c = elim c.else-falls.branch [
-  | else-falls-via-then-falls+else-not-flows_to_map w ↦ rw w.reached-is w.flows_to_map.ensures.reached
-  | else-falls-via-else-falls w ↦ rw w.reached-is c.requires.reached
+pub set_frame-requires-clause-flowed : goal.set_frame-requires-clause-flowed
+set_frame-requires-clause-flowed c = elim c.else-falls.branch [
+  | else-falls-via-then-falls+else-not-flows_to_map w ↦ rw w.flowed-is w.flows_to_map.ensures.flowed
+  | else-falls-via-else-falls w ↦ rw w.flowed-is c.requires.flowed
 ]
 
 pub returns-then-not-flows_to_map-clause-stacks : goal.returns-then-not-flows_to_map-clause-stacks

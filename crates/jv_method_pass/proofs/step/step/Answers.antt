@@ -1,4 +1,7 @@
-use Rattle.std.proofs.Common.{◌-◌, List, map, refl, sym, ap, subst, ◌∙◌}
+use Rattle.std.proofs.Common.{◌≡◌, ◌-◌, List, Some, map, refl, sym, ap, subst, ◌∙◌}
+use Rattle.jv_meaning_typing.specs.Rule.{rule}
+use Rattle.jv_method_pass.specs.Inside.Changes.{may_change}
+use Rattle.jv_method_pass.proofs.Changing.{others_stay}
 use Rattle.jv_code.specs.Insns.{instruction_of}
 use Rattle.jv_types.specs.Numbered.{frame_of}
 use Rattle.jv_method_pass.specs.Pass.{Pass, maps_of, names_in}
@@ -42,21 +45,6 @@ returns-then-not-branch-3-clause-step c = λ env is at r.
     (applied pass entries count kept env is c.pass.inside.context.now insn c.merge.new.frame c.apply.new.frame _ c.args.offset _ (ap (λ (p : Pass). p.context) c.pass.view_is)
     refl c.in_ok-apply.ensures))
 
-pub note-requires : goal.note-requires
-note-requires c =
-    let pass = c.args.pass.now in
-    let entries = c.pass.inside.initial.now in
-    let count = c.pass.inside.words in
-    let kept : IsPass pass entries count = subst (λ (p : Pass). IsPass p entries count) c.pass.view_is c.pass.invariant in
-    let env = c.requires.method.0 in
-    let is = c.requires.method.1 in
-    let insn = instruction_of c.args.insn.now in
-    as_many c.keeps_local_count.ensures env c.args.offset insn (names_in pass) c.merge.new.frame c.apply.new.frame
-    (is_left (names_in pass) _ c.apply.new.frame _ c.if-not-branch-3.false
-    (applied pass entries count kept env is c.pass.inside.context.now insn c.merge.new.frame c.apply.new.frame _ c.args.offset _ (ap (λ (p : Pass). p.context) c.pass.view_is)
-    refl c.in_ok-apply.ensures))
-    ∙ c.merge.ensures.locals ∙ ap (λ (p : Pass). p.max_locals) (sym c.pass.view_is)
-
 pub targets_hold-requires-clause-locals : goal.targets_hold-requires-clause-locals
 targets_hold-requires-clause-locals c =
     let pass = c.args.pass.now in
@@ -81,11 +69,30 @@ targets_hold-requires-clause-held c =
     let env = c.requires.method.0 in
     let is = c.requires.method.1 in
     let insn = instruction_of c.args.insn.now in
-    held_behind pass c.writes_there.ensures env c.args.offset insn c.merge.new.held c.note.new.self c.merge.new.frame c.apply.new.frame c.in_ok-merge.ensures.held
-    (is_left (names_in pass) _ c.apply.new.frame _ c.if-not-branch-3.false
-    (applied pass entries count kept env is c.pass.inside.context.now insn c.merge.new.frame c.apply.new.frame _ c.args.offset _ (ap (λ (p : Pass). p.context) c.pass.view_is)
-    refl c.in_ok-apply.ensures))
-    c.in_ok-note.ensures
+    let f = c.merge.new.frame in
+    let g = c.apply.new.frame in
+    let left : rule env c.args.offset insn (frame_of (names_in pass) f) ≡ Some (frame_of (names_in pass) g) =
+    is_left (names_in pass) _ g _ c.if-not-branch-3.false
+    (applied pass entries count kept env is c.pass.inside.context.now insn f g _ c.args.offset _ (ap (λ (p : Pass). p.context) c.pass.view_is) refl c.in_ok-apply.ensures) in
+    held_behind pass (may_change env c.args.offset insn (frame_of (names_in pass) f)) c.merge.new.held c.note.new.held f.locals g.locals c.in_ok-merge.ensures.held
+    (c.in_ok-note.ensures.held env is) (others_stay c.writes_there.ensures env c.args.offset insn (frame_of (names_in pass) f) (frame_of (names_in pass) g) left)
+
+pub targets_hold-requires-clause-flowed : goal.targets_hold-requires-clause-flowed
+targets_hold-requires-clause-flowed c =
+    let pass = c.args.pass.now in
+    let entries = c.pass.inside.initial.now in
+    let count = c.pass.inside.words in
+    let kept : IsPass pass entries count = subst (λ (p : Pass). IsPass p entries count) c.pass.view_is c.pass.invariant in
+    let env = c.requires.method.0 in
+    let is = c.requires.method.1 in
+    let insn = instruction_of c.args.insn.now in
+    let f = c.merge.new.frame in
+    let g = c.apply.new.frame in
+    let left : rule env c.args.offset insn (frame_of (names_in pass) f) ≡ Some (frame_of (names_in pass) g) =
+    is_left (names_in pass) _ g _ c.if-not-branch-3.false
+    (applied pass entries count kept env is c.pass.inside.context.now insn f g _ c.args.offset _ (ap (λ (p : Pass). p.context) c.pass.view_is) refl c.in_ok-apply.ensures) in
+    c.in_ok-note.ensures.flowed env is pass f.locals g.locals c.is_handled.ensures.flowed
+    (others_stay c.writes_there.ensures env c.args.offset insn (frame_of (names_in pass) f) (frame_of (names_in pass) g) left)
 
 pub targets_hold-requires-clause-stacks : goal.targets_hold-requires-clause-stacks
 targets_hold-requires-clause-stacks c =
@@ -181,8 +188,10 @@ returns-clause-held c = λ none.
     let env = c.requires.method.0 in
     let is = c.requires.method.1 in
     let insn = instruction_of c.args.insn.now in
-    held_behind pass c.writes_there.ensures env c.args.offset insn c.merge.new.held c.note.new.self c.merge.new.frame c.apply.new.frame c.in_ok-merge.ensures.held
-    (is_left (names_in pass) _ c.apply.new.frame _ c.if-not-branch-3.false
-    (applied pass entries count kept env is c.pass.inside.context.now insn c.merge.new.frame c.apply.new.frame _ c.args.offset _ (ap (λ (p : Pass). p.context) c.pass.view_is)
-    refl c.in_ok-apply.ensures))
-    c.in_ok-note.ensures
+    let f = c.merge.new.frame in
+    let g = c.apply.new.frame in
+    let left : rule env c.args.offset insn (frame_of (names_in pass) f) ≡ Some (frame_of (names_in pass) g) =
+    is_left (names_in pass) _ g _ c.if-not-branch-3.false
+    (applied pass entries count kept env is c.pass.inside.context.now insn f g _ c.args.offset _ (ap (λ (p : Pass). p.context) c.pass.view_is) refl c.in_ok-apply.ensures) in
+    held_behind pass (may_change env c.args.offset insn (frame_of (names_in pass) f)) c.merge.new.held c.note.new.held f.locals g.locals c.in_ok-merge.ensures.held
+    (c.in_ok-note.ensures.held env is) (others_stay c.writes_there.ensures env c.args.offset insn (frame_of (names_in pass) f) (frame_of (names_in pass) g) left)

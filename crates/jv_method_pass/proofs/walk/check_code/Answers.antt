@@ -10,6 +10,8 @@ use Rattle.jv_method_pass.specs.Inside.Opening.{passes_at}
 use Rattle.jv_method_pass.specs.Inside.Walk.{Reaches}
 use Rattle.jv_method_pass.proofs.Walking.{begins}
 use Rattle.jv_method_pass.proofs.Holding.{none_held}
+use Rattle.jv_method_pass.proofs.FlowingAgain.{none_all}
+use Rattle.jv_method_pass.specs.Inside.Flowed.{HasFlowed}
 use Rattle.jv_method_pass.proofs.FlowsInto.{first_is}
 use Rattle.jv_method_pass.proofs.walk.check_code.Goals as goal
 
@@ -32,3 +34,6 @@ walk-requires-clause-held c = none_held c.args.pass.now c.in_ok-held.held c.set_
 pub walk-requires-clause-openings : goal.walk-requires-clause-openings
 walk-requires-clause-openings c = λ offset test.
     c.in_ok-openings.ensures offset test ∙ ap (λ (p : Pass). list_all (passes_at offset test) p.handlers) c.pass.view_is
+
+pub walk-requires-clause-flowed : goal.walk-requires-clause-flowed
+walk-requires-clause-flowed c = none_all (HasFlowed c.args.pass.now _ c.set_to_initial.new.frame.locals) _ c.new-flowed.ensures

@@ -58,7 +58,7 @@ loop-offset-preserved c =
           (frame_of (names_in c.args.pass.now) c.step.new.frame) c.settled_by-settled.ensures (λ keeps. c.in_ok-rule.ensures.settled env is keeps c.in_default.is),
       c.in_ok-rule.ensures.held c.in_default.is,
       λ offset test. ap (list_all (passes_at offset test)) c.step.ensures.openings ∙ c.loop-offset.invariant.5 offset test,
-      c.step.ensures.reached,
+      c.in_ok-rule.ensures.flowed c.in_default.is,
       c.in_ok-rule.ensures.stacks c.in_default.is,
     )
   where

@@ -5,7 +5,7 @@ use Rattle.jv_types.specs.Numbered.{frame_of}
 use Rattle.jv_method_pass.specs.Pass.{IsOfPass, maps_of, names_in}
 use Rattle.jv_method_pass.specs.Inside.Held.{IsHeld}
 use Rattle.jv_method_pass.specs.Inside.Opening.{AreOpenings}
-use Rattle.jv_method_pass.specs.Inside.Reached.{AreReached}
+use Rattle.jv_method_pass.specs.Inside.Flowed.{HaveFlowed}
 use Rattle.jv_method_pass.specs.Inside.Settled.{AreSettled}
 use Rattle.jv_method_pass.specs.Inside.Stacks.{AreFlowed}
 use Rattle.jv_method_pass.specs.Inside.Walk.{Reaches, Progress, when_falls}
@@ -20,7 +20,7 @@ invariant-loop-offset l =
     × ((env : Environment) → IsOfPass l.pass env → AreSettled env (maps_of l.pass) l.settled (frame_of (names_in l.pass) l.frame))
     × IsHeld l.pass l.held l.frame
     × AreOpenings l.pass l.openings
-    × AreReached l.pass l.reached.frames.items
+    × HaveFlowed l.pass l.flowed.writes.items l.flowed.frames.items l.frame.locals
     × AreFlowed l.pass l.stacks.stacks.items l.frame
 
 abbrev pub decreases-loop-offset : goal.decreases-loop-offset

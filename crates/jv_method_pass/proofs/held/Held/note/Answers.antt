@@ -1,10 +1,19 @@
+use Rattle.std.proofs.Common.{ℕ, Option, sym, ap, ◌∙◌}
 use Rattle.jv_code.specs.Insns.{instruction_of}
-use Rattle.jv_rules.specs.Laws.{may_write}
-use Rattle.jv_method_pass.proofs.Holding.{notes_writes}
+use Rattle.jv_rules.specs.Laws.{is_beside}
+use Rattle.jv_method_pass.specs.Inside.Held.{is_written}
+use Rattle.jv_method_pass.specs.Inside.Changes.{changes_by, may_change_at}
+use Rattle.jv_method_pass.proofs.Changing.{writes_more}
 use Rattle.jv_method_pass.proofs.held.Held.note.Goals as goal
 
-pub returns-then-may_write_anywhere : goal.returns-then-may_write_anywhere
-returns-then-may_write_anywhere c = c.in_ok-renew.ensures (may_write (instruction_of c.args.insn.now))
+pub returns-in-Some : goal.returns-in-Some
+returns-in-Some c =
+    let copies = c.args.copies.now in
+    writes_more (may_change_at copies (instruction_of c.args.insn.now)) (is_beside c.in-Some.index) c.args.self.now c.add_beside.new.self
+    (λ k e. ap (λ (o : Option ℕ). changes_by o (is_written copies) k) (sym c.stored_index.ensures ∙ c.in-Some.is) ∙ e) c.in_ok-add_beside.ensures
 
 pub returns : goal.returns
-returns c = notes_writes (may_write (instruction_of c.args.insn.now)) c.args.self.now c.note_writes.new.self c.args.frame.now c.in_ok-note_writes.ensures
+returns c =
+    let copies = c.args.copies.now in
+    writes_more (may_change_at copies (instruction_of c.args.insn.now)) (is_written copies) c.args.self.now c.add_all.new.self
+    (λ k e. ap (λ (o : Option ℕ). changes_by o (is_written copies) k) (sym c.stored_index.ensures ∙ c.in_default.is) ∙ e) c.in_ok-add_all.ensures

@@ -1,0 +1,383 @@
+//! Frames of the stack map to which local variables flowed, kept: what flows to one again is compared only where local variables were
+//! written since, whatever frame they come from (JVMS 4.10.1.4).
+
+ghost use Rattle.std.specs.Prelude.{◌≡◌, ◌≤◌, ◌<◌, ℕ, List, [], true, false, Some, length, slice_get, IsTrue, IfOk, IfSome, OnOk};
+ghost use Rattle.std.specs.Option.{option_map};
+ghost use Rattle.jv_code.specs.Insns.{instruction_of};
+ghost use Rattle.jv_frames.specs.Entries.{locals_in};
+ghost use Rattle.jv_meaning_world.specs.Flow.{flows};
+ghost use Rattle.jv_meaning_world.specs.FrameFlow.{all_flow};
+ghost use Rattle.jv_rules.specs.Laws.{is_beside};
+ghost use Rattle.jv_types.specs.Typed.{typed_all};
+ghost use Rattle.jv_types.specs.Numbered.{Item};
+ghost use Rattle.jv_method_pass.specs.Mapped.{world_of_types, locals_of};
+ghost use Rattle.jv_method_pass.specs.Pass.{HasRoom};
+ghost use Rattle.jv_method_pass.specs.Inside.Held.{is_written, flows_at};
+ghost use Rattle.jv_method_pass.specs.Inside.Changes.{may_change_at};
+ghost use Rattle.jv_method_pass.specs.Inside.Flowed.{FlowsBut, HasFlowed, HaveFlowed, StaysRight, Lists, flows_but_stack, made_flag_flows};
+
+use crate::changes::stored_index;
+use crate::entries::EntryTypes;
+use crate::flowing::{flag_flows, has_this, locals_flow};
+use crate::held::{all_flow_at, flows_at};
+use crate::moving::{follow, higher, lower};
+use crate::pass::Pass;
+use crate::setting::set_locals;
+use jv_code::Insn;
+use jv_frames::MapFrame;
+use jv_types::{TypeFrame, TypeNames};
+use std::alloc::{AllocError, Global};
+
+/// How many words of local entries a frame has at least that is kept: fewer are as soon compared.
+const MANY: u16 = 256;
+
+/// The least part of all local variables that they take: one in so many.
+const PART: u16 = 64;
+
+/// How many frames are kept at a time.
+const KEPT: usize = 16;
+
+/// How many frames of a method are made at most to be kept.
+const MADE: usize = 64;
+
+/// How many places are listed at most.
+const LISTED: usize = 131072;
+
+/// A frame of the stack map by its place, as it was made; how many places were listed where local variables were written when they
+/// flowed to it; and two places between which they may not flow to it.
+pub(crate) struct FlowedFrame {
+    place: usize,
+    made: TypeFrame,
+    since: usize,
+    from: u16,
+    to: u16,
+}
+
+impl Drop for FlowedFrame {
+    fn drop(self) {
+        let FlowedFrame {
+            place: _,
+            made: _,
+            since: _,
+            from: _,
+            to: _,
+        } = self;
+    }
+}
+
+/// Where local variables were written, one place behind the other, and the frames that are kept, that to which they flowed last behind
+/// the others.
+pub(crate) struct FlowedLocals {
+    alloc: Global,
+    writes: Vec<u16>,
+    frames: Vec<FlowedFrame>,
+    begun: usize,
+}
+
+impl Drop for FlowedLocals {
+    fn drop(self) {
+        let FlowedLocals {
+            alloc: _,
+            writes: _,
+            frames: _,
+            begun: _,
+        } = self;
+    }
+}
+
+/// Whether a frame of so many words of local entries is kept, where there are so many local variables.
+pub(crate) fn is_kept(words: u16, max_locals: u16) -> bool {
+    words >= MANY && words >= max_locals / PART
+}
+
+/// Whether each local variable from a place on, before another, flows to what was made there.
+fn between_flow(
+    names: &TypeNames<'_, '_>,
+    frame: &TypeFrame,
+    made: &TypeFrame,
+    from: u16,
+    to: u16,
+) -> bool
+    ensures all { IsTrue result → (k : ℕ) → from ≤ k → k < to
+        → flows_at names.now.world (typed_all names.now.names frame.now.locals) (typed_all names.now.names made.now.locals) k ≡ true }
+    ensures one { result ≡ false → (k : ℕ)
+        × (flows_at names.now.world (typed_all names.now.names frame.now.locals) (typed_all names.now.names made.now.locals) k ≡ false) }
+{
+    for place in from..to {
+        if !flows_at(names, frame, made, place) {
+            return false;
+        }
+    }
+    true
+}
+
+/// Makes a frame of the map to be kept, to which no local variable is known to flow.
+fn made_of(
+    alloc: Global,
+    pass: &Pass<'_, '_, '_, '_, '_>,
+    place: usize,
+    map: &MapFrame<'_>,
+    since: usize,
+) -> Result<FlowedFrame, AllocError>
+    requires at { slice_get pass.now.frames place ≡ Some map.now }
+    requires room { HasRoom pass.now.types pass.now.max_locals map.now }
+    ensures { IfOk result (λ f. (writes : List ℕ) (locals : List Item) → since ≤ length writes → HasFlowed pass.now writes locals f) }
+{
+    let mut made = TypeFrame::new(alloc, pass.max_locals)?;
+    set_locals(pass.types, &mut made, map);
+    made.set_flag(has_this(pass.types, map));
+    Ok(FlowedFrame {
+        place,
+        made,
+        since,
+        from: 0,
+        to: pass.max_locals,
+    })
+}
+
+impl FlowedFrame {
+    /// Whether local variables flow to those that were made.
+    fn locals_flow(&self, types: &EntryTypes<'_, '_, '_>, frame: &TypeFrame, writes: &[u16]) -> bool
+        requires { self.now.since ≤ length writes.now }
+        ensures { FlowsBut (world_of_types types.now) (locals_of types.now frame.now) (locals_of types.now self.now.made)
+            writes.now self.now → length frame.now.locals ≡ length self.now.made.locals
+            → result ≡ all_flow (flows (world_of_types types.now)) (locals_of types.now frame.now) (locals_of types.now self.now.made) }
+    {
+        let names = types.names();
+        let (_, since) = writes.split_at(self.since);
+        all_flow_at(names, frame, &self.made, since)
+            && between_flow(names, frame, &self.made, self.from, self.to)
+    }
+
+    /// Whether `this` may be uninitialized where a frame has it so.
+    fn flag_flows(&self, frame: &TypeFrame) -> bool
+        ensures { result ≡ made_flag_flows self.now frame.now }
+    {
+        !frame.flag_this_uninit() || self.made.flag_this_uninit()
+    }
+
+    /// Comes to be the frame of the map at a place, if it shares all but few local entries with the one that it was.
+    fn follow(&mut self, pass: &Pass<'_, '_, '_, '_, '_>, place: usize, map: &MapFrame<'_>)
+        requires at { slice_get pass.now.frames place ≡ Some map.now }
+        requires room { HasRoom pass.now.types pass.now.max_locals map.now }
+        ensures { (writes : List ℕ) (locals : List Item) → HasFlowed pass.now writes locals self.old
+            → HasFlowed pass.now writes locals self.new }
+    {
+        let Some((from, to)) = follow(pass, &mut self.made, self.place, place, map) else {
+            return;
+        };
+        self.place = place;
+        self.from = lower(self.from, from);
+        self.to = higher(self.to, to);
+    }
+}
+
+/// The number of one with the local entries of the frame of the map at a place.
+fn find(frames: &[FlowedFrame], pass: &Pass<'_, '_, '_, '_, '_>, place: usize) -> Option<usize>
+    ensures within { IfSome result (λ k. k < length frames.now) }
+    ensures same { IfSome result (λ k. (f : FlowedFrame) → slice_get frames.now k ≡ Some f
+        → option_map locals_in (slice_get pass.now.frames f.place) ≡ option_map locals_in (slice_get pass.now.frames place)) }
+{
+    for k in 0..frames.len() {
+        if pass.share_locals(frames[k].place, place) {
+            return Some(k);
+        }
+    }
+    None
+}
+
+/// Lets go the first, if there are too many.
+fn make_room(frames: &mut Vec<FlowedFrame>, pass: &Pass<'_, '_, '_, '_, '_>)
+    ensures { (writes : List ℕ) → StaysRight pass.now writes frames.old.items writes frames.new.items }
+{
+    let _types = &pass.types;
+    if frames.len() >= KEPT {
+        let _first = frames.remove(0);
+    }
+}
+
+/// Whether none is kept.
+fn is_none_kept(frames: &[FlowedFrame]) -> bool
+    ensures { IsTrue result → frames.now ≡ [] }
+{
+    frames.is_empty()
+}
+
+impl FlowedLocals {
+    /// None is kept.
+    pub(crate) fn new(alloc: Global) -> FlowedLocals
+        ensures { result.frames.items ≡ [] }
+    {
+        FlowedLocals {
+            alloc,
+            writes: Vec::new(alloc),
+            frames: Vec::new(alloc),
+            begun: 0,
+        }
+    }
+
+    /// Keeps none any more.
+    pub(crate) fn forget(&mut self)
+        ensures { self.new.frames.items ≡ [] }
+    {
+        self.writes.clear();
+        self.frames.clear();
+    }
+
+    /// Local variables may be written at these places.
+    pub(crate) fn add(&mut self, places: &[u16])
+        ensures { Lists (is_written places.now) self.old.writes.items self.old.frames.items self.new.writes.items self.new.frames.items }
+    {
+        if is_none_kept(&self.frames) {
+            return;
+        }
+        if self.writes.len() > LISTED {
+            self.forget();
+            return;
+        }
+        match self.writes.extend_from_slice(places) {
+            Ok(()) => {}
+            Err(_) => self.forget(),
+        }
+    }
+
+    /// The local variable of an index and those beside it may be written.
+    fn add_beside(&mut self, index: u16)
+        ensures { Lists (is_beside index) self.old.writes.items self.old.frames.items self.new.writes.items self.new.frames.items }
+    {
+        let Some(next) = index.checked_add(1) else {
+            self.forget();
+            return;
+        };
+        self.add(&[index.saturating_sub(1), index, next]);
+    }
+
+    /// Local variables may be written where an instruction stores, or at some other places.
+    pub(crate) fn note(&mut self, copies: &[u16], insn: &Insn<&[u8]>)
+        ensures { Lists (may_change_at copies.now (instruction_of insn.now))
+            self.old.writes.items self.old.frames.items self.new.writes.items self.new.frames.items }
+    {
+        match stored_index(insn) {
+            Some(index) => self.add_beside(index),
+            None => self.add(copies),
+        }
+    }
+
+    /// Whether none is kept.
+    pub(crate) fn is_none(&self) -> bool
+        ensures { IsTrue result → self.now.frames.items ≡ [] }
+    {
+        is_none_kept(&self.frames)
+    }
+
+    /// The last one comes to be the frame of the map at a place, if that shares all but few local entries with it.
+    fn follow(&mut self, pass: &Pass<'_, '_, '_, '_, '_>, place: usize, map: &MapFrame<'_>)
+        requires at { slice_get pass.now.frames place ≡ Some map.now }
+        requires room { HasRoom pass.now.types pass.now.max_locals map.now }
+        ensures { StaysRight pass.now self.old.writes.items self.old.frames.items self.new.writes.items self.new.frames.items }
+    {
+        let Some(mut last) = self.frames.pop() else {
+            return;
+        };
+        last.follow(pass, place, map);
+        let _kept = self.frames.push(last);
+    }
+
+    /// Keeps the frame of the map at a place, if the host has memory for it, and not too many were made.
+    fn begin(&mut self, pass: &Pass<'_, '_, '_, '_, '_>, place: usize, map: &MapFrame<'_>)
+        requires at { slice_get pass.now.frames place ≡ Some map.now }
+        requires room { HasRoom pass.now.types pass.now.max_locals map.now }
+        ensures { StaysRight pass.now self.old.writes.items self.old.frames.items self.new.writes.items self.new.frames.items }
+    {
+        if self.begun >= MADE {
+            return;
+        }
+        let Ok(flowed) = made_of(self.alloc, pass, place, map, self.writes.len()) else {
+            return;
+        };
+        self.begun += 1;
+        make_room(&mut self.frames, pass);
+        let _kept = self.frames.push(flowed);
+    }
+
+    /// The number of one with the local entries of the frame of the map at a place, which is made where there is none.
+    fn place_of(
+        &mut self,
+        pass: &Pass<'_, '_, '_, '_, '_>,
+        place: usize,
+        map: &MapFrame<'_>,
+    ) -> Option<usize>
+        requires at { slice_get pass.now.frames place ≡ Some map.now }
+        requires room { HasRoom pass.now.types pass.now.max_locals map.now }
+        ensures within { IfSome result (λ k. k < length self.new.frames.items) }
+        ensures same { IfSome result (λ k. (f : FlowedFrame) → slice_get self.new.frames.items k ≡ Some f
+            → option_map locals_in (slice_get pass.now.frames f.place) ≡ option_map locals_in (slice_get pass.now.frames place)) }
+        ensures right { StaysRight pass.now self.old.writes.items self.old.frames.items self.new.writes.items self.new.frames.items }
+    {
+        if let Some(k) = find(&self.frames, pass, place) {
+            return Some(k);
+        }
+        self.follow(pass, place, map);
+        if let Some(k) = find(&self.frames, pass, place) {
+            return Some(k);
+        }
+        self.begin(pass, place, map);
+        find(&self.frames, pass, place)
+    }
+
+    /// Whether local variables and the flag flow to one that has the local entries of the frame of the map at a place. Where they do
+    /// not, it is let go.
+    fn flows_again(
+        &mut self,
+        pass: &Pass<'_, '_, '_, '_, '_>,
+        frame: &TypeFrame,
+        k: usize,
+        place: usize,
+        map: &MapFrame<'_>,
+    ) -> bool
+        requires at { slice_get pass.now.frames place ≡ Some map.now }
+        requires locals { length frame.now.locals ≡ pass.now.max_locals }
+        requires within { k < length self.old.frames.items }
+        requires same { (f : FlowedFrame) → slice_get self.old.frames.items k ≡ Some f
+            → option_map locals_in (slice_get pass.now.frames f.place) ≡ option_map locals_in (slice_get pass.now.frames place) }
+        requires flowed { HaveFlowed pass.now self.old.writes.items self.old.frames.items frame.now.locals }
+        ensures flows { result ≡ flows_but_stack pass.now.types frame.now map.now }
+        ensures flowed { HaveFlowed pass.now self.new.writes.items self.new.frames.items frame.now.locals }
+    {
+        let _map = map;
+        let _place = place;
+        let mut flowed = self.frames.remove(k);
+        if !flowed.locals_flow(pass.types, frame, &self.writes) {
+            return false;
+        }
+        let flag = flowed.flag_flows(frame);
+        flowed.since = self.writes.len();
+        flowed.from = u16::MAX;
+        flowed.to = 0;
+        let _kept = self.frames.push(flowed);
+        flag
+    }
+
+    /// Whether local variables and the flag flow to those of the frame of the map at a place.
+    pub(crate) fn flows(
+        &mut self,
+        pass: &Pass<'_, '_, '_, '_, '_>,
+        frame: &TypeFrame,
+        place: usize,
+        map: &MapFrame<'_>,
+    ) -> bool
+        requires at { slice_get pass.now.frames place ≡ Some map.now }
+        requires room { HasRoom pass.now.types pass.now.max_locals map.now }
+        requires locals { length frame.now.locals ≡ pass.now.max_locals }
+        requires flowed { HaveFlowed pass.now self.old.writes.items self.old.frames.items frame.now.locals }
+        ensures flows { result ≡ flows_but_stack pass.now.types frame.now map.now }
+        ensures flowed { HaveFlowed pass.now self.new.writes.items self.new.frames.items frame.now.locals }
+    {
+        match self.place_of(pass, place, map) {
+            Some(k) => self.flows_again(pass, frame, k, place, map),
+            None => {
+                locals_flow(pass.types, frame, None, map) && flag_flows(pass.types, frame, map)
+            }
+        }
+    }
+}

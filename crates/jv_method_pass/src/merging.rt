@@ -1,0 +1,173 @@
+//! What flows into a frame of the stack map, and what is made one, beside what is held and kept (JVMS 4.10.1.4, 4.10.1.6).
+
+ghost use Rattle.std.specs.Prelude.{◌≡◌, [], ◌∷◌, None, Some, length, slice_get, OnOk};
+ghost use Rattle.jv_types.specs.Numbered.{frame_of, with_stack};
+ghost use Rattle.jv_method_pass.specs.Mapped.{flows_to_map, thrown_flows_to_map, stack_of, stack_flows_to, frame_by_types, types_of_entries};
+ghost use Rattle.jv_method_pass.specs.Pass.{HasRoom, names_in};
+ghost use Rattle.jv_method_pass.specs.Inside.Flowed.{HaveFlowed};
+ghost use Rattle.jv_method_pass.specs.Inside.Held.{IsHeld};
+
+use crate::entries::EntryTypes;
+use crate::flowed::{FlowedLocals, is_kept};
+use crate::flowing::{frame_flows, stack_flows, thrown_flows, thrown_stack_flows};
+use crate::held::Held;
+use crate::pass::Pass;
+use crate::setting::{push_items, set_to_map};
+use jv_frames::MapFrame;
+use jv_types::{Item, TypeFrame};
+use std::alloc::AllocError;
+
+/// Whether a frame flows into the frame of the map at a place, where it is known whether its stack does.
+pub(crate) fn flows_by_stack(
+    pass: &Pass<'_, '_, '_, '_, '_>,
+    held: &Held,
+    flowed: &mut FlowedLocals,
+    frame: &TypeFrame,
+    place: usize,
+    map: &MapFrame<'_>,
+    stack: bool,
+) -> bool
+    requires at { slice_get pass.now.frames place ≡ Some map.now }
+    requires room { HasRoom pass.now.types pass.now.max_locals map.now }
+    requires locals { length frame.now.locals ≡ pass.now.max_locals }
+    requires stack { stack ≡ stack_flows_to pass.now.types (stack_of pass.now.types frame.now) map.now }
+    requires held { IsHeld pass.now held.now frame.now }
+    requires flowed { HaveFlowed pass.now flowed.old.writes.items flowed.old.frames.items frame.now.locals }
+    ensures flows { result ≡ flows_to_map pass.now.types frame.now map.now }
+    ensures flowed { HaveFlowed pass.now flowed.new.writes.items flowed.new.frames.items frame.now.locals }
+{
+    if is_kept(map.local_words(), pass.max_locals) {
+        return flowed.flows(pass, frame, place, map) && stack;
+    }
+    if held.is_of(pass, place) {
+        held.flows(pass.types, frame, stack)
+    } else {
+        frame_flows(pass.types, frame, map, stack)
+    }
+}
+
+/// Whether a frame flows into the frame of the map at a place.
+pub(crate) fn flows_to_map(
+    pass: &Pass<'_, '_, '_, '_, '_>,
+    held: &Held,
+    flowed: &mut FlowedLocals,
+    frame: &TypeFrame,
+    place: usize,
+    map: &MapFrame<'_>,
+) -> bool
+    requires at { slice_get pass.now.frames place ≡ Some map.now }
+    requires room { HasRoom pass.now.types pass.now.max_locals map.now }
+    requires locals { length frame.now.locals ≡ pass.now.max_locals }
+    requires held { IsHeld pass.now held.now frame.now }
+    requires flowed { HaveFlowed pass.now flowed.old.writes.items flowed.old.frames.items frame.now.locals }
+    ensures flows { result ≡ flows_to_map pass.now.types frame.now map.now }
+    ensures flowed { HaveFlowed pass.now flowed.new.writes.items flowed.new.frames.items frame.now.locals }
+{
+    let stack = stack_flows(pass.types, frame, map);
+    flows_by_stack(pass, held, flowed, frame, place, map, stack)
+}
+
+/// Whether the frame with which a handler begins, where no object is constructed, flows into the frame of the map at a place.
+fn thrown_flows_without(
+    pass: &Pass<'_, '_, '_, '_, '_>,
+    held: &Held,
+    flowed: &mut FlowedLocals,
+    frame: &TypeFrame,
+    thrown: Item,
+    place: usize,
+    map: &MapFrame<'_>,
+) -> bool
+    requires at { slice_get pass.now.frames place ≡ Some map.now }
+    requires room { HasRoom pass.now.types pass.now.max_locals map.now }
+    requires locals { length frame.now.locals ≡ pass.now.max_locals }
+    requires held { IsHeld pass.now held.now frame.now }
+    requires flowed { HaveFlowed pass.now flowed.old.writes.items flowed.old.frames.items frame.now.locals }
+    ensures flows { result ≡ thrown_flows_to_map pass.now.types frame.now None thrown map.now }
+    ensures flowed { HaveFlowed pass.now flowed.new.writes.items flowed.new.frames.items frame.now.locals }
+{
+    if is_kept(map.local_words(), pass.max_locals) {
+        return flowed.flows(pass, frame, place, map) && thrown_stack_flows(pass.types, thrown, map);
+    }
+    if held.is_of(pass, place) {
+        held.flows_thrown(pass.types, frame, thrown, map)
+    } else {
+        thrown_flows(pass.types, frame, None, thrown, map)
+    }
+}
+
+/// Whether the frame with which a handler begins flows into the frame of the map at a place.
+pub(crate) fn thrown_flows_to_map(
+    pass: &Pass<'_, '_, '_, '_, '_>,
+    held: &Held,
+    flowed: &mut FlowedLocals,
+    frame: &TypeFrame,
+    object: Option<Item>,
+    thrown: Item,
+    place: usize,
+    map: &MapFrame<'_>,
+) -> bool
+    requires at { slice_get pass.now.frames place ≡ Some map.now }
+    requires room { HasRoom pass.now.types pass.now.max_locals map.now }
+    requires locals { length frame.now.locals ≡ pass.now.max_locals }
+    requires held { IsHeld pass.now held.now frame.now }
+    requires flowed { HaveFlowed pass.now flowed.old.writes.items flowed.old.frames.items frame.now.locals }
+    ensures flows { result ≡ thrown_flows_to_map pass.now.types frame.now object thrown map.now }
+    ensures flowed { HaveFlowed pass.now flowed.new.writes.items flowed.new.frames.items frame.now.locals }
+{
+    let _types = &pass.types;
+    match object {
+        Some(_) => thrown_flows(pass.types, frame, object, thrown, map),
+        None => thrown_flows_without(pass, held, flowed, frame, thrown, place, map),
+    }
+}
+
+/// Gives a frame the stack of a frame of the map.
+fn set_stack(
+    types: &EntryTypes<'_, '_, '_>,
+    frame: &mut TypeFrame,
+    map: &MapFrame<'_>,
+) -> Result<(), AllocError>
+    ensures stack { OnOk result (stack_of types.now frame.new ≡ types_of_entries types.now map.now.stack) }
+    ensures same { frame.new ≡ with_stack frame.new.stack frame.old }
+{
+    frame.clear_stack();
+    push_items(types, frame, map)?;
+    frame.turn_stack();
+    Ok(())
+}
+
+/// Makes a frame the frame of the map at a place.
+///
+/// # Errors
+///
+/// Where the host had no memory for its stack, or for what is held; the frame is then of no more use.
+pub(crate) fn set_frame(
+    pass: &Pass<'_, '_, '_, '_, '_>,
+    held: &mut Held,
+    flowed: &mut FlowedLocals,
+    frame: &mut TypeFrame,
+    place: usize,
+    map: &MapFrame<'_>,
+) -> Result<(), AllocError>
+    requires at { slice_get pass.now.frames place ≡ Some map.now }
+    requires room { HasRoom pass.now.types pass.now.max_locals map.now }
+    requires locals { length frame.old.locals ≡ pass.now.max_locals }
+    requires held { IsHeld pass.now held.old frame.old }
+    requires flowed { HaveFlowed pass.now flowed.old.writes.items flowed.old.frames.items frame.old.locals }
+    ensures ok { OnOk result (frame_of (names_in pass.now) frame.new ≡ frame_by_types pass.now.types pass.now.max_locals map.now) }
+    ensures same { length frame.new.locals ≡ pass.now.max_locals }
+    ensures held { OnOk result (IsHeld pass.now held.new frame.new) }
+    ensures flowed { OnOk result (HaveFlowed pass.now flowed.new.writes.items flowed.new.frames.items frame.new.locals) }
+{
+    held.follow(pass, place, map)?;
+    if held.is_of(pass, place) {
+        flowed.add(held.written());
+        held.put_back(frame);
+        set_stack(pass.types, frame, map)?;
+        return Ok(());
+    }
+    flowed.forget();
+    set_to_map(pass.types, frame, map)?;
+    held.begin(pass, place, map)?;
+    Ok(())
+}
