@@ -1,13 +1,13 @@
 //! Where frames of a stack map stand, and where what is not initialized in them was made (JVMS 4.7.4).
 
-ghost use Rattle.std.specs.Prelude.{◌≡◌, ◌<◌, true, length, slice_get, take, Some, IsTrue};
+ghost use Rattle.std.specs.Prelude.{◌≡◌, ◌<◌, true, length, slice_get, take, Some, IfSome, IsTrue};
 ghost use Rattle.std.specs.List.{list_all};
 ghost use Rattle.std.specs.Option.{option_map};
 ghost use Rattle.jv_code.specs.Insns.{instruction_of};
 ghost use Rattle.jv_frames.specs.Entries.{ReadFrame};
 ghost use Rattle.jv_meaning_typing.specs.Environment.{Environment, instruction_at};
 ghost use Rattle.jv_meaning_typing.specs.Typing.{is_new};
-ghost use Rattle.jv_method_pass.specs.Inside.Parts.{HasCode, SharesBefore, is_made_by_new, frame_stands};
+ghost use Rattle.jv_method_pass.specs.Inside.Parts.{HasCode, SharesBefore, SharesBelowBefore, is_made_by_new, frame_stands};
 
 use jv_code::{Code, Insn, Starts};
 use jv_frames::{Entries, FrameEntry, MapFrame, MapFrames};
@@ -61,6 +61,30 @@ fn is_made_by_new(starts: &Starts<'_>, code: &Code<'_>, entry: FrameEntry) -> bo
     }
 }
 
+/// Whether each of so many of the last local entries of a frame was.
+fn last_are_made(
+    starts: &Starts<'_>,
+    code: &Code<'_>,
+    mut entries: Entries<'_>,
+    count: usize,
+) -> bool
+    requires { starts.now ≡ code.now.bytes.now }
+    ensures { (env : Environment) → HasCode code.now.bytes.now env
+        → result ≡ list_all (is_made_by_new env) (take count entries.entry) }
+{
+    let mut left = count;
+    while left > 0 {
+        let Some(entry) = entries.next() else {
+            return true;
+        };
+        if !is_made_by_new(starts, code, entry) {
+            return false;
+        }
+        left -= 1;
+    }
+    true
+}
+
 /// Whether each of these entries was.
 fn are_made_by_new(starts: &Starts<'_>, code: &Code<'_>, mut entries: Entries<'_>) -> bool
     requires { starts.now ≡ code.now.bytes.now }
@@ -95,6 +119,16 @@ fn shares_before(frames: &MapFrames, place: usize, near: usize) -> bool
     false
 }
 
+/// How many local entries the frame at a place has above those that it is known to share with the one before it, if it has fewer than all.
+fn above_before(frames: &MapFrames, place: usize, words: u16) -> Option<usize>
+    requires { place < length frames.now }
+    ensures { IfSome result (SharesBelowBefore frames.now place) }
+{
+    let before = place.checked_sub(1)?;
+    let above = frames.above_shared(place, before, usize::from(words))?;
+    Some(above.0)
+}
+
 /// Whether what is not initialized in the local entries of the frame at a place was made by a `new`, where the frames before it
 /// stand: entries that one shortly before it has, too, are not gone through again.
 fn locals_are_made(starts: &Starts<'_>, code: &Code<'_>, frames: &MapFrames, place: usize) -> bool
@@ -107,7 +141,10 @@ fn locals_are_made(starts: &Starts<'_>, code: &Code<'_>, frames: &MapFrames, pla
     if shares_before(frames, place, near(&map)) {
         return true;
     }
-    are_made_by_new(starts, code, map.locals())
+    match above_before(frames, place, map.local_words()) {
+        Some(count) => last_are_made(starts, code, map.locals(), count),
+        None => are_made_by_new(starts, code, map.locals()),
+    }
 }
 
 /// Whether a frame stands at an instruction, and what is not initialized in it was made by a `new`, as it is known whether that in

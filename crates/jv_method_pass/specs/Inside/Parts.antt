@@ -5,7 +5,7 @@ use Rattle.std.specs.Option.{option_map}
 use Rattle.jv_frames.specs.declared.entry.FrameEntry.{FrameEntry}
 use Rattle.jv_frames.specs.declared.entry.FrameEntry.TheVariants as entries
 use Rattle.jv_frames.specs.declared.limits.Limits.{Limits}
-use Rattle.jv_frames.specs.Entries.{ReadFrame, frames_placed, locals_in}
+use Rattle.jv_frames.specs.Entries.{ReadFrame, SharesBelow, frames_placed, locals_in}
 use Rattle.jv_frames.specs.Frames.{PlacedFrame, Maps}
 use Rattle.jv_code.specs.Places.{IsCode}
 use Rattle.jv_meaning_typing.specs.Environment.{Environment, current_class, instruction_at}
@@ -37,6 +37,11 @@ frame_stands env f =
 abbrev pub SharesBefore : List ReadFrame → ℕ → Type 0
 SharesBefore frames place =
     (before : ℕ) × (before < place) × (option_map locals_in (slice_get frames before) ≡ option_map locals_in (slice_get frames place))
+
+-- the frame at a place has, below so many of its last local entries, those that one before it has below some
+abbrev pub SharesBelowBefore : List ReadFrame → ℕ → ℕ → Type 0
+SharesBelowBefore frames place count =
+    (before : ℕ) × (above : ℕ) × (before < place) × SharesBelow (count, above) (slice_get frames place) (slice_get frames before)
 
 -- the bytes spell these frames, or none
 abbrev pub IsSpelled : EntryTypes → Limits → List ℕ → Option (List ReadFrame) → Type 0
