@@ -71,17 +71,3 @@ module _ {K A S : Type 0} (same : K → K → Bool) (finds : K → A → Bool) w
           told other
           ∙ (ap (λ b. cond b (Some (length items)) (get_by (same other) old)) e
           ∙ (known other ∙ sym (same_place (finds other) items item (unlike other e))))
-
-  -- one that joins where its key is there already
-  pub joined_known : (items : List A) (item : A) (key : K) (places : HashMap K ℕ S) → AreFirstPlaces same finds items places
-      → is_some (get_by (same key) places) ≡ true → ((other : K) → same key other ≡ true → other ≡ key)
-      → ((other : K) → same key other ≡ false → finds other item ≡ false) → AreFirstPlaces same finds (items ++ item ∷ []) places
-  joined_known items item key places known there one unlike other = by_test (same key other) refl
-    where
-      by_test : (b : Bool) → same key other ≡ b → get_by (same other) places ≡ position (finds other) (items ++ item ∷ [])
-      by_test true e =
-          let is = one other e in
-          let any : list_any (finds other) items ≡ true =
-          sym (some_place (finds other) items) ∙ (ap is_some (sym (known other)) ∙ (ap (λ k. is_some (get_by (same k) places)) is ∙ there)) in
-          known other ∙ sym (first_stays (finds other) items (item ∷ []) any)
-      by_test false e = known other ∙ sym (same_place (finds other) items item (unlike other e))

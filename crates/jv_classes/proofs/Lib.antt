@@ -8,8 +8,8 @@ pub mod Adding
 pub mod AllFound
 pub mod Chains
 pub mod Followed
-pub mod Hashed
 pub mod Knowing
+pub mod Linked
 pub mod Listing
 pub mod Loaded
 pub mod Numbers

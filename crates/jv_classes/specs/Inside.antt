@@ -4,6 +4,7 @@ pub mod Direct
 pub mod Found
 pub mod Kept
 pub mod Known
+pub mod Linked
 pub mod Listed
 pub mod Once
 pub mod Rows

@@ -1,8 +1,6 @@
 -- A field or a method as it is kept.
-use Rattle.std.specs.Prelude.{◌≡◌, ◌+◌, ◌%◌, ◌^◌, ℕ, Bool, ◌&&◌, ◌==◌, List, cond, Some, is_some}
-use Rattle.std.specs.HashMap.{HashMap, get_by}
+use Rattle.std.specs.Prelude.{◌≡◌, ◌+◌, ◌%◌, ◌^◌, ℕ, Bool, ◌&&◌, ◌==◌, List}
 use Rattle.std.specs.Str.{bytes_eq}
-use Rattle.jv_classes.specs.Inside.KeptNames.{AreFirstPlaces}
 use Rattle.jv_classes.specs.Texts.{text_hash}
 use Rattle.jv_meaning_world.specs.of_class.Class.{Field, Method}
 use Rattle.jv_classes.specs.declared.member.Member.{Member}
@@ -51,16 +49,6 @@ key_of seed name descriptor = (text_hash seed name + text_hash seed descriptor) 
 abbrev pub has_key : ℕ → Key → MemberSeen → Bool
 has_key seed key m = same_key (key_of seed m.name m.descriptor) key
 
--- the first member with a key is found at its place, and nothing else is found
-abbrev pub ArePlaces : {S : Type 0} → ℕ → List MemberSeen → HashMap Key ℕ S → Type 0
-ArePlaces seed members places = AreFirstPlaces same_key (has_key seed) members places
-
--- a place joins under a key that is not there yet; else nothing has changed
-abbrev pub IsNoted : {S : Type 0} → Key → ℕ → HashMap Key ℕ S → HashMap Key ℕ S → Type 0
-IsNoted key place old new = (other : Key)
-    → get_by (same_key other) new
-    ≡ cond (is_some (get_by (same_key key) old)) (get_by (same_key other) old)
-    (cond (same_key key other) (Some place) (get_by (same_key other) old))
-
-abbrev pub FindSame : {S : Type 0} → HashMap Key ℕ S → HashMap Key ℕ S → Type 0
-FindSame old new = (other : Key) → get_by (same_key other) new ≡ get_by (same_key other) old
+-- the key of a member as it is kept
+abbrev pub kept_key : ℕ → KeptMember → Key
+kept_key seed m = key_of seed m.name.now m.descriptor.now

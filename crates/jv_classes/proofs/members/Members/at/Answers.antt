@@ -1,8 +1,8 @@
-use Rattle.std.proofs.Common.{◌∙◌, sym, ap, slice_get, length, Some}
+use Rattle.std.proofs.Common.{◌∙◌, sym, ap, slice_get, length}
 use Rattle.std.specs.Option.{option_map}
 use Rattle.std.proofs.lemmas.Option.{slice_get-map, slice_get_read}
 use Rattle.std.proofs.lemmas.List.{length-map}
-use Rattle.jv_classes.specs.Inside.Seen.{kept_seen, member_made}
+use Rattle.jv_classes.specs.Inside.Seen.{kept_seen}
 use Rattle.jv_classes.proofs.members.Members.at.Goals as goal
 
 pub returns : goal.returns
