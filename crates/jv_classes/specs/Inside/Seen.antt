@@ -1,5 +1,5 @@
 -- A field or a method as it is kept.
-use Rattle.std.specs.Prelude.{◌≡◌, ◌+◌, ◌%◌, ◌^◌, ℕ, Bool, ◌&&◌, ◌==◌, List}
+use Rattle.std.specs.Prelude.{◌≡◌, ◌+◌, ◌%◌, ◌^◌, ℕ, Bool, ◌&&◌, List}
 use Rattle.std.specs.Str.{bytes_eq}
 use Rattle.jv_classes.specs.Texts.{text_hash}
 use Rattle.jv_meaning_world.specs.of_class.Class.{Field, Method}
@@ -40,14 +40,8 @@ IsHashed seed m = (m.name_hash ≡ text_hash seed m.name.now) × (m.descriptor_h
 abbrev pub Key : Type 0
 Key = ℕ
 
-abbrev pub same_key : Key → Key → Bool
-same_key one other = one == other
-
 abbrev pub key_of : ℕ → List ℕ → List ℕ → Key
 key_of seed name descriptor = (text_hash seed name + text_hash seed descriptor) % 2 ^ 64
-
-abbrev pub has_key : ℕ → Key → MemberSeen → Bool
-has_key seed key m = same_key (key_of seed m.name m.descriptor) key
 
 -- the key of a member as it is kept
 abbrev pub kept_key : ℕ → KeptMember → Key
