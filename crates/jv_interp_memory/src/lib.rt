@@ -1,6 +1,6 @@
 //! What a guest holds beside the words of frames (JVMS 2.5): its objects in the blocks of a store (2.4, 2.7), how they stand there, how
 //! they are made, and how what they hold is read and written; and what instructions change of all that, and what they do beside it
-//! (2.11): how both stand for the machine's. A room of `jv_interp`.
+//! (2.11): how both stand for the machine's. A room of `jv_interp`, and a door: the host names it too.
 #![tactic(auto)]
 
 mod blocks;

@@ -11,7 +11,7 @@ mod computing;
 mod computing_steps;
 mod dispatch;
 mod division;
-mod divisions;
+mod division_instructions;
 mod form_instructions;
 mod form_steps;
 mod forms;
@@ -28,32 +28,19 @@ mod running;
 mod switches;
 mod words;
 
-pub use branch_steps::{step_goto, step_if_int, step_if_ints, step_if_null, step_if_same};
 pub use branches::{if_int, if_ints, jump};
-pub use calls::{entered_base, leave, leave_with};
-pub use computing::{
-    arithmetic_on_ints, arithmetic_on_longs, compare_longs, cut, negate_int, negate_long,
-    shift_ints, shift_longs, to_byte, to_char, to_short, widen,
-};
-pub use computing_steps::{
-    step_byte_constant, step_compute, step_half_constant, step_nop, step_null,
-};
-pub use dispatch::step_in_words;
-pub use divisions::divide;
+pub use calls::leave;
+pub use computing::cut;
+pub use division_instructions::divide;
 pub use form_instructions::move_words;
-pub use form_steps::step_form;
 pub use forms::{dup, dup_x1, dup_x2, dup2, dup2_x1, dup2_x2, pop, pop2, swap};
 pub use local_instructions::{increment, load, store, store_long};
-pub use local_steps::{
-    step_increment, step_load, step_load_of, step_store, step_store_long, step_store_long_of,
-    step_store_of,
-};
 pub use numbers::{long_constant, low_byte, low_char, low_short};
-pub use operands::{push_int, push_long, top_long};
+pub use operands::{push_int, push_long};
 pub use pushes::{compute, nop, push_null};
 pub use records::{FrameRecord, InitializationRecord, MethodRecord};
 pub use references::{if_null, if_same};
 pub use registers::Registers;
 pub use running::run_in_words;
 pub use switches::{lookup_switch, table_switch};
-pub use words::{push_two, push_word, put_word, word_at};
+pub use words::{push_word, word_at};

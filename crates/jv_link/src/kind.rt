@@ -55,7 +55,7 @@ fn has_method_kind(how: Use, flags: u16) -> bool
 }
 
 /// Whether a name is that of a class's initialization (JVMS 2.9).
-fn is_clinit(name: &[u8]) -> bool
+pub fn is_clinit(name: &[u8]) -> bool
     ensures { result ≡ is_clinit name.now }
 {
     name == b"<clinit>".as_slice()

@@ -2,12 +2,12 @@
 
 ghost use Rattle.std.specs.Prelude.{◌≡◌, ◌≤◌, ◌<◌, ℕ, List, codes, IfOk, IfSome, IfNone};
 ghost use Rattle.std.specs.Str.{bytes_eq};
-ghost use Rattle.jv_frames.specs.Types.{width, words};
+ghost use Rattle.jv_frames.specs.Types.{words};
 ghost use Rattle.jv_method_pass.specs.of_types.Typed.{typed, typed_all};
 ghost use Rattle.jv_method.specs.Inside.Known.{IsReceiver, AreReceivers, AreFirstEntries};
 
 use jv_frames::VerificationTypeOf;
-use jv_method_pass::of_types::{CurrentClass, Item};
+use jv_method_pass::of_types::{CurrentClass, Item, words_of};
 use std::alloc::{AllocError, Global};
 
 /// Whether the class is java/lang/Object.
@@ -57,15 +57,6 @@ pub(crate) fn initial_items(
     let mut items = receiver_items(alloc, class, is_static, is_init)?;
     items.extend_from_slice(arguments)?;
     Ok(items)
-}
-
-fn words_of(item: Item) -> u16
-    ensures { (names : List (List ℕ)) → result ≡ width (typed names item) }
-{
-    match item {
-        VerificationTypeOf::Long => 2,
-        _ => 1,
-    }
 }
 
 /// The words of entries, where there are no more than a number.

@@ -4,7 +4,6 @@ ghost use Rattle.std.specs.Prelude.{◌≡◌, ◌&&◌, ◌||◌, not, ℕ, Lis
 ghost use Rattle.std.specs.List.{list_any};
 ghost use Rattle.std.specs.Option.{option_map};
 ghost use Rattle.jv_frames.specs.Frames.{is_uninitialized_this};
-ghost use Rattle.jv_frames.specs.Types.{width};
 ghost use Rattle.jv_frames.specs.declared.verification.VerificationTypeOf.TheVariants as variants;
 ghost use Rattle.jv_meaning_world.specs.Flow.{flows};
 ghost use Rattle.jv_meaning_world.specs.FrameFlow.{item_flows, frame_flows};
@@ -15,18 +14,7 @@ ghost use Rattle.jv_method_pass.specs.Inside.Locals.{left_in};
 
 use crate::entries::EntryTypes;
 use jv_frames::{Entries, MapFrame, VerificationTypeOf};
-use jv_types::{Item, TypeFrame};
-
-/// The words of a local entry.
-#[inline(always)]
-pub(crate) fn words_of(item: Item) -> u16
-    ensures { (names : List (List ℕ)) → result ≡ width (typed names item) }
-{
-    match item {
-        VerificationTypeOf::Long => 2,
-        _ => 1,
-    }
-}
+use jv_types::{Item, TypeFrame, words_of};
 
 #[inline(always)]
 fn is_same_object(one: Item, other: Item) -> bool

@@ -14,11 +14,10 @@ ghost use Rattle.jv_method_pass.specs.Inside.Moved.{Moves, Follows};
 ghost use Rattle.jv_method_pass.specs.Pass.{HasRoom};
 
 use crate::entries::EntryTypes;
-use crate::flowing::words_of;
 use crate::pass::Pass;
 use crate::setting::is_this;
 use jv_frames::{MapFrame, VerificationTypeOf};
-use jv_types::TypeFrame;
+use jv_types::{TypeFrame, words_of};
 
 /// The words of the local entries of a frame of the map below so many of the last.
 fn words_below(types: &EntryTypes<'_, '_, '_>, map: &MapFrame<'_>, above: usize) -> u16

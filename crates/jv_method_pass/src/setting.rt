@@ -9,9 +9,9 @@ ghost use Rattle.jv_method_pass.specs.Inside.Locals.{is_this};
 ghost use Rattle.jv_method_pass.specs.Mapped.{names_of_types, types_of_entries, local_entry_words, frame_by_types, expanded_entries, locals_of, stack_of, HasLocalsOf, IsInitial};
 
 use crate::entries::EntryTypes;
-use crate::flowing::{has_this, words_of};
+use crate::flowing::has_this;
 use jv_frames::{MapFrame, VerificationTypeOf};
-use jv_types::{Item, TypeFrame};
+use jv_types::{Item, TypeFrame, words_of};
 use std::alloc::AllocError;
 
 /// Gives the local variables, which hold nothing, the types of a frame's entries.

@@ -22,11 +22,11 @@ use Rattle.jv_meaning_typing.specs.FrameChanges.{taken}
 use Rattle.jv_meaning_typing.specs.Named.{when, MethodUse, method_named_by, current_type}
 use Rattle.jv_meaning_typing.specs.MemberRules.{has_plain_name, called_on, is_near, invoke_super, is_that_name, class_of_new, constructs_new, constructs_this, constructed_type, construct_top}
 use Rattle.jv_types.specs.Typed.{TypeWorld, name_at, typed, typed_all}
-use Rattle.jv_types.specs.Numbered.{Item, NumberFrame, frame_of, with_stack}
+use Rattle.jv_types.specs.Numbered.{Item, NumberFrame, class_number, frame_of, with_stack}
 use Rattle.jv_types.specs.Current.{CurrentClass, IsOfClass}
 use Rattle.jv_rules.specs.Objects.{object_in}
 use Rattle.jv_types.specs.Operands.{HasPool}
-use Rattle.jv_rules.specs.Inside.Constructed.{class_number, one_word, constructed_as, object_below}
+use Rattle.jv_rules.specs.Inside.Constructed.{one_word, constructed_as, object_below}
 use Rattle.jv_rules.proofs.Using.{method_reference}
 
 -- ---- the class that a method is named with
@@ -42,10 +42,10 @@ same_class : {a b : List ℕ} → Some (types.Class a) ≡ Some (types.Class b) 
 same_class e = cc
 
 -- one that has a number
-pub class_named : (names : List (List ℕ)) (text : List ℕ) (owner : Item) (number : ℕ) → reference_type text ≡ Some (typed names owner) → Some number ≡ class_number owner → text ≡ name_at names number
+pub class_named : (names : List (List ℕ)) (text : List ℕ) (owner : Item) (number : ℕ) → reference_type text ≡ Some (typed names owner) → Some number ≡ class_number (Some owner) → text ≡ name_at names number
 class_named names text owner number e is = by_array (is_array_name text) (e ∙ ap (λ t. Some t) (is_class owner is))
   where
-    is_class : (t : Item) → Some number ≡ class_number t → typed names t ≡ types.Class (name_at names number)
+    is_class : (t : Item) → Some number ≡ class_number (Some t) → typed names t ≡ types.Class (name_at names number)
     is_class (types.Class n) f = cc
     is_class types.Top f = absurd cc
     is_class types.Int f = absurd cc
@@ -64,7 +64,7 @@ class_named names text owner number e is = by_array (is_array_name text) (e ∙ 
     by_array false f = by_class (is_class_name text) f
 
 -- one that has none is an array
-no_class : (names : List (List ℕ)) (text : List ℕ) (owner : Item) → None ≡ class_number owner → Some (types.Class text) ≡ Some (typed names owner) → ⊥
+no_class : (names : List (List ℕ)) (text : List ℕ) (owner : Item) → None ≡ class_number (Some owner) → Some (types.Class text) ≡ Some (typed names owner) → ⊥
 no_class names text (types.Class n) none e = absurd cc
 no_class names text types.Top none e = cc
 no_class names text types.Int none e = cc
@@ -74,7 +74,7 @@ no_class names text types.UninitializedThis none e = cc
 no_class names text (types.Array c) none e = cc
 no_class names text (types.Uninitialized p) none e = cc
 
-array_named : (names : List (List ℕ)) (text : List ℕ) (owner : Item) → reference_type text ≡ Some (typed names owner) → None ≡ class_number owner → is_array_name text ≡ true
+array_named : (names : List (List ℕ)) (text : List ℕ) (owner : Item) → reference_type text ≡ Some (typed names owner) → None ≡ class_number (Some owner) → is_array_name text ≡ true
 array_named names text owner e none = by_array (is_array_name text) e
   where
     by_class : (b : Bool) → cond b (Some (types.Class text)) None ≡ Some (typed names owner) → false ≡ true
@@ -96,7 +96,7 @@ no_flow world name text t e array =
     ap (flows world (types.Class name)) is.1
 
 pub not_above : (names : List (List ℕ)) (env : Environment) (named : MethodUse) (owner : Item) (frame : Frame) → reference_type named.reference.class ≡ Some (typed names owner) → named.owner ≡ typed names owner
-    → None ≡ class_number owner → invoke_super env named frame ≡ None
+    → None ≡ class_number (Some owner) → invoke_super env named frame ≡ None
 not_above names env named owner frame e is none =
     let array : is_array_name named.reference.class ≡ true = array_named names named.reference.class owner e none in
     by_plain (has_plain_name named) (ap (flows env.world (current_type env)) is ∙ no_flow env.world (current_class env).name named.reference.class (typed names owner) e array)

@@ -5,12 +5,12 @@ ghost use Rattle.jv_meaning_typing.specs.MemberRules.{invoke_super, invoke_speci
 ghost use Rattle.jv_rules.specs.Method.{Follows};
 ghost use Rattle.jv_rules.specs.Inside.Used.{AtCall, FollowsCall};
 
-use crate::constructors::{class_number, invoke_init};
+use crate::constructors::invoke_init;
 use crate::context::MethodContext;
 use crate::methods::{invoke_interface, invoke_static, invoke_super, invoke_virtual};
 use crate::operands::{called_types_at, method_operand};
 use jv_code::Invocation;
-use jv_types::{CalledTypes, Outcome, TypeFrame};
+use jv_types::{CalledTypes, Outcome, TypeFrame, class_number};
 
 /// Calls a method other than `<init>` of the current class or of one above it.
 fn invoke_above(
@@ -21,7 +21,7 @@ fn invoke_above(
 ) -> Outcome
     ensures { FollowsCall context.now index called.entry (λ env named. invoke_super env named) frame.old frame.new result }
 {
-    match class_number(called.owner) {
+    match class_number(Some(called.owner)) {
         Some(owner) => {
             invoke_super(
                 context.types(),

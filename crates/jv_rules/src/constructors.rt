@@ -6,7 +6,7 @@ ghost use Rattle.jv_meaning_typing.specs.Environment.{Environment, instruction_a
 ghost use Rattle.jv_meaning_typing.specs.MemberRules.{class_of_new, constructs_new, constructs_this, constructed_type, invoke_init};
 ghost use Rattle.jv_types.specs.Numbered.{item_words};
 ghost use Rattle.jv_rules.specs.Method.{IsOfMethod};
-ghost use Rattle.jv_rules.specs.Inside.Constructed.{class_number, class_made, one_word};
+ghost use Rattle.jv_rules.specs.Inside.Constructed.{class_made, one_word};
 ghost use Rattle.jv_rules.specs.Inside.Used.{AtCall, FollowsCall, IsConstructedType, ConstructsThis, ConstructsCalled};
 
 use crate::construction::{construct, take_constructed};
@@ -15,17 +15,7 @@ use crate::guards::flows_to_guard;
 use crate::texts::is_named_with;
 use jv_code::Insn;
 use jv_frames::VerificationTypeOf;
-use jv_types::{CalledTypes, Item, Outcome, TypeFrame};
-
-/// The number of the name of a class, and no array.
-pub(crate) fn class_number(item: Item) -> Option<u32>
-    ensures { result ≡ class_number item }
-{
-    match item {
-        VerificationTypeOf::Class(number) => Some(number),
-        _ => None,
-    }
-}
+use jv_types::{CalledTypes, Item, Outcome, TypeFrame, class_number};
 
 /// The index of the class that an instruction names, where it is `new`.
 fn index_in_new(insn: &Insn<&[u8]>) -> Option<u16>
@@ -71,7 +61,7 @@ fn constructs_this(context: &MethodContext<'_, '_, '_, '_>, called: CalledTypes<
 {
     let class = context.class();
     class.has_no_array_name();
-    match class_number(called.owner) {
+    match class_number(Some(called.owner)) {
         Some(owner) => class.is_current(owner) || class.is_superclass(owner),
         None => false,
     }

@@ -39,4 +39,3 @@ pub use law::{keeps_local_count, leaves_below, leaves_locals, writes_there};
 pub use locals::keeps_locals;
 pub use rule::apply;
 pub use table::number_type;
-pub use variables::is_reference;

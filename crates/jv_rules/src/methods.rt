@@ -4,14 +4,13 @@ ghost use Rattle.std.specs.Prelude.{◌≡◌, ◌+◌, ◌==◌, ◌&&◌, ℕ,
 ghost use Rattle.jv_frames.specs.Types.{words};
 ghost use Rattle.jv_meaning_typing.specs.MemberRules.{invoke_virtual, invoke_static, invoke_interface, invoke_super};
 ghost use Rattle.jv_types.specs.Typed.{typed_all};
-ghost use Rattle.jv_types.specs.Numbered.{item_words};
 ghost use Rattle.jv_types.specs.Outcomes.{outcome_of, Applies};
 ghost use Rattle.jv_rules.specs.Operands.{FollowsMethod, FollowsNear, counts_words, calls_guarded};
 
 use crate::receivers::take_receiver;
 use crate::stack::{exchange, take};
 use jv_frames::VerificationTypeOf;
-use jv_types::{Item, Outcome, TypeFrame, TypeNames};
+use jv_types::{Item, Outcome, TypeFrame, TypeNames, words_of};
 
 /// A method as an instruction names it: the class that is named, the types of the arguments, the first first, and of the
 /// result, if it has one.
@@ -84,22 +83,12 @@ pub fn invoke_static(
     }
 }
 
-/// The words of an item: two of a long.
-fn words_of(item: Item) -> u8
-    ensures { result ≡ item_words item }
-{
-    match item {
-        VerificationTypeOf::Long => 2,
-        _ => 1,
-    }
-}
-
 /// Whether a number is that of the arguments' words and of the receiver's.
 fn counts_arguments(arguments: &[Item], count: u8) -> bool
     ensures { (names : List (List ℕ)) → result ≡ (count == words (typed_all names arguments.now) + 1) }
 {
     let mut left = arguments;
-    let mut rest = count;
+    let mut rest = u16::from(count);
     while let Some((item, more)) = left.split_first() {
         let width = words_of(*item);
         if rest < width {

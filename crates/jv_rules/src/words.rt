@@ -6,19 +6,8 @@ ghost use Rattle.jv_types.specs.Numbered.{frame_of, item_words, stack_words};
 ghost use Rattle.jv_types.specs.Outcomes.{IsFrame};
 ghost use Rattle.jv_rules.specs.Inside.Over.{WithinStack, SettlesTop};
 
-use jv_frames::VerificationTypeOf;
-use jv_types::{Item, TypeFrame};
+use jv_types::{Item, TypeFrame, words_of};
 use std::alloc::AllocError;
-
-/// The words of an item: two of a long.
-fn words_of(item: Item) -> u16
-    ensures { result ≡ item_words item }
-{
-    match item {
-        VerificationTypeOf::Long => 2,
-        _ => 1,
-    }
-}
 
 /// Whether the stack has no more words than it may have.
 pub(crate) fn is_within(frame: &TypeFrame, max_stack: u16) -> bool

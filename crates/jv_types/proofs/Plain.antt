@@ -11,7 +11,8 @@ use Rattle.jv_meaning_typing.specs.Named.{when}
 use Rattle.jv_types.specs.Typed.{name_at, typed}
 use Rattle.jv_types.specs.Numbered.{Item}
 use Rattle.jv_types.specs.Operands.{plain_class}
-use Rattle.jv_types.specs.Inside.Parts.{class_number}
+use Rattle.jv_types.specs.Numbered.{class_number}
+use Rattle.jv_types.specs.Inside.Named.{class_of_type}
 
 -- a class by its name, and no array
 pub record IsPlain (text : List ℕ) : Type 0 where
@@ -93,3 +94,14 @@ number_named names o (Some text) e = by_text (plain_or_other text)
         other (Some types.UninitializedThis) f = refl
         other (Some (types.Array c)) f = refl
         other (Some (types.Uninitialized p)) f = refl
+
+pub class_by_number : (names : List (List ℕ)) (o : Option Item) → option_map (name_at names) (class_number o) ≡ class_of_type (option_map (typed names) o)
+class_by_number names None = refl
+class_by_number names (Some (types.Class n)) = refl
+class_by_number names (Some types.Top) = refl
+class_by_number names (Some types.Int) = refl
+class_by_number names (Some types.Long) = refl
+class_by_number names (Some types.Null) = refl
+class_by_number names (Some types.UninitializedThis) = refl
+class_by_number names (Some (types.Array c)) = refl
+class_by_number names (Some (types.Uninitialized p)) = refl

@@ -1,5 +1,5 @@
 -- Frames whose classes are numbers of names, and the frames that they stand for (JVMS 4.10.1.4).
-use Rattle.std.specs.Prelude.{◌≡◌, ℕ, Bool, true, false, List, [], ◌∷◌, replicate, sum_by, Some, None}
+use Rattle.std.specs.Prelude.{◌≡◌, ℕ, Bool, true, false, List, [], ◌∷◌, replicate, sum_by, Option, Some, None}
 use Rattle.jv_frames.specs.declared.verification.VerificationTypeOf.{VerificationTypeOf}
 use Rattle.jv_frames.specs.declared.verification.VerificationTypeOf.TheVariants as types
 use Rattle.jv_frames.specs.Types.{FrameType}
@@ -28,6 +28,11 @@ topped f item = record f { stack = item ∷ f.stack }
 abbrev pub item_words : Item → ℕ
 item_words types.Long = 2
 item_words _ = 1
+
+-- the number of the name of a class, and no array, where there is an item
+abbrev pub class_number : Option Item → Option ℕ
+class_number (Some (types.Class number)) = Some number
+class_number _ = None
 
 abbrev pub stack_words : List Item → ℕ
 stack_words items = sum_by item_words items

@@ -4,14 +4,16 @@ ghost use Rattle.std.specs.Prelude.{◌≡◌, is_some};
 ghost use Rattle.std.specs.Option.{option_map};
 ghost use Rattle.jv_types.specs.Typed.{name_at, typed};
 ghost use Rattle.jv_types.specs.Operands.{class_named_at, array_of_at, array_at};
-ghost use Rattle.jv_types.specs.Inside.Parts.{class_number};
+ghost use Rattle.jv_types.specs.Numbered.{class_number};
+ghost use Rattle.jv_types.specs.Inside.Named.{class_of_constant};
 
 use crate::constants::ConstantTypes;
 use crate::names::Item;
 use jv_frames::VerificationTypeOf;
 use jv_text::FieldTypeOf;
 
-fn class_number(item: Option<Item>) -> Option<u32>
+/// The number of the name of a class, and no array.
+pub fn class_number(item: Option<Item>) -> Option<u32>
     ensures { result ≡ class_number item }
 {
     match item {
@@ -22,7 +24,8 @@ fn class_number(item: Option<Item>) -> Option<u32>
 
 /// The number of the name of the class that an index names; `None` where it names an array or no class.
 pub fn names_class(constants: &ConstantTypes<'_, '_>, index: u16) -> Option<u32>
-    ensures { option_map (name_at constants.now.types.names) result ≡ class_named_at constants.now.pool index }
+    ensures operand { option_map (name_at constants.now.types.names) result ≡ class_named_at constants.now.pool index }
+    ensures constant { option_map (name_at constants.now.types.names) result ≡ class_of_constant constants.now.pool index }
 {
     class_number(constants.class_type(index))
 }

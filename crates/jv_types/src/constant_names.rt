@@ -6,26 +6,16 @@ ghost use Rattle.jv_class_structure.specs.Seen.{seen_index};
 ghost use Rattle.jv_types.specs.Typed.{name_at};
 ghost use Rattle.jv_types.specs.Inside.Named.{class_of_constant, class_of_constant_at, IsNameOf};
 
+use crate::classes::names_class;
 use crate::constants::ConstantTypes;
-use jv_frames::VerificationTypeOf;
 use jv_pool::ClassIndex;
-
-/// The number of the name of the class, and no array, that a Class constant names.
-pub(crate) fn class_number(constants: &ConstantTypes<'_, '_>, index: u16) -> Option<u32>
-    ensures { option_map (name_at constants.now.types.names) result ≡ class_of_constant constants.now.pool index }
-{
-    match constants.class_type(index) {
-        Some(VerificationTypeOf::Class(number)) => Some(number),
-        _ => None,
-    }
-}
 
 /// The number of the name of the class that a constant is known to name.
 pub(crate) fn known_number(constants: &ConstantTypes<'_, '_>, index: ClassIndex) -> u32
     requires { IsSome (class_of_constant constants.now.pool index.0) }
     ensures { class_of_constant constants.now.pool index.0 ≡ Some (name_at constants.now.types.names result) }
 {
-    match class_number(constants, index.0) {
+    match names_class(constants, index.0) {
         Some(number) => number,
         None => unreachable!(),
     }
@@ -36,7 +26,7 @@ pub(crate) fn number_by(constants: &ConstantTypes<'_, '_>, index: Option<ClassIn
     ensures { IsNameOf constants.now.types.names result (class_of_constant_at constants.now.pool (option_map seen_index index)) }
 {
     match index {
-        Some(index) => class_number(constants, index.0),
+        Some(index) => names_class(constants, index.0),
         None => None,
     }
 }

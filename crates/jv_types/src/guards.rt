@@ -11,7 +11,7 @@ ghost use Rattle.jv_meaning_typing.specs.Named.{is_guarded_field, is_guarded_met
 ghost use Rattle.jv_types.specs.Inside.Guarded.{is_proper_subclass, is_far, field_is_far, method_is_far, member_named, IsGuard, IsNumberNamed, IsFoundAt, IsProperAbove, IsNoProperSuper, IsFieldGuarded, IsMethodGuarded};
 ghost use Rattle.jv_types.specs.Inside.KeptClass.{AreGuardsOf};
 
-use crate::constant_names::class_number;
+use crate::classes::names_class;
 use crate::constants::ConstantTypes;
 use crate::hashed::{PoolHashes, called_indices, descriptor_index, name_index, text_with};
 use crate::indices::{MemberIndices, field_indices};
@@ -112,7 +112,7 @@ fn class_at(constants: &ConstantTypes<'_, '_>, index: u16) -> Option<usize>
     kinds_name();
     constants.pool().keeps_rules();
     constants.names().table().are_no_arrays();
-    match class_number(constants, index) {
+    match names_class(constants, index) {
         Some(number) => constants.names().class_of(number),
         None => None,
     }

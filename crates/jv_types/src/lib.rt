@@ -26,8 +26,9 @@ mod texts;
 mod type_frame;
 mod value;
 mod variables;
+mod words;
 
-pub use classes::{array_of, array_type, names_class};
+pub use classes::{array_of, array_type, class_number, names_class};
 pub use constants::ConstantTypes;
 pub use current_class::CurrentClass;
 pub use fields::{FieldTypes, field_types};
@@ -40,3 +41,4 @@ pub use pushed::{long_constant_type, one_word_constant_type};
 pub use texts::MethodTypes;
 pub use type_frame::TypeFrame;
 pub use value::value_type;
+pub use words::words_of;

@@ -13,6 +13,7 @@ use crate::indices::{method_indices, text_at};
 use crate::names::Item;
 use crate::value::value_type;
 use jv_frames::VerificationTypeOf;
+use jv_link::is_clinit;
 use jv_text::{FieldTypeOf, is_init};
 
 /// The class or array that a method is named with, and the types of its arguments and of its result.
@@ -27,12 +28,6 @@ pub struct CalledTypes<'c> {
     pub owner: Item,
     pub arguments: &'c [Item],
     pub result: Option<Item>,
-}
-
-fn is_clinit(name: &[u8]) -> bool
-    ensures { result ≡ is_clinit name.now }
-{
-    name == b"<clinit>".as_slice()
 }
 
 /// Whether a name is neither `<init>` nor `<clinit>`.

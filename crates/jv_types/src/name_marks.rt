@@ -4,7 +4,7 @@ ghost use Rattle.std.specs.Prelude.{◌≡◌, ◌<◌, false, length, map, get_
 ghost use Rattle.jv_class_structure.specs.Seen.{seen_index};
 ghost use Rattle.jv_types.specs.Inside.Marked.{AreMarkedAt, IsNameMarked};
 
-use crate::constant_names::class_number;
+use crate::classes::names_class;
 use crate::constants::ConstantTypes;
 use jv_pool::ClassIndex;
 use std::alloc::{AllocError, Global};
@@ -17,7 +17,7 @@ fn mark(marks: &mut [bool], constants: &ConstantTypes<'_, '_>, index: u16)
 {
     let names = constants.names();
     names.are_distinct();
-    if let Some(number) = class_number(constants, index) {
+    if let Some(number) = names_class(constants, index) {
         marks[names.place(number)] = true;
     }
 }

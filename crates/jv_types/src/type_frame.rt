@@ -9,7 +9,7 @@ ghost use Rattle.jv_types.specs.Numbered.{blank, topped, with_flag, with_locals,
 use crate::items::Items;
 use crate::names::Item;
 use crate::variables::Variables;
-use jv_frames::VerificationTypeOf;
+use crate::words::words_of;
 use std::alloc::{AllocError, Global};
 use std::marker::Model;
 
@@ -41,16 +41,6 @@ impl Drop for TypeFrame {
             words: _,
             flag: _,
         } = self;
-    }
-}
-
-/// The words of an item: two of a long.
-fn words_of(item: Item) -> usize
-    ensures { result ≡ item_words item }
-{
-    match item {
-        VerificationTypeOf::Long => 2,
-        _ => 1,
     }
 }
 
@@ -139,7 +129,7 @@ impl TypeFrame {
         ensures empty { IfNone result (self.old.stack ≡ []) }
     {
         let item = self.stack.pop()?;
-        self.words -= words_of(item);
+        self.words -= usize::from(words_of(item));
         Some(item)
     }
 
@@ -152,7 +142,7 @@ impl TypeFrame {
         ensures ok { OnOk result (self.new ≡ topped self.old item) }
         ensures refused { OnErr result (self.new ≡ self.old) }
     {
-        let Some(words) = self.words.checked_add(words_of(item)) else {
+        let Some(words) = self.words.checked_add(usize::from(words_of(item))) else {
             return Err(AllocError);
         };
         self.stack.push(item)?;

@@ -32,11 +32,6 @@ abbrev pub class_made : Environment → Option ℕ → Option (List ℕ)
 class_made env None = None
 class_made env (Some index) = class_operand (current_class env) index
 
--- the number of the name of a class, and no array
-abbrev pub class_number : Item → Option ℕ
-class_number (types.Class number) = Some number
-class_number _ = None
-
 -- ---- the object
 
 -- all copies of an object get a type, if there is one

@@ -4,8 +4,6 @@ use Rattle.std.specs.Option.{option_map}
 use Rattle.jv_format.specs.Format.{◌>>=◌}
 use Rattle.jv_pool.specs.declared.constant.Constant.TheVariants.{Fieldref, Methodref, InterfaceMethodref, NameAndType}
 use Rattle.jv_pool.specs.Constants.{Entry, MemberReference, at_index, class_name_at, utf8_at}
-use Rattle.jv_frames.specs.declared.verification.VerificationTypeOf.TheVariants as types
-use Rattle.jv_types.specs.Numbered.{Item}
 use Rattle.jv_types.specs.declared.indices.MemberIndices.{MemberIndices}
 use Rattle.jv_types.specs.declared.indices.MethodIndices.{MethodIndices}
 
@@ -33,7 +31,3 @@ abbrev pub reference_at : List Entry → MemberIndices → Option MemberReferenc
 reference_at pool i =
     class_name_at pool i.class >>= λ class. utf8_at pool i.name >>= λ name. utf8_at pool i.descriptor >>= λ descriptor.
     Some (reference_of class name descriptor)
-
-abbrev pub class_number : Option Item → Option ℕ
-class_number (Some (types.Class number)) = Some number
-class_number _ = None

@@ -11,14 +11,14 @@ returns-then-most-count-clause-more c = λ names.
     let items = c.args.items.now in
     let at = c.loop-item.item-index in
     let one_more : words (typed_all names (take (at + 1) items)) ≡ words (typed_all names (take at items)) + c.words_of-more.result =
-    words_with names items at _ c.words_of-more.result c.loop-item-test.true (c.words_of-more.ensures names) in
+    words_with names items at _ c.words_of-more.result c.loop-item-test.true (c.words_of-more.ensures.of_type names) in
     omega (arith, one_more, c.loop-item.invariant.counted names, words_front names items (at + 1))
 
 pub loop-item-preserved : goal.loop-item-preserved
 loop-item-preserved c = record {
   counted = λ names.
       ap (λ (n : ℕ). n + c.words_of-more.result) (c.loop-item.invariant.counted names)
-      ∙ sym (words_with names c.args.items.now c.loop-item.item-index _ c.words_of-more.result c.loop-item-test.true (c.words_of-more.ensures names));
+      ∙ sym (words_with names c.args.items.now c.loop-item.item-index _ c.words_of-more.result c.loop-item-test.true (c.words_of-more.ensures.of_type names));
   within = omega arith;
 }
 

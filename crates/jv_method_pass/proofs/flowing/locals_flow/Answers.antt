@@ -35,14 +35,14 @@ returns-in_default-local c =
     let types = c.args.types.now in
     absurd (no_local types.constants.types c.args.object c.args.frame.now.locals _ (types_of_entries types c.loop-entry.entries) c.loop-entry.at c.loop-entry.invariant
     (type_of_entry types c.in-Some.entry) (types_of_entries types c.next.new.self) (ap (types_of_entries types) c.in-Some.ensures) c.item-item.result c.words_of-at.result
-    (c.words_of-at.ensures (names_of_types types)) c.item-item.ensures (sym c.local.ensures ∙ c.in_default-local.is))
+    (c.words_of-at.ensures.of_type (names_of_types types)) c.item-item.ensures (sym c.local.ensures ∙ c.in_default-local.is))
 
 pub returns-then-not-flows : goal.returns-then-not-flows
 returns-then-not-flows c =
     let types = c.args.types.now in
     sym (flows_not types.constants.types c.args.object c.args.frame.now.locals _ (types_of_entries types c.loop-entry.entries) c.loop-entry.at c.loop-entry.invariant
     (type_of_entry types c.in-Some.entry) (types_of_entries types c.next.new.self) (ap (types_of_entries types) c.in-Some.ensures) c.item-item.result c.words_of-at.result
-    (c.words_of-at.ensures (names_of_types types)) c.item-item.ensures c.in-Some-local.local c.left_in.result (sym c.local.ensures ∙ c.in-Some-local.is)
+    (c.words_of-at.ensures.of_type (names_of_types types)) c.item-item.ensures c.in-Some-local.local c.left_in.result (sym c.local.ensures ∙ c.in-Some-local.is)
     (c.left_in.ensures (names_of_types types)) c.names.result.now c.names.ensures c.flows.result c.flows.ensures c.if-not-flows.true)
 
 pub loop-entry-preserved : goal.loop-entry-preserved
@@ -50,5 +50,5 @@ loop-entry-preserved c =
     let types = c.args.types.now in
     goes_on types.constants.types c.args.object c.args.frame.now.locals _ (types_of_entries types c.loop-entry.entries) c.loop-entry.at c.loop-entry.invariant
     (type_of_entry types c.in-Some.entry) (types_of_entries types c.next.new.self) (ap (types_of_entries types) c.in-Some.ensures) c.item-item.result c.words_of-at.result
-    (c.words_of-at.ensures (names_of_types types)) c.item-item.ensures c.in-Some-local.local c.left_in.result (sym c.local.ensures ∙ c.in-Some-local.is)
+    (c.words_of-at.ensures.of_type (names_of_types types)) c.item-item.ensures c.in-Some-local.local c.left_in.result (sym c.local.ensures ∙ c.in-Some-local.is)
     (c.left_in.ensures (names_of_types types)) c.names.result.now c.names.ensures c.flows.result c.flows.ensures c.if-not-flows.false

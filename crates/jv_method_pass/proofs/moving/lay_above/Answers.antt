@@ -38,7 +38,7 @@ loop-left-preserved c =
     let all = drop c.args.above c.args.map.now.locals in
     let is : types_of_entries types c.loop-left.entries ≡ typed names item ∷ types_of_entries types rest =
     ap (types_of_entries types) c.in-Some.ensures ∙ ap (λ t. t ∷ types_of_entries types rest) (sym c.item-item.ensures) in
-    let wide : c.words_of-at.result ≡ width (typed names item) = c.words_of-at.ensures names in
+    let wide : c.words_of-at.result ≡ width (typed names item) = c.words_of-at.ensures.of_type names in
     let next : words (types_of_entries types rest) + width (typed names item) ≡ c.loop-left.at = words_next (typed names item) (types_of_entries types rest) _ c.loop-left.at i.0 is in
     let left = left_next c.loop-left.left c.in-Some.entry rest c.loop-left.entries all c.loop-left-test.true i.1 c.in-Some.ensures in
     let below = c.loop-left.at - c.words_of-at.result in

@@ -25,7 +25,7 @@ overflow_sub-at c =
     let item = get_or entries (c.loop-left.left - 1) variants.Top in
     omega (
       arith,
-      c.words_of-at.ensures names,
+      c.words_of-at.ensures.of_type names,
       set_room _ _ (typed_all names (take (c.loop-left.left - 1) entries)) c.loop-left.at (typed names item) _ (c.loop-left.invariant.0 names)
           (taken_typed names entries c.loop-left.left variants.Top c.loop-left-test.true c.loop-left.invariant.2),
     )
@@ -38,7 +38,7 @@ loop-left-preserved c =
           let is = taken_typed names entries c.loop-left.left variants.Top c.loop-left-test.true c.loop-left.invariant.2 in
           let room = set_room _ _ (typed_all names (take (c.loop-left.left - 1) entries)) c.loop-left.at (typed names item) _ (c.loop-left.invariant.0 names) is in
           set_one _ _ (typed_all names (take (c.loop-left.left - 1) entries)) c.loop-left.at (c.loop-left.at - c.words_of-at.result) (typed names item) _ c.store-has_room.result _
-          (c.loop-left.invariant.0 names) is (omega (arith, c.words_of-at.ensures names, room)) (c.store-has_room.ensures.stored names),
+          (c.loop-left.invariant.0 names) is (omega (arith, c.words_of-at.ensures.of_type names, room)) (c.store-has_room.ensures.stored names),
       c.store-has_room.ensures.same ∙ ap (with_locals c.store-has_room.new.self.locals) c.loop-left.invariant.1,
       omega (arith, c.loop-left.invariant.2),
     )

@@ -28,7 +28,7 @@ loop-entry-preserved c =
     let left = types_of_entries types c.next.new.self in
     let is : reverse (types_of_entries types c.loop-entry.entries) ≡ reverse left ++ typed names item ∷ [] =
     ap (λ es. reverse (types_of_entries types es)) c.in-Some.ensures ∙ (reverse-append (type_of_entry types c.in-Some.entry ∷ []) left ∙ ap (λ e. reverse left ++ e ∷ []) (sym c.item-item.ensures)) in
-    let wide : c.words_of-at.result ≡ width (typed names item) = c.words_of-at.ensures names in
+    let wide : c.words_of-at.result ≡ width (typed names item) = c.words_of-at.ensures.of_type names in
     let room : width (typed names item) ≤ c.loop-entry.at = set_room _ _ (reverse left) c.loop-entry.at (typed names item) _ c.loop-entry.invariant.0 is in (
       set_one _ _ (reverse left) c.loop-entry.at (c.loop-entry.at - c.words_of-at.result) (typed names item) _ c.store-has_room.result _ c.loop-entry.invariant.0 is
           (omega (arith, wide, room)) (c.store-has_room.ensures.stored names),

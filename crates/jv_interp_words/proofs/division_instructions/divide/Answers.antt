@@ -1,7 +1,7 @@
 use Rattle.std.proofs.Common.{refl}
 use Rattle.jv_interp_words.specs.declared.registers.Registers.{Registers}
 use Rattle.jv_interp_words.proofs.DivisionsWork.{division_goes, division_throws}
-use Rattle.jv_interp_words.proofs.divisions.divide.Goals as goal
+use Rattle.jv_interp_words.proofs.division_instructions.divide.Goals as goal
 
 pub returns-in-Some-clause-went : goal.returns-in-Some-clause-went
 returns-in-Some-clause-went c = λ goes.
