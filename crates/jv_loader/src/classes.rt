@@ -1,7 +1,8 @@
 //! A guest's classes, loaded.
 
 ghost use Rattle.std.specs.Prelude.{◌≡◌, ◌<◌, Some, IfOk, IfSome, length, slice_get};
-ghost use Rattle.jv_meaning_world.specs.LookUps.{lookup_field, lookup_method};
+ghost use Rattle.jv_meaning_world.specs.LookUps.{lookup_field, lookup_method, is_subclass};
+ghost use Rattle.jv_meaning_world.specs.Numbers.{HoldsAtBoth, HoldsAtNumber, number_named, superclass_number};
 ghost use Rattle.jv_lookups.specs.Places.{IsFieldPlace, IsMethodPlace, IsFieldLookedUp, IsMethodLookedUp};
 ghost use Rattle.jv_lookups.specs.Defaults.{IsDefaultPlace, AreDefaultsOf};
 ghost use Rattle.jv_loader.specs.Loading.{AreLoaded};
@@ -99,6 +100,30 @@ impl<'a> Classes<'a> {
         ensures { result.now ≡ self.now.world }
     {
         &self.table
+    }
+
+    /// The number of the class of a name, where it is there.
+    pub fn find(&self, name: &[u8]) -> Option<usize>
+        ensures { result ≡ number_named self.now.world name.now }
+    {
+        self.table.find(name)
+    }
+
+    /// The number of the superclass of a class, where it has one and that is there.
+    pub fn super_of(&self, number: usize) -> Option<usize>
+        requires { number < length self.now.world }
+        ensures { HoldsAtNumber self.now.world number (λ l. result ≡ superclass_number self.now.world l.class) }
+    {
+        self.table.super_of(number)
+    }
+
+    /// Whether a class is another, or below it on the chain of superclasses.
+    pub fn is_subclass(&self, number: usize, of: usize) -> bool
+        requires number { number < length self.now.world }
+        requires of { of < length self.now.world }
+        ensures { HoldsAtBoth self.now.world number of (λ l to. result ≡ is_subclass self.now.world l to) }
+    {
+        self.table.is_subclass(number, of)
     }
 
     /// No class that can be loaded is above itself, and java/lang/Object can be loaded (JVMS 5.3.5). The
