@@ -7,7 +7,7 @@ use Rattle.jv_meaning_typing.specs.Environment.{Environment}
 use Rattle.jv_method_pass.specs.of_types.PoolTypes.{PoolTypes, typed_result}
 use Rattle.jv_method_pass.specs.of_types.Current.{CurrentClass, IsOfClass}
 use Rattle.jv_method_pass.specs.of_rules.Method.{MethodContext, IsOfMethod}
-use Rattle.jv_method_pass.specs.Mapped.{EntryTypes, local_entry_words, initial_types}
+use Rattle.jv_method_pass.specs.of_types.Mapped.{EntryTypes, local_entry_words, initial_types}
 use Rattle.jv_method_pass.specs.Tables.{entry_types, HasHandlers, HasMap, MapsTo}
 use Rattle.jv_method_pass.proofs.SameTypes.{same_types}
 use Rattle.jv_method_pass.specs.Pass.{Pass, HasRoom, IsOfPass}

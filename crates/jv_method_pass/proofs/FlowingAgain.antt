@@ -22,7 +22,7 @@ use Rattle.jv_types.specs.Typed.{typed, typed_all}
 use Rattle.jv_types.proofs.Replacing.{any_reversed}
 use Rattle.jv_types.specs.Numbered.{Item, NumberFrame, with_flag}
 use Rattle.jv_method_pass.specs.declared.flowed.FlowedFrame.{FlowedFrame}
-use Rattle.jv_method_pass.specs.Mapped.{EntryTypes, initial_types, names_of_types, world_of_types, types_of_entries, expanded_entries, locals_of, locals_flow_to, stack_flows_to, has_uninitialized_this, thrown_flows_to_map}
+use Rattle.jv_types.specs.Mapped.{EntryTypes, initial_types, names_of_types, world_of_types, types_of_entries, expanded_entries, locals_of, locals_flow_to, stack_flows_to, has_uninitialized_this, thrown_flows_to_map}
 use Rattle.jv_method_pass.specs.Pass.{Pass, HasRoom, names_in}
 use Rattle.jv_method_pass.specs.Inside.Kept.{SharesWith, locals_below}
 use Rattle.jv_method_pass.specs.Inside.Held.{HeldFrame, HoldsLocals, IsHeldBy, is_written, both_flow, flows_at}

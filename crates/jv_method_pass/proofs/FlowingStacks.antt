@@ -18,11 +18,11 @@ use Rattle.jv_rules.specs.Laws.{StandsOn, LeavesBelow}
 use Rattle.jv_types.specs.Typed.{typed, typed_all}
 use Rattle.jv_types.specs.Numbered.{Item, NumberFrame, frame_of}
 use Rattle.jv_method_pass.specs.declared.stacks.FlowedStack.{FlowedStack}
-use Rattle.jv_method_pass.specs.Mapped.{world_of_types, types_of_entries, stack_of, stack_flows_to}
+use Rattle.jv_types.specs.Mapped.{world_of_types, types_of_entries, stack_of, stack_flows_to}
 use Rattle.jv_method_pass.specs.Pass.{Pass, names_in}
 use Rattle.jv_method_pass.specs.Inside.Stacks.{lowest_of, LowestFlow, IsFlowed, AreFlowed, lower, lowered}
 use Rattle.jv_method_pass.proofs.Holding.{within}
-use Rattle.jv_method_pass.proofs.Lists.{at_place}
+use Rattle.jv_types.proofs.Lists.{at_place}
 
 and_false : (b : Bool) → (b && false) ≡ false
 and_false true = refl

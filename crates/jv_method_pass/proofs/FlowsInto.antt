@@ -21,7 +21,7 @@ use Rattle.jv_types.specs.Current.{CurrentClass}
 use Rattle.jv_rules.specs.Method.{MethodContext, IsOfMethod}
 use Rattle.jv_rules.specs.Laws.{KeepsLocalCount}
 use Rattle.std.proofs.lemmas.List.{length-map}
-use Rattle.jv_method_pass.specs.Mapped.{EntryTypes, names_of_types, world_of_types, frame_by_types, thrown_frame}
+use Rattle.jv_types.specs.Mapped.{EntryTypes, names_of_types, world_of_types, frame_by_types, thrown_frame}
 use Rattle.jv_method_pass.specs.Pass.{Pass, IsOfPass, names_in, maps_of}
 use Rattle.jv_method_pass.specs.Inside.Kept.{IsPass}
 use Rattle.jv_method_pass.specs.Inside.Walk.{merged, when_falls}

@@ -10,7 +10,7 @@ use Rattle.jv_frames.specs.Types.{FrameType}
 use Rattle.jv_text.specs.Name.{is_init}
 use Rattle.jv_meaning_typing.specs.Environment.{Environment, current_class, instruction_at}
 use Rattle.jv_meaning_typing.specs.Typing.{is_made_by_new as is_made, is_static, HasFrames, FrameStands, entries_before, limits_of}
-use Rattle.jv_method_pass.specs.Mapped.{EntryTypes, initial_types}
+use Rattle.jv_types.specs.Mapped.{EntryTypes, initial_types}
 use Rattle.jv_method_pass.specs.Tables.{HasMap, MapsTo}
 use Rattle.jv_method_pass.specs.Inside.Parts.{HasCode, is_made_by_new, frame_stands, IsSpelled}
 use Rattle.jv_method_pass.proofs.Tests.{both, joined}

@@ -16,7 +16,7 @@ use Rattle.jv_meaning_world.specs.World.{World}
 use Rattle.jv_meaning_world.proofs.Order.{flows_is_reflexive}
 use Rattle.jv_types.specs.Typed.{typed, typed_all}
 use Rattle.jv_types.specs.Numbered.{Item, NumberFrame, frame_of, with_flag, with_locals, with_stack}
-use Rattle.jv_method_pass.specs.Mapped.{EntryTypes, names_of_types, world_of_types, types_of_entries, expanded_entries, frame_by_types, locals_of, stack_of, locals_flow_to, stack_flows_to, flows_to_map, thrown_flows_to_map}
+use Rattle.jv_types.specs.Mapped.{EntryTypes, names_of_types, world_of_types, types_of_entries, expanded_entries, frame_by_types, locals_of, stack_of, locals_flow_to, stack_flows_to, flows_to_map, thrown_flows_to_map}
 use Rattle.jv_method_pass.specs.Pass.{Pass, names_in}
 use Rattle.jv_method_pass.specs.Inside.Held.{HeldFrame, is_written, AreSameBut, HoldsLocals, IsHeldBy, Writes, WritesBy, both_flow, flows_at, with_item, with_held_at, held_locals_flow, held_flag_flows}
 use Rattle.jv_method_pass.proofs.Settings.{frame_made}

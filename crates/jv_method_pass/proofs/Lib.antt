@@ -1,4 +1,3 @@
-pub mod Behind
 pub mod CaughtTypes
 pub mod Changing
 pub mod CodeFound
@@ -9,7 +8,6 @@ pub mod FlowingStacks
 pub mod FlowsInto
 pub mod FramesAtInstructions
 pub mod FramesSpelled
-pub mod Lists
 pub mod Holding
 pub mod MapFrames
 pub mod MovedLocals

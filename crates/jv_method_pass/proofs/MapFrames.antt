@@ -9,7 +9,7 @@ use Rattle.jv_pool.specs.Constants.{Entry}
 use Rattle.jv_frames.specs.Types.{FrameType}
 use Rattle.jv_frames.specs.Frames.{PlacedFrame, RiseFrom, OffsetsRise}
 use Rattle.jv_frames.specs.Entries.{ReadFrame, frame_placed, frames_placed}
-use Rattle.jv_method_pass.specs.Mapped.{frame_by_types, initial_types}
+use Rattle.jv_types.specs.Mapped.{frame_by_types, initial_types}
 use Rattle.jv_method_pass.specs.Pass.{Pass, IsOfPass, maps_of}
 use Rattle.jv_meaning_typing.specs.Environment.{Environment, current_class}
 use Rattle.jv_meaning_typing.specs.Typing.{HasFrames, frame_at, limits_of, entries_before}

@@ -1,6 +1,5 @@
 pub mod Found
 pub mod Inside
-pub mod Mapped
 pub mod Pass
 pub mod Tables
 pub use Rattle.jv_rules.specs.of_loader

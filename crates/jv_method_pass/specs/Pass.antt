@@ -6,7 +6,7 @@ use Rattle.jv_frames.specs.Frames.{PlacedFrame, Frame}
 use Rattle.jv_meaning_typing.specs.Environment.{Environment, IsEnvironment}
 use Rattle.jv_meaning_typing.specs.Typing.{AreFrames, entries_before, frame_at}
 use Rattle.jv_rules.specs.Method.{MethodContext, IsOfMethod}
-use Rattle.jv_method_pass.specs.Mapped.{EntryTypes, initial_types, names_of_types, local_entry_words, frame_by_types}
+use Rattle.jv_types.specs.Mapped.{EntryTypes, initial_types, names_of_types, local_entry_words, frame_by_types}
 use Rattle.std.specs.Option.{option_map}
 use Rattle.jv_types.specs.Numbered.{NumberFrame, frame_of}
 

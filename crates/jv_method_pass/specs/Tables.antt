@@ -9,7 +9,7 @@ use Rattle.jv_meaning_typing.specs.Environment.{Environment, current_class}
 use Rattle.jv_meaning_typing.specs.Typing.{AreFrames, entries_before, limits_of, catch_type, HandlersKeepRules}
 use Rattle.jv_types.specs.PoolTypes.{PoolTypes}
 use Rattle.jv_types.specs.Numbered.{Item}
-use Rattle.jv_method_pass.specs.Mapped.{EntryTypes, initial_types}
+use Rattle.jv_types.specs.Mapped.{EntryTypes, initial_types}
 use Rattle.std.specs.Option.{option_map}
 use Rattle.jv_types.specs.Typed.{typed}
 

@@ -10,22 +10,20 @@ ghost use Rattle.jv_meaning_world.specs.FrameFlow.{all_flow};
 ghost use Rattle.jv_rules.specs.Laws.{is_beside};
 ghost use Rattle.jv_types.specs.Typed.{typed_all};
 ghost use Rattle.jv_types.specs.Numbered.{Item};
-ghost use Rattle.jv_method_pass.specs.Mapped.{world_of_types, locals_of};
+ghost use Rattle.jv_types.specs.Mapped.{world_of_types, locals_of};
 ghost use Rattle.jv_method_pass.specs.Pass.{HasRoom};
 ghost use Rattle.jv_method_pass.specs.Inside.Held.{is_written, flows_at};
 ghost use Rattle.jv_method_pass.specs.Inside.Changes.{may_change_at};
 ghost use Rattle.jv_method_pass.specs.Inside.Flowed.{FlowsBut, HasFlowed, HaveFlowed, StaysRight, Lists, flows_but_stack, made_flag_flows};
 
 use crate::changes::stored_index;
-use crate::entries::EntryTypes;
-use crate::flowing::{flag_flows, has_this, locals_flow};
 use crate::held::{all_flow_at, flows_at};
 use crate::moving::{follow, higher, lower};
 use crate::pass::Pass;
 use crate::setting::set_locals;
 use jv_code::Insn;
 use jv_frames::MapFrame;
-use jv_types::{TypeFrame, TypeNames};
+use jv_types::{EntryTypes, TypeFrame, TypeNames, flag_flows, has_this, locals_flow};
 use std::alloc::{AllocError, Global};
 
 /// How many words of local entries a frame has at least that is kept: fewer are as soon compared.

@@ -11,21 +11,19 @@ ghost use Rattle.jv_rules.specs.Laws.{is_beside};
 ghost use Rattle.jv_method_pass.specs.Inside.Changes.{may_change_at};
 ghost use Rattle.jv_types.specs.Typed.{typed, typed_all};
 ghost use Rattle.jv_types.specs.Numbered.{Item, frame_of, with_flag, with_locals, with_stack};
-ghost use Rattle.jv_method_pass.specs.Mapped.{expanded_entries, frame_by_types, names_of_types, stack_flows_to, types_of_entries};
+ghost use Rattle.jv_types.specs.Mapped.{expanded_entries, frame_by_types, names_of_types, stack_flows_to, types_of_entries};
 ghost use Rattle.jv_method_pass.specs.Pass.{names_in, HasRoom};
 ghost use Rattle.jv_method_pass.specs.Inside.Flowed.{is_between};
 ghost use Rattle.jv_method_pass.specs.Inside.Held.{is_written, AreSameBut, HoldsLocals, IsHeldBy, IsHeld, Writes, flows_at, held_flag_flows, held_locals_flow, with_held_at};
 
 use crate::changes::stored_index;
 use crate::cover::mark;
-use crate::entries::EntryTypes;
-use crate::flowing::thrown_stack_flows;
 use crate::moving::follow;
 use crate::pass::Pass;
 use crate::setting::set_to_map;
 use jv_code::Insn;
 use jv_frames::MapFrame;
-use jv_types::{Item, TypeFrame, TypeNames};
+use jv_types::{EntryTypes, Item, TypeFrame, TypeNames, thrown_stack_flows};
 use std::alloc::{AllocError, Global};
 use std::marker::Model;
 

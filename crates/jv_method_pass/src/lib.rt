@@ -5,10 +5,8 @@
 mod catching;
 mod changes;
 mod cover;
-mod entries;
 mod fault;
 mod flowed;
-mod flowing;
 mod handlers;
 mod held;
 mod maps;
@@ -24,7 +22,6 @@ mod targets;
 mod walk;
 
 pub use catching::handlers_hold;
-pub use entries::EntryTypes;
 pub use fault::CodeFault;
 pub use jv_rules as of_rules;
 pub use jv_rules::{of_link, of_loader};

@@ -9,7 +9,7 @@ ghost use Rattle.jv_frames.specs.Types.{width};
 ghost use Rattle.jv_types.specs.Typed.{typed, typed_all};
 ghost use Rattle.jv_method_pass.specs.Tables.{entry_types, IsMapOf};
 ghost use Rattle.jv_method_pass.specs.Inside.Parts.{IsSpelled};
-ghost use Rattle.jv_method_pass.specs.Mapped.{HaveWords};
+ghost use Rattle.jv_types.specs.Mapped.{HaveWords};
 
 use crate::standing::frames_stand;
 use jv_code::{Code, Starts};

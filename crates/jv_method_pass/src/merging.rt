@@ -2,19 +2,19 @@
 
 ghost use Rattle.std.specs.Prelude.{◌≡◌, [], ◌∷◌, None, Some, length, slice_get, OnOk};
 ghost use Rattle.jv_types.specs.Numbered.{frame_of, with_stack};
-ghost use Rattle.jv_method_pass.specs.Mapped.{flows_to_map, thrown_flows_to_map, stack_of, stack_flows_to, frame_by_types, types_of_entries};
+ghost use Rattle.jv_types.specs.Mapped.{flows_to_map, thrown_flows_to_map, stack_of, stack_flows_to, frame_by_types, types_of_entries};
 ghost use Rattle.jv_method_pass.specs.Pass.{HasRoom, names_in};
 ghost use Rattle.jv_method_pass.specs.Inside.Flowed.{HaveFlowed};
 ghost use Rattle.jv_method_pass.specs.Inside.Held.{IsHeld};
 
-use crate::entries::EntryTypes;
 use crate::flowed::{FlowedLocals, is_kept};
-use crate::flowing::{frame_flows, stack_flows, thrown_flows, thrown_stack_flows};
 use crate::held::Held;
 use crate::pass::Pass;
 use crate::setting::{push_items, set_to_map};
 use jv_frames::MapFrame;
-use jv_types::{Item, TypeFrame};
+use jv_types::{
+    EntryTypes, Item, TypeFrame, frame_flows, stack_flows, thrown_flows, thrown_stack_flows,
+};
 use std::alloc::AllocError;
 
 /// Whether a frame flows into the frame of the map at a place, where it is known whether its stack does.

@@ -8,16 +8,15 @@ ghost use Rattle.jv_frames.specs.Types.{words};
 ghost use Rattle.jv_meaning_typing.specs.FrameChanges.{is_same_object};
 ghost use Rattle.jv_types.specs.Typed.{typed, typed_all};
 ghost use Rattle.jv_types.specs.Numbered.{with_locals};
-ghost use Rattle.jv_method_pass.specs.Mapped.{types_of_entries, local_entry_words, expanded_entries, locals_of};
+ghost use Rattle.jv_types.specs.Mapped.{types_of_entries, local_entry_words, expanded_entries, locals_of};
 ghost use Rattle.jv_method_pass.specs.Inside.Flowed.{is_between};
 ghost use Rattle.jv_method_pass.specs.Inside.Moved.{Moves, Follows};
 ghost use Rattle.jv_method_pass.specs.Pass.{HasRoom};
 
-use crate::entries::EntryTypes;
 use crate::pass::Pass;
 use crate::setting::is_this;
 use jv_frames::{MapFrame, VerificationTypeOf};
-use jv_types::{TypeFrame, words_of};
+use jv_types::{EntryTypes, TypeFrame, words_of};
 
 /// The words of the local entries of a frame of the map below so many of the last.
 fn words_below(types: &EntryTypes<'_, '_, '_>, map: &MapFrame<'_>, above: usize) -> u16

@@ -13,11 +13,10 @@ ghost use Rattle.jv_method_pass.specs.Pass.{IsOfPass, HasRoom, names_in, IsFrame
 ghost use Rattle.jv_method_pass.specs.Inside.Kept.{SharesWith};
 
 use crate::catching::catch_type;
-use crate::entries::EntryTypes;
 use jv_format::ExceptionTable;
 use jv_frames::{MapFrame, MapFrames, offsets_rise};
 use jv_rules::MethodContext;
-use jv_types::Item;
+use jv_types::{EntryTypes, Item};
 use std::marker::Model;
 
 /// The part of the words of a frame's local entries that it has apart from another at most that shares all but few: one in so many.

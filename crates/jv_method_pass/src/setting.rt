@@ -6,12 +6,10 @@ ghost use Rattle.jv_frames.specs.Types.{words};
 ghost use Rattle.jv_types.specs.Typed.{typed_all};
 ghost use Rattle.jv_types.specs.Numbered.{blank, frame_of, with_locals, with_stack};
 ghost use Rattle.jv_method_pass.specs.Inside.Locals.{is_this};
-ghost use Rattle.jv_method_pass.specs.Mapped.{names_of_types, types_of_entries, local_entry_words, frame_by_types, expanded_entries, locals_of, stack_of, HasLocalsOf, IsInitial};
+ghost use Rattle.jv_types.specs.Mapped.{names_of_types, types_of_entries, local_entry_words, frame_by_types, expanded_entries, locals_of, stack_of, HasLocalsOf, IsInitial};
 
-use crate::entries::EntryTypes;
-use crate::flowing::has_this;
 use jv_frames::{MapFrame, VerificationTypeOf};
-use jv_types::{Item, TypeFrame, words_of};
+use jv_types::{EntryTypes, Item, TypeFrame, has_this, words_of};
 use std::alloc::AllocError;
 
 /// Gives the local variables, which hold nothing, the types of a frame's entries.

@@ -7,17 +7,15 @@ ghost use Rattle.jv_meaning_world.specs.FrameFlow.{all_flow, item_flows};
 ghost use Rattle.jv_meaning_typing.specs.Environment.{Environment};
 ghost use Rattle.jv_meaning_typing.specs.Rule.{constructed_object};
 ghost use Rattle.jv_types.specs.Numbered.{frame_of};
-ghost use Rattle.jv_method_pass.specs.Mapped.{stack_of, stack_flows_to, types_of_entries, world_of_types};
+ghost use Rattle.jv_types.specs.Mapped.{stack_of, stack_flows_to, types_of_entries, world_of_types};
 ghost use Rattle.jv_method_pass.specs.Pass.{IsOfPass, names_in};
 ghost use Rattle.jv_method_pass.specs.Inside.Stacks.{AreFlowed, lowered, lower};
 
-use crate::entries::EntryTypes;
-use crate::flowing::stack_flows;
 use crate::pass::Pass;
 use jv_code::Insn;
 use jv_frames::MapFrame;
 use jv_rules::constructed_object;
-use jv_types::TypeFrame;
+use jv_types::{EntryTypes, TypeFrame, stack_flows};
 use std::alloc::Global;
 
 /// How many items a stack has at least that is kept: fewer are as soon compared.

@@ -6,6 +6,7 @@ pub mod Replacing
 pub mod Storing
 pub mod Arguments
 pub mod Arrays
+pub mod Behind
 pub mod Called
 pub mod Descriptors
 pub mod Finding
@@ -13,6 +14,7 @@ pub mod Guarding
 pub mod Keeping
 pub mod KeepingClass
 pub mod Lasting
+pub mod Lists
 pub mod Marking
 pub mod Members
 pub mod Naming

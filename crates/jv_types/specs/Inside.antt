@@ -1,4 +1,5 @@
 pub mod Before
+pub mod Behind
 pub mod Cut
 pub mod Kept
 pub mod Swapped

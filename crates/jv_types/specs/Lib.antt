@@ -1,4 +1,5 @@
 pub mod Inside
+pub mod Mapped
 pub mod Numbered
 pub mod Outcomes
 pub mod Typed

@@ -1,14 +1,17 @@
 //! Verification types with numbers for names, so that a name is looked at once and types are compared by number; the frame before an
 //! instruction, changed in place, over such types (JVMS 4.10.1.2 to 4.10.1.4); and what the constants of a class say as such types (4.4),
-//! at hand by index, what the operands of instructions name, and what the rules ask of the class itself.
+//! at hand by index, what the operands of instructions name, and what the rules ask of the class itself; which types the entries of the
+//! stack map's frames stand for (4.7.4), and whether the frame before an instruction flows into one of these.
 #![tactic(auto)]
 
 mod classes;
 mod constant_names;
 mod constants;
 mod current_class;
+mod entries;
 mod fields;
 mod flow;
+mod frame_flow;
 mod guards;
 mod hashed;
 mod indices;
@@ -31,7 +34,11 @@ mod words;
 pub use classes::{array_of, array_type, class_number, names_class};
 pub use constants::ConstantTypes;
 pub use current_class::CurrentClass;
+pub use entries::EntryTypes;
 pub use fields::{FieldTypes, field_types};
+pub use frame_flow::{
+    flag_flows, frame_flows, has_this, locals_flow, stack_flows, thrown_flows, thrown_stack_flows,
+};
 pub use jv_link as of_link;
 pub use jv_link::of_loader;
 pub use methods::{CalledTypes, called_types};

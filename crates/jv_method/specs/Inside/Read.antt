@@ -13,7 +13,7 @@ use Rattle.jv_method_pass.specs.of_types.Typed.{typed_all}
 use Rattle.jv_method_pass.specs.of_types.Numbered.{Item}
 use Rattle.jv_method_pass.specs.of_types.PoolTypes.{PoolTypes, typed_result}
 use Rattle.jv_method_pass.specs.of_types.Current.{CurrentClass, IsOfClass}
-use Rattle.jv_method_pass.specs.Mapped.{EntryTypes}
+use Rattle.jv_method_pass.specs.of_types.Mapped.{EntryTypes}
 use Rattle.jv_method_pass.specs.Tables.{entry_types, MapsTo}
 use Rattle.jv_method_pass.specs.Pass.{HasRoom}
 use Rattle.jv_method_pass.specs.declared.fault.CodeFault.{CodeFault}

@@ -10,7 +10,7 @@ use Rattle.jv_meaning_world.specs.World.{World}
 use Rattle.jv_types.specs.Typed.{typed_all}
 use Rattle.jv_types.specs.Numbered.{Item, NumberFrame}
 use Rattle.jv_method_pass.specs.declared.flowed.FlowedFrame.{FlowedFrame}
-use Rattle.jv_method_pass.specs.Mapped.{EntryTypes, world_of_types, types_of_entries, expanded_entries, locals_of, locals_flow_to, has_uninitialized_this}
+use Rattle.jv_types.specs.Mapped.{EntryTypes, world_of_types, types_of_entries, expanded_entries, locals_of, locals_flow_to, has_uninitialized_this}
 use Rattle.jv_method_pass.specs.Pass.{Pass, names_in}
 use Rattle.jv_method_pass.specs.Inside.Held.{is_written, flows_at}
 

@@ -11,7 +11,7 @@ use Rattle.jv_meaning_world.specs.Flow.{flows}
 use Rattle.jv_meaning_world.specs.World.{World}
 use Rattle.jv_types.specs.Typed.{typed_all}
 use Rattle.jv_types.specs.Numbered.{Item, NumberFrame}
-use Rattle.jv_method_pass.specs.Mapped.{EntryTypes, world_of_types, types_of_entries, expanded_entries, locals_of}
+use Rattle.jv_types.specs.Mapped.{EntryTypes, world_of_types, types_of_entries, expanded_entries, locals_of}
 use Rattle.jv_method_pass.specs.Pass.{Pass, names_in}
 
 -- the place of the frame in the map, the frame as it was made, and the places of local variables that may have been written since

@@ -1,39 +1,10 @@
--- Local variables against entries, from the last on.
-use Rattle.std.specs.Prelude.{◌≡◌, ℕ, ◌≤◌, ◌-◌, Bool, true, false, List, ◌++◌, length, drop, replicate, reverse, Option, Some, None, if◌then◌else◌}
+-- Local variables and items of a stack that are set, and those that are left.
+use Rattle.std.specs.Prelude.{◌≡◌, ℕ, Bool, true, false, List, ◌++◌, replicate, reverse}
 use Rattle.std.specs.List.{flat_map}
 use Rattle.jv_frames.specs.declared.verification.VerificationTypeOf.TheVariants as types
 use Rattle.jv_frames.specs.Frames.{type_by_words}
 use Rattle.jv_frames.specs.Types.{FrameType, words}
-use Rattle.jv_meaning_world.specs.Flow.{flows}
-use Rattle.jv_meaning_world.specs.FrameFlow.{all_flow}
-use Rattle.jv_meaning_world.specs.World.{World}
 use Rattle.jv_types.specs.Numbered.{Item}
-use Rattle.jv_meaning_typing.specs.FrameChanges.{is_same_object}
-
--- a local variable, once an object cannot be used any more
-abbrev pub left_in : Option FrameType → FrameType → FrameType
-left_in None local = local
-left_in (Some object) local = if is_same_object object local then types.Top else local
-
--- the words of entries, of which the last is first
-abbrev pub words_of_entries : List FrameType → List FrameType
-words_of_entries entries = flat_map type_by_words (reverse entries)
-
--- Entries are left, of which the last is first, before an index: what is behind them flows, so all flow exactly where those
--- before do.
-pub record FlowsBehind (world : World) (locals : List FrameType) (whole : Bool) (left : List FrameType) (at : ℕ) : Type 0 where
-  pub rest : List FrameType
-  pub all : whole ≡ all_flow (flows world) locals (words_of_entries left ++ rest)
-  pub behind : all_flow (flows world) (drop at locals) rest ≡ true
-  pub counted : words left ≡ at
-  pub room : at ≤ length locals
-
--- Items of a stack, some of which are left: those above flow, so all flow exactly where these do.
-pub record ItemsFlow (f : FrameType → FrameType → Bool) (items whole : List FrameType) (height left : ℕ) (rest : List FrameType)
-    : Type 0 where
-  pub all : all_flow f items whole ≡ all_flow f (drop (height - left) items) rest
-  pub counted : length items ≡ height
-  pub room : left ≤ height
 
 -- Local variables that take the types of entries, the first first, some of which are left, from the last on.
 pub record SetBehind (now whole left : List FrameType) (at : ℕ) : Type 0 where

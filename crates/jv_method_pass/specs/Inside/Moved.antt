@@ -8,10 +8,10 @@ use Rattle.jv_frames.specs.Entries.{ReadFrame, locals_in}
 use Rattle.jv_frames.specs.Frames.{is_uninitialized_this}
 use Rattle.jv_frames.specs.Types.{FrameType, words}
 use Rattle.jv_types.specs.Numbered.{NumberFrame}
-use Rattle.jv_method_pass.specs.Mapped.{EntryTypes, types_of_entries, expanded_entries, locals_of}
+use Rattle.jv_types.specs.Mapped.{EntryTypes, types_of_entries, expanded_entries, locals_of}
 use Rattle.jv_method_pass.specs.Pass.{Pass}
 use Rattle.jv_method_pass.specs.Inside.Flowed.{is_between}
-use Rattle.jv_method_pass.specs.Inside.Locals.{words_of_entries}
+use Rattle.jv_types.specs.Inside.Behind.{words_of_entries}
 
 -- Local variables hold the words of the entries below and, from an index on, of those that were laid; those that are left, the last
 -- first, have so many words.

@@ -11,7 +11,7 @@ use Rattle.jv_code.specs.Places.{IsCode}
 use Rattle.jv_meaning_typing.specs.Environment.{Environment, current_class, instruction_at}
 use Rattle.jv_meaning_typing.specs.Typing.{is_new, catches_throwable}
 use Rattle.jv_types.specs.PoolTypes.{PoolTypes}
-use Rattle.jv_method_pass.specs.Mapped.{EntryTypes, initial_types}
+use Rattle.jv_types.specs.Mapped.{EntryTypes, initial_types}
 use Rattle.jv_format.specs.declared.handlers.Handler.{Handler}
 
 -- an environment of a class with these constants, in their world

@@ -6,7 +6,7 @@ use Rattle.jv_frames.specs.Types.{FrameType}
 use Rattle.jv_meaning_world.specs.FrameFlow.{all_flow, item_flows}
 use Rattle.jv_types.specs.Numbered.{NumberFrame}
 use Rattle.jv_method_pass.specs.declared.stacks.FlowedStack.{FlowedStack}
-use Rattle.jv_method_pass.specs.Mapped.{EntryTypes, world_of_types, types_of_entries, stack_of}
+use Rattle.jv_types.specs.Mapped.{EntryTypes, world_of_types, types_of_entries, stack_of}
 use Rattle.jv_method_pass.specs.Pass.{Pass}
 
 -- so many items of a stack, whose top is first, from the lowest on

@@ -2,7 +2,7 @@ use Rattle.std.proofs.Common.{◌≡◌, length, sym, ap, ◌∙◌}
 use Rattle.std.proofs.lemmas.List.{length-replicate}
 use Rattle.jv_frames.specs.declared.verification.VerificationTypeOf.TheVariants as variants
 use Rattle.jv_types.specs.Numbered.{Item, NumberFrame}
-use Rattle.jv_method_pass.specs.Mapped.{expanded_entries, local_entry_words, locals_of}
+use Rattle.jv_types.specs.Mapped.{expanded_entries, local_entry_words, locals_of}
 use Rattle.jv_method_pass.specs.Pass.{Pass}
 use Rattle.jv_method_pass.proofs.FlowingAgain.{begun}
 use Rattle.jv_method_pass.proofs.flowed.made_of.Goals as goal

@@ -3,7 +3,7 @@ use Rattle.jv_pool.specs.Constants.{Entry}
 use Rattle.jv_frames.specs.declared.width.Width.{Width}
 use Rattle.jv_frames.specs.Entries.{HaveWidths, frames_placed}
 use Rattle.jv_frames.specs.Frames.{Maps}
-use Rattle.jv_method_pass.specs.Mapped.{initial_types}
+use Rattle.jv_types.specs.Mapped.{initial_types}
 use Rattle.jv_method_pass.specs.Tables.{entry_types}
 use Rattle.jv_method_pass.proofs.FramesSpelled.{have_words, have_room}
 use Rattle.jv_method_pass.proofs.maps.spelled_frames.Goals as goal

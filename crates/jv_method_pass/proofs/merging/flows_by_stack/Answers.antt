@@ -1,5 +1,5 @@
 use Rattle.std.proofs.Common.{ap, ◌∙◌}
-use Rattle.jv_method_pass.specs.Mapped.{flows_to_map}
+use Rattle.jv_types.specs.Mapped.{flows_to_map}
 use Rattle.std.specs.Option.{option_map}
 use Rattle.jv_frames.specs.Entries.{locals_in}
 use Rattle.jv_method_pass.specs.Pass.{Pass}

@@ -1,5 +1,5 @@
 use Rattle.std.proofs.Common.{ap, ◌∙◌}
-use Rattle.jv_method_pass.specs.Mapped.{stack_flows_to, stack_of}
+use Rattle.jv_types.specs.Mapped.{stack_flows_to, stack_of}
 use Rattle.jv_method_pass.specs.Pass.{Pass}
 use Rattle.jv_method_pass.proofs.merging.flows_to_map.Goals as goal
 

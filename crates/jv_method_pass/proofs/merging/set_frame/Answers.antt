@@ -6,7 +6,7 @@ use Rattle.jv_frames.specs.Frames.{Frame}
 use Rattle.jv_frames.specs.Types.{FrameType}
 use Rattle.jv_types.specs.Typed.{typed_all}
 use Rattle.jv_types.specs.Numbered.{NumberFrame}
-use Rattle.jv_method_pass.specs.Mapped.{local_entry_words, locals_of}
+use Rattle.jv_types.specs.Mapped.{local_entry_words, locals_of}
 use Rattle.jv_method_pass.specs.Pass.{Pass, names_in}
 use Rattle.jv_method_pass.specs.Inside.Held.{HoldsLocals, is_written}
 use Rattle.jv_method_pass.specs.Inside.Flowed.{HasFlowed}

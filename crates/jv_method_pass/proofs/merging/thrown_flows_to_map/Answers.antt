@@ -1,6 +1,6 @@
 use Rattle.std.proofs.Common.{◌≡◌, Option, sym, ap, subst, ◌∙◌}
 use Rattle.jv_types.specs.Numbered.{Item}
-use Rattle.jv_method_pass.specs.Mapped.{local_entry_words, thrown_flows_to_map}
+use Rattle.jv_types.specs.Mapped.{local_entry_words, thrown_flows_to_map}
 use Rattle.jv_method_pass.specs.Pass.{Pass}
 use Rattle.jv_method_pass.proofs.merging.thrown_flows_to_map.Goals as goal
 

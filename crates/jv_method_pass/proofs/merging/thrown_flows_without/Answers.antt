@@ -1,7 +1,7 @@
 use Rattle.std.proofs.Common.{None, true, sym, ap, ◌∙◌}
 use Rattle.std.specs.Option.{option_map}
 use Rattle.jv_frames.specs.Entries.{locals_in}
-use Rattle.jv_method_pass.specs.Mapped.{local_entry_words, thrown_flows_to_map}
+use Rattle.jv_types.specs.Mapped.{local_entry_words, thrown_flows_to_map}
 use Rattle.jv_method_pass.specs.Pass.{Pass}
 use Rattle.jv_method_pass.proofs.Holding.{thrown_held}
 use Rattle.jv_method_pass.proofs.FlowingAgain.{thrown_again}

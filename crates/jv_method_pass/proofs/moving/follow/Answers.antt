@@ -6,7 +6,7 @@ use Rattle.jv_frames.specs.Entries.{locals_in}
 use Rattle.jv_meaning_typing.specs.FrameChanges.{is_same_object}
 use Rattle.jv_types.specs.Typed.{typed, typed_all}
 use Rattle.jv_types.specs.Numbered.{NumberFrame, with_flag}
-use Rattle.jv_method_pass.specs.Mapped.{local_entry_words}
+use Rattle.jv_types.specs.Mapped.{local_entry_words}
 use Rattle.jv_method_pass.specs.Pass.{Pass}
 use Rattle.jv_method_pass.proofs.FlowingAgain.{moved_is}
 use Rattle.jv_method_pass.proofs.moving.follow.Goals as goal

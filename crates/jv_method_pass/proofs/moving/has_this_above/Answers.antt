@@ -2,7 +2,7 @@ use Rattle.std.proofs.Common.{◌≡◌, ℕ, suc, zero, ◌-◌, ◌<◌, Bool,
 use Rattle.std.specs.List.{list_any}
 use Rattle.jv_frames.specs.declared.entry.FrameEntry.{FrameEntry}
 use Rattle.jv_frames.specs.Frames.{is_uninitialized_this}
-use Rattle.jv_method_pass.specs.Mapped.{EntryTypes, names_of_types, type_of_entry, types_of_entries}
+use Rattle.jv_types.specs.Mapped.{EntryTypes, names_of_types, type_of_entry, types_of_entries}
 use Rattle.jv_method_pass.proofs.Settings.{one_typed}
 use Rattle.jv_method_pass.proofs.moving.has_this_above.Goals as goal
 

@@ -1,7 +1,7 @@
 use Rattle.std.proofs.Common.{◌≡◌, take}
 use Rattle.std.specs.List.{list_any}
 use Rattle.jv_frames.specs.Frames.{is_uninitialized_this}
-use Rattle.jv_method_pass.specs.Mapped.{types_of_entries}
+use Rattle.jv_types.specs.Mapped.{types_of_entries}
 use Rattle.jv_method_pass.proofs.moving.has_this_above.Given as goal
 
 abbrev pub invariant-loop-left : goal.invariant-loop-left

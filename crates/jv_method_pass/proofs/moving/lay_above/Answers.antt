@@ -3,7 +3,7 @@ use Rattle.std.proofs.lemmas.List.{length-set}
 use Rattle.jv_frames.specs.Types.{FrameType, width, words}
 use Rattle.jv_types.specs.Typed.{typed, typed_all}
 use Rattle.jv_types.specs.Numbered.{NumberFrame, with_locals}
-use Rattle.jv_method_pass.specs.Mapped.{names_of_types, types_of_entries, type_of_entry, expanded_entries, locals_of}
+use Rattle.jv_types.specs.Mapped.{names_of_types, types_of_entries, type_of_entry, expanded_entries, locals_of}
 use Rattle.jv_method_pass.specs.Inside.Moved.{LaidAbove}
 use Rattle.jv_method_pass.proofs.Holding.{set_typed}
 use Rattle.jv_method_pass.proofs.MovedLocals.{laid_start, laid_next, laid_end, words_next, left_next, none_left, dropped, below_less}

@@ -1,7 +1,7 @@
 use Rattle.std.proofs.Common.{◌≡◌, drop, length}
 use Rattle.jv_frames.specs.Types.{words}
 use Rattle.jv_types.specs.Numbered.{with_locals}
-use Rattle.jv_method_pass.specs.Mapped.{types_of_entries, expanded_entries, locals_of}
+use Rattle.jv_types.specs.Mapped.{types_of_entries, expanded_entries, locals_of}
 use Rattle.jv_method_pass.specs.Inside.Moved.{LaidAbove}
 use Rattle.jv_method_pass.proofs.moving.lay_above.Given as goal
 

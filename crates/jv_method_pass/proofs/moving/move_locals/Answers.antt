@@ -1,5 +1,5 @@
 use Rattle.std.proofs.Common.{length, drop, sym, ap, ◌∙◌}
-use Rattle.jv_method_pass.specs.Mapped.{expanded_entries}
+use Rattle.jv_types.specs.Mapped.{expanded_entries}
 use Rattle.jv_method_pass.proofs.FlowingAgain.{laid_low}
 use Rattle.jv_method_pass.proofs.moving.move_locals.Goals as goal
 

@@ -1,6 +1,6 @@
 use Rattle.std.proofs.Common.{◌≡◌, drop}
 use Rattle.jv_frames.specs.Types.{words}
-use Rattle.jv_method_pass.specs.Mapped.{types_of_entries}
+use Rattle.jv_types.specs.Mapped.{types_of_entries}
 use Rattle.jv_method_pass.proofs.moving.words_below.Given as goal
 
 abbrev pub invariant-loop-left : goal.invariant-loop-left

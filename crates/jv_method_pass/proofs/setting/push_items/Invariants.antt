@@ -1,7 +1,7 @@
 use Rattle.std.proofs.Common.{◌≡◌, length}
 use Rattle.jv_types.specs.Typed.{typed_all}
 use Rattle.jv_types.specs.Numbered.{with_stack}
-use Rattle.jv_method_pass.specs.Mapped.{names_of_types, types_of_entries}
+use Rattle.jv_types.specs.Mapped.{names_of_types, types_of_entries}
 use Rattle.jv_method_pass.specs.Inside.Locals.{PushedSoFar}
 use Rattle.jv_method_pass.proofs.setting.push_items.Given as goal
 

@@ -4,7 +4,7 @@ use Rattle.jv_frames.specs.Frames.{expanded}
 use Rattle.jv_frames.specs.Types.{width}
 use Rattle.jv_types.specs.Typed.{typed, typed_all}
 use Rattle.jv_types.specs.Numbered.{NumberFrame, with_locals}
-use Rattle.jv_method_pass.specs.Mapped.{names_of_types, types_of_entries, type_of_entry}
+use Rattle.jv_types.specs.Mapped.{names_of_types, types_of_entries, type_of_entry}
 use Rattle.jv_method_pass.specs.Inside.Locals.{SetBehind}
 use Rattle.jv_method_pass.proofs.Settings.{set_one, set_room, set_end, set_start, filled, words_reversed}
 use Rattle.jv_method_pass.proofs.setting.set_locals.Goals as goal

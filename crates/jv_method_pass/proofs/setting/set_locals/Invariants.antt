@@ -2,7 +2,7 @@ use Rattle.std.proofs.Common.{◌≡◌, length, reverse}
 use Rattle.jv_frames.specs.Frames.{expanded}
 use Rattle.jv_types.specs.Typed.{typed_all}
 use Rattle.jv_types.specs.Numbered.{with_locals}
-use Rattle.jv_method_pass.specs.Mapped.{names_of_types, types_of_entries}
+use Rattle.jv_types.specs.Mapped.{names_of_types, types_of_entries}
 use Rattle.jv_method_pass.specs.Inside.Locals.{SetBehind}
 use Rattle.jv_method_pass.proofs.setting.set_locals.Given as goal
 

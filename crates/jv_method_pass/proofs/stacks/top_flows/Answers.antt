@@ -1,7 +1,7 @@
 use Rattle.std.proofs.Common.{rules, ◌≡◌, ◌+◌, ◌≤◌, suc, sym, ap, subst, ◌∙◌, arith}
 use Rattle.jv_meaning_world.specs.FrameFlow.{item_flows}
 use Rattle.jv_types.specs.Typed.{TypeWorld, typed}
-use Rattle.jv_method_pass.specs.Mapped.{world_of_types, names_of_types, types_of_entries, type_of_entry}
+use Rattle.jv_types.specs.Mapped.{world_of_types, names_of_types, types_of_entries, type_of_entry}
 use Rattle.jv_method_pass.proofs.FlowingStacks.{TopLeft, top_begins, no_item, no_entry_left, item_not, item_more, top_ends}
 use Rattle.jv_method_pass.proofs.stacks.top_flows.Goals as goal
 

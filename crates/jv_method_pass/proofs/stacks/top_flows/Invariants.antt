@@ -1,5 +1,5 @@
 use Rattle.jv_meaning_world.specs.FrameFlow.{item_flows}
-use Rattle.jv_method_pass.specs.Mapped.{names_of_types, world_of_types, types_of_entries}
+use Rattle.jv_types.specs.Mapped.{names_of_types, world_of_types, types_of_entries}
 use Rattle.jv_method_pass.proofs.FlowingStacks.{TopLeft}
 use Rattle.jv_method_pass.proofs.stacks.top_flows.Given as goal
 

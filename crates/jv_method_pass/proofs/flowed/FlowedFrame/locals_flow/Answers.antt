@@ -2,7 +2,7 @@ use Rattle.std.proofs.Common.{◌≡◌, ℕ, ◌<◌, ◌≤◌, List, true, fa
 use Rattle.std.specs.Prelude.{IsTrue}
 use Rattle.std.specs.List.{list_all}
 use Rattle.jv_types.specs.Typed.{TypeWorld, typed_all}
-use Rattle.jv_method_pass.specs.Mapped.{names_of_types, world_of_types, locals_of}
+use Rattle.jv_types.specs.Mapped.{names_of_types, world_of_types, locals_of}
 use Rattle.jv_method_pass.specs.Inside.Held.{flows_at}
 use Rattle.jv_method_pass.proofs.Holding.{one_not, typed_many}
 use Rattle.jv_method_pass.proofs.FlowingAgain.{found}

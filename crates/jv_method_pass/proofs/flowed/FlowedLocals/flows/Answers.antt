@@ -1,5 +1,5 @@
 use Rattle.std.proofs.Common.{sym, ap, ◌∙◌}
-use Rattle.jv_method_pass.specs.Mapped.{local_entry_words}
+use Rattle.jv_types.specs.Mapped.{local_entry_words}
 use Rattle.jv_method_pass.specs.Pass.{Pass}
 use Rattle.jv_method_pass.proofs.flowed.FlowedLocals.flows.Goals as goal
 

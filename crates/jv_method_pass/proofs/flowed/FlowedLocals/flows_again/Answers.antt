@@ -3,7 +3,7 @@ use Rattle.std.specs.List.{All}
 use Rattle.std.proofs.lemmas.Option.{slice_get_read}
 use Rattle.jv_meaning_world.specs.Flow.{flows}
 use Rattle.jv_meaning_world.specs.FrameFlow.{all_flow}
-use Rattle.jv_method_pass.specs.Mapped.{world_of_types, locals_of}
+use Rattle.jv_types.specs.Mapped.{world_of_types, locals_of}
 use Rattle.jv_method_pass.specs.Pass.{Pass}
 use Rattle.jv_method_pass.specs.Inside.Flowed.{FlowsBut, FlowsTo, HasFlowed}
 use Rattle.jv_method_pass.proofs.FlowingAgain.{removed, pushed, is_of, locals_again, flows_again, kept_again}

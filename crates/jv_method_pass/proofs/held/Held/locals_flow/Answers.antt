@@ -1,7 +1,7 @@
 use Rattle.std.proofs.Common.{ℕ, List, ap, ◌∙◌}
 use Rattle.std.specs.List.{list_all}
 use Rattle.jv_types.specs.Typed.{TypeWorld, typed_all}
-use Rattle.jv_method_pass.specs.Mapped.{world_of_types, locals_of}
+use Rattle.jv_types.specs.Mapped.{world_of_types, locals_of}
 use Rattle.jv_method_pass.specs.Inside.Held.{HeldFrame, flows_at, held_locals_flow}
 use Rattle.jv_method_pass.proofs.held.Held.locals_flow.Goals as goal
 

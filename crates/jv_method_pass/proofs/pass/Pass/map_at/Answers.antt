@@ -2,7 +2,7 @@ use Rattle.std.proofs.Common.{◌≡◌, ℕ, Option, Some, sym, ap, subst, ◌�
 use Rattle.std.specs.Prelude.{slice_get}
 use Rattle.std.specs.Option.{option_map}
 use Rattle.jv_frames.specs.Entries.{ReadFrame}
-use Rattle.jv_method_pass.specs.Mapped.{frame_by_types}
+use Rattle.jv_types.specs.Mapped.{frame_by_types}
 use Rattle.jv_method_pass.specs.Pass.{Pass, HasRoom}
 use Rattle.jv_method_pass.proofs.MapFrames.{all_at, found_at, none_at, within}
 use Rattle.jv_method_pass.proofs.pass.Pass.map_at.Goals as goal

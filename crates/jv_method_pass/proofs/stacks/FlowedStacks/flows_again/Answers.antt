@@ -7,7 +7,7 @@ use Rattle.std.proofs.lemmas.Option.{slice_get_read}
 use Rattle.jv_meaning_world.specs.FrameFlow.{all_flow, item_flows}
 use Rattle.jv_types.proofs.Replacing.{written}
 use Rattle.jv_method_pass.specs.declared.stacks.FlowedStack.{FlowedStack}
-use Rattle.jv_method_pass.specs.Mapped.{stack_flows_to, stack_of, types_of_entries, world_of_types}
+use Rattle.jv_types.specs.Mapped.{stack_flows_to, stack_of, types_of_entries, world_of_types}
 use Rattle.jv_method_pass.specs.Pass.{Pass}
 use Rattle.jv_method_pass.specs.Inside.Stacks.{IsFlowed, LowestFlow}
 use Rattle.jv_method_pass.proofs.FlowingStacks.{known_at, other_height, room_on_top, by_top, flows_whole}

@@ -1,5 +1,5 @@
 use Rattle.std.proofs.Common.{◌≡◌, true, is_ok, ap, sym, ◌∙◌}
-use Rattle.jv_method_pass.specs.Mapped.{stack_flows_to, stack_of}
+use Rattle.jv_types.specs.Mapped.{stack_flows_to, stack_of}
 use Rattle.jv_method_pass.specs.Pass.{Pass}
 use Rattle.jv_method_pass.proofs.FlowingStacks.{pushed_flowed, flows_whole}
 use Rattle.jv_method_pass.proofs.stacks.FlowedStacks.flows_first.Goals as goal

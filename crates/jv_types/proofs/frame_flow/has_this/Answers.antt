@@ -2,8 +2,8 @@ use Rattle.std.proofs.Common.{sym, ap, ◌∙◌}
 use Rattle.std.specs.List.{list_any}
 use Rattle.jv_frames.specs.Frames.{is_uninitialized_this}
 use Rattle.jv_types.proofs.Replacing.{any_reversed}
-use Rattle.jv_method_pass.specs.Mapped.{types_of_entries}
-use Rattle.jv_method_pass.proofs.flowing.has_this.Goals as goal
+use Rattle.jv_types.specs.Mapped.{types_of_entries}
+use Rattle.jv_types.proofs.frame_flow.has_this.Goals as goal
 
 pub loop-entry-init : goal.loop-entry-init
 loop-entry-init c =

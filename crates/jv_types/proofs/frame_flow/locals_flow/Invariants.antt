@@ -5,9 +5,9 @@ use Rattle.jv_meaning_world.specs.Flow.{flows}
 use Rattle.jv_meaning_world.specs.FrameFlow.{all_flow}
 use Rattle.jv_meaning_typing.specs.Rule.{without_object}
 use Rattle.jv_types.specs.Typed.{typed, typed_all}
-use Rattle.jv_method_pass.specs.Mapped.{names_of_types, world_of_types, types_of_entries}
-use Rattle.jv_method_pass.specs.Inside.Locals.{FlowsBehind}
-use Rattle.jv_method_pass.proofs.flowing.locals_flow.Given as goal
+use Rattle.jv_types.specs.Mapped.{names_of_types, world_of_types, types_of_entries}
+use Rattle.jv_types.specs.Inside.Behind.{FlowsBehind}
+use Rattle.jv_types.proofs.frame_flow.locals_flow.Given as goal
 
 abbrev pub invariant-loop-entry : goal.invariant-loop-entry
 invariant-loop-entry l =

@@ -1,9 +1,9 @@
 use Rattle.std.proofs.Common.{sym, ap, ◌∙◌}
 use Rattle.jv_meaning_world.specs.FrameFlow.{item_flows}
 use Rattle.jv_types.specs.Typed.{TypeWorld, typed}
-use Rattle.jv_method_pass.specs.Mapped.{world_of_types, names_of_types, types_of_entries, type_of_entry}
-use Rattle.jv_method_pass.proofs.Lists.{no_item, one_left, item_not, item_more, items_end}
-use Rattle.jv_method_pass.proofs.flowing.stack_flows.Goals as goal
+use Rattle.jv_types.specs.Mapped.{world_of_types, names_of_types, types_of_entries, type_of_entry}
+use Rattle.jv_types.proofs.Lists.{no_item, one_left, item_not, item_more, items_end}
+use Rattle.jv_types.proofs.frame_flow.stack_flows.Goals as goal
 
 pub returns-in_default-item : goal.returns-in_default-item
 returns-in_default-item c =

@@ -10,7 +10,7 @@ use Rattle.jv_meaning_world.specs.FrameFlow.{all_flow}
 use Rattle.jv_meaning_world.specs.World.{World}
 use Rattle.jv_types.specs.Typed.{TypeWorld, typed, typed_all}
 use Rattle.jv_types.specs.Numbered.{Item}
-use Rattle.jv_method_pass.specs.Inside.Locals.{ItemsFlow}
+use Rattle.jv_types.specs.Inside.Behind.{ItemsFlow}
 
 pub smaller : {m n : ℕ} → suc m ≤ suc n → m ≤ n
 smaller h = omega (arith, h)

@@ -1,9 +1,9 @@
 use Rattle.std.proofs.Common.{length}
 use Rattle.jv_meaning_world.specs.FrameFlow.{item_flows}
 use Rattle.jv_types.specs.Typed.{typed_all}
-use Rattle.jv_method_pass.specs.Mapped.{names_of_types, world_of_types, types_of_entries}
-use Rattle.jv_method_pass.specs.Inside.Locals.{ItemsFlow}
-use Rattle.jv_method_pass.proofs.flowing.stack_flows.Given as goal
+use Rattle.jv_types.specs.Mapped.{names_of_types, world_of_types, types_of_entries}
+use Rattle.jv_types.specs.Inside.Behind.{ItemsFlow}
+use Rattle.jv_types.proofs.frame_flow.stack_flows.Given as goal
 
 abbrev pub invariant-loop-entry : goal.invariant-loop-entry
 invariant-loop-entry l =

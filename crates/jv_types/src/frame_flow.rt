@@ -9,12 +9,14 @@ ghost use Rattle.jv_meaning_world.specs.Flow.{flows};
 ghost use Rattle.jv_meaning_world.specs.FrameFlow.{item_flows, frame_flows};
 ghost use Rattle.jv_meaning_typing.specs.FrameChanges.{is_same_object};
 ghost use Rattle.jv_types.specs.Typed.{typed};
-ghost use Rattle.jv_method_pass.specs.Mapped.{names_of_types, types_of_entries, local_entry_words, stack_of, flows_to_map, thrown_flows_to_map, has_uninitialized_this, locals_flow_to, stack_flows_to};
-ghost use Rattle.jv_method_pass.specs.Inside.Locals.{left_in};
+ghost use Rattle.jv_types.specs.Mapped.{names_of_types, types_of_entries, local_entry_words, stack_of, flows_to_map, thrown_flows_to_map, has_uninitialized_this, locals_flow_to, stack_flows_to};
+ghost use Rattle.jv_types.specs.Inside.Behind.{left_in};
 
 use crate::entries::EntryTypes;
+use crate::names::Item;
+use crate::type_frame::TypeFrame;
+use crate::words::words_of;
 use jv_frames::{Entries, MapFrame, VerificationTypeOf};
-use jv_types::{Item, TypeFrame, words_of};
 
 #[inline(always)]
 fn is_same_object(one: Item, other: Item) -> bool
@@ -41,7 +43,7 @@ fn left_in(object: Option<Item>, local: Item) -> Item
 }
 
 /// Whether the local variables flow to a frame's entries, once an object cannot be used any more.
-pub(crate) fn locals_flow(
+pub fn locals_flow(
     types: &EntryTypes<'_, '_, '_>,
     frame: &TypeFrame,
     object: Option<Item>,
@@ -69,11 +71,7 @@ pub(crate) fn locals_flow(
 }
 
 /// Whether the stack's items flow to a frame's, one by one.
-pub(crate) fn stack_flows(
-    types: &EntryTypes<'_, '_, '_>,
-    frame: &TypeFrame,
-    map: &MapFrame<'_>,
-) -> bool
+pub fn stack_flows(types: &EntryTypes<'_, '_, '_>, frame: &TypeFrame, map: &MapFrame<'_>) -> bool
     ensures { result ≡ stack_flows_to types.now (stack_of types.now frame.now) map.now }
 {
     let height = frame.height();
@@ -92,7 +90,7 @@ pub(crate) fn stack_flows(
 }
 
 /// Whether `this` may not be initialized in a frame of the map: whether it is among the local entries.
-pub(crate) fn has_this(types: &EntryTypes<'_, '_, '_>, map: &MapFrame<'_>) -> bool
+pub fn has_this(types: &EntryTypes<'_, '_, '_>, map: &MapFrame<'_>) -> bool
     ensures { result ≡ list_any is_uninitialized_this (reverse (types_of_entries types.now map.now.locals)) }
 {
     let mut entries = map.locals();
@@ -105,11 +103,7 @@ pub(crate) fn has_this(types: &EntryTypes<'_, '_, '_>, map: &MapFrame<'_>) -> bo
 }
 
 /// Whether a frame of the map may have `this` as the frame before it has it.
-pub(crate) fn flag_flows(
-    types: &EntryTypes<'_, '_, '_>,
-    frame: &TypeFrame,
-    map: &MapFrame<'_>,
-) -> bool
+pub fn flag_flows(types: &EntryTypes<'_, '_, '_>, frame: &TypeFrame, map: &MapFrame<'_>) -> bool
     ensures { result ≡ (not frame.now.flag_this_uninit || has_uninitialized_this types.now map.now) }
 {
     !frame.flag_this_uninit() || has_this(types, map)
@@ -130,11 +124,7 @@ pub fn frame_flows(
 }
 
 /// Whether what was thrown alone on the stack flows to a frame's stack.
-pub(crate) fn thrown_stack_flows(
-    types: &EntryTypes<'_, '_, '_>,
-    thrown: Item,
-    map: &MapFrame<'_>,
-) -> bool
+pub fn thrown_stack_flows(types: &EntryTypes<'_, '_, '_>, thrown: Item, map: &MapFrame<'_>) -> bool
     ensures { result ≡ stack_flows_to types.now (typed (names_of_types types.now) thrown ∷ []) map.now }
 {
     let mut entries = map.stack();

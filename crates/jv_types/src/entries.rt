@@ -3,10 +3,11 @@
 ghost use Rattle.std.specs.Prelude.{◌≡◌, slice_index_or};
 ghost use Rattle.jv_frames.specs.declared.verification.VerificationTypeOf.TheVariants as variants;
 ghost use Rattle.jv_types.specs.Typed.{typed};
-ghost use Rattle.jv_method_pass.specs.Mapped.{names_of_types, type_of_entry};
+ghost use Rattle.jv_types.specs.Mapped.{names_of_types, type_of_entry};
 
+use crate::constants::ConstantTypes;
+use crate::names::{Item, TypeNames};
 use jv_frames::{FrameEntry, VerificationTypeOf};
-use jv_types::{ConstantTypes, Item, TypeNames};
 use std::marker::Model;
 
 /// What says which types the entries of a method's frames stand for: the constants of its class, and the types of the
@@ -17,7 +18,7 @@ pub struct EntryTypes<'e, 't, 'a> {
 }
 
 impl<'e, 't, 'a> Model for EntryTypes<'e, 't, 'a> {
-    ghost use Rattle.jv_method_pass.specs.Mapped.{EntryTypes};
+    ghost use Rattle.jv_types.specs.Mapped.{EntryTypes};
 
     ghost Value = { EntryTypes };
 
@@ -55,7 +56,7 @@ impl<'e, 't, 'a> EntryTypes<'e, 't, 'a> {
 
     /// The names whose numbers the types have.
     #[inline(always)]
-    pub(crate) fn names(&self) -> &'e TypeNames<'t, 'a>
+    pub fn names(&self) -> &'e TypeNames<'t, 'a>
         ensures { result.now ≡ self.now.constants.types }
     {
         let _initial = &self.initial;
@@ -64,7 +65,7 @@ impl<'e, 't, 'a> EntryTypes<'e, 't, 'a> {
 
     /// The type that an entry stands for.
     #[inline(always)]
-    pub(crate) fn item(&self, entry: FrameEntry) -> Item
+    pub fn item(&self, entry: FrameEntry) -> Item
         ensures { typed (names_of_types self.now) result ≡ type_of_entry self.now entry }
     {
         match entry {

@@ -5,10 +5,10 @@ use Rattle.jv_meaning_world.specs.Flow.{flows}
 use Rattle.jv_meaning_world.specs.FrameFlow.{all_flow}
 use Rattle.jv_meaning_typing.specs.Rule.{without_object}
 use Rattle.jv_types.specs.Typed.{typed, typed_all}
-use Rattle.jv_method_pass.specs.Mapped.{world_of_types, names_of_types, types_of_entries, type_of_entry}
-use Rattle.jv_method_pass.specs.Inside.Locals.{FlowsBehind}
-use Rattle.jv_method_pass.proofs.Behind.{no_room, begins, without_length, no_local, goes_on, flows_not}
-use Rattle.jv_method_pass.proofs.flowing.locals_flow.Goals as goal
+use Rattle.jv_types.specs.Mapped.{world_of_types, names_of_types, types_of_entries, type_of_entry}
+use Rattle.jv_types.specs.Inside.Behind.{FlowsBehind}
+use Rattle.jv_types.proofs.Behind.{no_room, begins, without_length, no_local, goes_on, flows_not}
+use Rattle.jv_types.proofs.frame_flow.locals_flow.Goals as goal
 
 pub returns-then-from-local_count : goal.returns-then-from-local_count
 returns-then-from-local_count c =

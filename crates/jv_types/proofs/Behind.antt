@@ -18,8 +18,8 @@ use Rattle.jv_meaning_world.specs.World.{World}
 use Rattle.jv_meaning_typing.specs.Rule.{without_object}
 use Rattle.jv_types.specs.Typed.{TypeWorld, typed, typed_all}
 use Rattle.jv_types.specs.Numbered.{Item}
-use Rattle.jv_method_pass.specs.Inside.Locals.{left_in, words_of_entries, FlowsBehind}
-use Rattle.jv_method_pass.proofs.Lists.{at_place, behind_front, too_few, to_tops}
+use Rattle.jv_types.specs.Inside.Behind.{left_in, words_of_entries, FlowsBehind}
+use Rattle.jv_types.proofs.Lists.{at_place, behind_front, too_few, to_tops}
 
 -- ---- words
 
