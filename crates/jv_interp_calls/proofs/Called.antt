@@ -22,9 +22,7 @@ use Rattle.jv_meaning_machine.specs.Calls.{call, call_target, call_instance, cal
 use Rattle.jv_interp_words.proofs.Gave.{bound_gave, found_gave, tested_gave}
 use Rattle.jv_interp_words.proofs.Taken.{all_taken, popped_as_gave}
 use Rattle.jv_interp_calls.proofs.Widths.{all_width}
-
-pub done_same : (a b : Memory × Effect) → ◌≡◌ {A = OrFault (Memory × Effect)} (Ok a) (Ok b) → b ≡ a
-done_same a b e = cc
+use Rattle.jv_interp_memory.proofs.Entered.{done_same}
 
 -- ---- errors of linking
 

@@ -52,9 +52,10 @@ use Rattle.jv_interp_calls.specs.Known.{Known}
 use Rattle.jv_interp_calls.specs.Resolved.{Selects, IsMethodOf, IsResolved, class_number, IsRun}
 use Rattle.jv_interp_calls.specs.Calling.{Calling, IsVirtual}
 use Rattle.jv_interp_calls.proofs.Sites.{some_same}
-use Rattle.jv_interp_calls.proofs.Called.{done_same, unless_raised, unless_next, CalledOn, called_on}
+use Rattle.jv_interp_memory.proofs.Entered.{done_same}
+use Rattle.jv_interp_calls.proofs.Called.{unless_raised, unless_next, CalledOn, called_on}
 use Rattle.jv_interp_calls.proofs.Arguments.{OnReceiver, on_receiver}
-use Rattle.jv_interp_calls.proofs.Entered.{left_within, Enterable, entered, constructed}
+use Rattle.jv_interp_memory.proofs.Entered.{left_within, Enterable, entered, constructed}
 use Rattle.jv_interp_calls.proofs.ObjectClasses.{HasClass, has_class}
 use Rattle.jv_interp_calls.proofs.StaticFlags.{virtual_on, special_on, interface_on}
 use Rattle.jv_interp_calls.proofs.AtSite.{it, Found, found, few_words}

@@ -13,13 +13,11 @@ pub mod Sites
 pub mod Called
 pub mod Widths
 pub mod Arguments
-pub mod Entered
 pub mod ObjectClasses
 pub mod StaticFlags
 pub mod Linked
 pub mod AtSite
 pub mod CallsWork
-pub mod HostWork
 pub mod HostMethods
 pub mod StaticWork
 pub mod WorldNames

@@ -34,11 +34,12 @@ use Rattle.jv_interp_memory.specs.Executing.{Place, Executes, Did}
 use Rattle.jv_interp_calls.specs.Known.{Known}
 use Rattle.jv_interp_calls.specs.Resolved.{IsResolved}
 use Rattle.jv_interp_calls.specs.Calling.{Calling}
-use Rattle.jv_interp_calls.specs.Host.{Writing, Reading}
+use Rattle.jv_interp_memory.specs.Host.{Writing, Reading}
 use Rattle.jv_interp_calls.proofs.Sites.{some_same, AtPlace, at_place}
-use Rattle.jv_interp_calls.proofs.Called.{done_same, Passed, passed}
+use Rattle.jv_interp_memory.proofs.Entered.{done_same}
+use Rattle.jv_interp_calls.proofs.Called.{Passed, passed}
 use Rattle.jv_interp_calls.proofs.Arguments.{OnFrame, on_frame}
-use Rattle.jv_interp_calls.proofs.Entered.{left_within, Enterable, entered, begun}
+use Rattle.jv_interp_memory.proofs.Entered.{left_within, Enterable, entered, begun}
 use Rattle.jv_interp_calls.proofs.HostMethods.{io_at, other_class, write_at, read_at}
 use Rattle.jv_interp_calls.proofs.AtSite.{it, Found, found, few_words}
 

@@ -53,8 +53,9 @@ use Rattle.jv_interp_calls.specs.Resolved.{IsFieldOf, ResolvesField, IsUsedField
 use Rattle.jv_interp_calls.specs.Using.{Using}
 use Rattle.jv_interp_calls.proofs.FieldPlaces.{StandsAtItsWord, stands_at_word}
 use Rattle.jv_interp_calls.proofs.Sites.{some_same, AtPlace, at_place, is_place, field_class, stood, field_there}
-use Rattle.jv_interp_calls.proofs.Called.{done_same, unless_raised, unless_next}
-use Rattle.jv_interp_calls.proofs.Entered.{begun}
+use Rattle.jv_interp_memory.proofs.Entered.{done_same}
+use Rattle.jv_interp_calls.proofs.Called.{unless_raised, unless_next}
+use Rattle.jv_interp_memory.proofs.Entered.{begun}
 
 -- ---- the constant
 

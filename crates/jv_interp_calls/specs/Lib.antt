@@ -6,7 +6,6 @@ pub mod Texts
 pub mod Known
 pub mod Resolved
 pub mod Calling
-pub mod Host
 pub mod Using
 pub use Rattle.jv_linked.specs.of_link
 pub use Rattle.jv_linked.specs as of_linked

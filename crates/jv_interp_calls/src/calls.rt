@@ -10,11 +10,10 @@ ghost use Rattle.jv_interp_calls.specs.Methods.{AreMethods};
 ghost use Rattle.jv_interp_calls.specs.Known.{known};
 ghost use Rattle.jv_interp_calls.specs.Calling.{IsVirtual, CanCall, Calls, CanCallStatic, CallsStatic};
 
-use crate::host::{HOST_IO, WRITE, read, write};
 use crate::linking::{is_ready, resolved, run};
 use crate::methods::Methods;
 use jv_heap::Store;
-use jv_interp_memory::{ClassState, Effect, Held, NULL_POINTER};
+use jv_interp_memory::{ClassState, Effect, HOST_IO, Held, NULL_POINTER, WRITE, read, write};
 use jv_interp_words::Registers;
 use jv_linked::Linked;
 use jv_linked::of_link::{Site, Use};

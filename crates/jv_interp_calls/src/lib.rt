@@ -6,7 +6,6 @@
 mod calls;
 mod errors;
 mod fields;
-mod host;
 mod instance_fields;
 mod linking;
 mod methods;
@@ -16,7 +15,6 @@ mod texts;
 pub use calls::{call_special, call_static, call_virtual};
 pub use errors::number_of_error;
 pub use fields::{getfield, getstatic, putfield, putstatic};
-pub use host::{read, write};
 pub use jv_linked as of_linked;
 pub use jv_linked::{of_link, of_loader};
 pub use linking::is_ready;

@@ -32,7 +32,8 @@ use Rattle.jv_interp_memory.proofs.Numbered.{system_numbers}
 use Rattle.jv_interp_memory.proofs.Popped.{frame_pushed}
 use Rattle.jv_interp_memory.proofs.Raised.{raised, went_on}
 use Rattle.jv_interp_calls.specs.Known.{Known}
-use Rattle.jv_interp_calls.proofs.Called.{done_same, unless_raised, unless_next}
+use Rattle.jv_interp_memory.proofs.Entered.{done_same}
+use Rattle.jv_interp_calls.proofs.Called.{unless_raised, unless_next}
 use Rattle.jv_interp_creation.proofs.Thrice.{taken_kind}
 use Rattle.jv_interp_creation.specs.declared.types.NumberedType.{NumberedType}
 use Rattle.jv_interp_creation.specs.Types.{IsOfType, HasWord}

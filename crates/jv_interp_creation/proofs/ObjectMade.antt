@@ -23,7 +23,8 @@ use Rattle.jv_interp_memory.specs.declared.effect.Effect.TheVariants as effects
 use Rattle.jv_interp_memory.specs.Executing.{Place}
 use Rattle.jv_interp_memory.specs.Growing.{DidIn}
 use Rattle.jv_interp_calls.specs.Known.{Known}
-use Rattle.jv_interp_calls.proofs.Called.{done_same, unless_raised, unless_next}
+use Rattle.jv_interp_memory.proofs.Entered.{done_same}
+use Rattle.jv_interp_calls.proofs.Called.{unless_raised, unless_next}
 use Rattle.jv_interp_creation.specs.Objects.{object_of, Creating}
 use Rattle.jv_interp_creation.proofs.Went.{paid_lacks, raises_in}
 use Rattle.jv_interp_creation.specs.Named.{NamesClass, IsClassOf, NamesNew, IsNewClass}

@@ -36,7 +36,7 @@ use Rattle.jv_interp_memory.specs.SystemNumbers.{AreSystemNumbers}
 use Rattle.jv_interp_memory.proofs.Numbered.{system_numbers}
 use Rattle.jv_interp_memory.proofs.Growths.{changed_grows}
 use Rattle.jv_interp_creation.proofs.Loaded.{index_within, index_outside}
-use Rattle.jv_interp_calls.proofs.Called.{done_same}
+use Rattle.jv_interp_memory.proofs.Entered.{done_same}
 use Rattle.jv_interp_creation.proofs.Went.{raises_in, goes_in}
 use Rattle.jv_interp_creation.specs.declared.types.NumberedType.{NumberedType}
 use Rattle.jv_interp_creation.specs.Types.{IsOfType, HasWord}

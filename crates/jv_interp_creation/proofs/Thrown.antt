@@ -22,8 +22,8 @@ use Rattle.jv_interp_memory.specs.declared.effect.Effect.TheVariants as effects
 use Rattle.jv_interp_memory.specs.Executing.{Place, Did}
 use Rattle.jv_interp_memory.proofs.Numbered.{system_numbers}
 use Rattle.jv_interp_memory.proofs.Raised.{raised}
-use Rattle.jv_interp_calls.proofs.Called.{done_same}
-use Rattle.jv_interp_calls.proofs.Entered.{thrown}
+use Rattle.jv_interp_memory.proofs.Entered.{done_same}
+use Rattle.jv_interp_memory.proofs.Entered.{thrown}
 use Rattle.jv_interp_creation.specs.Throwing.{Throwing}
 use Rattle.jv_interp_creation.proofs.TopReference.{OnTop, reference_on_top}
 

@@ -12,3 +12,5 @@ pub mod Numbered
 pub mod Growths
 pub mod Raised
 pub mod Unmoved
+pub mod Entered
+pub mod HostWork

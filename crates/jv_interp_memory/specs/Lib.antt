@@ -6,4 +6,5 @@ pub mod HeldInWords
 pub mod EffectsInWords
 pub mod Executing
 pub mod Growing
+pub mod Host
 pub mod SystemNumbers

@@ -1,12 +1,14 @@
 //! What a guest holds beside the words of frames (JVMS 2.5): its objects in the blocks of a store (2.4, 2.7), how they stand there, how
-//! they are made, and how what they hold is read and written; and what instructions change of all that, and what they do beside it
-//! (2.11): how both stand for the machine's. A room of `jv_interp`, and a door: the host names it too.
+//! they are made, and how what they hold is read and written; what came in and what was written (host/Io); and what instructions change
+//! of all that, and what they do beside it (2.11): how both stand for the machine's. A room of `jv_interp`, and a door: the host names
+//! it too.
 #![tactic(auto)]
 
 mod blocks;
 mod class_state;
 mod effect;
 mod held;
+mod host;
 mod narrowing;
 mod numbers;
 
@@ -14,6 +16,7 @@ pub use blocks::{make_array, make_object};
 pub use class_state::ClassState;
 pub use effect::Effect;
 pub use held::Held;
+pub use host::{HOST_IO, WRITE, read, write};
 pub use narrowing::{Narrowing, narrowed};
 pub use numbers::{
     ABSTRACT_METHOD, ARITHMETIC, ARRAY_INDEX, ARRAY_STORE, CIRCULARITY, CLASS_CAST, CLASS_CHANGE,

@@ -1,10 +1,10 @@
 -- What host/Io's methods do in words (own), once they are called: `write(int)` with its argument on top, `read()` with none.
 use Rattle.std.specs.Prelude.{◌≡◌, ℕ, ℤ, List, ◌∷◌, length}
-use Rattle.jv_meaning_machine.specs.Values.{Value}
-use Rattle.jv_meaning_machine.specs.Values.Value.{Int}
-use Rattle.jv_meaning_machine.specs.State.{Memory}
-use Rattle.jv_meaning_machine.specs.Effects.{Effect as EffectOfNames, Context}
-use Rattle.jv_meaning_machine.specs.Calls.{write, read}
+use Rattle.jv_interp_words.specs.of_meaning_machine.Values.{Value}
+use Rattle.jv_interp_words.specs.of_meaning_machine.Values.Value.{Int}
+use Rattle.jv_interp_words.specs.of_meaning_machine.State.{Memory}
+use Rattle.jv_interp_words.specs.of_meaning_machine.Effects.{Effect as EffectOfNames, Context}
+use Rattle.jv_interp_words.specs.of_meaning_machine.Calls.{write, read}
 use Rattle.jv_interp_words.specs.declared.registers.Registers.{Registers}
 use Rattle.jv_interp_memory.specs.ObjectsInBlocks.{Blocks}
 use Rattle.jv_interp_memory.specs.declared.held.Held.{Held}

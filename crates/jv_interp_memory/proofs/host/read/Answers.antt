@@ -1,8 +1,8 @@
 use Rattle.std.proofs.Common.{◌+◌, ◌<◌, length, refl, arith, set}
 use Rattle.std.proofs.lemmas.List.{length-set}
 use Rattle.jv_interp_memory.specs.Executing.{place}
-use Rattle.jv_interp_calls.proofs.HostWork.{reads_byte, reads_end, has_room, reads}
-use Rattle.jv_interp_calls.proofs.host.read.Goals as goal
+use Rattle.jv_interp_memory.proofs.HostWork.{reads_byte, reads_end, has_room, reads}
+use Rattle.jv_interp_memory.proofs.host.read.Goals as goal
 
 pub bounds-words-at : goal.bounds-words-at
 bounds-words-at c =

@@ -1,8 +1,8 @@
 use Rattle.std.proofs.Common.{◌+◌, ◌-◌, ◌%◌, ◌<◌, ◌≤◌, [], ◌∷◌, length, refl, ap, arith, get_or, length-append}
 use Rattle.std.specs.Prelude.{vec_len, vec_capacity}
 use Rattle.jv_interp_memory.specs.Executing.{place}
-use Rattle.jv_interp_calls.proofs.HostWork.{throws, writes}
-use Rattle.jv_interp_calls.proofs.host.write.Goals as goal
+use Rattle.jv_interp_memory.proofs.HostWork.{throws, writes}
+use Rattle.jv_interp_memory.proofs.host.write.Goals as goal
 
 pub push_reserved-requires : goal.push_reserved-requires
 push_reserved-requires c =

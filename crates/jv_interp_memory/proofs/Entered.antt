@@ -1,17 +1,18 @@
 -- A method that is entered, an initialization that is begun and an object that is thrown: they stand, where all else is as it was.
-use Rattle.std.proofs.Common.{◌≡◌, ℕ, ◌≤◌, List, [], ◌∷◌, ◌++◌, Option, Some, length, reverse, refl, sym, ap, subst, ◌∙◌, append-nil, arith, slice_get}
+use Rattle.std.proofs.Common.{◌≡◌, ℕ, ◌≤◌, List, [], ◌∷◌, ◌++◌, Option, Some, Ok, length, reverse, refl, sym, ap, subst, ◌∙◌, append-nil, arith, slice_get}
 use Rattle.std.specs.List.{flat_map}
 use Rattle.std.proofs.lemmas.List.Sums.{sum_by-append}
-use Rattle.jv_meaning_world.specs.World.{Loaded}
-use Rattle.jv_meaning_world.specs.Overriding.{Declared}
-use Rattle.jv_meaning_machine.specs.Values.{Value, value_words, words_of_values}
-use Rattle.jv_meaning_machine.specs.Objects.{Instance}
-use Rattle.jv_meaning_machine.specs.Objects.Object.{InstanceOf}
-use Rattle.jv_meaning_machine.specs.Frames.{local_words}
-use Rattle.jv_meaning_machine.specs.State.{Memory}
-use Rattle.jv_meaning_machine.specs.Effects.{Effect, Context, Outcome}
-use Rattle.jv_meaning_machine.specs.Effects.Effect.{Enters, Constructs, Throws, Begins}
-use Rattle.jv_meaning_machine.specs.Entering.{passed_values}
+use Rattle.jv_interp_words.specs.of_meaning_world.World.{Loaded}
+use Rattle.jv_interp_words.specs.of_meaning_world.Overriding.{Declared}
+use Rattle.jv_interp_words.specs.of_meaning_machine.Values.{Value, value_words, words_of_values}
+use Rattle.jv_interp_words.specs.of_meaning_machine.Objects.{Instance}
+use Rattle.jv_interp_words.specs.of_meaning_machine.Objects.Object.{InstanceOf}
+use Rattle.jv_interp_words.specs.of_meaning_machine.Frames.{local_words}
+use Rattle.jv_interp_words.specs.of_meaning_machine.State.{Memory}
+use Rattle.jv_interp_words.specs.of_meaning_machine.Effects.{Effect, Context, Outcome}
+use Rattle.jv_interp_words.specs.of_meaning_machine.Faults.{OrFault}
+use Rattle.jv_interp_words.specs.of_meaning_machine.Effects.Effect.{Enters, Constructs, Throws, Begins}
+use Rattle.jv_interp_words.specs.of_meaning_machine.Entering.{passed_values}
 use Rattle.jv_interp_words.specs.ValuesInWords.{AreOnTop}
 use Rattle.jv_interp_words.specs.FramesInWords.{in_use, FrameStands, methods_of}
 use Rattle.jv_interp_memory.specs.declared.effect.Effect.{Effect as EffectInWords}
@@ -19,6 +20,9 @@ use Rattle.jv_interp_memory.specs.declared.effect.Effect.TheVariants as effects
 use Rattle.jv_interp_memory.specs.EffectsInWords.{EntersWith, OutcomeStands}
 use Rattle.jv_interp_memory.specs.Executing.{Place, Executes, Did}
 use Rattle.jv_interp_memory.specs.HeldInWords.{MemoryStands}
+
+pub done_same : (a b : Memory × Effect) → ◌≡◌ {A = OrFault (Memory × Effect)} (Ok a) (Ok b) → b ≡ a
+done_same a b e = cc
 
 -- what is left of a stack has no more words than all of it
 pub left_within : (front rest stack : List Value) → stack ≡ front ++ rest → words_of_values rest ≤ words_of_values stack

@@ -5,9 +5,10 @@ ghost use Rattle.std.specs.Prelude.{◌≡◌};
 ghost use Rattle.jv_interp_words.specs.Going.{StaysIn};
 ghost use Rattle.jv_interp_memory.specs.ObjectsInBlocks.{Blocks};
 ghost use Rattle.jv_interp_memory.specs.Executing.{IsUnmoved, place};
-ghost use Rattle.jv_interp_calls.specs.Host.{CanWrite, Writes, CanRead, Reads};
+ghost use Rattle.jv_interp_memory.specs.Host.{CanWrite, Writes, CanRead, Reads};
 
-use jv_interp_memory::{Effect, Held};
+use crate::effect::Effect;
+use crate::held::Held;
 use jv_interp_words::Registers;
 
 /// The number of host/Io.

@@ -5,12 +5,12 @@ use Rattle.std.specs.Int.{w32, cast_signed, cast_unsigned}
 use Rattle.std.proofs.lemmas.Int.{of_z-to_z, to_z_pos}
 use Rattle.std.proofs.lemmas.Bool.Decides.{Decides-eqb}
 use Rattle.std.proofs.lemmas.List.Sums.{sum_by-cons}
-use Rattle.jv_meaning_machine.specs.Values.{Value, value_words}
-use Rattle.jv_meaning_machine.specs.Values.Value.{Int}
-use Rattle.jv_meaning_machine.specs.State.{Memory}
-use Rattle.jv_meaning_machine.specs.Effects.{Effect, Context, out_of_memory, lacks_memory, goes_on_with}
-use Rattle.jv_meaning_machine.specs.Effects.Effect.{Goes, Throws}
-use Rattle.jv_meaning_machine.specs.Calls.{with_byte_written, write, read}
+use Rattle.jv_interp_words.specs.of_meaning_machine.Values.{Value, value_words}
+use Rattle.jv_interp_words.specs.of_meaning_machine.Values.Value.{Int}
+use Rattle.jv_interp_words.specs.of_meaning_machine.State.{Memory}
+use Rattle.jv_interp_words.specs.of_meaning_machine.Effects.{Effect, Context, out_of_memory, lacks_memory, goes_on_with}
+use Rattle.jv_interp_words.specs.of_meaning_machine.Effects.Effect.{Goes, Throws}
+use Rattle.jv_interp_words.specs.of_meaning_machine.Calls.{with_byte_written, write, read}
 use Rattle.jv_interp_words.specs.declared.registers.Registers.{Registers}
 use Rattle.jv_interp_words.specs.ValuesInWords.{IsOnTop}
 use Rattle.jv_interp_words.specs.FramesInWords.{in_use, FrameStands}
@@ -22,9 +22,9 @@ use Rattle.jv_interp_memory.specs.EffectsInWords.{EffectStands}
 use Rattle.jv_interp_memory.specs.Executing.{Place, place, HasRoom, Did}
 use Rattle.jv_interp_memory.specs.HeldInWords.{MemoryStands}
 use Rattle.jv_interp_memory.proofs.Popped.{Popped, frame_popped, frame_pushed, some_used}
-use Rattle.jv_interp_calls.specs.Host.{Writing, Reading}
-use Rattle.jv_interp_calls.proofs.Called.{done_same}
-use Rattle.jv_interp_calls.proofs.Entered.{thrown}
+use Rattle.jv_interp_memory.specs.Host.{Writing, Reading}
+use Rattle.jv_interp_memory.proofs.Entered.{done_same}
+use Rattle.jv_interp_memory.proofs.Entered.{thrown}
 
 -- ---- write
 
