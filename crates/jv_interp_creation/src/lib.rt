@@ -33,4 +33,3 @@ pub use stores::{store_byte, store_int, store_long};
 pub use storing::aastore;
 pub use throwing::athrow;
 pub use types::{NumberedType, is_instance};
-pub use units::fill;
