@@ -153,7 +153,8 @@ fn selected_apart(
     ensures target { IfOk result (IsMethodTarget classes.now.world) }
     ensures entries { All (IsEntry classes.now.world how) entries.new }
 {
-    selected_and_kept(entries, at, classes, class, site, how, target, object)
+    let own = *target;
+    selected_and_kept(entries, at, classes, class, site, how, &own, object)
 }
 
 /// What a call at a site runs, by its entry, where that is there.
