@@ -77,7 +77,10 @@ fn verdicts_are(classes: &Classes<'_>, verdicts: &[u8]) -> bool {
 /// Whether a class of the guest has the number behind the system's, and stands below java/lang/Object.
 fn is_first_of_guest(classes: &Classes<'_>, name: &[u8]) -> bool {
     let table = classes.table();
-    match (classes.find(name), classes.find(b"java/lang/Object".as_slice())) {
+    match (
+        classes.find(name),
+        classes.find(b"java/lang/Object".as_slice()),
+    ) {
         (Some(number), Some(object)) => {
             number == 33
                 && number < table.count()

@@ -6,8 +6,9 @@ use Rattle.std.proofs.lemmas.Option.{slice_get_within}
 use Rattle.jv_frames.specs.declared.verification.VerificationTypeOf.TheVariants as types
 use Rattle.jv_frames.specs.Types.{FrameType}
 use Rattle.jv_meaning_world.specs.Flow.{flows}
-use Rattle.jv_meaning_world.specs.FrameFlow.{all_flow}
+use Rattle.jv_meaning_world.specs.FrameFlow.{all_flow, item_flows}
 use Rattle.jv_meaning_world.specs.World.{World}
+use Rattle.jv_meaning_world.proofs.Order.{flows_is_reflexive}
 use Rattle.jv_types.specs.Typed.{TypeWorld, typed, typed_all}
 use Rattle.jv_types.specs.Numbered.{Item}
 use Rattle.jv_types.specs.Inside.Behind.{ItemsFlow}
@@ -18,6 +19,17 @@ smaller h = omega (arith, h)
 and_false : (b : Bool) → (b && false) ≡ false
 and_false true = refl
 and_false false = refl
+
+-- a stack item flows to its own type
+pub item_to_itself : (world : World) (t : FrameType) → item_flows world t t ≡ true
+item_to_itself world types.Long = refl
+item_to_itself world types.Top = refl
+item_to_itself world types.Int = refl
+item_to_itself world types.Null = refl
+item_to_itself world types.UninitializedThis = refl
+item_to_itself world (types.Class x) = flows_is_reflexive world (types.Class x)
+item_to_itself world (types.Array a) = flows_is_reflexive world (types.Array a)
+item_to_itself world (types.Uninitialized o) = flows_is_reflexive world (types.Uninitialized o)
 
 -- ---- what is behind a place of a list
 

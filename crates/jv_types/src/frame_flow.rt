@@ -1,6 +1,6 @@
 //! What flows into a frame of the stack map (JVMS 4.10.1.2, 4.10.1.4).
 
-ghost use Rattle.std.specs.Prelude.{◌≡◌, ◌&&◌, ◌||◌, not, ℕ, List, ◌∷◌, [], map, reverse};
+ghost use Rattle.std.specs.Prelude.{◌≡◌, ◌&&◌, ◌||◌, not, ℕ, List, ◌∷◌, [], IsTrue, map, reverse};
 ghost use Rattle.std.specs.List.{list_any};
 ghost use Rattle.std.specs.Option.{option_map};
 ghost use Rattle.jv_frames.specs.Frames.{is_uninitialized_this};
@@ -13,7 +13,7 @@ ghost use Rattle.jv_types.specs.Mapped.{names_of_types, types_of_entries, local_
 ghost use Rattle.jv_types.specs.Inside.Behind.{left_in};
 
 use crate::entries::EntryTypes;
-use crate::names::Item;
+use crate::names::{Item, TypeNames};
 use crate::type_frame::TypeFrame;
 use crate::words::words_of;
 use jv_frames::{Entries, MapFrame, VerificationTypeOf};
@@ -42,6 +42,50 @@ fn left_in(object: Option<Item>, local: Item) -> Item
     }
 }
 
+/// Whether two types are known to be one without a look at them as a whole.
+#[inline(always)]
+fn are_same(one: Item, other: Item) -> bool
+    ensures { IsTrue result → one ≡ other }
+{
+    match (one, other) {
+        (VerificationTypeOf::Int, VerificationTypeOf::Int) => true,
+        (VerificationTypeOf::Class(one), VerificationTypeOf::Class(other)) => one == other,
+        _ => false,
+    }
+}
+
+#[inline(always)]
+fn is_top(item: Item) -> bool
+    ensures { IsTrue result → item ≡ variants.Top }
+{
+    matches!(item, VerificationTypeOf::Top)
+}
+
+/// Whether a local variable's type flows to another: to top, and where the two are one, no table is asked.
+#[inline(always)]
+fn flows(names: &TypeNames<'_, '_>, from: Item, to: Item) -> bool
+    ensures { result ≡ flows names.now.world (typed names.now.names from) (typed names.now.names to) }
+{
+    if is_top(to) {
+        return true;
+    }
+    if are_same(from, to) {
+        return true;
+    }
+    names.flows(from, to)
+}
+
+/// Whether a stack item's type does: where the two are one, no table is asked.
+#[inline(always)]
+fn item_flows(names: &TypeNames<'_, '_>, from: Item, to: Item) -> bool
+    ensures { result ≡ item_flows names.now.world (typed names.now.names from) (typed names.now.names to) }
+{
+    if are_same(from, to) {
+        return true;
+    }
+    names.item_flows(from, to)
+}
+
 /// Whether the local variables flow to a frame's entries, once an object cannot be used any more.
 pub fn locals_flow(
     types: &EntryTypes<'_, '_, '_>,
@@ -63,7 +107,7 @@ pub fn locals_flow(
         let Some(local) = frame.local(at) else {
             return false;
         };
-        if !types.names().flows(left_in(object, local), item) {
+        if !flows(types.names(), left_in(object, local), item) {
             return false;
         }
     }
@@ -81,7 +125,7 @@ pub fn stack_flows(types: &EntryTypes<'_, '_, '_>, frame: &TypeFrame, map: &MapF
         let Some(item) = frame.item(height - left) else {
             return false;
         };
-        if !types.names().item_flows(item, types.item(entry)) {
+        if !item_flows(types.names(), item, types.item(entry)) {
             return false;
         }
         left -= 1;

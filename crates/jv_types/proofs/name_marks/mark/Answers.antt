@@ -11,4 +11,4 @@ returns-in-Some-clause-marked c =
     name_marked c.args.constants.now.types.names c.args.constants.now.pool c.args.marks.now c.args.index number at
     (subst (λ (t : TypeWorld). AreDistinct t.names) c.names-names.ensures c.are_distinct.ensures) c.requires
     (subst (λ (t : TypeWorld). at < length t.names) c.names-names.ensures c.place.ensures.within)
-    (subst (λ (t : TypeWorld). get_or t.names at (codes "java/lang/Object") ≡ name_at t.names number) c.names-names.ensures c.place.ensures.same) c.in-Some.ensures
+    (subst (λ (t : TypeWorld). get_or t.names at (codes "java/lang/Object") ≡ name_at t.names number) c.names-names.ensures c.place.ensures.same) c.in-Some.ensures.constant
