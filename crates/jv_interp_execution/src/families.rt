@@ -113,7 +113,8 @@ fn execute_apart<'a, 'l, S: Store>(
     let result = execute(
         classes, linked, methods, texts, site, states, store, held, words, &mut own, next, insn,
     );
-    *at = own;
+    at.pc = own.pc;
+    at.top = own.top;
     result
 }
 
@@ -490,7 +491,8 @@ impl Execution for Objects {
                 let result = create(
                     classes, linked, site, states, store, held, words, &mut own, next, index,
                 );
-                *at = own;
+                at.pc = own.pc;
+                at.top = own.top;
                 result
             }
             Insn::CheckCast(index) => {
@@ -498,7 +500,8 @@ impl Execution for Objects {
                 let result = checkcast(
                     classes, linked, site, store, held, words, &mut own, next, index,
                 );
-                *at = own;
+                at.pc = own.pc;
+                at.top = own.top;
                 Ok(result)
             }
             Insn::InstanceOf(index) => {
@@ -506,13 +509,15 @@ impl Execution for Objects {
                 let result = instanceof(
                     classes, linked, site, store, held, words, &mut own, next, index,
                 );
-                *at = own;
+                at.pc = own.pc;
+                at.top = own.top;
                 Ok(result)
             }
             Insn::ReferenceArrayStore => {
                 let mut own = *at;
                 let result = aastore(classes, store, held, words, &mut own, next);
-                *at = own;
+                at.pc = own.pc;
+                at.top = own.top;
                 Ok(result)
             }
             _ => execute_apart(

@@ -86,7 +86,8 @@ pub(crate) fn execute_pool_constant<'a, 'l, S: Store>(
             let number = texts.number(site.class, index) as usize;
             let mut own = *at;
             let result = push_string(store, held, words, &mut own, next, number, text);
-            *at = own;
+            at.pc = own.pc;
+            at.top = own.top;
             result
         }
         None => unreachable!(),

@@ -1,4 +1,4 @@
-use Rattle.std.proofs.Common.{◌≡◌, ◌∙◌, ℕ, Option, Some, ap, subst}
+use Rattle.std.proofs.Common.{◌≡◌, ◌∙◌, ℕ, Option, Some, sym, ap, subst}
 use Rattle.std.proofs.lemmas.Result.{IfOk-weaker}
 use Rattle.jv_interp_execution.specs.declared.pool_constants.PoolConstant.{PoolConstant}
 use Rattle.jv_interp_execution.specs.PoolConstants.{IsConstantOf}
@@ -45,7 +45,16 @@ pub returns-in-Some-String-clause-done : goal.returns-in-Some-String-clause-done
 returns-in-Some-String-clause-done g c =
     let clause = subst (λ (o : Option PoolConstant). IsConstantOf c.args.classes.now.world c.args.site.class c.args.index o)
     (c.in-Some-String.is ∙ ap Some c.in-Some-String.field-0-is) c.constant_of.ensures in
-    IfOk-weaker c.push_string-result.result _ _
+    rw (sym c.push_string-result.ensures.stays.same) (IfOk-weaker c.push_string-result.result _ _
     (λ effect pushes form k of_site are. string_done c.execution_keeps.ensures c.args.index form _ k _ c.args.site c.args.texts.now _ _ _ _ of_site are
     c.in-Some-String.text clause c.number-number.result c.number-number.ensures _ _ _ _ effect pushes)
-    c.push_string-result.ensures.pushes
+    c.push_string-result.ensures.pushes)
+
+pub returns-in-Some-String-clause-stays : goal.returns-in-Some-String-clause-stays
+returns-in-Some-String-clause-stays g c = rw (sym c.push_string-result.ensures.stays.same) c.push_string-result.ensures.stays
+
+pub returns-in-Some-String-clause-unmoved : goal.returns-in-Some-String-clause-unmoved
+returns-in-Some-String-clause-unmoved g c = rw (sym c.push_string-result.ensures.stays.same) c.push_string-result.ensures.unmoved
+
+pub returns-in-Some-String-clause-refused_at : goal.returns-in-Some-String-clause-refused_at
+returns-in-Some-String-clause-refused_at g c = rw (sym c.push_string-result.ensures.stays.same) c.push_string-result.ensures.refused_at
