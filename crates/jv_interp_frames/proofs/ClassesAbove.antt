@@ -17,6 +17,9 @@ use Rattle.jv_interp_frames.proofs.StatesSet.{other_name}
 same_some : {A : Type 0} (x y : A) → Some x ≡ Some y → x ≡ y
 same_some x y e = cc
 
+pub itself : (a b : Bool) → true ≡ a → true ≡ (a || b)
+itself a b e = ap (λ (x : Bool). x || b) e
+
 pub either : (a b : Bool) → a ≡ false → (a || b) ≡ b
 either a b e = ap (λ (x : Bool). x || b) e
 

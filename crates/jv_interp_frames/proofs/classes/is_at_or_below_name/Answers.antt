@@ -1,8 +1,13 @@
 use Rattle.std.proofs.Common.{List, ℕ, sym, ap, ◌∙◌}
+use Rattle.std.specs.Str.{bytes_eq}
 use Rattle.jv_classes.proofs.Told.{stands_at}
 use Rattle.jv_meaning_machine.specs.Objects.{is_at_or_below}
-use Rattle.jv_interp_frames.proofs.ClassesAbove.{found_is_named, by_no_number}
+use Rattle.jv_interp_frames.proofs.ClassesAbove.{itself, found_is_named, by_no_number}
 use Rattle.jv_interp_frames.proofs.classes.is_at_or_below_name.Goals as goal
+
+pub returns-then-is_named : goal.returns-then-is_named
+returns-then-is_named c = λ l at.
+    itself (bytes_eq l.class.name c.args.name.now) _ (sym c.if-is_named.true ∙ c.is_named.ensures l at)
 
 pub returns-in-Some : goal.returns-in-Some
 returns-in-Some c = λ l at.
