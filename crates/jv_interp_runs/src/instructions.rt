@@ -61,6 +61,7 @@ pub(crate) fn step_by<'a, 'l, E: Execution, S: Store>(
     ensures stepped { IfOk result (SteppedIn classes.now.world verified.now texts.now.names at.old
         (kept frames.old control.old held.old (S.content store.old)) at.new
         (kept frames.new control.new held.new (S.content store.new))) }
+    ensures same { at.new ≡ record at.old { pc = at.new.pc; top = at.new.top } }
     ensures fewer { held.new.cells ≤ held.old.cells }
     ensures room { OnOk result (S.room_left store.old + held.new.cells ≡ S.room_left store.new + held.old.cells) }
     ensures linked { IsLinked classes.now.world linked.new }
@@ -95,7 +96,8 @@ pub(crate) fn step_by<'a, 'l, E: Execution, S: Store>(
     }
 }
 
-/// The same, where the bytes of the instruction are known to stand there: so many.
+/// The same, where the bytes of the instruction are known to stand there: so many. Whether the method goes on is written to `goes_on`: what
+/// a function answers beside a fault is kept with it as a pair where many calls meet, and then tested there behind each of them.
 #[inline(always)]
 pub(crate) fn step_known<'a, 'l, E: Execution, S: Store>(
     classes: &Classes<'a>,
@@ -110,7 +112,8 @@ pub(crate) fn step_known<'a, 'l, E: Execution, S: Store>(
     at: &mut Registers<'l>,
     insn: Insn<&[u8]>,
     size: u32,
-) -> Result<bool, Memory>
+    goes_on: &mut bool,
+) -> Result<(), Memory>
     requires can { CanStepIn classes.now.world verified.now texts.now.names at.old
         (kept frames.old control.old held.old (S.content store.old)) }
     requires linked { IsLinked classes.now.world linked.old }
@@ -121,9 +124,9 @@ pub(crate) fn step_known<'a, 'l, E: Execution, S: Store>(
     requires bytes { HasBytes at.old.code.now at.old.pc (insn_bytes (instruction_of insn)) }
     requires fits { IsTrue (insn_fits at.old.pc (instruction_of insn)) }
     requires size { size ≡ length (insn_bytes (instruction_of insn)) }
-    ensures stepped { IfOk result (SteppedIn classes.now.world verified.now texts.now.names at.old
+    ensures stepped { OnOk result (SteppedIn classes.now.world verified.now texts.now.names at.old
         (kept frames.old control.old held.old (S.content store.old)) at.new
-        (kept frames.new control.new held.new (S.content store.new))) }
+        (kept frames.new control.new held.new (S.content store.new)) goes_on.new) }
     ensures fewer { held.new.cells ≤ held.old.cells }
     ensures room { OnOk result (S.room_left store.old + held.new.cells ≡ S.room_left store.new + held.old.cells) }
     ensures linked { IsLinked classes.now.world linked.new }
@@ -137,8 +140,14 @@ pub(crate) fn step_known<'a, 'l, E: Execution, S: Store>(
 {
     let site = site_of(methods, at.method, at.pc);
     let next = at.pc + size;
-    step_by::<E, S>(
+    match step_by::<E, S>(
         classes, linked, methods, texts, verified, frames, control, held, store, at, site, insn,
         next,
-    )
+    ) {
+        Ok(goes) => {
+            *goes_on = goes;
+            Ok(())
+        }
+        Err(refused) => Err(refused),
+    }
 }

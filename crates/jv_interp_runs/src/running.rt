@@ -30,17 +30,17 @@ pub struct Turn {
 /// Takes at most so many steps, from that of the method in the registers on, until another frame goes on. Then all frames stand in their
 /// records.
 fn run_method<'a, 'l, S: Store>(
+    frames: &mut Frames,
+    at: Registers<'l>,
+    n: u64,
+    verified: &[bool],
+    texts: &Texts<'a>,
     classes: &Classes<'a>,
     linked: &mut Linked<'a>,
     methods: &Methods<'a>,
-    texts: &Texts<'a>,
-    verified: &[bool],
-    frames: &mut Frames,
     control: &mut Control,
     held: &mut Held,
     store: &mut S,
-    at: Registers<'l>,
-    n: u64,
 ) -> Turn
     requires can { CanRunIn classes.now.world verified.now texts.now.names at
         (kept frames.old control.old held.old (S.content store.old)) }
@@ -138,8 +138,8 @@ pub fn run<'a, S: Store>(
         match resume(methods, frames) {
             Some(at) => {
                 let turn = run_method(
-                    classes, linked, methods, texts, verified, frames, control, held, store, at,
-                    left,
+                    frames, at, left, verified, texts, classes, linked, methods, control, held,
+                    store,
                 );
                 if turn.refused {
                     return turn;

@@ -37,7 +37,8 @@ fn step_decoded<'a, 'l, S: Store>(
     held: &mut Held,
     store: &mut S,
     at: &mut Registers<'l>,
-) -> Result<bool, Memory>
+    goes_on: &mut bool,
+) -> Result<(), Memory>
     requires can { CanStepIn classes.now.world verified.now texts.now.names at.old
         (kept frames.old control.old held.old (S.content store.old)) }
     requires linked { IsLinked classes.now.world linked.old }
@@ -45,9 +46,10 @@ fn step_decoded<'a, 'l, S: Store>(
     requires texts { AreTexts classes.now.world texts.now }
     requires cells { held.old.cells ≤ S.room_left store.old }
     requires few { held.old.cells < 2147483648 }
-    ensures stepped { IfOk result (SteppedIn classes.now.world verified.now texts.now.names at.old
+    ensures stepped { OnOk result (SteppedIn classes.now.world verified.now texts.now.names at.old
         (kept frames.old control.old held.old (S.content store.old)) at.new
-        (kept frames.new control.new held.new (S.content store.new))) }
+        (kept frames.new control.new held.new (S.content store.new)) goes_on.new) }
+    ensures same { at.new ≡ record at.old { pc = at.new.pc; top = at.new.top } }
     ensures fewer { held.new.cells ≤ held.old.cells }
     ensures room { OnOk result (S.room_left store.old + held.new.cells ≡ S.room_left store.new + held.old.cells) }
     ensures linked { IsLinked classes.now.world linked.new }
@@ -60,15 +62,517 @@ fn step_decoded<'a, 'l, S: Store>(
     ensures sure { IsTrue S.SURE → IsOk result }
 {
     let (site, insn, next) = decode(methods, at.method, at.pc);
-    step_by::<AnyInstruction, S>(
+    match step_by::<AnyInstruction, S>(
         classes, linked, methods, texts, verified, frames, control, held, store, at, site, insn,
         next,
-    )
+    ) {
+        Ok(goes) => {
+            *goes_on = goes;
+            Ok(())
+        }
+        Err(refused) => Err(refused),
+    }
+}
+
+/// The same, with registers of its own, so that those of the loop need no place in memory.
+#[inline(always)]
+fn step_apart<'a, 'l, S: Store>(
+    classes: &Classes<'a>,
+    linked: &mut Linked<'a>,
+    methods: &Methods<'a>,
+    texts: &Texts<'a>,
+    verified: &[bool],
+    frames: &mut Frames,
+    control: &mut Control,
+    held: &mut Held,
+    store: &mut S,
+    at: &mut Registers<'l>,
+    goes_on: &mut bool,
+) -> Result<(), Memory>
+    requires can { CanStepIn classes.now.world verified.now texts.now.names at.old
+        (kept frames.old control.old held.old (S.content store.old)) }
+    requires linked { IsLinked classes.now.world linked.old }
+    requires methods { AreMethods classes.now.world methods.now }
+    requires texts { AreTexts classes.now.world texts.now }
+    requires cells { held.old.cells ≤ S.room_left store.old }
+    requires few { held.old.cells < 2147483648 }
+    ensures stepped { OnOk result (SteppedIn classes.now.world verified.now texts.now.names at.old
+        (kept frames.old control.old held.old (S.content store.old)) at.new
+        (kept frames.new control.new held.new (S.content store.new)) goes_on.new) }
+    ensures fewer { held.new.cells ≤ held.old.cells }
+    ensures room { OnOk result (S.room_left store.old + held.new.cells ≡ S.room_left store.new + held.old.cells) }
+    ensures linked { IsLinked classes.now.world linked.new }
+    ensures refused_at { OnErr result (at.new ≡ at.old) }
+    ensures refused_frames { OnErr result (AreAsBefore frames.old frames.new) }
+    ensures refused_control { OnErr result (control.new ≡ control.old) }
+    ensures refused { OnErr result (held.new ≡ held.old) }
+    ensures refused_content { OnErr result (S.content store.new ≡ S.content store.old) }
+    ensures refused_room { OnErr result (S.room_left store.new ≡ S.room_left store.old) }
+    ensures sure { IsTrue S.SURE → IsOk result }
+{
+    let mut own = *at;
+    let mut goes = true;
+    let result = step_decoded(
+        classes, linked, methods, texts, verified, frames, control, held, store, &mut own,
+        &mut goes,
+    );
+    at.pc = own.pc;
+    at.top = own.top;
+    *goes_on = goes;
+    result
+}
+
+/// The same, where the opcode says which instruction it is, but for an index.
+#[inline(always)]
+fn step_at_hand<'a, 'l, S: Store>(
+    classes: &Classes<'a>,
+    linked: &mut Linked<'a>,
+    methods: &Methods<'a>,
+    texts: &Texts<'a>,
+    verified: &[bool],
+    frames: &mut Frames,
+    control: &mut Control,
+    held: &mut Held,
+    store: &mut S,
+    at: &mut Registers<'l>,
+    goes_on: &mut bool,
+) -> Result<(), Memory>
+    requires can { CanStepIn classes.now.world verified.now texts.now.names at.old
+        (kept frames.old control.old held.old (S.content store.old)) }
+    requires linked { IsLinked classes.now.world linked.old }
+    requires methods { AreMethods classes.now.world methods.now }
+    requires texts { AreTexts classes.now.world texts.now }
+    requires cells { held.old.cells ≤ S.room_left store.old }
+    requires few { held.old.cells < 2147483648 }
+    ensures stepped { OnOk result (SteppedIn classes.now.world verified.now texts.now.names at.old
+        (kept frames.old control.old held.old (S.content store.old)) at.new
+        (kept frames.new control.new held.new (S.content store.new)) goes_on.new) }
+    ensures fewer { held.new.cells ≤ held.old.cells }
+    ensures room { OnOk result (S.room_left store.old + held.new.cells ≡ S.room_left store.new + held.old.cells) }
+    ensures linked { IsLinked classes.now.world linked.new }
+    ensures refused_at { OnErr result (at.new ≡ at.old) }
+    ensures refused_frames { OnErr result (AreAsBefore frames.old frames.new) }
+    ensures refused_control { OnErr result (control.new ≡ control.old) }
+    ensures refused { OnErr result (held.new ≡ held.old) }
+    ensures refused_content { OnErr result (S.content store.new ≡ S.content store.old) }
+    ensures refused_room { OnErr result (S.room_left store.new ≡ S.room_left store.old) }
+    ensures sure { IsTrue S.SURE → IsOk result }
+{
+    let opcode = opcode_at(at.code, at.pc as usize);
+    if let Some(kind) = element_loaded(opcode) {
+        return step_known::<Arrays, S>(
+            classes,
+            linked,
+            methods,
+            texts,
+            verified,
+            frames,
+            control,
+            held,
+            store,
+            at,
+            Insn::ArrayLoad(kind),
+            1,
+            goes_on,
+        );
+    }
+    if let Some(kind) = element_stored(opcode) {
+        return step_known::<Arrays, S>(
+            classes,
+            linked,
+            methods,
+            texts,
+            verified,
+            frames,
+            control,
+            held,
+            store,
+            at,
+            Insn::ArrayStore(kind),
+            1,
+            goes_on,
+        );
+    }
+    if let Some(kind) = value_returned(opcode) {
+        return step_known::<Returns, S>(
+            classes,
+            linked,
+            methods,
+            texts,
+            verified,
+            frames,
+            control,
+            held,
+            store,
+            at,
+            Insn::ReturnValue(kind),
+            1,
+            goes_on,
+        );
+    }
+    match opcode {
+        50 => step_known::<Arrays, S>(
+            classes,
+            linked,
+            methods,
+            texts,
+            verified,
+            frames,
+            control,
+            held,
+            store,
+            at,
+            Insn::ReferenceArrayLoad,
+            1,
+            goes_on,
+        ),
+        83 => step_known::<Objects, S>(
+            classes,
+            linked,
+            methods,
+            texts,
+            verified,
+            frames,
+            control,
+            held,
+            store,
+            at,
+            Insn::ReferenceArrayStore,
+            1,
+            goes_on,
+        ),
+        108 => step_known::<Divisions, S>(
+            classes,
+            linked,
+            methods,
+            texts,
+            verified,
+            frames,
+            control,
+            held,
+            store,
+            at,
+            Insn::Division(NumberKind::Int, DivisionOperator::Divide),
+            1,
+            goes_on,
+        ),
+        109 => step_known::<Divisions, S>(
+            classes,
+            linked,
+            methods,
+            texts,
+            verified,
+            frames,
+            control,
+            held,
+            store,
+            at,
+            Insn::Division(NumberKind::Long, DivisionOperator::Divide),
+            1,
+            goes_on,
+        ),
+        112 => step_known::<Divisions, S>(
+            classes,
+            linked,
+            methods,
+            texts,
+            verified,
+            frames,
+            control,
+            held,
+            store,
+            at,
+            Insn::Division(NumberKind::Int, DivisionOperator::Remainder),
+            1,
+            goes_on,
+        ),
+        113 => step_known::<Divisions, S>(
+            classes,
+            linked,
+            methods,
+            texts,
+            verified,
+            frames,
+            control,
+            held,
+            store,
+            at,
+            Insn::Division(NumberKind::Long, DivisionOperator::Remainder),
+            1,
+            goes_on,
+        ),
+        177 => step_known::<Returns, S>(
+            classes,
+            linked,
+            methods,
+            texts,
+            verified,
+            frames,
+            control,
+            held,
+            store,
+            at,
+            Insn::Return,
+            1,
+            goes_on,
+        ),
+        190 => step_known::<Arrays, S>(
+            classes,
+            linked,
+            methods,
+            texts,
+            verified,
+            frames,
+            control,
+            held,
+            store,
+            at,
+            Insn::ArrayLength,
+            1,
+            goes_on,
+        ),
+        18 => {
+            let index = index_in_byte(at.code, at.pc as usize);
+            step_known::<ConstantLoads, S>(
+                classes,
+                linked,
+                methods,
+                texts,
+                verified,
+                frames,
+                control,
+                held,
+                store,
+                at,
+                Insn::PoolConstant(index, IndexForm::Byte),
+                2,
+                goes_on,
+            )
+        }
+        19 => {
+            let index = index_behind(at.code, at.pc as usize);
+            step_known::<ConstantLoads, S>(
+                classes,
+                linked,
+                methods,
+                texts,
+                verified,
+                frames,
+                control,
+                held,
+                store,
+                at,
+                Insn::PoolConstant(index, IndexForm::Half),
+                3,
+                goes_on,
+            )
+        }
+        20 => {
+            let index = index_behind(at.code, at.pc as usize);
+            step_known::<ConstantLoads, S>(
+                classes,
+                linked,
+                methods,
+                texts,
+                verified,
+                frames,
+                control,
+                held,
+                store,
+                at,
+                Insn::PoolLongConstant(index),
+                3,
+                goes_on,
+            )
+        }
+        178 => {
+            let index = index_behind(at.code, at.pc as usize);
+            step_known::<FieldGets, S>(
+                classes,
+                linked,
+                methods,
+                texts,
+                verified,
+                frames,
+                control,
+                held,
+                store,
+                at,
+                Insn::Field(FieldAccess::GetStatic, index),
+                3,
+                goes_on,
+            )
+        }
+        179 => {
+            let index = index_behind(at.code, at.pc as usize);
+            step_known::<FieldPuts, S>(
+                classes,
+                linked,
+                methods,
+                texts,
+                verified,
+                frames,
+                control,
+                held,
+                store,
+                at,
+                Insn::Field(FieldAccess::PutStatic, index),
+                3,
+                goes_on,
+            )
+        }
+        180 => {
+            let index = index_behind(at.code, at.pc as usize);
+            step_known::<FieldGets, S>(
+                classes,
+                linked,
+                methods,
+                texts,
+                verified,
+                frames,
+                control,
+                held,
+                store,
+                at,
+                Insn::Field(FieldAccess::GetField, index),
+                3,
+                goes_on,
+            )
+        }
+        181 => {
+            let index = index_behind(at.code, at.pc as usize);
+            step_known::<FieldPuts, S>(
+                classes,
+                linked,
+                methods,
+                texts,
+                verified,
+                frames,
+                control,
+                held,
+                store,
+                at,
+                Insn::Field(FieldAccess::PutField, index),
+                3,
+                goes_on,
+            )
+        }
+        182 => {
+            let index = index_behind(at.code, at.pc as usize);
+            step_known::<VirtualCalls, S>(
+                classes,
+                linked,
+                methods,
+                texts,
+                verified,
+                frames,
+                control,
+                held,
+                store,
+                at,
+                Insn::Invoke(Invocation::Virtual, index),
+                3,
+                goes_on,
+            )
+        }
+        183 => {
+            let index = index_behind(at.code, at.pc as usize);
+            step_known::<SpecialCalls, S>(
+                classes,
+                linked,
+                methods,
+                texts,
+                verified,
+                frames,
+                control,
+                held,
+                store,
+                at,
+                Insn::Invoke(Invocation::Special, index),
+                3,
+                goes_on,
+            )
+        }
+        184 => {
+            let index = index_behind(at.code, at.pc as usize);
+            step_known::<StaticCalls, S>(
+                classes,
+                linked,
+                methods,
+                texts,
+                verified,
+                frames,
+                control,
+                held,
+                store,
+                at,
+                Insn::Invoke(Invocation::Static, index),
+                3,
+                goes_on,
+            )
+        }
+        187 => {
+            let index = index_behind(at.code, at.pc as usize);
+            step_known::<Objects, S>(
+                classes,
+                linked,
+                methods,
+                texts,
+                verified,
+                frames,
+                control,
+                held,
+                store,
+                at,
+                Insn::New(index),
+                3,
+                goes_on,
+            )
+        }
+        192 => {
+            let index = index_behind(at.code, at.pc as usize);
+            step_known::<Objects, S>(
+                classes,
+                linked,
+                methods,
+                texts,
+                verified,
+                frames,
+                control,
+                held,
+                store,
+                at,
+                Insn::CheckCast(index),
+                3,
+                goes_on,
+            )
+        }
+        193 => {
+            let index = index_behind(at.code, at.pc as usize);
+            step_known::<Objects, S>(
+                classes,
+                linked,
+                methods,
+                texts,
+                verified,
+                frames,
+                control,
+                held,
+                store,
+                at,
+                Insn::InstanceOf(index),
+                3,
+                goes_on,
+            )
+        }
+        _ => step_apart(
+            classes, linked, methods, texts, verified, frames, control, held, store, at, goes_on,
+        ),
+    }
 }
 
 /// Executes the instruction at which the method in the registers stands (JVMS 2.11), and does what its effect asks for. Answers whether
-/// the method goes on in the registers; where it doesn't, all frames stand in their records, from which the newest goes on. Where the
-/// opcode says which instruction it is, but for an index, that is at hand.
+/// the method goes on in the registers; where it doesn't, all frames stand in their records, from which the newest goes on.
 ///
 /// # Errors
 ///
@@ -107,396 +611,21 @@ pub(crate) fn step_in_method<'a, 'l, S: Store>(
     ensures refused_room { OnErr result (S.room_left store.new ≡ S.room_left store.old) }
     ensures sure { IsTrue S.SURE → IsOk result }
 {
-    let opcode = opcode_at(at.code, at.pc as usize);
-    if let Some(kind) = element_loaded(opcode) {
-        return step_known::<Arrays, S>(
-            classes,
-            linked,
-            methods,
-            texts,
-            verified,
-            frames,
-            control,
-            held,
-            store,
-            at,
-            Insn::ArrayLoad(kind),
-            1,
-        );
-    }
-    if let Some(kind) = element_stored(opcode) {
-        return step_known::<Arrays, S>(
-            classes,
-            linked,
-            methods,
-            texts,
-            verified,
-            frames,
-            control,
-            held,
-            store,
-            at,
-            Insn::ArrayStore(kind),
-            1,
-        );
-    }
-    if let Some(kind) = value_returned(opcode) {
-        return step_known::<Returns, S>(
-            classes,
-            linked,
-            methods,
-            texts,
-            verified,
-            frames,
-            control,
-            held,
-            store,
-            at,
-            Insn::ReturnValue(kind),
-            1,
-        );
-    }
-    match opcode {
-        50 => step_known::<Arrays, S>(
-            classes,
-            linked,
-            methods,
-            texts,
-            verified,
-            frames,
-            control,
-            held,
-            store,
-            at,
-            Insn::ReferenceArrayLoad,
-            1,
-        ),
-        83 => step_known::<Objects, S>(
-            classes,
-            linked,
-            methods,
-            texts,
-            verified,
-            frames,
-            control,
-            held,
-            store,
-            at,
-            Insn::ReferenceArrayStore,
-            1,
-        ),
-        108 => step_known::<Divisions, S>(
-            classes,
-            linked,
-            methods,
-            texts,
-            verified,
-            frames,
-            control,
-            held,
-            store,
-            at,
-            Insn::Division(NumberKind::Int, DivisionOperator::Divide),
-            1,
-        ),
-        109 => step_known::<Divisions, S>(
-            classes,
-            linked,
-            methods,
-            texts,
-            verified,
-            frames,
-            control,
-            held,
-            store,
-            at,
-            Insn::Division(NumberKind::Long, DivisionOperator::Divide),
-            1,
-        ),
-        112 => step_known::<Divisions, S>(
-            classes,
-            linked,
-            methods,
-            texts,
-            verified,
-            frames,
-            control,
-            held,
-            store,
-            at,
-            Insn::Division(NumberKind::Int, DivisionOperator::Remainder),
-            1,
-        ),
-        113 => step_known::<Divisions, S>(
-            classes,
-            linked,
-            methods,
-            texts,
-            verified,
-            frames,
-            control,
-            held,
-            store,
-            at,
-            Insn::Division(NumberKind::Long, DivisionOperator::Remainder),
-            1,
-        ),
-        177 => step_known::<Returns, S>(
-            classes,
-            linked,
-            methods,
-            texts,
-            verified,
-            frames,
-            control,
-            held,
-            store,
-            at,
-            Insn::Return,
-            1,
-        ),
-        190 => step_known::<Arrays, S>(
-            classes,
-            linked,
-            methods,
-            texts,
-            verified,
-            frames,
-            control,
-            held,
-            store,
-            at,
-            Insn::ArrayLength,
-            1,
-        ),
-        18 => {
-            let index = index_in_byte(at.code, at.pc as usize);
-            step_known::<ConstantLoads, S>(
-                classes,
-                linked,
-                methods,
-                texts,
-                verified,
-                frames,
-                control,
-                held,
-                store,
-                at,
-                Insn::PoolConstant(index, IndexForm::Byte),
-                2,
-            )
-        }
-        19 => {
-            let index = index_behind(at.code, at.pc as usize);
-            step_known::<ConstantLoads, S>(
-                classes,
-                linked,
-                methods,
-                texts,
-                verified,
-                frames,
-                control,
-                held,
-                store,
-                at,
-                Insn::PoolConstant(index, IndexForm::Half),
-                3,
-            )
-        }
-        20 => {
-            let index = index_behind(at.code, at.pc as usize);
-            step_known::<ConstantLoads, S>(
-                classes,
-                linked,
-                methods,
-                texts,
-                verified,
-                frames,
-                control,
-                held,
-                store,
-                at,
-                Insn::PoolLongConstant(index),
-                3,
-            )
-        }
-        178 => {
-            let index = index_behind(at.code, at.pc as usize);
-            step_known::<FieldGets, S>(
-                classes,
-                linked,
-                methods,
-                texts,
-                verified,
-                frames,
-                control,
-                held,
-                store,
-                at,
-                Insn::Field(FieldAccess::GetStatic, index),
-                3,
-            )
-        }
-        179 => {
-            let index = index_behind(at.code, at.pc as usize);
-            step_known::<FieldPuts, S>(
-                classes,
-                linked,
-                methods,
-                texts,
-                verified,
-                frames,
-                control,
-                held,
-                store,
-                at,
-                Insn::Field(FieldAccess::PutStatic, index),
-                3,
-            )
-        }
-        180 => {
-            let index = index_behind(at.code, at.pc as usize);
-            step_known::<FieldGets, S>(
-                classes,
-                linked,
-                methods,
-                texts,
-                verified,
-                frames,
-                control,
-                held,
-                store,
-                at,
-                Insn::Field(FieldAccess::GetField, index),
-                3,
-            )
-        }
-        181 => {
-            let index = index_behind(at.code, at.pc as usize);
-            step_known::<FieldPuts, S>(
-                classes,
-                linked,
-                methods,
-                texts,
-                verified,
-                frames,
-                control,
-                held,
-                store,
-                at,
-                Insn::Field(FieldAccess::PutField, index),
-                3,
-            )
-        }
-        182 => {
-            let index = index_behind(at.code, at.pc as usize);
-            step_known::<VirtualCalls, S>(
-                classes,
-                linked,
-                methods,
-                texts,
-                verified,
-                frames,
-                control,
-                held,
-                store,
-                at,
-                Insn::Invoke(Invocation::Virtual, index),
-                3,
-            )
-        }
-        183 => {
-            let index = index_behind(at.code, at.pc as usize);
-            step_known::<SpecialCalls, S>(
-                classes,
-                linked,
-                methods,
-                texts,
-                verified,
-                frames,
-                control,
-                held,
-                store,
-                at,
-                Insn::Invoke(Invocation::Special, index),
-                3,
-            )
-        }
-        184 => {
-            let index = index_behind(at.code, at.pc as usize);
-            step_known::<StaticCalls, S>(
-                classes,
-                linked,
-                methods,
-                texts,
-                verified,
-                frames,
-                control,
-                held,
-                store,
-                at,
-                Insn::Invoke(Invocation::Static, index),
-                3,
-            )
-        }
-        187 => {
-            let index = index_behind(at.code, at.pc as usize);
-            step_known::<Objects, S>(
-                classes,
-                linked,
-                methods,
-                texts,
-                verified,
-                frames,
-                control,
-                held,
-                store,
-                at,
-                Insn::New(index),
-                3,
-            )
-        }
-        192 => {
-            let index = index_behind(at.code, at.pc as usize);
-            step_known::<Objects, S>(
-                classes,
-                linked,
-                methods,
-                texts,
-                verified,
-                frames,
-                control,
-                held,
-                store,
-                at,
-                Insn::CheckCast(index),
-                3,
-            )
-        }
-        193 => {
-            let index = index_behind(at.code, at.pc as usize);
-            step_known::<Objects, S>(
-                classes,
-                linked,
-                methods,
-                texts,
-                verified,
-                frames,
-                control,
-                held,
-                store,
-                at,
-                Insn::InstanceOf(index),
-                3,
-            )
-        }
-        _ => {
-            let mut own = *at;
-            let result = step_decoded(
-                classes, linked, methods, texts, verified, frames, control, held, store, &mut own,
-            );
-            *at = own;
-            result
-        }
+    let mut goes_on = true;
+    match step_at_hand(
+        classes,
+        linked,
+        methods,
+        texts,
+        verified,
+        frames,
+        control,
+        held,
+        store,
+        at,
+        &mut goes_on,
+    ) {
+        Ok(()) => Ok(goes_on),
+        Err(refused) => Err(refused),
     }
 }

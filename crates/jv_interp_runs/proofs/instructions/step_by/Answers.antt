@@ -203,3 +203,12 @@ returns-in-Err-clause-refused_frames g c =
       top = refl;
       left = refl;
     }
+
+pub returns-in-Ok-clause-same : goal.returns-in-Ok-clause-same
+returns-in-Ok-clause-same g c = c.execute.ensures.stays.same
+
+pub returns-in-Ok-Goes-clause-same : goal.returns-in-Ok-Goes-clause-same
+returns-in-Ok-Goes-clause-same g c = c.execute.ensures.stays.same
+
+pub returns-in-Err-clause-same : goal.returns-in-Err-clause-same
+returns-in-Err-clause-same g c = c.execute.ensures.stays.same

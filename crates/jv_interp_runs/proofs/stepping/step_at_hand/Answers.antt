@@ -2,7 +2,7 @@ use Rattle.jv_code.specs.Opcodes.{array_load_opcode, array_store_opcode, return_
 use Rattle.std.proofs.Common.{sym}
 use Rattle.jv_interp_runs.proofs.Known.{starts}
 use Rattle.jv_interp_runs.proofs.Operands.{with_index, with_byte, alone}
-use Rattle.jv_interp_runs.proofs.stepping.step_in_method.Goals as goal
+use Rattle.jv_interp_runs.proofs.stepping.step_at_hand.Goals as goal
 
 pub opcode_at-opcode-requires : goal.opcode_at-opcode-requires
 opcode_at-opcode-requires g c =
