@@ -1,9 +1,9 @@
 -- Local variables against those of frames of the map to which they flowed before.
-use Rattle.std.proofs.Common.{◌≡◌, ℕ, zero, suc, ◌+◌, ◌-◌, ◌<◌, ◌≤◌, Bool, true, false, not, ◌&&◌, ◌||◌, List, [], ◌∷◌, ◌++◌, length, map, drop, take, get_or, reverse, if◌then◌else◌, Option, Some, None, refl, sym, ap, subst, ◌∙◌, arith}
+use Rattle.std.proofs.Common.{◌≡◌, ℕ, zero, suc, ◌+◌, ◌-◌, ◌<◌, ◌≤◌, Bool, true, false, not, ◌&&◌, ◌||◌, List, [], ◌∷◌, ◌++◌, length, map, drop, take, get_or, replicate, nat_lt, reverse, if◌then◌else◌, Option, Some, None, refl, sym, ap, subst, ◌∙◌, arith}
 use Rattle.std.specs.Prelude.{slice_get, IsTrue, ◌==◌}
 use Rattle.std.specs.List.{All, list_all, list_any, remove, take-map}
 use Rattle.std.specs.Option.{option_map}
-use Rattle.std.proofs.lemmas.Bool.{eqb-true, eqb-false}
+use Rattle.std.proofs.lemmas.Bool.{eqb-true, eqb-false, ltb-true, ltb-false}
 use Rattle.std.proofs.lemmas.List.{length-map, length-append, drop-append-le, take-append-drop}
 use Rattle.std.proofs.lemmas.List.Elements.{All-append, All-take, All-drop, All-push}
 use Rattle.std.proofs.lemmas.List.Folds.{list_any-append}
@@ -26,10 +26,10 @@ use Rattle.jv_types.specs.Mapped.{EntryTypes, initial_types, names_of_types, wor
 use Rattle.jv_method_pass.specs.Pass.{Pass, HasRoom, names_in}
 use Rattle.jv_method_pass.specs.Inside.Kept.{SharesWith, locals_below}
 use Rattle.jv_method_pass.specs.Inside.Held.{HeldFrame, HoldsLocals, IsHeldBy, is_written, both_flow, flows_at}
-use Rattle.jv_method_pass.specs.Inside.Flowed.{FlowsBut, FlowsTo, HasFlowed, Lists, is_between, flows_but_stack, made_flag_flows}
+use Rattle.jv_method_pass.specs.Inside.Flowed.{AllFlowAt, OneFlowsNot, FlowsBut, FlowsTo, HasFlowed, Lists, is_between, flows_but_stack, made_flag_flows}
 use Rattle.jv_method_pass.specs.Inside.Moved.{Moves, MovedTo, Follows}
 use Rattle.jv_method_pass.proofs.Holding.{all_at, not_at, one_written, past_none}
-use Rattle.jv_method_pass.proofs.MovedLocals.{alike, dropped, taken_is, this_expanded}
+use Rattle.jv_method_pass.proofs.MovedLocals.{alike, at_low, at_high, expanded_length, dropped, taken_is, this_expanded}
 
 neither : (a b : Bool) → (a || b) ≡ false → (a ≡ false) × (b ≡ false)
 neither false false e = (refl, refl)
@@ -44,27 +44,40 @@ of_some e = cc
 
 -- ---- all flow, or one does not
 
-pub flow_each : (world : World) (locals made : List FrameType) → all_flow (flows world) locals made ≡ true → (k : ℕ) → flows_at world locals made k ≡ true
-flow_each world locals made all k = by_test (flows_at world locals made k) refl
-  where
-    by_test : (b : Bool) → flows_at world locals made k ≡ b → b ≡ true
-    by_test true e = refl
-    by_test false e = absurd (clash (sym all ∙ not_at world locals made k e))
+no_place : (world : World) (o : Option FrameType) → both_flow world o None ≡ true
+no_place world None = refl
+no_place world (Some t) = refl
 
-pub found : (world : World) (locals made : List FrameType) (writes : List ℕ) (f : FlowedFrame) (b : Bool) → FlowsBut world locals made writes f → length locals ≡ length made
+pub found : (world : World) (locals made : List FrameType) (writes : List ℕ) (f : FlowedFrame) → FlowsBut world locals made writes f
     → list_all (flows_at world locals made) (drop f.since writes) ≡ true
-    → (IsTrue b → (k : ℕ) → f.from ≤ k → k < f.to → flows_at world locals made k ≡ true)
-    → (b ≡ false → (k : ℕ) × (flows_at world locals made k ≡ false)) → b ≡ all_flow (flows world) locals made
-found world locals made writes f false but many since all one = let w = one refl in sym (not_at world locals made w.0 w.1)
-found world locals made writes f true but many since all one = sym (all_at world locals made many (λ k. by_written k (is_written (drop f.since writes) k) refl))
+    → ((k : ℕ) → f.from ≤ k → k < f.to → flows_at world locals made k ≡ true) → (k : ℕ) → flows_at world locals made k ≡ true
+found world locals made writes f but since all k = by_written k (is_written (drop f.since writes) k) refl
   where
     by_place : (k : ℕ) (b : Bool) → is_between f.from f.to k ≡ b → is_written (drop f.since writes) k ≡ false → flows_at world locals made k ≡ true
     by_place k false e not = but k not e
-    by_place k true e not = all refl k (grind (arith, e)) (grind (arith, e))
+    by_place k true e not = all k (grind (arith, e)) (grind (arith, e))
 
     by_written : (k : ℕ) (b : Bool) → is_written (drop f.since writes) k ≡ b → flows_at world locals made k ≡ true
     by_written k true e = one_written (flows_at world locals made) (drop f.since writes) k since e
     by_written k false e = by_place k (is_between f.from f.to k) refl e
+
+-- so do all where those at each place that was made do
+pub found_all : (world : World) (locals made : List FrameType) (count : ℕ) → count ≡ length made → ((k : ℕ) → 0 ≤ k → k < count → flows_at world locals made k ≡ true)
+    → (k : ℕ) → flows_at world locals made k ≡ true
+found_all world locals made count many all k = by_test (nat_lt k count) refl
+  where
+    by_test : (b : Bool) → nat_lt k count ≡ b → flows_at world locals made k ≡ true
+    by_test true lt = all k (omega arith) (ltb-true k count lt)
+    by_test false past =
+        ap (both_flow world (slice_get locals k)) (past_none made k (omega (arith, many, ltb-false k count past))) ∙ no_place world (slice_get locals k)
+
+pub one_fails : (test : ℕ → Bool) (places : List ℕ) → list_all test places ≡ false → (k : ℕ) × (test k ≡ false)
+one_fails test [] e = absurd (clash e)
+one_fails test (p ∷ places) e = by_test (test p) refl (λ rest. one_fails test places rest)
+  where
+    by_test : (b : Bool) → test p ≡ b → (list_all test places ≡ false → (k : ℕ) × (test k ≡ false)) → (k : ℕ) × (test k ≡ false)
+    by_test false t more = (p, t)
+    by_test true t more = more (sym (ap (λ b. b && list_all test places) t) ∙ e)
 
 -- a wider place
 wider : (a b c d k : ℕ) → is_between a b k ≡ false → a ≤ c → d ≤ b → is_between c d k ≡ false
@@ -74,9 +87,37 @@ wider a b c d k e le ge = by_test (is_between c d k) refl
     by_test false f = refl
     by_test true f = absurd (grind (arith, e, f, le, ge))
 
-no_place : (world : World) (o : Option FrameType) → both_flow world o None ≡ true
-no_place world None = refl
-no_place world (Some t) = refl
+-- behind the words of entries nothing is asked, however many local variables are made
+to_tops : (world : World) (o : Option FrameType) (m k : ℕ) → both_flow world o (slice_get (replicate m variants.Top) k) ≡ true
+to_tops world o zero zero = no_place world o
+to_tops world o zero (suc k) = no_place world o
+to_tops world None (suc m) zero = refl
+to_tops world (Some t) (suc m) zero = refl
+to_tops world o (suc m) (suc k) = to_tops world o m k
+
+narrower : (world : World) (locals es : List FrameType) (m n k : ℕ) → flows_at world locals (expanded m (reverse es)) k ≡ flows_at world locals (expanded n (reverse es)) k
+narrower world locals es m n k = by_test (nat_lt k (words es)) refl
+  where
+    by_test : (b : Bool) → nat_lt k (words es) ≡ b → flows_at world locals (expanded m (reverse es)) k ≡ flows_at world locals (expanded n (reverse es)) k
+    by_test true lt =
+        let within : k < words es = ltb-true k (words es) lt in
+        ap (both_flow world (slice_get locals k)) (at_low m zero es k within ∙ sym (at_low n zero es k within))
+    by_test false past =
+        let behind : words es ≤ k = ltb-false k (words es) past in
+        ap (both_flow world (slice_get locals k)) (at_high m es k behind)
+        ∙ (to_tops world (slice_get locals k) m k ∙ (sym (to_tops world (slice_get locals k) n k) ∙ ap (both_flow world (slice_get locals k)) (sym (at_high n es k behind))))
+
+-- so they flow to all entries exactly where each flows to what was made
+pub flow_narrower : (world : World) (locals made es : List FrameType) (m n : ℕ) (b : Bool) → made ≡ expanded m (reverse es) → length locals ≡ n → words es ≤ n
+    → (IsTrue b → (k : ℕ) → flows_at world locals made k ≡ true) → (b ≡ false → (k : ℕ) × (flows_at world locals made k ≡ false))
+    → b ≡ all_flow (flows world) locals (expanded n (reverse es))
+flow_narrower world locals made es m n true e many room all one =
+    sym (all_at world locals (expanded n (reverse es)) (many ∙ sym (expanded_length n es room))
+    (λ k. sym (narrower world locals es m n k) ∙ (ap (λ (ts : List FrameType). flows_at world locals ts k) (sym e) ∙ all refl k)))
+flow_narrower world locals made es m n false e many room all one =
+    let w = one refl in
+    sym (not_at world locals (expanded n (reverse es)) w.0
+    (sym (narrower world locals es m n w.0) ∙ (ap (λ (ts : List FrameType). flows_at world locals ts w.0) (sym e) ∙ w.1)))
 
 -- ---- `this` among types
 
@@ -142,6 +183,7 @@ module _ (pass : Pass) where
       record {
         made = h.made;
         flag = h.flag;
+        room = h.room;
         many = h.many;
         within = omega (arith, h.within, length-append writes places);
         flow = λ k u out.
@@ -159,6 +201,7 @@ module _ (pass : Pass) where
       record {
         made = h.made;
         flag = h.flag;
+        room = h.room;
         many = h.many;
         within = h.within;
         flow = λ k u out.
@@ -209,24 +252,24 @@ this_in_front below above olds news none low =
 module _ (pass : Pass) where
   pub moved_is : (place other count above from : ℕ) (types : EntryTypes) (old moved new : NumberFrame) (map : ReadFrame) → types ≡ pass.types
       → (s : SharesWith pass place other count above) → slice_get pass.frames other ≡ Some map → HasRoom pass.types pass.max_locals map
-      → length old.locals ≡ pass.max_locals → locals_of pass.types old ≡ expanded_entries pass.types pass.max_locals s.frame.locals
+      → locals_of pass.types old ≡ expanded_entries pass.types (length old.locals) s.frame.locals
       → from ≡ words (types_of_entries types (drop above map.locals)) → Moves types count above map old moved
       → new ≡ with_flag new.flag_this_uninit moved
       → old.flag_this_uninit ≡ list_any is_uninitialized_this (reverse (types_of_entries pass.types s.frame.locals))
       → (old.flag_this_uninit ≡ true → (names : List (List ℕ))
       → new.flag_this_uninit ≡ list_any (is_same_object (typed names variants.UninitializedThis)) (typed_all names new.locals))
       → (old.flag_this_uninit ≡ false → new.flag_this_uninit ≡ list_any is_uninitialized_this (types_of_entries types (take above map.locals)))
-      → (high : ℕ) → count ≤ high → map.local_words ≤ high → length moved.locals ≡ length old.locals → MovedTo pass map.locals from high old new
-  moved_is place other count above from types old moved new map e s at room many made start moves same was flag front high less more size =
-      let n = pass.max_locals in
+      → (high : ℕ) → count ≤ high → map.local_words ≤ high → high ≤ length old.locals → length moved.locals ≡ length old.locals
+      → MovedTo pass map.locals from high old new
+  moved_is place other count above from types old moved new map e s at room made start moves same was flag front high less more fits size =
+      let n = length old.locals in
       let entries = s.frame.locals in
       let shared : drop s.below entries ≡ drop above map.locals =
       of_some (ap (option_map (locals_below s.below)) (sym s.at) ∙ (s.shared ∙ ap (option_map (locals_below above)) at)) in
       let counted : words (types_of_entries pass.types entries) ≡ count = sym (s.words ∙ s.room.words) in
       let here : Moves pass.types count above map old moved = subst (λ (t : EntryTypes). Moves t count above map old moved) e moves in
       let there : locals_of pass.types moved ≡ expanded_entries pass.types n map.locals =
-      here entries s.below counted shared (made ∙ ap (λ (m : ℕ). expanded_entries pass.types m entries) (sym many))
-      ∙ ap (λ (m : ℕ). expanded_entries pass.types m map.locals) many in
+      here entries s.below counted shared made in
       let now : locals_of pass.types new ≡ expanded_entries pass.types n map.locals = ap (λ (f : NumberFrame). locals_of pass.types f) same ∙ there in
       let old_types = types_of_entries pass.types entries in
       let new_types = types_of_entries pass.types map.locals in
@@ -245,7 +288,8 @@ module _ (pass : Pass) where
       record {
         made = now;
         flag = by_flag old.flag_this_uninit refl;
-        many = ap (λ (f : NumberFrame). length f.locals) same ∙ (size ∙ many);
+        many = ap (λ (f : NumberFrame). length f.locals) same ∙ size;
+        room = omega (arith, room.words, more, fits);
         outside = λ k out.
             ap (λ (ts : List FrameType). slice_get ts k) now
             ∙ (sym (alike n s.below above old_types new_types high k low (omega (arith, counted, less)) (omega (arith, room.words, more)) (ap (λ (m : ℕ). is_between m high k) (sym begins) ∙ out))
@@ -263,9 +307,10 @@ module _ (pass : Pass) where
       let is : map.locals ≡ entries = of_some (ap (option_map locals_in) (sym at) ∙ found) in
       subst (λ (es : List FrameEntry). FlowsTo pass es writes locals (record { place = place; made = new; since = old.since; from = low; to = high })) is
       (record {
-        made = m.made;
+        made = m.made ∙ ap (λ (n : ℕ). expanded_entries pass.types n map.locals) (sym m.many);
         flag = m.flag;
-        many = m.many;
+        room = omega (arith, m.room, m.many);
+        many = omega (arith, m.many, h.many);
         within = h.within;
         flow = λ k u out.
             ap (both_flow (world_of_types pass.types) (slice_get (typed_all (names_in pass) locals) k)) (m.outside k (wider low high from to k out low_from high_to))
@@ -274,23 +319,24 @@ module _ (pass : Pass) where
 
   -- a frame that is made to be kept
   pub begun : (place since to : ℕ) (types : EntryTypes) (made : NumberFrame) (map : ReadFrame) → types ≡ pass.types
-      → slice_get pass.frames place ≡ Some map → length made.locals ≡ pass.max_locals → to ≡ pass.max_locals
-      → locals_of types made ≡ expanded_entries types pass.max_locals map.locals
+      → slice_get pass.frames place ≡ Some map → words (types_of_entries types map.locals) ≤ length made.locals → length made.locals ≤ pass.max_locals
+      → to ≡ length made.locals → locals_of types made ≡ expanded_entries types (length made.locals) map.locals
       → made.flag_this_uninit ≡ list_any is_uninitialized_this (reverse (types_of_entries types map.locals))
       → (writes : List ℕ) (locals : List Item) → since ≤ length writes
       → HasFlowed pass writes locals (record { place = place; made = made; since = since; from = 0; to = to })
-  begun place since to types made map e at many end is flag writes locals within = λ entries found.
+  begun place since to types made map e at room many end is flag writes locals within = λ entries found.
       let same : map.locals ≡ entries = of_some (ap (option_map locals_in) (sym at) ∙ found) in
       subst (λ (es : List FrameEntry). FlowsTo pass es writes locals (record { place = place; made = made; since = since; from = 0; to = to })) same
       (record {
-        made = subst (λ (t : EntryTypes). locals_of t made ≡ expanded_entries t pass.max_locals map.locals) e is;
+        made = subst (λ (t : EntryTypes). locals_of t made ≡ expanded_entries t (length made.locals) map.locals) e is;
         flag = flag ∙ ap (λ (t : EntryTypes). list_any is_uninitialized_this (reverse (types_of_entries t map.locals))) e;
+        room = subst (λ (t : EntryTypes). words (types_of_entries t map.locals) ≤ length made.locals) e room;
         many = many;
         within = within;
         flow = λ k u out.
             let past : to ≤ k = grind (arith, out) in
             ap (both_flow (world_of_types pass.types) (slice_get (typed_all (names_in pass) locals) k))
-            (past_none (locals_of pass.types made) k (omega (arith, past, end, many, length-map made.locals (typed (names_in pass)))))
+            (past_none (locals_of pass.types made) k (omega (arith, past, end, length-map made.locals (typed (names_in pass)))))
             ∙ no_place (world_of_types pass.types) (slice_get (typed_all (names_in pass) locals) k);
       })
 
@@ -300,37 +346,43 @@ module _ (pass : Pass) where
       → option_map locals_in (slice_get pass.frames f.place) ≡ option_map locals_in (slice_get pass.frames place) → FlowsTo pass map.locals writes locals f
   is_of writes locals f place map has at same = has map.locals (same ∙ ap (option_map locals_in) at)
 
+  pub all_again : (types : EntryTypes) (writes : List ℕ) (frame : NumberFrame) (f : FlowedFrame) (map : ReadFrame) (b : Bool) → types ≡ pass.types
+      → FlowsTo pass map.locals writes frame.locals f
+      → (FlowsBut (world_of_types types) (locals_of types frame) (locals_of types f.made) writes f → IsTrue b → AllFlowAt types frame f)
+      → IsTrue b → AllFlowAt pass.types frame f
+  all_again types writes frame f map b e h all =
+      subst (λ (t : EntryTypes). FlowsBut (world_of_types t) (locals_of t frame) (locals_of t f.made) writes f → IsTrue b → AllFlowAt t frame f) e all h.flow
+
   -- whether local variables flow to those of the frame of the map
   pub locals_again : (types : EntryTypes) (writes : List ℕ) (frame : NumberFrame) (f : FlowedFrame) (map : ReadFrame) (b : Bool) → types ≡ pass.types
       → FlowsTo pass map.locals writes frame.locals f → length frame.locals ≡ pass.max_locals
-      → (FlowsBut (world_of_types types) (locals_of types frame) (locals_of types f.made) writes f → length frame.locals ≡ length f.made.locals
-      → b ≡ all_flow (flows (world_of_types types)) (locals_of types frame) (locals_of types f.made))
-      → b ≡ all_flow (flows (world_of_types pass.types)) (locals_of pass.types frame) (locals_of pass.types f.made)
-  locals_again types writes frame f map b e h room is =
-      subst (λ (t : EntryTypes). FlowsBut (world_of_types t) (locals_of t frame) (locals_of t f.made) writes f → length frame.locals ≡ length f.made.locals
-      → b ≡ all_flow (flows (world_of_types t)) (locals_of t frame) (locals_of t f.made)) e is h.flow (room ∙ sym h.many)
+      → (FlowsBut (world_of_types types) (locals_of types frame) (locals_of types f.made) writes f → IsTrue b → AllFlowAt types frame f)
+      → (b ≡ false → OneFlowsNot types frame f) → b ≡ locals_flow_to pass.types frame None map
+  locals_again types writes frame f map b e h many all one =
+      flow_narrower (world_of_types pass.types) (locals_of pass.types frame) (locals_of pass.types f.made) (types_of_entries pass.types map.locals) (length f.made.locals)
+      (length frame.locals) b h.made (length-map frame.locals (typed (names_in pass))) (omega (arith, h.room, h.many, many))
+      (all_again types writes frame f map b e h all) (subst (λ (t : EntryTypes). b ≡ false → OneFlowsNot t frame f) e one)
 
   pub flows_again : (writes : List ℕ) (frame : NumberFrame) (f : FlowedFrame) (map : ReadFrame) (b : Bool)
-      → FlowsTo pass map.locals writes frame.locals f → length frame.locals ≡ pass.max_locals
-      → b ≡ all_flow (flows (world_of_types pass.types)) (locals_of pass.types frame) (locals_of pass.types f.made)
+      → FlowsTo pass map.locals writes frame.locals f → b ≡ locals_flow_to pass.types frame None map
       → (b && made_flag_flows f frame) ≡ flows_but_stack pass.types frame map
-  flows_again writes frame f map b h room is =
-      ap (λ (x : Bool). x && made_flag_flows f frame)
-      (is ∙ ap (all_flow (flows (world_of_types pass.types)) (locals_of pass.types frame)) (h.made ∙ ap (λ (n : ℕ). expanded_entries pass.types n map.locals) (sym room)))
+  flows_again writes frame f map b h is =
+      ap (λ (x : Bool). x && made_flag_flows f frame) is
       ∙ ap (λ (x : Bool). locals_flow_to pass.types frame None map && (not frame.flag_this_uninit || x)) h.flag
 
   -- a frame to which all local variables flow
   pub kept_again : (writes : List ℕ) (locals : List Item) (f : FlowedFrame) (since : ℕ) → HasFlowed pass writes locals f → since ≤ length writes
-      → all_flow (flows (world_of_types pass.types)) (typed_all (names_in pass) locals) (locals_of pass.types f.made) ≡ true
+      → ((k : ℕ) → flows_at (world_of_types pass.types) (typed_all (names_in pass) locals) (locals_of pass.types f.made) k ≡ true)
       → HasFlowed pass writes locals (record { place = f.place; made = f.made; since = since; from = 65535; to = 0 })
   kept_again writes locals f since has within all = λ entries at.
       let h = has entries at in
       record {
         made = h.made;
         flag = h.flag;
+        room = h.room;
         many = h.many;
         within = within;
-        flow = λ k u out. flow_each (world_of_types pass.types) (typed_all (names_in pass) locals) (locals_of pass.types f.made) all k;
+        flow = λ k u out. all k;
       }
 
   -- ---- what is held
@@ -342,13 +394,13 @@ module _ (pass : Pass) where
   follows_held held place from to old new base map at follows was there same covers locals has = subst (λ (o : Option ℕ). IsHeldBy pass o new locals) (sym there) (λ entries found.
       let before : IsHeldBy pass (Some held) old locals = subst (λ (o : Option ℕ). IsHeldBy pass o old locals) was has in
       let h = before follows.0 follows.1 in
-      let m = follows.2 h.made h.flag in
+      let m = follows.2 (h.made ∙ ap (λ (n : ℕ). expanded_entries pass.types n follows.0) (sym h.many)) h.flag in
       let is : map.locals ≡ entries = of_some (ap (option_map locals_in) (sym at) ∙ found) in
       subst (λ (es : List FrameEntry). HoldsLocals pass es new locals) is
       (record {
-        made = ap (λ (f : NumberFrame). locals_of pass.types f) same ∙ m.made;
+        made = ap (λ (f : NumberFrame). locals_of pass.types f) same ∙ (m.made ∙ ap (λ (n : ℕ). expanded_entries pass.types n map.locals) h.many);
         flag = ap (λ (f : NumberFrame). f.flag_this_uninit) same ∙ m.flag;
-        many = ap (λ (f : NumberFrame). length f.locals) same ∙ m.many;
+        many = ap (λ (f : NumberFrame). length f.locals) same ∙ (m.many ∙ h.many);
         same = λ k u.
             let both = covers k u in
             h.same k both.1 ∙ (sym (m.outside k both.0) ∙ ap (λ (f : NumberFrame). slice_get (locals_of pass.types f) k) (sym same));

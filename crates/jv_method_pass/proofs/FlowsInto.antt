@@ -12,7 +12,7 @@ use Rattle.jv_meaning_world.specs.World.{Loaded, World}
 use Rattle.jv_meaning_world.specs.FrameFlow.{frame_flows}
 use Rattle.jv_meaning_typing.specs.Environment.{Environment, current_class}
 use Rattle.jv_meaning_typing.specs.FrameChanges.{with_stack}
-use Rattle.jv_meaning_typing.specs.Rule.{rule, constructed_object, handler_frame, without_object}
+use Rattle.jv_meaning_typing.specs.Rule.{rule, constructed_object, handler_frame}
 use Rattle.jv_meaning_typing.specs.Typing.{flows_into, frame_at, handles, catch_type, first_frame, entries_before}
 use Rattle.jv_types.specs.Typed.{TypeWorld, typed, typed_all}
 use Rattle.jv_types.specs.Numbered.{Item, NumberFrame, frame_of}
@@ -24,6 +24,7 @@ use Rattle.std.proofs.lemmas.List.{length-map}
 use Rattle.jv_types.specs.Mapped.{EntryTypes, names_of_types, world_of_types, frame_by_types, thrown_frame}
 use Rattle.jv_method_pass.specs.Pass.{Pass, IsOfPass, names_in, maps_of}
 use Rattle.jv_method_pass.specs.Inside.Kept.{IsPass}
+use Rattle.jv_method_pass.specs.Inside.Settled.{IsLeft}
 use Rattle.jv_method_pass.specs.Inside.Walk.{merged, when_falls}
 
 module _ (pass : Pass) (entries : List Item) (count : ℕ) (kept : IsPass pass entries count) (env : Environment) (is : IsOfPass pass env) where
@@ -59,10 +60,9 @@ module _ (pass : Pass) (entries : List Item) (count : ℕ) (kept : IsPass pass e
 
   -- what a handler begins with against one of the map
   thrown_is : (insn : Instruction) (f : NumberFrame) (object : Option Item) (thrown : Item)
-      → option_map (typed (names_in pass)) object ≡ constructed_object env insn (frame_of (names_in pass) f)
-      → thrown_frame (names_in pass) f object thrown ≡ with_stack (handler_frame env insn (frame_of (names_in pass) f)) (typed (names_in pass) thrown ∷ [])
+      → IsLeft env insn (names_in pass) f object → thrown_frame (names_in pass) f object thrown ≡ with_stack (handler_frame env insn (frame_of (names_in pass) f)) (typed (names_in pass) thrown ∷ [])
   thrown_is insn f object thrown e =
-      ap (λ (o : Option FrameType). record { locals = without_object o (typed_all (names_in pass) f.locals); stack = typed (names_in pass) thrown ∷ []; flag_this_uninit = f.flag_this_uninit }) e
+      ap (λ (locals : List FrameType). record { locals = locals; stack = typed (names_in pass) thrown ∷ []; flag_this_uninit = f.flag_this_uninit }) e
 
   handles_is : (insn : Instruction) (frame : Frame) (handler : Handler) (t : FrameType) → Some t ≡ catch_type env handler.catch_type
       → flows_into env (with_stack (handler_frame env insn frame) (t ∷ [])) (frame_at (maps_of pass) handler.handler_pc) ≡ handles env (maps_of pass) (handler_frame env insn frame) handler
@@ -82,7 +82,7 @@ module _ (pass : Pass) (entries : List Item) (count : ℕ) (kept : IsPass pass e
   pub handles_there : (types : EntryTypes) (insn : Instruction) (f : NumberFrame) (object : Option Item) (thrown : Item) (handler : Handler) (map : ReadFrame) (r : Bool)
       → types ≡ pass.types → length f.locals ≡ pass.max_locals
       → r ≡ frame_flows (world_of_types types) (thrown_frame (names_of_types types) f object thrown) (frame_by_types types (length f.locals) map)
-      → option_map (typed (names_in pass)) object ≡ constructed_object env insn (frame_of (names_in pass) f)
+      → IsLeft env insn (names_in pass) f object
       → Some (typed (names_in pass) thrown) ≡ catch_type env handler.catch_type
       → Some (frame_by_types pass.types pass.max_locals map) ≡ frame_at (maps_of pass) handler.handler_pc
       → r ≡ handles env (maps_of pass) (handler_frame env insn (frame_of (names_in pass) f)) handler

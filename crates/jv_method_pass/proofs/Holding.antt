@@ -4,7 +4,8 @@ use Rattle.std.specs.Prelude.{◌==◌, slice_get}
 use Rattle.std.specs.List.{list_all}
 use Rattle.std.specs.Option.{option_map}
 use Rattle.std.proofs.lemmas.Bool.{eqb-true, eqb-false}
-use Rattle.std.proofs.lemmas.List.{length-map, length-set}
+use Rattle.std.proofs.Math.Seq.{drop-cons}
+use Rattle.std.proofs.lemmas.List.{length-map, length-set, get_or-set_other}
 use Rattle.std.proofs.lemmas.Option.{slice_get-map}
 use Rattle.jv_frames.specs.declared.entry.FrameEntry.{FrameEntry}
 use Rattle.jv_frames.specs.Entries.{ReadFrame, locals_in}
@@ -18,7 +19,7 @@ use Rattle.jv_types.specs.Typed.{typed, typed_all}
 use Rattle.jv_types.specs.Numbered.{Item, NumberFrame, frame_of, with_flag, with_locals, with_stack}
 use Rattle.jv_types.specs.Mapped.{EntryTypes, names_of_types, world_of_types, types_of_entries, expanded_entries, frame_by_types, locals_of, stack_of, locals_flow_to, stack_flows_to, flows_to_map, thrown_flows_to_map}
 use Rattle.jv_method_pass.specs.Pass.{Pass, names_in}
-use Rattle.jv_method_pass.specs.Inside.Held.{HeldFrame, is_written, AreSameBut, HoldsLocals, IsHeldBy, Writes, WritesBy, both_flow, flows_at, with_item, with_held_at, held_locals_flow, held_flag_flows}
+use Rattle.jv_method_pass.specs.Inside.Held.{HeldFrame, is_written, unwritten, AreMarked, AreSameBut, HoldsLocals, IsHeldBy, Writes, WritesBy, both_flow, flows_at, with_item, with_held_at, held_locals_flow, held_flag_flows}
 use Rattle.jv_method_pass.proofs.Settings.{frame_made}
 
 -- ---- all flow where all that were written do
@@ -158,6 +159,29 @@ none_there locals held place rest many none same k e = by_place (place == k) ref
         subst (λ (n : ℕ). slice_get locals n ≡ slice_get held n) (eqb-true place k s) (past_none locals place (omega (arith, many, none_past held place none)) ∙ sym none)
     by_place false s = same k (ap (λ b. b || is_written rest k) s ∙ e)
 
+-- ---- marks of what was written are taken away
+
+pub unmarked : (places : List ℕ) (marks : List Bool) (k d : ℕ) → k < length places → AreMarked (drop k places) marks
+    → AreMarked (drop (k + 1) places) (set marks (get_or places k d) false)
+unmarked places marks k d lt marked n e =
+    let place = get_or places k d in
+    let next : suc k ≡ k + 1 = omega arith in
+    subst (λ (m : ℕ). is_written (drop m places) n ≡ true) next (by_place (place == n) refl)
+  where
+    here : (xs : List Bool) (i : ℕ) → get_or (set xs i false) i false ≡ false
+    here [] zero = refl
+    here [] (suc i) = refl
+    here (x ∷ xs) zero = refl
+    here (x ∷ xs) (suc i) = here xs i
+
+    by_place : (b : Bool) → (get_or places k d == n) ≡ b → is_written (drop (suc k) places) n ≡ true
+    by_place true s =
+        absurd (clash (sym e ∙ subst (λ (m : ℕ). get_or (set marks (get_or places k d) false) m false ≡ false) (eqb-true (get_or places k d) n s) (here marks (get_or places k d))))
+    by_place false s =
+        let was : get_or marks n false ≡ true = sym (get_or-set_other marks (get_or places k d) n false false (λ same. eqb-false (get_or places k d) n s (sym same))) ∙ e in
+        sym (ap (λ b. b || is_written (drop (suc k) places) n) s)
+        ∙ (ap (λ (ps : List ℕ). is_written ps n) (sym (drop-cons places k d lt)) ∙ marked n was)
+
 -- ---- by the numbers of names
 
 pub set_typed : (names : List (List ℕ)) (items : List Item) (place : ℕ) (item : Item) → typed_all names (set items place item) ≡ set (typed_all names items) place (typed names item)
@@ -204,18 +228,18 @@ put_next names held locals places k d lt many same =
     dropped (y ∷ xs) zero d lt = refl
     dropped (y ∷ xs) (suc k) d lt = dropped xs k d (omega (arith, lt))
 
+pub none_left : (xs : List ℕ) (k : ℕ) → length xs ≤ k → drop k xs ≡ []
+none_left [] zero le = refl
+none_left [] (suc k) le = refl
+none_left (x ∷ xs) zero le = absurd (omega (arith, le))
+none_left (x ∷ xs) (suc k) le = none_left xs k (omega (arith, le))
+
 -- nothing is left to put back
 pub all_put : (names : List (List ℕ)) (held locals : List Item) (places : List ℕ) (k : ℕ) → length places ≤ k
     → AreSameBut (drop k places) (typed_all names held) (typed_all names locals) → typed_all names locals ≡ typed_all names held
 all_put names held locals places k past same =
     same_everywhere (typed_all names locals) (typed_all names held)
     (λ n. same n (ap (λ (ps : List ℕ). is_written ps n) (none_left places k past)))
-  where
-    none_left : (xs : List ℕ) (k : ℕ) → length xs ≤ k → drop k xs ≡ []
-    none_left [] zero le = refl
-    none_left [] (suc k) le = refl
-    none_left (x ∷ xs) zero le = absurd (omega (arith, le))
-    none_left (x ∷ xs) (suc k) le = none_left xs k (omega (arith, le))
 
 -- ---- what is held in a pass
 
@@ -263,9 +287,9 @@ module _ (pass : Pass) where
       ∙ (ap (λ (b : Bool). b && stack_flows_to pass.types (typed (names_in pass) thrown ∷ []) map && held_flag_flows held f) (held_flow held f map h room)
       ∙ ap (λ (b : Bool). locals_flow_to pass.types f None map && stack_flows_to pass.types (typed (names_in pass) thrown ∷ []) map && (not f.flag_this_uninit || b)) h.flag))
 
-  -- the local variables are those that are held
+  -- the local variables are those that are held, and none was written since
   pub held_again : (place : Option ℕ) (held : HeldFrame) (old new : List Item) → IsHeldBy pass place held old
-      → typed_all (names_in pass) new ≡ locals_of pass.types held.base → IsHeldBy pass place held new
+      → typed_all (names_in pass) new ≡ locals_of pass.types held.base → IsHeldBy pass place (unwritten held) new
   held_again None held old new h e = tt
   held_again (Some p) held old new h e = λ entries at.
       let k = h entries at in

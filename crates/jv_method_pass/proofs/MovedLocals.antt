@@ -59,7 +59,7 @@ pub expanded_is : (count : ℕ) (es : List FrameType) → expanded count (revers
 expanded_is count es = ap (λ n. words_of_entries es ++ replicate (count - n) types.Top) (sym (words_reversed es))
 
 -- below the words of all but the last entries stands what they have there
-at_low : (count n : ℕ) (es : List FrameType) (k : ℕ) → k < words (drop n es) → slice_get (expanded count (reverse es)) k ≡ slice_get (words_of_entries (drop n es)) k
+pub at_low : (count n : ℕ) (es : List FrameType) (k : ℕ) → k < words (drop n es) → slice_get (expanded count (reverse es)) k ≡ slice_get (words_of_entries (drop n es)) k
 at_low count n es k lt =
     let r = low_part n es in
     ap (λ ls. slice_get ls k) (expanded_is count es ∙ (ap (λ ws. ws ++ replicate (count - words es) types.Top) r.1 ∙ append_assoc (words_of_entries (drop n es)) r.0 (replicate (count - words es) types.Top)))
@@ -80,6 +80,11 @@ at_high count es k le =
     by_test false past =
         let behind : count ≤ k = ltb-false k count past in
         none_of (count - words es) (k - words es) types.Top (omega (arith, behind, le)) ∙ sym (none_of count k types.Top behind)
+
+pub expanded_length : (count : ℕ) (es : List FrameType) → words es ≤ count → length (expanded count (reverse es)) ≡ count
+expanded_length count es room =
+    ap length (expanded_is count es)
+    ∙ omega (arith, length-append (words_of_entries es) (replicate (count - words es) types.Top), length-replicate {A = FrameType} (count - words es) types.Top, words_length es, room)
 
 -- two frames that share all but the last entries are the same outside of these
 pub alike : (count n m : ℕ) (old new : List FrameType) (to k : ℕ) → drop n old ≡ drop m new → words old ≤ to → words new ≤ to → is_between (words (drop m new)) to k ≡ false

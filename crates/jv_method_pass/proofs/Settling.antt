@@ -1,23 +1,24 @@
 -- Handlers that are settled: what they ask of a frame is the same as before.
 use Rattle.std.proofs.Common.{◌≡◌, ℕ, Bool, true, false, List, [], ◌∷◌, Option, Some, None, refl, sym, ap, subst, ◌∙◌}
 use Rattle.std.specs.Prelude.{IfSome, IsTrue, not, ◌||◌, ◌&&◌, if◌then◌else◌}
-use Rattle.std.specs.List.{list_all}
+use Rattle.std.specs.List.{list_all, list_any}
 use Rattle.std.specs.Option.{option_map}
 use Rattle.std.proofs.lemmas.Bool.{and_parts}
 use Rattle.jv_format.specs.declared.handlers.Handler.{Handler}
+use Rattle.jv_frames.specs.declared.verification.VerificationTypeOf.TheVariants as types
 use Rattle.jv_frames.specs.Types.{FrameType}
 use Rattle.jv_frames.specs.Frames.{Frame, PlacedFrame}
 use Rattle.jv_code.specs.Insns.{Instruction}
 use Rattle.jv_code.specs.declared.insn.Insn.TheVariants as insns
 use Rattle.jv_code.specs.declared.kinds.Invocation.TheVariants as invocations
 use Rattle.jv_meaning_typing.specs.Environment.{Environment}
-use Rattle.jv_meaning_typing.specs.FrameChanges.{with_stack}
+use Rattle.jv_meaning_typing.specs.FrameChanges.{is_same_object, with_stack}
 use Rattle.jv_meaning_typing.specs.Rule.{rule, constructed_object, handler_frame, without_object}
 use Rattle.jv_meaning_typing.specs.Typing.{covers, handles, handlers_hold}
 use Rattle.jv_rules.specs.Laws.{keeps_locals, KeepsLocals}
-use Rattle.jv_types.specs.Typed.{typed}
-use Rattle.jv_types.specs.Numbered.{Item}
-use Rattle.jv_method_pass.specs.Inside.Settled.{hold_where_unsettled, AreSettled}
+use Rattle.jv_types.specs.Typed.{typed, typed_all}
+use Rattle.jv_types.specs.Numbered.{Item, NumberFrame, frame_of}
+use Rattle.jv_method_pass.specs.Inside.Settled.{hold_where_unsettled, AreSettled, IsLeft}
 use Rattle.jv_method_pass.specs.Inside.Walk.{merged, when_falls}
 
 -- an instruction that keeps local variables constructs no object
@@ -56,6 +57,22 @@ none_constructed env (insns.LookupSwitch padding default pairs) frame h = refl
 none_constructed env insns.ReferenceArrayStore frame h = refl
 none_constructed env (insns.NewArray element) frame h = refl
 none_constructed env insns.Throw frame h = refl
+
+-- where no local variable holds an object, none changes without it
+pub without_unheld : (object : FrameType) (locals : List FrameType) → list_any (is_same_object object) locals ≡ false → without_object (Some object) locals ≡ locals
+without_unheld object [] e = refl
+without_unheld object (t ∷ locals) e = by_test (is_same_object object t) refl (λ rest. without_unheld object locals rest)
+  where
+    clash : true ≡ false → ⊥
+    clash e = cc
+
+    by_test : (b : Bool) → is_same_object object t ≡ b
+        → (list_any (is_same_object object) locals ≡ false → without_object (Some object) locals ≡ locals)
+        → without_object (Some object) (t ∷ locals) ≡ t ∷ locals
+    by_test true s more = absurd (clash (sym (ap (λ (b : Bool). b || list_any (is_same_object object) locals) s) ∙ e))
+    by_test false s more =
+        ap (λ (b : Bool). (if b then types.Top else t) ∷ without_object (Some object) locals) s
+        ∙ ap (λ (ts : List FrameType). t ∷ ts) (more (sym (ap (λ (b : Bool). b || list_any (is_same_object object) locals) s) ∙ e))
 
 -- where no object is constructed, a handler asks of the local variables and the flag
 bare : (env : Environment) (insn : Instruction) (frame : Frame) → constructed_object env insn frame ≡ None → handler_frame env insn frame ≡ with_stack frame []
@@ -110,20 +127,23 @@ module _ (env : Environment) (maps : List PlacedFrame) where
       ∙ ap (λ (b : Bool). (not (covers k pc) || handles env maps frame k) && b) (all_same before pc frame handlers parts.1)
 
   -- what is settled holds
-  pub settled_hold : (settled : Option ℕ) (pc : ℕ) (insn : Instruction) (x : Frame) → AreSettled env maps settled x → IfSome settled (λ before. constructed_object env insn x ≡ None)
+  pub settled_hold : (settled : Option ℕ) (pc : ℕ) (insn : Instruction) (x : Frame) → AreSettled env maps settled x → IfSome settled (λ before. handler_frame env insn x ≡ with_stack x [])
       → hold_where_unsettled settled env maps pc insn x ≡ handlers_hold env maps pc insn x
   settled_hold None pc insn x h e = all_plain pc (handler_frame env insn x) env.code.exception_table
   settled_hold (Some before) pc insn x h e =
       subst (λ (f : Frame). list_all (λ k. not (covers k pc) || covers k before || handles env maps f k) env.code.exception_table ≡ list_all (λ k. not (covers k pc) || handles env maps f k) env.code.exception_table)
-      (sym (bare env insn x e)) (all_same before pc (with_stack x []) env.code.exception_table h)
+      (sym e) (all_same before pc (with_stack x []) env.code.exception_table h)
 
-  -- the object that a value stands for, and what is settled without one
-  pub without_any : (names : List (List ℕ)) (settled kept : Option ℕ) (insn : Instruction) (x : Frame) (object : Option Item) → IfSome kept (λ before. settled ≡ Some before)
-      → IfSome kept (λ before. object ≡ None) → option_map (typed names) object ≡ constructed_object env insn x → AreSettled env maps settled x
-      → AreSettled env maps kept x × IfSome kept (λ before. constructed_object env insn x ≡ None)
-  without_any names settled None insn x object same none e h = (tt, tt)
-  without_any names settled (Some before) insn x object same none e h =
-      (subst (λ o. AreSettled env maps o x) same h, sym e ∙ ap (option_map (typed names)) none)
+  -- what is settled without an object that is left out
+  pub without_any : (names : List (List ℕ)) (settled kept : Option ℕ) (insn : Instruction) (f : NumberFrame) (object : Option Item) → IfSome kept (λ before. settled ≡ Some before)
+      → IfSome kept (λ before. object ≡ None) → IsLeft env insn names f object → AreSettled env maps settled (frame_of names f)
+      → AreSettled env maps kept (frame_of names f) × IfSome kept (λ before. handler_frame env insn (frame_of names f) ≡ with_stack (frame_of names f) [])
+  without_any names settled None insn f object same none e h = (tt, tt)
+  without_any names settled (Some before) insn f object same none e h = (
+    subst (λ o. AreSettled env maps o (frame_of names f)) same h,
+    ap (λ (ls : List FrameType). record { locals = ls; stack = []; flag_this_uninit = f.flag_this_uninit })
+        (sym e ∙ ap (λ (o : Option Item). without_object (option_map (typed names) o) (typed_all names f.locals)) none),
+  )
 
   -- what was settled for the frame that falls into an instruction is so for the one before it, where the map has none there
   pub still_settled : (settled kept : Option ℕ) (falls : Bool) (x y : Frame) (o : Option Frame) → IfSome kept (λ before. settled ≡ Some before) → IfSome kept (λ before. o ≡ None)

@@ -5,16 +5,14 @@ ghost use Rattle.std.specs.Prelude.{◌≡◌, ◌≤◌, ◌<◌, ℕ, List, []
 ghost use Rattle.std.specs.Option.{option_map};
 ghost use Rattle.jv_code.specs.Insns.{instruction_of};
 ghost use Rattle.jv_frames.specs.Entries.{locals_in};
-ghost use Rattle.jv_meaning_world.specs.Flow.{flows};
-ghost use Rattle.jv_meaning_world.specs.FrameFlow.{all_flow};
 ghost use Rattle.jv_rules.specs.Laws.{is_beside};
 ghost use Rattle.jv_types.specs.Typed.{typed_all};
 ghost use Rattle.jv_types.specs.Numbered.{Item};
 ghost use Rattle.jv_types.specs.Mapped.{world_of_types, locals_of};
-ghost use Rattle.jv_method_pass.specs.Pass.{HasRoom};
+ghost use Rattle.jv_method_pass.specs.Pass.{Pass, HasRoom};
 ghost use Rattle.jv_method_pass.specs.Inside.Held.{is_written, flows_at};
 ghost use Rattle.jv_method_pass.specs.Inside.Changes.{may_change_at};
-ghost use Rattle.jv_method_pass.specs.Inside.Flowed.{FlowsBut, HasFlowed, HaveFlowed, StaysRight, Lists, flows_but_stack, made_flag_flows};
+ghost use Rattle.jv_method_pass.specs.Inside.Flowed.{AllFlowAt, OneFlowsNot, FlowsBut, HasFlowed, HaveFlowed, StaysRight, Lists, flows_but_stack, made_flag_flows};
 
 use crate::changes::stored_index;
 use crate::held::{all_flow_at, flows_at};
@@ -27,16 +25,13 @@ use jv_types::{EntryTypes, TypeFrame, TypeNames, flag_flows, has_this, locals_fl
 use std::alloc::{AllocError, Global};
 
 /// How many words of local entries a frame has at least that is kept: fewer are as soon compared.
-const MANY: u16 = 256;
+const MANY: u16 = 64;
 
-/// The least part of all local variables that they take: one in so many.
-const PART: u16 = 64;
-
-/// How many frames are kept at a time.
-const KEPT: usize = 16;
+/// How many local variables of all frames together are kept at most, but for those of the last one.
+const KEPT: usize = 2097152;
 
 /// How many frames of a method are made at most to be kept.
-const MADE: usize = 64;
+const MADE: usize = 128;
 
 /// How many places are listed at most.
 const LISTED: usize = 131072;
@@ -64,12 +59,13 @@ impl Drop for FlowedFrame {
 }
 
 /// Where local variables were written, one place behind the other, and the frames that are kept, that to which they flowed last behind
-/// the others.
+/// the others; how many were made, and how many local variables those have that are kept.
 pub(crate) struct FlowedLocals {
     alloc: Global,
     writes: Vec<u16>,
     frames: Vec<FlowedFrame>,
     begun: usize,
+    room: usize,
 }
 
 impl Drop for FlowedLocals {
@@ -79,13 +75,24 @@ impl Drop for FlowedLocals {
             writes: _,
             frames: _,
             begun: _,
+            room: _,
         } = self;
     }
 }
 
-/// Whether a frame of so many words of local entries is kept, where there are so many local variables.
-pub(crate) fn is_kept(words: u16, max_locals: u16) -> bool {
-    words >= MANY && words >= max_locals / PART
+/// Whether a frame of so many words of local entries is kept.
+pub(crate) fn is_kept(words: u16) -> bool {
+    words >= MANY
+}
+
+/// How many local variables are made for so many words of local entries: an eighth more, so that a frame that has more can be made of it.
+fn room_for(words: u16, max_locals: u16) -> u16
+    requires { words ≤ max_locals }
+    ensures least { words ≤ result }
+    ensures most { result ≤ max_locals }
+{
+    let room = words.saturating_add(words / 8);
+    if room <= max_locals { room } else { max_locals }
 }
 
 /// Whether each local variable from a place on, before another, flows to what was made there.
@@ -109,6 +116,16 @@ fn between_flow(
     true
 }
 
+/// How many local variables were made, where more places are listed than these.
+fn fewer(made: &TypeFrame, places: &[u16]) -> Option<u16>
+    ensures { IfSome result (λ count. count ≡ length made.now.locals) }
+{
+    match u16::try_from(made.local_count()) {
+        Ok(count) if places.len() > usize::from(count) => Some(count),
+        _ => None,
+    }
+}
+
 /// Makes a frame of the map to be kept, to which no local variable is known to flow.
 fn made_of(
     alloc: Global,
@@ -121,7 +138,8 @@ fn made_of(
     requires room { HasRoom pass.now.types pass.now.max_locals map.now }
     ensures { IfOk result (λ f. (writes : List ℕ) (locals : List Item) → since ≤ length writes → HasFlowed pass.now writes locals f) }
 {
-    let mut made = TypeFrame::new(alloc, pass.max_locals)?;
+    let room = room_for(map.local_words(), pass.max_locals);
+    let mut made = TypeFrame::new(alloc, room)?;
     set_locals(pass.types, &mut made, map);
     made.set_flag(has_this(pass.types, map));
     Ok(FlowedFrame {
@@ -129,7 +147,7 @@ fn made_of(
         made,
         since,
         from: 0,
-        to: pass.max_locals,
+        to: room,
     })
 }
 
@@ -137,12 +155,15 @@ impl FlowedFrame {
     /// Whether local variables flow to those that were made.
     fn locals_flow(&self, types: &EntryTypes<'_, '_, '_>, frame: &TypeFrame, writes: &[u16]) -> bool
         requires { self.now.since ≤ length writes.now }
-        ensures { FlowsBut (world_of_types types.now) (locals_of types.now frame.now) (locals_of types.now self.now.made)
-            writes.now self.now → length frame.now.locals ≡ length self.now.made.locals
-            → result ≡ all_flow (flows (world_of_types types.now)) (locals_of types.now frame.now) (locals_of types.now self.now.made) }
+        ensures all { FlowsBut (world_of_types types.now) (locals_of types.now frame.now) (locals_of types.now self.now.made)
+            writes.now self.now → IsTrue result → AllFlowAt types.now frame.now self.now }
+        ensures one { result ≡ false → OneFlowsNot types.now frame.now self.now }
     {
         let names = types.names();
         let (_, since) = writes.split_at(self.since);
+        if let Some(count) = fewer(&self.made, since) {
+            return between_flow(names, frame, &self.made, 0, count);
+        }
         all_flow_at(names, frame, &self.made, since)
             && between_flow(names, frame, &self.made, self.from, self.to)
     }
@@ -184,16 +205,6 @@ fn find(frames: &[FlowedFrame], pass: &Pass<'_, '_, '_, '_, '_>, place: usize) -
     None
 }
 
-/// Lets go the first, if there are too many.
-fn make_room(frames: &mut Vec<FlowedFrame>, pass: &Pass<'_, '_, '_, '_, '_>)
-    ensures { (writes : List ℕ) → StaysRight pass.now writes frames.old.items writes frames.new.items }
-{
-    let _types = &pass.types;
-    if frames.len() >= KEPT {
-        let _first = frames.remove(0);
-    }
-}
-
 /// Whether none is kept.
 fn is_none_kept(frames: &[FlowedFrame]) -> bool
     ensures { IsTrue result → frames.now ≡ [] }
@@ -211,6 +222,7 @@ impl FlowedLocals {
             writes: Vec::new(alloc),
             frames: Vec::new(alloc),
             begun: 0,
+            room: 0,
         }
     }
 
@@ -220,6 +232,7 @@ impl FlowedLocals {
     {
         self.writes.clear();
         self.frames.clear();
+        self.room = 0;
     }
 
     /// Local variables may be written at these places.
@@ -281,6 +294,15 @@ impl FlowedLocals {
         let _kept = self.frames.push(last);
     }
 
+    /// Keeps none any more, if those that are kept have many local variables.
+    fn make_room(&mut self)
+        ensures { (pass : Pass) → StaysRight pass self.old.writes.items self.old.frames.items self.new.writes.items self.new.frames.items }
+    {
+        if self.room > KEPT {
+            self.forget();
+        }
+    }
+
     /// Keeps the frame of the map at a place, if the host has memory for it, and not too many were made.
     fn begin(&mut self, pass: &Pass<'_, '_, '_, '_, '_>, place: usize, map: &MapFrame<'_>)
         requires at { slice_get pass.now.frames place ≡ Some map.now }
@@ -290,11 +312,12 @@ impl FlowedLocals {
         if self.begun >= MADE {
             return;
         }
+        self.begun += 1;
+        self.make_room();
         let Ok(flowed) = made_of(self.alloc, pass, place, map, self.writes.len()) else {
             return;
         };
-        self.begun += 1;
-        make_room(&mut self.frames, pass);
+        self.room = self.room.saturating_add(flowed.made.local_count());
         let _kept = self.frames.push(flowed);
     }
 

@@ -2,18 +2,16 @@
 
 ghost use Rattle.std.specs.Prelude.{◌≡◌, ◌&&◌, ◌||◌, not, length};
 ghost use Rattle.std.specs.List.{list_all};
-ghost use Rattle.std.specs.Option.{option_map};
 ghost use Rattle.jv_code.specs.Insns.{Instruction};
 ghost use Rattle.jv_meaning_typing.specs.Environment.{Environment};
-ghost use Rattle.jv_meaning_typing.specs.Rule.{constructed_object, handler_frame};
+ghost use Rattle.jv_meaning_typing.specs.Rule.{handler_frame};
 ghost use Rattle.jv_meaning_typing.specs.Typing.{covers, handles};
-ghost use Rattle.jv_types.specs.Typed.{typed};
 ghost use Rattle.jv_types.specs.Numbered.{frame_of};
 ghost use Rattle.jv_method_pass.specs.Pass.{IsOfPass, maps_of, names_in};
 ghost use Rattle.jv_method_pass.specs.Inside.Held.{IsHeld};
 ghost use Rattle.jv_method_pass.specs.Inside.Opening.{passes_at};
 ghost use Rattle.jv_method_pass.specs.Inside.Flowed.{HaveFlowed};
-ghost use Rattle.jv_method_pass.specs.Inside.Settled.{is_settled, unsettled_holds};
+ghost use Rattle.jv_method_pass.specs.Inside.Settled.{is_settled, unsettled_holds, IsLeft};
 
 use crate::flowed::FlowedLocals;
 use crate::held::Held;
@@ -22,7 +20,8 @@ use crate::pass::Pass;
 use jv_format::Handler;
 use jv_types::{Item, TypeFrame};
 
-/// Whether the frame with which a handler begins, without an object that is constructed, flows to that of the map there.
+/// Whether the frame with which a handler begins, without an object that is constructed if a local variable holds it, flows to that of
+/// the map there.
 fn handles(
     pass: &Pass<'_, '_, '_, '_, '_>,
     held: &Held,
@@ -34,8 +33,7 @@ fn handles(
     requires locals { length frame.now.locals ≡ pass.now.max_locals }
     requires held { IsHeld pass.now held.now frame.now }
     requires flowed { HaveFlowed pass.now flowed.old.writes.items flowed.old.frames.items frame.now.locals }
-    ensures hold { (env : Environment) (insn : Instruction) → IsOfPass pass.now env
-        → option_map (typed (names_in pass.now)) object ≡ constructed_object env insn (frame_of (names_in pass.now) frame.now)
+    ensures hold { (env : Environment) (insn : Instruction) → IsOfPass pass.now env → IsLeft env insn (names_in pass.now) frame.now object
         → result ≡ handles env (maps_of pass.now) (handler_frame env insn (frame_of (names_in pass.now) frame.now)) handler }
     ensures flowed { HaveFlowed pass.now flowed.new.writes.items flowed.new.frames.items frame.now.locals }
 {
@@ -80,8 +78,7 @@ fn unsettled_holds(
     requires locals { length frame.now.locals ≡ pass.now.max_locals }
     requires held { IsHeld pass.now held.now frame.now }
     requires flowed { HaveFlowed pass.now flowed.old.writes.items flowed.old.frames.items frame.now.locals }
-    ensures hold { (env : Environment) (insn : Instruction) → IsOfPass pass.now env
-        → option_map (typed (names_in pass.now)) object ≡ constructed_object env insn (frame_of (names_in pass.now) frame.now)
+    ensures hold { (env : Environment) (insn : Instruction) → IsOfPass pass.now env → IsLeft env insn (names_in pass.now) frame.now object
         → result ≡ unsettled_holds settled env (maps_of pass.now) insn (frame_of (names_in pass.now) frame.now) handler }
     ensures flowed { HaveFlowed pass.now flowed.new.writes.items flowed.new.frames.items frame.now.locals }
 {
@@ -102,15 +99,15 @@ fn handler_holds(
     requires locals { length frame.now.locals ≡ pass.now.max_locals }
     requires held { IsHeld pass.now held.now frame.now }
     requires flowed { HaveFlowed pass.now flowed.old.writes.items flowed.old.frames.items frame.now.locals }
-    ensures hold { (env : Environment) (insn : Instruction) → IsOfPass pass.now env
-        → option_map (typed (names_in pass.now)) object ≡ constructed_object env insn (frame_of (names_in pass.now) frame.now)
+    ensures hold { (env : Environment) (insn : Instruction) → IsOfPass pass.now env → IsLeft env insn (names_in pass.now) frame.now object
         → result ≡ passes_at offset (unsettled_holds settled env (maps_of pass.now) insn (frame_of (names_in pass.now) frame.now)) handler }
     ensures flowed { HaveFlowed pass.now flowed.new.writes.items flowed.new.frames.items frame.now.locals }
 {
     !covers(handler, offset) || unsettled_holds(pass, held, flowed, frame, object, settled, handler)
 }
 
-/// Whether each of some handlers that covers an instruction, which constructs this object or none, is settled or holds.
+/// Whether each of some handlers that covers an instruction, which constructs this object, or none that a local variable holds, is settled
+/// or holds.
 pub(crate) fn handlers_hold(
     pass: &Pass<'_, '_, '_, '_, '_>,
     held: &Held,
@@ -124,8 +121,7 @@ pub(crate) fn handlers_hold(
     requires locals { length frame.now.locals ≡ pass.now.max_locals }
     requires held { IsHeld pass.now held.now frame.now }
     requires flowed { HaveFlowed pass.now flowed.old.writes.items flowed.old.frames.items frame.now.locals }
-    ensures hold { (env : Environment) (insn : Instruction) → IsOfPass pass.now env
-        → option_map (typed (names_in pass.now)) object ≡ constructed_object env insn (frame_of (names_in pass.now) frame.now)
+    ensures hold { (env : Environment) (insn : Instruction) → IsOfPass pass.now env → IsLeft env insn (names_in pass.now) frame.now object
         → result ≡ list_all (passes_at offset
         (unsettled_holds settled env (maps_of pass.now) insn (frame_of (names_in pass.now) frame.now))) handlers.now }
     ensures flowed { HaveFlowed pass.now flowed.new.writes.items flowed.new.frames.items frame.now.locals }

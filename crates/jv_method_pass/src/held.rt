@@ -1,7 +1,7 @@
 //! A frame of the stack map that the local variables were made, held beside them: what flows into a frame of the same local entries
 //! is compared only where local variables were written since, and only there are they made anew (JVMS 4.10.1.4).
 
-ghost use Rattle.std.specs.Prelude.{◌≡◌, ℕ, Bool, List, [], ◌∷◌, ◌&&◌, false, Some, None, ◌==◌, length, get_or, slice_get, IsTrue, IfOk, OnOk};
+ghost use Rattle.std.specs.Prelude.{◌≡◌, ℕ, Bool, List, [], ◌∷◌, ◌&&◌, false, Some, None, ◌==◌, length, get_or, set, slice_get, IsTrue, IfOk, OnOk};
 ghost use Rattle.std.specs.List.{list_all};
 ghost use Rattle.std.specs.Option.{option_map};
 ghost use Rattle.jv_code.specs.Insns.{instruction_of};
@@ -14,7 +14,7 @@ ghost use Rattle.jv_types.specs.Numbered.{Item, frame_of, with_flag, with_locals
 ghost use Rattle.jv_types.specs.Mapped.{expanded_entries, frame_by_types, names_of_types, stack_flows_to, types_of_entries};
 ghost use Rattle.jv_method_pass.specs.Pass.{names_in, HasRoom};
 ghost use Rattle.jv_method_pass.specs.Inside.Flowed.{is_between};
-ghost use Rattle.jv_method_pass.specs.Inside.Held.{is_written, AreSameBut, HoldsLocals, IsHeldBy, IsHeld, Writes, flows_at, held_flag_flows, held_locals_flow, with_held_at};
+ghost use Rattle.jv_method_pass.specs.Inside.Held.{is_written, unwritten, AreMarked, AreSameBut, HoldsLocals, IsHeldBy, IsHeld, Writes, flows_at, held_flag_flows, held_locals_flow, with_held_at};
 
 use crate::changes::stored_index;
 use crate::cover::mark;
@@ -59,6 +59,26 @@ impl Drop for Held {
             written: _,
             marks: _,
         } = self;
+    }
+}
+
+/// Takes the mark away at a place, where there is one.
+#[tactic(auto, using(std::proofs::lemmas::List::set_past))]
+fn unmark(marks: &mut [bool], place: u16)
+    ensures { marks.new ≡ set marks.old place false }
+{
+    let place = usize::from(place);
+    if place < marks.len() {
+        marks[place] = false;
+    }
+}
+
+/// Takes the marks away at these places, which are all that are marked.
+fn unmark_all(marks: &mut [bool], places: &[u16])
+    ensures { AreMarked places.now marks.old → AreMarked [] marks.new }
+{
+    for k in 0..places.len() {
+        unmark(marks, places[k]);
     }
 }
 
@@ -283,8 +303,16 @@ impl Held {
         frame.set_flag(self.base.flag_this_uninit());
     }
 
-    /// None of so many local variables was written.
-    fn clear_written(&mut self, count: u16) -> Result<(), AllocError>
+    /// None was written since.
+    pub(crate) fn clear_written(&mut self)
+        ensures { self.new ≡ unwritten self.old }
+    {
+        unmark_all(&mut self.marks, &self.written);
+        self.written.clear();
+    }
+
+    /// Marks for so many local variables, where none of them was written.
+    fn make_marks(&mut self, count: u16) -> Result<(), AllocError>
         ensures base { self.new.base ≡ self.old.base }
         ensures written { OnOk result (self.new.written ≡ []) }
     {
@@ -300,10 +328,12 @@ impl Held {
         ensures written { OnOk result (self.new.written ≡ []) }
     {
         self.place = None;
-        if self.base.local_count() != usize::from(max_locals) {
-            self.base = TypeFrame::new(self.alloc, max_locals)?;
+        if self.base.local_count() == usize::from(max_locals) {
+            self.clear_written();
+            return Ok(());
         }
-        self.clear_written(max_locals)?;
+        self.base = TypeFrame::new(self.alloc, max_locals)?;
+        self.make_marks(max_locals)?;
         Ok(())
     }
 

@@ -36,7 +36,7 @@ pub(crate) fn flows_by_stack(
     ensures flows { result ≡ flows_to_map pass.now.types frame.now map.now }
     ensures flowed { HaveFlowed pass.now flowed.new.writes.items flowed.new.frames.items frame.now.locals }
 {
-    if is_kept(map.local_words(), pass.max_locals) {
+    if is_kept(map.local_words()) {
         return flowed.flows(pass, frame, place, map) && stack;
     }
     if held.is_of(pass, place) {
@@ -85,7 +85,7 @@ fn thrown_flows_without(
     ensures flows { result ≡ thrown_flows_to_map pass.now.types frame.now None thrown map.now }
     ensures flowed { HaveFlowed pass.now flowed.new.writes.items flowed.new.frames.items frame.now.locals }
 {
-    if is_kept(map.local_words(), pass.max_locals) {
+    if is_kept(map.local_words()) {
         return flowed.flows(pass, frame, place, map) && thrown_stack_flows(pass.types, thrown, map);
     }
     if held.is_of(pass, place) {
@@ -163,6 +163,7 @@ pub(crate) fn set_frame(
     if held.is_of(pass, place) {
         flowed.add(held.written());
         held.put_back(frame);
+        held.clear_written();
         set_stack(pass.types, frame, map)?;
         return Ok(());
     }

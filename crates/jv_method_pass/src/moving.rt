@@ -162,11 +162,12 @@ pub(crate) fn follow(
     ensures none { IfNone result (made.new ≡ made.old) }
 {
     let (old, above) = pass.shared_with(held, place)?;
-    if made.local_count() != usize::from(pass.max_locals) {
+    let to = higher(old, map.local_words());
+    if usize::from(to) > made.local_count() {
         return None;
     }
     let from = move_locals(pass.types, made, map, above, old);
     let flag = moved_flag(pass.types, made, map, above);
     made.set_flag(flag);
-    Some((from, higher(old, map.local_words())))
+    Some((from, to))
 }

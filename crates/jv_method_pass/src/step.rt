@@ -1,10 +1,13 @@
 //! A step over an instruction.
 
-ghost use Rattle.std.specs.Prelude.{◌≡◌, ◌<◌, [], None, Some, IfOk, OnOk, IfSome, IsTrue, length};
+ghost use Rattle.std.specs.Prelude.{◌≡◌, ◌<◌, ℕ, List, [], None, Some, IfOk, OnOk, IfSome, IsTrue, length};
+ghost use Rattle.std.specs.Option.{option_map};
 ghost use Rattle.jv_code.specs.Insns.{instruction_of};
 ghost use Rattle.jv_meaning_typing.specs.Environment.{Environment, instruction_at};
+ghost use Rattle.jv_meaning_typing.specs.Rule.{without_object};
 ghost use Rattle.jv_meaning_typing.specs.Typing.{frame_at, handlers_hold};
 ghost use Rattle.jv_rules.specs.Laws.{keeps_locals};
+ghost use Rattle.jv_types.specs.Typed.{typed, typed_all};
 ghost use Rattle.jv_types.specs.Numbered.{frame_of};
 ghost use Rattle.jv_method_pass.specs.Pass.{IsOfPass, InPass, maps_of, names_in, Tests};
 ghost use Rattle.jv_method_pass.specs.Inside.Changes.{may_change};
@@ -81,7 +84,22 @@ fn settled_at(pass: &Pass<'_, '_, '_, '_, '_>, settled: Option<u32>, offset: u32
     }
 }
 
-/// Where no object is constructed, what is settled.
+/// An object that is constructed, where a local variable holds it.
+fn held_in_locals(frame: &TypeFrame, object: Option<Item>) -> Option<Item>
+    ensures { (names : List (List ℕ)) → without_object (option_map (typed names) result) (typed_all names frame.now.locals)
+        ≡ without_object (option_map (typed names) object) (typed_all names frame.now.locals) }
+{
+    let Some(held) = object else {
+        return None;
+    };
+    if frame.has_in_locals(held) {
+        Some(held)
+    } else {
+        None
+    }
+}
+
+/// Where no local variable holds an object that is constructed, what is settled.
 fn settled_without(object: Option<Item>, settled: Option<u32>) -> Option<u32>
     ensures same { IfSome result (λ before. settled ≡ Some before) }
     ensures object { IfSome result (λ before. object ≡ None) }
@@ -114,7 +132,8 @@ fn is_handled(
     ensures openings { openings.new.handlers ≡ openings.old.handlers }
     ensures flowed { HaveFlowed pass.now flowed.new.writes.items flowed.new.frames.items frame.now.locals }
 {
-    let object = constructed_object(pass.context, frame, insn);
+    let constructed = constructed_object(pass.context, frame, insn);
+    let object = held_in_locals(frame, constructed);
     let settled = settled_without(object, settled);
     if is_quiet(cover, settled, offset) {
         return Ok(true);

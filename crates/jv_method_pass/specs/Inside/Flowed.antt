@@ -5,7 +5,7 @@ use Rattle.std.specs.Option.{option_map}
 use Rattle.jv_frames.specs.declared.entry.FrameEntry.{FrameEntry}
 use Rattle.jv_frames.specs.Entries.{ReadFrame, locals_in}
 use Rattle.jv_frames.specs.Frames.{is_uninitialized_this}
-use Rattle.jv_frames.specs.Types.{FrameType}
+use Rattle.jv_frames.specs.Types.{FrameType, words}
 use Rattle.jv_meaning_world.specs.World.{World}
 use Rattle.jv_types.specs.Typed.{typed_all}
 use Rattle.jv_types.specs.Numbered.{Item, NumberFrame}
@@ -23,11 +23,19 @@ abbrev pub FlowsBut : World → List FrameType → List FrameType → List ℕ �
 FlowsBut world locals made writes f =
     (k : ℕ) → is_written (drop f.since writes) k ≡ false → is_between f.from f.to k ≡ false → flows_at world locals made k ≡ true
 
--- what was made are these local entries, to which local variables flow but there
+-- each local variable flows to what was made at its place, or one does not
+abbrev pub AllFlowAt : EntryTypes → NumberFrame → FlowedFrame → Type 0
+AllFlowAt types frame f = (k : ℕ) → flows_at (world_of_types types) (locals_of types frame) (locals_of types f.made) k ≡ true
+
+abbrev pub OneFlowsNot : EntryTypes → NumberFrame → FlowedFrame → Type 0
+OneFlowsNot types frame f = (k : ℕ) × (flows_at (world_of_types types) (locals_of types frame) (locals_of types f.made) k ≡ false)
+
+-- what was made are these local entries, for whose words there is room, and local variables flow to it but there
 pub record FlowsTo (pass : Pass) (entries : List FrameEntry) (writes : List ℕ) (locals : List Item) (f : FlowedFrame) : Type 0 where
-  pub made : locals_of pass.types f.made ≡ expanded_entries pass.types pass.max_locals entries
+  pub made : locals_of pass.types f.made ≡ expanded_entries pass.types (length f.made.locals) entries
   pub flag : f.made.flag_this_uninit ≡ list_any is_uninitialized_this (reverse (types_of_entries pass.types entries))
-  pub many : length f.made.locals ≡ pass.max_locals
+  pub room : words (types_of_entries pass.types entries) ≤ length f.made.locals
+  pub many : length f.made.locals ≤ pass.max_locals
   pub within : f.since ≤ length writes
   pub flow : FlowsBut (world_of_types pass.types) (typed_all (names_in pass) locals) (locals_of pass.types f.made) writes f
 

@@ -1,6 +1,6 @@
 -- A frame of the stack map that the local variables were made, which is held beside them with where they may have been written
 -- since.
-use Rattle.std.specs.Prelude.{◌≡◌, ⊤, ℕ, Bool, true, false, not, ◌||◌, ◌==◌, List, length, reverse, set, Option, Some, None, slice_get, get_or}
+use Rattle.std.specs.Prelude.{◌≡◌, ⊤, ℕ, Bool, true, false, not, ◌||◌, ◌==◌, List, [], length, reverse, set, Option, Some, None, slice_get, get_or}
 use Rattle.std.specs.List.{list_all, list_any}
 use Rattle.std.specs.Option.{option_map}
 use Rattle.jv_frames.specs.declared.entry.FrameEntry.{FrameEntry}
@@ -46,6 +46,9 @@ IsHeld pass held frame = IsHeldBy pass held.place held frame.locals
 -- a place that is marked was written
 abbrev pub AreMarked : List ℕ → List Bool → Type 0
 AreMarked written marks = (k : ℕ) → get_or marks k false ≡ true → is_written written k ≡ true
+
+abbrev pub unwritten : HeldFrame → HeldFrame
+unwritten held = record held { written = [] }
 
 -- More is written, at least where some test says so, or nothing is held any more.
 abbrev pub WritesBy : (ℕ → Bool) → HeldFrame → Option ℕ → HeldFrame → Type 0

@@ -1,5 +1,5 @@
 -- Local variables of entries, of which the last are laid on those below them.
-use Rattle.std.specs.Prelude.{◌≡◌, ℕ, ◌-◌, false, List, ◌++◌, length, drop, replicate, reverse, Some, slice_get}
+use Rattle.std.specs.Prelude.{◌≡◌, ℕ, ◌≤◌, ◌-◌, false, List, ◌++◌, length, drop, replicate, reverse, Some, slice_get}
 use Rattle.std.specs.List.{list_any}
 use Rattle.std.specs.Option.{option_map}
 use Rattle.jv_frames.specs.declared.entry.FrameEntry.{FrameEntry}
@@ -29,17 +29,18 @@ Moves types count above map old new =
     → locals_of types old ≡ expanded_entries types (length old.locals) entries
     → locals_of types new ≡ expanded_entries types (length old.locals) map.locals
 
--- What was made is these local entries of the map, and the same as before but between two places.
+-- What was made is these local entries of the map, for which there is room, and the same as before but between two places.
 pub record MovedTo (pass : Pass) (entries : List FrameEntry) (from to : ℕ) (old new : NumberFrame) : Type 0 where
-  pub made : locals_of pass.types new ≡ expanded_entries pass.types pass.max_locals entries
+  pub made : locals_of pass.types new ≡ expanded_entries pass.types (length old.locals) entries
   pub flag : new.flag_this_uninit ≡ list_any is_uninitialized_this (reverse (types_of_entries pass.types entries))
-  pub many : length new.locals ≡ pass.max_locals
+  pub many : length new.locals ≡ length old.locals
+  pub room : words (types_of_entries pass.types entries) ≤ length old.locals
   pub outside : (k : ℕ) → is_between from to k ≡ false → slice_get (locals_of pass.types new) k ≡ slice_get (locals_of pass.types old) k
 
 -- where it was those of the frame at a place
 abbrev pub Follows : Pass → ℕ → ReadFrame → ℕ → ℕ → NumberFrame → NumberFrame → Type 0
 Follows pass held map from to old new =
     (first : List FrameEntry) × (option_map locals_in (slice_get pass.frames held) ≡ Some first)
-    × (locals_of pass.types old ≡ expanded_entries pass.types pass.max_locals first
+    × (locals_of pass.types old ≡ expanded_entries pass.types (length old.locals) first
     → old.flag_this_uninit ≡ list_any is_uninitialized_this (reverse (types_of_entries pass.types first))
     → MovedTo pass map.locals from to old new)

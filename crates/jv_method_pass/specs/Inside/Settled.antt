@@ -1,20 +1,27 @@
 -- Handlers that are known to hold, since nothing that they ask of has changed since an instruction before.
-use Rattle.std.specs.Prelude.{ℕ, Bool, false, not, ◌||◌, List, [], Option, Some, None, IsTrue, ⊤}
+use Rattle.std.specs.Prelude.{◌≡◌, ℕ, Bool, false, not, ◌||◌, List, [], Option, Some, None, IsTrue, ⊤}
 use Rattle.std.specs.List.{list_all}
+use Rattle.std.specs.Option.{option_map}
 use Rattle.jv_format.specs.declared.handlers.Handler.{Handler}
 use Rattle.jv_code.specs.Insns.{Instruction}
 use Rattle.jv_frames.specs.Frames.{Frame, PlacedFrame}
 use Rattle.jv_meaning_typing.specs.Environment.{Environment}
 use Rattle.jv_meaning_typing.specs.FrameChanges.{with_stack}
-use Rattle.jv_meaning_typing.specs.Rule.{handler_frame}
+use Rattle.jv_meaning_typing.specs.Rule.{handler_frame, without_object}
 use Rattle.jv_meaning_typing.specs.Typing.{covers, handles}
-use Rattle.jv_types.specs.Numbered.{NumberFrame, frame_of}
+use Rattle.jv_types.specs.Typed.{typed, typed_all}
+use Rattle.jv_types.specs.Numbered.{Item, NumberFrame, frame_of}
 use Rattle.jv_method_pass.specs.Pass.{Pass, IsOfPass, maps_of, names_in}
 
 -- the handler covers the instruction at which those that cover it are known to hold
 abbrev pub is_settled : Option ℕ → Handler → Bool
 is_settled None handler = false
 is_settled (Some before) handler = covers handler before
+
+-- without an object, or with none, local variables are those that a handler of an instruction begins with
+abbrev pub IsLeft : Environment → Instruction → List (List ℕ) → NumberFrame → Option Item → Type 0
+IsLeft env insn names frame object =
+    without_object (option_map (typed names) object) (typed_all names frame.locals) ≡ (handler_frame env insn (frame_of names frame)).locals
 
 -- a handler is settled, or holds
 abbrev pub unsettled_holds : Option ℕ → Environment → List PlacedFrame → Instruction → Frame → Handler → Bool

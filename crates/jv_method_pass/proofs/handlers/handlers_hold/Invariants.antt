@@ -1,20 +1,16 @@
 use Rattle.std.proofs.Common.{◌≡◌, true, take}
 use Rattle.std.specs.List.{list_all}
-use Rattle.std.specs.Option.{option_map}
 use Rattle.jv_code.specs.Insns.{Instruction}
 use Rattle.jv_meaning_typing.specs.Environment.{Environment}
-use Rattle.jv_meaning_typing.specs.Rule.{constructed_object}
-use Rattle.jv_types.specs.Typed.{typed}
 use Rattle.jv_types.specs.Numbered.{frame_of}
 use Rattle.jv_method_pass.specs.Pass.{IsOfPass, maps_of, names_in}
 use Rattle.jv_method_pass.specs.Inside.Opening.{passes_at}
 use Rattle.jv_method_pass.specs.Inside.Flowed.{HaveFlowed}
-use Rattle.jv_method_pass.specs.Inside.Settled.{unsettled_holds}
+use Rattle.jv_method_pass.specs.Inside.Settled.{unsettled_holds, IsLeft}
 use Rattle.jv_method_pass.proofs.handlers.handlers_hold.Given as goal
 
 abbrev pub invariant-loop-k : goal.invariant-loop-k
 invariant-loop-k l =
-    ((env : Environment) (insn : Instruction) → IsOfPass l.pass env
-    → option_map (typed (names_in l.pass)) l.object ≡ constructed_object env insn (frame_of (names_in l.pass) l.frame)
+    ((env : Environment) (insn : Instruction) → IsOfPass l.pass env → IsLeft env insn (names_in l.pass) l.frame l.object
     → list_all (passes_at l.offset (unsettled_holds l.settled env (maps_of l.pass) insn (frame_of (names_in l.pass) l.frame))) (take l.k l.handlers) ≡ true)
     × HaveFlowed l.pass l.flowed.writes.items l.flowed.frames.items l.frame.locals

@@ -1,4 +1,4 @@
-use Rattle.std.proofs.Common.{◌≡◌, List, ℕ, length, sym, ap, ◌∙◌}
+use Rattle.std.proofs.Common.{◌≡◌, List, ℕ, length, sym, ap, subst, ◌∙◌}
 use Rattle.std.specs.Prelude.{slice_get}
 use Rattle.std.specs.Option.{option_map}
 use Rattle.jv_frames.specs.Entries.{locals_in}
@@ -8,7 +8,7 @@ use Rattle.jv_types.specs.Typed.{typed_all}
 use Rattle.jv_types.specs.Numbered.{NumberFrame}
 use Rattle.jv_types.specs.Mapped.{local_entry_words, locals_of}
 use Rattle.jv_method_pass.specs.Pass.{Pass, names_in}
-use Rattle.jv_method_pass.specs.Inside.Held.{HoldsLocals, is_written}
+use Rattle.jv_method_pass.specs.Inside.Held.{HeldFrame, HoldsLocals, IsHeldBy, is_written}
 use Rattle.jv_method_pass.specs.Inside.Flowed.{HasFlowed}
 use Rattle.jv_method_pass.proofs.Holding.{put_is, held_again, made_is}
 use Rattle.jv_method_pass.proofs.FlowingAgain.{none_all}
@@ -36,9 +36,10 @@ returns-then-is_of-clause-held c =
     let held = c.follow.new.self in
     let is = c.in_ok-follow.ensures frame.locals c.requires.held in
     let h : HoldsLocals pass map.locals held frame.locals = c.is_of.ensures c.if-is_of.true map.locals frame.locals (ap (option_map locals_in) c.requires.at) is in
-    held_again pass held.place held frame.locals c.set_stack.new.frame.locals is
+    subst (λ (x : HeldFrame). IsHeldBy pass x.place x c.set_stack.new.frame.locals) (sym c.clear_written.ensures)
+    (held_again pass held.place held frame.locals c.set_stack.new.frame.locals is
     (ap (λ (f : NumberFrame). typed_all (names_in pass) f.locals) c.set_stack.ensures.same
-    ∙ c.put_back.ensures.locals (names_in pass) (c.requires.locals ∙ sym h.many) h.same)
+    ∙ c.put_back.ensures.locals (names_in pass) (c.requires.locals ∙ sym h.many) h.same))
 
 pub returns-then-is_of-clause-flowed : goal.returns-then-is_of-clause-flowed
 returns-then-is_of-clause-flowed c =

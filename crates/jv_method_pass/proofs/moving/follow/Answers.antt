@@ -1,4 +1,4 @@
-use Rattle.std.proofs.Common.{◌≡◌, length, sym, ap, ◌∙◌, arith}
+use Rattle.std.proofs.Common.{◌≡◌, ◌≤◌, length, sym, ap, ◌∙◌, arith}
 use Rattle.std.specs.List.{list_any}
 use Rattle.std.specs.Option.{option_map}
 use Rattle.jv_frames.specs.declared.verification.VerificationTypeOf.TheVariants as variants
@@ -22,16 +22,15 @@ returns-clause-some c =
     let new = c.set_flag.new.self in
     let flag : new.flag_this_uninit ≡ c.moved_flag-flag.result = ap (λ (f : NumberFrame). f.flag_this_uninit) c.set_flag.ensures in
     let kept : moved.flag_this_uninit ≡ c.args.made.now.flag_this_uninit = ap (λ (f : NumberFrame). f.flag_this_uninit) c.move_locals-from.ensures.same in
-    let many : length c.args.made.now.locals ≡ pass.max_locals =
-    omega (arith, c.local_count.ensures, c.from.ensures, c.if-local_count-from.false, ap (λ (p : Pass). p.max_locals) c.pass.view_is) in (
+    let fits : c.higher-to.result ≤ length c.args.made.now.locals = omega (arith, c.local_count.ensures, c.from.ensures, c.if-from-local_count.false) in (
       s.frame.locals,
       ap (option_map locals_in) s.at,
       λ is was.
           moved_is pass c.args.held c.args.place c.in_ok-old.old c.in_ok-old.above c.move_locals-from.result c.pass.inside.types.now c.args.made.now moved new c.args.map.now
-          (ap (λ (p : Pass). p.types) c.pass.view_is) s c.requires.at c.requires.room many is c.move_locals-from.ensures.words c.move_locals-from.ensures.locals
+          (ap (λ (p : Pass). p.types) c.pass.view_is) s c.requires.at c.requires.room is c.move_locals-from.ensures.words c.move_locals-from.ensures.locals
           (c.set_flag.ensures ∙ ap (λ b. with_flag b moved) (sym flag)) was
           (λ yes names. flag ∙ (c.moved_flag-flag.ensures.was (kept ∙ yes) names
           ∙ ap (λ (f : NumberFrame). list_any (is_same_object (typed names variants.UninitializedThis)) (typed_all names f.locals)) (sym c.set_flag.ensures)))
           (λ not. flag ∙ c.moved_flag-flag.ensures.was_not (kept ∙ not))
-          c.higher.result c.higher.ensures.one (omega (arith, c.higher.ensures.other, c.local_words.ensures)) c.move_locals-from.ensures.count,
+          c.higher-to.result c.higher-to.ensures.one (omega (arith, c.higher-to.ensures.other, c.local_words.ensures)) fits c.move_locals-from.ensures.count,
     )

@@ -1,14 +1,16 @@
-use Rattle.std.proofs.Common.{Bool, not, List, ap, sym, subst, ◌∙◌}
+use Rattle.std.proofs.Common.{Bool, not, List, Option, ap, sym, subst, ◌∙◌}
 use Rattle.std.specs.List.{list_all}
 use Rattle.jv_code.specs.Insns.{instruction_of}
 use Rattle.jv_format.specs.declared.handlers.Handler.{Handler}
-use Rattle.jv_meaning_typing.specs.Rule.{handler_frame}
+use Rattle.jv_frames.specs.Types.{FrameType}
+use Rattle.jv_meaning_typing.specs.Rule.{handler_frame, without_object}
 use Rattle.jv_meaning_typing.specs.Typing.{covers, handles}
+use Rattle.jv_types.specs.Typed.{typed_all}
 use Rattle.jv_types.specs.Numbered.{frame_of}
 use Rattle.jv_method_pass.specs.Pass.{Pass, maps_of, names_in}
 use Rattle.jv_method_pass.specs.Inside.Cover.{IsCover}
 use Rattle.jv_method_pass.specs.Inside.Opening.{passes_at}
-use Rattle.jv_method_pass.specs.Inside.Settled.{is_settled, unsettled_holds}
+use Rattle.jv_method_pass.specs.Inside.Settled.{is_settled, unsettled_holds, IsLeft}
 use Rattle.jv_method_pass.specs.Inside.Kept.{IsPass}
 use Rattle.jv_method_pass.proofs.Covering.{all_quiet}
 use Rattle.jv_method_pass.proofs.FlowsInto.{constructed_is}
@@ -23,15 +25,18 @@ returns-clause-hold c = λ env is.
     let count = c.pass.inside.words in
     let kept : IsPass pass entries count = subst (λ (p : Pass). IsPass p entries count) c.pass.view_is c.pass.invariant in
     let insn = instruction_of c.args.insn.now in
-    let x = frame_of (names_in pass) c.args.frame.now in
+    let f = c.args.frame.now in
+    let x = frame_of (names_in pass) f in
     let constructed =
-    constructed_is pass entries count kept env is c.pass.inside.context.now insn c.args.frame.now c.constructed_object-object.result
-    (ap (λ (p : Pass). p.context) c.pass.view_is) c.constructed_object-object.ensures in
+    constructed_is pass entries count kept env is c.pass.inside.context.now insn f c.constructed_object-constructed.result
+    (ap (λ (p : Pass). p.context) c.pass.view_is) c.constructed_object-constructed.ensures in
+    let left : IsLeft env insn (names_in pass) f c.held_in_locals-object.result =
+    c.held_in_locals-object.ensures (names_in pass) ∙ ap (λ (o : Option FrameType). without_object o (typed_all (names_in pass) f.locals)) constructed in
     let still =
-    without_any env (maps_of pass) (names_in pass) c.args.settled c.settled_without-settled.result insn x c.constructed_object-object.result
-    c.settled_without-settled.ensures.same c.settled_without-settled.ensures.object constructed (c.requires.settled env is) in
+    without_any env (maps_of pass) (names_in pass) c.args.settled c.settled_without-settled.result insn f c.held_in_locals-object.result
+    c.settled_without-settled.ensures.same c.settled_without-settled.ensures.object left (c.requires.settled env is) in
     let test : Handler → Bool = unsettled_holds c.settled_without-settled.result env (maps_of pass) insn x in
-    c.handlers_hold.ensures.hold env insn is constructed
+    c.handlers_hold.ensures.hold env insn is left
     ∙ (ap (list_all (passes_at c.args.offset test)) c.opened-opened.ensures
     ∙ (c.in_ok-go_to.ensures.opened test
     ∙ (ap (list_all (passes_at c.args.offset test)) c.go_to.ensures.handlers
@@ -47,13 +52,16 @@ returns-then-is_quiet-clause-hold c = λ env is.
     let count = c.pass.inside.words in
     let kept : IsPass pass entries count = subst (λ (p : Pass). IsPass p entries count) c.pass.view_is c.pass.invariant in
     let insn = instruction_of c.args.insn.now in
-    let x = frame_of (names_in pass) c.args.frame.now in
+    let f = c.args.frame.now in
+    let x = frame_of (names_in pass) f in
     let constructed =
-    constructed_is pass entries count kept env is c.pass.inside.context.now insn c.args.frame.now c.constructed_object-object.result
-    (ap (λ (p : Pass). p.context) c.pass.view_is) c.constructed_object-object.ensures in
+    constructed_is pass entries count kept env is c.pass.inside.context.now insn f c.constructed_object-constructed.result
+    (ap (λ (p : Pass). p.context) c.pass.view_is) c.constructed_object-constructed.ensures in
+    let left : IsLeft env insn (names_in pass) f c.held_in_locals-object.result =
+    c.held_in_locals-object.ensures (names_in pass) ∙ ap (λ (o : Option FrameType). without_object o (typed_all (names_in pass) f.locals)) constructed in
     let still =
-    without_any env (maps_of pass) (names_in pass) c.args.settled c.settled_without-settled.result insn x c.constructed_object-object.result
-    c.settled_without-settled.ensures.same c.settled_without-settled.ensures.object constructed (c.requires.settled env is) in
+    without_any env (maps_of pass) (names_in pass) c.args.settled c.settled_without-settled.result insn f c.held_in_locals-object.result
+    c.settled_without-settled.ensures.same c.settled_without-settled.ensures.object left (c.requires.settled env is) in
     let begins = c.args.cover.now.begins.items in
     let end = c.args.cover.now.end in
     all_quiet begins end c.settled_without-settled.result c.args.offset (handles env (maps_of pass) (handler_frame env insn x)) (c.is_quiet.ensures c.if-is_quiet.true)

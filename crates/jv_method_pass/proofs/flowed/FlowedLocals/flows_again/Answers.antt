@@ -1,12 +1,11 @@
-use Rattle.std.proofs.Common.{◌≡◌, ℕ, ◌≤◌, List, true, false, length, is_ok, refl, sym, ap, subst, ◌∙◌, arith}
+use Rattle.std.proofs.Common.{◌≡◌, ℕ, ◌≤◌, List, None, true, false, length, is_ok, refl, sym, ap, subst, ◌∙◌, arith}
+use Rattle.std.specs.Prelude.{IsTrue}
 use Rattle.std.specs.List.{All}
 use Rattle.std.proofs.lemmas.Option.{slice_get_read}
-use Rattle.jv_meaning_world.specs.Flow.{flows}
-use Rattle.jv_meaning_world.specs.FrameFlow.{all_flow}
-use Rattle.jv_types.specs.Mapped.{world_of_types, locals_of}
+use Rattle.jv_types.specs.Mapped.{world_of_types, locals_of, locals_flow_to}
 use Rattle.jv_method_pass.specs.Pass.{Pass}
-use Rattle.jv_method_pass.specs.Inside.Flowed.{FlowsBut, FlowsTo, HasFlowed}
-use Rattle.jv_method_pass.proofs.FlowingAgain.{removed, pushed, is_of, locals_again, flows_again, kept_again}
+use Rattle.jv_method_pass.specs.Inside.Flowed.{AllFlowAt, FlowsBut, FlowsTo, HasFlowed}
+use Rattle.jv_method_pass.proofs.FlowingAgain.{removed, pushed, is_of, all_again, locals_again, flows_again, kept_again}
 use Rattle.jv_method_pass.proofs.flowed.FlowedLocals.flows_again.Goals as goal
 
 pub locals_flow-requires : goal.locals_flow-requires
@@ -38,11 +37,11 @@ returns-then-not-locals_flow-clause-flows c =
     is_of pass writes frame.locals f c.args.place map has c.requires.at
     (c.requires.same f (slice_get_read items (length items) c.args.k f refl c.requires.within c.remove-flowed.ensures.value)) in
     let types = c.pass.inside.types.now in
-    let l : c.locals_flow.result ≡ all_flow (flows (world_of_types pass.types)) (locals_of pass.types frame) (locals_of pass.types f.made) =
+    let l : c.locals_flow.result ≡ locals_flow_to pass.types frame None map =
     locals_again pass types writes frame f map c.locals_flow.result (ap (λ (p : Pass). p.types) c.pass.view_is) h c.requires.locals
-    (subst (λ (ws : List ℕ). FlowsBut (world_of_types types) (locals_of types frame) (locals_of types f.made) ws f → length frame.locals ≡ length f.made.locals
-    → c.locals_flow.result ≡ all_flow (flows (world_of_types types)) (locals_of types frame) (locals_of types f.made)) c.deref.ensures.value c.locals_flow.ensures) in
-    flows_again pass writes frame f map false h c.requires.locals (sym c.if-not-locals_flow.true ∙ l)
+    (subst (λ (ws : List ℕ). FlowsBut (world_of_types types) (locals_of types frame) (locals_of types f.made) ws f → IsTrue c.locals_flow.result → AllFlowAt types frame f)
+    c.deref.ensures.value c.locals_flow.ensures.all) c.locals_flow.ensures.one in
+    flows_again pass writes frame f map false h (sym c.if-not-locals_flow.true ∙ l)
 
 pub returns-then-not-locals_flow-clause-flowed : goal.returns-then-not-locals_flow-clause-flowed
 returns-then-not-locals_flow-clause-flowed c =
@@ -64,11 +63,11 @@ returns-clause-flows c =
     is_of pass writes frame.locals f c.args.place map has c.requires.at
     (c.requires.same f (slice_get_read items (length items) c.args.k f refl c.requires.within c.remove-flowed.ensures.value)) in
     let types = c.pass.inside.types.now in
-    let l : c.locals_flow.result ≡ all_flow (flows (world_of_types pass.types)) (locals_of pass.types frame) (locals_of pass.types f.made) =
+    let l : c.locals_flow.result ≡ locals_flow_to pass.types frame None map =
     locals_again pass types writes frame f map c.locals_flow.result (ap (λ (p : Pass). p.types) c.pass.view_is) h c.requires.locals
-    (subst (λ (ws : List ℕ). FlowsBut (world_of_types types) (locals_of types frame) (locals_of types f.made) ws f → length frame.locals ≡ length f.made.locals
-    → c.locals_flow.result ≡ all_flow (flows (world_of_types types)) (locals_of types frame) (locals_of types f.made)) c.deref.ensures.value c.locals_flow.ensures) in
-    c.flag_flows-flag.ensures ∙ flows_again pass writes frame f map true h c.requires.locals (sym c.if-not-locals_flow.false ∙ l)
+    (subst (λ (ws : List ℕ). FlowsBut (world_of_types types) (locals_of types frame) (locals_of types f.made) ws f → IsTrue c.locals_flow.result → AllFlowAt types frame f)
+    c.deref.ensures.value c.locals_flow.ensures.all) c.locals_flow.ensures.one in
+    c.flag_flows-flag.ensures ∙ flows_again pass writes frame f map true h (sym c.if-not-locals_flow.false ∙ l)
 
 pub returns-clause-flowed : goal.returns-clause-flowed
 returns-clause-flowed c =
@@ -84,11 +83,11 @@ returns-clause-flowed c =
     is_of pass writes frame.locals f c.args.place map has c.requires.at
     (c.requires.same f (slice_get_read items (length items) c.args.k f refl c.requires.within c.remove-flowed.ensures.value)) in
     let types = c.pass.inside.types.now in
-    let l : c.locals_flow.result ≡ all_flow (flows (world_of_types pass.types)) (locals_of pass.types frame) (locals_of pass.types f.made) =
-    locals_again pass types writes frame f map c.locals_flow.result (ap (λ (p : Pass). p.types) c.pass.view_is) h c.requires.locals
-    (subst (λ (ws : List ℕ). FlowsBut (world_of_types types) (locals_of types frame) (locals_of types f.made) ws f → length frame.locals ≡ length f.made.locals
-    → c.locals_flow.result ≡ all_flow (flows (world_of_types types)) (locals_of types frame) (locals_of types f.made)) c.deref.ensures.value c.locals_flow.ensures) in
+    let l : AllFlowAt pass.types frame f =
+    all_again pass types writes frame f map c.locals_flow.result (ap (λ (p : Pass). p.types) c.pass.view_is) h
+    (subst (λ (ws : List ℕ). FlowsBut (world_of_types types) (locals_of types frame) (locals_of types f.made) ws f → IsTrue c.locals_flow.result → AllFlowAt types frame f)
+    c.deref.ensures.value c.locals_flow.ensures.all) c.if-not-locals_flow.false in
     let within : c.len.result ≤ length writes = omega (arith, c.len.ensures, c.args.self.now.writes.ok.0) in
     pushed P c.remove-flowed.new.self.items _ _ (is_ok c.push-kept.result) c.push-kept.ensures.items
     (subst (All P) (sym c.remove-flowed.ensures.items) (removed P items c.args.k c.requires.flowed))
-    (kept_again pass writes frame.locals f c.len.result has within (sym l ∙ c.if-not-locals_flow.false))
+    (kept_again pass writes frame.locals f c.len.result has within l)
