@@ -749,6 +749,103 @@ def start_in_turn(folder, scale):
     written_with(folder, add, scaled(scale, 30))
 
 
+def few_in_turn(folder, scale):
+    """65,000 frames of 16 entries each, over 65,535 local variables, of which no two that stand side by side share any; in two methods."""
+    count = scaled(scale, 65000)
+
+    def add(made, name):
+        spelled = b"".join(full(1 if k == 0 else 0, [INT if k % 2 else TOP] * 16, []) for k in range(count))
+        made.method(9, name, "()V", 0, 65535, bytes([177]) * (count + 1), b"", (count, spelled))
+
+    written_with(folder, add, 2)
+
+
+def pairs_in_turn(folder, scale):
+    """Branches to 64 frames of 1,024 entries over 65,535 local variables, of two kinds in turn, each of which has an entry less than the one
+    before of its kind; in 1,000 methods 2.7 MB."""
+    def add(made, name):
+        code = b"".join(branch(256 + k // 2 + 32 * (k % 2), 4 * k) for k in range(64)) + bytes([177]) * 64
+        less = (u1(250) + u2(0)) * 31
+        spelled = full(256, [INT] + [TOP] * 1063, []) + less + full(0, [TOP] * 1064, []) + less
+        made.method(9, name, "(I)V", 1, 65535, code, b"", (64, spelled))
+
+    written_with(folder, add, scaled(scale, 1000))
+
+
+def apart_in_turn(folder, scale):
+    """8,000 branches to 32 frames of 65,535 entries that share none, in turn; in one method 2.1 MB."""
+    far_in_turn(folder, scale, 32, 65535, 65535, 1)
+
+
+def short_in_turn(folder, scale):
+    """8,000 branches to 32 frames of 255 entries that share none, in turn; in 90 methods 3.8 MB."""
+    far_in_turn(folder, scale, 32, 255, 255, scaled(scale, 90))
+
+
+def small_in_turn(folder, scale):
+    """8,000 branches to 32 frames of 1,000 entries that share none, in turn, over 65,535 local variables; in 60 methods 3.9 MB."""
+    far_in_turn(folder, scale, 32, 1000, 65535, scaled(scale, 60))
+
+
+def far_in_turn(folder, scale, targets, entries, max_locals, methods):
+    count = scaled(scale, 8000)
+    at = 4 * count
+
+    def add(made, name):
+        code = b"".join(branch(at + k % targets, 4 * k) for k in range(count)) + bytes([177]) * targets
+        spelled = b""
+        for n in range(targets):
+            # The first five entries say the frame's number, so that no other begins as it does.
+            begin = [INT if n >> bit & 1 else TOP for bit in range(5)]
+            spelled += full(at if n == 0 else 0, begin + [TOP] * (entries - 5), [])
+        made.method(9, name, "(IIIII)V", 1, max_locals, code, b"", (targets, spelled))
+
+    written_with(folder, add, methods)
+
+
+def stacks_kept(folder, scale):
+    """256 branches with 64 items on the stack to as many frames, then 28,000 instructions; in 85 methods 4 MB."""
+    targets, idle = scaled(scale, 256), scaled(scale, 28000)
+    at = 64 + 4 * targets + idle
+
+    def add(made, name):
+        code = bytes([3]) * 64 + b"".join(branch(at + k, 64 + 4 * k) for k in range(targets))
+        code += bytes(at - len(code)) + bytes([177]) * targets
+        spelled = b"".join(full(at if k == 0 else 0, [], [INT] * 64) for k in range(targets))
+        made.method(9, name, "()V", 65, 0, code, b"", (targets, spelled))
+
+    written_with(folder, add, scaled(scale, 85))
+
+
+def stores_for_many(folder, scale):
+    """Branches to 64 frames of 1,024 entries over 65,535 local variables, of two kinds in turn, then 15,000 stores, then the branches once more;
+    in 115 methods 4 MB."""
+    count = scaled(scale, 15000)
+    at = 512 + 2 * count
+
+    def add(made, name):
+        order = [at + k // 2 + 32 * (k % 2) for k in range(64)]
+        code = b"".join(branch(to, 4 * k) for k, to in enumerate(order)) + bytes([3, 60]) * count
+        code += b"".join(branch(to, 256 + 2 * count + 4 * k) for k, to in enumerate(order)) + bytes([177]) * 64
+        less = (u1(250) + u2(0)) * 31
+        spelled = full(at, [INT] + [TOP] * 1063, []) + less + full(0, [TOP] * 1064, []) + less
+        made.method(9, name, "(I)V", 1, 65535, code, b"", (64, spelled))
+
+    written_with(folder, add, scaled(scale, 115))
+
+
+def new_named(folder, scale):
+    """`new, pop` 16,000 times behind a frame of 65,535 entries, of which one names the last `new`; in 30 methods 4 MB."""
+    count = scaled(scale, 16000)
+
+    def add(made, name):
+        code = bytes([177]) + (bytes([187]) + u2(made.named("Main")) + bytes([87])) * count + bytes([177])
+        last = u1(8) + u2(1 + 4 * (count - 1))
+        made.method(9, name, "()V", 1, 65535, code, b"", (1, full(1, [INT] * 65534 + [last], [])))
+
+    written_with(folder, add, scaled(scale, 30))
+
+
 def new_branches(folder, scale):
     """8,000 objects that are not initialized on the stack, and 3,000 branches with them."""
     made = ClassFile("Main")
@@ -809,7 +906,8 @@ SHAPES = [
     stack_branches, stack_branches_often, stack_pushed, stack_in_turn, stack_calls, stack_constructs, stack_to_objects,
     start_branches, switch_apart, stores_apart, frames_in_turn, branches_in_turn, branches_in_turn_often, new_branches,
     interfaces_long, interfaces_before, catches_long, stores_and_branches, stores_below_handler, new_held, made_below_handler,
-    frames_fall_in_turn, start_in_turn,
+    frames_fall_in_turn, start_in_turn, few_in_turn, pairs_in_turn, apart_in_turn, short_in_turn, small_in_turn, stacks_kept,
+    stores_for_many, new_named,
 ]
 
 
