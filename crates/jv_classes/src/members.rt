@@ -88,11 +88,12 @@ fn key_kept(member: &KeptMember<'_>) -> u64
     member.name_hash.wrapping_add(member.descriptor_hash)
 }
 
-/// How many slots a table for so many members has, a power of two: between two and four for each.
+/// How many slots a table for so many members has, a power of two: eight to sixteen for each, so that most are empty, and what is
+/// not there is known as such without a look at a member.
 fn slots_for(count: usize) -> usize
     ensures { 0 < result }
 {
-    let wanted = 2 * count.min(MOST);
+    let wanted = 8 * count.min(MOST);
     wanted.max(1).next_power_of_two()
 }
 
