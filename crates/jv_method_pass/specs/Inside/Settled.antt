@@ -18,7 +18,7 @@ abbrev pub is_settled : Option ℕ → Handler → Bool
 is_settled None handler = false
 is_settled (Some before) handler = covers handler before
 
--- without an object, or with none, local variables are those that a handler of an instruction begins with
+-- once an object cannot be used any more, where there is one, local variables are those with which a handler of an instruction begins
 abbrev pub IsLeft : Environment → Instruction → List (List ℕ) → NumberFrame → Option Item → Type 0
 IsLeft env insn names frame object =
     without_object (option_map (typed names) object) (typed_all names frame.locals) ≡ (handler_frame env insn (frame_of names frame)).locals
