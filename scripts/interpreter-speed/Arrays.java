@@ -1,8 +1,10 @@
-/** Arrays of ints and bytes: a sieve and a sort. */
+/** Arrays of ints and bytes: a sieve and a sort, over and over. */
 public class Arrays {
-    public static void main(String[] arguments) {
+    static int primes(boolean[] sieve) {
         int count = 0;
-        boolean[] sieve = new boolean[2_000_000];
+        for (int i = 0; i < sieve.length; i++) {
+            sieve[i] = false;
+        }
         for (int i = 2; i < sieve.length; i++) {
             if (!sieve[i]) {
                 count++;
@@ -11,7 +13,10 @@ public class Arrays {
                 }
             }
         }
-        int[] values = new int[3_000];
+        return count;
+    }
+
+    static void sort(int[] values) {
         for (int i = 0; i < values.length; i++) {
             values[i] = (i * 7_919) % 3_001;
         }
@@ -24,6 +29,17 @@ public class Arrays {
             }
             values[k + 1] = value;
         }
-        host.Io.write(count + values[1_000]);
+    }
+
+    public static void main(String[] arguments) {
+        boolean[] sieve = new boolean[2_000_000];
+        int[] values = new int[3_000];
+        int sum = 0;
+        for (int round = 0; round < 6; round++) {
+            sum += primes(sieve);
+            sort(values);
+            sum += values[1_000];
+        }
+        host.Io.write(sum);
     }
 }

@@ -5,6 +5,6 @@ public class Calls {
     }
 
     public static void main(String[] arguments) {
-        host.Io.write(fibonacci(32));
+        host.Io.write(fibonacci(34));
     }
 }

@@ -11,7 +11,7 @@ public class Exceptions {
 
     public static void main(String[] arguments) {
         int caught = 0;
-        for (int i = 0; i < 2_000_000; i++) {
+        for (int i = 0; i < 5_000_000; i++) {
             try {
                 caught += odd(i) & 1;
             } catch (IllegalStateException e) {

@@ -6,7 +6,7 @@ public class Fields {
 
     public static void main(String[] arguments) {
         Fields own = new Fields();
-        for (int i = 0; i < 8_000_000; i++) {
+        for (int i = 0; i < 30_000_000; i++) {
             own.first += i;
             own.second ^= own.first;
             rounds++;

@@ -3,7 +3,7 @@ public class Strings {
     public static void main(String[] arguments) {
         String text = "the quick brown fox jumps over the lazy dog";
         int sum = 0;
-        for (int i = 0; i < 60_000; i++) {
+        for (int i = 0; i < 120_000; i++) {
             sum += text.hashCode();
             for (int k = 0; k < text.length(); k++) {
                 sum = sum * 3 + text.charAt(k);
