@@ -28,7 +28,6 @@ use Rattle.jv_types.specs.Numbered.{Item, NumberFrame, frame_of}
 use Rattle.jv_rules.specs.Laws.{WritesThere, keeps_locals}
 use Rattle.jv_method_pass.specs.Inside.Changes.{stored_index, object_replaced, is_copy, is_object_at, changes_by, may_change, may_change_at, HoldCopies}
 use Rattle.jv_method_pass.specs.Inside.Held.{HeldFrame, is_written, Writes, WritesBy}
-use Rattle.jv_method_pass.proofs.Holding.{past_none}
 
 -- ---- what gave what
 
@@ -205,20 +204,3 @@ covers_changes env pc insn names f object places is copies k e = by_index (store
         → changes_by o (is_object_at (object_replaced pc (constructed_object env insn (frame_of names f)) insn) (typed_all names f.locals)) k ≡ false
     by_index None w = others w
     by_index (Some index) w = w
-
--- no copy is where none is
-pub no_copies : (object : FrameType) (locals : List FrameType) → list_any (is_same_object object) locals ≡ false → (k : ℕ) → is_copy object locals k ≡ false
-no_copies object [] e zero = refl
-no_copies object [] e (suc k) = refl
-no_copies object (t ∷ locals) e zero = (neither (is_same_object object t) (list_any (is_same_object object) locals) e).0
-no_copies object (t ∷ locals) e (suc k) = no_copies object locals (neither (is_same_object object t) (list_any (is_same_object object) locals) e).1 k
-
-pub past_copies : (object : FrameType) (locals : List FrameType) (k : ℕ) → length locals ≤ k → is_copy object locals k ≡ false
-past_copies object locals k le = ap (λ (o : Option FrameType). unwrap_or (option_map (is_same_object object) o) false) (past_none locals k le)
-
-pub copies_within : (object : FrameType) (locals : List FrameType) (count k : ℕ) → length locals ≡ count → (k < count → is_copy object locals k ≡ false) → is_copy object locals k ≡ false
-copies_within object locals count k many within = by_test (nat_lt k count) refl
-  where
-    by_test : (b : Bool) → nat_lt k count ≡ b → is_copy object locals k ≡ false
-    by_test true e = within (ltb-true k count e)
-    by_test false e = past_copies object locals k (omega (arith, ltb-false k count e, many))

@@ -1,16 +1,15 @@
 //! Which local variables an instruction can give other types: those that it stores into, and those that hold a copy of an object that it
 //! replaces (JVMS 4.10.1.4).
 
-ghost use Rattle.std.specs.Prelude.{◌≡◌, ◌<◌, ℕ, List, false, length, IfOk, IsTrue};
+ghost use Rattle.std.specs.Prelude.{◌≡◌, ℕ, List, IfOk};
 ghost use Rattle.std.specs.Option.{option_map};
 ghost use Rattle.jv_code.specs.Insns.{instruction_of};
 ghost use Rattle.jv_meaning_typing.specs.Environment.{Environment};
 ghost use Rattle.jv_meaning_typing.specs.Rule.{constructed_object};
-ghost use Rattle.jv_types.specs.Typed.{typed, typed_all};
+ghost use Rattle.jv_types.specs.Typed.{typed};
 ghost use Rattle.jv_types.specs.Numbered.{frame_of};
 ghost use Rattle.jv_method_pass.specs.Pass.{IsOfPass, names_in};
-ghost use Rattle.jv_method_pass.specs.Inside.Held.{is_written};
-ghost use Rattle.jv_method_pass.specs.Inside.Changes.{stored_index, made_at, object_replaced, is_copy, HoldCopies, CoversChanges};
+ghost use Rattle.jv_method_pass.specs.Inside.Changes.{stored_index, made_at, object_replaced, HoldCopies, CoversChanges};
 
 use crate::pass::Pass;
 use jv_code::Insn;
@@ -57,57 +56,14 @@ fn object_replaced(
     }
 }
 
-/// Whether a local variable is known to hold no copy of an object.
-fn is_other(frame: &TypeFrame, object: Item, place: u16) -> bool
-    ensures { IsTrue result → (names : List (List ℕ)) → is_copy (typed names object) (typed_all names frame.now.locals) place ≡ false }
-{
-    match (object, frame.local(place)) {
-        (VerificationTypeOf::UninitializedThis, Some(VerificationTypeOf::UninitializedThis)) => {
-            false
-        }
-        (VerificationTypeOf::Uninitialized(one), Some(VerificationTypeOf::Uninitialized(other))) =>
-            { one != other }
-        _ => true,
-    }
-}
-
-/// The places of so many local variables that hold a copy of an object.
-fn copies_among(
-    alloc: Global,
-    frame: &TypeFrame,
-    object: Item,
-    count: u16,
-) -> Result<Vec<u16>, AllocError>
-    ensures { IfOk result (λ places. (names : List (List ℕ)) (k : ℕ) → k < count → is_written places.items k ≡ false
-        → is_copy (typed names object) (typed_all names frame.now.locals) k ≡ false) }
-{
-    let mut places = Vec::new(alloc);
-    for place in 0..count {
-        if !is_other(frame, object, place) {
-            places.push(place)?;
-        }
-    }
-    Ok(places)
-}
-
-/// The places of local variables, of which there are so many, that hold a copy of an object, if there is one.
-fn copies_of(
-    alloc: Global,
-    frame: &TypeFrame,
-    object: Option<Item>,
-    count: u16,
-) -> Result<Vec<u16>, AllocError>
-    requires { length frame.now.locals ≡ count }
+/// The places of local variables that hold a copy of an object, if there is one.
+fn copies_of(alloc: Global, frame: &TypeFrame, object: Option<Item>) -> Result<Vec<u16>, AllocError>
     ensures { IfOk result (λ places. HoldCopies places.items object frame.now.locals) }
 {
-    let Some(object) = object else {
-        return Ok(Vec::new(alloc));
-    };
-    if !frame.has_in_locals(object) {
-        return Ok(Vec::new(alloc));
+    match object {
+        None => Ok(Vec::new(alloc)),
+        Some(object) => frame.copies_in_locals(alloc, object),
     }
-    let places = copies_among(alloc, frame, object, count)?;
-    Ok(places)
 }
 
 /// The places at which an instruction can change local variables, but for those that it stores into.
@@ -118,10 +74,9 @@ pub(crate) fn copies_changed(
     offset: u16,
     insn: &Insn<&[u8]>,
 ) -> Result<Vec<u16>, AllocError>
-    requires { length frame.now.locals ≡ pass.now.max_locals }
     ensures { IfOk result (λ copies. CoversChanges pass.now offset (instruction_of insn.now) frame.now copies.items) }
 {
     let object = object_replaced(pass, frame, offset, insn);
-    let copies = copies_of(alloc, frame, object, pass.max_locals)?;
+    let copies = copies_of(alloc, frame, object)?;
     Ok(copies)
 }

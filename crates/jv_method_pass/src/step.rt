@@ -160,7 +160,6 @@ fn note(
     offset: u16,
     insn: &Insn<&[u8]>,
 ) -> Result<(), AllocError>
-    requires { length frame.now.locals ≡ pass.now.max_locals }
     ensures held { OnOk result (InPass pass.now (λ env.
         Writes (may_change env offset (instruction_of insn.now) (frame_of (names_in pass.now) frame.now)) held.old held.new)) }
     ensures flowed { OnOk result (InPass pass.now (λ env.

@@ -1,8 +1,8 @@
 -- Local variables that hold nothing from a place on.
-use Rattle.std.proofs.Common.{◌≡◌, ℕ, zero, suc, ◌<◌, ◌≤◌, List, [], ◌∷◌, ◌++◌, map, take, length, replicate, set, refl, sym, ap, subst, ◌∙◌, arith, if◌then◌else◌}
+use Rattle.std.proofs.Common.{◌≡◌, ℕ, zero, suc, ◌<◌, ◌≤◌, List, [], ◌∷◌, ◌++◌, map, take, length, replicate, set, refl, sym, ap, subst, ◌∙◌, arith}
 use Rattle.jv_frames.specs.declared.verification.VerificationTypeOf.TheVariants as types
 use Rattle.jv_types.specs.Numbered.{Item}
-use Rattle.jv_types.specs.Inside.Swapped.{same_object, swapped}
+use Rattle.jv_types.specs.Inside.Swapped.{swapped}
 use Rattle.jv_types.specs.Inside.Tops.{AreTops}
 use Rattle.jv_types.proofs.Replacing.{written}
 

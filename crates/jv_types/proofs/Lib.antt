@@ -1,6 +1,7 @@
 pub mod Components
 pub mod KeptTops
 pub mod MadeBefore
+pub mod Noting
 pub mod Numbered
 pub mod Replacing
 pub mod Storing

@@ -1,6 +1,6 @@
 -- Objects that are not initialized, by the names of types.
 use Rattle.std.proofs.Common.{◌≡◌, ℕ, zero, suc, take, length, arith, Bool, true, false, ◌||◌, List, [], ◌∷◌, ◌++◌, map, reverse, ◌+◌, refl, sym, ap, ◌∙◌, if◌then◌else◌}
-use Rattle.std.proofs.lemmas.List.{map-append, reverse-append, length-map}
+use Rattle.std.proofs.lemmas.List.{map-append, reverse-append}
 use Rattle.std.proofs.lemmas.List.Sums.{sum_by-cons}
 use Rattle.std.specs.List.{list_any}
 use Rattle.jv_frames.specs.declared.verification.VerificationTypeOf.TheVariants as types

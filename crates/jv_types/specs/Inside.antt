@@ -2,6 +2,7 @@ pub mod Before
 pub mod Behind
 pub mod Cut
 pub mod Kept
+pub mod Noted
 pub mod Swapped
 pub mod Tops
 pub mod Calls

@@ -1,25 +1,32 @@
 //! Types in order, with what is known of the objects among them.
 
-ghost use Rattle.std.specs.Prelude.{◌≡◌, ◌<◌, ◌≤◌, ◌++◌, ◌∷◌, [], ℕ, List, length, map, replicate, reverse, set, slice_get, MatchOption, IfOk, OnOk, OnErr};
+ghost use Rattle.std.specs.Prelude.{◌≡◌, ◌<◌, ◌≤◌, ◌++◌, ◌∷◌, [], ℕ, length, map, replicate, reverse, set, slice_get, MatchOption, IfOk, IfSome, OnOk, OnErr};
 ghost use Rattle.std.specs.List.{list_any};
 ghost use Rattle.jv_frames.specs.declared.verification.VerificationTypeOf.TheVariants as types;
 ghost use Rattle.jv_types.specs.Inside.Before.{IsBefore, is_past};
 ghost use Rattle.jv_types.specs.Inside.Swapped.{same_object, swapped};
 ghost use Rattle.jv_types.specs.Inside.Tops.{AreTops};
-ghost use Rattle.jv_types.specs.Numbered.{Item, StoresAny, words_of_item};
+ghost use Rattle.jv_types.specs.Inside.Noted.{Holds};
+ghost use Rattle.jv_types.specs.Numbered.{StoresAny, words_of_item};
 
 use crate::locals::{put, store};
 use crate::names::Item;
-use crate::objects::{has_object, replace_all};
+use crate::notes::{Notes, key_of, places_below};
+use crate::objects::{has_object, is_at_any, replace_copies};
+use crate::tops::make_tops;
 use jv_frames::VerificationTypeOf;
 use std::alloc::{AllocError, Global};
 use std::marker::Model;
 
+/// How many types there are at least of which notes are made: fewer are as soon gone over.
+const MANY: usize = 64;
+
 /// Types in order. Each object among them that a `new` made was made before an offset: so an object of a `new` from there on
-/// is not looked for.
+/// is not looked for; and where notes are kept, each is found by them.
 pub(crate) struct Items {
     items: Vec<Item>,
     end: u32,
+    notes: Notes,
 }
 
 impl Model for Items {
@@ -27,17 +34,22 @@ impl Model for Items {
     ghost use Rattle.std.specs.List.{All};
     ghost use Rattle.jv_types.specs.Numbered.{Item};
     ghost use Rattle.jv_types.specs.Inside.Before.{IsBefore};
+    ghost use Rattle.jv_types.specs.Inside.Noted.{AreNoted};
 
     ghost Value = { List Item };
 
     ghost view = { λ i. i.items.items };
 
-    ghost invariant = { λ i. All (IsBefore i.end) i.items.items };
+    ghost invariant = { λ i. All (IsBefore i.end) i.items.items × AreNoted i.notes i.items.items };
 }
 
 impl Drop for Items {
     fn drop(self) {
-        let Items { items: _, end: _ } = self;
+        let Items {
+            items: _,
+            end: _,
+            notes: _,
+        } = self;
     }
 }
 
@@ -66,27 +78,6 @@ fn raised(end: u32, item: Item) -> u32
     }
 }
 
-/// The place, or the count where that is less.
-fn least(used: usize, count: usize) -> usize
-    ensures within { result ≤ count }
-    ensures tops { (items : List Item) → length items ≡ count → AreTops used items → AreTops result items }
-{
-    if used < count { used } else { count }
-}
-
-/// Makes those before a place top, or all where there are fewer.
-fn make_tops(items: &mut [Item], used: usize)
-    requires { AreTops used items.old }
-    ensures tops { items.new ≡ replicate (length items.old) types.Top }
-    ensures same { length items.new ≡ length items.old }
-{
-    let mut left = least(used, items.len());
-    while left > 0 {
-        left -= 1;
-        items[left] = VerificationTypeOf::Top;
-    }
-}
-
 impl Items {
     /// No types.
     pub(crate) fn new(alloc: Global) -> Items
@@ -95,6 +86,7 @@ impl Items {
         Items {
             items: Vec::new(alloc),
             end: 0,
+            notes: Notes::new(alloc),
         }
     }
 
@@ -104,7 +96,11 @@ impl Items {
     {
         let mut items = Vec::new(alloc);
         items.resize(count, VerificationTypeOf::Top)?;
-        Ok(Items { items, end: 0 })
+        Ok(Items {
+            items,
+            end: 0,
+            notes: Notes::new(alloc),
+        })
     }
 
     /// Makes each top, where those from a place on are.
@@ -114,6 +110,7 @@ impl Items {
     {
         make_tops(&mut self.items, used);
         self.end = 0;
+        self.notes.forget();
     }
 
     /// Takes all away.
@@ -122,6 +119,7 @@ impl Items {
     {
         self.items.clear();
         self.end = 0;
+        self.notes.forget();
     }
 
     #[inline(always)]
@@ -145,8 +143,10 @@ impl Items {
         ensures ok { OnOk result (self.new ≡ self.old ++ item ∷ []) }
         ensures refused { OnErr result (self.new ≡ self.old) }
     {
+        let place = self.items.len();
         self.items.push(item)?;
         self.end = raised(self.end, item);
+        self.notes.add(place, item, place);
         Ok(())
     }
 
@@ -162,6 +162,7 @@ impl Items {
     pub(crate) fn turn(&mut self)
         ensures { self.new ≡ reverse self.old }
     {
+        self.notes.forget();
         self.items.reverse();
     }
 
@@ -173,6 +174,7 @@ impl Items {
         ensures tops { (used : ℕ) → index < used → AreTops used self.old → AreTops used self.new }
     {
         self.end = raised(self.end, item);
+        self.notes.add(index, item, self.items.len());
         store(&mut self.items, index, item)
     }
 
@@ -182,24 +184,89 @@ impl Items {
         ensures tops { (used : ℕ) → place < used → AreTops used self.old → AreTops used self.new }
     {
         self.end = raised(self.end, item);
+        self.notes.add(place, item, self.items.len());
         put(&mut self.items, place, item);
     }
 
-    /// Puts a type in the place of each copy of an object.
-    pub(crate) fn replace(&mut self, object: Item, by: Item)
+    /// Makes notes of the objects among many, where none is from a place on.
+    fn make_notes(&mut self, used: usize)
+        requires { AreTops used self.old }
+        ensures { self.new ≡ self.old }
+    {
+        if self.items.len() >= MANY {
+            self.notes.make(&self.items, used);
+        }
+    }
+
+    /// The places of an object, where notes say them.
+    fn noted(&self, object: Item) -> Option<Vec<u16>>
+        ensures { IfSome result (λ places. Holds places.items object self.now) }
+    {
+        if !self.notes.are_kept() {
+            return None;
+        }
+        let key = key_of(object)?;
+        self.notes.places(&self.items, object, key).ok()
+    }
+
+    /// Puts a type in the place of each copy of an object, where none is from a place on.
+    pub(crate) fn replace(&mut self, object: Item, by: Item, used: usize)
+        requires { AreTops used self.old }
         ensures { self.new ≡ map (swapped object by) self.old }
     {
         if is_past(self.end, object) {
             return;
         }
+        self.make_notes(used);
+        let places = self.noted(object);
         self.end = raised(self.end, by);
-        replace_all(&mut self.items, object, by);
+        self.notes.allow(by);
+        self.notes.leave(object);
+        replace_copies(&mut self.items, places.as_deref(), object, by);
     }
 
     /// Whether an object is among them.
     pub(crate) fn has(&self, object: Item) -> bool
         ensures { result ≡ list_any (same_object object) self.now }
     {
-        !is_past(self.end, object) && has_object(&self.items, object)
+        if is_past(self.end, object) {
+            return false;
+        }
+        match self.noted(object) {
+            Some(places) => is_at_any(&self.items, &places, object),
+            None => has_object(&self.items, object),
+        }
+    }
+
+    /// Whether an object is among them, for which notes may be made.
+    pub(crate) fn find(&mut self, object: Item) -> bool
+        ensures found { result ≡ list_any (same_object object) self.old }
+        ensures same { self.new ≡ self.old }
+    {
+        if is_past(self.end, object) {
+            return false;
+        }
+        let count = self.items.len();
+        self.make_notes(count);
+        self.has(object)
+    }
+
+    /// The places of an object, where none is from a place on.
+    pub(crate) fn copies(
+        &self,
+        alloc: Global,
+        object: Item,
+        used: usize,
+    ) -> Result<Vec<u16>, AllocError>
+        requires { AreTops used self.now }
+        ensures { IfOk result (λ places. Holds places.items object self.now) }
+    {
+        if is_past(self.end, object) {
+            return Ok(Vec::new(alloc));
+        }
+        match self.noted(object) {
+            Some(places) => Ok(places),
+            None => places_below(alloc, &self.items, object, used),
+        }
     }
 }

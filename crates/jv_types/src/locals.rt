@@ -6,6 +6,7 @@ ghost use Rattle.jv_frames.specs.declared.verification.VerificationTypeOf.TheVar
 ghost use Rattle.jv_types.specs.Typed.{typed};
 ghost use Rattle.jv_types.specs.Inside.Before.{IsBefore};
 ghost use Rattle.jv_types.specs.Inside.Cut.{is_long, cut_at};
+ghost use Rattle.jv_types.specs.Inside.Noted.{BringsNone, KeepsObjects};
 ghost use Rattle.jv_types.specs.Inside.Tops.{AreTops};
 ghost use Rattle.jv_types.specs.Numbered.{StoresAny, words_of_item};
 
@@ -27,6 +28,7 @@ fn cut_before(locals: &mut [Item], index: usize)
     ensures same { length locals.new ≡ length locals.old }
     ensures before { (end : ℕ) → All (IsBefore end) locals.old → All (IsBefore end) locals.new }
     ensures tops { (used : ℕ) → AreTops used locals.old → AreTops used locals.new }
+    ensures objects { BringsNone locals.old locals.new }
 {
     if index == 0 {
         return;
@@ -43,6 +45,7 @@ fn store_item(locals: &mut [Item], index: usize, item: Item) -> bool
     ensures same { length locals.new ≡ length locals.old }
     ensures before { (end : ℕ) → IsBefore end item → All (IsBefore end) locals.old → All (IsBefore end) locals.new }
     ensures tops { (used : ℕ) → index < used → AreTops used locals.old → AreTops used locals.new }
+    ensures objects { KeepsObjects index item locals.old locals.new }
 {
     if index >= locals.len() {
         return false;
@@ -58,6 +61,7 @@ fn store_long(locals: &mut [Item], index: usize) -> bool
     ensures same { length locals.new ≡ length locals.old }
     ensures before { (end : ℕ) → All (IsBefore end) locals.old → All (IsBefore end) locals.new }
     ensures tops { (used : ℕ) → index < used → AreTops used locals.old → AreTops used locals.new }
+    ensures objects { BringsNone locals.old locals.new }
 {
     if index >= locals.len() || index + 1 >= locals.len() {
         return false;
@@ -75,6 +79,7 @@ pub(crate) fn store(locals: &mut [Item], index: usize, item: Item) -> bool
     ensures same { length locals.new ≡ length locals.old }
     ensures before { (end : ℕ) → IsBefore end item → All (IsBefore end) locals.old → All (IsBefore end) locals.new }
     ensures tops { (used : ℕ) → index < used → AreTops used locals.old → AreTops used locals.new }
+    ensures objects { KeepsObjects index item locals.old locals.new }
 {
     match item {
         VerificationTypeOf::Long => store_long(locals, index),
@@ -89,6 +94,7 @@ pub(crate) fn put(locals: &mut [Item], place: usize, item: Item)
     ensures same { length locals.new ≡ length locals.old }
     ensures before { (end : ℕ) → IsBefore end item → All (IsBefore end) locals.old → All (IsBefore end) locals.new }
     ensures tops { (used : ℕ) → place < used → AreTops used locals.old → AreTops used locals.new }
+    ensures objects { KeepsObjects place item locals.old locals.new }
 {
     if place < locals.len() {
         locals[place] = item;

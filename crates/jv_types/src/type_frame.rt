@@ -1,9 +1,10 @@
 //! A frame that is changed in place.
 
-ghost use Rattle.std.specs.Prelude.{◌≡◌, ℕ, List, [], length, set, slice_get, MatchOption, reverse, IfOk, OnOk, OnErr, IfNone};
+ghost use Rattle.std.specs.Prelude.{◌≡◌, ℕ, List, [], false, length, set, slice_get, MatchOption, reverse, IfOk, OnOk, OnErr, IfNone};
 ghost use Rattle.std.specs.List.{list_any};
 ghost use Rattle.jv_meaning_typing.specs.FrameChanges.{is_same_object};
 ghost use Rattle.jv_types.specs.Typed.{typed, typed_all};
+ghost use Rattle.jv_types.specs.Inside.Noted.{is_among, is_in_local};
 ghost use Rattle.jv_types.specs.Numbered.{blank, topped, with_flag, with_locals, with_stack, without_flag, stack_words, item_words, StoresAny, ReplacesAny, words_of_item};
 
 use crate::items::Items;
@@ -191,11 +192,25 @@ impl TypeFrame {
         self.locals.has(object)
     }
 
-    /// Whether an object that is not initialized is on the stack.
-    pub fn has_on_stack(&self, object: Item) -> bool
-        ensures { (names : List (List ℕ)) → result ≡ list_any (is_same_object (typed names object)) (typed_all names self.now.stack) }
+    /// The places of local variables in which an object that is not initialized is.
+    ///
+    /// # Errors
+    ///
+    /// Where the host had no memory for them.
+    pub fn copies_in_locals(&self, alloc: Global, object: Item) -> Result<Vec<u16>, AllocError>
+        ensures { IfOk result (λ places. (names : List (List ℕ)) (k : ℕ) → is_among places.items k ≡ false
+            → is_in_local (typed names object) (typed_all names self.now.locals) k ≡ false) }
     {
-        self.stack.has(object)
+        let places = self.locals.copies(alloc, object)?;
+        Ok(places)
+    }
+
+    /// Whether an object that is not initialized is on the stack.
+    pub fn has_on_stack(&mut self, object: Item) -> bool
+        ensures found { (names : List (List ℕ)) → result ≡ list_any (is_same_object (typed names object)) (typed_all names self.old.stack) }
+        ensures same { self.new ≡ self.old }
+    {
+        self.stack.find(object)
     }
 
     /// Gives all copies of an object that is not initialized in local variables a type.
@@ -212,7 +227,8 @@ impl TypeFrame {
         ensures stack { ReplacesAny object by self.old.stack self.new.stack }
         ensures same { self.new ≡ with_stack self.new.stack self.old }
     {
-        self.stack.replace(object, by);
+        let height = self.stack.len();
+        self.stack.replace(object, by, height);
     }
 
     /// `this` is initialized from now on.

@@ -3,6 +3,7 @@
 ghost use Rattle.std.specs.Prelude.{◌≡◌, ◌<◌, ◌≤◌, length, map, replicate, set, slice_get, IfOk};
 ghost use Rattle.std.specs.List.{list_any};
 ghost use Rattle.jv_frames.specs.declared.verification.VerificationTypeOf.TheVariants as types;
+ghost use Rattle.jv_types.specs.Inside.Noted.{Holds};
 ghost use Rattle.jv_types.specs.Inside.Swapped.{same_object, swapped};
 ghost use Rattle.jv_types.specs.Numbered.{StoresAny, words_of_item};
 
@@ -108,6 +109,13 @@ impl Variables {
     pub(crate) fn replace(&mut self, object: Item, by: Item)
         ensures { self.new ≡ map (swapped object by) self.old }
     {
-        self.items.replace(object, by);
+        self.items.replace(object, by, self.used);
+    }
+
+    /// The places of an object.
+    pub(crate) fn copies(&self, alloc: Global, object: Item) -> Result<Vec<u16>, AllocError>
+        ensures { IfOk result (λ places. Holds places.items object self.now) }
+    {
+        self.items.copies(alloc, object, self.used)
     }
 }

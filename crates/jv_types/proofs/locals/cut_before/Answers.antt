@@ -2,6 +2,7 @@ use Rattle.std.proofs.Common.{◌∙◌, sym}
 use Rattle.jv_types.proofs.Storing.{set_before, same_before}
 use Rattle.std.proofs.Common.{◌-◌}
 use Rattle.jv_types.proofs.KeptTops.{set_top}
+use Rattle.jv_types.proofs.Noting.{top_set}
 use Rattle.jv_types.proofs.locals.cut_before.Goals as goal
 
 pub returns-then-is_long-clause-cut : goal.returns-then-is_long-clause-cut
@@ -12,3 +13,6 @@ returns-else-is_long-clause-cut c = same_before c.args.index c.args.locals.now _
 
 pub returns-then-is_long-clause-tops : goal.returns-then-is_long-clause-tops
 returns-then-is_long-clause-tops c = λ used h. set_top used c.args.locals.now (c.args.index - 1) h
+
+pub returns-then-is_long-clause-objects : goal.returns-then-is_long-clause-objects
+returns-then-is_long-clause-objects c = top_set c.args.locals.now (c.args.index - 1)

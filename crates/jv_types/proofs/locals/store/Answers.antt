@@ -2,6 +2,7 @@ use Rattle.std.proofs.Common.{sym, subst}
 use Rattle.jv_frames.specs.Frames.{type_by_words}
 use Rattle.jv_types.specs.Typed.{typed, typed_all}
 use Rattle.jv_types.specs.Numbered.{Item, Stores}
+use Rattle.jv_types.proofs.Noting.{brings_none}
 use Rattle.jv_types.proofs.locals.store.Goals as goal
 
 pub returns-in-Long-clause-stored : goal.returns-in-Long-clause-stored
@@ -11,3 +12,6 @@ returns-in-Long-clause-stored c = λ names.
 
 pub returns-in-Long-clause-before : goal.returns-in-Long-clause-before
 returns-in-Long-clause-before c = λ end item all. c.store_long.ensures.before end all
+
+pub returns-in-Long-clause-objects : goal.returns-in-Long-clause-objects
+returns-in-Long-clause-objects c = brings_none c.args.index c.args.item c.args.locals.now c.store_long.new.locals c.store_long.ensures.objects

@@ -2,10 +2,10 @@ use Rattle.std.proofs.Common.{◌∙◌, ap, sym, arith, [], ◌∷◌}
 use Rattle.std.specs.Prelude.{slice_set, Some}
 use Rattle.jv_types.specs.Typed.{typed, typed_all}
 use Rattle.jv_types.proofs.Storing.{stored_item, not_stored}
-use Rattle.std.specs.List.{All}
 use Rattle.std.proofs.lemmas.List.Elements.{All-set}
 use Rattle.jv_types.specs.Inside.Before.{IsBefore}
 use Rattle.jv_types.proofs.KeptTops.{set_used}
+use Rattle.jv_types.proofs.Noting.{item_set}
 use Rattle.jv_types.proofs.locals.store_item.Goals as goal
 
 pub returns-then-index-locals-clause-stored : goal.returns-then-index-locals-clause-stored
@@ -23,3 +23,6 @@ returns-clause-before c = λ end item all.
 
 pub returns-clause-tops : goal.returns-clause-tops
 returns-clause-tops c = λ used lt h. set_used used c.cut_before.new.locals c.args.index c.args.item lt (c.cut_before.ensures.tops used h)
+
+pub returns-clause-objects : goal.returns-clause-objects
+returns-clause-objects c = item_set c.args.locals.now c.cut_before.new.locals c.args.index c.args.item c.cut_before.ensures.objects

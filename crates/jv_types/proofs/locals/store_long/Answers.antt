@@ -4,10 +4,10 @@ use Rattle.jv_frames.specs.declared.verification.VerificationTypeOf.TheVariants 
 use Rattle.jv_types.specs.Typed.{typed_all}
 use Rattle.jv_types.specs.Inside.Cut.{cut_at}
 use Rattle.jv_types.proofs.Storing.{stored_long, not_stored}
-use Rattle.std.specs.List.{All}
 use Rattle.std.proofs.lemmas.List.Elements.{All-set}
 use Rattle.jv_types.specs.Inside.Before.{IsBefore}
 use Rattle.jv_types.proofs.KeptTops.{set_top, set_used}
+use Rattle.jv_types.proofs.Noting.{long_set, top_set, brought}
 use Rattle.jv_types.proofs.locals.store_long.Goals as goal
 use Rattle.jv_types.proofs.locals.store_long.Goals.{then-index-locals-via-then-index-locals, then-index-locals-via-else-index-locals+then-index-locals-2}
 
@@ -36,3 +36,9 @@ pub returns-clause-tops : goal.returns-clause-tops
 returns-clause-tops c = λ used lt h.
     set_top used (slice_set c.cut_before.new.locals c.args.index types.Long) (c.args.index + 1)
     (set_used used c.cut_before.new.locals c.args.index types.Long lt (c.cut_before.ensures.tops used h))
+
+pub returns-clause-objects : goal.returns-clause-objects
+returns-clause-objects c =
+    let long = slice_set c.cut_before.new.locals c.args.index types.Long in
+    brought c.args.locals.now c.cut_before.new.locals (slice_set long (c.args.index + 1) types.Top) c.cut_before.ensures.objects
+    (brought c.cut_before.new.locals long (slice_set long (c.args.index + 1) types.Top) (long_set c.cut_before.new.locals c.args.index) (top_set long (c.args.index + 1)))

@@ -1,8 +1,7 @@
-use Rattle.std.proofs.Common.{◌∙◌, ap, map}
+use Rattle.std.proofs.Common.{◌∙◌, ap}
 use Rattle.jv_meaning_typing.specs.FrameChanges.{replaced}
 use Rattle.jv_types.specs.Typed.{typed, typed_all}
 use Rattle.jv_types.specs.Numbered.{NumberFrame}
-use Rattle.jv_types.specs.Inside.Swapped.{swapped}
 use Rattle.jv_types.proofs.Replacing.{replaced_in}
 use Rattle.jv_types.proofs.type_frame.TypeFrame.replace_locals.Goals as goal
 

@@ -1,8 +1,9 @@
-use Rattle.std.proofs.Common.{◌∙◌, ap, map}
+use Rattle.std.proofs.Common.{◌∙◌, ap, sym, subst}
 use Rattle.jv_meaning_typing.specs.FrameChanges.{replaced}
 use Rattle.jv_types.specs.Typed.{typed, typed_all}
 use Rattle.jv_types.specs.Numbered.{NumberFrame}
-use Rattle.jv_types.specs.Inside.Swapped.{swapped}
+use Rattle.jv_types.specs.Inside.Tops.{AreTops}
+use Rattle.jv_types.proofs.KeptTops.{all_used}
 use Rattle.jv_types.proofs.Replacing.{replaced_on, words_kept}
 use Rattle.jv_types.proofs.type_frame.TypeFrame.replace_stack.Goals as goal
 
@@ -14,3 +15,6 @@ pub returns-clause-stack : goal.returns-clause-stack
 returns-clause-stack c = λ names.
     replaced_on names c.args.object c.args.by c.self.inside.stack c.replace.new.self c.replace.ensures
     ∙ ap (λ (f : NumberFrame). replaced (typed names c.args.object) (typed names c.args.by) (typed_all names f.stack)) c.self.view_is
+
+pub replace-requires : goal.replace-requires
+replace-requires c = subst (λ n. AreTops n c.self.inside.stack) (sym c.len-height.ensures) (all_used c.self.inside.stack)

@@ -1,4 +1,3 @@
-use Rattle.std.proofs.Common.{sym, subst}
 use Rattle.jv_types.proofs.KeptTops.{more_used}
 use Rattle.jv_types.proofs.variables.Variables.store.Goals as goal
 

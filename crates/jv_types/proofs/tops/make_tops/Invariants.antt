@@ -1,6 +1,6 @@
 use Rattle.std.proofs.Common.{◌≡◌, ◌≤◌, length}
 use Rattle.jv_types.specs.Inside.Tops.{AreTops}
-use Rattle.jv_types.proofs.items.make_tops.Given as goal
+use Rattle.jv_types.proofs.tops.make_tops.Given as goal
 
 abbrev pub invariant-loop-left : goal.invariant-loop-left
 invariant-loop-left l = (length l.items ≡ length l.fn.items) × (l.left ≤ length l.items) × AreTops l.left l.items

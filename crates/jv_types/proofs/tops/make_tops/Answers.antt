@@ -1,9 +1,9 @@
-use Rattle.std.proofs.Common.{◌≡◌, ◌≤◌, ◌-◌, ◌+◌, ◌∙◌, suc, length, set, replicate, refl, ap, sym, subst, arith}
+use Rattle.std.proofs.Common.{◌≡◌, ◌-◌, ◌∙◌, suc, replicate, refl, ap, subst, arith}
 use Rattle.std.proofs.lemmas.List.{length-set}
 use Rattle.jv_frames.specs.declared.verification.VerificationTypeOf.TheVariants as types
 use Rattle.jv_types.specs.Inside.Tops.{AreTops}
 use Rattle.jv_types.proofs.KeptTops.{one_less, none_used}
-use Rattle.jv_types.proofs.items.make_tops.Goals as goal
+use Rattle.jv_types.proofs.tops.make_tops.Goals as goal
 
 pub loop-left-init : goal.loop-left-init
 loop-left-init c = (
