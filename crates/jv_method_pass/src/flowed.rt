@@ -33,6 +33,9 @@ const KEPT: usize = 2097152;
 /// How many frames of a method are made at most to be kept.
 const MADE: usize = 128;
 
+/// How many frames are known that were asked for once.
+const ASKED: usize = 64;
+
 /// How many places are listed at most.
 const LISTED: usize = 131072;
 
@@ -59,13 +62,15 @@ impl Drop for FlowedFrame {
 }
 
 /// Where local variables were written, one place behind the other, and the frames that are kept, that to which they flowed last behind
-/// the others; how many were made, and how many local variables those have that are kept.
+/// the others; how many were made, and how many local variables those have that are kept; and the places of frames of the map that were
+/// asked for once, and not kept.
 pub(crate) struct FlowedLocals {
     alloc: Global,
     writes: Vec<u16>,
     frames: Vec<FlowedFrame>,
     begun: usize,
     room: usize,
+    asked: Vec<usize>,
 }
 
 impl Drop for FlowedLocals {
@@ -76,6 +81,7 @@ impl Drop for FlowedLocals {
             frames: _,
             begun: _,
             room: _,
+            asked: _,
         } = self;
     }
 }
@@ -205,6 +211,23 @@ fn find(frames: &[FlowedFrame], pass: &Pass<'_, '_, '_, '_, '_>, place: usize) -
     None
 }
 
+/// Whether a frame of the map at one of some places has the local entries of that at a place.
+fn shares_any(places: &[usize], pass: &Pass<'_, '_, '_, '_, '_>, place: usize) -> bool {
+    places.iter().any(|other| pass.share_locals(*other, place))
+}
+
+/// Whether a frame with the local entries of that of the map at a place was asked for before; and it was, from now on.
+fn was_asked(asked: &mut Vec<usize>, pass: &Pass<'_, '_, '_, '_, '_>, place: usize) -> bool {
+    if shares_any(asked, pass, place) {
+        return true;
+    }
+    if asked.len() >= ASKED {
+        asked.clear();
+    }
+    let _known = asked.push(place);
+    false
+}
+
 /// Whether none is kept.
 fn is_none_kept(frames: &[FlowedFrame]) -> bool
     ensures { IsTrue result → frames.now ≡ [] }
@@ -223,6 +246,7 @@ impl FlowedLocals {
             frames: Vec::new(alloc),
             begun: 0,
             room: 0,
+            asked: Vec::new(alloc),
         }
     }
 
@@ -303,13 +327,16 @@ impl FlowedLocals {
         }
     }
 
-    /// Keeps the frame of the map at a place, if the host has memory for it, and not too many were made.
+    /// Keeps the frame of the map at a place, if it was asked for before, the host has memory for it, and not too many were made.
     fn begin(&mut self, pass: &Pass<'_, '_, '_, '_, '_>, place: usize, map: &MapFrame<'_>)
         requires at { slice_get pass.now.frames place ≡ Some map.now }
         requires room { HasRoom pass.now.types pass.now.max_locals map.now }
         ensures { StaysRight pass.now self.old.writes.items self.old.frames.items self.new.writes.items self.new.frames.items }
     {
         if self.begun >= MADE {
+            return;
+        }
+        if !was_asked(&mut self.asked, pass, place) {
             return;
         }
         self.begun += 1;
