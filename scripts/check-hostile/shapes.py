@@ -846,6 +846,85 @@ def new_named(folder, scale):
     written_with(folder, add, scaled(scale, 30))
 
 
+def many_named(folder, scale):
+    """`new, pop` 16,000 times behind a frame of 65,535 entries that names each `new` twice, far apart; in 20 methods 4 MB."""
+    count = scaled(scale, 16000)
+
+    def add(made, name):
+        code = bytes([177]) + (bytes([187]) + u2(made.named("Main")) + bytes([87])) * count + bytes([177])
+        objects = [u1(8) + u2(1 + 4 * k) for k in range(count)]
+        entries = objects + [INT] * (65535 - 2 * count) + objects
+        made.method(9, name, "()V", 1, 65535, code, b"", (1, full(1, entries, [])))
+
+    written_with(folder, add, scaled(scale, 20))
+
+
+def one_named(folder, scale):
+    """13,000 times a frame of an entry that names a `new`, which stands there, over 65,535 local variables; in 20 methods 4 MB."""
+    count = scaled(scale, 13000)
+
+    def add(made, name):
+        code = bytes([177]) + (bytes([187]) + u2(made.named("Main")) + bytes([87, 177])) * count
+        spelled = full(1, [u1(8) + u2(1)], []) + b"".join(full(4, [u1(8) + u2(1 + 5 * k)], []) for k in range(1, count))
+        made.method(9, name, "()V", 1, 65535, code, b"", (count, spelled))
+
+    written_with(folder, add, scaled(scale, 20))
+
+
+def named_in_turn(folder, scale):
+    """6,500 times a frame of 65,532 ints with three entries more that name the last `new`, and one without them; in 17 methods 3.9 MB."""
+    count = scaled(scale, 6500)
+
+    def add(made, name):
+        piece = bytes([187]) + u2(made.named("Main")) + bytes([87, 177])
+        last = u1(8) + u2(1 + 5 * (2 * count - 1))
+        on, off = u1(254) + u2(4) + last * 3, u1(248) + u2(4)
+        spelled = full(1, [INT] * 65532, []) + (on + off) * (count - 1) + on
+        made.method(9, name, "()V", 1, 65535, bytes([177]) + piece * (2 * count), b"", (2 * count, spelled))
+
+    written_with(folder, add, scaled(scale, 17))
+
+
+def stack_named(folder, scale):
+    """`new, pop` 16,000 times behind a frame with 65,533 ints and an object of a later `new` on the stack; in 30 methods 4 MB."""
+    count = scaled(scale, 16000)
+
+    def add(made, name):
+        one = bytes([187]) + u2(made.named("Main")) + bytes([87])
+        later = 2 + 4 * count
+        code = bytes([177]) + one * count + bytes([177]) + one + bytes([177])
+        spelled = full(1, [], [INT] * 65533 + [u1(8) + u2(later)]) + full(later - 2, [], [])
+        made.method(9, name, "()V", 65535, 0, code, b"", (2, spelled))
+
+    written_with(folder, add, scaled(scale, 30))
+
+
+def named_and_made(folder, scale):
+    """`new, <init>` 8,000 times behind a frame of 65,535 entries that names each `new` twice; in 20 methods 3.9 MB."""
+    count = scaled(scale, 8000)
+
+    def add(made, name):
+        called = u2(made.called("java/lang/Object", "<init>", "()V"))
+        one = bytes([187]) + u2(made.named("java/lang/Object")) + bytes([183]) + called
+        objects = [u1(8) + u2(1 + 6 * k) for k in range(count)]
+        entries = objects + [INT] * (65535 - 2 * count) + objects
+        made.method(9, name, "()V", 1, 65535, bytes([177]) + one * count + bytes([177]), b"", (1, full(1, entries, [])))
+
+    written_with(folder, add, scaled(scale, 20))
+
+
+def this_made(folder, scale):
+    """13,000 times `this` is constructed, behind a frame of 65,535 entries, the first of which it is; in 26 methods 3.8 MB."""
+    count = scaled(scale, 13000)
+    made = ClassFile("Main")
+    made.main()
+    piece = bytes([42, 183]) + u2(made.called("java/lang/Object", "<init>", "()V")) + bytes([177])
+    spelled = full(2, [u1(6)] + [INT] * 65534, []) + u1(4) * (count - 1)
+    for descriptor in descriptors(scaled(scale, 26)):
+        made.method(1, "<init>", descriptor, 1, 65535, bytes([1, 191]) + piece * count, b"", (count, spelled))
+    made.write(folder)
+
+
 def new_branches(folder, scale):
     """8,000 objects that are not initialized on the stack, and 3,000 branches with them."""
     made = ClassFile("Main")
@@ -907,7 +986,7 @@ SHAPES = [
     start_branches, switch_apart, stores_apart, frames_in_turn, branches_in_turn, branches_in_turn_often, new_branches,
     interfaces_long, interfaces_before, catches_long, stores_and_branches, stores_below_handler, new_held, made_below_handler,
     frames_fall_in_turn, start_in_turn, few_in_turn, pairs_in_turn, apart_in_turn, short_in_turn, small_in_turn, stacks_kept,
-    stores_for_many, new_named,
+    stores_for_many, new_named, many_named, one_named, named_in_turn, stack_named, named_and_made, this_made,
 ]
 
 
