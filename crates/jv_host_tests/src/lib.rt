@@ -1,5 +1,5 @@
-//! Tests of the host and of the program's reports; and of the shared store, beside what its contract says: the same list of calls on both
-//! implementations, whose answers and content are compared with plain lists.
+//! Tests of the verifier, by tables of classes (`verifier`); of the host and of the program's reports; and of the shared store, beside
+//! what its contract says: the same list of calls on both implementations, whose answers and content are compared with plain lists.
 #![tactic(auto)]
 
 #[cfg(test)]
@@ -24,3 +24,5 @@ mod report;
 mod stores;
 #[cfg(test)]
 mod twin;
+#[cfg(test)]
+mod verifier;

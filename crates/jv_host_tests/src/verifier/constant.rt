@@ -3,7 +3,7 @@
 //! A constant is a word, its kind and what it names with `:` between: `Class:A`, `String:abc`, `Integer:7`,
 //! `Long:7`, `Float:7`, `Fieldref:A:x:I`, `Methodref:A:m:()V`, `InterfaceMethodref:I:m:()V`.
 
-use crate::words::class_name;
+use crate::verifier::words::class_name;
 use jv_asm_builder::{ClassBuilder, Constant};
 
 fn reference<'a>(

@@ -1,6 +1,6 @@
 //! The system's classes, what the program prints of one file, and the verdict on one class by its number.
 
-use crate::class::class_file;
+use crate::verifier::class::class_file;
 use jv_check::check_files;
 use jv_check::of_method::{Verdict, VerifyFault, VerifyRule, check_class, verify};
 use jv_loader::{Classes, LoadVerdict, system_files};

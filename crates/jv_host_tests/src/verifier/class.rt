@@ -6,9 +6,9 @@
 //! stand bytes in hexadecimal and, behind `>`, those that take their place in the file. A whole file may also stand
 //! in hexadecimal, behind `hex`.
 
-use crate::method::put_member;
-use crate::patch::patched;
-use crate::words::{class_name, flags, next_word};
+use crate::verifier::method::put_member;
+use crate::verifier::patch::patched;
+use crate::verifier::words::{class_name, flags, next_word};
 use jv_asm_builder::{ClassBuilder, ClassFlags};
 use std::alloc::Global;
 

@@ -1,6 +1,6 @@
 //! Instructions on the operand stack (JVMS 4.10.1.9, 6.5).
 
-use crate::guest::wrong_row;
+use crate::verifier::guest::wrong_row;
 
 pub(crate) static ROWS: &str = "\
 -- pop and pop2

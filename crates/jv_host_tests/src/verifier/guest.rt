@@ -5,9 +5,9 @@
 
 ghost use Rattle.std.specs.Prelude.{◌≡◌, IfOk, length};
 
-use crate::class::class_file;
-use crate::verdict::are_told;
-use crate::words::is_comment;
+use crate::verifier::class::class_file;
+use crate::verifier::verdict::are_told;
+use crate::verifier::words::is_comment;
 use jv_check::check_files;
 use std::alloc::{AllocError, Global};
 use std::hash::RandomState;

@@ -1,6 +1,6 @@
 //! Verdicts on files before their methods are looked at (JVMS 4, 5.3), and their order.
 
-use crate::guest::wrong_row;
+use crate::verifier::guest::wrong_row;
 
 pub(crate) static CLASSES: &str = "\
 P

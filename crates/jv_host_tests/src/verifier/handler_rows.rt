@@ -1,6 +1,6 @@
 //! What handlers get to see (JVMS 4.10.1.6).
 
-use crate::guest::wrong_row;
+use crate::verifier::guest::wrong_row;
 
 pub(crate) static CLASSES: &str = "\
 B | public <init> ()V 1 1 : aload_0, invokespecial Methodref:Object:<init>:()V, return

@@ -1,6 +1,6 @@
 //! Constructors, and objects before and behind them (JVMS 4.10.1.4, 4.10.1.9, 4.10.2.4).
 
-use crate::guest::wrong_row;
+use crate::verifier::guest::wrong_row;
 
 pub(crate) static CLASSES: &str = "\
 B | public <init> ()V 1 1 : aload_0, invokespecial Methodref:Object:<init>:()V, return

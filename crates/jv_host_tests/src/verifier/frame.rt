@@ -3,7 +3,7 @@
 //! A frame stands among the instructions, `frame int long stack A`: its local entries, and behind `stack`
 //! those of its stack. A class or array type stands by its name, what the `new` at offset 4 made as `new+4`.
 
-use crate::words::class_name;
+use crate::verifier::words::class_name;
 use jv_asm_builder::{ClassBuilder, CodeBuilder, VerificationType};
 use std::alloc::Global;
 

@@ -1,6 +1,6 @@
 //! Stack maps that break their form, or do not fit the code (JVMS 4.7.4).
 
-use crate::guest::wrong_row;
+use crate::verifier::guest::wrong_row;
 
 pub(crate) static ROWS: &str = "\
 -- entries within max_locals and max_stack, a long as two

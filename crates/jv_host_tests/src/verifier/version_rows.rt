@@ -1,6 +1,6 @@
 //! Versions of class files, and the rules that ask for them (JVMS 4.1, 4.6, 4.9.1).
 
-use crate::guest::wrong_row;
+use crate::verifier::guest::wrong_row;
 
 pub(crate) static CLASSES: &str = "\
 I public+interface+abstract | public+abstract n ()V

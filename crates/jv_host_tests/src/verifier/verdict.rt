@@ -1,6 +1,6 @@
 //! What is told of files, compared with what rows want.
 
-use crate::words::next_word;
+use crate::verifier::words::next_word;
 
 /// Whether the words behind `Verify method` have these numbers.
 fn are_numbers<'a>(told: &'a str, wanted: &'a str) -> bool {

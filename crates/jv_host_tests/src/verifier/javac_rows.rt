@@ -93,7 +93,7 @@
 //! }
 //! ```
 
-use crate::guest::wrong_row;
+use crate::verifier::guest::wrong_row;
 
 pub(crate) static ROWS: &str = "\
 -- Hi and Hi$Inner

@@ -3,10 +3,10 @@
 //! An operand spells one byte, `7` or an opcode by name; two bytes, `half:300`, `+3` or `-3` for a distance, or a constant; or four
 //! bytes, `quad:-3`. `align` stands for the padding of a switch, and a number in place of a name for an opcode.
 
-use crate::constant::constant;
-use crate::frame::put_frame;
-use crate::opcode::opcode;
-use crate::words::next_word;
+use crate::verifier::constant::constant;
+use crate::verifier::frame::put_frame;
+use crate::verifier::opcode::opcode;
+use crate::verifier::words::next_word;
 use jv_asm_builder::{ClassBuilder, CodeBuilder, Item, Label};
 use std::alloc::Global;
 use std::str::SplitWhitespace;

@@ -3,9 +3,9 @@
 //! A member has flags, a name and a descriptor; a method with code also max_stack and max_locals, behind ` : `
 //! its code, and behind another its handlers.
 
-use crate::code::put_code;
-use crate::handler::put_handlers;
-use crate::words::{flags, next_word};
+use crate::verifier::code::put_code;
+use crate::verifier::handler::put_handlers;
+use crate::verifier::words::{flags, next_word};
 use jv_asm_builder::{ClassBuilder, CodeBuilder, FieldFlags, MethodBuilder, MethodFlags};
 use std::alloc::Global;
 

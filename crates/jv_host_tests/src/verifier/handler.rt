@@ -1,7 +1,7 @@
 //! Handlers: with `,` between, each the offsets of its start, its end and its handler, and a constant or `any`.
 
-use crate::constant::constant;
-use crate::words::next_word;
+use crate::verifier::constant::constant;
+use crate::verifier::words::next_word;
 use jv_asm_builder::{ClassBuilder, CodeBuilder, Label};
 
 fn label(labels: &[Label], word: &str) -> Option<Label> {

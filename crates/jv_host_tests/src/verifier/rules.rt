@@ -1,6 +1,6 @@
 //! The rules of a method (JVMS 4.10.1): each broken alone, and before those behind it.
 
-use crate::guest::wrong_row;
+use crate::verifier::guest::wrong_row;
 
 /// Classes that the rows may name.
 pub(crate) static CLASSES: &str = "\
