@@ -2,7 +2,7 @@
 
 ghost use Rattle.std.specs.Prelude.{◌≡◌, IfOk, OnErr, OnOk, is_ok, map, length, if◌then◌else◌};
 ghost use Rattle.jv_asm_builder.specs.Faults.{IsAnswer};
-ghost use Rattle.jv_asm_builder.specs.Assembly.{Assembly, Branch, TableSwitch, LookupSwitch, no_steps, with_label, with_place, with_frame, steps_end, code_size, place_in, assembled_bytes, exception_table, stack_map_table, assembled_code, IsStepAdded, IsItemAdded, with_handler_at};
+ghost use Rattle.jv_asm_builder.specs.Assembly.{Assembly, TableSwitch, LookupSwitch, no_steps, with_label, with_place, with_frame, steps_end, code_size, place_in, assembled_bytes, exception_table, stack_map_table, assembled_code, IsStepAdded, IsItemAdded, with_handler_at};
 ghost use Rattle.jv_asm_builder.specs.Inside.Kept.{step_kept, frame_kept, contents_kept, parts_kept};
 
 use crate::fault::BuilderFault;
@@ -64,7 +64,7 @@ impl<'a> CodeBuilder<'a> {
         }
     }
 
-    fn step(&mut self, step: BuilderStep<'a>) -> Result<(), AsmFault>
+    pub(crate) fn step(&mut self, step: BuilderStep<'a>) -> Result<(), AsmFault>
         ensures { IsStepAdded self.old (step_kept step.entry) result self.new }
     {
         let size = u64::from(self.size);
@@ -82,13 +82,6 @@ impl<'a> CodeBuilder<'a> {
         ensures { IsItemAdded self.old item.entry result self.new }
     {
         self.step(BuilderStep::Unlabelled(item))
-    }
-
-    /// A branch of two bytes to a label.
-    pub(crate) fn branch(&mut self, opcode: u8, target: Label) -> Result<(), AsmFault>
-        ensures { IsStepAdded self.old (Branch opcode target) result self.new }
-    {
-        self.step(BuilderStep::Branch(opcode, target))
     }
 
     /// `tableswitch`: the default label, the lowest and the highest number with a label of its own,

@@ -24,5 +24,5 @@ pub use jv_asm::{AsmFault, AttributeDescription, Item};
 pub use jv_class_structure::{ClassFlags, FieldFlags, MethodFlags};
 pub use jv_pool::Constant;
 pub use law::indices_name;
-pub use opcode::{ArrayType, Op};
+pub use opcode::{ArrayType, BranchOp, IndexOp, Op};
 pub use step::Label;

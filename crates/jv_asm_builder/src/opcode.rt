@@ -1,4 +1,4 @@
-//! Opcodes without operands, and the codes of array types (JVMS 6.5).
+//! Opcodes without operands, with an index and with a label, and the codes of array types (JVMS 6.5).
 
 /// An instruction without operands, by its name.
 #[derive(Clone, Copy)]
@@ -128,6 +128,80 @@ impl Op {
     pub const ARRAYLENGTH: Op = Op { opcode: 190 };
 
     pub const ATHROW: Op = Op { opcode: 191 };
+}
+
+/// An instruction with the index of a constant in two bytes, by its name: of a long, a field, a method, or a class or array type.
+#[derive(Clone, Copy)]
+pub struct IndexOp {
+    pub(crate) opcode: u8,
+}
+
+impl IndexOp {
+    pub const LDC2_W: IndexOp = IndexOp { opcode: 20 };
+
+    pub const GETSTATIC: IndexOp = IndexOp { opcode: 178 };
+
+    pub const PUTSTATIC: IndexOp = IndexOp { opcode: 179 };
+
+    pub const GETFIELD: IndexOp = IndexOp { opcode: 180 };
+
+    pub const PUTFIELD: IndexOp = IndexOp { opcode: 181 };
+
+    pub const INVOKEVIRTUAL: IndexOp = IndexOp { opcode: 182 };
+
+    pub const INVOKESPECIAL: IndexOp = IndexOp { opcode: 183 };
+
+    pub const INVOKESTATIC: IndexOp = IndexOp { opcode: 184 };
+
+    pub const NEW: IndexOp = IndexOp { opcode: 187 };
+
+    pub const ANEWARRAY: IndexOp = IndexOp { opcode: 189 };
+
+    pub const CHECKCAST: IndexOp = IndexOp { opcode: 192 };
+
+    pub const INSTANCEOF: IndexOp = IndexOp { opcode: 193 };
+}
+
+/// A branch of two bytes, by its name.
+#[derive(Clone, Copy)]
+pub struct BranchOp {
+    pub(crate) opcode: u8,
+}
+
+impl BranchOp {
+    pub const IFEQ: BranchOp = BranchOp { opcode: 153 };
+
+    pub const IFNE: BranchOp = BranchOp { opcode: 154 };
+
+    pub const IFLT: BranchOp = BranchOp { opcode: 155 };
+
+    pub const IFGE: BranchOp = BranchOp { opcode: 156 };
+
+    pub const IFGT: BranchOp = BranchOp { opcode: 157 };
+
+    pub const IFLE: BranchOp = BranchOp { opcode: 158 };
+
+    pub const IF_ICMPEQ: BranchOp = BranchOp { opcode: 159 };
+
+    pub const IF_ICMPNE: BranchOp = BranchOp { opcode: 160 };
+
+    pub const IF_ICMPLT: BranchOp = BranchOp { opcode: 161 };
+
+    pub const IF_ICMPGE: BranchOp = BranchOp { opcode: 162 };
+
+    pub const IF_ICMPGT: BranchOp = BranchOp { opcode: 163 };
+
+    pub const IF_ICMPLE: BranchOp = BranchOp { opcode: 164 };
+
+    pub const IF_ACMPEQ: BranchOp = BranchOp { opcode: 165 };
+
+    pub const IF_ACMPNE: BranchOp = BranchOp { opcode: 166 };
+
+    pub const GOTO: BranchOp = BranchOp { opcode: 167 };
+
+    pub const IFNULL: BranchOp = BranchOp { opcode: 198 };
+
+    pub const IFNONNULL: BranchOp = BranchOp { opcode: 199 };
 }
 
 /// The elements of an array that `newarray` makes (table 6.5.newarray-A).

@@ -2,8 +2,8 @@
 
 use crate::shown::{has_code, is_shown};
 use jv_asm_builder::{
-    AsmFault, ClassBuilder, ClassFlags, CodeBuilder, Constant, FieldFlags, Item, MethodFlags, Op,
-    indices_name,
+    AsmFault, BranchOp, ClassBuilder, ClassFlags, CodeBuilder, Constant, FieldFlags, Item,
+    MethodFlags, Op, indices_name,
 };
 use std::alloc::Global;
 
@@ -21,10 +21,10 @@ fn puts_branches(code: &mut CodeBuilder<'_>) -> bool {
         return false;
     };
     let is_put = code.iload(7).is_ok()
-        && code.ifeq(end).is_ok()
+        && code.branch(BranchOp::IFEQ, end).is_ok()
         && code.int(300).is_ok()
         && code.item(Item::Tableswitch(0, 0, 0, &[1])).is_ok()
-        && code.goto(top).is_ok();
+        && code.branch(BranchOp::GOTO, top).is_ok();
     code.place(end);
     is_put && code.op(Op::RETURN).is_ok() && code.handler(top, end, end, 0).is_ok()
 }
@@ -90,7 +90,7 @@ fn puts_far(code: &mut CodeBuilder<'_>, between: u32) -> bool {
     let Ok(end) = code.label() else {
         return false;
     };
-    let is_put = code.goto(end).is_ok() && puts_nops(code, between);
+    let is_put = code.branch(BranchOp::GOTO, end).is_ok() && puts_nops(code, between);
     code.place(end);
     is_put && code.op(Op::RETURN).is_ok()
 }
@@ -126,7 +126,7 @@ fn waits_for_its_label(alloc: Global, code: &mut CodeBuilder<'_>) -> bool {
     let Ok(label) = code.label() else {
         return false;
     };
-    let is_unplaced = code.goto(label).is_ok()
+    let is_unplaced = code.branch(BranchOp::GOTO, label).is_ok()
         && code.offset_of(label).is_none()
         && is_refused(alloc, code, "a label was not placed");
     code.place(label);

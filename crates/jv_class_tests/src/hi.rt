@@ -5,7 +5,9 @@ use jv_asm::{
     AsmFault, CodeDescription, Constant, Description, MethodAttributeDescription,
     MethodDescription, write_class, written_reads_back,
 };
-use jv_asm_builder::{BuilderFault, ClassBuilder, ClassFlags, CodeBuilder, MethodFlags, Op};
+use jv_asm_builder::{
+    BuilderFault, ClassBuilder, ClassFlags, CodeBuilder, IndexOp, MethodFlags, Op,
+};
 use std::alloc::Global;
 
 const HI: &[u8] =
@@ -13,9 +15,9 @@ const HI: &[u8] =
 
 fn put_writes(code: &mut CodeBuilder<'_>, write: u16) -> Result<(), AsmFault> {
     code.int(72)?;
-    code.invokestatic(write)?;
+    code.with_index(IndexOp::INVOKESTATIC, write)?;
     code.int(105)?;
-    code.invokestatic(write)?;
+    code.with_index(IndexOp::INVOKESTATIC, write)?;
     code.op(Op::RETURN)
 }
 

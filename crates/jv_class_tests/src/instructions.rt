@@ -1,21 +1,28 @@
 //! Instructions by their names.
 
 use crate::shown::{are_ok, has_code};
-use jv_asm_builder::{ArrayType, CodeBuilder, Label, Op};
+use jv_asm_builder::{ArrayType, BranchOp, CodeBuilder, IndexOp, Label, Op};
 use std::alloc::Global;
 
-/// Whether some instructions without operands are put.
+/// Some instructions without operands.
+static OPS: [Op; 8] = [
+    Op::ACONST_NULL,
+    Op::CALOAD,
+    Op::AASTORE,
+    Op::DUP2_X2,
+    Op::LUSHR,
+    Op::I2S,
+    Op::ARRAYLENGTH,
+    Op::ATHROW,
+];
+
 fn puts_ops(code: &mut CodeBuilder<'_>) -> bool {
-    are_ok(&[
-        code.op(Op::ACONST_NULL),
-        code.op(Op::CALOAD),
-        code.op(Op::AASTORE),
-        code.op(Op::DUP2_X2),
-        code.op(Op::LUSHR),
-        code.op(Op::I2S),
-        code.op(Op::ARRAYLENGTH),
-        code.op(Op::ATHROW),
-    ])
+    for op in &OPS {
+        if code.op(*op).is_err() {
+            return false;
+        }
+    }
+    true
 }
 
 #[test]
@@ -72,30 +79,39 @@ fn shortest_locals(rt: HostRuntime) {
     );
 }
 
+/// Instructions with an index of two bytes, and the index.
+static INDEXED: [(IndexOp, u16); 12] = [
+    (IndexOp::LDC2_W, 1),
+    (IndexOp::GETSTATIC, 2),
+    (IndexOp::PUTSTATIC, 3),
+    (IndexOp::GETFIELD, 4),
+    (IndexOp::PUTFIELD, 5),
+    (IndexOp::INVOKEVIRTUAL, 6),
+    (IndexOp::INVOKESPECIAL, 7),
+    (IndexOp::INVOKESTATIC, 8),
+    (IndexOp::NEW, 3),
+    (IndexOp::ANEWARRAY, 4),
+    (IndexOp::CHECKCAST, 7),
+    (IndexOp::INSTANCEOF, 8),
+];
+
 fn puts_indices(code: &mut CodeBuilder<'_>) -> bool {
+    for (op, index) in &INDEXED {
+        if code.with_index(*op, *index).is_err() {
+            return false;
+        }
+    }
+    true
+}
+
+/// Instructions with an index and another number, in one byte or in two.
+fn puts_others(code: &mut CodeBuilder<'_>) -> bool {
     are_ok(&[
         code.ldc(255),
         code.ldc(256),
-        code.ldc2_w(1),
-        code.getstatic(2),
-        code.putstatic(3),
-        code.getfield(4),
-        code.putfield(5),
-        code.invokevirtual(6),
-        code.invokespecial(7),
-        code.invokestatic(8),
-    ])
-}
-
-fn puts_objects(code: &mut CodeBuilder<'_>) -> bool {
-    are_ok(&[
         code.invokeinterface(1, 2),
-        code.new_object(3),
         code.newarray(ArrayType::CHAR),
-        code.anewarray(4),
         code.multianewarray(5, 6),
-        code.checkcast(7),
-        code.instanceof(8),
     ])
 }
 
@@ -104,55 +120,50 @@ fn indices(rt: HostRuntime) {
     let mut code = CodeBuilder::new(rt.alloc());
     assert!(rt;
         puts_indices(&mut code)
-            && puts_objects(&mut code)
+            && puts_others(&mut code)
             && has_code(
                 &code,
-                b"\x12\xff\x13\x01\x00\x14\x00\x01\xb2\x00\x02\xb3\x00\x03\xb4\x00\x04\xb5\x00\x05\xb6\x00\x06\xb7\x00\x07\xb8\x00\x08\xb9\x00\x01\x02\x00\xbb\x00\x03\xbc\x05\xbd\x00\x04\xc5\x00\x05\x06\xc0\x00\x07\xc1\x00\x08"
+                b"\x14\x00\x01\xb2\x00\x02\xb3\x00\x03\xb4\x00\x04\xb5\x00\x05\xb6\x00\x06\xb7\x00\x07\xb8\x00\x08\xbb\x00\x03\xbd\x00\x04\xc0\x00\x07\xc1\x00\x08\x12\xff\x13\x01\x00\xb9\x00\x01\x02\x00\xbc\x05\xc5\x00\x05\x06"
             )
     );
 }
 
-fn puts_tests(code: &mut CodeBuilder<'_>, top: Label) -> bool {
-    are_ok(&[
-        code.ifeq(top),
-        code.ifne(top),
-        code.iflt(top),
-        code.ifge(top),
-        code.ifgt(top),
-        code.ifle(top),
-        code.ifnull(top),
-        code.ifnonnull(top),
-    ])
-}
+/// The branches.
+static BRANCHES: [BranchOp; 17] = [
+    BranchOp::IFEQ,
+    BranchOp::IFNE,
+    BranchOp::IFLT,
+    BranchOp::IFGE,
+    BranchOp::IFGT,
+    BranchOp::IFLE,
+    BranchOp::IFNULL,
+    BranchOp::IFNONNULL,
+    BranchOp::IF_ICMPEQ,
+    BranchOp::IF_ICMPNE,
+    BranchOp::IF_ICMPLT,
+    BranchOp::IF_ICMPGE,
+    BranchOp::IF_ICMPGT,
+    BranchOp::IF_ICMPLE,
+    BranchOp::IF_ACMPEQ,
+    BranchOp::IF_ACMPNE,
+    BranchOp::GOTO,
+];
 
-fn puts_comparisons(code: &mut CodeBuilder<'_>, top: Label) -> bool {
-    are_ok(&[
-        code.if_icmpeq(top),
-        code.if_icmpne(top),
-        code.if_icmplt(top),
-        code.if_icmpge(top),
-        code.if_icmpgt(top),
-        code.if_icmple(top),
-        code.if_acmpeq(top),
-        code.if_acmpne(top),
-        code.goto(top),
-    ])
-}
-
-/// Whether the branches on one word are these bytes.
-fn are_tests(alloc: Global, bytes: &[u8]) -> bool {
-    let mut code = CodeBuilder::new(alloc);
-    match code.here() {
-        Ok(top) => puts_tests(&mut code, top) && has_code(&code, bytes),
-        Err(_) => false,
+/// Each branch, to where the first of them stands.
+fn puts_branches(code: &mut CodeBuilder<'_>, top: Label) -> bool {
+    for op in &BRANCHES {
+        if code.branch(*op, top).is_err() {
+            return false;
+        }
     }
+    true
 }
 
-/// Whether the branches on two words and `goto` are these bytes.
-fn are_comparisons(alloc: Global, bytes: &[u8]) -> bool {
+/// Whether the branches are these bytes.
+fn are_branches(alloc: Global, bytes: &[u8]) -> bool {
     let mut code = CodeBuilder::new(alloc);
     match code.here() {
-        Ok(top) => puts_comparisons(&mut code, top) && has_code(&code, bytes),
+        Ok(top) => puts_branches(&mut code, top) && has_code(&code, bytes),
         Err(_) => false,
     }
 }
@@ -160,15 +171,9 @@ fn are_comparisons(alloc: Global, bytes: &[u8]) -> bool {
 #[test]
 fn branches(rt: HostRuntime) {
     assert!(rt;
-        are_tests(
+        are_branches(
             rt.alloc(),
-            b"\x99\x00\x00\x9a\xff\xfd\x9b\xff\xfa\x9c\xff\xf7\x9d\xff\xf4\x9e\xff\xf1\xc6\xff\xee\xc7\xff\xeb"
-        )
-    );
-    assert!(rt;
-        are_comparisons(
-            rt.alloc(),
-            b"\x9f\x00\x00\xa0\xff\xfd\xa1\xff\xfa\xa2\xff\xf7\xa3\xff\xf4\xa4\xff\xf1\xa5\xff\xee\xa6\xff\xeb\xa7\xff\xe8"
+            b"\x99\x00\x00\x9a\xff\xfd\x9b\xff\xfa\x9c\xff\xf7\x9d\xff\xf4\x9e\xff\xf1\xc6\xff\xee\xc7\xff\xeb\x9f\xff\xe8\xa0\xff\xe5\xa1\xff\xe2\xa2\xff\xdf\xa3\xff\xdc\xa4\xff\xd9\xa5\xff\xd6\xa6\xff\xd3\xa7\xff\xd0"
         )
     );
 }

@@ -3,7 +3,8 @@
 use crate::shown::are_ok;
 use jv_asm_builder::VerificationType::{Integer, Object};
 use jv_asm_builder::{
-    ClassBuilder, ClassFlags, CodeBuilder, FieldFlags, Label, Op, VerificationType as Type,
+    BranchOp, ClassBuilder, ClassFlags, CodeBuilder, FieldFlags, IndexOp, Label, Op,
+    VerificationType as Type,
 };
 use std::alloc::Global;
 
@@ -23,8 +24,8 @@ fn puts_class_test(code: &mut CodeBuilder<'_>, names: &Names) -> bool {
     let types = [Object(names.string), Object(names.object)];
     are_ok(&[
         code.aload(1),
-        code.instanceof(names.string),
-        code.ifne(is_string),
+        code.with_index(IndexOp::INSTANCEOF, names.string),
+        code.branch(BranchOp::IFNE, is_string),
         code.int(0),
         code.op(Op::IRETURN),
     ]) && code.frame(is_string, &types, &[]).is_ok()
@@ -34,7 +35,7 @@ fn puts_class_test(code: &mut CodeBuilder<'_>, names: &Names) -> bool {
 fn puts_length(code: &mut CodeBuilder<'_>, string: u16, names: &Names) -> bool {
     are_ok(&[
         code.aload(string),
-        code.getfield(names.value),
+        code.with_index(IndexOp::GETFIELD, names.value),
         code.op(Op::ARRAYLENGTH),
     ])
 }
@@ -49,11 +50,14 @@ fn puts_length_test(code: &mut CodeBuilder<'_>, names: &Names) -> bool {
         Object(names.object),
         Object(names.string),
     ];
-    are_ok(&[code.aload(1), code.checkcast(names.string), code.astore(2)])
-        && puts_length(code, 2, names)
+    are_ok(&[
+        code.aload(1),
+        code.with_index(IndexOp::CHECKCAST, names.string),
+        code.astore(2),
+    ]) && puts_length(code, 2, names)
         && puts_length(code, 0, names)
         && are_ok(&[
-            code.if_icmpeq(is_as_long),
+            code.branch(BranchOp::IF_ICMPEQ, is_as_long),
             code.int(0),
             code.op(Op::IRETURN),
         ])
@@ -88,7 +92,7 @@ fn puts_head(code: &mut CodeBuilder<'_>, names: &Names, labels: Loop, types: &[T
         && code.frame(labels.top, types, &[]).is_ok()
         && code.iload(3).is_ok()
         && puts_length(code, 0, names)
-        && code.if_icmpge(labels.done).is_ok()
+        && code.branch(BranchOp::IF_ICMPGE, labels.done).is_ok()
 }
 
 /// `if (value[i] != that.value[i]) return false;`
@@ -96,7 +100,7 @@ fn puts_char_test(code: &mut CodeBuilder<'_>, names: &Names, labels: Loop) -> bo
     puts_char(code, 0, names)
         && puts_char(code, 2, names)
         && are_ok(&[
-            code.if_icmpeq(labels.next),
+            code.branch(BranchOp::IF_ICMPEQ, labels.next),
             code.int(0),
             code.op(Op::IRETURN),
         ])
@@ -106,7 +110,7 @@ fn puts_char_test(code: &mut CodeBuilder<'_>, names: &Names, labels: Loop) -> bo
 fn puts_end(code: &mut CodeBuilder<'_>, labels: Loop, types: &[Type]) -> bool {
     code.frame(labels.next, types, &[]).is_ok()
         && code.iinc(3, 1).is_ok()
-        && code.goto(labels.top).is_ok()
+        && code.branch(BranchOp::GOTO, labels.top).is_ok()
         && code.frame(labels.done, types, &[]).is_ok()
         && code.int(1).is_ok()
         && code.op(Op::IRETURN).is_ok()
@@ -134,7 +138,7 @@ fn puts_loop(code: &mut CodeBuilder<'_>, names: &Names) -> bool {
 fn puts_char(code: &mut CodeBuilder<'_>, string: u16, names: &Names) -> bool {
     are_ok(&[
         code.aload(string),
-        code.getfield(names.value),
+        code.with_index(IndexOp::GETFIELD, names.value),
         code.iload(3),
         code.op(Op::CALOAD),
     ])
