@@ -8,31 +8,39 @@ use jv_code::{
 };
 use std::alloc::Global;
 
-fn arithmetic_name(kind: NumberKind, operator: ArithmeticOperator) -> &'static str {
-    match (kind, operator) {
-        (NumberKind::Int, ArithmeticOperator::Add) => "iadd",
-        (NumberKind::Int, ArithmeticOperator::Subtract) => "isub",
-        (NumberKind::Int, ArithmeticOperator::Multiply) => "imul",
-        (NumberKind::Int, ArithmeticOperator::And) => "iand",
-        (NumberKind::Int, ArithmeticOperator::Or) => "ior",
-        (NumberKind::Int, ArithmeticOperator::Xor) => "ixor",
-        (NumberKind::Long, ArithmeticOperator::Add) => "ladd",
-        (NumberKind::Long, ArithmeticOperator::Subtract) => "lsub",
-        (NumberKind::Long, ArithmeticOperator::Multiply) => "lmul",
-        (NumberKind::Long, ArithmeticOperator::And) => "land",
-        (NumberKind::Long, ArithmeticOperator::Or) => "lor",
-        (NumberKind::Long, ArithmeticOperator::Xor) => "lxor",
+fn letter(kind: NumberKind) -> &'static str {
+    match kind {
+        NumberKind::Int => "i",
+        NumberKind::Long => "l",
     }
 }
 
-fn shift_name(kind: NumberKind, operator: ShiftOperator) -> &'static str {
-    match (kind, operator) {
-        (NumberKind::Int, ShiftOperator::Left) => "ishl",
-        (NumberKind::Int, ShiftOperator::Right) => "ishr",
-        (NumberKind::Int, ShiftOperator::UnsignedRight) => "iushr",
-        (NumberKind::Long, ShiftOperator::Left) => "lshl",
-        (NumberKind::Long, ShiftOperator::Right) => "lshr",
-        (NumberKind::Long, ShiftOperator::UnsignedRight) => "lushr",
+fn operator_name(operator: ArithmeticOperator) -> &'static str {
+    match operator {
+        ArithmeticOperator::Add => "add",
+        ArithmeticOperator::Subtract => "sub",
+        ArithmeticOperator::Multiply => "mul",
+        ArithmeticOperator::And => "and",
+        ArithmeticOperator::Or => "or",
+        ArithmeticOperator::Xor => "xor",
+    }
+}
+
+fn shift_name(operator: ShiftOperator) -> &'static str {
+    match operator {
+        ShiftOperator::Left => "shl",
+        ShiftOperator::Right => "shr",
+        ShiftOperator::UnsignedRight => "ushr",
+    }
+}
+
+fn conversion_name(conversion: Conversion) -> &'static str {
+    match conversion {
+        Conversion::IntToLong => "i2l",
+        Conversion::LongToInt => "l2i",
+        Conversion::IntToByte => "i2b",
+        Conversion::IntToChar => "i2c",
+        Conversion::IntToShort => "i2s",
     }
 }
 
@@ -56,37 +64,50 @@ fn computation_name(computation: Computation) -> &'static str {
         Computation::IntConstant(value, form) => int_name(value, form),
         Computation::LongConstant(LongValue::Zero) => "lconst_0",
         Computation::LongConstant(LongValue::One) => "lconst_1",
-        Computation::Arithmetic(kind, operator) => arithmetic_name(kind, operator),
-        Computation::Negate(NumberKind::Int) => "ineg",
-        Computation::Negate(NumberKind::Long) => "lneg",
-        Computation::Shift(kind, operator) => shift_name(kind, operator),
-        Computation::Convert(Conversion::IntToLong) => "i2l",
-        Computation::Convert(Conversion::LongToInt) => "l2i",
-        Computation::Convert(Conversion::IntToByte) => "i2b",
-        Computation::Convert(Conversion::IntToChar) => "i2c",
-        Computation::Convert(Conversion::IntToShort) => "i2s",
+        Computation::Arithmetic(kind, _)
+        | Computation::Negate(kind)
+        | Computation::Shift(kind, _) => letter(kind),
+        Computation::Convert(conversion) => conversion_name(conversion),
         Computation::CompareLongs => "lcmp",
+    }
+}
+
+fn computation_end(computation: Computation) -> &'static str {
+    match computation {
+        Computation::Arithmetic(_, operator) => operator_name(operator),
+        Computation::Negate(_) => "neg",
+        Computation::Shift(_, operator) => shift_name(operator),
+        _ => "",
+    }
+}
+
+fn condition_name(condition: Condition) -> &'static str {
+    match condition {
+        Condition::Equal => "eq",
+        Condition::NotEqual => "ne",
+        Condition::Less => "lt",
+        Condition::GreaterOrEqual => "ge",
+        Condition::Greater => "gt",
+        Condition::LessOrEqual => "le",
     }
 }
 
 fn test_name(test: Test) -> &'static str {
     match test {
-        Test::IfInt(Condition::Equal) => "ifeq",
-        Test::IfInt(Condition::NotEqual) => "ifne",
-        Test::IfInt(Condition::Less) => "iflt",
-        Test::IfInt(Condition::GreaterOrEqual) => "ifge",
-        Test::IfInt(Condition::Greater) => "ifgt",
-        Test::IfInt(Condition::LessOrEqual) => "ifle",
-        Test::IfInts(Condition::Equal) => "if_icmpeq",
-        Test::IfInts(Condition::NotEqual) => "if_icmpne",
-        Test::IfInts(Condition::Less) => "if_icmplt",
-        Test::IfInts(Condition::GreaterOrEqual) => "if_icmpge",
-        Test::IfInts(Condition::Greater) => "if_icmpgt",
-        Test::IfInts(Condition::LessOrEqual) => "if_icmple",
-        Test::IfReferences(Equality::Same) => "if_acmpeq",
-        Test::IfReferences(Equality::Different) => "if_acmpne",
+        Test::IfInt(_) => "if",
+        Test::IfInts(_) => "if_icmp",
+        Test::IfReferences(_) => "if_acmp",
         Test::IfNull(Equality::Same) => "ifnull",
         Test::IfNull(Equality::Different) => "ifnonnull",
+    }
+}
+
+fn test_end(test: Test) -> &'static str {
+    match test {
+        Test::IfInt(condition) | Test::IfInts(condition) => condition_name(condition),
+        Test::IfReferences(Equality::Same) => "eq",
+        Test::IfReferences(Equality::Different) => "ne",
+        Test::IfNull(_) => "",
     }
 }
 
@@ -104,51 +125,38 @@ fn stack_name(form: StackForm) -> &'static str {
     }
 }
 
-fn load_name(kind: ValueKind, local: u16) -> &'static str {
-    match (kind, local) {
-        (ValueKind::Int, 0) => "iload_0",
-        (ValueKind::Int, 1) => "iload_1",
-        (ValueKind::Int, 2) => "iload_2",
-        (ValueKind::Int, 3) => "iload_3",
-        (ValueKind::Int, 254) => "iload",
-        (ValueKind::Long, 0) => "lload_0",
-        (ValueKind::Long, 1) => "lload_1",
-        (ValueKind::Long, 2) => "lload_2",
-        (ValueKind::Long, 3) => "lload_3",
-        (ValueKind::Long, 254) => "lload",
-        (ValueKind::Reference, 0) => "aload_0",
-        (ValueKind::Reference, 1) => "aload_1",
-        (ValueKind::Reference, 2) => "aload_2",
-        (ValueKind::Reference, 3) => "aload_3",
-        (ValueKind::Reference, 254) => "aload",
-        _ => "",
+fn value_letter(kind: ValueKind) -> &'static str {
+    match kind {
+        ValueKind::Int => "i",
+        ValueKind::Long => "l",
+        ValueKind::Reference => "a",
     }
 }
 
-fn store_name(kind: WordKind, local: u16) -> &'static str {
-    match (kind, local) {
-        (WordKind::Int, 0) => "istore_0",
-        (WordKind::Int, 1) => "istore_1",
-        (WordKind::Int, 2) => "istore_2",
-        (WordKind::Int, 3) => "istore_3",
-        (WordKind::Int, 254) => "istore",
-        (WordKind::Reference, 0) => "astore_0",
-        (WordKind::Reference, 1) => "astore_1",
-        (WordKind::Reference, 2) => "astore_2",
-        (WordKind::Reference, 3) => "astore_3",
-        (WordKind::Reference, 254) => "astore",
-        _ => "",
+fn load_name(kind: ValueKind) -> &'static str {
+    match kind {
+        ValueKind::Int => "iload",
+        ValueKind::Long => "lload",
+        ValueKind::Reference => "aload",
     }
 }
 
-fn store_long_name(local: u16) -> &'static str {
+fn store_name(kind: WordKind) -> &'static str {
+    match kind {
+        WordKind::Int => "istore",
+        WordKind::Reference => "astore",
+    }
+}
+
+/// What follows a load's or a store's name, with a local variable of the table below.
+fn local_end(local: u16) -> &'static str {
     match local {
-        0 => "lstore_0",
-        1 => "lstore_1",
-        2 => "lstore_2",
-        3 => "lstore_3",
-        254 => "lstore",
-        _ => "",
+        0 => "_0",
+        1 => "_1",
+        2 => "_2",
+        3 => "_3",
+        254 => "",
+        _ => "?",
     }
 }
 
@@ -198,27 +206,22 @@ fn jump_name(insn: Insn<&[u8]>) -> &'static str {
     }
 }
 
-/// The name of an instruction of the table below, with the operands that stand there; of an
-/// array's loads and stores what it begins with.
+/// The name of an instruction of the table below, with the operands that stand there: of those that differ in a kind or in a number,
+/// what it begins with.
 fn name(insn: Insn<&[u8]>) -> &'static str {
     match insn {
         Insn::Nop => "nop",
         Insn::NullConstant => "aconst_null",
         Insn::Compute(computation) => computation_name(computation),
-        Insn::Load(kind, local, LocalForm::Opcode | LocalForm::Byte) => load_name(kind, local),
-        Insn::Store(kind, local, LocalForm::Opcode | LocalForm::Byte) => store_name(kind, local),
-        Insn::StoreLong(local, LocalForm::Opcode | LocalForm::Byte) => store_long_name(local),
+        Insn::Load(kind, _, LocalForm::Opcode | LocalForm::Byte) => load_name(kind),
+        Insn::Store(kind, _, LocalForm::Opcode | LocalForm::Byte) => store_name(kind),
+        Insn::StoreLong(_, LocalForm::Opcode | LocalForm::Byte) => "lstore",
         Insn::ArrayLoad(element) | Insn::ArrayStore(element) => element_name(element),
         Insn::ReferenceArrayLoad => "aaload",
         Insn::ReferenceArrayStore => "aastore",
         Insn::Stack(form) => stack_name(form),
-        Insn::Division(NumberKind::Int, DivisionOperator::Divide) => "idiv",
-        Insn::Division(NumberKind::Long, DivisionOperator::Divide) => "ldiv",
-        Insn::Division(NumberKind::Int, DivisionOperator::Remainder) => "irem",
-        Insn::Division(NumberKind::Long, DivisionOperator::Remainder) => "lrem",
-        Insn::ReturnValue(ValueKind::Int) => "ireturn",
-        Insn::ReturnValue(ValueKind::Long) => "lreturn",
-        Insn::ReturnValue(ValueKind::Reference) => "areturn",
+        Insn::Division(kind, _) => letter(kind),
+        Insn::ReturnValue(kind) => value_letter(kind),
         Insn::Return => "return",
         Insn::ArrayLength => "arraylength",
         Insn::Throw => "athrow",
@@ -229,8 +232,16 @@ fn name(insn: Insn<&[u8]>) -> &'static str {
 /// What follows the name that `name` gives.
 fn name_end(insn: Insn<&[u8]>) -> &'static str {
     match insn {
+        Insn::Compute(computation) => computation_end(computation),
+        Insn::Load(_, local, _) | Insn::Store(_, local, _) | Insn::StoreLong(local, _) => local_end(
+            local,
+        ),
         Insn::ArrayLoad(_) => "aload",
         Insn::ArrayStore(_) => "astore",
+        Insn::Division(_, DivisionOperator::Divide) => "div",
+        Insn::Division(_, DivisionOperator::Remainder) => "rem",
+        Insn::ReturnValue(_) => "return",
+        Insn::Branch(test, _) => test_end(test),
         _ => "",
     }
 }
