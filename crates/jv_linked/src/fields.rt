@@ -28,7 +28,7 @@ pub(crate) struct FieldEntry {
 
 /// What a constant resolves to, where that is known.
 #[inline(always)]
-fn known(
+pub(crate) fn known(
     entries: &[Option<FieldEntry>],
     at: usize,
     class: usize,
@@ -77,7 +77,7 @@ fn found_anew(
 
 /// What a constant resolves to, by its names; the entry at a place keeps it.
 #[inline(never)]
-fn found_and_kept(
+pub(crate) fn found_and_kept(
     entries: &mut [Option<FieldEntry>],
     at: usize,
     table: &ClassTable<'_>,

@@ -23,7 +23,7 @@ ghost use Rattle.jv_linked.specs.Tasks.{settings_of, IsInitializer, IsOrderOf};
 use crate::bodies::{Body, ClassBodies, all_bodies, body_in};
 use crate::classes::{ClassEntry, class_by, empty_classes, used_class};
 use crate::field_use::FieldUse;
-use crate::fields::{FieldEntry, empty_fields, field_by, used_field};
+use crate::fields::{FieldEntry, empty_fields, field_by, found_and_kept, known, used_field};
 use crate::method_use::MethodUse;
 use crate::methods::{MethodEntry, called_method, empty_methods, method_by};
 use crate::orders::{ClassOrder, all_orders, order_in};
@@ -147,6 +147,57 @@ impl<'a> Linked<'a> {
         used_class(classes.table(), site, how, index, found)
     }
 
+    /// The field that a Fieldref constant resolves to, as `field_use` answers it, where no entry has it; the one at a place then keeps it.
+    #[cold]
+    #[inline(never)]
+    fn field_anew(
+        &mut self,
+        classes: &Classes<'_>,
+        at: usize,
+        site: Site,
+        how: Use,
+        index: u16,
+    ) -> Result<FieldUse, LinkError>
+        requires linked { IsLinked classes.now.world self.old }
+        requires site { IsSite classes.now.world site }
+        requires index { HoldsAtNumber classes.now.world site.class (λ l. IsSome (field_operand l.class index)) }
+        ensures found { IsFieldResolved classes.now.world site how index (used_place result) }
+        ensures used { IfOk result (IsFieldUse classes.now.world) }
+        ensures linked { IsLinked classes.now.world self.new }
+    {
+        let table = classes.table();
+        let found = found_and_kept(
+            &mut self.fields,
+            at,
+            table,
+            classes,
+            &self.words,
+            site.class,
+            index,
+        );
+        used_field(table, site, how, index, found)
+    }
+
+    /// The same, with room of its own for the answer, which is then not made where an entry is there.
+    #[inline(always)]
+    fn field_apart(
+        &mut self,
+        classes: &Classes<'_>,
+        at: usize,
+        site: Site,
+        how: Use,
+        index: u16,
+    ) -> Result<FieldUse, LinkError>
+        requires linked { IsLinked classes.now.world self.old }
+        requires site { IsSite classes.now.world site }
+        requires index { HoldsAtNumber classes.now.world site.class (λ l. IsSome (field_operand l.class index)) }
+        ensures found { IsFieldResolved classes.now.world site how index (used_place result) }
+        ensures used { IfOk result (IsFieldUse classes.now.world) }
+        ensures linked { IsLinked classes.now.world self.new }
+    {
+        self.field_anew(classes, at, site, how, index)
+    }
+
     /// The field that the Fieldref constant at an index resolves to at a site, for an instruction, as
     /// `jv_link`'s `resolve_field` answers it (JVMS 5.4.3.2, 5.4.4, 6.5), with what a step asks of it. Asked again, it is one
     /// entry that is read; it takes no memory.
@@ -170,17 +221,10 @@ impl<'a> Linked<'a> {
         ensures linked { IsLinked classes.now.world self.new }
     {
         let at = entry_place(&self.firsts, site.class, index);
-        let table = classes.table();
-        let found = field_by(
-            &mut self.fields,
-            at,
-            table,
-            classes,
-            &self.words,
-            site.class,
-            index,
-        );
-        used_field(table, site, how, index, found)
+        if let Some(found) = known(&self.fields, at, site.class, index) {
+            return used_field(classes.table(), site, how, index, found);
+        }
+        self.field_apart(classes, at, site, how, index)
     }
 
     /// The field that the Fieldref constant at an index resolves to at a site, for an instruction, as `jv_link`'s

@@ -72,6 +72,7 @@ fn found_anew(
 }
 
 /// What a constant resolves to, by its names; the entry at a place keeps it.
+#[cold]
 #[inline(never)]
 fn found_and_kept(
     entries: &mut [Option<MethodEntry>],

@@ -98,6 +98,7 @@ fn place_in(count: usize, target: &MethodTarget, object: Option<usize>) -> usize
 }
 
 /// What a call at a site runs; the entry at a place keeps it.
+#[cold]
 #[inline(never)]
 fn selected_and_kept(
     entries: &mut [Option<Selection>],
