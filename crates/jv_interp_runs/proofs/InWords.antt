@@ -1,5 +1,5 @@
 -- Steps that work on the words of their frame alone, among a method's steps (JVMS 2.11).
-use Rattle.std.proofs.Common.{◌≡◌, ℕ, zero, suc, ◌+◌, Bool, List, [], ◌++◌, Ok, IsOk, refl, sym, ap, subst, ◌∙◌, arith, append-nil}
+use Rattle.std.proofs.Common.{◌≡◌, ℕ, zero, suc, ◌+◌, ◌<◌, Bool, List, [], ◌++◌, Ok, IsOk, refl, sym, ap, subst, ◌∙◌, arith, append-nil}
 use Rattle.jv_meaning_world.specs.World.{World}
 use Rattle.jv_meaning_machine.specs.Faults.{OrFault}
 use Rattle.jv_meaning_machine.specs.Frames.{Frame}
@@ -24,6 +24,12 @@ use Rattle.jv_interp_runs.specs.Inside.Words.{OnlyInWords}
 use Rattle.jv_interp_runs.specs.Stepping.{RunsOn}
 use Rattle.jv_interp_runs.specs.Running.{Leads, IsSafe, RunsIn, RanOn}
 use Rattle.jv_interp_runs.proofs.Runs.{bound_again, leads_on, safe_later, some_frame, runs_join}
+
+-- ---- where the answer is not 0, some are left
+
+pub some_of : (n : ℕ) → (n ≡ 0 → ⊥) → 0 < n
+some_of zero some = absurd (some refl)
+some_of (suc n) some = omega arith
 
 -- ---- no number of steps meets a fault
 

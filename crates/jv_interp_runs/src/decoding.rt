@@ -1,6 +1,6 @@
 //! Instructions in the code of methods.
 
-ghost use Rattle.std.specs.Prelude.{◌≡◌, ◌+◌, ◌≤◌, [], ◌∷◌, length, IsTrue};
+ghost use Rattle.std.specs.Prelude.{◌≡◌, ◌+◌, ◌≤◌, [], ◌∷◌, length, get_or, IsTrue};
 ghost use Rattle.jv_format.specs.Format.{byte, half};
 ghost use Rattle.jv_code.specs.Insns.{instruction_of};
 ghost use Rattle.jv_code.specs.Operands.{HasBytes, least_operands};
@@ -45,14 +45,17 @@ pub(crate) fn site_of(methods: &Methods<'_>, method: u32, pc: u32) -> Site
     }
 }
 
-/// The opcode of the instruction at an offset.
+/// The opcode of the instruction at an offset, which was read there.
 #[inline(always)]
-pub(crate) fn opcode_at(code: &[u8], pc: usize) -> u8
-    requires { IsStart code.now pc }
+pub(crate) fn opcode_at(code: &[u8], pc: usize, read: u16) -> u8
+    requires start { IsStart code.now pc }
+    requires read { read ≡ get_or code.now pc 0 + 1 }
     ensures stands { HasBytes code.now pc (result ∷ []) }
     ensures room { (pc + 1) + least_operands result ≤ length code.now }
 {
-    code[pc]
+    let _code = code;
+    let _pc = pc;
+    (read - 1) as u8
 }
 
 /// The index in the two bytes behind the opcode at an offset.

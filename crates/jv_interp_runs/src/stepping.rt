@@ -1,6 +1,6 @@
 //! Steps of the method that runs, by the opcode at hand.
 
-ghost use Rattle.std.specs.Prelude.{◌≡◌, ◌+◌, ◌<◌, ◌≤◌, IfOk, IsOk, IsTrue, OnOk, OnErr};
+ghost use Rattle.std.specs.Prelude.{◌≡◌, ◌+◌, ◌<◌, ◌≤◌, IfOk, IsOk, IsTrue, OnOk, OnErr, get_or};
 ghost use Rattle.jv_interp_frames.specs.of_linked.Linked.{IsLinked};
 ghost use Rattle.jv_interp_frames.specs.of_interp_calls.Methods.{AreMethods};
 ghost use Rattle.jv_interp_frames.specs.of_interp_calls.Texts.{AreTexts};
@@ -122,7 +122,7 @@ fn step_apart<'a, 'l, S: Store>(
     result
 }
 
-/// The same, where the opcode says which instruction it is, but for an index.
+/// The same, where the opcode says which instruction it is, but for an index; one more than the opcode was read.
 #[inline(always)]
 fn step_at_hand<'a, 'l, S: Store>(
     classes: &Classes<'a>,
@@ -135,8 +135,10 @@ fn step_at_hand<'a, 'l, S: Store>(
     held: &mut Held,
     store: &mut S,
     at: &mut Registers<'l>,
+    read: u16,
     goes_on: &mut bool,
 ) -> Result<(), Memory>
+    requires read { read ≡ get_or at.old.code.now at.old.pc 0 + 1 }
     requires can { CanStepIn classes.now.world verified.now texts.now.names at.old
         (kept frames.old control.old held.old (S.content store.old)) }
     requires linked { IsLinked classes.now.world linked.old }
@@ -158,7 +160,7 @@ fn step_at_hand<'a, 'l, S: Store>(
     ensures refused_room { OnErr result (S.room_left store.new ≡ S.room_left store.old) }
     ensures sure { IsTrue S.SURE → IsOk result }
 {
-    let opcode = opcode_at(at.code, at.pc as usize);
+    let opcode = opcode_at(at.code, at.pc as usize, read);
     if let Some(kind) = element_loaded(opcode) {
         return step_known::<Arrays, S>(
             classes,
@@ -571,8 +573,9 @@ fn step_at_hand<'a, 'l, S: Store>(
     }
 }
 
-/// Executes the instruction at which the method in the registers stands (JVMS 2.11), and does what its effect asks for. Answers whether
-/// the method goes on in the registers; where it doesn't, all frames stand in their records, from which the newest goes on.
+/// Executes the instruction at which the method in the registers stands (JVMS 2.11), whose opcode was read, one more than it, and does what
+/// its effect asks for. Answers whether the method goes on in the registers; where it doesn't, all frames stand in their records, from
+/// which the newest goes on.
 ///
 /// # Errors
 ///
@@ -589,7 +592,9 @@ pub(crate) fn step_in_method<'a, 'l, S: Store>(
     held: &mut Held,
     store: &mut S,
     at: &mut Registers<'l>,
+    read: u16,
 ) -> Result<bool, Memory>
+    requires read { read ≡ get_or at.old.code.now at.old.pc 0 + 1 }
     requires can { CanStepIn classes.now.world verified.now texts.now.names at.old
         (kept frames.old control.old held.old (S.content store.old)) }
     requires linked { IsLinked classes.now.world linked.old }
@@ -623,6 +628,7 @@ pub(crate) fn step_in_method<'a, 'l, S: Store>(
         held,
         store,
         at,
+        read,
         &mut goes_on,
     ) {
         Ok(()) => Ok(goes_on),

@@ -4,7 +4,7 @@ use Rattle.jv_interp_runs.specs.Stepping.{SteppedTo}
 use Rattle.jv_interp_runs.specs.Running.{RanOn, Ran}
 use Rattle.jv_interp_runs.proofs.Records.{can_suspend, stands, runs_again}
 use Rattle.jv_interp_runs.proofs.Runs.{runs_not, steps_in, next, ran_on, ran_out, ran_stands}
-use Rattle.jv_interp_runs.proofs.InWords.{can_run, ran_and_ran}
+use Rattle.jv_interp_runs.proofs.InWords.{some_of, can_run, ran_and_ran}
 use Rattle.jv_interp_runs.proofs.running.run_method.Goals as goal
 
 pub loop-left-init : goal.loop-left-init
@@ -23,108 +23,112 @@ loop-left-init g c =
       room = refl;
     }
 
-pub run_alone-left-requires : goal.run_alone-left-requires
-run_alone-left-requires g c =
+pub run_alone-requires : goal.run_alone-requires
+run_alone-requires g c =
     let w = c.requires.can in
     let k = c.args.n - c.loop-left.left in
     let before = kept c.args.frames.now c.args.control.now c.args.held.now (g.S.Store.content c.args.store.now) in
     can_run c.args.classes.now.world c.args.verified.now c.args.at w.program c.args.texts.now.names w.s w.addresses before w.runs k c.loop-left.now c.loop-left.frames
     c.loop-left.control c.loop-left.held (g.S.Store.content c.loop-left.store) (c.loop-left.invariant.ran w.program w.s w.addresses w.runs)
 
+pub step_in_method-requires-clause-read : goal.step_in_method-requires-clause-read
+step_in_method-requires-clause-read g c = c.run_alone.ensures.rest (some_of c.run_alone.result c.if-run_alone-eq0.false)
+
 pub step_in_method-requires-clause-can : goal.step_in_method-requires-clause-can
 step_in_method-requires-clause-can g c =
     let w = c.requires.can in
     let k = c.args.n - c.loop-left.left in
-    let j = c.loop-left.left - c.run_alone-left.result in
+    let j = 1 - c.run_alone.result in
     let before = kept c.args.frames.now c.args.control.now c.args.held.now (g.S.Store.content c.args.store.now) in
-    let then = kept c.run_alone-left.new.frames c.loop-left.control c.loop-left.held (g.S.Store.content c.loop-left.store) in
+    let then = kept c.run_alone.new.frames c.loop-left.control c.loop-left.held (g.S.Store.content c.loop-left.store) in
     let r =
     ran_and_ran c.args.classes.now.world c.args.verified.now c.args.at w.program c.args.texts.now.names w.s w.addresses before w.runs k c.loop-left.now c.loop-left.frames c.loop-left.control
-    c.loop-left.held (g.S.Store.content c.loop-left.store) (c.loop-left.invariant.ran w.program w.s w.addresses w.runs) j c.run_alone-left.new.at c.run_alone-left.new.frames
-    c.run_alone-left.ensures.ran c.run_alone-left.ensures.only in
+    c.loop-left.held (g.S.Store.content c.loop-left.store) (c.loop-left.invariant.ran w.program w.s w.addresses w.runs) j c.run_alone.new.at c.run_alone.new.frames
+    c.run_alone.ensures.ran c.run_alone.ensures.only in
     record {
       program = w.program;
       s = r.t;
-      t = next c.args.classes.now.world c.args.verified.now c.args.at w.program c.args.texts.now.names w.s w.addresses before w.runs (k + j) c.run_alone-left.new.at then r;
+      t = next c.args.classes.now.world c.args.verified.now c.args.at w.program c.args.texts.now.names w.s w.addresses before w.runs (k + j) c.run_alone.new.at then r;
       addresses = w.addresses ++ r.runs.more;
-      steps = steps_in c.args.classes.now.world c.args.verified.now c.args.at w.program c.args.texts.now.names w.s w.addresses before w.runs (k + j) c.run_alone-left.new.at then r;
-    }
-
-pub loop-left-preserved-in-Ok-true : goal.loop-left-preserved-in-Ok-true
-loop-left-preserved-in-Ok-true g c =
-    let k = c.args.n - c.loop-left.left in
-    let j = c.loop-left.left - c.run_alone-left.result in
-    let before = kept c.args.frames.now c.args.control.now c.args.held.now (g.S.Store.content c.args.store.now) in
-    let then = kept c.run_alone-left.new.frames c.loop-left.control c.loop-left.held (g.S.Store.content c.loop-left.store) in
-    let after = kept c.step_in_method.new.frames c.step_in_method.new.control c.step_in_method.new.held (g.S.Store.content c.step_in_method.new.store) in
-    let e = c.in-Ok-true.ensures {u = tt} in
-    let few = c.loop-left.invariant.few in
-    let most = c.run_alone-left.ensures.most in
-    let some = c.if-left-gt0.true in
-    let up : suc (k + j) ≡ c.args.n - (c.run_alone-left.result - 1) = omega (arith, few, some, most) in
-    record {
-      few = omega (arith, few, most);
-      ran =
-          λ program s addresses h.
-          let r =
-          ran_and_ran c.args.classes.now.world c.args.verified.now c.args.at program c.args.texts.now.names s addresses before h k c.loop-left.now c.loop-left.frames c.loop-left.control
-          c.loop-left.held (g.S.Store.content c.loop-left.store) (c.loop-left.invariant.ran program s addresses h) j c.run_alone-left.new.at c.run_alone-left.new.frames
-          c.run_alone-left.ensures.ran c.run_alone-left.ensures.only in
-          let t = next c.args.classes.now.world c.args.verified.now c.args.at program c.args.texts.now.names s addresses before h (k + j) c.run_alone-left.new.at then r in
-          let q = e.stepped program r.t t (addresses ++ r.runs.more) (steps_in c.args.classes.now.world c.args.verified.now c.args.at program c.args.texts.now.names s addresses before h (k + j) c.run_alone-left.new.at then r) in
-          subst (λ (i : ℕ). RanOn i program c.args.texts.now.names s addresses c.step_in_method.new.at before after) up
-          (ran_on c.args.classes.now.world c.args.verified.now c.args.at program c.args.texts.now.names s addresses before h (k + j) c.run_alone-left.new.at then r c.step_in_method.new.at after
-          (subst (λ (b : Bool). SteppedTo b program c.args.texts.now.names t (addresses ++ r.runs.more) c.step_in_method.new.at then after) c.in-Ok-true.field-0-test q));
-      linked = c.step_in_method.ensures.linked;
-      fewer = let a = e.fewer in let b = c.loop-left.invariant.fewer in omega (arith, a, b);
-      still = λ none. absurd (omega (arith, few, some, most, none));
-      room = let a = e.room in let b = c.loop-left.invariant.room in omega (arith, a, b);
+      steps = steps_in c.args.classes.now.world c.args.verified.now c.args.at w.program c.args.texts.now.names w.s w.addresses before w.runs (k + j) c.run_alone.new.at then r;
     }
 
 pub loop-left-preserved : goal.loop-left-preserved
 loop-left-preserved g c =
     let k = c.args.n - c.loop-left.left in
-    let j = c.loop-left.left - c.run_alone-left.result in
+    let j = 1 - c.run_alone.result in
     let before = kept c.args.frames.now c.args.control.now c.args.held.now (g.S.Store.content c.args.store.now) in
-    let then = kept c.run_alone-left.new.frames c.loop-left.control c.loop-left.held (g.S.Store.content c.loop-left.store) in
+    let then = kept c.run_alone.new.frames c.loop-left.control c.loop-left.held (g.S.Store.content c.loop-left.store) in
+    let after = kept c.step_in_method.new.frames c.step_in_method.new.control c.step_in_method.new.held (g.S.Store.content c.step_in_method.new.store) in
+    let e = c.in-Ok-true.ensures {u = tt} in
     let few = c.loop-left.invariant.few in
-    let most = c.run_alone-left.ensures.most in
-    let sum : k + j ≡ c.args.n - c.run_alone-left.result = omega (arith, few, most) in
+    let more = c.loop-left-test.true in
+    let some = some_of c.run_alone.result c.if-run_alone-eq0.false in
+    let up : suc (k + j) ≡ c.args.n - (c.loop-left.left - 1) = omega (arith, few, some, more) in
     record {
-      few = omega (arith, few, most);
+      few = omega (arith, few);
       ran =
           λ program s addresses h.
           let r =
           ran_and_ran c.args.classes.now.world c.args.verified.now c.args.at program c.args.texts.now.names s addresses before h k c.loop-left.now c.loop-left.frames c.loop-left.control
-          c.loop-left.held (g.S.Store.content c.loop-left.store) (c.loop-left.invariant.ran program s addresses h) j c.run_alone-left.new.at c.run_alone-left.new.frames
-          c.run_alone-left.ensures.ran c.run_alone-left.ensures.only in
-          subst (λ (i : ℕ). RanOn i program c.args.texts.now.names s addresses c.run_alone-left.new.at before then) sum r;
+          c.loop-left.held (g.S.Store.content c.loop-left.store) (c.loop-left.invariant.ran program s addresses h) j c.run_alone.new.at c.run_alone.new.frames
+          c.run_alone.ensures.ran c.run_alone.ensures.only in
+          let t = next c.args.classes.now.world c.args.verified.now c.args.at program c.args.texts.now.names s addresses before h (k + j) c.run_alone.new.at then r in
+          let q = e.stepped program r.t t (addresses ++ r.runs.more) (steps_in c.args.classes.now.world c.args.verified.now c.args.at program c.args.texts.now.names s addresses before h (k + j) c.run_alone.new.at then r) in
+          subst (λ (i : ℕ). RanOn i program c.args.texts.now.names s addresses c.step_in_method.new.at before after) up
+          (ran_on c.args.classes.now.world c.args.verified.now c.args.at program c.args.texts.now.names s addresses before h (k + j) c.run_alone.new.at then r c.step_in_method.new.at after
+          (subst (λ (b : Bool). SteppedTo b program c.args.texts.now.names t (addresses ++ r.runs.more) c.step_in_method.new.at then after) c.in-Ok-true.field-0-test q));
+      linked = c.step_in_method.ensures.linked;
+      fewer = let a = e.fewer in let b = c.loop-left.invariant.fewer in omega (arith, a, b);
+      still = λ none. absurd (omega (arith, few, more, none));
+      room = let a = e.room in let b = c.loop-left.invariant.room in omega (arith, a, b);
+    }
+
+pub loop-left-preserved-then-run_alone-eq0 : goal.loop-left-preserved-then-run_alone-eq0
+loop-left-preserved-then-run_alone-eq0 g c =
+    let k = c.args.n - c.loop-left.left in
+    let j = 1 - c.run_alone.result in
+    let before = kept c.args.frames.now c.args.control.now c.args.held.now (g.S.Store.content c.args.store.now) in
+    let then = kept c.run_alone.new.frames c.loop-left.control c.loop-left.held (g.S.Store.content c.loop-left.store) in
+    let few = c.loop-left.invariant.few in
+    let more = c.loop-left-test.true in
+    let one = c.if-run_alone-eq0.true in
+    let sum : k + j ≡ c.args.n - (c.loop-left.left - 1) = omega (arith, few, more, one) in
+    record {
+      few = omega (arith, few);
+      ran =
+          λ program s addresses h.
+          let r =
+          ran_and_ran c.args.classes.now.world c.args.verified.now c.args.at program c.args.texts.now.names s addresses before h k c.loop-left.now c.loop-left.frames c.loop-left.control
+          c.loop-left.held (g.S.Store.content c.loop-left.store) (c.loop-left.invariant.ran program s addresses h) j c.run_alone.new.at c.run_alone.new.frames
+          c.run_alone.ensures.ran c.run_alone.ensures.only in
+          subst (λ (i : ℕ). RanOn i program c.args.texts.now.names s addresses c.run_alone.new.at before then) sum r;
       linked = c.loop-left.invariant.linked;
       fewer = c.loop-left.invariant.fewer;
-      still = λ none. c.loop-left.invariant.still (omega (arith, few, most, none));
+      still = λ none. absurd (omega (arith, few, more, none));
       room = c.loop-left.invariant.room;
     }
 
 pub returns-in-Ok-false-clause-ran : goal.returns-in-Ok-false-clause-ran
 returns-in-Ok-false-clause-ran g c = λ program s addresses h.
     let k = c.args.n - c.loop-left.left in
-    let j = c.loop-left.left - c.run_alone-left.result in
+    let j = 1 - c.run_alone.result in
     let before = kept c.args.frames.now c.args.control.now c.args.held.now (g.S.Store.content c.args.store.now) in
-    let then = kept c.run_alone-left.new.frames c.loop-left.control c.loop-left.held (g.S.Store.content c.loop-left.store) in
+    let then = kept c.run_alone.new.frames c.loop-left.control c.loop-left.held (g.S.Store.content c.loop-left.store) in
     let after = kept c.step_in_method.new.frames c.step_in_method.new.control c.step_in_method.new.held (g.S.Store.content c.step_in_method.new.store) in
     let e = c.in-Ok-false.ensures {u = tt} in
     let few = c.loop-left.invariant.few in
-    let most = c.run_alone-left.ensures.most in
-    let some = c.if-left-gt0.true in
-    let up : suc (k + j) ≡ c.args.n - (c.run_alone-left.result - 1) = omega (arith, few, some, most) in
+    let more = c.loop-left-test.true in
+    let some = some_of c.run_alone.result c.if-run_alone-eq0.false in
+    let up : suc (k + j) ≡ c.args.n - (c.loop-left.left - 1) = omega (arith, few, some, more) in
     let r =
     ran_and_ran c.args.classes.now.world c.args.verified.now c.args.at program c.args.texts.now.names s addresses before h k c.loop-left.now c.loop-left.frames c.loop-left.control
-    c.loop-left.held (g.S.Store.content c.loop-left.store) (c.loop-left.invariant.ran program s addresses h) j c.run_alone-left.new.at c.run_alone-left.new.frames
-    c.run_alone-left.ensures.ran c.run_alone-left.ensures.only in
-    let t = next c.args.classes.now.world c.args.verified.now c.args.at program c.args.texts.now.names s addresses before h (k + j) c.run_alone-left.new.at then r in
-    let q = e.stepped program r.t t (addresses ++ r.runs.more) (steps_in c.args.classes.now.world c.args.verified.now c.args.at program c.args.texts.now.names s addresses before h (k + j) c.run_alone-left.new.at then r) in
+    c.loop-left.held (g.S.Store.content c.loop-left.store) (c.loop-left.invariant.ran program s addresses h) j c.run_alone.new.at c.run_alone.new.frames
+    c.run_alone.ensures.ran c.run_alone.ensures.only in
+    let t = next c.args.classes.now.world c.args.verified.now c.args.at program c.args.texts.now.names s addresses before h (k + j) c.run_alone.new.at then r in
+    let q = e.stepped program r.t t (addresses ++ r.runs.more) (steps_in c.args.classes.now.world c.args.verified.now c.args.at program c.args.texts.now.names s addresses before h (k + j) c.run_alone.new.at then r) in
     subst (λ (i : ℕ). Ran i program c.args.texts.now.names s addresses before after) up
-    (ran_out c.args.classes.now.world c.args.verified.now c.args.at program c.args.texts.now.names s addresses before h (k + j) c.run_alone-left.new.at then r after
+    (ran_out c.args.classes.now.world c.args.verified.now c.args.at program c.args.texts.now.names s addresses before h (k + j) c.run_alone.new.at then r after
     (subst (λ (b : Bool). SteppedTo b program c.args.texts.now.names t (addresses ++ r.runs.more) c.step_in_method.new.at then after) c.in-Ok-false.field-0-test q))
 
 pub suspend-requires : goal.suspend-requires
@@ -132,40 +136,40 @@ suspend-requires g c =
     let w = c.requires.can in
     let e = c.in-Err.ensures {u = tt} in
     let k = c.args.n - c.loop-left.left in
-    let j = c.loop-left.left - c.run_alone-left.result in
+    let j = 1 - c.run_alone.result in
     let before = kept c.args.frames.now c.args.control.now c.args.held.now (g.S.Store.content c.args.store.now) in
-    let then = kept c.run_alone-left.new.frames c.loop-left.control c.loop-left.held (g.S.Store.content c.loop-left.store) in
+    let then = kept c.run_alone.new.frames c.loop-left.control c.loop-left.held (g.S.Store.content c.loop-left.store) in
     let r =
     ran_and_ran c.args.classes.now.world c.args.verified.now c.args.at w.program c.args.texts.now.names w.s w.addresses before w.runs k c.loop-left.now c.loop-left.frames c.loop-left.control
-    c.loop-left.held (g.S.Store.content c.loop-left.store) (c.loop-left.invariant.ran w.program w.s w.addresses w.runs) j c.run_alone-left.new.at c.run_alone-left.new.frames
-    c.run_alone-left.ensures.ran c.run_alone-left.ensures.only in
+    c.loop-left.held (g.S.Store.content c.loop-left.store) (c.loop-left.invariant.ran w.program w.s w.addresses w.runs) j c.run_alone.new.at c.run_alone.new.frames
+    c.run_alone.ensures.ran c.run_alone.ensures.only in
     can_suspend w.program c.args.texts.now.names r.t (w.addresses ++ r.runs.more) c.step_in_method.new.at c.step_in_method.new.frames c.step_in_method.new.control
     c.step_in_method.new.held (g.S.Store.content c.step_in_method.new.store)
-    (runs_again w.program c.args.texts.now.names r.t (w.addresses ++ r.runs.more) c.run_alone-left.new.at c.step_in_method.new.at c.run_alone-left.new.frames c.step_in_method.new.frames
+    (runs_again w.program c.args.texts.now.names r.t (w.addresses ++ r.runs.more) c.run_alone.new.at c.step_in_method.new.at c.run_alone.new.frames c.step_in_method.new.frames
     c.loop-left.control c.step_in_method.new.control c.loop-left.held c.step_in_method.new.held (g.S.Store.content c.loop-left.store)
     (g.S.Store.content c.step_in_method.new.store) r.runs.runs e.refused_at e.refused_frames e.refused_control e.refused e.refused_content)
 
 pub returns-in-Err-clause-ran : goal.returns-in-Err-clause-ran
 returns-in-Err-clause-ran g c = λ program s addresses h.
     let k = c.args.n - c.loop-left.left in
-    let j = c.loop-left.left - c.run_alone-left.result in
+    let j = 1 - c.run_alone.result in
     let before = kept c.args.frames.now c.args.control.now c.args.held.now (g.S.Store.content c.args.store.now) in
-    let then = kept c.run_alone-left.new.frames c.loop-left.control c.loop-left.held (g.S.Store.content c.loop-left.store) in
+    let then = kept c.run_alone.new.frames c.loop-left.control c.loop-left.held (g.S.Store.content c.loop-left.store) in
     let after = kept c.suspend.new.frames c.step_in_method.new.control c.step_in_method.new.held (g.S.Store.content c.step_in_method.new.store) in
     let e = c.in-Err.ensures {u = tt} in
     let few = c.loop-left.invariant.few in
-    let most = c.run_alone-left.ensures.most in
-    let sum : k + j ≡ c.args.n - c.run_alone-left.result = omega (arith, few, most) in
+    let some = some_of c.run_alone.result c.if-run_alone-eq0.false in
+    let sum : k + j ≡ c.args.n - c.loop-left.left = omega (arith, few, some) in
     let r =
     ran_and_ran c.args.classes.now.world c.args.verified.now c.args.at program c.args.texts.now.names s addresses before h k c.loop-left.now c.loop-left.frames c.loop-left.control
-    c.loop-left.held (g.S.Store.content c.loop-left.store) (c.loop-left.invariant.ran program s addresses h) j c.run_alone-left.new.at c.run_alone-left.new.frames
-    c.run_alone-left.ensures.ran c.run_alone-left.ensures.only in
+    c.loop-left.held (g.S.Store.content c.loop-left.store) (c.loop-left.invariant.ran program s addresses h) j c.run_alone.new.at c.run_alone.new.frames
+    c.run_alone.ensures.ran c.run_alone.ensures.only in
     let again =
-    runs_again program c.args.texts.now.names r.t (addresses ++ r.runs.more) c.run_alone-left.new.at c.step_in_method.new.at c.run_alone-left.new.frames c.step_in_method.new.frames
+    runs_again program c.args.texts.now.names r.t (addresses ++ r.runs.more) c.run_alone.new.at c.step_in_method.new.at c.run_alone.new.frames c.step_in_method.new.frames
     c.loop-left.control c.step_in_method.new.control c.loop-left.held c.step_in_method.new.held (g.S.Store.content c.loop-left.store)
     (g.S.Store.content c.step_in_method.new.store) r.runs.runs e.refused_at e.refused_frames e.refused_control e.refused e.refused_content in
     subst (λ (i : ℕ). Ran i program c.args.texts.now.names s addresses before after) sum
-    (ran_stands (k + j) program c.args.texts.now.names s addresses c.run_alone-left.new.at before then after r
+    (ran_stands (k + j) program c.args.texts.now.names s addresses c.run_alone.new.at before then after r
     (stands program c.args.texts.now.names r.t (addresses ++ r.runs.more) c.step_in_method.new.at c.step_in_method.new.frames c.step_in_method.new.control
     c.step_in_method.new.held (g.S.Store.content c.step_in_method.new.store) again c.suspend.new.frames c.suspend.ensures.suspends)
     e.refused_content)
@@ -195,16 +199,12 @@ returns-clause-ran g c = λ program s addresses h.
 pub returns-in-Ok-false-clause-still_held : goal.returns-in-Ok-false-clause-still_held
 returns-in-Ok-false-clause-still_held g c = λ none.
     let few = c.loop-left.invariant.few in
-    let most = c.run_alone-left.ensures.most in
-    let some = c.if-left-gt0.true in
-    absurd (omega (arith, few, some, most, none))
+    let more = c.loop-left-test.true in
+    absurd (omega (arith, few, more, none))
 
 pub returns-in-Err-clause-still_held : goal.returns-in-Err-clause-still_held
 returns-in-Err-clause-still_held g c = λ none.
-    let few = c.loop-left.invariant.few in
-    let most = c.run_alone-left.ensures.most in
-    let same : c.loop-left.left ≡ c.args.n = omega (arith, few, most, none) in
-    (c.in-Err.ensures {u = tt}).refused ∙ (c.loop-left.invariant.still same).0
+    (c.in-Err.ensures {u = tt}).refused ∙ (c.loop-left.invariant.still none).0
 
 pub returns-clause-still_held : goal.returns-clause-still_held
 returns-clause-still_held g c = λ none.
@@ -215,16 +215,12 @@ returns-clause-still_held g c = λ none.
 pub returns-in-Ok-false-clause-still_content : goal.returns-in-Ok-false-clause-still_content
 returns-in-Ok-false-clause-still_content g c = λ none.
     let few = c.loop-left.invariant.few in
-    let most = c.run_alone-left.ensures.most in
-    let some = c.if-left-gt0.true in
-    absurd (omega (arith, few, some, most, none))
+    let more = c.loop-left-test.true in
+    absurd (omega (arith, few, more, none))
 
 pub returns-in-Err-clause-still_content : goal.returns-in-Err-clause-still_content
 returns-in-Err-clause-still_content g c = λ none.
-    let few = c.loop-left.invariant.few in
-    let most = c.run_alone-left.ensures.most in
-    let same : c.loop-left.left ≡ c.args.n = omega (arith, few, most, none) in
-    (c.in-Err.ensures {u = tt}).refused_content ∙ (c.loop-left.invariant.still same).1
+    (c.in-Err.ensures {u = tt}).refused_content ∙ (c.loop-left.invariant.still none).1
 
 pub returns-clause-still_content : goal.returns-clause-still_content
 returns-clause-still_content g c = λ none.

@@ -4,8 +4,8 @@ use Rattle.jv_interp_runs.proofs.Known.{starts}
 use Rattle.jv_interp_runs.proofs.Operands.{with_index, with_byte, alone}
 use Rattle.jv_interp_runs.proofs.stepping.step_at_hand.Goals as goal
 
-pub opcode_at-opcode-requires : goal.opcode_at-opcode-requires
-opcode_at-opcode-requires g c =
+pub opcode_at-opcode-requires-clause-start : goal.opcode_at-opcode-requires-clause-start
+opcode_at-opcode-requires-clause-start g c =
     let w = c.requires.can in
     starts c.args.classes.now.world c.args.verified.now c.args.at.now w.program c.args.texts.now.names w.s w.t w.addresses c.args.frames.now c.args.control.now
     c.args.held.now (g.S.Store.content c.args.store.now) w.steps
