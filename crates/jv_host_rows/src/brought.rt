@@ -49,6 +49,17 @@ pub(crate) fn first_word(text: &str) -> (&str, &str) {
     }
 }
 
+/// Adds the files that words spell.
+fn add_files(files: &mut Vec<Vec<u8>>, words: &str) -> Result<(), AllocError> {
+    let alloc = *files.allocator();
+    if !words.is_empty() {
+        for word in words.split(' ') {
+            files.push(bytes_of(alloc, word))?;
+        }
+    }
+    Ok(())
+}
+
 /// What a line brings behind its first word: the main class's name, the cells, words and bytes of output, the input, and the files.
 fn brought_of(alloc: Global, line: &str) -> Result<Brought, AllocError> {
     let (main, rest) = first_word(line);
@@ -57,11 +68,7 @@ fn brought_of(alloc: Global, line: &str) -> Result<Brought, AllocError> {
     let (output, rest) = first_word(rest);
     let (input, rest) = first_word(rest);
     let mut files = Vec::new(alloc);
-    if !rest.is_empty() {
-        for word in rest.split(' ') {
-            files.push(bytes_of(alloc, word))?;
-        }
-    }
+    add_files(&mut files, rest)?;
     Ok(Brought {
         main: bytes_of(alloc, main),
         input: bytes_of(alloc, input),
@@ -86,10 +93,29 @@ pub(crate) fn brought_in(alloc: Global, row: &str) -> Result<Vec<Brought>, Alloc
     Ok(brought)
 }
 
-/// What a guest brings, as a host takes it.
-pub(crate) fn lent_of(alloc: Global, guest: &Brought) -> Result<Lent<'_>, AllocError> {
+/// The files that each guest of a row brings behind its own.
+pub(crate) fn beside_in(alloc: Global, row: &str) -> Result<Vec<Vec<u8>>, AllocError> {
+    let mut files = Vec::new(alloc);
+    for line in row.lines() {
+        let (verb, rest) = first_word(line);
+        if verb == "beside" {
+            add_files(&mut files, rest)?;
+        }
+    }
+    Ok(files)
+}
+
+/// What a guest brings, as a host takes it, with these files behind its own.
+pub(crate) fn lent_of<'a>(
+    alloc: Global,
+    guest: &'a Brought,
+    beside: &'a [Vec<u8>],
+) -> Result<Lent<'a>, AllocError> {
     let mut files: Vec<&[u8]> = Vec::new(alloc);
     for file in &guest.files {
+        files.push(file.as_slice())?;
+    }
+    for file in beside {
         files.push(file.as_slice())?;
     }
     Ok(Lent {

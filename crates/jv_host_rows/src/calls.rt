@@ -31,6 +31,18 @@ pub(crate) fn write_admission<'a, S: Store>(
     }
 }
 
+/// Admits a guest as it is lent, and writes the verdicts on its files.
+fn write_judgement<'a, S: Store>(
+    out: &mut String,
+    host: &mut Host<'a, S>,
+    lent: &'a Lent<'a>,
+) -> Result<(), AllocError> {
+    match host.admit(files_of(lent), lent.budget) {
+        Ok(id) => write_verdicts(out, host, id.0),
+        Err(fault) => out.push_str(fault.name()),
+    }
+}
+
 /// Gives a guest a turn, and what is left of it once more where the host had no memory.
 fn write_turn<S: Store>(
     out: &mut String,
@@ -79,7 +91,7 @@ fn write_feed<S: Store>(
     }
 }
 
-/// Writes the answer to a call, whose words are these.
+/// Writes the answer to a call, whose words are these; what stands behind its numbers says what it is about.
 fn write_answer<'a, S: Store>(
     out: &mut String,
     host: &mut Host<'a, S>,
@@ -93,6 +105,10 @@ fn write_answer<'a, S: Store>(
     match verb {
         "admit" => match lent.get(number as usize) {
             Some(guest) => write_admission(out, host, guest),
+            None => out.push_str("nobody"),
+        },
+        "judge" => match lent.get(number as usize) {
+            Some(guest) => write_judgement(out, host, guest),
             None => out.push_str("nobody"),
         },
         "turn" => write_turn(out, host, number, number_of(second)),
@@ -112,7 +128,7 @@ pub(crate) fn answer<'a, S: Store>(
     line: &str,
 ) -> Result<(), AllocError> {
     let (verb, rest) = first_word(line);
-    if verb == "guest" {
+    if verb == "guest" || verb == "beside" {
         return Ok(());
     }
     out.push_str(line)?;

@@ -1,11 +1,12 @@
 //! Goes through the table of guests in the file that its word names, and shows what a host answers to each line: worked rows of the
-//! machine, of feeds and of hosts, and damaged files. The gate runs it on `data/rows`, and compares what it shows with `stdout`;
-//! `scripts/host-rows` writes both.
+//! verifier, of the machine, of feeds and of hosts, and damaged files. The gate runs it on `data/rows`, and compares what it shows with
+//! `stdout`; `scripts/host-rows/run` writes both.
 //!
-//! A row is some lines, the first of which is its name; rows stand apart by an empty line. A line `guest` says what a guest brings, and is
-//! not shown; each other line is a call on the host, and is shown with its answer. Each row is played in one host over blocks that can be
-//! refused, and in one over cells; where the answers differ, both are shown. Behind a row that ends with the line `damage` its first
-//! guest's file is damaged in many ways, and how often what came of it is shown.
+//! A row is some lines, the first of which is its name; rows stand apart by an empty line. A line `guest` says what a guest brings, and one
+//! `beside` which files each guest of the row brings behind its own; neither is shown. Each other line is a call on the host, and is shown
+//! with its answer. Each row is played in one host over blocks that can be refused, and in one over cells; where the answers differ, both
+//! are shown. Behind a row that ends with the line `damage` its first guest's file is damaged in many ways, and how often what came of it
+//! is shown.
 #![tactic(auto)]
 
 mod brought;
@@ -13,7 +14,7 @@ mod calls;
 mod damage;
 mod shown;
 
-use brought::{Brought, Lent, brought_in, lent_of};
+use brought::{Brought, Lent, beside_in, brought_in, lent_of};
 use damage::write_damage;
 use jv_heap::{Blocks, Cells, Store};
 use jv_run::of_host::Host;
@@ -72,9 +73,10 @@ fn show_lent(
 fn show_row(out: &mut String, prepared: &Prepared, row: &str) -> Result<(), AllocError> {
     let alloc = *out.allocator();
     let brought: Vec<Brought> = brought_in(alloc, row)?;
+    let beside = beside_in(alloc, row)?;
     let mut lent = Vec::new(alloc);
     for guest in &brought {
-        lent.push(lent_of(alloc, guest)?)?;
+        lent.push(lent_of(alloc, guest, &beside)?)?;
     }
     show_lent(out, prepared, &lent, row)
 }

@@ -1,5 +1,5 @@
-//! Tests of the verifier, by tables of classes (`verifier`); of the host and of the program's reports; and of the shared store, beside
-//! what its contract says: the same list of calls on both implementations, whose answers and content are compared with plain lists.
+//! Tests of the host and of the program's reports; of the verifier's calls, whose rows stand in `jv_host_rows`; and of the shared store,
+//! beside what its contract says: the same list of calls on both implementations, whose answers and content are compared with plain lists.
 #![tactic(auto)]
 
 #[cfg(test)]
@@ -23,6 +23,6 @@ mod report;
 #[cfg(test)]
 mod stores;
 #[cfg(test)]
-mod twin;
+mod system;
 #[cfg(test)]
-mod verifier;
+mod twin;

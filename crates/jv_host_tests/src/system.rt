@@ -1,6 +1,6 @@
 //! The system's classes, what the program prints of one file, and the verdict on one class by its number.
 
-use crate::verifier::class::class_file;
+use crate::program::INT_AS_OBJECT;
 use jv_check::check_files;
 use jv_check::of_method::{Verdict, VerifyFault, VerifyRule, check_class, verify};
 use jv_loader::{Classes, LoadVerdict, system_files};
@@ -29,8 +29,9 @@ fn classes_of_the_system(rt: HostRuntime) {
     }
 }
 
-/// A method that gives an int for an object.
-const INT_AS_OBJECT: &str = "C | static m ()Ljava/lang/Object; 1 0 : iconst_1, areturn";
+/// The file of a class C below java/lang/String, which is final.
+const BELOW_A_FINAL: &[u8] =
+    b"\xca\xfe\xba\xbe\x00\x00\x004\x00\x05\x01\x00\x01C\x07\x00\x01\x01\x00\x10java/lang/String\x07\x00\x03\x00!\x00\x02\x00\x04\x00\x00\x00\x00\x00\x00\x00\x00";
 
 /// Whether the line of a file and the status are those of a method that breaks a rule.
 fn is_printed(alloc: Global, state: RandomState, file: &[u8]) -> bool {
@@ -43,17 +44,10 @@ fn is_printed(alloc: Global, state: RandomState, file: &[u8]) -> bool {
     }
 }
 
-fn is_told(alloc: Global, state: RandomState) -> bool {
-    match class_file(alloc, INT_AS_OBJECT) {
-        Some(file) => is_printed(alloc, state, &file),
-        None => false,
-    }
-}
-
 #[test]
 fn one_file(rt: HostRuntime) {
     match RandomState::new(&rt) {
-        Ok(state) => assert!(rt; is_told(rt.alloc(), state)),
+        Ok(state) => assert!(rt; is_printed(rt.alloc(), state, INT_AS_OBJECT)),
         Err(_) => assert!(rt; false),
     }
 }
@@ -85,19 +79,12 @@ fn is_final_broken(verdict: Option<Verdict>) -> bool {
     matches!(verdict, Some(Verdict::Refused(LoadVerdict::FinalBroken)))
 }
 
-fn verdict_on(alloc: Global, state: RandomState, class: &str) -> Option<Verdict> {
-    match class_file(alloc, class) {
-        Some(file) => verdict_on_c(alloc, state, &file),
-        None => None,
-    }
-}
-
 #[test]
 fn one_class_by_its_number(rt: HostRuntime) {
     match RandomState::new(&rt) {
         Ok(state) => {
-            assert!(rt; is_int_as_object(verdict_on(rt.alloc(), state, INT_AS_OBJECT)));
-            assert!(rt; is_final_broken(verdict_on(rt.alloc(), state, "C:String")));
+            assert!(rt; is_int_as_object(verdict_on_c(rt.alloc(), state, INT_AS_OBJECT)));
+            assert!(rt; is_final_broken(verdict_on_c(rt.alloc(), state, BELOW_A_FINAL)));
         }
         Err(_) => assert!(rt; false),
     }
