@@ -10,7 +10,7 @@ ghost use Rattle.jv_loader.specs.Inside.Finals.{AreTold, breaks_final_above};
 
 use crate::entry::Entry;
 use jv_classes::ClassTable;
-use jv_lookups::{Marks, breaks_final, final_declarers, package_numbers};
+use jv_lookups::{FinalKeys, Marks, breaks_final, final_declarers, final_keys, package_numbers};
 use jv_meaning_world::LoadVerdict;
 use std::alloc::{AllocError, Global};
 use std::hash::RandomState;
@@ -19,6 +19,7 @@ use std::hash::RandomState;
 #[derive(Drop)]
 struct Finals {
     declarers: Vec<bool>,
+    keys: FinalKeys,
     packages: Vec<usize>,
     marks: Marks,
 }
@@ -33,10 +34,12 @@ fn finals_of(
 {
     let classes = table.classes();
     let declarers = final_declarers(alloc, classes)?;
+    let keys = final_keys(alloc, state, classes)?;
     let packages = package_numbers(alloc, state, classes)?;
     let marks = Marks::new(alloc, 2 * classes.len())?;
     Ok(Finals {
         declarers,
+        keys,
         packages,
         marks,
     })
@@ -60,6 +63,7 @@ fn overrides_final(
     Ok(breaks_final(
         table.classes(),
         &finals.declarers,
+        &finals.keys,
         &finals.packages,
         &mut finals.marks,
         number,

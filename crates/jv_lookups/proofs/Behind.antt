@@ -93,15 +93,21 @@ module _ (classes : List Loaded) (finals : List Bool) (of : ℕ) (chain front : 
       by_class None = refl
       by_class (Some l) = sym (of_front l ∙ ap (λ f. breaks_final l [] (classes_at classes f)) (no_items front (eqb-true (length front) 0 (sym h))))
 
+  -- the front's names are other ones too
+  front_others : (l : Loaded) → slice_get classes of ≡ Some l → AreUnlike classes of chain → have_other_names l (classes_at classes front) ≡ true
+  front_others l at unlike =
+      (and_parts (have_other_names l (classes_at classes front)) (have_other_names l (classes_at classes (drop upto.many chain)))
+      (sym (list_all-append (λ s. not (bytes_eq s.class.name l.class.name)) (classes_at classes front) (classes_at classes (drop upto.many chain)))
+      ∙ (sym (ap (have_other_names l) front_and_rest) ∙ (sym (ap (passes (λ k. have_other_names k (classes_at classes chain))) at) ∙ unlike)))).0
+
+  pub front_unlike : of < length classes → AreUnlike classes of chain → AreUnlike classes of front
+  front_unlike here unlike =
+      let l = some_at classes of here in
+      ap (passes (λ k. have_other_names k (classes_at classes front))) l.1 ∙ front_others l.0 l.1 unlike
+
   -- else the methods of the class say it
   pub front_says : (l : Loaded) (b : Bool) → slice_get classes of ≡ Some l → AreUnlike classes of chain → EachIsNamed l.class → AreNamed (classes_at classes front)
       → b ≡ passes (λ k. list_any (breaks_final_by k (classes_at classes front)) k.class.methods) (slice_get classes of) → b ≡ breaks_final_at classes of chain
   front_says l b at unlike own named h =
       h ∙ (ap (passes (λ k. list_any (breaks_final_by k (classes_at classes front)) k.class.methods)) at
-      ∙ (sym (of_front l ∙ breaks_final_same l (classes_at classes front) own named others) ∙ sym (ap (passes (λ k. breaks_final k [] (classes_at classes chain))) at)))
-    where
-      others : have_other_names l (classes_at classes front) ≡ true
-      others =
-          (and_parts (have_other_names l (classes_at classes front)) (have_other_names l (classes_at classes (drop upto.many chain)))
-          (sym (list_all-append (λ s. not (bytes_eq s.class.name l.class.name)) (classes_at classes front) (classes_at classes (drop upto.many chain)))
-          ∙ (sym (ap (have_other_names l) front_and_rest) ∙ (sym (ap (passes (λ k. have_other_names k (classes_at classes chain))) at) ∙ unlike)))).0
+      ∙ (sym (of_front l ∙ breaks_final_same l (classes_at classes front) own named (front_others l at unlike)) ∙ sym (ap (passes (λ k. breaks_final k [] (classes_at classes chain))) at)))

@@ -5,6 +5,8 @@ pub mod Chain
 pub mod Classes
 pub mod Defaulting
 pub mod Found
+pub mod KeyBits
+pub mod KeyMarks
 pub mod Looking
 pub mod Marking
 pub mod Next

@@ -1,5 +1,6 @@
 pub mod FinalNumbers
 pub mod Fronts
+pub mod Keys
 pub mod Members
 pub mod Numbers
 pub mod Overridden

@@ -1,4 +1,5 @@
 pub mod Defaults
+pub mod FinalKeys
 pub mod Finals
 pub mod Inside
 pub mod Packages

@@ -1,9 +1,11 @@
 -- Members of one class.
-use Rattle.std.specs.Prelude.{ℕ, Bool, not, ◌&&◌, List, Option, None, is_some, if◌then◌else◌, ◌≡◌, suc, codes}
+use Rattle.std.specs.Prelude.{ℕ, Bool, not, ◌&&◌, List, Option, None, is_some, if◌then◌else◌, ◌≡◌, suc, codes, slice_get}
 use Rattle.std.specs.List.{list_any, filter_map}
-use Rattle.std.specs.Option.{option_map}
+use Rattle.std.specs.Option.{option_map, IsSomeAnd}
 use Rattle.std.specs.Str.{bytes_eq}
 use Rattle.jv_meaning_world.specs.of_class.Class.{field_named}
+use Rattle.jv_classes.specs.declared.member.Member.{Member}
+use Rattle.jv_classes.specs.Members.{IsMethod}
 use Rattle.jv_meaning_world.specs.World.{Loaded, World, class_named}
 use Rattle.jv_meaning_world.specs.Above.{is_above, superclasses}
 use Rattle.jv_meaning_world.specs.Overriding.{Declared}
@@ -11,6 +13,10 @@ use Rattle.jv_meaning_world.specs.LookUps.{DeclaredField, field_by, method_in, w
 use Rattle.jv_meaning_world.specs.Numbers.{classes_at, HoldsAtNumber, HoldsAtBoth}
 use Rattle.jv_lookups.specs.Places.{IsMethodFound, IsFieldFound}
 use Rattle.jv_lookups.specs.declared.place.Place.{Place}
+
+-- it is a method of this class
+abbrev pub IsMethodOf : Loaded → Member → Type 0
+IsMethodOf l member = (place : ℕ) × IsSomeAnd (slice_get l.class.methods place) (IsMethod member)
 
 -- the field of a name and a descriptor that a class declares (JVMS 5.4.3.2)
 abbrev pub field_named_in : List ℕ → List ℕ → Loaded → Option DeclaredField

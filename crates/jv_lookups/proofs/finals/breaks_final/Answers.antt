@@ -1,11 +1,15 @@
 use Rattle.std.proofs.Common.{length, refl}
 use Rattle.std.proofs.lemmas.Option.{slice_get_read}
-use Rattle.jv_lookups.proofs.Behind.{none_in_front, front_says}
+use Rattle.jv_lookups.proofs.Behind.{none_in_front, front_unlike, front_says}
 use Rattle.jv_lookups.proofs.finals.breaks_final.Goals as goal
 
 pub returns-then-is_empty-clause-broken : goal.returns-then-is_empty-clause-broken
 returns-then-is_empty-clause-broken c =
     none_in_front c.args.classes.now c.args.finals.now c.args.of c.args.chain.now c.up_to_final-chain.result.now c.requires.chain c.requires.finals c.up_to_final-chain.ensures c.if-is_empty.ensures
+
+pub some_overrides_final-requires-clause-unlike : goal.some_overrides_final-requires-clause-unlike
+some_overrides_final-requires-clause-unlike c =
+    front_unlike c.args.classes.now c.args.finals.now c.args.of c.args.chain.now c.up_to_final-chain.result.now c.requires.chain c.requires.finals c.up_to_final-chain.ensures c.requires.of c.requires.unlike
 
 pub returns-clause-broken : goal.returns-clause-broken
 returns-clause-broken c =
