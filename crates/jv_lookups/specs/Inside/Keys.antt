@@ -67,7 +67,7 @@ pub record AreMarkedMore (seed : ℕ) (old : List ℕ) (methods : List Method) (
   pub twice : (key : Key) → list_any (declares_key seed key) methods ≡ true → is_marked old key ≡ true → is_marked_twice new key ≡ true
   pub kept : AreKept old new
 
--- whether another class than that of the method may declare a final one that it overrides; where it is such a one itself, one mark is its own
+-- whether another class than the method's may declare a final one that it overrides; where it is such a one itself, one mark is its own
 abbrev pub is_marked_by_others : ℕ → List ℕ → Method → Bool
 is_marked_by_others seed bytes m =
     if is_final_open m then is_marked_twice bytes (key_of seed m.name m.descriptor) else is_marked bytes (key_of seed m.name m.descriptor)
