@@ -249,6 +249,34 @@ def classes_below_final(folder, scale):
         made.write(folder)
 
 
+def finals_in_each(folder, scale):
+    """The same, where all of these methods are final."""
+    count = scaled(scale, 1024)
+    given = descriptors(256)
+    for n in range(count):
+        made = ClassFile(f"C{n}" if n < count - 1 else "Main", f"C{n - 1}" if n else "java/lang/Object")
+        for k in range(256):
+            made.method(0x11, f"m{n}", given[k], 0, 24, bytes([177]))
+        if n == count - 1:
+            made.main()
+        made.write(folder)
+
+
+def finals_in_two_chains(folder, scale):
+    """Two chains of 512 classes of 256 final methods each, of the same names."""
+    count = scaled(scale, 512)
+    given = descriptors(256)
+    for chain in "CD":
+        for n in range(count):
+            last = n == count - 1 and chain == "C"
+            made = ClassFile("Main" if last else f"{chain}{n}", f"{chain}{n - 1}" if n else "java/lang/Object")
+            for k in range(256):
+                made.method(0x11, f"m{n}", given[k], 0, 24, bytes([177]))
+            if last:
+                made.main()
+            made.write(folder)
+
+
 def blank_frames(folder, scale):
     """Frames at each nop, over 65,535 local variables; in 31 methods 4 MB."""
     made = ClassFile("Main")
@@ -979,7 +1007,8 @@ def catches_long(folder, scale):
 
 SHAPES = [
     long_references, short_references, used_references, interface_often, long_methods, long_methods_final, long_fields,
-    methods_below_final, classes_below_final, blank_frames, int_frames, int_frames_and_stores, int_stores, int_switch,
+    methods_below_final, classes_below_final, finals_in_each, finals_in_two_chains, blank_frames, int_frames, int_frames_and_stores,
+    int_stores, int_switch,
     handlers_at_front, handlers_and_frames, handlers_over_all, handlers_apart, handlers_and_stores, new_popped, new_left, new_made,
     no_package, interface_entries, supers_chain, supers_diamond, supers_dense, many_finals, branches_apart, branches_apart_often,
     stack_branches, stack_branches_often, stack_pushed, stack_in_turn, stack_calls, stack_constructs, stack_to_objects,
