@@ -1,15 +1,14 @@
-//! Tests of the host and of the program's reports; of the verifier's calls, whose rows stand in `jv_host_rows`; and of the shared store,
-//! beside what its contract says: the same list of calls on both implementations, whose answers and content are compared with plain lists.
+//! Tests of the program and its reports; of the verifier's calls, and of a host whose memory is refused (the rows of both stand in
+//! `jv_host_rows`); and of the shared store, beside what its contract says: the same list of calls on both implementations, whose
+//! answers and content are compared with plain lists.
 #![tactic(auto)]
 
 #[cfg(test)]
 mod calls;
 #[cfg(test)]
-mod feeds;
+mod files;
 #[cfg(test)]
 mod folder;
-#[cfg(test)]
-mod host;
 #[cfg(test)]
 mod hostile;
 #[cfg(test)]

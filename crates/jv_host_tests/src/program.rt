@@ -1,7 +1,6 @@
 //! What no clause says of the program: what it prints, and its statuses, over folders, an input and outputs in memory.
 
-use crate::feeds::ECHO_FILE;
-use crate::host::HI;
+use crate::files::{ECHO_FILE, HI};
 use jv_run::Folders;
 use jv_status::command;
 use std::alloc::{AllocError, Global};
