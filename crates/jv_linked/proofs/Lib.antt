@@ -1,3 +1,4 @@
+pub mod AtOnce
 pub mod Begun
 pub mod Bodied
 pub mod Going

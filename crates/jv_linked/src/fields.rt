@@ -1,16 +1,20 @@
 //! What Fieldref constants resolve to (JVMS 5.4.3.2), once they were asked.
 
-ghost use Rattle.std.specs.Prelude.{◌≡◌, ◌<◌, IsSome, IfOk, IfSome, length};
+ghost use Rattle.std.specs.Prelude.{◌≡◌, ◌<◌, IsSome, IsTrue, IfOk, IfSome, length, true};
 ghost use Rattle.std.specs.List.{All};
+ghost use Rattle.jv_class.specs.Class.{Field};
 ghost use Rattle.jv_meaning_world.specs.World.{World};
+ghost use Rattle.jv_meaning_world.specs.LookUps.{DeclaredField};
+ghost use Rattle.jv_meaning_typing.specs.Uses.{Site as SiteOfNames};
+ghost use Rattle.jv_meaning_typing.specs.Kind.{has_field_kind, can_use_final};
 ghost use Rattle.jv_meaning_world.specs.Numbers.{HoldsAtNumber};
 ghost use Rattle.jv_meaning_typing.specs.Operands.{field_operand};
-ghost use Rattle.jv_link.specs.Seen.{IsSite};
+ghost use Rattle.jv_link.specs.Seen.{seen_use, IsSite};
 ghost use Rattle.jv_link.specs.Answers.{IsFieldResolved};
 ghost use Rattle.jv_link.specs.UseRules.{AnswersUsable};
 ghost use Rattle.jv_linked.specs.FieldUses.{IsFieldUse, used_place};
 ghost use Rattle.jv_linked.specs.Inside.Words.{AreWords};
-ghost use Rattle.jv_linked.specs.Inside.Fields.{IsFound, IsEntry};
+ghost use Rattle.jv_linked.specs.Inside.Fields.{IsFound, IsEntry, IsUsedAtOnce};
 
 use crate::field_use::{FieldUse, field_used};
 use crate::words::ClassWords;
@@ -26,32 +30,85 @@ pub(crate) struct FieldEntry {
     pub(crate) found: Result<FieldUse, LinkError>,
 }
 
-/// What a constant resolves to, where that is known.
+/// An entry that is empty: no Fieldref constant has the index 0.
+const NO_FIELD: FieldEntry = FieldEntry {
+    class: 0,
+    index: 0,
+    found: Err(LinkError::NoSuchFieldError),
+};
+
+// Access flags of fields (JVMS table 4.5-A).
+const STATIC: u16 = 0x0008;
+
+const FINAL: u16 = 0x0010;
+
+/// Whether an instruction uses fields of this kind, static or not.
 #[inline(always)]
-pub(crate) fn known(
-    entries: &[Option<FieldEntry>],
+fn is_used_so(how: Use, flags: u16) -> bool
+    ensures { (f : Field) → flags ≡ f.access_flags → result ≡ has_field_kind (seen_use how) f }
+{
+    match how {
+        Use::Getstatic | Use::Putstatic => flags & STATIC != 0,
+        Use::Getfield | Use::Putfield => flags & STATIC == 0,
+        _ => true,
+    }
+}
+
+/// Whether no instruction of this kind asks which method sets a field.
+#[inline(always)]
+fn is_settable(how: Use, flags: u16) -> bool
+    ensures { (s : SiteOfNames) (d : DeclaredField) → flags ≡ d.field.access_flags → IsTrue result → can_use_final (seen_use how) s d ≡ true }
+{
+    match how {
+        Use::Putstatic | Use::Putfield => flags & FINAL == 0,
+        _ => true,
+    }
+}
+
+/// What a constant resolves to, where that is known.
+fn known(
+    entries: &[FieldEntry],
     at: usize,
     class: usize,
     index: u16,
 ) -> Option<Result<FieldUse, LinkError>>
     ensures { (world : World) → All (IsEntry world) entries.now → IfSome result (IsFound world class index) }
 {
+    if at < entries.len() && entries[at].class == class && entries[at].index == index {
+        return Some(entries[at].found);
+    }
+    None
+}
+
+/// The field that a constant resolves to, where that is known and an instruction can use it in every method of the class.
+#[inline(always)]
+pub(crate) fn usable_at_once(
+    entries: &[FieldEntry],
+    at: usize,
+    class: usize,
+    index: u16,
+    how: Use,
+) -> Option<FieldUse>
+    ensures { (world : World) → All (IsEntry world) entries.now → IfSome result (λ used. IsUsedAtOnce world class index how used) }
+{
     if at < entries.len()
-        && let Some(entry) = &entries[at]
-        && entry.class == class
-        && entry.index == index
+        && entries[at].class == class
+        && entries[at].index == index
+        && let Ok(used) = entries[at].found
+        && is_used_so(how, used.access_flags)
+        && is_settable(how, used.access_flags)
     {
-        return Some(entry.found);
+        return Some(used);
     }
     None
 }
 
 /// Keeps what a constant resolves to.
-fn keep(entries: &mut [Option<FieldEntry>], at: usize, entry: FieldEntry)
-    ensures { (world : World) → All (IsEntry world) entries.old → IsEntry world (Some entry) → All (IsEntry world) entries.new }
+fn keep(entries: &mut [FieldEntry], at: usize, entry: FieldEntry)
+    ensures { (world : World) → All (IsEntry world) entries.old → IsEntry world entry → All (IsEntry world) entries.new }
 {
     if at < entries.len() {
-        entries[at] = Some(entry);
+        entries[at] = entry;
     }
 }
 
@@ -76,9 +133,8 @@ fn found_anew(
 }
 
 /// What a constant resolves to, by its names; the entry at a place keeps it.
-#[inline(never)]
-pub(crate) fn found_and_kept(
-    entries: &mut [Option<FieldEntry>],
+fn found_and_kept(
+    entries: &mut [FieldEntry],
     at: usize,
     table: &ClassTable<'_>,
     classes: &Classes<'_>,
@@ -107,32 +163,9 @@ pub(crate) fn found_and_kept(
     found
 }
 
-/// The same, with room of its own for the answer, which is then not made where an entry is there.
-#[inline(always)]
-fn found_apart(
-    entries: &mut [Option<FieldEntry>],
-    at: usize,
-    table: &ClassTable<'_>,
-    classes: &Classes<'_>,
-    words: &[ClassWords],
-    class: usize,
-    index: u16,
-) -> Result<FieldUse, LinkError>
-    requires same { classes.now.world ≡ table.now }
-    requires entries { All (IsEntry table.now) entries.old }
-    requires words { AreWords table.now words.now }
-    requires class { class < length table.now }
-    requires index { HoldsAtNumber table.now class (λ l. IsSome (field_operand l.class index)) }
-    ensures found { IsFound table.now class index result }
-    ensures entries { All (IsEntry table.now) entries.new }
-{
-    found_and_kept(entries, at, table, classes, words, class, index)
-}
-
 /// What a constant resolves to, by the entry at a place, where it is there.
-#[inline(always)]
 pub(crate) fn field_by(
-    entries: &mut [Option<FieldEntry>],
+    entries: &mut [FieldEntry],
     at: usize,
     table: &ClassTable<'_>,
     classes: &Classes<'_>,
@@ -151,19 +184,16 @@ pub(crate) fn field_by(
     if let Some(found) = known(entries, at, class, index) {
         return found;
     }
-    found_apart(entries, at, table, classes, words, class, index)
+    found_and_kept(entries, at, table, classes, words, class, index)
 }
 
 /// So many entries, all of them empty.
-pub(crate) fn empty_fields(
-    alloc: Global,
-    count: usize,
-) -> Result<Vec<Option<FieldEntry>>, AllocError>
+pub(crate) fn empty_fields(alloc: Global, count: usize) -> Result<Vec<FieldEntry>, AllocError>
     ensures { (world : World) → IfOk result (λ entries. All (IsEntry world) entries.items) }
 {
     let mut entries = Vec::with_capacity(alloc, count)?;
     for _ in 0..count {
-        entries.push(None)?;
+        entries.push(NO_FIELD)?;
     }
     Ok(entries)
 }

@@ -1,6 +1,6 @@
 //! What a guest's classes link to.
 
-ghost use Rattle.std.specs.Prelude.{◌≡◌, ◌<◌, Some, IsSome, IfOk, IsTrue, length};
+ghost use Rattle.std.specs.Prelude.{◌≡◌, ◌<◌, Some, Ok, IsSome, IfOk, IfSome, IsTrue, length};
 ghost use Rattle.jv_meaning_world.specs.World.{World};
 ghost use Rattle.jv_meaning_world.specs.LookUps.{DeclaredField};
 ghost use Rattle.jv_meaning_world.specs.Verdicts.{is_loadable};
@@ -23,7 +23,7 @@ ghost use Rattle.jv_linked.specs.Tasks.{settings_of, IsInitializer, IsOrderOf};
 use crate::bodies::{Body, ClassBodies, all_bodies, body_in};
 use crate::classes::{ClassEntry, class_by, empty_classes, used_class};
 use crate::field_use::FieldUse;
-use crate::fields::{FieldEntry, empty_fields, field_by, found_and_kept, known, used_field};
+use crate::fields::{FieldEntry, empty_fields, field_by, usable_at_once, used_field};
 use crate::method_use::MethodUse;
 use crate::methods::{MethodEntry, called_method, empty_methods, method_by};
 use crate::orders::{ClassOrder, all_orders, order_in};
@@ -40,7 +40,7 @@ use std::alloc::Global;
 pub struct Linked<'a> {
     firsts: Vec<usize>,
     classes: Vec<Option<ClassEntry<'a>>>,
-    fields: Vec<Option<FieldEntry>>,
+    fields: Vec<FieldEntry>,
     methods: Vec<Option<MethodEntry>>,
     virtuals: Vec<Option<Selection>>,
     interfaces: Vec<Option<Selection>>,
@@ -147,55 +147,20 @@ impl<'a> Linked<'a> {
         used_class(classes.table(), site, how, index, found)
     }
 
-    /// The field that a Fieldref constant resolves to, as `field_use` answers it, where no entry has it; the one at a place then keeps it.
-    #[cold]
-    #[inline(never)]
-    fn field_anew(
-        &mut self,
-        classes: &Classes<'_>,
-        at: usize,
-        site: Site,
-        how: Use,
-        index: u16,
-    ) -> Result<FieldUse, LinkError>
-        requires linked { IsLinked classes.now.world self.old }
-        requires site { IsSite classes.now.world site }
-        requires index { HoldsAtNumber classes.now.world site.class (λ l. IsSome (field_operand l.class index)) }
-        ensures found { IsFieldResolved classes.now.world site how index (used_place result) }
-        ensures used { IfOk result (IsFieldUse classes.now.world) }
-        ensures linked { IsLinked classes.now.world self.new }
-    {
-        let table = classes.table();
-        let found = found_and_kept(
-            &mut self.fields,
-            at,
-            table,
-            classes,
-            &self.words,
-            site.class,
-            index,
-        );
-        used_field(table, site, how, index, found)
-    }
-
-    /// The same, with room of its own for the answer, which is then not made where an entry is there.
+    /// What [`Linked::field_use`] answers, where an entry has it and the instruction can use the field in every method of the
+    /// class: then it is one entry that is read, and else none.
     #[inline(always)]
-    fn field_apart(
-        &mut self,
-        classes: &Classes<'_>,
-        at: usize,
-        site: Site,
-        how: Use,
-        index: u16,
-    ) -> Result<FieldUse, LinkError>
-        requires linked { IsLinked classes.now.world self.old }
-        requires site { IsSite classes.now.world site }
-        requires index { HoldsAtNumber classes.now.world site.class (λ l. IsSome (field_operand l.class index)) }
-        ensures found { IsFieldResolved classes.now.world site how index (used_place result) }
-        ensures used { IfOk result (IsFieldUse classes.now.world) }
-        ensures linked { IsLinked classes.now.world self.new }
+    pub fn field_at_once(&self, site: Site, how: Use, index: u16) -> Option<FieldUse>
+        ensures found { (world : World) → IsLinked world self.now
+            → IfSome result (λ used. IsFieldResolved world site how index (Ok used.place)) }
+        ensures used { (world : World) → IsLinked world self.now → IfSome result (IsFieldUse world) }
     {
-        self.field_anew(classes, at, site, how, index)
+        if site.class < self.firsts.len() {
+            let at = self.firsts[site.class].wrapping_add(usize::from(index));
+            usable_at_once(&self.fields, at, site.class, index, how)
+        } else {
+            None
+        }
     }
 
     /// The field that the Fieldref constant at an index resolves to at a site, for an instruction, as
@@ -205,7 +170,6 @@ impl<'a> Linked<'a> {
     /// # Errors
     ///
     /// As JVMS 5.4.3.2 and 6.5 have them.
-    #[inline(always)]
     pub fn field_use(
         &mut self,
         classes: &Classes<'_>,
@@ -221,10 +185,17 @@ impl<'a> Linked<'a> {
         ensures linked { IsLinked classes.now.world self.new }
     {
         let at = entry_place(&self.firsts, site.class, index);
-        if let Some(found) = known(&self.fields, at, site.class, index) {
-            return used_field(classes.table(), site, how, index, found);
-        }
-        self.field_apart(classes, at, site, how, index)
+        let table = classes.table();
+        let found = field_by(
+            &mut self.fields,
+            at,
+            table,
+            classes,
+            &self.words,
+            site.class,
+            index,
+        );
+        used_field(table, site, how, index, found)
     }
 
     /// The field that the Fieldref constant at an index resolves to at a site, for an instruction, as `jv_link`'s
