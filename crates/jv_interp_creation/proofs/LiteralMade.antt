@@ -173,14 +173,14 @@ module _ (number : ℕ) (text : List ℕ) (held : Held) (before : Blocks) (texts
 
   pub lacking :
       (cells : ℕ) (after : Blocks) → kept ≡ 0 → ((units : List ℕ) → Spells units text → IsLacking (text_cost units) held.cells cells before after)
-      → LiteralGiven program.world texts addresses held before made (record held { cells = cells }) after None
+      → LiteralGiven program.world texts addresses held before made held after None
   lacking cells after zero_is all =
       let m = making zero_is in
       let lacks = all m.units (spells m) in
       let fewer : memory.cells < literal_cells program m.l m.units = let a = h.stands.cells in let b = lacks.lacks in let e = cost_is m in omega (arith, a, b, e) in
       let is : made ≡ None = m.is ∙ ap (literal_made program m.l text m.units) (paid_lacks (literal_cells program m.l m.units) memory fewer) in
-      subst (λ (o : Option (Memory × ℕ)). LiteralGiven program.world texts addresses held before o (record held { cells = cells }) after None) (sym is)
-      (record { same_held = ap (λ (n : ℕ). record held { cells = n }) lacks.same_cells; same = lacks.same })
+      subst (λ (o : Option (Memory × ℕ)). LiteralGiven program.world texts addresses held before o held after None) (sym is)
+      (record { same_held = refl; same = lacks.same })
 
   -- ---- a new one
 

@@ -5,7 +5,7 @@ ghost use Rattle.jv_interp_creation.specs.Literals.{CanFindLiteral, FindsLiteral
 
 use crate::texts::pay_text;
 use jv_heap::{Memory, Store};
-use jv_interp_memory::Held;
+use jv_interp_memory::{Held, keep_literal};
 
 /// The address of the String of the text with a number: of the one that it has, or of one that is made now. None where its cells are
 /// not left.
@@ -33,10 +33,11 @@ pub fn literal<S: Store>(
     if known != 0 {
         return Ok(Some(known));
     }
-    let made = pay_text(store, &mut held.cells, text)?;
+    let mut cells = held.cells;
+    let made = pay_text(store, &mut cells, text)?;
     match made {
         Some(string) => {
-            held.literals[number] = string;
+            keep_literal(held, number, string, cells);
             Ok(Some(string))
         }
         None => Ok(None),

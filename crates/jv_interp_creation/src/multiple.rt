@@ -9,7 +9,7 @@ ghost use Rattle.jv_interp_creation.specs.NestedArrays.{AreCounts, AreWords, is_
 
 use crate::nested::{inner_counts, inner_size, make_nested, outer_slots};
 use jv_heap::{Memory, Store};
-use jv_interp_memory::{Effect, Held, NEGATIVE_SIZE};
+use jv_interp_memory::{Effect, Held, NEGATIVE_SIZE, pay_if_made};
 use jv_interp_words::Registers;
 
 /// More cells than any guest has.
@@ -67,9 +67,9 @@ pub fn pay_nested<S: Store>(
     if u64::from(*cells) < cost {
         return Ok(None);
     }
-    let address = make_nested(store, word, counts, slots)?;
-    *cells = *cells - cost as u32;
-    Ok(Some(address))
+    let made = make_nested(store, word, counts, slots);
+    pay_if_made(cells, cost as u32, &made);
+    Ok(Some(made?))
 }
 
 /// Whether one of the counts is negative.

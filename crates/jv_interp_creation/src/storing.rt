@@ -12,7 +12,7 @@ ghost use Rattle.jv_interp_creation.specs.Inside.Standing.{IsReference, TellsSta
 use crate::types::{NumberedType, component_type, is_instance};
 use jv_heap::Store;
 use jv_interp_calls::of_loader::Classes;
-use jv_interp_memory::{ARRAY_INDEX, ARRAY_STORE, Effect, Held, NULL_POINTER};
+use jv_interp_memory::{ARRAY_INDEX, ARRAY_STORE, Effect, Held, NULL_POINTER, store_reference};
 use jv_interp_words::Registers;
 
 /// Whether a reference can stand in an array with components of a type.
@@ -65,10 +65,10 @@ pub fn aastore<'l, S: Store>(
     }
     let word = store.get(array, 0);
     let components = component_type(word);
-    if !can_stand(classes, store, value, components) {
+    let stands = can_stand(classes, store, value, components);
+    if !store_reference(store, array, index + 2, value, stands) {
         return Effect::Raises { class: ARRAY_STORE };
     }
-    store.set(array, index + 2, value);
     at.pc = next;
     at.top = at.top - 3;
     Effect::Goes

@@ -1,5 +1,7 @@
 //! What a guest holds beside its frames and its objects.
 
+ghost use Rattle.std.specs.Prelude.{◌≡◌, ◌<◌, length, set};
+
 /// The values of static fields, the string literals that were made, two objects of the start, what is left of the budget, and what was
 /// read and written.
 #[derive(Drop)]
@@ -22,4 +24,16 @@ pub struct Held {
     pub input: Vec<u8>,
     /// How many bytes of the input were read.
     pub read: usize,
+}
+
+/// The String that was made of the text with a number is this guest's own from now on, and no other's (JVMS 5.1), and this guest has paid
+/// for it: so many cells are left to it (own).
+#[inline(always)]
+pub fn keep_literal(held: &mut Held, number: usize, string: u32, cells: u32)
+    requires { number < length held.old.literals.items }
+    ensures own { held.new ≡ record held.old { literals = held.new.literals; cells = cells } }
+    ensures literals { held.new.literals.items ≡ set held.old.literals.items number string }
+{
+    held.literals[number] = string;
+    held.cells = cells;
 }

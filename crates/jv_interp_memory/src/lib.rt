@@ -4,18 +4,23 @@
 //! it too.
 #![tactic(auto)]
 
+mod array_stores;
 mod blocks;
 mod class_state;
+mod counting;
 mod effect;
 mod held;
 mod host;
 mod narrowing;
 mod numbers;
+mod paying;
 
+pub use array_stores::store_reference;
 pub use blocks::{make_array, make_object};
-pub use class_state::ClassState;
+pub use class_state::{ClassState, mark_begun};
+pub use counting::steps_behind;
 pub use effect::Effect;
-pub use held::Held;
+pub use held::{Held, keep_literal};
 pub use host::{HOST_IO, WRITE, read, write};
 pub use narrowing::{Narrowing, narrowed};
 pub use numbers::{
@@ -23,3 +28,4 @@ pub use numbers::{
     ERROR, ILLEGAL_ACCESS, IN_INITIALIZER, INSTANTIATION, NEGATIVE_SIZE, NO_CLASS, NO_FIELD,
     NO_METHOD, NULL_POINTER, OUT_OF_MEMORY, STACK_OVERFLOW, STRING, VERIFY, system_has_numbers,
 };
+pub use paying::pay_if_made;

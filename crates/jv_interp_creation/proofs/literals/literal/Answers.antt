@@ -19,12 +19,10 @@ pay_text-requires-clause-text g c =
     let is = kept_is c.args.number c.args.text.now held before q.texts q.program q.memory q.addresses q.made q.finds c.index-known.result.now c.index-known.ensures in
     is_text c.args.number c.args.text.now held before q.texts q.program q.memory q.addresses q.made q.finds (sym is ∙ c.if-known-ne0.false)
 
-pub index_mut-requires : goal.index_mut-requires
-index_mut-requires g c =
+pub keep_literal-requires : goal.keep_literal-requires
+keep_literal-requires g c =
     let q = c.requires.can in
-    let size = kept_length c.args.number c.args.text.now c.args.held.now (g.S.Store.content c.args.store.now) q.texts q.program q.memory q.addresses q.made q.finds in
-    let all = c.args.held.now.literals.ok.0 in
-    omega (arith, size, all)
+    kept_length c.args.number c.args.text.now c.args.held.now (g.S.Store.content c.args.store.now) q.texts q.program q.memory q.addresses q.made q.finds
 
 pub returns-in-Some-clause-finds : goal.returns-in-Some-clause-finds
 returns-in-Some-clause-finds g c = λ texts program memory addresses made h.
@@ -33,7 +31,8 @@ returns-in-Some-clause-finds g c = λ texts program memory addresses made h.
     let is = kept_is c.args.number c.args.text.now held before texts program memory addresses made h c.index-known.result.now c.index-known.ensures in
     let paid = rw c.in-Some.is at c.in_ok-made.ensures.paid in
     given c.args.number c.args.text.now held before texts program memory addresses made h (sym is ∙ c.if-known-ne0.false)
-    c.pay_text.new.cells (g.S.Store.content c.pay_text.new.store) c.in-Some.string paid _ c.requires.few refl (search rules)
+    c.pay_text.new.cells (g.S.Store.content c.pay_text.new.store) c.in-Some.string paid c.keep_literal.new.held c.requires.few
+    c.keep_literal.ensures.own c.keep_literal.ensures.literals
 
 pub returns-in-None-clause-finds : goal.returns-in-None-clause-finds
 returns-in-None-clause-finds g c = λ texts program memory addresses made h.
@@ -43,3 +42,15 @@ returns-in-None-clause-finds g c = λ texts program memory addresses made h.
     let paid = rw c.in-None.is at c.in_ok-made.ensures.paid in
     lacking c.args.number c.args.text.now held before texts program memory addresses made h
     c.pay_text.new.cells (g.S.Store.content c.pay_text.new.store) (sym is ∙ c.if-known-ne0.false) paid
+
+pub returns-in-None-clause-room : goal.returns-in-None-clause-room
+returns-in-None-clause-room g c =
+    let held = c.args.held.now in
+    let before = g.S.Store.content c.args.store.now in
+    let q = c.requires.can in
+    let is = kept_is c.args.number c.args.text.now held before q.texts q.program q.memory q.addresses q.made q.finds c.index-known.result.now c.index-known.ensures in
+    let spelled = is_text c.args.number c.args.text.now held before q.texts q.program q.memory q.addresses q.made q.finds (sym is ∙ c.if-known-ne0.false) in
+    let paid = rw c.in-None.is at c.in_ok-made.ensures.paid in
+    let same = (paid spelled.0 spelled.1).same_cells in
+    let left = c.in_ok-made.ensures.room in
+    omega (arith, same, left)
