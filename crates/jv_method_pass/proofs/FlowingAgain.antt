@@ -19,7 +19,7 @@ use Rattle.jv_meaning_world.specs.World.{World}
 use Rattle.jv_meaning_typing.specs.FrameChanges.{is_same_object}
 use Rattle.jv_rules.specs.Laws.{is_beside}
 use Rattle.jv_types.specs.Typed.{typed, typed_all}
-use Rattle.jv_types.proofs.Replacing.{any_reversed}
+use Rattle.jv_types_frames.proofs.Replacing.{any_reversed}
 use Rattle.jv_types.specs.Numbered.{Item, NumberFrame, with_flag}
 use Rattle.jv_method_pass.specs.declared.flowed.FlowedFrame.{FlowedFrame}
 use Rattle.jv_types.specs.Mapped.{EntryTypes, initial_types, names_of_types, world_of_types, types_of_entries, expanded_entries, locals_of, locals_flow_to, stack_flows_to, has_uninitialized_this, thrown_flows_to_map}

@@ -22,7 +22,7 @@ use Rattle.jv_types.specs.Mapped.{world_of_types, types_of_entries, stack_of, st
 use Rattle.jv_method_pass.specs.Pass.{Pass, names_in}
 use Rattle.jv_method_pass.specs.Inside.Stacks.{lowest_of, LowestFlow, IsFlowed, AreFlowed, lower, lowered}
 use Rattle.jv_method_pass.proofs.Holding.{within}
-use Rattle.jv_types.proofs.Lists.{at_place}
+use Rattle.jv_method_frames.proofs.Lists.{at_place}
 
 and_false : (b : Bool) → (b && false) ≡ false
 and_false true = refl

@@ -19,9 +19,9 @@ use Rattle.jv_frames.proofs.Typed.{fits_typed}
 use Rattle.jv_types.specs.Typed.{typed, typed_all}
 use Rattle.jv_types.specs.Numbered.{Item}
 use Rattle.jv_types.specs.Mapped.{EntryTypes, local_entry_words, initial_types}
-use Rattle.jv_types.proofs.Behind.{words_length}
+use Rattle.jv_method_frames.proofs.Behind.{words_length}
 use Rattle.jv_method_pass.proofs.Settings.{words_reversed}
-use Rattle.jv_types.specs.Inside.Behind.{words_of_entries}
+use Rattle.jv_method_frames.specs.Inside.Behind.{words_of_entries}
 use Rattle.jv_method_pass.proofs.Tests.{both, and_true}
 
 -- ---- the widths of initial entries

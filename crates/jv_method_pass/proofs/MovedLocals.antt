@@ -9,10 +9,10 @@ use Rattle.std.proofs.lemmas.List.Folds.{list_any-append}
 use Rattle.jv_frames.specs.declared.verification.VerificationTypeOf.TheVariants as types
 use Rattle.jv_frames.specs.Frames.{type_by_words, expanded, is_uninitialized_this}
 use Rattle.jv_frames.specs.Types.{FrameType, width, words}
-use Rattle.jv_types.specs.Inside.Behind.{words_of_entries}
+use Rattle.jv_method_frames.specs.Inside.Behind.{words_of_entries}
 use Rattle.jv_method_pass.specs.Inside.Flowed.{is_between}
 use Rattle.jv_method_pass.specs.Inside.Moved.{LaidAbove}
-use Rattle.jv_types.proofs.Behind.{words_more, words_length}
+use Rattle.jv_method_frames.proofs.Behind.{words_more, words_length}
 use Rattle.jv_method_pass.proofs.Holding.{same_everywhere, past_none, set_here, set_elsewhere}
 use Rattle.jv_method_pass.proofs.Settings.{words_reversed}
 

@@ -17,7 +17,7 @@ use Rattle.jv_meaning_typing.specs.FrameChanges.{stored}
 use Rattle.jv_types.specs.Typed.{typed, typed_all}
 use Rattle.jv_types.specs.Numbered.{Item, NumberFrame, frame_of, Stores}
 use Rattle.jv_method_pass.specs.Inside.Locals.{SetBehind, PushedSoFar, is_this}
-use Rattle.jv_types.proofs.Behind.{one_width}
+use Rattle.jv_method_frames.proofs.Behind.{one_width}
 
 same_some : {A : Type 0} (x y : A) → Some x ≡ Some y → x ≡ y
 same_some x y e = cc

@@ -15,7 +15,8 @@ use crate::pass::Pass;
 use jv_code::Insn;
 use jv_frames::VerificationTypeOf;
 use jv_rules::constructed_object;
-use jv_types::{Item, TypeFrame};
+use jv_types::Item;
+use jv_types_frames::TypeFrame;
 use std::alloc::{AllocError, Global};
 
 /// The first local variable into which an instruction stores, if it does.

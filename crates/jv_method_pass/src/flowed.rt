@@ -21,7 +21,9 @@ use crate::pass::Pass;
 use crate::setting::set_locals;
 use jv_code::Insn;
 use jv_frames::MapFrame;
-use jv_types::{EntryTypes, TypeFrame, TypeNames, flag_flows, has_this, locals_flow};
+use jv_method_frames::{flag_flows, has_this, locals_flow};
+use jv_types::{EntryTypes, TypeNames};
+use jv_types_frames::TypeFrame;
 use std::alloc::{AllocError, Global};
 
 /// How many words of local entries a frame has at least that is kept: fewer are as soon compared.

@@ -18,7 +18,8 @@ use crate::held::Held;
 use crate::merging::thrown_flows_to_map;
 use crate::pass::Pass;
 use jv_format::Handler;
-use jv_types::{Item, TypeFrame};
+use jv_types::Item;
+use jv_types_frames::TypeFrame;
 
 /// Whether the frame with which a handler begins, without an object that is constructed if a local variable holds it, flows to that of
 /// the map there.

@@ -23,7 +23,9 @@ use crate::pass::Pass;
 use crate::setting::set_to_map;
 use jv_code::Insn;
 use jv_frames::MapFrame;
-use jv_types::{EntryTypes, Item, TypeFrame, TypeNames, thrown_stack_flows};
+use jv_method_frames::thrown_stack_flows;
+use jv_types::{EntryTypes, Item, TypeNames};
+use jv_types_frames::TypeFrame;
 use std::alloc::{AllocError, Global};
 use std::marker::Model;
 

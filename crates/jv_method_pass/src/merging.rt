@@ -12,9 +12,9 @@ use crate::held::Held;
 use crate::pass::Pass;
 use crate::setting::{push_items, set_to_map};
 use jv_frames::MapFrame;
-use jv_types::{
-    EntryTypes, Item, TypeFrame, frame_flows, stack_flows, thrown_flows, thrown_stack_flows,
-};
+use jv_method_frames::{frame_flows, stack_flows, thrown_flows, thrown_stack_flows};
+use jv_types::{EntryTypes, Item};
+use jv_types_frames::TypeFrame;
 use std::alloc::AllocError;
 
 /// Whether a frame flows into the frame of the map at a place, where it is known whether its stack does.

@@ -16,7 +16,8 @@ ghost use Rattle.jv_method_pass.specs.Pass.{HasRoom};
 use crate::pass::Pass;
 use crate::setting::is_this;
 use jv_frames::{MapFrame, VerificationTypeOf};
-use jv_types::{EntryTypes, TypeFrame, words_of};
+use jv_types::{EntryTypes, words_of};
+use jv_types_frames::TypeFrame;
 
 /// The words of the local entries of a frame of the map below so many of the last.
 fn words_below(types: &EntryTypes<'_, '_, '_>, map: &MapFrame<'_>, above: usize) -> u16

@@ -9,7 +9,9 @@ ghost use Rattle.jv_method_pass.specs.Inside.Locals.{is_this};
 ghost use Rattle.jv_types.specs.Mapped.{names_of_types, types_of_entries, local_entry_words, frame_by_types, expanded_entries, locals_of, stack_of, HasLocalsOf, IsInitial};
 
 use jv_frames::{MapFrame, VerificationTypeOf};
-use jv_types::{EntryTypes, Item, TypeFrame, has_this, words_of};
+use jv_method_frames::has_this;
+use jv_types::{EntryTypes, Item, words_of};
+use jv_types_frames::TypeFrame;
 use std::alloc::AllocError;
 
 /// Gives the local variables, which hold nothing, the types of a frame's entries.

@@ -14,8 +14,10 @@ ghost use Rattle.jv_method_pass.specs.Inside.Stacks.{AreFlowed, lowered, lower};
 use crate::pass::Pass;
 use jv_code::Insn;
 use jv_frames::MapFrame;
+use jv_method_frames::stack_flows;
 use jv_rules::constructed_object;
-use jv_types::{EntryTypes, TypeFrame, stack_flows};
+use jv_types::EntryTypes;
+use jv_types_frames::TypeFrame;
 use std::alloc::Global;
 
 /// How many items a stack has at least that is kept: fewer are as soon compared.

@@ -31,11 +31,12 @@ use crate::stacks::FlowedStacks;
 use crate::targets::targets_hold;
 use jv_code::{Insn, stands_in_list, starts_apart};
 use jv_meaning_typing::VerifyRule;
+use jv_method_frames::apply;
 use jv_rules::{
-    apply, constructed_object, keeps_local_count, keeps_locals, leaves_below, leaves_locals,
-    writes_there,
+    constructed_object, keeps_local_count, keeps_locals, leaves_below, leaves_locals, writes_there,
 };
-use jv_types::{Item, TypeFrame};
+use jv_types::Item;
+use jv_types_frames::TypeFrame;
 use std::alloc::AllocError;
 
 /// Makes what falls into an instruction, or none does, the frame before it, and says whether there is one.

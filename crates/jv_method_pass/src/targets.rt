@@ -18,7 +18,7 @@ use crate::merging::flows_by_stack;
 use crate::pass::Pass;
 use crate::stacks::FlowedStacks;
 use jv_code::{Insn, first_distance, first_pair, target_of};
-use jv_types::TypeFrame;
+use jv_types_frames::TypeFrame;
 
 /// Whether a frame flows to that of the map at an offset; not where none is there.
 pub(crate) fn flows_into(

@@ -25,7 +25,7 @@ use crate::step::step;
 use jv_code::{Insn, falls_through, stands_in_list, starts_apart};
 use jv_meaning_typing::VerifyRule;
 use jv_rules::keeps_locals;
-use jv_types::TypeFrame;
+use jv_types_frames::TypeFrame;
 use std::alloc::{AllocError, Global};
 
 /// The offset of an instruction that leaves handlers settled: it keeps what they ask of.

@@ -15,7 +15,8 @@ use crate::stack::{exchange, take};
 use jv_code::{ElementType, NumberElement};
 use jv_frames::VerificationTypeOf;
 use jv_text::{Base, Element, FieldTypeOf};
-use jv_types::{Item, Outcome, TypeFrame, TypeNames};
+use jv_types::{Item, Outcome, TypeNames};
+use jv_types_frames::TypeFrame;
 
 /// The array of a primitive type.
 pub fn array_of_base(base: Base) -> Item

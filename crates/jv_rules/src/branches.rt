@@ -10,7 +10,8 @@ use crate::references::{test_reference, test_references};
 use crate::stack::exchange;
 use jv_code::Test;
 use jv_frames::VerificationTypeOf;
-use jv_types::{Outcome, TypeFrame, TypeNames};
+use jv_types::{Outcome, TypeNames};
+use jv_types_frames::TypeFrame;
 
 /// Takes an int.
 pub(crate) fn take_int(types: &TypeNames<'_, '_>, frame: &mut TypeFrame) -> Outcome

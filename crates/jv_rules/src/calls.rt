@@ -10,7 +10,8 @@ use crate::context::MethodContext;
 use crate::methods::{invoke_interface, invoke_static, invoke_super, invoke_virtual};
 use crate::operands::{called_types_at, method_operand};
 use jv_code::Invocation;
-use jv_types::{CalledTypes, Outcome, TypeFrame, class_number};
+use jv_types::{CalledTypes, Outcome, class_number};
+use jv_types_frames::TypeFrame;
 
 /// Calls a method other than `<init>` of the current class or of one above it.
 fn invoke_above(

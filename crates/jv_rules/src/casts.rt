@@ -9,7 +9,8 @@ ghost use Rattle.jv_types.specs.Outcomes.{Exchanges, TakesBy};
 
 use crate::stack::{exchange, take_as};
 use jv_frames::VerificationTypeOf;
-use jv_types::{Item, Outcome, TypeFrame, TypeNames};
+use jv_types::{Item, Outcome, TypeNames};
+use jv_types_frames::TypeFrame;
 
 /// Takes a class or an array, and gives it as the type to which it is cast.
 pub fn cast(types: &TypeNames<'_, '_>, frame: &mut TypeFrame, target: Item) -> Outcome

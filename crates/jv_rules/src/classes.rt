@@ -6,7 +6,8 @@ ghost use Rattle.jv_rules.specs.Inside.Over.{FollowsOver, FollowsByPool};
 use crate::casts::{cast, new_multi_array, new_reference_array, test_instance};
 use crate::references::new_object;
 use jv_pool::kinds_name;
-use jv_types::{ConstantTypes, Outcome, TypeFrame, array_of, array_type, names_class};
+use jv_types::{ConstantTypes, Outcome, array_of, array_type, names_class};
+use jv_types_frames::TypeFrame;
 
 /// Makes an object of a class at an offset.
 pub(crate) fn make_object(

@@ -11,7 +11,8 @@ ghost use Rattle.jv_rules.specs.Inside.Used.{IsObjectOf};
 use crate::context::MethodContext;
 use crate::operands::called_types_at;
 use jv_code::{Insn, Invocation};
-use jv_types::{Item, TypeFrame};
+use jv_types::Item;
+use jv_types_frames::TypeFrame;
 
 /// The index of the method that an instruction names, where it is `invokespecial`.
 fn index_in_special(insn: &Insn<&[u8]>) -> Option<u16>

@@ -8,7 +8,8 @@ ghost use Rattle.jv_rules.specs.Objects.{TakesBelowArguments, Constructs};
 
 use crate::stack::take;
 use jv_frames::VerificationTypeOf;
-use jv_types::{Item, TypeFrame, TypeNames};
+use jv_types::{Item, TypeNames};
+use jv_types_frames::TypeFrame;
 
 /// Takes the arguments of `<init>`, the first first, and the object below them, and gives this; `None` where the
 /// arguments don't flow to these types, or nothing is below them.

@@ -15,7 +15,8 @@ use crate::guards::flows_to_guard;
 use crate::texts::is_named_with;
 use jv_code::Insn;
 use jv_frames::VerificationTypeOf;
-use jv_types::{CalledTypes, Item, Outcome, TypeFrame, class_number};
+use jv_types::{CalledTypes, Item, Outcome, class_number};
+use jv_types_frames::TypeFrame;
 
 /// The index of the class that an instruction names, where it is `new`.
 fn index_in_new(insn: &Insn<&[u8]>) -> Option<u16>

@@ -23,7 +23,8 @@ use crate::table::{combine, compute};
 use crate::variables::{increment, load, store};
 use jv_code::{Insn, StackForm, ValueKind, WordKind};
 use jv_frames::VerificationTypeOf;
-use jv_types::{ConstantTypes, Outcome, TypeFrame};
+use jv_types::{ConstantTypes, Outcome};
+use jv_types_frames::TypeFrame;
 use std::alloc::AllocError;
 
 fn value_kind(kind: WordKind) -> ValueKind
@@ -47,7 +48,7 @@ fn rearrange(frame: &mut TypeFrame, form: StackForm) -> Result<Outcome, AllocErr
 }
 
 /// Changes the frame as an instruction at an offset does: one arm for each instruction.
-pub(crate) fn effect(
+pub fn effect(
     context: &MethodContext<'_, '_, '_, '_>,
     constants: &ConstantTypes<'_, '_>,
     frame: &mut TypeFrame,

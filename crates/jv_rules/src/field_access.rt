@@ -8,7 +8,8 @@ use crate::receivers::{is_receiver, take_receiver};
 use crate::stack::{exchange, take};
 use jv_code::FieldAccess;
 use jv_frames::VerificationTypeOf;
-use jv_types::{Item, Outcome, TypeFrame, TypeNames};
+use jv_types::{Item, Outcome, TypeNames};
+use jv_types_frames::TypeFrame;
 
 /// A field as an instruction names it: the class that is named, and the type of the field's values.
 #[derive(Clone, Copy)]

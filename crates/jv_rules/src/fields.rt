@@ -7,7 +7,8 @@ use crate::context::MethodContext;
 use crate::field_access::access_field;
 use crate::operands::field_operand;
 use jv_code::FieldAccess;
-use jv_types::{Outcome, TypeFrame};
+use jv_types::Outcome;
+use jv_types_frames::TypeFrame;
 
 /// Gets or sets the field that an index names.
 pub fn use_field(

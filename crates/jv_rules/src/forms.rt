@@ -11,7 +11,8 @@ ghost use Rattle.jv_rules.specs.Inside.Words.{items_in, arranged_words, IsWord, 
 
 use jv_code::StackForm;
 use jv_frames::{VerificationTypeOf, Width};
-use jv_types::{Item, TypeFrame};
+use jv_types::Item;
+use jv_types_frames::TypeFrame;
 use std::alloc::AllocError;
 
 /// Items from the top of a stack: none, one, or two, of which the first was on top.

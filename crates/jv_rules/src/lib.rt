@@ -1,6 +1,4 @@
-//! The rule of each instruction (JVMS 4.10.1.9), on a frame that is changed in place.
-//!
-//! [`apply`] makes the frame before an instruction exactly the one behind it, or answers that the instruction may not stand there.
+//! What each instruction does to the frame before it, which is changed in place (JVMS 4.10.1.9).
 #![tactic(auto)]
 
 mod arrays;
@@ -25,7 +23,7 @@ mod operands;
 mod receivers;
 mod references;
 mod returns;
-mod rule;
+mod settling;
 mod stack;
 mod table;
 mod texts;
@@ -34,8 +32,9 @@ mod words;
 
 pub use constructing::constructed_object;
 pub use context::MethodContext;
+pub use effect::effect;
 pub use jv_types::{Outcome, of_link, of_loader, value_type};
 pub use law::{keeps_local_count, leaves_below, leaves_locals, writes_there};
 pub use locals::keeps_locals;
-pub use rule::apply;
+pub use settling::settle;
 pub use table::number_type;

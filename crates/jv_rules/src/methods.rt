@@ -10,7 +10,8 @@ ghost use Rattle.jv_rules.specs.Operands.{FollowsMethod, FollowsNear, counts_wor
 use crate::receivers::take_receiver;
 use crate::stack::{exchange, take};
 use jv_frames::VerificationTypeOf;
-use jv_types::{Item, Outcome, TypeFrame, TypeNames, words_of};
+use jv_types::{Item, Outcome, TypeNames, words_of};
+use jv_types_frames::TypeFrame;
 
 /// A method as an instruction names it: the class that is named, the types of the arguments, the first first, and of the
 /// result, if it has one.

@@ -8,7 +8,8 @@ ghost use Rattle.jv_types.specs.Typed.{typed};
 ghost use Rattle.jv_types.specs.Outcomes.{given, TakesBy};
 ghost use Rattle.jv_rules.specs.Operands.{called_receivers};
 
-use jv_types::{Item, TypeFrame, TypeNames};
+use jv_types::{Item, TypeNames};
+use jv_types_frames::TypeFrame;
 
 fn flows_to_guard(types: &TypeNames<'_, '_>, item: Item, guard: Option<Item>) -> bool
     ensures { result ≡ list_all (item_flows types.now.world (typed types.now.names item)) (given types.now.names guard) }

@@ -15,7 +15,8 @@ use crate::variables::{is_of_kind, is_reference, pop_of_kind};
 use jv_code::ValueKind;
 use jv_frames::VerificationTypeOf;
 use jv_text::{Base, Element, FieldTypeOf};
-use jv_types::{Item, Outcome, TypeFrame, TypeNames, value_type};
+use jv_types::{Item, Outcome, TypeNames, value_type};
+use jv_types_frames::TypeFrame;
 
 /// The type of what an array of references holds: null for null; `None` for what is no such array.
 fn reference_component(item: Item) -> Option<Item>

@@ -8,7 +8,8 @@ ghost use Rattle.jv_rules.specs.Inside.Over.{ReturnsValue, ReturnsNothing};
 use crate::references::{return_nothing, return_value};
 use jv_code::ValueKind;
 use jv_text::FieldTypeOf;
-use jv_types::{Outcome, TypeFrame, TypeNames, value_type};
+use jv_types::{Outcome, TypeNames, value_type};
+use jv_types_frames::TypeFrame;
 
 /// Returns a value of a kind, where the method has a result.
 pub(crate) fn leave_with_value(

@@ -5,7 +5,8 @@ ghost use Rattle.jv_meaning_typing.specs.FrameChanges.{taken, taken_as_all};
 ghost use Rattle.jv_types.specs.Typed.{typed, typed_all};
 ghost use Rattle.jv_types.specs.Outcomes.{given, outcome_of, Exchanges, TakesBy};
 
-use jv_types::{Item, Outcome, TypeFrame, TypeNames};
+use jv_types::{Item, Outcome, TypeNames};
+use jv_types_frames::TypeFrame;
 
 /// Takes an item that flows to a type.
 pub fn take_as(types: &TypeNames<'_, '_>, frame: &mut TypeFrame, expected: Item) -> bool

@@ -9,7 +9,8 @@ ghost use Rattle.jv_types.specs.Outcomes.{Exchanges};
 use crate::stack::exchange;
 use jv_code::{Computation, Conversion, NumberKind};
 use jv_frames::VerificationTypeOf;
-use jv_types::{Item, Outcome, TypeFrame, TypeNames};
+use jv_types::{Item, Outcome, TypeNames};
+use jv_types_frames::TypeFrame;
 
 /// The type of a number of a kind.
 pub fn number_type(kind: NumberKind) -> Item

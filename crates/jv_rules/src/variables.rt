@@ -11,7 +11,8 @@ ghost use Rattle.jv_rules.specs.Inside.Popping.{IsPopped};
 
 use jv_code::ValueKind;
 use jv_frames::VerificationTypeOf;
-use jv_types::{Item, Outcome, TypeFrame};
+use jv_types::{Item, Outcome};
+use jv_types_frames::TypeFrame;
 
 /// Whether a type is an object's, an array's or null's, also one that is not initialized (JVMS 4.10.1.2).
 pub fn is_reference(item: Item) -> bool

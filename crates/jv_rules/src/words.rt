@@ -6,7 +6,8 @@ ghost use Rattle.jv_types.specs.Numbered.{frame_of, item_words, stack_words};
 ghost use Rattle.jv_types.specs.Outcomes.{IsFrame};
 ghost use Rattle.jv_rules.specs.Inside.Over.{WithinStack, SettlesTop};
 
-use jv_types::{Item, TypeFrame, words_of};
+use jv_types::{Item, words_of};
+use jv_types_frames::TypeFrame;
 use std::alloc::AllocError;
 
 /// Whether the stack has no more words than it may have.

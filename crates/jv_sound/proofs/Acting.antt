@@ -15,15 +15,15 @@ use Rattle.jv_meaning_machine.specs.Costs.{method_words, with_words_back}
 use Rattle.jv_meaning_machine.specs.Effects.Effect.{Goes, Enters, Leaves, Throws, Raises, Begins}
 use Rattle.jv_meaning_machine.specs.Entering.{leave_to}
 use Rattle.jv_meaning_machine.specs.Step.{waiting, act}
-use Rattle.jv_sound_invariant.specs.Values.{Heap, HasLocals, IsReady}
-use Rattle.jv_sound_invariant.specs.Memory.{IsTypedMemory}
-use Rattle.jv_sound_invariant.specs.Later.{IsLater}
-use Rattle.jv_sound_invariant.specs.Sound.{IsChecked}
-use Rattle.jv_sound_invariant.specs.Frames.{Holds, place_of, IsRunning, IsCatching, Promise, promise_by, promise_of, Resumes, AreWaiting, AreVerified, HasMain, IsGood}
-use Rattle.jv_sound_invariant.specs.Frames.Promise.{Gives}
-use Rattle.jv_sound_invariant.specs.Effects.{IsEffect, after, ArePassed}
-use Rattle.jv_sound_invariant.proofs.Logic.{holds, then_holds}
-use Rattle.jv_sound_invariant.specs.Memory.{AreLoadable}
+use Rattle.jv_sound.specs.Values.{Heap, HasLocals, IsReady}
+use Rattle.jv_sound.specs.Memory.{IsTypedMemory}
+use Rattle.jv_sound.specs.Later.{IsLater}
+use Rattle.jv_sound.specs.Sound.{IsChecked}
+use Rattle.jv_sound.specs.Frames.{Holds, place_of, IsRunning, IsCatching, Promise, promise_by, promise_of, Resumes, AreWaiting, AreVerified, HasMain, IsGood}
+use Rattle.jv_sound.specs.Frames.Promise.{Gives}
+use Rattle.jv_sound.specs.Effects.{IsEffect, after, ArePassed}
+use Rattle.jv_sound.proofs.Logic.{holds, then_holds}
+use Rattle.jv_sound.specs.Memory.{AreLoadable}
 use Rattle.jv_sound.proofs.EnteringAbove.{Raises as RaisesFine, Throws as ThrowsFine, Begins as BeginsFine, WithinWords, FrameBegins, enter_ok}
 use Rattle.jv_sound.proofs.Frames.{at_offset_ok, resumed_ok, leave_gives, leave_builds, waiting_later, AreCatching}
 

@@ -23,15 +23,15 @@ use Rattle.jv_meaning_machine.specs.Objects.Object.{ArrayWith}
 use Rattle.jv_meaning_machine.specs.Arrays.{Components, array_in, at_place, holds_numbers, holds_references, load_at, load_from}
 use Rattle.jv_meaning_machine.specs.Operands.{taken_reference}
 use Rattle.jv_meaning_machine.specs.Effects.{null_pointer, array_index}
-use Rattle.jv_sound_invariant.specs.Values.{Fits, IsReferenceTo, HasStack}
-use Rattle.jv_sound_invariant.specs.Sound.{IsSort}
-use Rattle.jv_sound_invariant.specs.Frames.{Holds}
-use Rattle.jv_sound_invariant.proofs.Logic.{then2, then1, holds, then_holds, found_holds, tested_holds, handed_on, handed_over}
-use Rattle.jv_sound_invariant.proofs.Types.{sort_item}
-use Rattle.jv_sound_invariant.proofs.Taking.{taken_one}
+use Rattle.jv_sound.specs.Values.{Fits, IsReferenceTo, HasStack}
+use Rattle.jv_sound.specs.Sound.{IsSort}
+use Rattle.jv_sound.specs.Frames.{Holds}
+use Rattle.jv_sound.proofs.Logic.{then2, then1, holds, then_holds, found_holds, tested_holds, handed_on, handed_over}
+use Rattle.jv_sound.proofs.Types.{sort_item}
+use Rattle.jv_sound.proofs.Taking.{taken_one}
 use Rattle.jv_sound.proofs.Pure.{agrees_from, int_ok}
 use Rattle.jv_sound.proofs.ArrayTypes.{got, IsArray, IsNumbers, IsReferences, array_value, array_weaker, array_taken, numbers_taken, reference_components, fits_below, value_usable}
-use Rattle.jv_sound_invariant.proofs.Types.{usable_sort}
+use Rattle.jv_sound.proofs.Types.{usable_sort}
 use Rattle.jv_sound.proofs.Ways.{Setting, IsSet, world_of, context_of, here, Does, By, Sound, KeepsLocals, goes_ok, raises_ok}
 
 pub number_sort : (kind : NumberElement) → IsSort (element_number kind)

@@ -20,17 +20,17 @@ use Rattle.jv_meaning_machine.specs.Objects.Object.{ArrayWith}
 use Rattle.jv_meaning_machine.specs.Arrays.{Components, at_place, place_for, holds_numbers, holds_references, with_component_stored, store_at, store_number, can_stand, store_reference_if, store_reference_at, store_reference}
 use Rattle.jv_meaning_machine.specs.Effects.{null_pointer, array_index, array_store, goes_on_with}
 use Rattle.jv_meaning_machine.specs.Instructions.{store_in_array}
-use Rattle.jv_sound_invariant.specs.Values.{Fits, Heap, IsObject, IsReferenceTo, HasStack, object_type}
-use Rattle.jv_sound_invariant.specs.Memory.{IsTypedObject}
-use Rattle.jv_sound_invariant.specs.Later.{IsLater}
-use Rattle.jv_sound_invariant.specs.Frames.{Holds}
-use Rattle.jv_sound_invariant.proofs.Logic.{then2, then1, holds, then_holds, found_holds, tested_holds, handed_further}
-use Rattle.jv_sound_invariant.proofs.Heaps.{with_set, set_later, weaker, stack_later, fits_later, values_later}
-use Rattle.jv_sound_invariant.proofs.Subtypes.{instance_below, element_loadable}
-use Rattle.jv_sound_invariant.proofs.Taking.{taken_one}
+use Rattle.jv_sound.specs.Values.{Fits, Heap, IsObject, IsReferenceTo, HasStack, object_type}
+use Rattle.jv_sound.specs.Memory.{IsTypedObject}
+use Rattle.jv_sound.specs.Later.{IsLater}
+use Rattle.jv_sound.specs.Frames.{Holds}
+use Rattle.jv_sound.proofs.Logic.{then2, then1, holds, then_holds, found_holds, tested_holds, handed_further}
+use Rattle.jv_sound.proofs.Heaps.{with_set, set_later, weaker, stack_later, fits_later, values_later}
+use Rattle.jv_sound.proofs.Subtypes.{instance_below, element_loadable}
+use Rattle.jv_sound.proofs.Taking.{taken_one}
 use Rattle.jv_sound.proofs.Pure.{agrees_from, int_ok}
-use Rattle.jv_sound_invariant.proofs.Storing.{set_typed}
-use Rattle.jv_sound_invariant.proofs.Storing.{narrowed_fits}
+use Rattle.jv_sound.proofs.Storing.{set_typed}
+use Rattle.jv_sound.proofs.Storing.{narrowed_fits}
 use Rattle.jv_sound.proofs.ArrayTypes.{all_set, IsArray, IsNumbers, IsReferences, array_value, array_weaker, numbers_taken, reference_components, value_usable, null_of_usable, object_of_usable}
 use Rattle.jv_sound.proofs.ArrayLoads.{array_at, number_sort}
 use Rattle.jv_sound.proofs.Ways.{Setting, IsSet, world_of, program_of, memory_of, context_of, here, Does, Sound, goes_with_ok, raises_ok, by_table}
@@ -171,7 +171,7 @@ module _ (x : Setting) (h : IsSet x) where
           (by_place index S s v id a.0 a.1 a.2 (value_usable a.0.dimensions a.0.element a.3.0) f hs (at_place index a.1))))
       stores index S s v _ f a hs = absurd a
 
-      by_values : (S : List FrameType) (values s : List Value) → Rattle.jv_sound_invariant.specs.Values.Zip
+      by_values : (S : List FrameType) (values s : List Value) → Rattle.jv_sound.specs.Values.Zip
           (Fits (world_of x) x.heap.objects) (array_with (class_components
           (codes "java/lang/Object")) ∷ types.Int ∷ object_class_type ∷ []) values → HasStack (here x) S s
           → Does x insns.ReferenceArrayStore (with_stack x.given S) (store_in_array (context_of x insns.ReferenceArrayStore) values s)

@@ -25,10 +25,10 @@ use Rattle.jv_meaning_machine.specs.Objects.{Object}
 use Rattle.jv_meaning_machine.specs.Objects.Object.{InstanceOf, ArrayWith}
 use Rattle.jv_meaning_machine.specs.Arrays.{holds_base, holds_by, holds_numbers, holds_references}
 use Rattle.jv_meaning_machine.specs.Operands.{taken_reference}
-use Rattle.jv_sound_invariant.specs.Values.{Fits, IsObject, IsReferenceTo, Place, HasStack, object_type}
-use Rattle.jv_sound_invariant.specs.Memory.{AreLoadable}
-use Rattle.jv_sound_invariant.proofs.Logic.{clash, Agrees, both, nothing}
-use Rattle.jv_sound_invariant.proofs.Types.{sort_has_type, sort_usable, item_flows_fit}
+use Rattle.jv_sound.specs.Values.{Fits, IsObject, IsReferenceTo, Place, HasStack, object_type}
+use Rattle.jv_sound.specs.Memory.{AreLoadable}
+use Rattle.jv_sound.proofs.Logic.{clash, Agrees, both, nothing}
+use Rattle.jv_sound.proofs.Types.{sort_has_type, sort_usable, item_flows_fit}
 
 -- ---- lists
 

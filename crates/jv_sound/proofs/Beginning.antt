@@ -26,16 +26,16 @@ use Rattle.jv_meaning_machine.specs.Throws.{Thrown, exception, thrown, unwound, 
 use Rattle.jv_meaning_machine.specs.Entering.{within_words}
 use Rattle.jv_meaning_machine.specs.Initialization.{is_verified, initialization_of, tasks_of, begin}
 use Rattle.jv_meaning_machine.proofs.Began.{begun_if, begun_in}
-use Rattle.jv_sound_invariant.specs.Values.{Heap, IsObject, object_type}
-use Rattle.jv_sound_invariant.specs.Memory.{IsTypedMemory, AreLoadable}
-use Rattle.jv_sound_invariant.specs.Later.{IsLater}
-use Rattle.jv_sound_invariant.specs.Frames.{Holds, promise_of, AreWaiting, AreVerified, HasMain, IsGood, IsTask}
-use Rattle.jv_sound_invariant.specs.Frames.Promise.{Again}
-use Rattle.jv_sound_invariant.specs.Effects.{stack_overflow, IsThrown}
-use Rattle.jv_sound_invariant.proofs.Logic.{holds, then_holds, found_holds}
-use Rattle.jv_sound_invariant.proofs.Heaps.{weaker}
+use Rattle.jv_sound.specs.Values.{Heap, IsObject, object_type}
+use Rattle.jv_sound.specs.Memory.{IsTypedMemory, AreLoadable}
+use Rattle.jv_sound.specs.Later.{IsLater}
+use Rattle.jv_sound.specs.Frames.{Holds, promise_of, AreWaiting, AreVerified, HasMain, IsGood, IsTask}
+use Rattle.jv_sound.specs.Frames.Promise.{Again}
+use Rattle.jv_sound.specs.Effects.{stack_overflow, IsThrown}
+use Rattle.jv_sound.proofs.Logic.{holds, then_holds, found_holds}
+use Rattle.jv_sound.proofs.Heaps.{weaker}
 use Rattle.jv_sound.proofs.Frames.{IsThrownGood, AreCatching, catching_of, catching_later, waiting_later, again}
-use Rattle.jv_sound_invariant.proofs.Memories.{IsMade}
+use Rattle.jv_sound.proofs.Memories.{IsMade}
 
 pub one_loaded : (a b : Loaded) → Some a ≡ Some b → a ≡ b
 one_loaded a b e = cc

@@ -5,11 +5,11 @@ use Rattle.jv_meaning_machine.specs.Objects.{Instance}
 use Rattle.jv_meaning_machine.specs.Objects.Object.{InstanceOf}
 use Rattle.jv_meaning_machine.specs.State.{Program}
 use Rattle.jv_meaning_machine.specs.Entering.{entered_on}
-use Rattle.jv_sound_invariant.specs.Values.{Heap, Place}
-use Rattle.jv_sound_invariant.specs.Later.{IsLater}
-use Rattle.jv_sound_invariant.specs.Effects.{IsUnderConstruction, begun_on}
-use Rattle.jv_sound_invariant.proofs.Logic.{clash}
-use Rattle.jv_sound_invariant.proofs.Heaps.{with_set, set_later}
+use Rattle.jv_sound.specs.Values.{Heap, Place}
+use Rattle.jv_sound.specs.Later.{IsLater}
+use Rattle.jv_sound.specs.Effects.{IsUnderConstruction, begun_on}
+use Rattle.jv_sound.proofs.Logic.{clash}
+use Rattle.jv_sound.proofs.Heaps.{with_set, set_later}
 
 module _ (program : Program) (p : Place) (heap : Heap) (d : Declared) (object : ℕ) (instance : Instance)
     (u : IsUnderConstruction program p heap d object instance) where

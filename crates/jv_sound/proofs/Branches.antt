@@ -25,13 +25,13 @@ use Rattle.jv_meaning_machine.specs.Operands.{popped_reference}
 use Rattle.jv_meaning_machine.specs.Effects.Effect.{Goes}
 use Rattle.jv_meaning_machine.specs.Arithmetic.{holds as condition_holds, table_distance, key_distance}
 use Rattle.jv_meaning_machine.specs.Instructions.{jumps, jumps_if, is_same, is_met}
-use Rattle.jv_sound_invariant.specs.Values.{Fits, HasStack}
-use Rattle.jv_sound_invariant.specs.Frames.{Holds}
-use Rattle.jv_sound_invariant.proofs.Logic.{clash, Agrees, then2, then_holds, holds}
-use Rattle.jv_sound_invariant.proofs.Types.{kind_fits}
-use Rattle.jv_sound_invariant.proofs.Taking.{IsOfKind, kind_taken}
+use Rattle.jv_sound.specs.Values.{Fits, HasStack}
+use Rattle.jv_sound.specs.Frames.{Holds}
+use Rattle.jv_sound.proofs.Logic.{clash, Agrees, then2, then_holds, holds}
+use Rattle.jv_sound.proofs.Types.{kind_fits}
+use Rattle.jv_sound.proofs.Taking.{IsOfKind, kind_taken}
 use Rattle.jv_sound.proofs.Pure.{agrees_from, none_ok, one_ok, two_ok, int_ok}
-use Rattle.jv_sound_invariant.proofs.Members.{in_map}
+use Rattle.jv_sound.proofs.Members.{in_map}
 use Rattle.jv_meaning_world.proofs.Up.{first, later}
 use Rattle.jv_sound.proofs.Ways.{Setting, IsSet, world_of, here, context_of, Does, Sound, stays, goes_ok, by_table}
 

@@ -22,14 +22,14 @@ use Rattle.jv_meaning_machine.specs.Objects.{Object, is_instance_of}
 use Rattle.jv_meaning_machine.specs.Instructions.{when_tested, cast_if, check_cast_of, answered, instance_of_value}
 use Rattle.jv_meaning_machine.specs.Effects.{Outcome, unless_error, class_cast, class_constant, resolved_type}
 use Rattle.jv_meaning_machine.proofs.TakenItems.{taken_gave}
-use Rattle.jv_sound_invariant.specs.Values.{Fits, IsObject, IsReferenceTo, HasStack, object_type}
-use Rattle.jv_sound_invariant.proofs.Logic.{then2, then2_known, then_holds, found_holds, handed_on}
-use Rattle.jv_sound_invariant.proofs.Types.{sort_item}
-use Rattle.jv_sound_invariant.proofs.Subtypes.{instance_below, element_loadable}
-use Rattle.jv_sound_invariant.proofs.Taking.{taken_one}
+use Rattle.jv_sound.specs.Values.{Fits, IsObject, IsReferenceTo, HasStack, object_type}
+use Rattle.jv_sound.proofs.Logic.{then2, then2_known, then_holds, found_holds, handed_on}
+use Rattle.jv_sound.proofs.Types.{sort_item}
+use Rattle.jv_sound.proofs.Subtypes.{instance_below, element_loadable}
+use Rattle.jv_sound.proofs.Taking.{taken_one}
 use Rattle.jv_sound.proofs.Pure.{agrees_from}
 use Rattle.jv_sound.proofs.ArrayTypes.{null_of_usable, object_of_usable}
-use Rattle.jv_sound_invariant.proofs.Types.{usable_sort}
+use Rattle.jv_sound.proofs.Types.{usable_sort}
 use Rattle.jv_sound.proofs.ResolvedTypes.{resolved_text, resolved_reference, reference_is_usable}
 use Rattle.jv_sound.proofs.Ways.{Setting, IsSet, world_of, context_of, here, Does, By, Sound, KeepsLocals, goes_ok, raises_ok, raised_ok}
 

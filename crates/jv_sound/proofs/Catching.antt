@@ -23,11 +23,11 @@ use Rattle.jv_meaning_machine.specs.Values.Value.{Reference}
 use Rattle.jv_meaning_machine.specs.Frames.{MethodFrame}
 use Rattle.jv_meaning_machine.specs.State.{Program}
 use Rattle.jv_meaning_machine.specs.Throws.{Thrown, catches, is_caught_as}
-use Rattle.jv_sound_invariant.specs.Values.{Heap, Place, Item, IsObject, object_type}
-use Rattle.jv_sound_invariant.specs.Sound.{IsChecked}
-use Rattle.jv_sound_invariant.proofs.Logic.{clash}
-use Rattle.jv_sound_invariant.proofs.Formats.{chained}
-use Rattle.jv_sound_invariant.proofs.Subtypes.{class_below}
+use Rattle.jv_sound.specs.Values.{Heap, Place, Item, IsObject, object_type}
+use Rattle.jv_sound.specs.Sound.{IsChecked}
+use Rattle.jv_sound.proofs.Logic.{clash}
+use Rattle.jv_sound.proofs.Formats.{chained}
+use Rattle.jv_sound.proofs.Subtypes.{class_below}
 use Rattle.jv_sound.proofs.Frames.{IsThrownGood}
 
 module _ (program : Program) (rooted : IsRooted program.world) (next_starts : NextStarts) (stands_in_list : StandsInList) where

@@ -22,16 +22,16 @@ use Rattle.jv_meaning_machine.specs.Faults.Fault.{OffsetFault}
 use Rattle.jv_meaning_machine.specs.Values.{Value}
 use Rattle.jv_meaning_machine.specs.State.{Program, Memory}
 use Rattle.jv_meaning_machine.specs.Literals.{string_name, string_loaded, constant_value, pushed_constant, push_value}
-use Rattle.jv_sound_invariant.specs.Values.{Fits, Heap}
-use Rattle.jv_sound_invariant.specs.Memory.{IsTypedMemory}
-use Rattle.jv_sound_invariant.specs.Later.{IsLater}
-use Rattle.jv_sound_invariant.specs.Sound.{IsSort}
-use Rattle.jv_sound_invariant.specs.Frames.{Holds, IsConstantOf, HasUnits}
-use Rattle.jv_sound_invariant.proofs.Logic.{holds, then_holds, found_holds}
-use Rattle.jv_sound_invariant.proofs.Types.{sort_item}
-use Rattle.jv_sound_invariant.proofs.Heaps.{same, moved, stack_later}
-use Rattle.jv_sound_invariant.proofs.Memories.{IsMakeable}
-use Rattle.jv_sound_invariant.proofs.Literals.{IsLiteralIf, literal_ok}
+use Rattle.jv_sound.specs.Values.{Fits, Heap}
+use Rattle.jv_sound.specs.Memory.{IsTypedMemory}
+use Rattle.jv_sound.specs.Later.{IsLater}
+use Rattle.jv_sound.specs.Sound.{IsSort}
+use Rattle.jv_sound.specs.Frames.{Holds, IsConstantOf, HasUnits}
+use Rattle.jv_sound.proofs.Logic.{holds, then_holds, found_holds}
+use Rattle.jv_sound.proofs.Types.{sort_item}
+use Rattle.jv_sound.proofs.Heaps.{same, moved, stack_later}
+use Rattle.jv_sound.proofs.Memories.{IsMakeable}
+use Rattle.jv_sound.proofs.Literals.{IsLiteralIf, literal_ok}
 use Rattle.jv_sound.proofs.Pure.{agrees_from}
 use Rattle.jv_sound.proofs.Ways.{Setting, IsSet, world_of, program_of, memory_of, context_of, here, Does, By, Sound, KeepsLocals, goes_with_ok, lacks_ok}
 

@@ -16,11 +16,11 @@ use Rattle.jv_meaning_machine.specs.Objects.{Instance, Object}
 use Rattle.jv_meaning_machine.specs.Objects.Object.{InstanceOf}
 use Rattle.jv_meaning_machine.specs.Calls.{is_superclass_of, can_enter}
 use Rattle.jv_meaning_machine.specs.Entering.{entered_on}
-use Rattle.jv_sound_invariant.specs.Values.{IsObject, Heap, Place, IsFresh, IsThis, FitsIn}
-use Rattle.jv_sound_invariant.specs.Later.{IsLater}
-use Rattle.jv_sound_invariant.specs.Effects.{after}
-use Rattle.jv_sound_invariant.proofs.Logic.{clash}
-use Rattle.jv_sound_invariant.proofs.Heaps.{with_set, set_later, get_set_same, get_set_other, upd_same, upd_other, in_later, object_later}
+use Rattle.jv_sound.specs.Values.{IsObject, Heap, Place, IsFresh, IsThis, FitsIn}
+use Rattle.jv_sound.specs.Later.{IsLater}
+use Rattle.jv_sound.specs.Effects.{after}
+use Rattle.jv_sound.proofs.Logic.{clash}
+use Rattle.jv_sound.proofs.Heaps.{with_set, set_later, get_set_same, get_set_other, upd_same, upd_other, in_later, object_later}
 
 -- not the object with this number
 abbrev Apart : Place → ℕ → FrameType → Type 0
@@ -44,7 +44,7 @@ same_instance objects a b i j e x y = ap entered (some_same (sym x ∙ ap (slice
     some_same k = cc
 
     entered : Object → Option (List ℕ)
-    entered o = Rattle.jv_sound_invariant.specs.Later.entered_of o
+    entered o = Rattle.jv_sound.specs.Later.entered_of o
 
 same_receiver : (a b : ℕ) → Some a ≡ Some b → a ≡ b
 same_receiver a b e = cc
@@ -98,9 +98,9 @@ module _ (p : Place) (u : FrameType) (id : ℕ) (i : Instance) (s : IsSubject p 
   unmoved types.Int v n f = f
   unmoved types.Long v n f = f
   unmoved types.Null v n f = f
-  unmoved (types.Class c) v n f = Rattle.jv_sound_invariant.proofs.Heaps.reference_later p.method.world begun_later
+  unmoved (types.Class c) v n f = Rattle.jv_sound.proofs.Heaps.reference_later p.method.world begun_later
       (types.Class c) v f
-  unmoved (types.Array c) v n f = Rattle.jv_sound_invariant.proofs.Heaps.reference_later p.method.world begun_later
+  unmoved (types.Array c) v n f = Rattle.jv_sound.proofs.Heaps.reference_later p.method.world begun_later
       (types.Array c) v f
   unmoved (types.Uninitialized o) v n f = record {
     is = f.is;
@@ -142,7 +142,7 @@ module _ (p : Place) (u : FrameType) (id : ℕ) (i : Instance) (s : IsSubject p 
   done_one name c l h t v f = go (is_same_object u t) refl
     where
       go : (b : Bool) → is_same_object u t ≡ b → FitsIn (after p c p.made) (if b then types.Class name else t) v
-      go true e = subst (λ (x : Value). Rattle.jv_sound_invariant.specs.Values.IsReferenceTo p.method.world c.objects
+      go true e = subst (λ (x : Value). Rattle.jv_sound.specs.Values.IsReferenceTo p.method.world c.objects
           (types.Class name) x) (sym (s.copy t v f e)) h
       go false e = in_later (after p begun_heap p.made) c l t v (unmoved t v (s.apart t v f e) f)
 

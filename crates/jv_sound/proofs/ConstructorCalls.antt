@@ -46,13 +46,13 @@ use Rattle.jv_meaning_machine.specs.Objects.Object.{InstanceOf}
 use Rattle.jv_meaning_machine.specs.Calls.{call_special, construct}
 use Rattle.jv_meaning_machine.specs.Initialization.{is_verified}
 use Rattle.jv_meaning_machine.specs.Operands.{popped_reference}
-use Rattle.jv_sound_invariant.specs.Values.{Zip, Fits, IsFresh, IsThis, HasStack}
-use Rattle.jv_sound_invariant.specs.Sound.{AreSorts, IsResultSort, IsEnterable}
-use Rattle.jv_sound_invariant.proofs.Logic.{clash, then2_from}
-use Rattle.jv_sound_invariant.proofs.Heaps.{later, weaker, ready_any}
-use Rattle.jv_sound_invariant.proofs.Taking.{and_parts, taken_all}
+use Rattle.jv_sound.specs.Values.{Zip, Fits, IsFresh, IsThis, HasStack}
+use Rattle.jv_sound.specs.Sound.{AreSorts, IsResultSort, IsEnterable}
+use Rattle.jv_sound.proofs.Logic.{clash, then2_from}
+use Rattle.jv_sound.proofs.Heaps.{later, weaker, ready_any}
+use Rattle.jv_sound.proofs.Taking.{and_parts, taken_all}
 use Rattle.jv_sound.proofs.Pure.{agrees_from}
-use Rattle.jv_sound_invariant.proofs.Formed.{super_name_test}
+use Rattle.jv_sound.proofs.Formed.{super_name_test}
 use Rattle.jv_sound.proofs.Receiving.{above_verified}
 use Rattle.jv_sound.proofs.Resolving.{named_class, resolved_class}
 use Rattle.jv_sound.proofs.ResolvedTypes.{same_option, reference_of_class}
@@ -271,7 +271,7 @@ module _ (x : Setting) (h : IsSet x) (coded : HasCode (program_of x)) (root : Lo
         by_test false k = record { by = tt }
         by_test true k =
             let f = hs.0.fits in
-            agrees_from (rw (ap is_init called.name ∙ is) (rw (Rattle.jv_sound_invariant.proofs.Types.kind_fits
+            agrees_from (rw (ap is_init called.name ∙ is) (rw (Rattle.jv_sound.proofs.Types.kind_fits
             (here x) Rattle.jv_code.specs.declared.kinds.ValueKind.TheVariants.Reference (types.Uninitialized o) v refl f)
             (on_fresh o T v arguments s e k f zip hs.1)))
     on_top (types.UninitializedThis ∷ T) arguments (v ∷ s) e zip hs = by_test (constructs_this x.frame.method method) refl
@@ -283,7 +283,7 @@ module _ (x : Setting) (h : IsSet x) (coded : HasCode (program_of x)) (root : Lo
         by_test false k = record { by = tt }
         by_test true k =
             let f = hs.0.fits in
-            agrees_from (rw (ap is_init called.name ∙ is) (rw (Rattle.jv_sound_invariant.proofs.Types.kind_fits
+            agrees_from (rw (ap is_init called.name ∙ is) (rw (Rattle.jv_sound.proofs.Types.kind_fits
             (here x) Rattle.jv_code.specs.declared.kinds.ValueKind.TheVariants.Reference types.UninitializedThis v refl f)
             (on_this T v arguments s e k f zip hs.1)))
     on_top (y ∷ T) arguments (v ∷ s) e zip hs = record { by = tt }

@@ -25,13 +25,13 @@ use Rattle.jv_meaning_machine.specs.Objects.{Instance}
 use Rattle.jv_meaning_machine.specs.Objects.Object.{InstanceOf}
 use Rattle.jv_meaning_machine.specs.Entering.{passed_values, entered_frame, method_frame, entered_on}
 use Rattle.jv_meaning_machine.specs.State.{Program}
-use Rattle.jv_sound_invariant.specs.Values.{Zip, Fits, FitsIn, Heap, Place, Item, IsReady}
-use Rattle.jv_sound_invariant.specs.Memory.{AreLoadable}
-use Rattle.jv_sound_invariant.specs.Sound.{AreSorts, IsSound, IsEnterable, IsChecked}
-use Rattle.jv_sound_invariant.specs.Frames.{Holds, IsRunning, place_of}
-use Rattle.jv_sound_invariant.specs.Effects.{ArePassed}
-use Rattle.jv_sound_invariant.proofs.Logic.{clash, holds, then_holds}
-use Rattle.jv_sound_invariant.proofs.Heaps.{with_set, upd_same, get_set_same}
+use Rattle.jv_sound.specs.Values.{Zip, Fits, FitsIn, Heap, Place, Item, IsReady}
+use Rattle.jv_sound.specs.Memory.{AreLoadable}
+use Rattle.jv_sound.specs.Sound.{AreSorts, IsSound, IsEnterable, IsChecked}
+use Rattle.jv_sound.specs.Frames.{Holds, IsRunning, place_of}
+use Rattle.jv_sound.specs.Effects.{ArePassed}
+use Rattle.jv_sound.proofs.Logic.{clash, holds, then_holds}
+use Rattle.jv_sound.proofs.Heaps.{with_set, upd_same, get_set_same}
 use Rattle.jv_sound.proofs.Leads.{begins}
 use Rattle.jv_sound.proofs.Entering.{filled_ok, entered_ok}
 use Rattle.jv_sound.proofs.FirstFrame.{first_there, sorts_are_items}

@@ -24,18 +24,18 @@ use Rattle.jv_meaning_machine.specs.Costs.{code_words}
 use Rattle.jv_meaning_machine.specs.Effects.Effect.{Constructs}
 use Rattle.jv_meaning_machine.specs.Entering.{entered_above, entered_on}
 use Rattle.jv_meaning_machine.specs.Step.{waiting, act}
-use Rattle.jv_sound_invariant.specs.Values.{Zip, Fits, IsObject, Heap, Place}
-use Rattle.jv_sound_invariant.specs.Memory.{IsTypedInstance, IsTypedObject, IsTypedMemory}
-use Rattle.jv_sound_invariant.specs.Later.{IsLater}
-use Rattle.jv_sound_invariant.specs.Sound.{AreSorts, IsEnterable, IsSound}
-use Rattle.jv_sound_invariant.specs.Frames.{Holds, place_of, IsRunning, IsCatching, Promise, promise_by, promise_of, Resumes, AreWaiting, AreVerified, HasMain, IsGood}
-use Rattle.jv_sound_invariant.specs.Frames.Promise.{Builds}
-use Rattle.jv_sound_invariant.specs.Effects.{AreEffects, ArePassed, IsUnderConstruction, begun_on}
+use Rattle.jv_sound.specs.Values.{Zip, Fits, IsObject, Heap, Place}
+use Rattle.jv_sound.specs.Memory.{IsTypedInstance, IsTypedObject, IsTypedMemory}
+use Rattle.jv_sound.specs.Later.{IsLater}
+use Rattle.jv_sound.specs.Sound.{AreSorts, IsEnterable, IsSound}
+use Rattle.jv_sound.specs.Frames.{Holds, place_of, IsRunning, IsCatching, Promise, promise_by, promise_of, Resumes, AreWaiting, AreVerified, HasMain, IsGood}
+use Rattle.jv_sound.specs.Frames.Promise.{Builds}
+use Rattle.jv_sound.specs.Effects.{AreEffects, ArePassed, IsUnderConstruction, begun_on}
 use Rattle.jv_sound.proofs.EnteringAbove.{WithinWords, some_code}
-use Rattle.jv_sound_invariant.proofs.Logic.{holds, then_holds, found_holds}
-use Rattle.jv_sound_invariant.specs.Memory.{AreLoadable}
-use Rattle.jv_sound_invariant.proofs.Heaps.{later, weaker, fits_later, entries_later, ready_any}
-use Rattle.jv_sound_invariant.proofs.Storing.{set_typed}
+use Rattle.jv_sound.proofs.Logic.{holds, then_holds, found_holds}
+use Rattle.jv_sound.specs.Memory.{AreLoadable}
+use Rattle.jv_sound.proofs.Heaps.{later, weaker, fits_later, entries_later, ready_any}
+use Rattle.jv_sound.proofs.Storing.{set_typed}
 use Rattle.jv_sound.proofs.Begun.{begun_on_later}
 use Rattle.jv_sound.proofs.ConstructorFrame.{constructor_frame_ok}
 use Rattle.jv_sound.proofs.Frames.{resumed_ok, waiting_later}

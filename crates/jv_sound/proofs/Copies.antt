@@ -8,8 +8,8 @@ use Rattle.jv_frames.specs.Types.{FrameType}
 use Rattle.jv_meaning_typing.specs.FrameChanges.{is_same_object, replaced}
 use Rattle.jv_meaning_machine.specs.Values.{Value}
 use Rattle.jv_meaning_machine.specs.Values.Value.{Reference}
-use Rattle.jv_sound_invariant.specs.Values.{Place, FitsIn, HasStack, IsPaired, HasLocals, type_width}
-use Rattle.jv_sound_invariant.proofs.Logic.{clash}
+use Rattle.jv_sound.specs.Values.{Place, FitsIn, HasStack, IsPaired, HasLocals, type_width}
+use Rattle.jv_sound.proofs.Logic.{clash}
 
 -- ---- all copies of a type give way to another
 

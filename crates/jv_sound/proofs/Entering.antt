@@ -28,11 +28,11 @@ use Rattle.jv_meaning_machine.specs.Values.{Value}
 use Rattle.jv_meaning_machine.specs.Values.Value.{Long, Half, Unset}
 use Rattle.jv_meaning_machine.specs.Frames.{local_words, filled}
 use Rattle.jv_meaning_machine.specs.State.{Program, is_class_accepted, entered_method}
-use Rattle.jv_sound_invariant.specs.Values.{Zip, Place, FitsIn, Item, IsPaired, HasLocals}
-use Rattle.jv_sound_invariant.specs.Sound.{IsEnterable, IsChecked, IsSound}
-use Rattle.jv_sound_invariant.specs.Frames.{Holds}
-use Rattle.jv_sound_invariant.proofs.Logic.{clash, holds, then_holds, tested_holds, found_holds}
-use Rattle.jv_sound_invariant.proofs.Taking.{and_parts}
+use Rattle.jv_sound.specs.Values.{Zip, Place, FitsIn, Item, IsPaired, HasLocals}
+use Rattle.jv_sound.specs.Sound.{IsEnterable, IsChecked, IsSound}
+use Rattle.jv_sound.specs.Frames.{Holds}
+use Rattle.jv_sound.proofs.Logic.{clash, holds, then_holds, tested_holds, found_holds}
+use Rattle.jv_sound.proofs.Taking.{and_parts}
 
 -- ---- the local variables
 

@@ -19,13 +19,13 @@ use Rattle.jv_meaning_machine.specs.Frames.{MethodFrame, Frame}
 use Rattle.jv_meaning_machine.specs.Frames.Frame.{Runs}
 use Rattle.jv_meaning_machine.specs.State.{Program, Memory, Control, State, ClassStates}
 use Rattle.jv_meaning_machine.specs.Values.{Value}
-use Rattle.jv_sound_invariant.specs.Values.{Heap, IsObject}
-use Rattle.jv_sound_invariant.specs.Memory.{IsTypedMemory, AreLoadable}
-use Rattle.jv_sound_invariant.specs.Sound.{IsEnterable}
-use Rattle.jv_sound_invariant.specs.Frames.{Holds, IsRunning, promise_of, AreWaiting, AreVerified, HasMain, IsGood}
-use Rattle.jv_sound_invariant.specs.Effects.{ArePassed, IsReceiver, IsThrown}
-use Rattle.jv_sound_invariant.specs.Frames.Promise.{Again}
-use Rattle.jv_sound_invariant.proofs.Logic.{clash, holds, then_holds, found_holds}
+use Rattle.jv_sound.specs.Values.{Heap, IsObject}
+use Rattle.jv_sound.specs.Memory.{IsTypedMemory, AreLoadable}
+use Rattle.jv_sound.specs.Sound.{IsEnterable}
+use Rattle.jv_sound.specs.Frames.{Holds, IsRunning, promise_of, AreWaiting, AreVerified, HasMain, IsGood}
+use Rattle.jv_sound.specs.Effects.{ArePassed, IsReceiver, IsThrown}
+use Rattle.jv_sound.specs.Frames.Promise.{Again}
+use Rattle.jv_sound.proofs.Logic.{clash, holds, then_holds, found_holds}
 use Rattle.jv_sound.proofs.Frames.{AreCatching}
 
 pub some_code : (o : Option CodeSeen) → IsSome o → (c : CodeSeen) × (o ≡ Some c)

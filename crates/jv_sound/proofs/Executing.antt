@@ -33,22 +33,22 @@ use Rattle.jv_meaning_machine.specs.Effects.{Effect, Context}
 use Rattle.jv_meaning_machine.specs.Initialization.{is_verified}
 use Rattle.jv_meaning_machine.specs.Instructions.{execute}
 use Rattle.jv_meaning_machine.specs.Step.{context}
-use Rattle.jv_sound_invariant.specs.Values.{Heap}
-use Rattle.jv_sound_invariant.specs.Memory.{IsTypedMemory}
-use Rattle.jv_sound_invariant.specs.Sound.{IsSound, IsChecked}
-use Rattle.jv_sound_invariant.specs.Frames.{IsRunning, AreVerified, place_of}
-use Rattle.jv_sound_invariant.specs.Effects.{AreEffects}
-use Rattle.jv_sound_invariant.proofs.Logic.{clash, Agrees}
-use Rattle.jv_sound_invariant.proofs.Formats.{chained}
-use Rattle.jv_sound_invariant.proofs.Formed.{IsFormed, is_void}
-use Rattle.jv_sound_invariant.proofs.Taking.{and_parts}
+use Rattle.jv_sound.specs.Values.{Heap}
+use Rattle.jv_sound.specs.Memory.{IsTypedMemory}
+use Rattle.jv_sound.specs.Sound.{IsSound, IsChecked}
+use Rattle.jv_sound.specs.Frames.{IsRunning, AreVerified, place_of}
+use Rattle.jv_sound.specs.Effects.{AreEffects}
+use Rattle.jv_sound.proofs.Logic.{clash, Agrees}
+use Rattle.jv_sound.proofs.Formats.{chained}
+use Rattle.jv_sound.proofs.Formed.{IsFormed, is_void}
+use Rattle.jv_sound.proofs.Taking.{and_parts}
 use Rattle.jv_sound.proofs.Leads.{target_there}
-use Rattle.jv_sound_invariant.proofs.Asked.{AreFormed, interfaces_are_static, concrete_have_code, constructor_rules, constructors_have_code, static_have_code}
-use Rattle.jv_sound_invariant.proofs.HostMethods.{built_in}
-use Rattle.jv_sound_invariant.proofs.Limits.{instruction_fits}
-use Rattle.jv_sound_invariant.proofs.Pools.{named_field_is_sort, named_method_has_sorts, string_has_units}
-use Rattle.jv_sound_invariant.proofs.SystemFacts as facts
-use Rattle.jv_sound_invariant.proofs.SystemFacts.{raised, link_error_is_thrown, object_has_none, out_of_memory_is_thrown, string_there_in, throwable_in, root_in}
+use Rattle.jv_sound.proofs.Asked.{AreFormed, interfaces_are_static, concrete_have_code, constructor_rules, constructors_have_code, static_have_code}
+use Rattle.jv_sound.proofs.HostMethods.{built_in}
+use Rattle.jv_sound.proofs.Limits.{instruction_fits}
+use Rattle.jv_sound.proofs.Pools.{named_field_is_sort, named_method_has_sorts, string_has_units}
+use Rattle.jv_sound.proofs.SystemFacts as facts
+use Rattle.jv_sound.proofs.SystemFacts.{raised, link_error_is_thrown, object_has_none, out_of_memory_is_thrown, string_there_in, throwable_in, root_in}
 use Rattle.jv_sound.proofs.Pure as pure
 use Rattle.jv_sound.proofs.LocalInstructions.{load_ok, store_word_ok, store_long_ok}
 use Rattle.jv_sound.proofs.Branches.{has_targets, goto_ok, if_int_ok, if_ints_ok, if_null_ok, if_references_ok, table_switch_ok, lookup_switch_ok}
@@ -73,7 +73,7 @@ use Rattle.jv_sound.proofs.ConstructorCalls.{invoke_special_ok}
 use Rattle.jv_sound.proofs.NewObjects.{new_ok}
 use Rattle.jv_sound.proofs.Ways.{Setting, IsSet, world_of, program_of, memory_of, context_of, here, By, Sound}
 use Rattle.jv_sound.proofs.Ways as ways
-use Rattle.jv_sound_invariant.proofs.Memories.{loadable_of}
+use Rattle.jv_sound.proofs.Memories.{loadable_of}
 use Rattle.jv_sound.proofs.Stepping.{rule_ok}
 
 -- what the machine throws in an instruction is among the classes of the system that are thrown

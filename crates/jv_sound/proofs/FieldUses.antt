@@ -27,9 +27,9 @@ use Rattle.jv_meaning_machine.specs.State.{class_state, is_ready}
 use Rattle.jv_meaning_machine.specs.Effects.{Outcome, once_initialized, unless_error}
 use Rattle.jv_meaning_machine.specs.Effects.Effect.{Begins}
 use Rattle.jv_meaning_machine.specs.Fields.{access_field, use_for}
-use Rattle.jv_sound_invariant.specs.Values.{HasLocals}
-use Rattle.jv_sound_invariant.specs.Sound.{IsSort}
-use Rattle.jv_sound_invariant.proofs.Logic.{clash}
+use Rattle.jv_sound.specs.Values.{HasLocals}
+use Rattle.jv_sound.specs.Sound.{IsSort}
+use Rattle.jv_sound.proofs.Logic.{clash}
 use Rattle.jv_sound.proofs.Ways.{Setting, IsSet, world_of, context_of, here, Does, By, Sound, KeepsLocals, stays, raised_ok, anyway}
 
 -- a text that is no array's names a class, if any

@@ -24,10 +24,10 @@ use Rattle.jv_meaning_machine.specs.Faults.{found}
 use Rattle.jv_meaning_machine.specs.Objects.{Instance, Object}
 use Rattle.jv_meaning_machine.specs.Objects.Object.{InstanceOf, ArrayWith}
 use Rattle.jv_meaning_machine.specs.State.{Program}
-use Rattle.jv_sound_invariant.specs.Values.{object_type}
-use Rattle.jv_sound_invariant.specs.Memory.{IsTypedObject}
-use Rattle.jv_sound_invariant.proofs.Logic.{clash}
-use Rattle.jv_sound_invariant.proofs.Members.{HoldsField, holds_field, field_there, is_upward, not_interface}
+use Rattle.jv_sound.specs.Values.{object_type}
+use Rattle.jv_sound.specs.Memory.{IsTypedObject}
+use Rattle.jv_sound.proofs.Logic.{clash}
+use Rattle.jv_sound.proofs.Members.{HoldsField, holds_field, field_there, is_upward, not_interface}
 use Rattle.jv_sound.proofs.Resolving.{resolved_class, named_class, below_declaring}
 
 -- ---- a field that is found

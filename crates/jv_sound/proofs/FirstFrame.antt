@@ -21,13 +21,13 @@ use Rattle.jv_meaning_machine.specs.Values.{Value}
 use Rattle.jv_meaning_machine.specs.Frames.{MethodFrame}
 use Rattle.jv_meaning_machine.specs.State.{Program}
 use Rattle.jv_meaning_machine.specs.Entering.{passed_values, entered_frame, method_frame}
-use Rattle.jv_sound_invariant.specs.Values.{Zip, Fits, IsObject, Heap, Place, Item}
-use Rattle.jv_sound_invariant.specs.Memory.{AreLoadable}
-use Rattle.jv_sound_invariant.specs.Sound.{IsChecked, IsEnterable, IsSound, AreSorts}
-use Rattle.jv_sound_invariant.specs.Frames.{Holds, place_of, IsRunning}
-use Rattle.jv_sound_invariant.specs.Effects.{ArePassed, IsReceiver}
-use Rattle.jv_sound_invariant.proofs.Logic.{clash, holds, then_holds}
-use Rattle.jv_sound_invariant.proofs.Types.{sort_item}
+use Rattle.jv_sound.specs.Values.{Zip, Fits, IsObject, Heap, Place, Item}
+use Rattle.jv_sound.specs.Memory.{AreLoadable}
+use Rattle.jv_sound.specs.Sound.{IsChecked, IsEnterable, IsSound, AreSorts}
+use Rattle.jv_sound.specs.Frames.{Holds, place_of, IsRunning}
+use Rattle.jv_sound.specs.Effects.{ArePassed, IsReceiver}
+use Rattle.jv_sound.proofs.Logic.{clash, holds, then_holds}
+use Rattle.jv_sound.proofs.Types.{sort_item}
 use Rattle.jv_sound.proofs.Leads.{begins}
 use Rattle.jv_sound.proofs.Entering.{entered_ok, filled_ok}
 use Rattle.jv_sound.proofs.Frames.{arrives}

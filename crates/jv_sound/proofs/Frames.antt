@@ -13,7 +13,7 @@ use Rattle.jv_frames.specs.Frames.{Frame as TypesOf}
 use Rattle.jv_code.specs.Insns.{Instruction}
 use Rattle.jv_code.specs.Places.{StandsInList, NextStarts}
 use Rattle.jv_code.specs.Successors.{falls_through}
-use Rattle.jv_sound_invariant.specs.Following.{IsSuccessor}
+use Rattle.jv_sound.specs.Following.{IsSuccessor}
 use Rattle.jv_meaning_world.specs.World.{Loaded, World, class_named}
 use Rattle.jv_meaning_world.specs.Flow.{flows}
 use Rattle.jv_meaning_world.specs.FrameFlow.{all_flow, item_flows, frame_flows}
@@ -30,16 +30,16 @@ use Rattle.jv_meaning_machine.specs.Frames.Frame.{Runs, Initializes}
 use Rattle.jv_meaning_machine.specs.State.{Program, Memory, Control, state_of}
 use Rattle.jv_meaning_machine.specs.Throws.{Thrown, catches, handler_for, caught, replacement, passed_initialization, passed_method, unwound}
 use Rattle.jv_meaning_machine.specs.Entering.{at_offset, resumed, leave_to}
-use Rattle.jv_sound_invariant.specs.Values.{IsObject, Heap, Place, Item, HasStack, HasLocals, IsPaired, IsReady}
-use Rattle.jv_sound_invariant.specs.Memory.{IsTypedMemory}
-use Rattle.jv_sound_invariant.specs.Later.{IsLater}
-use Rattle.jv_sound_invariant.specs.Sound.{IsChecked}
-use Rattle.jv_sound_invariant.specs.Frames.{Holds, Holding, place_of, IsRunning, IsResumed, IsCatching, Promise, promise_of, IsResult, Resumes, IsBegun, IsTask, AreWaiting, AreFrames, AreVerified, HasMain, IsGood}
-use Rattle.jv_sound_invariant.specs.Frames.Promise.{Gives, Builds, Again}
-use Rattle.jv_sound_invariant.proofs.Logic.{clash, holds, then_holds, tested_holds, found_holds}
-use Rattle.jv_sound_invariant.specs.Memory.{AreLoadable}
-use Rattle.jv_sound_invariant.proofs.Types.{flows_fit, item_flows_fit}
-use Rattle.jv_sound_invariant.proofs.Heaps.{same, later, weaker, locals_later, ready_later}
+use Rattle.jv_sound.specs.Values.{IsObject, Heap, Place, Item, HasStack, HasLocals, IsPaired, IsReady}
+use Rattle.jv_sound.specs.Memory.{IsTypedMemory}
+use Rattle.jv_sound.specs.Later.{IsLater}
+use Rattle.jv_sound.specs.Sound.{IsChecked}
+use Rattle.jv_sound.specs.Frames.{Holds, Holding, place_of, IsRunning, IsResumed, IsCatching, Promise, promise_of, IsResult, Resumes, IsBegun, IsTask, AreWaiting, AreFrames, AreVerified, HasMain, IsGood}
+use Rattle.jv_sound.specs.Frames.Promise.{Gives, Builds, Again}
+use Rattle.jv_sound.proofs.Logic.{clash, holds, then_holds, tested_holds, found_holds}
+use Rattle.jv_sound.specs.Memory.{AreLoadable}
+use Rattle.jv_sound.proofs.Types.{flows_fit, item_flows_fit}
+use Rattle.jv_sound.proofs.Heaps.{same, later, weaker, locals_later, ready_later}
 use Rattle.jv_sound.proofs.Leads.{Leads, follows, handled}
 
 and_parts : (a b : Bool) → (a && b) ≡ true → (a ≡ true) × (b ≡ true)

@@ -30,12 +30,12 @@ use Rattle.jv_meaning_machine.specs.Objects.{Instance, Object, key_of, value_at}
 use Rattle.jv_meaning_machine.specs.Objects.Object.{InstanceOf}
 use Rattle.jv_meaning_machine.specs.Effects.{null_pointer}
 use Rattle.jv_meaning_machine.specs.Fields.{instance_in, get_field_of}
-use Rattle.jv_sound_invariant.specs.Values.{Fits, FitsDescribed, IsReferenceTo, HasStack}
-use Rattle.jv_sound_invariant.specs.Sound.{IsSort}
-use Rattle.jv_sound_invariant.specs.Frames.{Holds}
-use Rattle.jv_sound_invariant.proofs.Logic.{clash, then2, holds, then_holds, found_holds}
-use Rattle.jv_sound_invariant.proofs.Types.{sort_item, sort_has_type}
-use Rattle.jv_sound_invariant.proofs.Taking.{taken_ok}
+use Rattle.jv_sound.specs.Values.{Fits, FitsDescribed, IsReferenceTo, HasStack}
+use Rattle.jv_sound.specs.Sound.{IsSort}
+use Rattle.jv_sound.specs.Frames.{Holds}
+use Rattle.jv_sound.proofs.Logic.{clash, then2, holds, then_holds, found_holds}
+use Rattle.jv_sound.proofs.Types.{sort_item, sort_has_type}
+use Rattle.jv_sound.proofs.Taking.{taken_ok}
 use Rattle.jv_sound.proofs.Pure.{agrees_from}
 use Rattle.jv_sound.proofs.FieldsFound.{IsFieldFound, field_found, object_field}
 use Rattle.jv_sound.proofs.FieldUses.{field_ok}

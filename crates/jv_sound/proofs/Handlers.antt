@@ -23,12 +23,12 @@ use Rattle.jv_meaning_machine.specs.Values.{Value}
 use Rattle.jv_meaning_machine.specs.State.{class_state, is_ready}
 use Rattle.jv_meaning_machine.specs.Effects.{Outcome, once_initialized, raises, lacks_memory, out_of_memory}
 use Rattle.jv_meaning_machine.specs.Effects.Effect.{Begins, Enters, Raises, Throws}
-use Rattle.jv_sound_invariant.specs.Values.{Zip, Fits, Place, FitsIn, HasLocals, HasStack}
-use Rattle.jv_sound_invariant.specs.Sound.{IsEnterable, IsResultSort, AreSorts, IsSort}
-use Rattle.jv_sound_invariant.specs.Frames.{IsResult}
-use Rattle.jv_sound_invariant.specs.Effects.{IsReceiver, IsThrown}
-use Rattle.jv_sound_invariant.proofs.Types.{sort_item}
-use Rattle.jv_sound_invariant.proofs.Heaps.{moved, stack_later, locals_later, ready_later}
+use Rattle.jv_sound.specs.Values.{Zip, Fits, Place, FitsIn, HasLocals, HasStack}
+use Rattle.jv_sound.specs.Sound.{IsEnterable, IsResultSort, AreSorts, IsSort}
+use Rattle.jv_sound.specs.Frames.{IsResult}
+use Rattle.jv_sound.specs.Effects.{IsReceiver, IsThrown}
+use Rattle.jv_sound.proofs.Types.{sort_item}
+use Rattle.jv_sound.proofs.Heaps.{moved, stack_later, locals_later, ready_later}
 use Rattle.jv_sound.proofs.Copies.{replaced_locals}
 use Rattle.jv_sound.proofs.Ways.{Setting, IsSet, world_of, program_of, memory_of, context_of, here, Does, By, raised_names, stays, anyway}
 

@@ -18,8 +18,8 @@ use Rattle.jv_meaning_machine.specs.Values.Value.{Int, Long, Null, Reference, Ha
 use Rattle.jv_meaning_machine.specs.Frames.{stored, without_half}
 use Rattle.jv_meaning_machine.specs.Effects.Effect.{Goes}
 use Rattle.jv_meaning_machine.specs.Instructions.{increment}
-use Rattle.jv_sound_invariant.specs.Values.{Place, FitsIn, BeginsHalf, IsPaired, HasLocals}
-use Rattle.jv_sound_invariant.proofs.Logic.{clash}
+use Rattle.jv_sound.specs.Values.{Place, FitsIn, BeginsHalf, IsPaired, HasLocals}
+use Rattle.jv_sound.proofs.Logic.{clash}
 use Rattle.jv_sound.proofs.Locals.{without_half_fits}
 use Rattle.jv_sound.proofs.Pure.{agrees_from}
 use Rattle.jv_sound.proofs.Ways.{Setting, IsSet, here, context_of, By, Sound, stays}

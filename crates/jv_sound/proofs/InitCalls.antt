@@ -36,13 +36,13 @@ use Rattle.jv_meaning_machine.specs.Effects.{unless_error}
 use Rattle.jv_meaning_machine.specs.Effects.Effect.{Constructs}
 use Rattle.jv_meaning_machine.specs.Fields.{instance_in}
 use Rattle.jv_meaning_machine.specs.Entering.{entered_on}
-use Rattle.jv_sound_invariant.specs.Values.{Zip, Fits, Heap, IsObject, HasLocals, HasStack, IsReady}
-use Rattle.jv_sound_invariant.specs.Later.{IsLater}
-use Rattle.jv_sound_invariant.specs.Sound.{IsEnterable}
-use Rattle.jv_sound_invariant.specs.Frames.{Holds}
-use Rattle.jv_sound_invariant.specs.Effects.{after}
-use Rattle.jv_sound_invariant.proofs.Logic.{clash, holds, then_holds, found_holds, tested_holds}
-use Rattle.jv_sound_invariant.proofs.Heaps.{get_set_same}
+use Rattle.jv_sound.specs.Values.{Zip, Fits, Heap, IsObject, HasLocals, HasStack, IsReady}
+use Rattle.jv_sound.specs.Later.{IsLater}
+use Rattle.jv_sound.specs.Sound.{IsEnterable}
+use Rattle.jv_sound.specs.Frames.{Holds}
+use Rattle.jv_sound.specs.Effects.{after}
+use Rattle.jv_sound.proofs.Logic.{clash, holds, then_holds, found_holds, tested_holds}
+use Rattle.jv_sound.proofs.Heaps.{get_set_same}
 use Rattle.jv_sound.proofs.Copies.{replaced_locals, replaced_stack}
 use Rattle.jv_sound.proofs.Constructing.{IsSubject, begun_heap, dropped_one, done_one}
 use Rattle.jv_sound.proofs.ResolvedTypes.{same_option}

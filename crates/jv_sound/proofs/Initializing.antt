@@ -22,11 +22,11 @@ use Rattle.jv_meaning_machine.specs.State.{Program, Memory, Control, ClassStates
 use Rattle.jv_meaning_machine.specs.State.ClassState.{Initialized}
 use Rattle.jv_meaning_machine.specs.Entering.{enter}
 use Rattle.jv_meaning_machine.specs.Initialization.{is_verified, main_method, main_arguments, enter_main, tasks_left, finish, finished, do_task, with_tasks, do_first, initialization_step}
-use Rattle.jv_sound_invariant.specs.Values.{Zip, Heap, Fits, IsObject}
-use Rattle.jv_sound_invariant.specs.Memory.{IsTypedMemory, AreLoadable}
-use Rattle.jv_sound_invariant.specs.Frames.{Holds, promise_of, Promise, IsBegun, IsRunnable, IsTask, string_array, AreWaiting, AreFrames, AreVerified, HasMain, IsGood}
-use Rattle.jv_sound_invariant.specs.Frames.Promise.{Again}
-use Rattle.jv_sound_invariant.proofs.Logic.{holds, then_holds, found_holds}
+use Rattle.jv_sound.specs.Values.{Zip, Heap, Fits, IsObject}
+use Rattle.jv_sound.specs.Memory.{IsTypedMemory, AreLoadable}
+use Rattle.jv_sound.specs.Frames.{Holds, promise_of, Promise, IsBegun, IsRunnable, IsTask, string_array, AreWaiting, AreFrames, AreVerified, HasMain, IsGood}
+use Rattle.jv_sound.specs.Frames.Promise.{Again}
+use Rattle.jv_sound.proofs.Logic.{holds, then_holds, found_holds}
 use Rattle.jv_sound.proofs.Frames.{AreCatching, again}
 use Rattle.jv_sound.proofs.EnteringAbove.{Begins, WithinWords, FrameBegins, enter_ok}
 use Rattle.jv_sound.proofs.Beginning.{one_loaded}

@@ -40,16 +40,16 @@ use Rattle.jv_meaning_machine.specs.Effects.{Context, Outcome, unless_error, nul
 use Rattle.jv_meaning_machine.specs.Initialization.{is_verified}
 use Rattle.jv_meaning_machine.specs.Operands as machine
 use Rattle.jv_meaning_machine.specs.Operands.{popped_reference}
-use Rattle.jv_sound_invariant.specs.Values.{Zip, Fits, IsObject, HasStack, object_type}
-use Rattle.jv_sound_invariant.specs.Sound.{AreSorts, IsEnterable, IsResultSort}
-use Rattle.jv_sound_invariant.specs.Frames.{Holds}
-use Rattle.jv_sound_invariant.proofs.Logic.{clash, then2, grouped, then_holds, found_holds, tested_holds, holds}
-use Rattle.jv_sound_invariant.proofs.Types.{sort_has_type}
-use Rattle.jv_sound_invariant.proofs.Subtypes.{instance_below, element_loadable}
-use Rattle.jv_sound_invariant.proofs.Taking.{taken_all, popped_ok}
+use Rattle.jv_sound.specs.Values.{Zip, Fits, IsObject, HasStack, object_type}
+use Rattle.jv_sound.specs.Sound.{AreSorts, IsEnterable, IsResultSort}
+use Rattle.jv_sound.specs.Frames.{Holds}
+use Rattle.jv_sound.proofs.Logic.{clash, then2, grouped, then_holds, found_holds, tested_holds, holds}
+use Rattle.jv_sound.proofs.Types.{sort_has_type}
+use Rattle.jv_sound.proofs.Subtypes.{instance_below, element_loadable}
+use Rattle.jv_sound.proofs.Taking.{taken_all, popped_ok}
 use Rattle.jv_sound.proofs.Pure.{agrees_from}
 use Rattle.jv_sound.proofs.Special.{special_enterable, special_received}
-use Rattle.jv_sound_invariant.proofs.Types.{usable_sort}
+use Rattle.jv_sound.proofs.Types.{usable_sort}
 use Rattle.jv_sound.proofs.Handlers.{raises_any, raised_any, enters_ok, sorts_mapped}
 use Rattle.jv_sound.proofs.Ways.{Setting, IsSet, world_of, program_of, context_of, here, Does, By}
 

@@ -11,14 +11,14 @@ use Rattle.jv_frames.specs.Frames.{Frame, PlacedFrame}
 use Rattle.jv_code.specs.Insns.{Instruction}
 use Rattle.jv_code.specs.Places.{StandsInList, NextStarts, IsStartOrEnd}
 use Rattle.jv_code.specs.Successors.{falls_through, jump_targets}
-use Rattle.jv_sound_invariant.specs.Following.{IsSuccessor}
+use Rattle.jv_sound.specs.Following.{IsSuccessor}
 use Rattle.jv_meaning_world.proofs.OrderChains.{all_at}
 use Rattle.jv_meaning_world.specs.FrameFlow.{frame_flows}
 use Rattle.jv_meaning_typing.specs.Environment.{Environment, IsEnvironment, instruction_at, offset_behind}
 use Rattle.jv_meaning_typing.specs.Rule.{rule, handler_frame}
 use Rattle.jv_meaning_typing.specs.Typing.{Assignment, FrameStands, IsAssignedBy, Merges, IsTypeSafe, IsTyping, frame_at, first_frame, flows_into, covers, handles, catch_type, target_holds, last_instruction, ends_code}
 use Rattle.jv_meaning_typing.proofs.Starts.{instruction_at_is, start_within, last_there}
-use Rattle.jv_sound_invariant.proofs.Logic.{clash}
+use Rattle.jv_sound.proofs.Logic.{clash}
 
 -- a frame leads to an offset: an instruction is there, and the typing has that frame or one to which it flows
 pub record Leads (env : Environment) (frames : Assignment) (g : Frame) (to : ℕ) : Type 0 where

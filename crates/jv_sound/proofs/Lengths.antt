@@ -16,8 +16,8 @@ use Rattle.jv_meaning_machine.specs.Objects.{Object}
 use Rattle.jv_meaning_machine.specs.Objects.Object.{InstanceOf, ArrayWith}
 use Rattle.jv_meaning_machine.specs.Arrays.{length_of}
 use Rattle.jv_meaning_machine.specs.Effects.{null_pointer}
-use Rattle.jv_sound_invariant.specs.Values.{object_type, HasStack}
-use Rattle.jv_sound_invariant.proofs.Logic.{clash}
+use Rattle.jv_sound.specs.Values.{object_type, HasStack}
+use Rattle.jv_sound.proofs.Logic.{clash}
 use Rattle.jv_sound.proofs.Pure.{agrees_from}
 use Rattle.jv_sound.proofs.Ways.{Setting, IsSet, world_of, here, context_of, Does, By, Sound, goes_ok, raises_ok}
 

@@ -26,16 +26,16 @@ use Rattle.jv_meaning_machine.specs.State.{Program, Memory, ClassStates}
 use Rattle.jv_meaning_machine.specs.Effects.Effect.{Goes}
 use Rattle.jv_meaning_machine.specs.Instructions.{goes_on_in}
 use Rattle.jv_meaning_machine.specs.Operands.{popped}
-use Rattle.jv_sound_invariant.specs.Values.{Heap, Place, FitsIn, IsPaired, Item, HasLocals}
-use Rattle.jv_sound_invariant.specs.Memory.{IsTypedMemory}
-use Rattle.jv_sound_invariant.specs.Frames.{Holding, place_of}
-use Rattle.jv_sound_invariant.specs.Effects.{AreEffects}
-use Rattle.jv_sound_invariant.proofs.Logic.{clash, regrouped, Agrees, Alike, then2, both, nothing, or_fault}
-use Rattle.jv_sound_invariant.specs.Memory.{AreLoadable}
-use Rattle.jv_sound_invariant.proofs.Types.{kind_fits}
-use Rattle.jv_sound_invariant.proofs.Heaps.{same}
+use Rattle.jv_sound.specs.Values.{Heap, Place, FitsIn, IsPaired, Item, HasLocals}
+use Rattle.jv_sound.specs.Memory.{IsTypedMemory}
+use Rattle.jv_sound.specs.Frames.{Holding, place_of}
+use Rattle.jv_sound.specs.Effects.{AreEffects}
+use Rattle.jv_sound.proofs.Logic.{clash, regrouped, Agrees, Alike, then2, both, nothing, or_fault}
+use Rattle.jv_sound.specs.Memory.{AreLoadable}
+use Rattle.jv_sound.proofs.Types.{kind_fits}
+use Rattle.jv_sound.proofs.Heaps.{same}
 use Rattle.jv_sound.proofs.Locals.{stored_fits, one_base, long_base}
-use Rattle.jv_sound_invariant.proofs.Taking.{kind_taken}
+use Rattle.jv_sound.proofs.Taking.{kind_taken}
 use Rattle.jv_sound.proofs.Pure.{program_in, memory_in, context_in}
 
 -- ---- items by kinds

@@ -11,8 +11,8 @@ use Rattle.jv_meaning_machine.specs.Values.{Value}
 use Rattle.jv_meaning_machine.specs.Values.Value.{Int, Long, Null, Reference, Half, Unset}
 use Rattle.jv_meaning_machine.specs.Frames as machine
 use Rattle.jv_meaning_machine.specs.Frames.{local_words, local_value, local_at, without_half}
-use Rattle.jv_sound_invariant.specs.Values.{IsLong, Place, FitsIn, BeginsHalf, IsPaired, HasLocals}
-use Rattle.jv_sound_invariant.proofs.Logic.{clash, Alike}
+use Rattle.jv_sound.specs.Values.{IsLong, Place, FitsIn, BeginsHalf, IsPaired, HasLocals}
+use Rattle.jv_sound.proofs.Logic.{clash, Alike}
 
 abbrev NotFirst : ℕ → Type 0
 NotFirst zero = ⊥

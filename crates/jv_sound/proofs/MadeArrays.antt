@@ -14,10 +14,10 @@ use Rattle.jv_meaning_machine.specs.Objects.{Object, new_array}
 use Rattle.jv_meaning_machine.specs.Objects.Object.{ArrayWith}
 use Rattle.jv_meaning_machine.specs.State.{Program}
 use Rattle.jv_meaning_machine.specs.Arrays.{arrays_in, inner_numbers, reference_to, arrays_made}
-use Rattle.jv_sound_invariant.specs.Values.{Fits}
-use Rattle.jv_sound_invariant.specs.Memory.{IsTypedObject}
-use Rattle.jv_sound_invariant.proofs.Heaps.{get_append}
-use Rattle.jv_sound_invariant.proofs.Memories.{first_fits, append_cases}
+use Rattle.jv_sound.specs.Values.{Fits}
+use Rattle.jv_sound.specs.Memory.{IsTypedObject}
+use Rattle.jv_sound.proofs.Heaps.{get_append}
+use Rattle.jv_sound.proofs.Memories.{first_fits, append_cases}
 use Rattle.jv_sound.proofs.ResolvedTypes.{value_of_array}
 
 -- ---- lists of objects in a longer one

@@ -28,8 +28,8 @@ use Rattle.jv_meaning_machine.specs.Faults.{found, tested, ◌>>=◌}
 use Rattle.jv_meaning_machine.specs.Faults.Fault.{OffsetFault}
 use Rattle.jv_meaning_machine.specs.Calls.{is_constant_for, call_target, call}
 use Rattle.jv_meaning_machine.specs.Effects.{Outcome, unless_error}
-use Rattle.jv_sound_invariant.proofs.Logic.{then1, found_holds, tested_holds}
-use Rattle.jv_sound_invariant.proofs.Subtypes.{above_is_named}
+use Rattle.jv_sound.proofs.Logic.{then1, found_holds, tested_holds}
+use Rattle.jv_sound.proofs.Subtypes.{above_is_named}
 use Rattle.jv_sound.proofs.ResolvedTypes.{IsResolvedArray, IsResolvedClass, resolved_text}
 use Rattle.jv_sound.proofs.Handlers.{errs_any}
 use Rattle.jv_sound.proofs.Ways.{Setting, IsSet, world_of, context_of, By}

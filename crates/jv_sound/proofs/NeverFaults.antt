@@ -20,22 +20,22 @@ use Rattle.jv_meaning_machine.specs.State.{Program, is_class_accepted, Memory, C
 use Rattle.jv_meaning_machine.specs.Step.{act, step}
 use Rattle.jv_meaning_machine.specs.Throws.{Thrown, unwound}
 use Rattle.jv_meaning_machine.specs.Values.{Value}
-use Rattle.jv_sound_invariant.specs.Values.{Heap}
-use Rattle.jv_sound_invariant.specs.Memory.{AreLoadable}
-use Rattle.jv_sound_invariant.specs.Sound.{IsChecked, IsSound}
-use Rattle.jv_sound_invariant.specs.Frames.{Holds, HasMain, IsGood, IsRunning, IsBegun, AreVerified, AreWaiting, AreFrames, Promise, place_of, promise_by, promise_of}
-use Rattle.jv_sound_invariant.specs.Frames.Promise.{Gives, Again}
+use Rattle.jv_sound.specs.Values.{Heap}
+use Rattle.jv_sound.specs.Memory.{AreLoadable}
+use Rattle.jv_sound.specs.Sound.{IsChecked, IsSound}
+use Rattle.jv_sound.specs.Frames.{Holds, HasMain, IsGood, IsRunning, IsBegun, AreVerified, AreWaiting, AreFrames, Promise, place_of, promise_by, promise_of}
+use Rattle.jv_sound.specs.Frames.Promise.{Gives, Again}
 use Rattle.jv_sound.specs.Law.{NeverFaults, ObjectsAreLoadable, InitializationsAreLoadable}
 use Rattle.jv_meaning_world.specs.World.{Loaded}
 use Rattle.jv_meaning_world.specs.Above.{above}
 use Rattle.jv_meaning_world.specs.Verdicts.{is_loadable}
 use Rattle.jv_meaning_world.proofs.Up.{none}
 use Rattle.jv_meaning_typing.proofs.Found.{split}
-use Rattle.jv_sound_invariant.proofs.Taking.{and_parts}
+use Rattle.jv_sound.proofs.Taking.{and_parts}
 use Rattle.jv_meaning_machine.specs.Faults.{OrFault}
 use Rattle.jv_meaning_machine.specs.Objects.Object.{InstanceOf}
-use Rattle.jv_sound_invariant.specs.Effects.{IsThrown, ArePassed, AreEffects}
-use Rattle.jv_sound_invariant.proofs.Asked.{AreFormed, tasks_ok, parameters_are_sorts, constructor_rules}
+use Rattle.jv_sound.specs.Effects.{IsThrown, ArePassed, AreEffects}
+use Rattle.jv_sound.proofs.Asked.{AreFormed, tasks_ok, parameters_are_sorts, constructor_rules}
 use Rattle.jv_sound.proofs.Acting.{goes, enters, throws as throws_acts, raised as raised_acts, leaves, begins_one}
 use Rattle.jv_sound.proofs.Beginning.{raise_ok, throw_ok, within_ok, begin_ok}
 use Rattle.jv_sound.proofs.Catching.{catch_fits}
@@ -44,18 +44,18 @@ use Rattle.jv_sound.proofs.EnteringAbove.{Raises as RaisesFine, Throws as Throws
 use Rattle.jv_sound.proofs.Executing.{execute_ok}
 use Rattle.jv_sound.proofs.FirstFrame.{method_frame_ok}
 use Rattle.jv_sound.proofs.Frames.{IsThrownGood, AreCatching}
-use Rattle.jv_sound_invariant.proofs.Heaps.{ready_any}
+use Rattle.jv_sound.proofs.Heaps.{ready_any}
 use Rattle.jv_sound.proofs.Initializing.{initialization_step_ok}
-use Rattle.jv_sound_invariant.proofs.Judged.{judged_is_sound}
-use Rattle.jv_sound_invariant.proofs.Memories.{exception_ok, loadable_of}
+use Rattle.jv_sound.proofs.Judged.{judged_is_sound}
+use Rattle.jv_sound.proofs.Memories.{exception_ok, loadable_of}
 use Rattle.jv_sound.proofs.Replacing.{unwinding_ok}
 use Rattle.jv_sound.proofs.SettingFields.{set_field_ok}
 use Rattle.jv_sound.proofs.Start.{start_ok}
 use Rattle.jv_sound.proofs.Stepping.{running_later, step_ok, alone_ok, is_ok}
-use Rattle.jv_sound_invariant.proofs.SystemFacts.{raised, system_name, makeable, out_of_memory_is_thrown, throwable_is_plain, throwable_is_not_object, string_there_in}
-use Rattle.jv_sound_invariant.proofs.Words.{slots_are_words}
-use Rattle.jv_sound_invariant.proofs.WorldFacts.{world_is_formed}
-use Rattle.jv_sound_invariant.specs.Sound.{IsSystemAccepted}
+use Rattle.jv_sound.proofs.SystemFacts.{raised, system_name, makeable, out_of_memory_is_thrown, throwable_is_plain, throwable_is_not_object, string_there_in}
+use Rattle.jv_sound.proofs.Words.{slots_are_words}
+use Rattle.jv_sound.proofs.WorldFacts.{world_is_formed}
+use Rattle.jv_sound.specs.Sound.{IsSystemAccepted}
 use Rattle.jv_sound_system.proofs.InAnyWorld.{system_is_accepted}
 
 -- in the world of what is judged the classes of the system are accepted

@@ -25,17 +25,17 @@ use Rattle.jv_meaning_machine.specs.Effects.{out_of_memory, once_initialized}
 use Rattle.jv_meaning_machine.specs.Effects.Effect.{Begins}
 use Rattle.jv_meaning_machine.specs.Initialization.{is_verified}
 use Rattle.jv_meaning_machine.specs.Instructions.{push_object}
-use Rattle.jv_sound_invariant.specs.Values.{IsObject, Heap, Place, IsFresh, FitsIn}
-use Rattle.jv_sound_invariant.specs.Memory.{IsTypedMemory, IsTypedObject}
-use Rattle.jv_sound_invariant.specs.Later.{IsLater}
-use Rattle.jv_sound_invariant.specs.Frames.{Holds, Holding, place_of, AreVerified}
-use Rattle.jv_sound_invariant.specs.Effects.{AreEffects, after}
+use Rattle.jv_sound.specs.Values.{IsObject, Heap, Place, IsFresh, FitsIn}
+use Rattle.jv_sound.specs.Memory.{IsTypedMemory, IsTypedObject}
+use Rattle.jv_sound.specs.Later.{IsLater}
+use Rattle.jv_sound.specs.Frames.{Holds, Holding, place_of, AreVerified}
+use Rattle.jv_sound.specs.Effects.{AreEffects, after}
 use Rattle.jv_sound.proofs.Copies.{replaced_locals, lacking_stack}
-use Rattle.jv_sound_invariant.proofs.Logic.{holds}
-use Rattle.jv_sound_invariant.proofs.Heaps.{same, upd, upd_same, upd_other, get_append, get_behind, in_later}
-use Rattle.jv_sound_invariant.proofs.Memories.{IsMakeable, new_typed, more_typed, paid_is}
+use Rattle.jv_sound.proofs.Logic.{holds}
+use Rattle.jv_sound.proofs.Heaps.{same, upd, upd_same, upd_other, get_append, get_behind, in_later}
+use Rattle.jv_sound.proofs.Memories.{IsMakeable, new_typed, more_typed, paid_is}
 use Rattle.jv_sound.proofs.Pure.{program_in, memory_in, context_in}
-use Rattle.jv_sound_invariant.proofs.Heaps.{ready_any}
+use Rattle.jv_sound.proofs.Heaps.{ready_any}
 
 -- ---- a new object in a frame
 

@@ -37,13 +37,13 @@ use Rattle.jv_meaning_machine.specs.Arithmetic.{as_int}
 use Rattle.jv_meaning_machine.specs.Arrays.{arrays_made, push_arrays, make_array, base_of, base_components, is_negative_count, count_of, make_arrays_if, make_arrays, has_dimensions, names_array, array_resolved}
 use Rattle.jv_meaning_machine.specs.Operands.{taken, taken_as}
 use Rattle.jv_meaning_machine.specs.Effects.{Outcome, unless_error, negative_size, resolved_type}
-use Rattle.jv_sound_invariant.specs.Values.{Zip, Fits, Heap, HasStack}
-use Rattle.jv_sound_invariant.specs.Sound.{IsSort}
-use Rattle.jv_sound_invariant.proofs.Logic.{clash, then2, then1, then_holds, handed_on}
-use Rattle.jv_sound_invariant.proofs.Types.{sort_item}
-use Rattle.jv_sound_invariant.proofs.Heaps.{with_more, more_later, moved, stack_later}
-use Rattle.jv_sound_invariant.proofs.Memories.{more_typed, paid_is}
-use Rattle.jv_sound_invariant.proofs.Taking.{taken_one, taken_all}
+use Rattle.jv_sound.specs.Values.{Zip, Fits, Heap, HasStack}
+use Rattle.jv_sound.specs.Sound.{IsSort}
+use Rattle.jv_sound.proofs.Logic.{clash, then2, then1, then_holds, handed_on}
+use Rattle.jv_sound.proofs.Types.{sort_item}
+use Rattle.jv_sound.proofs.Heaps.{with_more, more_later, moved, stack_later}
+use Rattle.jv_sound.proofs.Memories.{more_typed, paid_is}
+use Rattle.jv_sound.proofs.Taking.{taken_one, taken_all}
 use Rattle.jv_sound.proofs.Pure.{agrees_from, one_ok, int_ok}
 use Rattle.jv_sound.proofs.ResolvedTypes.{IsResolvedArray, IsResolvedClass, resolved_text, resolved_components}
 use Rattle.jv_sound.proofs.MadeArrays.{Stands, made_first, made_typed, get_after}

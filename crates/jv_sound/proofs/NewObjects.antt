@@ -23,8 +23,8 @@ use Rattle.jv_meaning_machine.specs.Faults.{found, tested, ◌>>=◌}
 use Rattle.jv_meaning_machine.specs.Faults.Fault.{OffsetFault}
 use Rattle.jv_meaning_machine.specs.Instructions.{create}
 use Rattle.jv_meaning_machine.specs.Effects.{unless_error}
-use Rattle.jv_sound_invariant.proofs.Logic.{clash}
-use Rattle.jv_sound_invariant.proofs.Formed.{has_none, not_true}
+use Rattle.jv_sound.proofs.Logic.{clash}
+use Rattle.jv_sound.proofs.Formed.{has_none, not_true}
 use Rattle.jv_sound.proofs.New.{created_ok}
 use Rattle.jv_sound.proofs.Pure.{agrees_from}
 use Rattle.jv_sound.proofs.ResolvedTypes.{IsResolvedArray, IsResolvedClass, resolved_text}

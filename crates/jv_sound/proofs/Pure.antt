@@ -37,16 +37,16 @@ use Rattle.jv_meaning_machine.specs.Effects.Effect.{Goes, Raises}
 use Rattle.jv_meaning_machine.specs.Arithmetic.{number_value, as_number, as_int, as_long, none, one, two, computed, converted, width_of, divided}
 use Rattle.jv_meaning_machine.specs.Instructions.{execute, with_operands, jumps, divide}
 use Rattle.jv_meaning_world.proofs.Up.{first}
-use Rattle.jv_sound_invariant.specs.Values.{Zip, Heap, Place, Fits, IsInt, IsLong, HasStack, HasLocals, type_width}
-use Rattle.jv_sound_invariant.specs.Memory.{IsTypedMemory}
-use Rattle.jv_sound_invariant.specs.Sound.{IsSort}
-use Rattle.jv_sound_invariant.specs.Frames.{Holds, Holding, place_of}
-use Rattle.jv_sound_invariant.specs.Effects.{IsThrown, IsEffect, AreEffects}
-use Rattle.jv_sound_invariant.proofs.Logic.{Agrees, then2, holds, then_holds}
-use Rattle.jv_sound_invariant.specs.Memory.{AreLoadable}
-use Rattle.jv_sound_invariant.proofs.Types.{kind_fits, fits_in}
-use Rattle.jv_sound_invariant.proofs.Heaps.{same}
-use Rattle.jv_sound_invariant.proofs.Taking.{taken_all}
+use Rattle.jv_sound.specs.Values.{Zip, Heap, Place, Fits, IsInt, IsLong, HasStack, HasLocals, type_width}
+use Rattle.jv_sound.specs.Memory.{IsTypedMemory}
+use Rattle.jv_sound.specs.Sound.{IsSort}
+use Rattle.jv_sound.specs.Frames.{Holds, Holding, place_of}
+use Rattle.jv_sound.specs.Effects.{IsThrown, IsEffect, AreEffects}
+use Rattle.jv_sound.proofs.Logic.{Agrees, then2, holds, then_holds}
+use Rattle.jv_sound.specs.Memory.{AreLoadable}
+use Rattle.jv_sound.proofs.Types.{kind_fits, fits_in}
+use Rattle.jv_sound.proofs.Heaps.{same}
+use Rattle.jv_sound.proofs.Taking.{taken_all}
 
 -- ---- what computations make of their operands
 
@@ -210,7 +210,7 @@ module _ (base : Program) (states : ClassStates) (rest : Memory) (heap : Heap) (
       (record { fits = fits_in here h.0 v h.3; width = width_ok h.0 h.2 h.3 }, hs)
     where
       width_ok : (u : FrameType) → IsSort u → Fits frame.method.world heap.objects u v → value_width v ≡ Some (type_width u)
-      width_ok u sort f = Rattle.jv_sound_invariant.proofs.Types.sort_width frame.method.world heap.objects u v sort f
+      width_ok u sort f = Rattle.jv_sound.proofs.Types.sort_width frame.method.world heap.objects u v sort f
 
   compute_ok : (what : Computation) → Sound (insns.Compute what)
   compute_ok what =

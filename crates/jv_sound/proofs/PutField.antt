@@ -37,18 +37,18 @@ use Rattle.jv_meaning_machine.specs.Objects.Object.{InstanceOf}
 use Rattle.jv_meaning_machine.specs.Operands.{popped_reference, taken_as}
 use Rattle.jv_meaning_machine.specs.Effects.{null_pointer}
 use Rattle.jv_meaning_machine.specs.Fields.{instance_in, can_be_set, is_receiver, with_object, with_field_value, put_field_of}
-use Rattle.jv_sound_invariant.specs.Values.{Fits, FitsDescribed, Heap, IsReferenceTo, IsThis, HasStack, object_type}
-use Rattle.jv_sound_invariant.specs.Memory.{IsTypedInstance, IsTypedObject}
-use Rattle.jv_sound_invariant.specs.Later.{IsLater}
-use Rattle.jv_sound_invariant.specs.Sound.{IsSort}
-use Rattle.jv_sound_invariant.specs.Frames.{Holds}
-use Rattle.jv_sound_invariant.proofs.Logic.{clash, then2, then1, holds, then_holds, found_holds, tested_holds, handed_over}
-use Rattle.jv_sound_invariant.proofs.Types.{sort_has_type}
-use Rattle.jv_sound_invariant.proofs.Heaps.{with_set, set_later, moved, stack_later, fits_later, entries_later}
-use Rattle.jv_sound_invariant.proofs.Taking.{and_parts, taken_one, popped_ok}
+use Rattle.jv_sound.specs.Values.{Fits, FitsDescribed, Heap, IsReferenceTo, IsThis, HasStack, object_type}
+use Rattle.jv_sound.specs.Memory.{IsTypedInstance, IsTypedObject}
+use Rattle.jv_sound.specs.Later.{IsLater}
+use Rattle.jv_sound.specs.Sound.{IsSort}
+use Rattle.jv_sound.specs.Frames.{Holds}
+use Rattle.jv_sound.proofs.Logic.{clash, then2, then1, holds, then_holds, found_holds, tested_holds, handed_over}
+use Rattle.jv_sound.proofs.Types.{sort_has_type}
+use Rattle.jv_sound.proofs.Heaps.{with_set, set_later, moved, stack_later, fits_later, entries_later}
+use Rattle.jv_sound.proofs.Taking.{and_parts, taken_one, popped_ok}
 use Rattle.jv_sound.proofs.Pure.{agrees_from}
-use Rattle.jv_sound_invariant.proofs.Storing.{set_typed, with_value_fits, with_value_keys}
-use Rattle.jv_sound_invariant.proofs.Storing.{narrowed_fits}
+use Rattle.jv_sound.proofs.Storing.{set_typed, with_value_fits, with_value_keys}
+use Rattle.jv_sound.proofs.Storing.{narrowed_fits}
 use Rattle.jv_sound.proofs.FieldsFound.{IsFieldFound, field_found, object_field}
 use Rattle.jv_sound.proofs.FieldUses.{field_ok}
 use Rattle.jv_sound.proofs.GetField.{instance_kind}
@@ -109,7 +109,7 @@ module _ (x : Setting) (h : IsSet x)
       (with_object id (with_field_value (key_of d) v k) (memory_of x)) s)) (sym same_held)
       (goes_with_ok x h insn S s (after i) (with_object id (with_field_value (key_of d) v i) (memory_of x)) refl (grows i there) refl
       (set_typed (program_of x) x.heap (after i) (memory_of x) id (with_field_value (key_of d) v i) refl refl h.typed
-      (Rattle.jv_sound_invariant.proofs.Heaps.weaker (omega arith) (grows i there))
+      (Rattle.jv_sound.proofs.Heaps.weaker (omega arith) (grows i there))
       (new i there (subst (λ (o : Object). IsTypedObject (program_of x) x.heap.objects o) has.1 typed)))
       (stack_later (here x) (after i) (grows i there) S s hs)))))
     where

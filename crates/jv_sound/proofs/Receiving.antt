@@ -28,10 +28,10 @@ use Rattle.jv_meaning_machine.specs.Objects.Object.{InstanceOf}
 use Rattle.jv_meaning_machine.specs.State.{Program, is_class_accepted}
 use Rattle.jv_meaning_machine.specs.Calls.{can_receive}
 use Rattle.jv_meaning_machine.specs.Initialization.{is_verified}
-use Rattle.jv_sound_invariant.specs.Memory.{IsTypedInstance}
-use Rattle.jv_sound_invariant.specs.Sound.{IsEnterable}
-use Rattle.jv_sound_invariant.proofs.Taking.{and_parts}
-use Rattle.jv_sound_invariant.proofs.Subtypes.{above_is_named}
+use Rattle.jv_sound.specs.Memory.{IsTypedInstance}
+use Rattle.jv_sound.specs.Sound.{IsEnterable}
+use Rattle.jv_sound.proofs.Taking.{and_parts}
+use Rattle.jv_sound.proofs.Subtypes.{above_is_named}
 
 all_made : {A : Type 0} (test : A → Bool) (xs : List A) → ((x : A) → Contains xs x → test x ≡ true) → list_all test xs ≡ true
 all_made test [] h = refl

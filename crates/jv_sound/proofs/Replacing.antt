@@ -24,16 +24,16 @@ use Rattle.jv_meaning_machine.specs.Frames.{MethodFrame, Frame}
 use Rattle.jv_meaning_machine.specs.State.{Program, Memory, Control}
 use Rattle.jv_meaning_machine.specs.Fields.{instance_in}
 use Rattle.jv_meaning_machine.specs.Throws.{Thrown, thrown, catches, replacement, replacement_if, unwound}
-use Rattle.jv_sound_invariant.specs.Values.{Heap, Place, IsObject, Item, object_type}
-use Rattle.jv_sound_invariant.specs.Memory.{IsTypedMemory, AreLoadable}
-use Rattle.jv_sound_invariant.specs.Later.{IsLater}
-use Rattle.jv_sound_invariant.specs.Sound.{IsSound, IsChecked}
-use Rattle.jv_sound_invariant.specs.Frames.{Holds, AreVerified, HasMain, IsGood}
-use Rattle.jv_sound_invariant.proofs.Logic.{holds, then_holds, found_holds}
-use Rattle.jv_sound_invariant.proofs.Heaps.{same}
-use Rattle.jv_sound_invariant.proofs.Memories.{IsMade, exception_ok}
+use Rattle.jv_sound.specs.Values.{Heap, Place, IsObject, Item, object_type}
+use Rattle.jv_sound.specs.Memory.{IsTypedMemory, AreLoadable}
+use Rattle.jv_sound.specs.Later.{IsLater}
+use Rattle.jv_sound.specs.Sound.{IsSound, IsChecked}
+use Rattle.jv_sound.specs.Frames.{Holds, AreVerified, HasMain, IsGood}
+use Rattle.jv_sound.proofs.Logic.{holds, then_holds, found_holds}
+use Rattle.jv_sound.proofs.Heaps.{same}
+use Rattle.jv_sound.proofs.Memories.{IsMade, exception_ok}
 use Rattle.jv_sound.proofs.Frames.{IsThrownGood, AreCatching, unwound_ok}
-use Rattle.jv_sound_invariant.proofs.SystemFacts.{raised, makeable, out_of_memory_is_thrown, throwable_is_plain, throwable_is_not_object}
+use Rattle.jv_sound.proofs.SystemFacts.{raised, makeable, out_of_memory_is_thrown, throwable_is_plain, throwable_is_not_object}
 use Rattle.jv_sound.proofs.Room.{handler_room, thrown_loadable, begun_is_verified}
 
 module _ (program : Program) (sound : IsSound program) (next_starts : NextStarts) (stands_in_list : StandsInList) where

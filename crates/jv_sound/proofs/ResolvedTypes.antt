@@ -19,7 +19,7 @@ use Rattle.jv_meaning_typing.specs.ClassResolution.{ResolvedClass, resolve_name,
 use Rattle.jv_meaning_typing.specs.ClassResolution.ResolvedClass.{ClassOf, ArrayOf}
 use Rattle.jv_meaning_world.specs.Laws.Order.{has_loadable_element, is_usable_reference}
 use Rattle.jv_meaning_typing.specs.Named.{class_components, named_type, when}
-use Rattle.jv_sound_invariant.proofs.Logic.{clash}
+use Rattle.jv_sound.proofs.Logic.{clash}
 use Rattle.jv_sound.proofs.Resolving.{IsNamedClass, resolved, resolved_class}
 use Rattle.jv_meaning_machine.specs.Effects.{resolved_type}
 

@@ -26,8 +26,8 @@ use Rattle.jv_meaning_world.proofs.OrderChains.{any_made}
 use Rattle.jv_meaning_world.proofs.Order.{below_is_reflexive}
 use Rattle.jv_meaning_world.proofs.OrderAbove.{above_is_below}
 use Rattle.jv_meaning_world.specs.Laws.Order.{IsBelow, IsRooted}
-use Rattle.jv_sound_invariant.proofs.Subtypes.{above_is_named}
-use Rattle.jv_sound_invariant.proofs.Logic.{clash}
+use Rattle.jv_sound.proofs.Subtypes.{above_is_named}
+use Rattle.jv_sound.proofs.Logic.{clash}
 
 -- ---- the class that a reference names
 

@@ -17,10 +17,10 @@ use Rattle.jv_meaning_machine.specs.Faults.{◌>>=◌}
 use Rattle.jv_meaning_machine.specs.Operands.{taken_as}
 use Rattle.jv_meaning_machine.specs.Effects.Effect.{Leaves}
 use Rattle.jv_meaning_machine.specs.Instructions.{return_value, return_nothing}
-use Rattle.jv_sound_invariant.specs.Sound.{IsSort}
-use Rattle.jv_sound_invariant.specs.Frames.{IsResult}
-use Rattle.jv_sound_invariant.proofs.Logic.{clash, then2, handed_on}
-use Rattle.jv_sound_invariant.proofs.Taking.{taken_one}
+use Rattle.jv_sound.specs.Sound.{IsSort}
+use Rattle.jv_sound.specs.Frames.{IsResult}
+use Rattle.jv_sound.proofs.Logic.{clash, then2, handed_on}
+use Rattle.jv_sound.proofs.Taking.{taken_one}
 use Rattle.jv_sound.proofs.Pure.{agrees_from}
 use Rattle.jv_sound.proofs.Ways.{Setting, IsSet, world_of, here, context_of, By, Sound, stays}
 

@@ -28,15 +28,15 @@ use Rattle.jv_meaning_machine.specs.State.{Program, state_named, is_ready}
 use Rattle.jv_meaning_machine.specs.State.ClassState.{Initialized, Erroneous}
 use Rattle.jv_meaning_machine.specs.Initialization.{is_verified}
 use Rattle.jv_meaning_machine.specs.Throws.{Thrown, passed_initialization}
-use Rattle.jv_sound_invariant.specs.Values.{Heap}
-use Rattle.jv_sound_invariant.specs.Memory.{AreLoadable}
-use Rattle.jv_sound_invariant.specs.Sound.{IsChecked}
-use Rattle.jv_sound_invariant.specs.Frames.{AreVerified}
-use Rattle.jv_sound_invariant.proofs.Logic.{clash}
-use Rattle.jv_sound_invariant.proofs.Taking.{and_parts}
+use Rattle.jv_sound.specs.Values.{Heap}
+use Rattle.jv_sound.specs.Memory.{AreLoadable}
+use Rattle.jv_sound.specs.Sound.{IsChecked}
+use Rattle.jv_sound.specs.Frames.{AreVerified}
+use Rattle.jv_sound.proofs.Logic.{clash}
+use Rattle.jv_sound.proofs.Taking.{and_parts}
 use Rattle.jv_sound.proofs.Frames.{IsThrownGood}
-use Rattle.jv_sound_invariant.proofs.Limits.{maps_within}
-use Rattle.jv_sound_invariant.proofs.Memories.{loadable_of}
+use Rattle.jv_sound.proofs.Limits.{maps_within}
+use Rattle.jv_sound.proofs.Memories.{loadable_of}
 
 width_some : (t : FrameType) → 1 ≤ width t
 width_some types.Long = omega arith

@@ -20,17 +20,17 @@ use Rattle.jv_meaning_machine.specs.State.{Program, Memory, Control}
 use Rattle.jv_meaning_machine.specs.Effects.{out_of_memory}
 use Rattle.jv_meaning_machine.specs.Initialization.{do_task, set_field}
 use Rattle.jv_meaning_machine.specs.Literals.{string_name, constant_value}
-use Rattle.jv_sound_invariant.specs.Values.{Heap, Fits, FitsDescribed, IsObject}
-use Rattle.jv_sound_invariant.specs.Memory.{IsTypedMemory, AreLoadable}
-use Rattle.jv_sound_invariant.specs.Frames.{Holds, AreWaiting, AreVerified, HasMain, IsGood, IsTask}
-use Rattle.jv_sound_invariant.specs.Frames.Promise.{Again}
+use Rattle.jv_sound.specs.Values.{Heap, Fits, FitsDescribed, IsObject}
+use Rattle.jv_sound.specs.Memory.{IsTypedMemory, AreLoadable}
+use Rattle.jv_sound.specs.Frames.{Holds, AreWaiting, AreVerified, HasMain, IsGood, IsTask}
+use Rattle.jv_sound.specs.Frames.Promise.{Again}
 use Rattle.jv_sound.proofs.EnteringAbove.{Throws}
-use Rattle.jv_sound_invariant.proofs.Logic.{holds, then_holds, found_holds}
+use Rattle.jv_sound.proofs.Logic.{holds, then_holds, found_holds}
 use Rattle.jv_sound.proofs.Frames.{again, catching_of, waiting_later}
-use Rattle.jv_sound_invariant.proofs.Memories.{IsMakeable}
-use Rattle.jv_sound_invariant.proofs.Storing.{static_typed}
+use Rattle.jv_sound.proofs.Memories.{IsMakeable}
+use Rattle.jv_sound.proofs.Storing.{static_typed}
 use Rattle.jv_sound.proofs.Constants.{IsConstantIf, constant_ok}
-use Rattle.jv_sound_invariant.proofs.Storing.{narrowed_fits}
+use Rattle.jv_sound.proofs.Storing.{narrowed_fits}
 
 module _ (program : Program) (rooted : IsRooted program.world) (next_starts : NextStarts) (stands_in_list : StandsInList)
     (string : Loaded) (there : class_named program.world string_name ≡ Some string) (makeable : IsMakeable program string)

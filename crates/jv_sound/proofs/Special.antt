@@ -28,10 +28,10 @@ use Rattle.jv_meaning_machine.specs.Calls.{can_receive}
 use Rattle.jv_meaning_machine.specs.State.{Program}
 use Rattle.jv_meaning_machine.specs.Initialization.{is_verified}
 use Rattle.jv_meaning_typing.specs.Named.{class_components}
-use Rattle.jv_sound_invariant.specs.Values.{object_type}
-use Rattle.jv_sound_invariant.specs.Memory.{IsTypedObject}
-use Rattle.jv_sound_invariant.specs.Sound.{IsEnterable}
-use Rattle.jv_sound_invariant.proofs.Members.{below_is_one}
+use Rattle.jv_sound.specs.Values.{object_type}
+use Rattle.jv_sound.specs.Memory.{IsTypedObject}
+use Rattle.jv_sound.specs.Sound.{IsEnterable}
+use Rattle.jv_sound.proofs.Members.{below_is_one}
 use Rattle.jv_sound.proofs.Receiving.{IsAt, at_above, at_upward, run_enterable}
 
 module _ (program : Program) (rooted : IsRooted program.world) (current : Loaded)

@@ -17,8 +17,8 @@ use Rattle.jv_meaning_machine.specs.Values.{Value, value_width, value_words, wor
 use Rattle.jv_meaning_machine.specs.Values.Value.{Int, Long, Null, Reference, Half, Unset}
 use Rattle.jv_meaning_machine.specs.Effects.{goes_on}
 use Rattle.jv_meaning_machine.specs.Instructions.{has_words}
-use Rattle.jv_sound_invariant.specs.Values.{Place, Item, HasStack}
-use Rattle.jv_sound_invariant.proofs.Logic.{Alike}
+use Rattle.jv_sound.specs.Values.{Place, Item, HasStack}
+use Rattle.jv_sound.proofs.Logic.{Alike}
 use Rattle.jv_sound.proofs.Pure.{agrees_from}
 use Rattle.jv_sound.proofs.Ways.{Setting, IsSet, here, context_of, By, Sound, goes_ok}
 

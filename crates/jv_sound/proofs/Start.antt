@@ -33,17 +33,17 @@ use Rattle.jv_meaning_machine.specs.Literals.{string_name}
 use Rattle.jv_meaning_machine.proofs.Began.{begun_if, begun_in}
 use Rattle.jv_meaning_machine.specs.Initialization.{main_method, main_in, is_main, begin, is_verified}
 use Rattle.jv_meaning_machine.specs.Start.{Budget, static_entries, start_memory, start_control, start_with, start}
-use Rattle.jv_sound_invariant.specs.Values.{FitsEntry}
-use Rattle.jv_sound_invariant.specs.Memory.{IsTypedObject, IsTypedMemory}
-use Rattle.jv_sound_invariant.specs.Sound.{IsSound}
-use Rattle.jv_sound_invariant.specs.Frames.{Holds, AreVerified, HasMain, IsGood, IsRunnable, string_array}
-use Rattle.jv_sound_invariant.specs.Effects.{IsThrown}
+use Rattle.jv_sound.specs.Values.{FitsEntry}
+use Rattle.jv_sound.specs.Memory.{IsTypedObject, IsTypedMemory}
+use Rattle.jv_sound.specs.Sound.{IsSound}
+use Rattle.jv_sound.specs.Frames.{Holds, AreVerified, HasMain, IsGood, IsRunnable, string_array}
+use Rattle.jv_sound.specs.Effects.{IsThrown}
 use Rattle.jv_sound.proofs.EnteringAbove.{Raises, Begins}
-use Rattle.jv_sound_invariant.proofs.Logic.{clash, holds, then_holds, found_holds}
-use Rattle.jv_sound_invariant.proofs.Taking.{and_parts}
-use Rattle.jv_sound_invariant.proofs.Memories.{described_fits, new_typed, IsMakeable}
-use Rattle.jv_sound_invariant.proofs.SystemFacts.{with_guests, raised, makeable, system_verified}
-use Rattle.jv_sound_invariant.proofs.Asked.{AreFormed, method_stands, needs_have_code}
+use Rattle.jv_sound.proofs.Logic.{clash, holds, then_holds, found_holds}
+use Rattle.jv_sound.proofs.Taking.{and_parts}
+use Rattle.jv_sound.proofs.Memories.{described_fits, new_typed, IsMakeable}
+use Rattle.jv_sound.proofs.SystemFacts.{with_guests, raised, makeable, system_verified}
+use Rattle.jv_sound.proofs.Asked.{AreFormed, method_stands, needs_have_code}
 
 string_loadable : (guests : World) → has_loadable_element (with_guests guests) (class_components string_name).element ≡ true
 string_loadable guests = refl

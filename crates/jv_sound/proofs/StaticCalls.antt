@@ -27,13 +27,13 @@ use Rattle.jv_meaning_typing.specs.Named.{MethodUse, method_use, result_types, w
 use Rattle.jv_meaning_machine.specs.Values.{Value}
 use Rattle.jv_meaning_machine.specs.State.{Memory, class_state, is_ready}
 use Rattle.jv_meaning_machine.specs.Calls.{is_built_in, names_write, run_built_in, run_static, call_static, write, read, with_byte_written}
-use Rattle.jv_sound_invariant.specs.Values.{Zip, Fits, HasStack}
-use Rattle.jv_sound_invariant.specs.Memory.{IsTypedMemory}
-use Rattle.jv_sound_invariant.specs.Sound.{AreSorts, IsResultSort}
-use Rattle.jv_sound_invariant.specs.Calls.{write_type, read_type, IsHostMethod}
-use Rattle.jv_sound_invariant.proofs.Logic.{clash, then2, then_holds}
-use Rattle.jv_sound_invariant.proofs.Heaps.{same}
-use Rattle.jv_sound_invariant.proofs.Taking.{and_parts, taken_all}
+use Rattle.jv_sound.specs.Values.{Zip, Fits, HasStack}
+use Rattle.jv_sound.specs.Memory.{IsTypedMemory}
+use Rattle.jv_sound.specs.Sound.{AreSorts, IsResultSort}
+use Rattle.jv_sound.specs.Calls.{write_type, read_type, IsHostMethod}
+use Rattle.jv_sound.proofs.Logic.{clash, then2, then_holds}
+use Rattle.jv_sound.proofs.Heaps.{same}
+use Rattle.jv_sound.proofs.Taking.{and_parts, taken_all}
 use Rattle.jv_sound.proofs.Pure.{agrees_from, one_ok, none_ok, int_ok}
 use Rattle.jv_sound.proofs.ResolvedTypes.{same_option}
 use Rattle.jv_sound.proofs.Handlers.{once_any, lacks_any, enters_ok, sorts_mapped}

@@ -28,16 +28,16 @@ use Rattle.jv_meaning_machine.specs.Effects.{goes_on_with}
 use Rattle.jv_meaning_machine.specs.Fields.{get_static, put_static, with_static}
 use Rattle.jv_meaning_machine.specs.Laws.Shapes.{key_in, keys_in}
 use Rattle.jv_meaning_machine.specs.Start.{static_entries}
-use Rattle.jv_sound_invariant.specs.Values.{Fits, FitsDescribed}
-use Rattle.jv_sound_invariant.specs.Sound.{IsSort}
-use Rattle.jv_sound_invariant.proofs.Logic.{then2, then1, then_holds, found_holds, handed_on}
-use Rattle.jv_sound_invariant.proofs.Types.{sort_item}
-use Rattle.jv_sound_invariant.proofs.Heaps.{same}
-use Rattle.jv_sound_invariant.proofs.Taking.{taken_one}
+use Rattle.jv_sound.specs.Values.{Fits, FitsDescribed}
+use Rattle.jv_sound.specs.Sound.{IsSort}
+use Rattle.jv_sound.proofs.Logic.{then2, then1, then_holds, found_holds, handed_on}
+use Rattle.jv_sound.proofs.Types.{sort_item}
+use Rattle.jv_sound.proofs.Heaps.{same}
+use Rattle.jv_sound.proofs.Taking.{taken_one}
 use Rattle.jv_sound.proofs.Pure.{agrees_from}
-use Rattle.jv_sound_invariant.proofs.Members.{in_map, kept, in_flat, field_in, held_by_keys, held_fits, same_key_itself, some_value}
-use Rattle.jv_sound_invariant.proofs.Storing.{static_typed}
-use Rattle.jv_sound_invariant.proofs.Storing.{narrowed_fits}
+use Rattle.jv_sound.proofs.Members.{in_map, kept, in_flat, field_in, held_by_keys, held_fits, same_key_itself, some_value}
+use Rattle.jv_sound.proofs.Storing.{static_typed}
+use Rattle.jv_sound.proofs.Storing.{narrowed_fits}
 use Rattle.jv_sound.proofs.FieldsFound.{IsFieldFound, field_found}
 use Rattle.jv_sound.proofs.FieldUses.{field_ok, once_ok}
 use Rattle.jv_sound.proofs.Ways.{Setting, IsSet, world_of, program_of, memory_of, context_of, here, Does, By, Sound, goes_ok, goes_with_ok}

@@ -18,15 +18,15 @@ use Rattle.jv_meaning_machine.specs.Initialization.{initialization_step}
 use Rattle.jv_meaning_machine.specs.Step.{act, context, step_in, step}
 use Rattle.jv_meaning_machine.specs.Start.{Budget, start}
 use Rattle.jv_meaning_machine.specs.Alone.{Feed, GuestFiles, Judged, came_at, fed, alone}
-use Rattle.jv_sound_invariant.specs.Values.{Heap}
-use Rattle.jv_sound_invariant.specs.Memory.{IsTypedMemory}
-use Rattle.jv_sound_invariant.specs.Later.{IsLater}
-use Rattle.jv_sound_invariant.specs.Frames.{Holds, place_of, IsRunning, promise_of, AreWaiting, AreFrames, AreVerified, HasMain, IsGood}
-use Rattle.jv_sound_invariant.specs.Effects.{AreEffects}
-use Rattle.jv_sound_invariant.proofs.Logic.{Agrees, holds, then_holds, found_holds, used}
-use Rattle.jv_sound_invariant.proofs.Logic.{clash}
-use Rattle.jv_sound_invariant.proofs.Formats.{chained}
-use Rattle.jv_sound_invariant.proofs.Heaps.{locals_later, stack_later, ready_later}
+use Rattle.jv_sound.specs.Values.{Heap}
+use Rattle.jv_sound.specs.Memory.{IsTypedMemory}
+use Rattle.jv_sound.specs.Later.{IsLater}
+use Rattle.jv_sound.specs.Frames.{Holds, place_of, IsRunning, promise_of, AreWaiting, AreFrames, AreVerified, HasMain, IsGood}
+use Rattle.jv_sound.specs.Effects.{AreEffects}
+use Rattle.jv_sound.proofs.Logic.{Agrees, holds, then_holds, found_holds, used}
+use Rattle.jv_sound.proofs.Logic.{clash}
+use Rattle.jv_sound.proofs.Formats.{chained}
+use Rattle.jv_sound.proofs.Heaps.{locals_later, stack_later, ready_later}
 
 -- a frame that runs can run in a later heap: so it can be executed again
 pub running_later : (program : Program) (a b : Heap) (d : ℕ) (f : MethodFrame) → IsLater (suc d) a b → IsRunning program a d f

@@ -39,10 +39,10 @@ use Rattle.jv_meaning_machine.specs.Calls.{is_constant_for, call_special, call_i
 use Rattle.jv_meaning_machine.specs.Operands.{taken, popped_reference}
 use Rattle.jv_meaning_machine.specs.Objects.{Object}
 use Rattle.jv_meaning_machine.specs.Initialization.{is_verified}
-use Rattle.jv_sound_invariant.specs.Values.{object_type}
-use Rattle.jv_sound_invariant.specs.Sound.{AreSorts, IsResultSort, IsEnterable}
-use Rattle.jv_sound_invariant.proofs.Logic.{clash}
-use Rattle.jv_sound_invariant.proofs.Taking.{and_parts}
+use Rattle.jv_sound.specs.Values.{object_type}
+use Rattle.jv_sound.specs.Sound.{AreSorts, IsResultSort, IsEnterable}
+use Rattle.jv_sound.proofs.Logic.{clash}
+use Rattle.jv_sound.proofs.Taking.{and_parts}
 use Rattle.jv_sound.proofs.Special.{start_ok, special_enterable, special_received}
 use Rattle.jv_sound.proofs.Resolving.{IsNamedClass, named_class, resolved_class}
 use Rattle.jv_sound.proofs.ResolvedTypes.{same_option, reference_of_class}

@@ -15,10 +15,10 @@ use Rattle.jv_meaning_machine.specs.Values.Value.{Null, Reference}
 use Rattle.jv_meaning_machine.specs.Objects.{Object, is_instance_of}
 use Rattle.jv_meaning_machine.specs.Effects.{null_pointer}
 use Rattle.jv_meaning_machine.specs.Instructions.{throw_value}
-use Rattle.jv_sound_invariant.specs.Values.{Fits, IsReferenceTo, object_type}
-use Rattle.jv_sound_invariant.proofs.Logic.{then_holds, found_holds, tested_holds}
+use Rattle.jv_sound.specs.Values.{Fits, IsReferenceTo, object_type}
+use Rattle.jv_sound.proofs.Logic.{then_holds, found_holds, tested_holds}
 use Rattle.jv_sound.proofs.Pure.{one_ok}
-use Rattle.jv_sound_invariant.proofs.Members.{below_is_one}
+use Rattle.jv_sound.proofs.Members.{below_is_one}
 use Rattle.jv_sound.proofs.Ways.{Setting, IsSet, world_of, program_of, context_of, Does, Sound, raises_ok, throws_ok, by_table}
 
 abbrev pub throwable_name : List ℕ

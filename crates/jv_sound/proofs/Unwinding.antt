@@ -13,10 +13,10 @@ use Rattle.jv_meaning_machine.specs.State.{Program, Memory, ClassStates, state_n
 use Rattle.jv_meaning_machine.specs.State.ClassState.{Initialized, Erroneous}
 use Rattle.jv_meaning_machine.specs.Throws.{Thrown, passed_initialization}
 use Rattle.jv_meaning_machine.specs.Initialization.{is_verified}
-use Rattle.jv_sound_invariant.specs.Values.{Heap, object_type}
-use Rattle.jv_sound_invariant.specs.Memory.{IsTypedMemory, IsTypedObject, AreLoadable}
-use Rattle.jv_sound_invariant.specs.Frames.{AreVerified}
-use Rattle.jv_sound_invariant.proofs.Logic.{clash}
+use Rattle.jv_sound.specs.Values.{Heap, object_type}
+use Rattle.jv_sound.specs.Memory.{IsTypedMemory, IsTypedObject, AreLoadable}
+use Rattle.jv_sound.specs.Frames.{AreVerified}
+use Rattle.jv_sound.proofs.Logic.{clash}
 use Rattle.jv_sound.proofs.Frames.{IsThrownGood}
 
 -- an object of its type is of a loadable type

@@ -28,7 +28,7 @@ use Rattle.jv_meaning_machine.specs.Objects.{Object}
 use Rattle.jv_meaning_machine.specs.Objects.Object.{InstanceOf, ArrayWith}
 use Rattle.jv_meaning_machine.specs.Calls.{is_constant_for}
 use Rattle.jv_meaning_machine.specs.Initialization.{is_verified}
-use Rattle.jv_sound_invariant.specs.Sound.{AreSorts, IsResultSort}
+use Rattle.jv_sound.specs.Sound.{AreSorts, IsResultSort}
 use Rattle.jv_sound.proofs.Receiving.{run_enterable, run_received}
 use Rattle.jv_sound.proofs.ResolvedTypes.{reference_is_usable, same_option}
 use Rattle.jv_sound.proofs.StaticCalls.{plain_name}

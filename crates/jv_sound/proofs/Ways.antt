@@ -23,15 +23,15 @@ use Rattle.jv_meaning_machine.specs.Operands.{taken}
 use Rattle.jv_meaning_machine.specs.Effects.{Effect, Context, Outcome, goes_on, goes_on_with, raises, lacks_memory, null_pointer, array_index, array_store, negative_size, class_cast, division_by_zero, out_of_memory}
 use Rattle.jv_meaning_machine.specs.Effects.Effect.{Goes, Raises, Throws}
 use Rattle.jv_meaning_machine.specs.Instructions.{execute, with_operands}
-use Rattle.jv_sound_invariant.specs.Values.{Zip, Heap, Place, Fits, IsObject, HasStack, HasLocals}
-use Rattle.jv_sound_invariant.specs.Memory.{IsTypedMemory, AreLoadable}
-use Rattle.jv_sound_invariant.specs.Later.{IsLater}
-use Rattle.jv_sound_invariant.specs.Sound.{IsSort}
-use Rattle.jv_sound_invariant.specs.Frames.{Holds, Holding, place_of, AreVerified}
-use Rattle.jv_sound_invariant.specs.Effects.{IsThrown, IsEffect, AreEffects}
-use Rattle.jv_sound_invariant.proofs.Logic.{Agrees, then2, holds}
-use Rattle.jv_sound_invariant.proofs.Heaps.{same, weaker, moved, locals_later, ready_later}
-use Rattle.jv_sound_invariant.proofs.Taking.{taken_all}
+use Rattle.jv_sound.specs.Values.{Zip, Heap, Place, Fits, IsObject, HasStack, HasLocals}
+use Rattle.jv_sound.specs.Memory.{IsTypedMemory, AreLoadable}
+use Rattle.jv_sound.specs.Later.{IsLater}
+use Rattle.jv_sound.specs.Sound.{IsSort}
+use Rattle.jv_sound.specs.Frames.{Holds, Holding, place_of, AreVerified}
+use Rattle.jv_sound.specs.Effects.{IsThrown, IsEffect, AreEffects}
+use Rattle.jv_sound.proofs.Logic.{Agrees, then2, holds}
+use Rattle.jv_sound.proofs.Heaps.{same, weaker, moved, locals_later, ready_later}
+use Rattle.jv_sound.proofs.Taking.{taken_all}
 use Rattle.jv_sound.proofs.Pure.{agrees_from, program_in, memory_in, context_in}
 
 -- ---- the setting: what the machine has, and the types that the frame is of

@@ -1,13 +1,7 @@
 pub mod Components
-pub mod KeptTops
-pub mod MadeBefore
-pub mod Noting
 pub mod Numbered
-pub mod Replacing
-pub mod Storing
 pub mod Arguments
 pub mod Arrays
-pub mod Behind
 pub mod Called
 pub mod Descriptors
 pub mod Finding
@@ -15,7 +9,6 @@ pub mod Guarding
 pub mod Keeping
 pub mod KeepingClass
 pub mod Lasting
-pub mod Lists
 pub mod Marking
 pub mod Members
 pub mod Naming

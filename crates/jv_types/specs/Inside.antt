@@ -1,15 +1,10 @@
-pub mod Before
-pub mod Behind
-pub mod Cut
 pub mod Kept
-pub mod Noted
-pub mod Swapped
-pub mod Tops
 pub mod Calls
 pub mod Guarded
 pub mod KeptTexts
 pub mod KeptClass
 pub mod Lasting
+pub mod Made
 pub mod Marked
 pub mod Named
 pub mod Parts

@@ -8,7 +8,7 @@ ghost use Rattle.jv_meaning_world.specs.Flow.{class_flows, flows, same_base};
 ghost use Rattle.jv_meaning_world.specs.FrameFlow.{item_flows};
 ghost use Rattle.jv_assign.specs.Seen.{seen_type};
 ghost use Rattle.jv_types.specs.Typed.{name_at, typed_field, typed};
-ghost use Rattle.jv_types.specs.Inside.Swapped.{is_object_of};
+ghost use Rattle.jv_types.specs.Inside.Made.{is_object_of};
 
 use crate::names::{Item, TypeNames};
 use jv_assign::{flows, other_class_flows};

@@ -1,7 +1,6 @@
-//! Verification types with numbers for names, so that a name is looked at once and types are compared by number; the frame before an
-//! instruction, changed in place, over such types (JVMS 4.10.1.2 to 4.10.1.4); and what the constants of a class say as such types (4.4),
-//! at hand by index, what the operands of instructions name, and what the rules ask of the class itself; which types the entries of the
-//! stack map's frames stand for (4.7.4), and whether the frame before an instruction flows into one of these.
+//! Verification types with numbers for names, so that a name is looked at once and types are compared by number (JVMS 4.10.1.2); what the
+//! constants of a class say as such types (4.4), at hand by index, what the operands of instructions name, and what the rules ask of the
+//! class itself; and which types the entries of the stack map's frames stand for (4.7.4).
 #![tactic(auto)]
 
 mod classes;
@@ -11,26 +10,18 @@ mod current_class;
 mod entries;
 mod fields;
 mod flow;
-mod frame_flow;
 mod guards;
 mod hashed;
 mod indices;
-mod items;
-mod locals;
 mod marks;
 mod methods;
 mod name_marks;
 mod names;
-mod notes;
 mod numbers;
-mod objects;
 mod outcome;
 mod pushed;
 mod texts;
-mod tops;
-mod type_frame;
 mod value;
-mod variables;
 mod words;
 
 pub use classes::{array_of, array_type, class_number, names_class};
@@ -38,9 +29,6 @@ pub use constants::ConstantTypes;
 pub use current_class::CurrentClass;
 pub use entries::EntryTypes;
 pub use fields::{FieldTypes, field_types};
-pub use frame_flow::{
-    flag_flows, frame_flows, has_this, locals_flow, stack_flows, thrown_flows, thrown_stack_flows,
-};
 pub use jv_link as of_link;
 pub use jv_link::of_loader;
 pub use methods::{CalledTypes, called_types};
@@ -48,6 +36,5 @@ pub use names::{Item, TypeNames};
 pub use outcome::Outcome;
 pub use pushed::{long_constant_type, one_word_constant_type};
 pub use texts::MethodTypes;
-pub use type_frame::TypeFrame;
 pub use value::value_type;
 pub use words::words_of;

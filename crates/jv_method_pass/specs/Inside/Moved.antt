@@ -11,7 +11,7 @@ use Rattle.jv_types.specs.Numbered.{NumberFrame}
 use Rattle.jv_types.specs.Mapped.{EntryTypes, types_of_entries, expanded_entries, locals_of}
 use Rattle.jv_method_pass.specs.Pass.{Pass}
 use Rattle.jv_method_pass.specs.Inside.Flowed.{is_between}
-use Rattle.jv_types.specs.Inside.Behind.{words_of_entries}
+use Rattle.jv_method_frames.specs.Inside.Behind.{words_of_entries}
 
 -- Local variables hold the words of the entries below and, from an index on, of those that were laid; those that are left, the last
 -- first, have so many words.

@@ -2,7 +2,7 @@ use Rattle.std.proofs.Common.{rules, ◌≡◌, ◌≤◌, ◌∙◌, ◌+◌, L
 use Rattle.std.proofs.lemmas.List.{take_all, length-set}
 use Rattle.jv_format.specs.declared.handlers.Handler.{Handler}
 use Rattle.jv_format.specs.Handlers.{handlers_of}
-use Rattle.jv_types.proofs.Replacing.{written}
+use Rattle.jv_types_frames.proofs.Replacing.{written}
 use Rattle.jv_method_pass.specs.Inside.Cover.{IsCover}
 use Rattle.jv_method_pass.proofs.Covering.{covered_more}
 use Rattle.jv_method_pass.proofs.cover.cover_of.Goals as goal

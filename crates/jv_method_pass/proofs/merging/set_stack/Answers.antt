@@ -1,7 +1,7 @@
 use Rattle.std.proofs.Common.{ap, ◌∙◌}
 use Rattle.jv_types.specs.Typed.{typed, typed_all}
 use Rattle.jv_types.specs.Numbered.{NumberFrame}
-use Rattle.jv_types.proofs.Replacing.{map_reversed}
+use Rattle.jv_types_frames.proofs.Replacing.{map_reversed}
 use Rattle.jv_types.specs.Mapped.{names_of_types}
 use Rattle.jv_method_pass.proofs.merging.set_stack.Goals as goal
 

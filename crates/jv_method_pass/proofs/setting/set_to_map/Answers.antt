@@ -4,7 +4,7 @@ use Rattle.jv_frames.specs.declared.verification.VerificationTypeOf.TheVariants 
 use Rattle.jv_frames.specs.Frames.{expanded}
 use Rattle.jv_types.specs.Typed.{typed, typed_all}
 use Rattle.jv_types.specs.Numbered.{Item, NumberFrame}
-use Rattle.jv_types.proofs.Replacing.{map_reversed}
+use Rattle.jv_types_frames.proofs.Replacing.{map_reversed}
 use Rattle.jv_types.specs.Mapped.{names_of_types, types_of_entries}
 use Rattle.jv_method_pass.proofs.Settings.{frame_made}
 use Rattle.jv_method_pass.proofs.setting.set_to_map.Goals as goal

@@ -5,7 +5,7 @@ use Rattle.std.proofs.Common.{Some}
 use Rattle.std.proofs.lemmas.List.Elements.{All-set}
 use Rattle.std.proofs.lemmas.Option.{slice_get_read}
 use Rattle.jv_meaning_world.specs.FrameFlow.{all_flow, item_flows}
-use Rattle.jv_types.proofs.Replacing.{written}
+use Rattle.jv_types_frames.proofs.Replacing.{written}
 use Rattle.jv_method_pass.specs.declared.stacks.FlowedStack.{FlowedStack}
 use Rattle.jv_types.specs.Mapped.{stack_flows_to, stack_of, types_of_entries, world_of_types}
 use Rattle.jv_method_pass.specs.Pass.{Pass}

@@ -1,6 +1,6 @@
 use Rattle.std.proofs.Common.{◌≡◌, ◌-◌, length, map, ap, sym, ◌∙◌}
 use Rattle.std.proofs.lemmas.List.{length-map}
-use Rattle.jv_types.proofs.Replacing.{written}
+use Rattle.jv_types_frames.proofs.Replacing.{written}
 use Rattle.jv_method_pass.specs.Inside.Stacks.{lowered}
 use Rattle.jv_method_pass.proofs.stacks.FlowedStacks.go_behind.Goals as goal
 

@@ -1,0 +1,54 @@
+use Rattle.std.proofs.Common.{length, reverse, sym, ap, subst, ◌∙◌, arith}
+use Rattle.std.specs.Option.{option_map}
+use Rattle.jv_frames.specs.Frames.{expanded}
+use Rattle.jv_meaning_world.specs.Flow.{flows}
+use Rattle.jv_meaning_world.specs.FrameFlow.{all_flow}
+use Rattle.jv_meaning_typing.specs.Rule.{without_object}
+use Rattle.jv_types.specs.Typed.{typed, typed_all}
+use Rattle.jv_types.specs.Mapped.{world_of_types, names_of_types, types_of_entries, type_of_entry}
+use Rattle.jv_method_frames.specs.Inside.Behind.{FlowsBehind}
+use Rattle.jv_method_frames.proofs.Behind.{no_room, begins, without_length, no_local, goes_on, flows_not}
+use Rattle.jv_method_frames.proofs.frame_flow.locals_flow.Goals as goal
+
+pub returns-then-from-local_count : goal.returns-then-from-local_count
+returns-then-from-local_count c =
+    let types = c.args.types.now in
+    let locals = c.args.frame.now.locals in
+    sym (no_room (world_of_types types) (without_object (option_map (typed (names_of_types types)) c.args.object) (typed_all (names_of_types types) locals)) (length locals) (types_of_entries types c.args.map.now.locals)
+    (without_length (names_of_types types) c.args.object locals)
+    (omega (arith, c.if-from-local_count.true, c.local_count.ensures, c.from.ensures, c.local_words-at.ensures, c.requires)))
+
+pub loop-entry-init : goal.loop-entry-init
+loop-entry-init c =
+    let types = c.args.types.now in
+    let locals = c.args.frame.now.locals in
+    let left = without_object (option_map (typed (names_of_types types)) c.args.object) (typed_all (names_of_types types) locals) in
+    let entries = types_of_entries types c.args.map.now.locals in
+    let whole = all_flow (flows (world_of_types types)) left (expanded (length locals) (reverse entries)) in
+    subst (λ es. FlowsBehind (world_of_types types) left whole (types_of_entries types es) c.local_words-at.result) (sym c.locals-entries.ensures)
+    (subst (FlowsBehind (world_of_types types) left whole entries) (sym (c.local_words-at.ensures ∙ c.requires))
+    (begins (world_of_types types) left (length locals) entries (without_length (names_of_types types) c.args.object locals)
+    (omega (arith, c.if-from-local_count.false, c.local_count.ensures, c.from.ensures, c.local_words-at.ensures, c.requires))))
+
+pub returns-in_default-local : goal.returns-in_default-local
+returns-in_default-local c =
+    let types = c.args.types.now in
+    absurd (no_local types.constants.types c.args.object c.args.frame.now.locals _ (types_of_entries types c.loop-entry.entries) c.loop-entry.at c.loop-entry.invariant
+    (type_of_entry types c.in-Some.entry) (types_of_entries types c.next.new.self) (ap (types_of_entries types) c.in-Some.ensures) c.item-item.result c.words_of-at.result
+    (c.words_of-at.ensures.of_type (names_of_types types)) c.item-item.ensures (sym c.local.ensures ∙ c.in_default-local.is))
+
+pub returns-then-not-flows : goal.returns-then-not-flows
+returns-then-not-flows c =
+    let types = c.args.types.now in
+    sym (flows_not types.constants.types c.args.object c.args.frame.now.locals _ (types_of_entries types c.loop-entry.entries) c.loop-entry.at c.loop-entry.invariant
+    (type_of_entry types c.in-Some.entry) (types_of_entries types c.next.new.self) (ap (types_of_entries types) c.in-Some.ensures) c.item-item.result c.words_of-at.result
+    (c.words_of-at.ensures.of_type (names_of_types types)) c.item-item.ensures c.in-Some-local.local c.left_in.result (sym c.local.ensures ∙ c.in-Some-local.is)
+    (c.left_in.ensures (names_of_types types)) c.names.result.now c.names.ensures c.flows.result c.flows.ensures c.if-not-flows.true)
+
+pub loop-entry-preserved : goal.loop-entry-preserved
+loop-entry-preserved c =
+    let types = c.args.types.now in
+    goes_on types.constants.types c.args.object c.args.frame.now.locals _ (types_of_entries types c.loop-entry.entries) c.loop-entry.at c.loop-entry.invariant
+    (type_of_entry types c.in-Some.entry) (types_of_entries types c.next.new.self) (ap (types_of_entries types) c.in-Some.ensures) c.item-item.result c.words_of-at.result
+    (c.words_of-at.ensures.of_type (names_of_types types)) c.item-item.ensures c.in-Some-local.local c.left_in.result (sym c.local.ensures ∙ c.in-Some-local.is)
+    (c.left_in.ensures (names_of_types types)) c.names.result.now c.names.ensures c.flows.result c.flows.ensures c.if-not-flows.false

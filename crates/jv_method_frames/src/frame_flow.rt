@@ -1,0 +1,194 @@
+//! What flows into a frame of the stack map (JVMS 4.10.1.2, 4.10.1.4).
+
+ghost use Rattle.std.specs.Prelude.{◌≡◌, ◌&&◌, ◌||◌, not, ℕ, List, ◌∷◌, [], IsTrue, map, reverse};
+ghost use Rattle.std.specs.List.{list_any};
+ghost use Rattle.std.specs.Option.{option_map};
+ghost use Rattle.jv_frames.specs.Frames.{is_uninitialized_this};
+ghost use Rattle.jv_frames.specs.declared.verification.VerificationTypeOf.TheVariants as variants;
+ghost use Rattle.jv_meaning_world.specs.Flow.{flows};
+ghost use Rattle.jv_meaning_world.specs.FrameFlow.{item_flows, frame_flows};
+ghost use Rattle.jv_meaning_typing.specs.FrameChanges.{is_same_object};
+ghost use Rattle.jv_types.specs.Typed.{typed};
+ghost use Rattle.jv_types.specs.Mapped.{names_of_types, types_of_entries, local_entry_words, stack_of, flows_to_map, thrown_flows_to_map, has_uninitialized_this, locals_flow_to, stack_flows_to};
+ghost use Rattle.jv_method_frames.specs.Inside.Behind.{left_in};
+
+use jv_frames::{Entries, MapFrame, VerificationTypeOf};
+use jv_types::{EntryTypes, Item, TypeNames, words_of};
+use jv_types_frames::TypeFrame;
+
+#[inline(always)]
+fn is_same_object(one: Item, other: Item) -> bool
+    ensures { (names : List (List ℕ)) → result ≡ is_same_object (typed names one) (typed names other) }
+{
+    match (one, other) {
+        (VerificationTypeOf::UninitializedThis, VerificationTypeOf::UninitializedThis) => true,
+        (VerificationTypeOf::Uninitialized(one), VerificationTypeOf::Uninitialized(other)) => {
+            one == other
+        }
+        _ => false,
+    }
+}
+
+/// The type of a local variable once an object cannot be used any more.
+#[inline(always)]
+fn left_in(object: Option<Item>, local: Item) -> Item
+    ensures { (names : List (List ℕ)) → typed names result ≡ left_in (option_map (typed names) object) (typed names local) }
+{
+    match object {
+        Some(object) if is_same_object(object, local) => VerificationTypeOf::Top,
+        _ => local,
+    }
+}
+
+/// Whether two types are known to be one without a look at them as a whole.
+#[inline(always)]
+fn are_same(one: Item, other: Item) -> bool
+    ensures { IsTrue result → one ≡ other }
+{
+    match (one, other) {
+        (VerificationTypeOf::Int, VerificationTypeOf::Int) => true,
+        (VerificationTypeOf::Class(one), VerificationTypeOf::Class(other)) => one == other,
+        _ => false,
+    }
+}
+
+#[inline(always)]
+fn is_top(item: Item) -> bool
+    ensures { IsTrue result → item ≡ variants.Top }
+{
+    matches!(item, VerificationTypeOf::Top)
+}
+
+/// Whether a local variable's type flows to another: to top, and where the two are one, no table is asked.
+#[inline(always)]
+fn flows(names: &TypeNames<'_, '_>, from: Item, to: Item) -> bool
+    ensures { result ≡ flows names.now.world (typed names.now.names from) (typed names.now.names to) }
+{
+    if is_top(to) {
+        return true;
+    }
+    if are_same(from, to) {
+        return true;
+    }
+    names.flows(from, to)
+}
+
+/// Whether a stack item's type does: where the two are one, no table is asked.
+#[inline(always)]
+fn item_flows(names: &TypeNames<'_, '_>, from: Item, to: Item) -> bool
+    ensures { result ≡ item_flows names.now.world (typed names.now.names from) (typed names.now.names to) }
+{
+    if are_same(from, to) {
+        return true;
+    }
+    names.item_flows(from, to)
+}
+
+/// Whether the local variables flow to a frame's entries, once an object cannot be used any more.
+pub fn locals_flow(
+    types: &EntryTypes<'_, '_, '_>,
+    frame: &TypeFrame,
+    object: Option<Item>,
+    map: &MapFrame<'_>,
+) -> bool
+    requires { map.now.local_words ≡ local_entry_words types.now map.now }
+    ensures { result ≡ locals_flow_to types.now frame.now object map.now }
+{
+    let mut at = map.local_words();
+    if usize::from(at) > frame.local_count() {
+        return false;
+    }
+    let mut entries = map.locals();
+    while let Some(entry) = entries.next() {
+        let item = types.item(entry);
+        at -= words_of(item);
+        let Some(local) = frame.local(at) else {
+            return false;
+        };
+        if !flows(types.names(), left_in(object, local), item) {
+            return false;
+        }
+    }
+    true
+}
+
+/// Whether the stack's items flow to a frame's, one by one.
+pub fn stack_flows(types: &EntryTypes<'_, '_, '_>, frame: &TypeFrame, map: &MapFrame<'_>) -> bool
+    ensures { result ≡ stack_flows_to types.now (stack_of types.now frame.now) map.now }
+{
+    let height = frame.height();
+    let mut left = height;
+    let mut entries = map.stack();
+    while let Some(entry) = entries.next() {
+        let Some(item) = frame.item(height - left) else {
+            return false;
+        };
+        if !item_flows(types.names(), item, types.item(entry)) {
+            return false;
+        }
+        left -= 1;
+    }
+    left == 0
+}
+
+/// Whether `this` may not be initialized in a frame of the map: whether it is among the local entries.
+pub fn has_this(types: &EntryTypes<'_, '_, '_>, map: &MapFrame<'_>) -> bool
+    ensures { result ≡ list_any is_uninitialized_this (reverse (types_of_entries types.now map.now.locals)) }
+{
+    let mut entries = map.locals();
+    while let Some(entry) = entries.next() {
+        if matches!(types.item(entry), VerificationTypeOf::UninitializedThis) {
+            return true;
+        }
+    }
+    false
+}
+
+/// Whether a frame of the map may have `this` as the frame before it has it.
+pub fn flag_flows(types: &EntryTypes<'_, '_, '_>, frame: &TypeFrame, map: &MapFrame<'_>) -> bool
+    ensures { result ≡ (not frame.now.flag_this_uninit || has_uninitialized_this types.now map.now) }
+{
+    !frame.flag_this_uninit() || has_this(types, map)
+}
+
+/// Whether a frame flows into a frame of the map, with as many local variables, where it is known whether its stack does.
+pub fn frame_flows(
+    types: &EntryTypes<'_, '_, '_>,
+    frame: &TypeFrame,
+    map: &MapFrame<'_>,
+    stack: bool,
+) -> bool
+    requires words { map.now.local_words ≡ local_entry_words types.now map.now }
+    requires stack { stack ≡ stack_flows_to types.now (stack_of types.now frame.now) map.now }
+    ensures { result ≡ flows_to_map types.now frame.now map.now }
+{
+    locals_flow(types, frame, None, map) && stack && flag_flows(types, frame, map)
+}
+
+/// Whether what was thrown alone on the stack flows to a frame's stack.
+pub fn thrown_stack_flows(types: &EntryTypes<'_, '_, '_>, thrown: Item, map: &MapFrame<'_>) -> bool
+    ensures { result ≡ stack_flows_to types.now (typed (names_of_types types.now) thrown ∷ []) map.now }
+{
+    let mut entries = map.stack();
+    let Some(entry) = entries.next() else {
+        return false;
+    };
+    types.names().item_flows(thrown, types.item(entry)) && entries.next().is_none()
+}
+
+/// Whether the frame with which a handler begins flows into a frame of the map: that before the instruction, without
+/// the object that the instruction constructs, and with what was thrown alone on the stack (JVMS 4.10.1.6).
+pub fn thrown_flows(
+    types: &EntryTypes<'_, '_, '_>,
+    frame: &TypeFrame,
+    object: Option<Item>,
+    thrown: Item,
+    map: &MapFrame<'_>,
+) -> bool
+    requires { map.now.local_words ≡ local_entry_words types.now map.now }
+    ensures { result ≡ thrown_flows_to_map types.now frame.now object thrown map.now }
+{
+    locals_flow(types, frame, object, map)
+        && thrown_stack_flows(types, thrown, map)
+        && flag_flows(types, frame, map)
+}

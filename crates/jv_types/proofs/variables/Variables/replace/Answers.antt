@@ -1,8 +1,0 @@
-use Rattle.std.proofs.Common.{sym, subst}
-use Rattle.jv_types.specs.Inside.Tops.{AreTops}
-use Rattle.jv_types.proofs.KeptTops.{still_tops}
-use Rattle.jv_types.proofs.variables.Variables.replace.Goals as goal
-
-pub invariant_of-self : goal.invariant_of-self
-invariant_of-self c =
-    subst (AreTops c.self.inside.used) (sym c.replace.ensures) (still_tops c.args.object c.args.by c.self.inside.used c.self.inside.items c.self.invariant)

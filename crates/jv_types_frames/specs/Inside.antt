@@ -1,0 +1,5 @@
+pub mod Before
+pub mod Cut
+pub mod Noted
+pub mod Swapped
+pub mod Tops
