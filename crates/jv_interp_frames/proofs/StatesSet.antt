@@ -1,5 +1,5 @@
 -- The state of a class changes, and those of others stay (JVMS 5.5).
-use Rattle.std.proofs.Common.{◌≡◌, ℕ, Bool, true, false, nat_eq, List, ◌∷◌, Some, set, slice_get, refl, sym, ap, ◌∙◌, arith, if◌then◌else◌}
+use Rattle.std.proofs.Common.{◌≡◌, ℕ, Bool, true, false, nat_eq, List, ◌∷◌, Some, set, slice_get, refl, sym, ap, subst, ◌∙◌, arith, if◌then◌else◌}
 use Rattle.std.specs.Str.{bytes_eq}
 use Rattle.std.specs.Cmp.Lexicographic.{nat_list_eq_equiv}
 use Rattle.std.proofs.lemmas.Bool.{eqb-true}
@@ -83,3 +83,12 @@ module _ (world : World) (numbers : IsNumbered world) (class : ℕ) (l : Loaded)
         where
           differ : (x y : ℕ) → nat_eq x y ≡ false → x ≡ y → ⊥
           differ x y e same = absurd (grind (arith, e, same))
+
+  -- either
+  pub state_set :
+      (by_system : Bool) (after : List ClassState) → l.by_system ≡ by_system → (by_system ≡ true → after ≡ before)
+      → (by_system ≡ false → after ≡ set before class (kept_state new)) → AreClassStates world ((l.class.name, new) ∷ states) after
+  state_set true after is same changed =
+      subst (λ (all : List ClassState). AreClassStates world ((l.class.name, new) ∷ states) all) (sym (same refl)) (system_stays is)
+  state_set false after is same changed =
+      subst (λ (all : List ClassState). AreClassStates world ((l.class.name, new) ∷ states) all) (sym (changed refl)) (guests_set is)

@@ -8,14 +8,15 @@ ghost use Rattle.jv_interp_frames.specs.Moves.{Beginning};
 
 use crate::control::Control;
 use crate::frames::{Frames, push_record};
-use crate::states::set_state;
 use crate::throws::raise;
 use jv_heap::{Memory, Store};
 use jv_interp_calls::Methods;
 use jv_interp_calls::of_link::class_at;
 use jv_interp_calls::of_linked::Linked;
 use jv_interp_calls::of_loader::Classes;
-use jv_interp_memory::{ClassState, Held, NO_CLASS, STACK_OVERFLOW, VERIFY, system_has_numbers};
+use jv_interp_memory::{
+    ClassState, Held, NO_CLASS, STACK_OVERFLOW, VERIFY, mark_begun, system_has_numbers,
+};
 use jv_interp_words::{FrameRecord, InitializationRecord};
 
 /// The initialization of the class with a number is begun, by its state (JVMS 5.5, steps 3 to 6): where it goes on or is done, nothing is
@@ -89,6 +90,6 @@ pub fn begin<S: Store>(
         &mut frames.records,
         FrameRecord::Initializes(InitializationRecord { class, done: 0 }),
     );
-    set_state(&mut control.states, class, by_system, ClassState::Begun);
+    mark_begun(&mut control.states, class, by_system);
     Ok(())
 }

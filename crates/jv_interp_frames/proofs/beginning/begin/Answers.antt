@@ -10,6 +10,7 @@ use Rattle.jv_interp_memory.specs.declared.class_state.ClassState.{ClassState}
 use Rattle.jv_interp_memory.specs.ClassStates.{AreClassStates}
 use Rattle.jv_interp_frames.specs.Standing.{kept, Moved}
 use Rattle.jv_interp_frames.specs.Moves.{Raising}
+use Rattle.jv_interp_frames.proofs.StatesSet.{state_set}
 use Rattle.jv_interp_frames.proofs.Counted.{has_room}
 use Rattle.jv_interp_frames.proofs.BeginsStand.{kept_now, is_state, no_change, no_change_either, raises_erroneous, verdict, raises_unverified, raises_overflow, begins}
 use Rattle.jv_interp_frames.proofs.beginning.begin.Goals as goal
@@ -132,8 +133,8 @@ push_record-requires g c =
     let enough = c.if-frames-lt4.false in
     has_room w.program w.addresses w.s.frames c.args.frames.now w.s.control.words w.moves.stands.frames 4 (omega arith) (omega (arith, left, enough))
 
-pub set_state-requires : goal.set_state-requires
-set_state-requires g c =
+pub mark_begun-requires : goal.mark_begun-requires
+mark_begun-requires g c =
     let w = c.requires.can in
     let low = slice_get_within c.args.control.now.states.items c.args.class _ (kept_now c.args.classes.now.world c.args.class c.args.verified.now w.program w.texts w.s w.t w.addresses c.args.frames.now c.args.control.now c.args.held.now (g.S.Store.content c.args.store.now) w.moves) in
     subst (λ states. c.args.class < length states) (sym c.deref_mut.ensures.value) low
@@ -150,9 +151,11 @@ returns-clause-begun g c = λ program texts s t addresses h.
     let own = c.class_at.ensures h.does.l (ap (λ (v : World). slice_get v c.args.class) world_is ∙ h.does.at) in
     let system = ap (λ (k : Loaded). k.by_system) (sym own) ∙ sym c.by_system-by_system.ensures in
     let before = subst (λ (all : List ClassState). AreClassStates program.world s.control.states all) (sym c.deref_mut.ensures.value) h.stands.control.states in
-    let set = c.set_state.ensures program.world numbers h.does.l s.control.states Begun h.does.at system refl before in
-    let new = c.set_state.new.states in
-    let size : c.args.control.now.states.len ≡ length new = c.args.control.now.states.ok.0 ∙ ap length (sym c.deref_mut.ensures.value) ∙ sym c.set_state.auto.states in
+    let new = c.mark_begun.new.states in
+    let set =
+    state_set program.world numbers c.args.class h.does.l s.control.states Begun _ h.does.at before c.by_system-by_system.result new system
+    c.mark_begun.ensures.system c.mark_begun.ensures.guests in
+    let size : c.args.control.now.states.len ≡ length new = c.args.control.now.states.ok.0 ∙ ap length (sym c.deref_mut.ensures.value) ∙ sym c.mark_begun.auto.states in
     let all : (with_items c.args.control.now.states new).items ≡ new =
     ap (λ (n : ℕ). take n (new ++ drop (length new) c.args.control.now.states.items)) size ∙ take-append_seam new (drop (length new) c.args.control.now.states.items) in
     let frames = c.args.frames.now in
