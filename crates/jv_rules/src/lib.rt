@@ -11,7 +11,7 @@ mod constructing;
 mod construction;
 mod constructors;
 mod context;
-mod effect;
+mod effects;
 mod field_access;
 mod fields;
 mod forms;
@@ -32,7 +32,7 @@ mod words;
 
 pub use constructing::constructed_object;
 pub use context::MethodContext;
-pub use effect::effect;
+pub use effects::effect;
 pub use jv_types::{Outcome, of_link, of_loader, value_type};
 pub use law::{keeps_local_count, leaves_below, leaves_locals, writes_there};
 pub use locals::keeps_locals;

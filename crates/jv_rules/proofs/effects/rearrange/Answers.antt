@@ -2,7 +2,7 @@ use Rattle.std.proofs.Common.{subst}
 use Rattle.jv_meaning_typing.specs.ValueRules.{move_words}
 use Rattle.jv_types.specs.Numbered.{frame_of}
 use Rattle.jv_types.specs.Outcomes.{IsFrame}
-use Rattle.jv_rules.proofs.effect.rearrange.Goals as goal
+use Rattle.jv_rules.proofs.effects.rearrange.Goals as goal
 
 pub returns-then-branch : goal.returns-then-branch
 returns-then-branch c = λ names.

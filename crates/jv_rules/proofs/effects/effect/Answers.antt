@@ -15,7 +15,7 @@ use Rattle.jv_types.specs.Typed.{TypeWorld, typed}
 use Rattle.jv_types.specs.Numbered.{frame_of}
 use Rattle.jv_types.specs.Outcomes.{IsOutcome}
 use Rattle.jv_rules.proofs.Arms.{at_insn, in_class, world_same, result_same}
-use Rattle.jv_rules.proofs.effect.effect.Goals as goal
+use Rattle.jv_rules.proofs.effects.effect.Goals as goal
 
 pub returns-in-Compute : goal.returns-in-Compute
 returns-in-Compute c = λ env of.
