@@ -5,7 +5,7 @@ ghost use Rattle.std.specs.List.{All};
 ghost use Rattle.jv_class.specs.Class.{Field};
 ghost use Rattle.jv_meaning_world.specs.World.{World};
 ghost use Rattle.jv_meaning_world.specs.LookUps.{DeclaredField};
-ghost use Rattle.jv_meaning_typing.specs.Uses.{Site as NamedSite};
+ghost use Rattle.jv_meaning_typing.specs.Uses.{Site as SiteOfNames};
 ghost use Rattle.jv_meaning_typing.specs.Kind.{has_field_kind, can_use_final};
 ghost use Rattle.jv_meaning_world.specs.Numbers.{HoldsAtNumber};
 ghost use Rattle.jv_meaning_typing.specs.Operands.{field_operand};
@@ -57,7 +57,8 @@ fn is_used_so(how: Use, flags: u16) -> bool
 /// Whether no instruction of this kind asks which method sets a field.
 #[inline(always)]
 fn is_settable(how: Use, flags: u16) -> bool
-    ensures { (s : NamedSite) (d : DeclaredField) → flags ≡ d.field.access_flags → IsTrue result → can_use_final (seen_use how) s d ≡ true }
+    ensures { (s : SiteOfNames) (d : DeclaredField) → flags ≡ d.field.access_flags → IsTrue result
+        → can_use_final (seen_use how) s d ≡ true }
 {
     match how {
         Use::Putstatic | Use::Putfield => flags & FINAL == 0,

@@ -163,14 +163,10 @@ impl<'a> Linked<'a> {
         }
     }
 
-    /// The field that the Fieldref constant at an index resolves to at a site, for an instruction, as
-    /// `jv_link`'s `resolve_field` answers it (JVMS 5.4.3.2, 5.4.4, 6.5), with what a step asks of it. Asked again, it is one
-    /// entry that is read; it takes no memory.
-    ///
-    /// # Errors
-    ///
-    /// As JVMS 5.4.3.2 and 6.5 have them.
-    pub fn field_use(
+    /// What [`Linked::field_use`] answers, by the entry of the constant, which then keeps what it resolves to.
+    #[cold]
+    #[inline(never)]
+    fn field_anew(
         &mut self,
         classes: &Classes<'_>,
         site: Site,
@@ -196,6 +192,53 @@ impl<'a> Linked<'a> {
             index,
         );
         used_field(table, site, how, index, found)
+    }
+
+    /// The same, with room of its own for the answer, which is then not made where the field is known at once.
+    #[inline(always)]
+    fn field_apart(
+        &mut self,
+        classes: &Classes<'_>,
+        site: Site,
+        how: Use,
+        index: u16,
+    ) -> Result<FieldUse, LinkError>
+        requires linked { IsLinked classes.now.world self.old }
+        requires site { IsSite classes.now.world site }
+        requires index { HoldsAtNumber classes.now.world site.class (λ l. IsSome (field_operand l.class index)) }
+        ensures found { IsFieldResolved classes.now.world site how index (used_place result) }
+        ensures used { IfOk result (IsFieldUse classes.now.world) }
+        ensures linked { IsLinked classes.now.world self.new }
+    {
+        self.field_anew(classes, site, how, index)
+    }
+
+    /// The field that the Fieldref constant at an index resolves to at a site, for an instruction, as
+    /// `jv_link`'s `resolve_field` answers it (JVMS 5.4.3.2, 5.4.4, 6.5), with what a step asks of it. Asked again, it is one
+    /// entry that is read; it takes no memory.
+    ///
+    /// # Errors
+    ///
+    /// As JVMS 5.4.3.2 and 6.5 have them.
+    #[inline(always)]
+    pub fn field_use(
+        &mut self,
+        classes: &Classes<'_>,
+        site: Site,
+        how: Use,
+        index: u16,
+    ) -> Result<FieldUse, LinkError>
+        requires linked { IsLinked classes.now.world self.old }
+        requires site { IsSite classes.now.world site }
+        requires index { HoldsAtNumber classes.now.world site.class (λ l. IsSome (field_operand l.class index)) }
+        ensures found { IsFieldResolved classes.now.world site how index (used_place result) }
+        ensures used { IfOk result (IsFieldUse classes.now.world) }
+        ensures linked { IsLinked classes.now.world self.new }
+    {
+        if let Some(used) = self.field_at_once(site, how, index) {
+            return Ok(used);
+        }
+        self.field_apart(classes, site, how, index)
     }
 
     /// The field that the Fieldref constant at an index resolves to at a site, for an instruction, as `jv_link`'s
