@@ -1,6 +1,7 @@
 //! Methods that are left (JVMS 2.6.4, 6.5).
 
-ghost use Rattle.std.specs.Prelude.{◌≡◌, ◌+◌, ◌++◌, ◌≤◌, length, take};
+ghost use Rattle.std.specs.Prelude.{◌≡◌, ◌+◌, ◌++◌, ◌≤◌, IfSome, length, take};
+ghost use Rattle.jv_code.specs.Opcodes.{invoke_opcode};
 ghost use Rattle.jv_interp_words.specs.FramesInWords.{in_use};
 ghost use Rattle.jv_interp_calls.specs.Methods.{AreMethods};
 ghost use Rattle.jv_interp_frames.specs.Leaving.{CanLeave, Leaves};
@@ -8,6 +9,7 @@ ghost use Rattle.jv_interp_frames.specs.Inside.Nexts.{HasNext, IsNext};
 
 use crate::control::{Control, End};
 use crate::frames::{Frames, push_record};
+use jv_code::Invocation;
 use jv_interp_calls::Methods;
 use jv_interp_words::{FrameRecord, MethodRecord};
 
@@ -22,7 +24,20 @@ fn move_down(words: &mut [u32], from: usize, to: usize, count: usize)
     }
 }
 
-/// The offset behind the instruction of a method that waits.
+/// Which call has an opcode, of those that have three bytes (JVMS 6.5).
+#[inline(always)]
+fn call_of(opcode: u8) -> Option<Invocation>
+    ensures { IfSome result (λ how. invoke_opcode how ≡ opcode) }
+{
+    match opcode {
+        182 => Some(Invocation::Virtual),
+        183 => Some(Invocation::Special),
+        184 => Some(Invocation::Static),
+        _ => None,
+    }
+}
+
+/// The offset behind the instruction of a method that waits. Mostly that is a call, whose size is known by its opcode.
 fn next_of(methods: &Methods<'_>, own: MethodRecord) -> u32
     requires { HasNext methods.now own }
     ensures { IsNext methods.now own result }
@@ -30,6 +45,12 @@ fn next_of(methods: &Methods<'_>, own: MethodRecord) -> u32
     let Some(code) = methods.method(own.method).code else {
         unreachable!();
     };
+    let opcode = code.opcode_at(own.pc);
+    if let Some(how) = call_of(opcode) {
+        let _how = how;
+        let _index = code.u16_at(own.pc + 1);
+        return own.pc + 3;
+    }
     code.insn_at(own.pc).1
 }
 
