@@ -14,7 +14,7 @@ use jv_interp_frames::of_interp_calls::{Methods, Texts};
 use jv_interp_frames::of_linked::Linked;
 use jv_interp_frames::of_loader::Classes;
 use jv_interp_frames::{Control, Frames, initialization_step, resume, suspend};
-use jv_interp_memory::Held;
+use jv_interp_memory::{Held, steps_behind};
 use jv_interp_words::Registers;
 use jv_meaning_machine::step_keeps;
 
@@ -80,7 +80,7 @@ fn run_method<'a, 'l, S: Store>(
                 }
                 Ok(false) => {
                     return Turn {
-                        left: left - 1,
+                        left: steps_behind(left),
                         refused: false,
                     };
                 }

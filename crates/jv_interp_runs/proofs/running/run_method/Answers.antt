@@ -120,7 +120,8 @@ returns-in-Ok-false-clause-ran g c = λ program s addresses h.
     let few = c.loop-left.invariant.few in
     let more = c.loop-left-test.true in
     let some = some_of c.run_alone.result c.if-run_alone-eq0.false in
-    let up : suc (k + j) ≡ c.args.n - (c.loop-left.left - 1) = omega (arith, few, some, more) in
+    let one = c.steps_behind.ensures in
+    let up : suc (k + j) ≡ c.args.n - c.steps_behind.result = omega (arith, few, some, more, one) in
     let r =
     ran_and_ran c.args.classes.now.world c.args.verified.now c.args.at program c.args.texts.now.names s addresses before h k c.loop-left.now c.loop-left.frames c.loop-left.control
     c.loop-left.held (g.S.Store.content c.loop-left.store) (c.loop-left.invariant.ran program s addresses h) j c.run_alone.new.at c.run_alone.new.frames
@@ -200,7 +201,8 @@ pub returns-in-Ok-false-clause-still_held : goal.returns-in-Ok-false-clause-stil
 returns-in-Ok-false-clause-still_held g c = λ none.
     let few = c.loop-left.invariant.few in
     let more = c.loop-left-test.true in
-    absurd (omega (arith, few, more, none))
+    let one = c.steps_behind.ensures in
+    absurd (omega (arith, few, more, none, one))
 
 pub returns-in-Err-clause-still_held : goal.returns-in-Err-clause-still_held
 returns-in-Err-clause-still_held g c = λ none.
@@ -216,7 +218,8 @@ pub returns-in-Ok-false-clause-still_content : goal.returns-in-Ok-false-clause-s
 returns-in-Ok-false-clause-still_content g c = λ none.
     let few = c.loop-left.invariant.few in
     let more = c.loop-left-test.true in
-    absurd (omega (arith, few, more, none))
+    let one = c.steps_behind.ensures in
+    absurd (omega (arith, few, more, none, one))
 
 pub returns-in-Err-clause-still_content : goal.returns-in-Err-clause-still_content
 returns-in-Err-clause-still_content g c = λ none.
