@@ -26,8 +26,8 @@ pub struct Held {
     pub read: usize,
 }
 
-/// The String that was made of the text with a number is this guest's own from now on, and no other's (JVMS 5.1), and this guest has paid
-/// for it: so many cells are left to it (own).
+/// The String that was made of the text with a number is what its literals refer to from now on (JVMS 5.1): a guest has a table of its own,
+/// and has paid for what stands there, so that so many cells are left to it (own).
 #[inline(always)]
 pub fn keep_literal(held: &mut Held, number: usize, string: u32, cells: u32)
     requires { number < length held.old.literals.items }
