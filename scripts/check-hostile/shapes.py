@@ -277,6 +277,19 @@ def finals_in_two_chains(folder, scale):
             made.write(folder)
 
 
+def finals_private(folder, scale):
+    """1,024 classes in a chain, by turns of 256 private final methods and of 256 public ones of the same names."""
+    count = scaled(scale, 1024)
+    given = descriptors(256)
+    for n in range(count):
+        made = ClassFile(f"C{n}" if n < count - 1 else "Main", f"C{n - 1}" if n else "java/lang/Object")
+        for k in range(256):
+            made.method(0x12 if n % 2 == 0 else 1, f"m{n // 2}", given[k], 0, 24, bytes([177]))
+        if n == count - 1:
+            made.main()
+        made.write(folder)
+
+
 def blank_frames(folder, scale):
     """Frames at each nop, over 65,535 local variables; in 31 methods 4 MB."""
     made = ClassFile("Main")
@@ -1007,7 +1020,7 @@ def catches_long(folder, scale):
 
 SHAPES = [
     long_references, short_references, used_references, interface_often, long_methods, long_methods_final, long_fields,
-    methods_below_final, classes_below_final, finals_in_each, finals_in_two_chains, blank_frames, int_frames, int_frames_and_stores,
+    methods_below_final, classes_below_final, finals_in_each, finals_in_two_chains, finals_private, blank_frames, int_frames, int_frames_and_stores,
     int_stores, int_switch,
     handlers_at_front, handlers_and_frames, handlers_over_all, handlers_apart, handlers_and_stores, new_popped, new_left, new_made,
     no_package, interface_entries, supers_chain, supers_diamond, supers_dense, many_finals, branches_apart, branches_apart_often,
