@@ -1020,8 +1020,8 @@ def catches_long(folder, scale):
 
 SHAPES = [
     long_references, short_references, used_references, interface_often, long_methods, long_methods_final, long_fields,
-    methods_below_final, classes_below_final, finals_in_each, finals_in_two_chains, finals_private, blank_frames, int_frames, int_frames_and_stores,
-    int_stores, int_switch,
+    methods_below_final, classes_below_final, finals_in_each, finals_in_two_chains, finals_private, blank_frames, int_frames,
+    int_frames_and_stores, int_stores, int_switch,
     handlers_at_front, handlers_and_frames, handlers_over_all, handlers_apart, handlers_and_stores, new_popped, new_left, new_made,
     no_package, interface_entries, supers_chain, supers_diamond, supers_dense, many_finals, branches_apart, branches_apart_often,
     stack_branches, stack_branches_often, stack_pushed, stack_in_turn, stack_calls, stack_constructs, stack_to_objects,
