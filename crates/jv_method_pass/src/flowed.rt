@@ -230,6 +230,17 @@ fn was_asked(asked: &mut Vec<usize>, pass: &Pass<'_, '_, '_, '_, '_>, place: usi
     false
 }
 
+/// Whether the frame of the map at a place is to be kept: one with its local entries was asked for before, or none is kept, of which those that
+/// share nearly all of its entries could be made.
+fn is_wanted(
+    asked: &mut Vec<usize>,
+    frames: &[FlowedFrame],
+    pass: &Pass<'_, '_, '_, '_, '_>,
+    place: usize,
+) -> bool {
+    was_asked(asked, pass, place) || frames.is_empty()
+}
+
 /// Whether none is kept.
 fn is_none_kept(frames: &[FlowedFrame]) -> bool
     ensures { IsTrue result → frames.now ≡ [] }
@@ -329,7 +340,8 @@ impl FlowedLocals {
         }
     }
 
-    /// Keeps the frame of the map at a place, if it was asked for before, the host has memory for it, and not too many were made.
+    /// Keeps the frame of the map at a place, if it was asked for before or none is kept, the host has memory for it, and not too many were
+    /// made.
     fn begin(&mut self, pass: &Pass<'_, '_, '_, '_, '_>, place: usize, map: &MapFrame<'_>)
         requires at { slice_get pass.now.frames place ≡ Some map.now }
         requires room { HasRoom pass.now.types pass.now.max_locals map.now }
@@ -338,7 +350,7 @@ impl FlowedLocals {
         if self.begun >= MADE {
             return;
         }
-        if !was_asked(&mut self.asked, pass, place) {
+        if !is_wanted(&mut self.asked, &self.frames, pass, place) {
             return;
         }
         self.begun += 1;
