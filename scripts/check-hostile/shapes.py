@@ -140,10 +140,12 @@ def references(folder, scale, names):
 
 
 def long_references(folder, scale):
+    """62,000 references to methods with names of 65,535 bytes, below a chain of 1,000 classes."""
     references(folder, scale, long_names(50))
 
 
 def short_references(folder, scale):
+    """The same with short names."""
     references(folder, scale, [f"m{k}" for k in range(50)])
 
 
@@ -194,10 +196,12 @@ def long_methods(folder, scale, final=False):
 
 
 def long_methods_final(folder, scale):
+    """The same below four classes with a final method."""
     long_methods(folder, scale, True)
 
 
 def long_fields(folder, scale):
+    """65,535 fields over 50 such names."""
     made = ClassFile("Main")
     made.main()
     left = scaled(scale, 65535)
@@ -471,6 +475,7 @@ def int_frames_and_stores(folder, scale):
 
 
 def supers_chain(folder, scale):
+    """A chain of 1,024 classes."""
     count = scaled(scale, 1023)
     chain(folder, count)
     made = ClassFile("Main", f"C{count - 1}")
@@ -491,10 +496,12 @@ def interfaces(folder, count, above):
 
 
 def supers_diamond(folder, scale):
+    """A diamond of 998 interfaces, each below the two before it."""
     interfaces(folder, scaled(scale, 998), lambda n: [k for k in (n - 1, n - 2) if k >= 0])
 
 
 def supers_dense(folder, scale):
+    """512 interfaces, each below all before it."""
     interfaces(folder, scaled(scale, 512), lambda n: range(n))
 
 
