@@ -1,11 +1,11 @@
 #!/usr/bin/env python3
-"""Writes 400 Java source files to a folder: classes in ten packages, each with the statements that Java programs are made of
+"""Writes 1,000 Java source files to a folder: classes in ten packages, each with the statements that Java programs are made of
 (loops, switches, arrays, exceptions, calls to one another), all within the profile that this host reads."""
 import random
 import sys
 from pathlib import Path
 
-CLASSES = 400
+CLASSES = 1000
 PACKAGES = 10
 
 
