@@ -230,8 +230,8 @@ fn was_asked(asked: &mut Vec<usize>, pass: &Pass<'_, '_, '_, '_, '_>, place: usi
     false
 }
 
-/// Whether the frame of the map at a place is to be kept: one with its local entries was asked for before, or none is kept, of which those that
-/// share nearly all of its entries could be made.
+/// Whether the frame of the map at a place is to be kept: one with its local entries was asked for before, or none is kept, of which
+/// those that share nearly all of its entries could be made.
 fn is_wanted(
     asked: &mut Vec<usize>,
     frames: &[FlowedFrame],
