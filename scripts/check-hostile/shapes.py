@@ -253,45 +253,33 @@ def classes_below_final(folder, scale):
         made.write(folder)
 
 
-def finals_in_each(folder, scale):
-    """The same, where all of these methods are final."""
-    count = scaled(scale, 1024)
+def chain_of_methods(folder, count, prefix, last, kind):
+    """A chain of so many classes of 256 methods each, whose flags and name kind(number) gives; the last class has a name of its own."""
     given = descriptors(256)
     for n in range(count):
-        made = ClassFile(f"C{n}" if n < count - 1 else "Main", f"C{n - 1}" if n else "java/lang/Object")
-        for k in range(256):
-            made.method(0x11, f"m{n}", given[k], 0, 24, bytes([177]))
-        if n == count - 1:
+        made = ClassFile(last if n == count - 1 else f"{prefix}{n}", f"{prefix}{n - 1}" if n else "java/lang/Object")
+        flags, name = kind(n)
+        for descriptor in given:
+            made.method(flags, name, descriptor, 0, 24, bytes([177]))
+        if last == "Main" and n == count - 1:
             made.main()
         made.write(folder)
+
+
+def finals_in_each(folder, scale):
+    """The same, where all of these methods are final."""
+    chain_of_methods(folder, scaled(scale, 1024), "C", "Main", lambda n: (0x11, f"m{n}"))
 
 
 def finals_in_two_chains(folder, scale):
     """Two chains of 512 classes of 256 final methods each, of the same names."""
-    count = scaled(scale, 512)
-    given = descriptors(256)
-    for chain in "CD":
-        for n in range(count):
-            last = n == count - 1 and chain == "C"
-            made = ClassFile("Main" if last else f"{chain}{n}", f"{chain}{n - 1}" if n else "java/lang/Object")
-            for k in range(256):
-                made.method(0x11, f"m{n}", given[k], 0, 24, bytes([177]))
-            if last:
-                made.main()
-            made.write(folder)
+    for prefix, last in (("C", "Main"), ("D", "E")):
+        chain_of_methods(folder, scaled(scale, 512), prefix, last, lambda n: (0x11, f"m{n}"))
 
 
 def finals_private(folder, scale):
     """1,024 classes in a chain, by turns of 256 private final methods and of 256 public ones of the same names."""
-    count = scaled(scale, 1024)
-    given = descriptors(256)
-    for n in range(count):
-        made = ClassFile(f"C{n}" if n < count - 1 else "Main", f"C{n - 1}" if n else "java/lang/Object")
-        for k in range(256):
-            made.method(0x12 if n % 2 == 0 else 1, f"m{n // 2}", given[k], 0, 24, bytes([177]))
-        if n == count - 1:
-            made.main()
-        made.write(folder)
+    chain_of_methods(folder, scaled(scale, 1024), "C", "Main", lambda n: (0x12 if n % 2 == 0 else 1, f"m{n // 2}"))
 
 
 def blank_frames(folder, scale):
