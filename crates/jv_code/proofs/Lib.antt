@@ -3,6 +3,7 @@ pub mod Tables
 pub mod Told
 pub mod Laws
 pub mod Sizes
+pub mod Skipped
 pub mod Fronts
 pub mod StartLaws
 pub mod Marks

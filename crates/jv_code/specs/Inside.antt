@@ -2,4 +2,5 @@
 pub mod Shapes
 pub mod SwitchReading
 pub mod Reading
+pub mod Skipping
 pub mod StartTable

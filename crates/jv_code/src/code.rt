@@ -8,7 +8,8 @@ ghost use Rattle.jv_code.specs.Numbers.{signed8, signed16};
 ghost use Rattle.jv_code.specs.Operands.{HasBytes, least_operands};
 
 use crate::insn::Insn;
-use crate::reading::{read_insn, read_known_insn};
+use crate::reading::read_known_insn;
+use crate::skipping::skip_insn;
 use jv_format::{byte_at, half_at};
 use std::fmt;
 
@@ -30,16 +31,16 @@ pub struct Code<'a> {
     pub ghost is_code: { ∥ ((insns : List Instruction) × IsCode bytes.now insns) ∥₁ },
 }
 
-/// The instruction at the front, which stands at an offset of the code, and what follows it.
-pub(crate) fn insn_front(at: usize, bytes: &[u8]) -> Option<(Insn<&[u8]>, &[u8])>
-    ensures found { IfSome result (λ x. bytes.now ≡ insn_bytes (instruction_of x.0) ++ x.1.now) }
-    ensures fits { IfSome result (λ x. IsTrue (insn_fits at (instruction_of x.0))) }
+/// What follows the instruction at the front, which stands at an offset of the code.
+#[inline(always)]
+pub(crate) fn behind_insn(at: usize, bytes: &[u8]) -> Option<&[u8]>
+    ensures found { IfSome result (λ rest. (i : Instruction) × (bytes.now ≡ insn_bytes i ++ rest.now) × IsTrue (insn_fits at i)) }
     ensures none { IfNone result ((i : Instruction) (rest : List ℕ) → IsTrue (insn_fits at i) → bytes.now ≡ insn_bytes i ++ rest → ⊥) }
 {
-    let Some((insn, rest)) = read_insn(at, bytes) else {
+    let Some(rest) = skip_insn(at, bytes) else {
         return None;
     };
-    Some((insn, rest))
+    Some(rest)
 }
 
 fn is_code(bytes: &[u8]) -> bool
@@ -50,7 +51,7 @@ fn is_code(bytes: &[u8]) -> bool
     }
     let mut rest = bytes;
     while !rest.is_empty() {
-        let Some((_insn, after)) = insn_front(bytes.len() - rest.len(), rest) else {
+        let Some(after) = behind_insn(bytes.len() - rest.len(), rest) else {
             return false;
         };
         rest = after;
@@ -120,7 +121,7 @@ impl<'a> Code<'a> {
         let pc = pc as usize;
         let mut rest = self.bytes;
         while self.bytes.len() - rest.len() < pc {
-            let Some((_insn, after)) = insn_front(self.bytes.len() - rest.len(), rest) else {
+            let Some(after) = behind_insn(self.bytes.len() - rest.len(), rest) else {
                 return false;
             };
             rest = after;

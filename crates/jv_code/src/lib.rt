@@ -9,6 +9,7 @@ mod numbers;
 mod profile;
 mod reading;
 mod shapes;
+mod skipping;
 mod starts;
 mod successors;
 mod switches;

@@ -4,7 +4,7 @@ ghost use Rattle.std.specs.Prelude.{◌≡◌, ◌↔◌, IsTrue, is_some};
 ghost use Rattle.jv_code.specs.Inside.Shapes.{shape_at, is_outside};
 ghost use Rattle.jv_code.specs.Unsupported.{is_unsupported, makes_floats, is_wide_float, front_unsupported, IsUnsupported};
 
-use crate::code::insn_front;
+use crate::code::behind_insn;
 use crate::shapes::shape_of;
 
 fn is_of_profile(opcode: u8) -> bool
@@ -56,7 +56,7 @@ pub fn unsupported(bytes: &[u8]) -> bool
     ensures { IsTrue result ↔ IsUnsupported bytes.now }
 {
     let mut rest = bytes;
-    while let Some((_insn, after)) = insn_front(bytes.len() - rest.len(), rest) {
+    while let Some(after) = behind_insn(bytes.len() - rest.len(), rest) {
         rest = after;
     }
     front_unsupported(rest)

@@ -1,6 +1,5 @@
 use Rattle.std.proofs.lemmas.Grind.{common_steps}
 use Rattle.std.proofs.Common.{arith, ◌++◌, ◌∷◌, []}
-use Rattle.jv_code.specs.Insns.{instruction_of}
 use Rattle.jv_code.proofs.Fronts.{Front-push, Front-none}
 use Rattle.jv_code.proofs.code.is_code.Goals as goal
 
@@ -9,7 +8,7 @@ returns-in_default c = (λ no. absurd cc, λ h. absurd (Front-none _ _ _ (grind 
 
 pub loop-rest-preserved : goal.loop-rest-preserved
 loop-rest-preserved c =
-    (c.loop-rest.invariant.0 ++ instruction_of c.in-Some._insn ∷ [], Front-push _ _ _ _ _ c.in-Some.ensures.found c.in-Some.ensures.fits c.loop-rest.invariant.1)
+    let insn = c.in-Some.ensures.found in (c.loop-rest.invariant.0 ++ insn.0 ∷ [], Front-push _ _ _ _ _ insn.1 insn.2 c.loop-rest.invariant.1)
 
 pub returns : goal.returns
 returns c = grind (arith, common_steps)

@@ -3,8 +3,8 @@ use Rattle.jv_code.specs.Insns.{Instruction}
 use Rattle.jv_code.proofs.Fronts.{Front}
 use Rattle.jv_code.proofs.profile.unsupported.Given as goal
 
-abbrev pub invariant-loop-insn : goal.invariant-loop-insn
-invariant-loop-insn l = (before : List Instruction) × Front before l.bytes l.rest
+abbrev pub invariant-loop-after : goal.invariant-loop-after
+invariant-loop-after l = (before : List Instruction) × Front before l.bytes l.rest
 
-abbrev pub decreases-loop-insn : goal.decreases-loop-insn
-decreases-loop-insn l = length l.rest
+abbrev pub decreases-loop-after : goal.decreases-loop-after
+decreases-loop-after l = length l.rest

@@ -1,5 +1,4 @@
 use Rattle.std.proofs.Common.{arith, ◌++◌, ◌∷◌, []}
-use Rattle.jv_code.specs.Insns.{instruction_of}
 use Rattle.jv_code.proofs.Fronts.{Front-nil, Front-push, Front-place}
 use Rattle.jv_code.proofs.OneCode.{code_of}
 use Rattle.jv_code.proofs.StartLaws.{StartsBelow-nil, StartsBelow-push, search_fails, search_ends}
@@ -13,10 +12,11 @@ loop-rest-init c = ([], record { front = Front-nil _; below = StartsBelow-nil _ 
 
 pub loop-rest-preserved : goal.loop-rest-preserved
 loop-rest-preserved c =
-    let s = c.loop-rest.invariant in (
-      s.0 ++ instruction_of c.in-Some._insn ∷ [],
+    let s = c.loop-rest.invariant in
+    let insn = c.in-Some.ensures.found in (
+      s.0 ++ insn.0 ∷ [],
       record {
-        front = Front-push _ _ _ _ _ c.in-Some.ensures.found c.in-Some.ensures.fits s.1.front;
+        front = Front-push _ _ _ _ _ insn.1 insn.2 s.1.front;
         below = StartsBelow-push _ _ _ (omega (arith, Front-place _ _ _ s.1.front, c.loop-rest-test.true)) s.1.below;
       },
     )

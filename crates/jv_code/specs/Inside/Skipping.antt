@@ -1,0 +1,14 @@
+-- Passing over an instruction.
+use Rattle.std.specs.Prelude.{◌≡◌, ℕ, List, Option, Some, None, get_or}
+use Rattle.std.specs.Borrow.{Bor}
+use Rattle.jv_code.specs.declared.skipping.TheConstants.{SIZES}
+use Rattle.jv_code.specs.Insns.{Instruction}
+
+-- how many bytes an instruction with an opcode takes, as the code's table has it; 0 where the opcode alone doesn't tell it
+abbrev pub size_at : ℕ → ℕ
+size_at opcode = get_or SIZES opcode 0
+
+-- What a function found behind the instruction at the front is what follows the one that is read there.
+abbrev pub PassesOver : Option (Instruction × List ℕ) → Option (Bor (List ℕ)) → Type 0
+PassesOver read None = read ≡ None
+PassesOver read (Some rest) = (i : Instruction) × (read ≡ Some (i, rest.now))
