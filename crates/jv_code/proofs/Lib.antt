@@ -3,9 +3,9 @@ pub mod Tables
 pub mod Told
 pub mod Laws
 pub mod Sizes
-pub mod Skipped
 pub mod Fronts
 pub mod StartLaws
+pub mod Skipped
 pub mod Marks
 pub mod Outside
 pub mod Distances

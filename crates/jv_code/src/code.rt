@@ -9,7 +9,7 @@ ghost use Rattle.jv_code.specs.Operands.{HasBytes, least_operands};
 
 use crate::insn::Insn;
 use crate::reading::read_known_insn;
-use crate::skipping::skip_insn;
+use crate::skipping::{skip_insn, told_size};
 use jv_format::{byte_at, half_at};
 use std::fmt;
 
@@ -146,6 +146,35 @@ impl<'a> Code<'a> {
             unreachable!();
         };
         (insn, (self.bytes.len() - after.len()) as u32)
+    }
+
+    /// The offset behind the instruction at the offset, which is decoded.
+    #[inline(never)]
+    fn read_end(&self, pc: u32) -> u32
+        requires { IsStart self.now.bytes.now pc }
+        ensures insn { (i : Instruction) × IsAt self.now.bytes.now pc i × (result ≡ pc + length (insn_bytes i)) }
+        ensures goes_on { IsStartOrEnd self.now.bytes.now result }
+        ensures rises { pc < result }
+    {
+        let (_insn, next) = self.insn_at(pc);
+        next
+    }
+
+    /// The offset behind the instruction at the offset.
+    #[inline(always)]
+    pub(crate) fn end_of_insn(&self, pc: u32) -> u32
+        requires { IsStart self.now.bytes.now pc }
+        ensures insn { (i : Instruction) × IsAt self.now.bytes.now pc i × (result ≡ pc + length (insn_bytes i)) }
+        ensures goes_on { IsStartOrEnd self.now.bytes.now result }
+        ensures rises { pc < result }
+    {
+        let at = pc as usize;
+        let (_, rest) = self.bytes.split_at(at);
+        let size = told_size(rest);
+        if size == 0 {
+            return self.read_end(pc);
+        }
+        (at + size) as u32
     }
 
     /// The opcode of the instruction at the offset. Its operands are in the code.

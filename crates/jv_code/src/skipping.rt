@@ -1,8 +1,8 @@
 //! Passes over the instruction at the front of bytes (JVMS 6.5).
 
-ghost use Rattle.std.specs.Prelude.{◌≡◌};
+ghost use Rattle.std.specs.Prelude.{◌≡◌, ℕ};
 ghost use Rattle.jv_code.specs.Inside.Reading.{insn_read};
-ghost use Rattle.jv_code.specs.Inside.Skipping.{size_at, PassesOver};
+ghost use Rattle.jv_code.specs.Inside.Skipping.{size_at, HasSize, PassesOver};
 
 use crate::reading::read_insn;
 use jv_format::byte_at;
@@ -51,13 +51,43 @@ fn size_of(opcode: u8) -> usize
     usize::from(SIZES[usize::from(opcode)])
 }
 
-/// What follows the instruction at the front, by its operands.
+/// How many bytes the instruction at the front takes, where its opcode alone tells it and they are
+/// there, and else 0.
+#[inline(always)]
+pub(crate) fn told_size(bytes: &[u8]) -> usize
+    ensures { (result ≡ 0 → ⊥) → (at : ℕ) → HasSize at bytes.now result }
+{
+    let Some((opcode, _operands)) = byte_at(bytes) else {
+        return 0;
+    };
+    let size = size_of(opcode);
+    if bytes.len() < size {
+        return 0;
+    }
+    size
+}
+
+/// How many bytes the instruction at the front takes, by its operands, and 0 where none stands.
+#[inline(never)]
+fn read_size(at: usize, bytes: &[u8]) -> usize
+    ensures some { (result ≡ 0 → ⊥) → HasSize at bytes.now result }
+    ensures none { result ≡ 0 → insn_read at bytes.now ≡ None }
+{
+    let Some((_insn, rest)) = read_insn(at, bytes) else {
+        return 0;
+    };
+    bytes.len() - rest.len()
+}
+
+#[inline(always)]
 fn skip_read(at: usize, bytes: &[u8]) -> Option<&[u8]>
     ensures { PassesOver (insn_read at bytes.now) result }
 {
-    let Some((_insn, rest)) = read_insn(at, bytes) else {
+    let size = read_size(at, bytes);
+    if size == 0 {
         return None;
-    };
+    }
+    let (_, rest) = bytes.split_at(size);
     Some(rest)
 }
 
@@ -66,11 +96,8 @@ fn skip_read(at: usize, bytes: &[u8]) -> Option<&[u8]>
 pub(crate) fn skip_insn(at: usize, bytes: &[u8]) -> Option<&[u8]>
     ensures { PassesOver (insn_read at bytes.now) result }
 {
-    let Some((opcode, _operands)) = byte_at(bytes) else {
-        return None;
-    };
-    let size = size_of(opcode);
-    if size == 0 || bytes.len() < size {
+    let size = told_size(bytes);
+    if size == 0 {
         return skip_read(at, bytes);
     }
     let (_, rest) = bytes.split_at(size);

@@ -46,8 +46,7 @@ fn mark_starts(code: &Code<'_>, marks: &mut [bool])
     let mut pc = 0;
     while pc < end {
         marks[pc as usize] = true;
-        let (_insn, next) = code.insn_at(pc);
-        pc = next;
+        pc = code.end_of_insn(pc);
     }
 }
 
