@@ -6,6 +6,7 @@ use Rattle.std.specs.HashMap.{HashMap, get_by}
 use Rattle.std.specs.Str.{bytes_eq}
 use Rattle.std.proofs.lemmas.List.{map-append, length-map}
 use Rattle.std.proofs.lemmas.Slice.Eq.{bytes_eq-Decides}
+use Rattle.jv_classes.specs.declared.name_key.NameKey.{NameKey}
 use Rattle.jv_classes.specs.Names.{has_name, with_name}
 use Rattle.jv_classes.specs.Inside.KeptNames.{text_of, texts_of, AreNamePlaces}
 use Rattle.jv_classes.proofs.FirstPlace.{some_place, joined}
@@ -21,14 +22,17 @@ unlike xs ys e = by_test (bytes_eq ys xs) refl
 abbrev Name : Type 0
 Name = Bor (List ℕ)
 
-abbrev is_text : Name → Name → Bool
-is_text name other = bytes_eq name.now other.now
+abbrev keyed : Name → NameKey
+keyed name = record { bytes = name }
 
-module _ {S : Type 0} (names : List Name) (places : HashMap Name ℕ S) (name : Name) (known : AreNamePlaces names places) where
-  pub is_there : is_some (get_by (is_text name) places) ≡ has_name (texts_of names) name.now
-  is_there = ap is_some (known name) ∙ some_place (bytes_eq name.now) (texts_of names)
+abbrev is_text : NameKey → NameKey → Bool
+is_text key other = bytes_eq key.bytes.now other.bytes.now
 
-  pub stays : is_some (get_by (is_text name) places) ≡ true → texts_of names ≡ with_name (texts_of names) name.now
+module _ {S : Type 0} (names : List Name) (places : HashMap NameKey ℕ S) (name : Name) (known : AreNamePlaces names places) where
+  pub is_there : is_some (get_by (is_text (keyed name)) places) ≡ has_name (texts_of names) name.now
+  is_there = ap is_some (known (keyed name)) ∙ some_place (bytes_eq name.now) (texts_of names)
+
+  pub stays : is_some (get_by (is_text (keyed name)) places) ≡ true → texts_of names ≡ with_name (texts_of names) name.now
   stays found = ap (λ b. cond b (texts_of names) (texts_of names ++ name.now ∷ [])) (sym found ∙ is_there)
 
   module _ (absent : has_name (texts_of names) name.now ≡ false) where
@@ -36,13 +40,14 @@ module _ {S : Type 0} (names : List Name) (places : HashMap Name ℕ S) (name : 
     behind = map-append text_of names (name ∷ []) ∙ ap (λ b. cond b (texts_of names) (texts_of names ++ name.now ∷ [])) (sym absent)
 
     -- the name has the count of those before it for its number
-    pub placed_last : (new : HashMap Name ℕ S) → ((other : Name) → get_by (is_text other) new ≡ cond (is_text name other) (Some (length names)) (get_by (is_text other) places))
+    pub placed_last : (new : HashMap NameKey ℕ S)
+        → ((other : NameKey) → get_by (is_text other) new ≡ cond (is_text (keyed name) other) (Some (length names)) (get_by (is_text other) places))
         → AreNamePlaces (names ++ name ∷ []) new
     placed_last new told other =
-        joined is_text (λ k text. bytes_eq k.now text) (texts_of names) name.now name places new known
-        (λ k. told k ∙ ap (λ n. cond (is_text name k) (Some n) (get_by (is_text k) places)) (sym (length-map names text_of)))
-        (λ k e. let same = (bytes_eq-Decides name.now k.now).0 e in
-        (ap (λ text. has_name (texts_of names) text) (sym same) ∙ absent, (bytes_eq-Decides k.now name.now).1 (sym same)))
-        (λ k e. unlike name.now k.now e)
+        joined is_text (λ k text. bytes_eq k.bytes.now text) (texts_of names) name.now (keyed name) places new known
+        (λ k. told k ∙ ap (λ n. cond (is_text (keyed name) k) (Some n) (get_by (is_text k) places)) (sym (length-map names text_of)))
+        (λ k e. let same = (bytes_eq-Decides name.now k.bytes.now).0 e in
+        (ap (λ text. has_name (texts_of names) text) (sym same) ∙ absent, (bytes_eq-Decides k.bytes.now name.now).1 (sym same)))
+        (λ k e. unlike name.now k.bytes.now e)
         other
-        ∙ ap (position (bytes_eq other.now)) (sym (map-append text_of names (name ∷ [])))
+        ∙ ap (position (bytes_eq other.bytes.now)) (sym (map-append text_of names (name ∷ [])))

@@ -4,6 +4,7 @@ ghost use Rattle.std.specs.Prelude.{◌≡◌, ◌<◌, [], IfOk, OnOk, OnErr, l
 ghost use Rattle.std.specs.Str.{bytes_eq};
 ghost use Rattle.jv_classes.specs.Names.{has_name, with_name};
 
+use crate::name_key::NameKey;
 use std::alloc::{AllocError, Global};
 use std::collections::HashMap;
 use std::hash::RandomState;
@@ -13,7 +14,7 @@ use std::marker::Model;
 /// of the name, however many there are, and a name that joins costs two.
 pub struct Names<'a> {
     names: Vec<&'a [u8]>,
-    places: HashMap<&'a [u8], usize, RandomState>,
+    places: HashMap<NameKey<'a>, usize, RandomState>,
 }
 
 impl<'a> Model for Names<'a> {
@@ -65,11 +66,12 @@ impl<'a> Names<'a> {
         ensures ok { OnOk result (self.new ≡ with_name self.old name.now) }
         ensures refused { OnErr result (self.new ≡ self.old) }
     {
-        if self.places.contains_key(name) {
+        if self.places.contains_key(&NameKey { bytes: name }) {
             return Ok(false);
         }
         self.names.reserve(1)?;
-        self.places.insert(name, self.names.len())?;
+        self.places
+            .insert(NameKey { bytes: name }, self.names.len())?;
         self.names.push_reserved(name);
         Ok(true)
     }
@@ -78,7 +80,7 @@ impl<'a> Names<'a> {
     pub fn place_of(&self, name: &[u8]) -> Option<usize>
         ensures { result ≡ position (bytes_eq name.now) self.now }
     {
-        self.places.get(name).copied()
+        self.places.get(&NameKey { bytes: name }).copied()
     }
 
     /// The name with a number.

@@ -23,9 +23,9 @@ invariant_of-self-2 c other =
     let absent : has_name (texts_of c.self.inside.names.items) c.args.name.now ≡ false =
     sym (is_there c.self.inside.names.items c.self.inside.places c.args.name c.self.invariant) ∙ (sym c.contains_key.ensures ∙ c.if-contains_key.false) in
     placed_last c.self.inside.names.items c.self.inside.places c.args.name c.self.invariant absent c.insert.new.self
-    (λ q. c.in_ok-insert.ensures.updates.0 q ∙ ap (λ n. cond (bytes_eq c.args.name.now q.now) (Some n) (get_by (λ key. bytes_eq q.now key.now) c.self.inside.places)) (c.len.ensures ∙ (c.reserve.new.self.ok.0 ∙ ap length c.reserve.ensures.items)))
+    (λ q. c.in_ok-insert.ensures.updates.0 q ∙ ap (λ n. cond (bytes_eq c.args.name.now q.bytes.now) (Some n) (get_by (λ key. bytes_eq q.bytes.now key.bytes.now) c.self.inside.places)) (c.len.ensures ∙ (c.reserve.new.self.ok.0 ∙ ap length c.reserve.ensures.items)))
     other
-    ∙ ap (λ names. position (bytes_eq other.now) (texts_of names)) (sym (c.push_reserved.ensures.items ∙ ap (λ names. names ++ c.args.name ∷ []) c.reserve.ensures.items))
+    ∙ ap (λ names. position (bytes_eq other.bytes.now) (texts_of names)) (sym (c.push_reserved.ensures.items ∙ ap (λ names. names ++ c.args.name ∷ []) c.reserve.ensures.items))
 
 pub returns-clause-new : goal.returns-clause-new
 returns-clause-new c =
