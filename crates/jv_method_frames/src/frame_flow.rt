@@ -1,6 +1,6 @@
 //! What flows into a frame of the stack map (JVMS 4.10.1.2, 4.10.1.4).
 
-ghost use Rattle.std.specs.Prelude.{◌≡◌, ◌&&◌, ◌||◌, not, ℕ, List, ◌∷◌, [], IsTrue, map, reverse};
+ghost use Rattle.std.specs.Prelude.{◌≡◌, Some, slice_get, ◌&&◌, ◌||◌, not, ℕ, List, ◌∷◌, [], IsTrue, map, reverse};
 ghost use Rattle.std.specs.List.{list_any};
 ghost use Rattle.std.specs.Option.{option_map};
 ghost use Rattle.jv_frames.specs.Frames.{is_uninitialized_this};
@@ -9,10 +9,12 @@ ghost use Rattle.jv_meaning_world.specs.Flow.{flows};
 ghost use Rattle.jv_meaning_world.specs.FrameFlow.{item_flows, frame_flows};
 ghost use Rattle.jv_meaning_typing.specs.FrameChanges.{is_same_object};
 ghost use Rattle.jv_types.specs.Typed.{typed};
-ghost use Rattle.jv_types.specs.Mapped.{names_of_types, types_of_entries, local_entry_words, stack_of, flows_to_map, thrown_flows_to_map, has_uninitialized_this, locals_flow_to, stack_flows_to};
-ghost use Rattle.jv_method_frames.specs.Inside.Behind.{left_in};
+ghost use Rattle.jv_types.specs.Numbered.{Item};
+ghost use Rattle.jv_types.specs.Mapped.{world_of_types, names_of_types, types_of_entries, local_entry_words, stack_of, flows_to_map, thrown_flows_to_map, has_uninitialized_this, locals_flow_to, stack_flows_to};
+ghost use Rattle.jv_method_frames.specs.Inside.Behind.{left_in, local_flows_to, AreLeft};
 
-use jv_frames::{Entries, MapFrame, VerificationTypeOf};
+use jv_frames::of_pool::of_text::{Base, Element, FieldTypeOf};
+use jv_frames::{Entries, FrameEntry, MapFrame, VerificationTypeOf};
 use jv_types::{EntryTypes, Item, TypeNames, words_of};
 use jv_types_frames::TypeFrame;
 
@@ -40,14 +42,52 @@ fn left_in(object: Option<Item>, local: Item) -> Item
     }
 }
 
-/// Whether two types are known to be one without a look at them as a whole.
+/// Whether two types that are no classes are known to be one.
+#[inline(always)]
+fn same_base(one: Base, other: Base) -> bool
+    ensures { IsTrue result → one ≡ other }
+{
+    match (one, other) {
+        (Base::Byte, Base::Byte) => true,
+        (Base::Char, Base::Char) => true,
+        (Base::Int, Base::Int) => true,
+        (Base::Long, Base::Long) => true,
+        (Base::Boolean, Base::Boolean) => true,
+        _ => false,
+    }
+}
+
+#[inline(always)]
+fn same_element(one: Element<u32>, other: Element<u32>) -> bool
+    ensures { IsTrue result → one ≡ other }
+{
+    match (one, other) {
+        (Element::Base(one), Element::Base(other)) => same_base(one, other),
+        (Element::Class(one), Element::Class(other)) => one == other,
+        _ => false,
+    }
+}
+
+/// Whether two arrays are known to be of one type.
+#[inline(always)]
+fn same_array(one: FieldTypeOf<u32>, other: FieldTypeOf<u32>) -> bool
+    ensures { IsTrue result → one ≡ other }
+{
+    one.dimensions == other.dimensions && same_element(one.element, other.element)
+}
+
+/// Whether two types are known to be one without a look at a table.
 #[inline(always)]
 fn are_same(one: Item, other: Item) -> bool
     ensures { IsTrue result → one ≡ other }
 {
     match (one, other) {
         (VerificationTypeOf::Int, VerificationTypeOf::Int) => true,
+        (VerificationTypeOf::Long, VerificationTypeOf::Long) => true,
         (VerificationTypeOf::Class(one), VerificationTypeOf::Class(other)) => one == other,
+        (VerificationTypeOf::Array(one), VerificationTypeOf::Array(other)) => {
+            same_array(one, other)
+        }
         _ => false,
     }
 }
@@ -59,18 +99,47 @@ fn is_top(item: Item) -> bool
     matches!(item, VerificationTypeOf::Top)
 }
 
-/// Whether a local variable's type flows to another: to top, and where the two are one, no table is asked.
-#[inline(always)]
-fn flows(names: &TypeNames<'_, '_>, from: Item, to: Item) -> bool
-    ensures { result ≡ flows names.now.world (typed names.now.names from) (typed names.now.names to) }
+/// Whether a local variable flows to an entry, once an object cannot be used any more. Both are looked up here, so that who calls
+/// this seldom has neither in memory.
+#[inline(never)]
+fn local_flows(
+    types: &EntryTypes<'_, '_, '_>,
+    frame: &TypeFrame,
+    object: Option<Item>,
+    at: u16,
+    entry: FrameEntry,
+) -> bool
+    ensures { (local : Item) → slice_get frame.now.locals at ≡ Some local → result ≡ local_flows_to types.now object local entry }
 {
-    if is_top(to) {
+    let Some(local) = frame.local(at) else {
+        return false;
+    };
+    types
+        .names()
+        .flows(left_in(object, local), types.item(entry))
+}
+
+/// The same where the types of both are known: to top, and where the two are one, no table is asked.
+#[inline(always)]
+fn left_flows(
+    types: &EntryTypes<'_, '_, '_>,
+    frame: &TypeFrame,
+    object: Option<Item>,
+    at: u16,
+    entry: FrameEntry,
+    left: Item,
+    item: Item,
+) -> bool
+    ensures { AreLeft types.now frame.now object at entry left item
+        → result ≡ flows (world_of_types types.now) (typed (names_of_types types.now) left) (typed (names_of_types types.now) item) }
+{
+    if is_top(item) {
         return true;
     }
-    if are_same(from, to) {
+    if are_same(left, item) {
         return true;
     }
-    names.flows(from, to)
+    local_flows(types, frame, object, at, entry)
 }
 
 /// Whether a stack item's type does: where the two are one, no table is asked.
@@ -105,7 +174,8 @@ pub fn locals_flow(
         let Some(local) = frame.local(at) else {
             return false;
         };
-        if !flows(types.names(), left_in(object, local), item) {
+        let left = left_in(object, local);
+        if !left_flows(types, frame, object, at, entry, left, item) {
             return false;
         }
     }

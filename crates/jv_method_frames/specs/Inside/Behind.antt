@@ -1,6 +1,8 @@
 -- Local variables and items of a stack against entries, from the last on.
-use Rattle.std.specs.Prelude.{◌≡◌, ℕ, ◌≤◌, ◌-◌, Bool, true, List, ◌++◌, length, drop, reverse, Option, Some, None, if◌then◌else◌}
+use Rattle.std.specs.Prelude.{◌≡◌, ℕ, ◌≤◌, ◌-◌, Bool, true, List, ◌++◌, length, drop, reverse, Option, Some, None, if◌then◌else◌, slice_get}
 use Rattle.std.specs.List.{flat_map}
+use Rattle.std.specs.Option.{option_map}
+use Rattle.jv_frames.specs.declared.entry.FrameEntry.{FrameEntry}
 use Rattle.jv_frames.specs.declared.verification.VerificationTypeOf.TheVariants as types
 use Rattle.jv_frames.specs.Frames.{type_by_words}
 use Rattle.jv_frames.specs.Types.{FrameType, words}
@@ -8,11 +10,27 @@ use Rattle.jv_meaning_world.specs.Flow.{flows}
 use Rattle.jv_meaning_world.specs.FrameFlow.{all_flow}
 use Rattle.jv_meaning_world.specs.World.{World}
 use Rattle.jv_meaning_typing.specs.FrameChanges.{is_same_object}
+use Rattle.jv_types.specs.Typed.{typed}
+use Rattle.jv_types.specs.Numbered.{Item, NumberFrame}
+use Rattle.jv_types.specs.Mapped.{EntryTypes, names_of_types, world_of_types, type_of_entry}
 
 -- a local variable, once an object cannot be used any more
 abbrev pub left_in : Option FrameType → FrameType → FrameType
 left_in None local = local
 left_in (Some object) local = if is_same_object object local then types.Top else local
+
+-- whether a local variable flows to an entry of a frame, once an object cannot be used any more
+abbrev pub local_flows_to : EntryTypes → Option Item → Item → FrameEntry → Bool
+local_flows_to t object local entry =
+    flows (world_of_types t) (left_in (option_map (typed (names_of_types t)) object) (typed (names_of_types t) local)) (type_of_entry t entry)
+
+-- one type is the local variable's at an index, once an object cannot be used any more, and the other is an entry's
+pub record AreLeft (t : EntryTypes) (frame : NumberFrame) (object : Option Item) (at : ℕ) (entry : FrameEntry) (left item : Item)
+    : Type 0 where
+  pub local : Item
+  pub there : slice_get frame.locals at ≡ Some local
+  pub left_is : typed (names_of_types t) left ≡ left_in (option_map (typed (names_of_types t)) object) (typed (names_of_types t) local)
+  pub item_is : typed (names_of_types t) item ≡ type_of_entry t entry
 
 -- the words of entries, of which the last is first
 abbrev pub words_of_entries : List FrameType → List FrameType

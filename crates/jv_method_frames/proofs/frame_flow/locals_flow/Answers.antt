@@ -1,4 +1,4 @@
-use Rattle.std.proofs.Common.{length, reverse, sym, ap, subst, ◌∙◌, arith}
+use Rattle.std.proofs.Common.{length, reverse, refl, sym, ap, subst, ◌∙◌, arith}
 use Rattle.std.specs.Option.{option_map}
 use Rattle.jv_frames.specs.Frames.{expanded}
 use Rattle.jv_meaning_world.specs.Flow.{flows}
@@ -37,18 +37,28 @@ returns-in_default-local c =
     (type_of_entry types c.in-Some.entry) (types_of_entries types c.next.new.self) (ap (types_of_entries types) c.in-Some.ensures) c.item-item.result c.words_of-at.result
     (c.words_of-at.ensures.of_type (names_of_types types)) c.item-item.ensures (sym c.local.ensures ∙ c.in_default-local.is))
 
-pub returns-then-not-flows : goal.returns-then-not-flows
-returns-then-not-flows c =
+pub returns-then-not-left_flows : goal.returns-then-not-left_flows
+returns-then-not-left_flows c =
     let types = c.args.types.now in
     sym (flows_not types.constants.types c.args.object c.args.frame.now.locals _ (types_of_entries types c.loop-entry.entries) c.loop-entry.at c.loop-entry.invariant
     (type_of_entry types c.in-Some.entry) (types_of_entries types c.next.new.self) (ap (types_of_entries types) c.in-Some.ensures) c.item-item.result c.words_of-at.result
-    (c.words_of-at.ensures.of_type (names_of_types types)) c.item-item.ensures c.in-Some-local.local c.left_in.result (sym c.local.ensures ∙ c.in-Some-local.is)
-    (c.left_in.ensures (names_of_types types)) c.names.result.now c.names.ensures c.flows.result c.flows.ensures c.if-not-flows.true)
+    (c.words_of-at.ensures.of_type (names_of_types types)) c.item-item.ensures c.in-Some-local.local c.left_in-left.result (sym c.local.ensures ∙ c.in-Some-local.is)
+    (c.left_in-left.ensures (names_of_types types)) types.constants.types refl c.left_flows.result (c.left_flows.ensures record {
+      local = c.in-Some-local.local;
+      there = sym c.local.ensures ∙ c.in-Some-local.is;
+      left_is = c.left_in-left.ensures (names_of_types types);
+      item_is = c.item-item.ensures;
+    }) c.if-not-left_flows.true)
 
 pub loop-entry-preserved : goal.loop-entry-preserved
 loop-entry-preserved c =
     let types = c.args.types.now in
     goes_on types.constants.types c.args.object c.args.frame.now.locals _ (types_of_entries types c.loop-entry.entries) c.loop-entry.at c.loop-entry.invariant
     (type_of_entry types c.in-Some.entry) (types_of_entries types c.next.new.self) (ap (types_of_entries types) c.in-Some.ensures) c.item-item.result c.words_of-at.result
-    (c.words_of-at.ensures.of_type (names_of_types types)) c.item-item.ensures c.in-Some-local.local c.left_in.result (sym c.local.ensures ∙ c.in-Some-local.is)
-    (c.left_in.ensures (names_of_types types)) c.names.result.now c.names.ensures c.flows.result c.flows.ensures c.if-not-flows.false
+    (c.words_of-at.ensures.of_type (names_of_types types)) c.item-item.ensures c.in-Some-local.local c.left_in-left.result (sym c.local.ensures ∙ c.in-Some-local.is)
+    (c.left_in-left.ensures (names_of_types types)) types.constants.types refl c.left_flows.result (c.left_flows.ensures record {
+      local = c.in-Some-local.local;
+      there = sym c.local.ensures ∙ c.in-Some-local.is;
+      left_is = c.left_in-left.ensures (names_of_types types);
+      item_is = c.item-item.ensures;
+    }) c.if-not-left_flows.false
