@@ -105,18 +105,18 @@ fn is_top(item: Item) -> bool
 fn local_flows(
     types: &EntryTypes<'_, '_, '_>,
     frame: &TypeFrame,
-    object: Option<Item>,
+    object: &Option<Item>,
     at: u16,
     entry: FrameEntry,
 ) -> bool
-    ensures { (local : Item) → slice_get frame.now.locals at ≡ Some local → result ≡ local_flows_to types.now object local entry }
+    ensures { (local : Item) → slice_get frame.now.locals at ≡ Some local → result ≡ local_flows_to types.now object.now local entry }
 {
     let Some(local) = frame.local(at) else {
         return false;
     };
     types
         .names()
-        .flows(left_in(object, local), types.item(entry))
+        .flows(left_in(*object, local), types.item(entry))
 }
 
 /// The same where the types of both are known: to top, and where the two are one, no table is asked.
@@ -124,13 +124,13 @@ fn local_flows(
 fn left_flows(
     types: &EntryTypes<'_, '_, '_>,
     frame: &TypeFrame,
-    object: Option<Item>,
+    object: &Option<Item>,
     at: u16,
     entry: FrameEntry,
     left: Item,
     item: Item,
 ) -> bool
-    ensures { AreLeft types.now frame.now object at entry left item
+    ensures { AreLeft types.now frame.now object.now at entry left item
         → result ≡ flows (world_of_types types.now) (typed (names_of_types types.now) left) (typed (names_of_types types.now) item) }
 {
     if is_top(item) {
@@ -175,7 +175,7 @@ pub fn locals_flow(
             return false;
         };
         let left = left_in(object, local);
-        if !left_flows(types, frame, object, at, entry, left, item) {
+        if !left_flows(types, frame, &object, at, entry, left, item) {
             return false;
         }
     }
