@@ -1,6 +1,6 @@
 -- The instruction at an offset of a method's code.
-use Rattle.std.proofs.Common.{◌≡◌, ℕ, Bool, false, List, [], Option, Some, None, refl, sym, subst, ◌∙◌, ◌↔◌, codes, true≢false}
-use Rattle.std.specs.Prelude.{IsTrue}
+use Rattle.std.proofs.Common.{◌≡◌, ℕ, Bool, true, false, List, [], Option, Some, None, refl, sym, ap, subst, ◌∙◌, ◌↔◌, codes, true≢false}
+use Rattle.std.specs.Prelude.{IsTrue, is_some}
 use Rattle.jv_code.specs.Insns.{Instruction}
 use Rattle.jv_code.specs.Places.{IsAt, IsStart}
 use Rattle.jv_meaning_typing.specs.Environment.{Environment, IsEnvironment, instruction_at}
@@ -37,3 +37,8 @@ module _ (law : InstructionAtIs) (code : List ℕ) (env : Environment) (has : Ha
       by_found : (o : Option Instruction) → instruction_at env pc ≡ o → None ≡ o
       by_found None e = refl
       by_found (Some insn) e = absurd (true≢false (sym (tests.1 (subst (λ (c : List ℕ). IsStart c pc) (sym same) (insn, (at_is pc insn).1 e))) ∙ off))
+
+  pub some_at : (starts : List ℕ) (pc : ℕ) (test : Bool) → starts ≡ code → IsTrue test ↔ IsStart starts pc → test ≡ is_some (instruction_at env pc)
+  some_at starts pc true same tests =
+      let start : IsStart code pc = subst (λ (c : List ℕ). IsStart c pc) same (tests.0 refl) in ap is_some (found_at pc start.0 start.1)
+  some_at starts pc false same tests = ap is_some (none_at starts pc false same tests refl)

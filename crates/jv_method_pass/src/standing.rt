@@ -1,6 +1,6 @@
 //! Where frames of a stack map stand, and where what is not initialized in them was made (JVMS 4.7.4).
 
-ghost use Rattle.std.specs.Prelude.{◌≡◌, ◌<◌, true, length, slice_get, take, Some, IfSome, IsTrue};
+ghost use Rattle.std.specs.Prelude.{◌≡◌, ◌<◌, true, length, slice_get, take, Some, IfSome, IsTrue, is_some};
 ghost use Rattle.std.specs.List.{list_all};
 ghost use Rattle.std.specs.Option.{option_map};
 ghost use Rattle.jv_code.specs.Insns.{instruction_of};
@@ -31,6 +31,16 @@ fn instruction_at<'a>(starts: &Starts<'_>, code: &Code<'a>, offset: u32) -> Opti
     } else {
         None
     }
+}
+
+/// Whether an instruction starts at an offset: none is decoded.
+fn has_instruction(starts: &Starts<'_>, code: &Code<'_>, offset: u32) -> bool
+    requires { starts.now ≡ code.now.bytes.now }
+    ensures { (env : Environment) → HasCode code.now.bytes.now env → result ≡ is_some (instruction_at env offset) }
+{
+    instruction_at_is();
+    let _bytes = code.bytes;
+    starts.is_start(offset)
 }
 
 fn is_new(insn: &Insn<&[u8]>) -> bool
@@ -154,7 +164,7 @@ fn frame_stands(starts: &Starts<'_>, code: &Code<'_>, map: &MapFrame<'_>, are_ma
     ensures { (env : Environment) → HasCode code.now.bytes.now env → are_made ≡ list_all (is_made_by_new env) map.now.locals
         → result ≡ frame_stands env map.now }
 {
-    instruction_at(starts, code, map.offset()).is_some()
+    has_instruction(starts, code, map.offset())
         && are_made
         && are_made_by_new(starts, code, map.stack())
 }
