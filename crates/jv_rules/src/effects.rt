@@ -19,9 +19,9 @@ use crate::forms::move_words;
 use crate::references::{array_length, reference_array_load, reference_array_store};
 use crate::returns::{leave, leave_with_value};
 use crate::stack::exchange;
-use crate::table::{combine, compute};
+use crate::table::{combine, compute, give_int};
 use crate::variables::{increment, load, store};
-use jv_code::{Insn, StackForm, ValueKind, WordKind};
+use jv_code::{Computation, Insn, StackForm, ValueKind, WordKind};
 use jv_frames::VerificationTypeOf;
 use jv_types::{ConstantTypes, Outcome};
 use jv_types_frames::TypeFrame;
@@ -48,7 +48,7 @@ fn rearrange(frame: &mut TypeFrame, form: StackForm) -> Result<Outcome, AllocErr
 }
 
 /// Changes the frame as an instruction at an offset does: one arm for each instruction.
-pub fn effect(
+fn effect_of_each(
     context: &MethodContext<'_, '_, '_, '_>,
     constants: &ConstantTypes<'_, '_>,
     frame: &mut TypeFrame,
@@ -95,5 +95,24 @@ pub fn effect(
         Insn::Throw => Ok(exchange(types, frame, &[constants.throwable()], None)),
         Insn::CheckCast(index) => Ok(check_cast(constants, frame, index)),
         Insn::InstanceOf(index) => Ok(instance_of(constants, frame, index)),
+    }
+}
+
+/// Changes the frame as an instruction at an offset does: the most frequent ones in line.
+#[inline(always)]
+pub fn effect(
+    context: &MethodContext<'_, '_, '_, '_>,
+    constants: &ConstantTypes<'_, '_>,
+    frame: &mut TypeFrame,
+    offset: u16,
+    insn: &Insn<&[u8]>,
+) -> Result<Outcome, AllocError>
+    ensures { FollowsBoth context.now constants.now (λ env. effect env offset (instruction_of insn.now)) frame.old frame.new result }
+{
+    match *insn {
+        Insn::Load(kind, index, _) => Ok(load(frame, kind, index)),
+        Insn::Store(kind, index, _) => Ok(store(frame, value_kind(kind), index)),
+        Insn::Compute(Computation::IntConstant(_, _)) => Ok(give_int(constants.names(), frame)),
+        _ => effect_of_each(context, constants, frame, offset, insn),
     }
 }

@@ -77,14 +77,20 @@ fn negate(types: &TypeNames<'_, '_>, frame: &mut TypeFrame, kind: NumberKind) ->
     exchange(types, frame, &[number], Some(number))
 }
 
+/// Gives an int.
+#[inline]
+pub fn give_int(types: &TypeNames<'_, '_>, frame: &mut TypeFrame) -> Outcome
+    ensures { Exchanges types.now [] (variants.Int ∷ []) frame.old frame.new result }
+{
+    exchange(types, frame, &[], Some(VerificationTypeOf::Int))
+}
+
 /// Takes the numbers of a computation and gives its result.
 pub fn compute(types: &TypeNames<'_, '_>, frame: &mut TypeFrame, what: Computation) -> Outcome
     ensures { Exchanges types.now (computation what).takes (computation what).gives frame.old frame.new result }
 {
     match what {
-        Computation::IntConstant(_, _) => {
-            exchange(types, frame, &[], Some(VerificationTypeOf::Int))
-        }
+        Computation::IntConstant(_, _) => give_int(types, frame),
         Computation::LongConstant(_) => {
             exchange(types, frame, &[], Some(VerificationTypeOf::Long))
         }
