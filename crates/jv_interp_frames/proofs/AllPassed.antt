@@ -21,7 +21,7 @@ use Rattle.jv_interp_frames.specs.declared.frames.Frames.{Frames}
 use Rattle.jv_interp_frames.specs.declared.control.Control.{Control}
 use Rattle.jv_interp_frames.specs.FramesStand.{FramesStand}
 use Rattle.jv_interp_frames.specs.Inside.Passing.{passed, all_passed, Passing, Passed, PassedAll}
-use Rattle.jv_interp_frames.proofs.Counted.{frames_bound, frames_count, reversed_push}
+use Rattle.jv_interp_frames.proofs.Counted.{frames_bound, reversed_push}
 use Rattle.jv_interp_frames.proofs.FramesPassed.{runs_there}
 use Rattle.jv_interp_frames.proofs.Walks.{all_passed-more}
 

@@ -109,6 +109,12 @@ module _ (world : World) (numbers : IsNumbered world) (class : ℕ) (l : Loaded)
       by_test false e =
           ap (λ (b : Bool). b || is_above world to.class.name l.class) (other_name world class other l to numbers at there (differ class other e))
 
+  pub by_way :
+      (name : List ℕ) (found : Bool) → bytes_eq l.class.name name ≡ false → found ≡ is_above world name l.class
+      → found ≡ is_at_or_below world l.class.name name
+  by_way name found other is =
+      is ∙ sym (below_by name ∙ either (bytes_eq l.class.name name) (is_above world name l.class) other)
+
   pub by_no_number : (name : List ℕ) → number_named world name ≡ None → is_at_or_below world l.class.name name ≡ false
   by_no_number name none =
       below_by name ∙ either (bytes_eq l.class.name name) (is_above world name l.class) (by_name (bytes_eq l.class.name name) refl)

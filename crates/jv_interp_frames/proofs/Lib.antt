@@ -7,6 +7,7 @@ pub mod BodyStands
 pub mod CodeThere
 pub mod FramesPassed
 pub mod ClassesAbove
+pub mod WaysUp
 pub mod Searching
 pub mod HandlerFound
 pub mod ThrownAgain
@@ -20,6 +21,7 @@ pub mod EntersStand
 pub mod BeginsStand
 pub mod MovedDown
 pub mod NextFound
+pub mod CallsRead
 pub mod LeavesStand
 pub mod Suspended
 pub mod GivenEffects

@@ -2,7 +2,7 @@ use Rattle.std.proofs.Common.{List, ℕ, sym, ap, ◌∙◌}
 use Rattle.std.specs.Str.{bytes_eq}
 use Rattle.jv_classes.proofs.Told.{stands_at}
 use Rattle.jv_meaning_machine.specs.Objects.{is_at_or_below}
-use Rattle.jv_interp_frames.proofs.ClassesAbove.{itself, found_is_named, by_no_number}
+use Rattle.jv_interp_frames.proofs.ClassesAbove.{itself, found_is_named, by_way, by_no_number}
 use Rattle.jv_interp_frames.proofs.classes.is_at_or_below_name.Goals as goal
 
 pub returns-then-is_named : goal.returns-then-is_named
@@ -11,8 +11,14 @@ returns-then-is_named c = λ l at.
 
 pub returns-in-Some : goal.returns-in-Some
 returns-in-Some c = λ l at.
+    by_way c.args.table.now c.is_numbered.ensures c.args.class l at c.args.name.now c.in-Some.found
+    (sym (c.is_named.ensures l at) ∙ c.if-is_named.false)
+    (c.in-Some.ensures.found l at)
+
+pub returns-in-Some-find : goal.returns-in-Some-find
+returns-in-Some-find c = λ l at.
     let world = c.args.table.now in
-    let to = stands_at world c.args.name.now c.in-Some.other (sym c.in-Some.ensures) in
+    let to = stands_at world c.args.name.now c.in-Some-find.other (sym c.in-Some-find.ensures) in
     c.is_at_or_below.ensures l at to.0 to.1
     ∙ ap (λ (name : List ℕ). is_at_or_below world l.class.name name) (found_is_named world c.args.name.now to.0 to.2)
 
