@@ -1,17 +1,10 @@
 -- The instruction of a method that waits, in its code's bytes (JVMS 2.6.4, 4.9.1).
-use Rattle.std.proofs.Common.{◌≡◌, ℕ, ◌+◌, ◌<◌, List, [], ◌∷◌, Option, Some, None, length, refl, sym, ap, subst, ◌∙◌, IsTrue, arith}
+use Rattle.std.proofs.Common.{◌≡◌, ℕ, ◌+◌, List, Option, Some, None, length, refl, sym, ap, subst, ◌∙◌}
 use Rattle.std.specs.Prelude.{IsSomeAnd}
 use Rattle.jv_class_structure.specs.Parts.{CodeSeen}
-use Rattle.jv_format.specs.Format.{half}
-use Rattle.jv_code.specs.declared.insn.Insn.TheVariants.{Invoke}
-use Rattle.jv_code.specs.declared.kinds.Invocation.{Invocation}
-use Rattle.jv_code.specs.declared.kinds.Invocation.TheVariants as calls
 use Rattle.jv_code.specs.Insns.{Instruction, insn_bytes}
-use Rattle.jv_code.specs.Opcodes.{invoke_opcode}
-use Rattle.jv_code.specs.Operands.{HasBytes, least_operands}
-use Rattle.jv_code.specs.Places.{IsCode, IsAt, IsStart}
+use Rattle.jv_code.specs.Places.{IsCode, IsAt}
 use Rattle.jv_code.specs.declared.code.Code.{Code}
-use Rattle.jv_code.proofs.OperandLaws.{stands_as_spelled, bytes_join}
 use Rattle.jv_code.proofs.StartLaws.{OneAtOffset-holds}
 use Rattle.jv_meaning_world.specs.Overriding.{Declared}
 use Rattle.jv_meaning_typing.specs.Environment.{offset_behind}
@@ -41,23 +34,6 @@ row_bytes d code all (Some body) bytes h is insns has =
     move : (o : Option Code) → body.code.code.now ≡ code.code → IsSomeAnd o (λ k. k.bytes.now ≡ body.code.code.now) → IsSomeAnd o (λ k. k.bytes.now ≡ code.code)
     move None e k = absurd k
     move (Some x) e k = k ∙ e
-
--- a number of two bytes
-pub small_fits : (n : ℕ) → n < 65536 → IsTrue (half.fits n)
-small_fits n small = grind (arith, small)
-
--- a call of three bytes stands where its opcode and an index stand
-pub call_at :
-    (bytes : List ℕ) (pc opcode index : ℕ) (how : Invocation) → IsStart bytes pc → invoke_opcode how ≡ opcode → HasBytes bytes pc (opcode ∷ [])
-    → HasBytes bytes (pc + 1) (half.spelling index) → IsTrue (half.fits index) → IsAt bytes pc (Invoke how index)
-call_at bytes pc opcode index how start is there behind fits =
-    stands_as_spelled bytes pc (Invoke how index) start
-    (bytes_join bytes pc (invoke_opcode how ∷ []) (half.spelling index) (subst (λ (n : ℕ). HasBytes bytes pc (n ∷ [])) (sym is) there) behind) fits
-
-pub call_room : (opcode : ℕ) (how : Invocation) → invoke_opcode how ≡ opcode → least_operands opcode ≡ 2
-call_room opcode calls.Virtual is = ap least_operands (sym is)
-call_room opcode calls.Special is = ap least_operands (sym is)
-call_room opcode calls.Static is = ap least_operands (sym is)
 
 module _ (methods : Methods) (own : MethodRecord) (program : Program) (addresses : List ℕ) (frame : MethodFrame) (used below : List ℕ) (insn : Instruction)
     (h : Nexts methods own program addresses frame used below insn) where

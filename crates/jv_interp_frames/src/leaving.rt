@@ -1,15 +1,13 @@
 //! Methods that are left (JVMS 2.6.4, 6.5).
 
 ghost use Rattle.std.specs.Prelude.{◌≡◌, ◌+◌, ◌++◌, ◌≤◌, IfSome, length, take};
-ghost use Rattle.jv_code.specs.Opcodes.{invoke_opcode};
 ghost use Rattle.jv_interp_words.specs.FramesInWords.{in_use};
 ghost use Rattle.jv_interp_calls.specs.Methods.{AreMethods};
 ghost use Rattle.jv_interp_frames.specs.Leaving.{CanLeave, Leaves};
-ghost use Rattle.jv_interp_frames.specs.Inside.Nexts.{HasNext, IsNext};
+ghost use Rattle.jv_interp_frames.specs.Inside.Nexts.{HasNext, HasSize, IsNext};
 
 use crate::control::{Control, End};
 use crate::frames::{Frames, push_record};
-use jv_code::Invocation;
 use jv_interp_calls::Methods;
 use jv_interp_words::{FrameRecord, MethodRecord};
 
@@ -24,15 +22,16 @@ fn move_down(words: &mut [u32], from: usize, to: usize, count: usize)
     }
 }
 
-/// Which call has an opcode, of those that have three bytes (JVMS 6.5).
+/// How many bytes a call has, by its opcode (JVMS 6.5).
 #[inline(always)]
-fn call_of(opcode: u8) -> Option<Invocation>
-    ensures { IfSome result (λ how. invoke_opcode how ≡ opcode) }
+fn size_of_call(opcode: u8) -> Option<u32>
+    ensures { IfSome result (HasSize opcode) }
 {
     match opcode {
-        182 => Some(Invocation::Virtual),
-        183 => Some(Invocation::Special),
-        184 => Some(Invocation::Static),
+        182 => Some(3),
+        183 => Some(3),
+        184 => Some(3),
+        185 => Some(5),
         _ => None,
     }
 }
@@ -46,10 +45,8 @@ fn next_of(methods: &Methods<'_>, own: MethodRecord) -> u32
         unreachable!();
     };
     let opcode = code.opcode_at(own.pc);
-    if let Some(how) = call_of(opcode) {
-        let _how = how;
-        let _index = code.u16_at(own.pc + 1);
-        return own.pc + 3;
+    if let Some(size) = size_of_call(opcode) {
+        return own.pc + size;
     }
     code.insn_at(own.pc).1
 }

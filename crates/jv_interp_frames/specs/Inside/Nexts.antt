@@ -1,6 +1,8 @@
 -- The instruction behind that of a method that waits (JVMS 2.6.4).
-use Rattle.std.specs.Prelude.{◌≡◌, ℕ, List, Some}
-use Rattle.jv_code.specs.Insns.{Instruction}
+use Rattle.std.specs.Prelude.{◌≡◌, ℕ, List, [], ◌∷◌, Some, length}
+use Rattle.jv_code.specs.Insns.{Instruction, insn_bytes}
+use Rattle.jv_code.specs.Operands.{HasBytes}
+use Rattle.jv_code.specs.Places.{IsAt}
 use Rattle.jv_meaning_typing.specs.Environment.{instruction_at, offset_behind}
 use Rattle.jv_meaning_machine.specs.Frames.{MethodFrame}
 use Rattle.jv_meaning_machine.specs.State.{Program}
@@ -31,3 +33,8 @@ abbrev pub IsNext : Methods → MethodRecord → ℕ → Type 0
 IsNext methods own next =
     (program : Program) (addresses : List ℕ) (frame : MethodFrame) (used below : List ℕ) (insn : Instruction)
     → Nexts methods own program addresses frame used below insn → next ≡ offset_behind frame.offset insn
+
+-- Each instruction with this opcode has so many bytes (6.5).
+abbrev pub HasSize : ℕ → ℕ → Type 0
+HasSize opcode size =
+    (bytes : List ℕ) (pc : ℕ) (i : Instruction) → IsAt bytes pc i → HasBytes bytes pc (opcode ∷ []) → size ≡ length (insn_bytes i)

@@ -1,6 +1,6 @@
-use Rattle.std.proofs.Common.{ℕ, ◌+◌, refl, arith}
-use Rattle.jv_code.specs.declared.insn.Insn.TheVariants.{Invoke}
-use Rattle.jv_interp_frames.proofs.NextFound.{is_code, some_bytes, known_bytes, stands_there, call_at, small_fits, next_is}
+use Rattle.std.proofs.Common.{ℕ, ◌+◌, ap, arith}
+use Rattle.jv_code.proofs.StartLaws.{end_within}
+use Rattle.jv_interp_frames.proofs.NextFound.{is_code, some_bytes, known_bytes, stands_there, next_is}
 use Rattle.jv_interp_frames.proofs.leaving.next_of.Goals as goal
 
 pub unreachable-requires : goal.unreachable-requires
@@ -36,18 +36,6 @@ opcode_at-opcode-requires c =
     (c.method.ensures w.program.world w.nexts.stands.declared code.are code.at) in
     (w.insn, stands_there c.args.methods.now c.args.own w.program w.addresses w.frame w.used w.below w.insn w.nexts c.in-Some.code.bytes.now bytes)
 
-pub overflow_add-own : goal.overflow_add-own
-overflow_add-own c =
-    let w = c.requires in
-    let code = is_code c.args.methods.now c.args.own w.program w.addresses w.frame w.used w.below w.insn w.nexts in
-    let bytes =
-    known_bytes c.args.methods.now c.args.own w.program w.addresses w.frame w.used w.below w.insn w.nexts c.method.result c.in-Some.code c.in-Some.is
-    (c.method.ensures w.program.world w.nexts.stands.declared code.are code.at) in
-    let there = stands_there c.args.methods.now c.args.own w.program w.addresses w.frame w.used w.below w.insn w.nexts c.in-Some.code.bytes.now bytes in
-    let few = there.code.few in
-    let room = c.opcode_at-opcode.ensures.room in
-    record { fits = omega (arith, few, room) }
-
 pub overflow_add-result : goal.overflow_add-result
 overflow_add-result c =
     let w = c.requires in
@@ -56,19 +44,18 @@ overflow_add-result c =
     known_bytes c.args.methods.now c.args.own w.program w.addresses w.frame w.used w.below w.insn w.nexts c.method.result c.in-Some.code c.in-Some.is
     (c.method.ensures w.program.world w.nexts.stands.declared code.are code.at) in
     let there = stands_there c.args.methods.now c.args.own w.program w.addresses w.frame w.used w.below w.insn w.nexts c.in-Some.code.bytes.now bytes in
+    let size = c.in-Some-size_of_call.ensures {u = tt} c.in-Some.code.bytes.now c.args.own.pc w.insn there c.opcode_at-opcode.ensures.stands in
+    let within = end_within c.in-Some.code.bytes.now c.args.own.pc w.insn there in
     let few = there.code.few in
-    let room = c.opcode_at-opcode.ensures.room in
-    record { fits = omega (arith, few, room) }
+    record { fits = omega (arith, size, within, few) }
 
-pub returns-in-Some-call_of : goal.returns-in-Some-call_of
-returns-in-Some-call_of c = λ program addresses frame used below insn h.
+pub returns-in-Some-size_of_call : goal.returns-in-Some-size_of_call
+returns-in-Some-size_of_call c = λ program addresses frame used below insn h.
     let code = is_code c.args.methods.now c.args.own program addresses frame used below insn h in
     let bytes =
     known_bytes c.args.methods.now c.args.own program addresses frame used below insn h c.method.result c.in-Some.code c.in-Some.is
     (c.method.ensures program.world h.stands.declared code.are code.at) in
     let there = stands_there c.args.methods.now c.args.own program addresses frame used below insn h c.in-Some.code.bytes.now bytes in
-    let call =
-    call_at c.in-Some.code.bytes.now c.args.own.pc c.opcode_at-opcode.result c.u16_at-index.result c.in-Some-call_of.how (insn, there)
-    (c.in-Some-call_of.ensures {u = tt}) c.opcode_at-opcode.ensures.stands c.u16_at-index.ensures (small_fits c.u16_at-index.result c.u16_at-index.type_inv) in
-    next_is c.args.methods.now c.args.own program addresses frame used below insn h c.in-Some.code.bytes.now (Invoke c.in-Some-call_of.how c.u16_at-index.result)
-    (c.args.own.pc + 3) bytes call refl
+    let size = c.in-Some-size_of_call.ensures {u = tt} c.in-Some.code.bytes.now c.args.own.pc insn there c.opcode_at-opcode.ensures.stands in
+    next_is c.args.methods.now c.args.own program addresses frame used below insn h c.in-Some.code.bytes.now insn (c.args.own.pc + c.in-Some-size_of_call.size)
+    bytes there (ap (λ (n : ℕ). c.args.own.pc + n) size)
