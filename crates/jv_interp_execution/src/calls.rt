@@ -165,7 +165,8 @@ pub(crate) fn execute_invocation<'a, 'l, S: Store>(
 }
 
 /// `invokeinterface`.
-pub(crate) fn execute_interface_invocation<'a, 'l, S: Store>(
+#[inline(always)]
+pub(crate) fn execute_invokeinterface<'a, 'l, S: Store>(
     classes: &Classes<'a>,
     linked: &mut Linked<'a>,
     methods: &Methods<'a>,
@@ -196,5 +197,30 @@ pub(crate) fn execute_interface_invocation<'a, 'l, S: Store>(
         at,
         Use::Invokeinterface,
         index,
+    )
+}
+
+/// The same, out of line.
+pub(crate) fn execute_interface_invocation<'a, 'l, S: Store>(
+    classes: &Classes<'a>,
+    linked: &mut Linked<'a>,
+    methods: &Methods<'a>,
+    site: Site,
+    store: &S,
+    held: &Held,
+    words: &[u32],
+    at: &Registers<'l>,
+    index: u16,
+) -> Effect
+    requires methods { AreMethods classes.now.world methods.now }
+    requires can { (next : ℕ) × (count : ℕ) × (texts : List (List ℕ)) × CanExecute (InvokeInterfaceInsn index count) next
+        (known classes.now.world linked.old site) texts at.now words.now held.now (S.content store.now) }
+    ensures done { (next : ℕ) (count : ℕ) (texts : List (List ℕ)) → Executed (InvokeInterfaceInsn index count) next
+        (known classes.now.world linked.old site) texts (place at.now words.now held.now (S.content store.now))
+        (place at.now words.now held.now (S.content store.now)) result }
+    ensures linked { IsLinked classes.now.world linked.new }
+{
+    execute_invokeinterface(
+        classes, linked, methods, site, store, held, words, at, index,
     )
 }

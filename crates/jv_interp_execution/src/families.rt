@@ -12,7 +12,9 @@ ghost use Rattle.jv_interp_execution.specs.InGuest.{CanExecuteAt, ExecutedAt, Ke
 
 use crate::array_loads::{execute_array_length, execute_array_load, execute_reference_array_load};
 use crate::array_stores::execute_array_store;
-use crate::calls::{execute_invokespecial, execute_invokestatic, execute_invokevirtual};
+use crate::calls::{
+    execute_invokeinterface, execute_invokespecial, execute_invokestatic, execute_invokevirtual,
+};
 use crate::executing::execute;
 use crate::fields::{execute_getfield, execute_getstatic, execute_putfield, execute_putstatic};
 use crate::long_constants::execute_pool_long_constant;
@@ -390,6 +392,37 @@ impl Execution for VirtualCalls {
                     insn,
                 ),
             },
+            _ => execute_apart(
+                classes, linked, methods, texts, site, states, store, held, words, at, next, insn,
+            ),
+        }
+    }
+}
+
+/// Calls of methods of interfaces.
+#[derive(Clone, Copy)]
+pub struct InterfaceCalls;
+
+impl Execution for InterfaceCalls {
+    #[inline(always)]
+    fn execute<'a, 'l, S: Store>(
+        classes: &Classes<'a>,
+        linked: &mut Linked<'a>,
+        methods: &Methods<'a>,
+        texts: &Texts<'a>,
+        site: Site,
+        states: &[ClassState],
+        store: &mut S,
+        held: &mut Held,
+        words: &mut [u32],
+        at: &mut Registers<'l>,
+        next: u32,
+        insn: Insn<&[u8]>,
+    ) -> Result<Effect, Memory> {
+        match insn {
+            Insn::InvokeInterface(index, _count) => Ok(execute_invokeinterface(
+                classes, linked, methods, site, store, held, words, at, index,
+            )),
             _ => execute_apart(
                 classes, linked, methods, texts, site, states, store, held, words, at, next, insn,
             ),

@@ -14,6 +14,6 @@ mod pool_constants;
 
 pub use executing::execute;
 pub use families::{
-    AnyInstruction, Arrays, ConstantLoads, Divisions, Execution, FieldGets, FieldPuts, Objects,
-    Returns, SpecialCalls, StaticCalls, VirtualCalls,
+    AnyInstruction, Arrays, ConstantLoads, Divisions, Execution, FieldGets, FieldPuts,
+    InterfaceCalls, Objects, Returns, SpecialCalls, StaticCalls, VirtualCalls,
 };
