@@ -3,6 +3,7 @@ pub mod Fewer
 pub mod Executed
 pub mod Refused
 pub mod Runs
+pub mod Resumed
 pub mod Records
 pub mod InWords
 pub mod Known

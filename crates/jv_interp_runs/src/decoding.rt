@@ -77,3 +77,13 @@ pub(crate) fn index_in_byte(code: &[u8], pc: usize) -> u16
 {
     u16::from(code[pc + 1])
 }
+
+/// The count in the byte behind the index behind the opcode at an offset.
+#[inline(always)]
+pub(crate) fn count_behind(code: &[u8], pc: usize) -> u8
+    requires { pc + 4 ≤ length code.now }
+    ensures stands { HasBytes code.now (pc + 3) (byte.spelling result) }
+    ensures fits { IsTrue (byte.fits result) }
+{
+    code[pc + 3]
+}

@@ -79,10 +79,18 @@ fn run_method<'a, 'l, S: Store>(
                     left -= 1;
                 }
                 Ok(false) => {
-                    return Turn {
-                        left: steps_behind(left),
-                        refused: false,
-                    };
+                    left = steps_behind(left);
+                    match resume(methods, frames) {
+                        Some(next) => {
+                            now = next;
+                        }
+                        None => {
+                            return Turn {
+                                left,
+                                refused: false,
+                            };
+                        }
+                    }
                 }
                 Err(_) => {
                     suspend(frames, now, now.top);

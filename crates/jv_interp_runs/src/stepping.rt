@@ -8,14 +8,14 @@ ghost use Rattle.jv_interp_frames.specs.Standing.{kept};
 ghost use Rattle.jv_interp_frames.specs.Acting.{AreAsBefore};
 ghost use Rattle.jv_interp_runs.specs.Stepping.{CanStepIn, SteppedIn};
 
-use crate::decoding::{decode, index_behind, index_in_byte, opcode_at};
+use crate::decoding::{count_behind, decode, index_behind, index_in_byte, opcode_at};
 use crate::instructions::{step_by, step_known};
 use crate::opcodes::{element_loaded, element_stored, value_returned};
 use jv_code::{DivisionOperator, FieldAccess, IndexForm, Insn, Invocation, NumberKind};
 use jv_heap::{Memory, Store};
 use jv_interp_execution::{
-    AnyInstruction, Arrays, ConstantLoads, Divisions, FieldGets, FieldPuts, Objects, Returns,
-    SpecialCalls, StaticCalls, VirtualCalls,
+    AnyInstruction, Arrays, ConstantLoads, Divisions, FieldGets, FieldPuts, InterfaceCalls,
+    Objects, Returns, SpecialCalls, StaticCalls, VirtualCalls,
 };
 use jv_interp_frames::of_interp_calls::{Methods, Texts};
 use jv_interp_frames::of_linked::Linked;
@@ -122,7 +122,7 @@ fn step_apart<'a, 'l, S: Store>(
     result
 }
 
-/// The same, where the opcode says which instruction it is, but for an index; one more than the opcode was read.
+/// The same, where the opcode says which instruction it is, but for what is read behind it; one more than the opcode was read.
 #[inline(always)]
 fn step_at_hand<'a, 'l, S: Store>(
     classes: &Classes<'a>,
@@ -510,6 +510,25 @@ fn step_at_hand<'a, 'l, S: Store>(
                 at,
                 Insn::Invoke(Invocation::Static, index),
                 3,
+                goes_on,
+            )
+        }
+        185 => {
+            let index = index_behind(at.code, at.pc as usize);
+            let count = count_behind(at.code, at.pc as usize);
+            step_known::<InterfaceCalls, S>(
+                classes,
+                linked,
+                methods,
+                texts,
+                verified,
+                frames,
+                control,
+                held,
+                store,
+                at,
+                Insn::InvokeInterface(index, count),
+                5,
                 goes_on,
             )
         }

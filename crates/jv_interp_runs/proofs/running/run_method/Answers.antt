@@ -2,7 +2,8 @@ use Rattle.std.proofs.Common.{◌≡◌, ℕ, suc, Bool, ◌+◌, ◌-◌, ◌++
 use Rattle.jv_interp_frames.specs.Standing.{kept}
 use Rattle.jv_interp_runs.specs.Stepping.{SteppedTo}
 use Rattle.jv_interp_runs.specs.Running.{RanOn, Ran}
-use Rattle.jv_interp_runs.proofs.Records.{can_suspend, stands, runs_again}
+use Rattle.jv_interp_runs.proofs.Records.{can_suspend, stands, runs_again, can_resume, resuming}
+use Rattle.jv_interp_runs.proofs.Resumed.{left_all, goes_on, waits}
 use Rattle.jv_interp_runs.proofs.Runs.{runs_not, steps_in, next, ran_on, ran_out, ran_stands}
 use Rattle.jv_interp_runs.proofs.InWords.{some_of, can_run, ran_and_ran}
 use Rattle.jv_interp_runs.proofs.running.run_method.Goals as goal
@@ -53,8 +54,8 @@ step_in_method-requires-clause-can g c =
       steps = steps_in c.args.classes.now.world c.args.verified.now c.args.at w.program c.args.texts.now.names w.s w.addresses before w.runs (k + j) c.run_alone.new.at then r;
     }
 
-pub loop-left-preserved : goal.loop-left-preserved
-loop-left-preserved g c =
+pub loop-left-preserved-in-Ok-true : goal.loop-left-preserved-in-Ok-true
+loop-left-preserved-in-Ok-true g c =
     let k = c.args.n - c.loop-left.left in
     let j = 1 - c.run_alone.result in
     let before = kept c.args.frames.now c.args.control.now c.args.held.now (g.S.Store.content c.args.store.now) in
@@ -109,8 +110,9 @@ loop-left-preserved-then-run_alone-eq0 g c =
       room = c.loop-left.invariant.room;
     }
 
-pub returns-in-Ok-false-clause-ran : goal.returns-in-Ok-false-clause-ran
-returns-in-Ok-false-clause-ran g c = λ program s addresses h.
+pub resume-requires : goal.resume-requires
+resume-requires g c =
+    let w = c.requires.can in
     let k = c.args.n - c.loop-left.left in
     let j = 1 - c.run_alone.result in
     let before = kept c.args.frames.now c.args.control.now c.args.held.now (g.S.Store.content c.args.store.now) in
@@ -120,17 +122,92 @@ returns-in-Ok-false-clause-ran g c = λ program s addresses h.
     let few = c.loop-left.invariant.few in
     let more = c.loop-left-test.true in
     let some = some_of c.run_alone.result c.if-run_alone-eq0.false in
-    let one = c.steps_behind.ensures in
-    let up : suc (k + j) ≡ c.args.n - c.steps_behind.result = omega (arith, few, some, more, one) in
+    let one = c.steps_behind-left.ensures in
+    let up : suc (k + j) ≡ c.args.n - c.steps_behind-left.result = omega (arith, few, some, more, one) in
+    let r =
+    ran_and_ran c.args.classes.now.world c.args.verified.now c.args.at w.program c.args.texts.now.names w.s w.addresses before w.runs k c.loop-left.now c.loop-left.frames c.loop-left.control
+    c.loop-left.held (g.S.Store.content c.loop-left.store) (c.loop-left.invariant.ran w.program w.s w.addresses w.runs) j c.run_alone.new.at c.run_alone.new.frames
+    c.run_alone.ensures.ran c.run_alone.ensures.only in
+    let t = next c.args.classes.now.world c.args.verified.now c.args.at w.program c.args.texts.now.names w.s w.addresses before w.runs (k + j) c.run_alone.new.at then r in
+    let q = e.stepped w.program r.t t (w.addresses ++ r.runs.more) (steps_in c.args.classes.now.world c.args.verified.now c.args.at w.program c.args.texts.now.names w.s w.addresses before w.runs (k + j) c.run_alone.new.at then r) in
+    let out : Ran (c.args.n - c.steps_behind-left.result) w.program c.args.texts.now.names w.s w.addresses before after =
+    subst (λ (i : ℕ). Ran i w.program c.args.texts.now.names w.s w.addresses before after) up
+    (ran_out c.args.classes.now.world c.args.verified.now c.args.at w.program c.args.texts.now.names w.s w.addresses before w.runs (k + j) c.run_alone.new.at then r after
+    (subst (λ (b : Bool). SteppedTo b w.program c.args.texts.now.names t (w.addresses ++ r.runs.more) c.step_in_method.new.at then after) c.in-Ok-false.field-0-test q)) in
+    can_resume c.args.classes.now.world c.args.verified.now w.program c.args.texts.now.names out.t (w.addresses ++ out.reaches.more) c.step_in_method.new.frames
+    c.step_in_method.new.control c.step_in_method.new.held (g.S.Store.content c.step_in_method.new.store)
+    (left_all c.args.classes.now.world c.args.verified.now c.args.at w.program c.args.texts.now.names w.s w.addresses before w.runs (c.args.n - c.steps_behind-left.result)
+    c.step_in_method.new.frames c.step_in_method.new.control c.step_in_method.new.held (g.S.Store.content c.step_in_method.new.store) out) c.args.methods.now c.requires.methods
+
+pub loop-left-preserved : goal.loop-left-preserved
+loop-left-preserved g c =
+    let few = c.loop-left.invariant.few in
+    let more = c.loop-left-test.true in
+    let one = c.steps_behind-left.ensures in
+    let e = c.in-Ok-false.ensures {u = tt} in
+    record {
+      few = omega (arith, few, one);
+      ran =
+          λ program s addresses h.
+          let k = c.args.n - c.loop-left.left in
+          let j = 1 - c.run_alone.result in
+          let before = kept c.args.frames.now c.args.control.now c.args.held.now (g.S.Store.content c.args.store.now) in
+          let then = kept c.run_alone.new.frames c.loop-left.control c.loop-left.held (g.S.Store.content c.loop-left.store) in
+          let after = kept c.step_in_method.new.frames c.step_in_method.new.control c.step_in_method.new.held (g.S.Store.content c.step_in_method.new.store) in
+          let e = c.in-Ok-false.ensures {u = tt} in
+          let few = c.loop-left.invariant.few in
+          let more = c.loop-left-test.true in
+          let some = some_of c.run_alone.result c.if-run_alone-eq0.false in
+          let one = c.steps_behind-left.ensures in
+          let up : suc (k + j) ≡ c.args.n - c.steps_behind-left.result = omega (arith, few, some, more, one) in
+          let r =
+          ran_and_ran c.args.classes.now.world c.args.verified.now c.args.at program c.args.texts.now.names s addresses before h k c.loop-left.now c.loop-left.frames c.loop-left.control
+          c.loop-left.held (g.S.Store.content c.loop-left.store) (c.loop-left.invariant.ran program s addresses h) j c.run_alone.new.at c.run_alone.new.frames
+          c.run_alone.ensures.ran c.run_alone.ensures.only in
+          let t = next c.args.classes.now.world c.args.verified.now c.args.at program c.args.texts.now.names s addresses before h (k + j) c.run_alone.new.at then r in
+          let q = e.stepped program r.t t (addresses ++ r.runs.more) (steps_in c.args.classes.now.world c.args.verified.now c.args.at program c.args.texts.now.names s addresses before h (k + j) c.run_alone.new.at then r) in
+          let out : Ran (c.args.n - c.steps_behind-left.result) program c.args.texts.now.names s addresses before after =
+          subst (λ (i : ℕ). Ran i program c.args.texts.now.names s addresses before after) up
+          (ran_out c.args.classes.now.world c.args.verified.now c.args.at program c.args.texts.now.names s addresses before h (k + j) c.run_alone.new.at then r after
+          (subst (λ (b : Bool). SteppedTo b program c.args.texts.now.names t (addresses ++ r.runs.more) c.step_in_method.new.at then after) c.in-Ok-false.field-0-test q)) in
+          let resumed = (c.in-Some.ensures {u = tt}).resumes program (addresses ++ out.reaches.more) out.t.frames out.t.control.words
+          (resuming c.args.classes.now.world c.args.verified.now program c.args.texts.now.names out.t (addresses ++ out.reaches.more) c.step_in_method.new.frames
+          c.step_in_method.new.control c.step_in_method.new.held (g.S.Store.content c.step_in_method.new.store)
+          (left_all c.args.classes.now.world c.args.verified.now c.args.at program c.args.texts.now.names s addresses before h (c.args.n - c.steps_behind-left.result)
+    c.step_in_method.new.frames c.step_in_method.new.control c.step_in_method.new.held (g.S.Store.content c.step_in_method.new.store) out) c.args.methods.now c.requires.methods) in
+          goes_on c.args.classes.now.world c.args.verified.now c.args.at program c.args.texts.now.names s addresses before h (c.args.n - c.steps_behind-left.result)
+    c.step_in_method.new.frames c.step_in_method.new.control c.step_in_method.new.held (g.S.Store.content c.step_in_method.new.store) out c.in-Some.next c.resume.new.frames resumed;
+      linked = c.step_in_method.ensures.linked;
+      fewer = let a = e.fewer in let b = c.loop-left.invariant.fewer in omega (arith, a, b);
+      still = λ none. absurd (omega (arith, few, more, one, none));
+      room = let a = e.room in let b = c.loop-left.invariant.room in omega (arith, a, b);
+    }
+
+pub returns-in-None-clause-ran : goal.returns-in-None-clause-ran
+returns-in-None-clause-ran g c = λ program s addresses h.
+    let k = c.args.n - c.loop-left.left in
+    let j = 1 - c.run_alone.result in
+    let before = kept c.args.frames.now c.args.control.now c.args.held.now (g.S.Store.content c.args.store.now) in
+    let then = kept c.run_alone.new.frames c.loop-left.control c.loop-left.held (g.S.Store.content c.loop-left.store) in
+    let after = kept c.step_in_method.new.frames c.step_in_method.new.control c.step_in_method.new.held (g.S.Store.content c.step_in_method.new.store) in
+    let e = c.in-Ok-false.ensures {u = tt} in
+    let few = c.loop-left.invariant.few in
+    let more = c.loop-left-test.true in
+    let some = some_of c.run_alone.result c.if-run_alone-eq0.false in
+    let one = c.steps_behind-left.ensures in
+    let up : suc (k + j) ≡ c.args.n - c.steps_behind-left.result = omega (arith, few, some, more, one) in
     let r =
     ran_and_ran c.args.classes.now.world c.args.verified.now c.args.at program c.args.texts.now.names s addresses before h k c.loop-left.now c.loop-left.frames c.loop-left.control
     c.loop-left.held (g.S.Store.content c.loop-left.store) (c.loop-left.invariant.ran program s addresses h) j c.run_alone.new.at c.run_alone.new.frames
     c.run_alone.ensures.ran c.run_alone.ensures.only in
     let t = next c.args.classes.now.world c.args.verified.now c.args.at program c.args.texts.now.names s addresses before h (k + j) c.run_alone.new.at then r in
     let q = e.stepped program r.t t (addresses ++ r.runs.more) (steps_in c.args.classes.now.world c.args.verified.now c.args.at program c.args.texts.now.names s addresses before h (k + j) c.run_alone.new.at then r) in
+    let out : Ran (c.args.n - c.steps_behind-left.result) program c.args.texts.now.names s addresses before after =
     subst (λ (i : ℕ). Ran i program c.args.texts.now.names s addresses before after) up
     (ran_out c.args.classes.now.world c.args.verified.now c.args.at program c.args.texts.now.names s addresses before h (k + j) c.run_alone.new.at then r after
-    (subst (λ (b : Bool). SteppedTo b program c.args.texts.now.names t (addresses ++ r.runs.more) c.step_in_method.new.at then after) c.in-Ok-false.field-0-test q))
+    (subst (λ (b : Bool). SteppedTo b program c.args.texts.now.names t (addresses ++ r.runs.more) c.step_in_method.new.at then after) c.in-Ok-false.field-0-test q)) in
+    waits c.args.classes.now.world c.args.verified.now c.args.at program c.args.texts.now.names s addresses before h (c.args.n - c.steps_behind-left.result)
+    c.step_in_method.new.frames c.step_in_method.new.control c.step_in_method.new.held (g.S.Store.content c.step_in_method.new.store) out c.resume.new.frames (c.in-None.ensures {u = tt}).resumes.0
 
 pub suspend-requires : goal.suspend-requires
 suspend-requires g c =
@@ -197,11 +274,11 @@ returns-clause-ran g c = λ program s addresses h.
     (g.S.Store.content c.loop-left.store) r.runs.runs c.suspend-2.new.frames c.suspend-2.ensures.suspends)
     refl)
 
-pub returns-in-Ok-false-clause-still_held : goal.returns-in-Ok-false-clause-still_held
-returns-in-Ok-false-clause-still_held g c = λ none.
+pub returns-in-None-clause-still_held : goal.returns-in-None-clause-still_held
+returns-in-None-clause-still_held g c = λ none.
     let few = c.loop-left.invariant.few in
     let more = c.loop-left-test.true in
-    let one = c.steps_behind.ensures in
+    let one = c.steps_behind-left.ensures in
     absurd (omega (arith, few, more, none, one))
 
 pub returns-in-Err-clause-still_held : goal.returns-in-Err-clause-still_held
@@ -214,11 +291,11 @@ returns-clause-still_held g c = λ none.
     let same : c.loop-left.left ≡ c.args.n = omega (arith, over, none) in
     (c.loop-left.invariant.still same).0
 
-pub returns-in-Ok-false-clause-still_content : goal.returns-in-Ok-false-clause-still_content
-returns-in-Ok-false-clause-still_content g c = λ none.
+pub returns-in-None-clause-still_content : goal.returns-in-None-clause-still_content
+returns-in-None-clause-still_content g c = λ none.
     let few = c.loop-left.invariant.few in
     let more = c.loop-left-test.true in
-    let one = c.steps_behind.ensures in
+    let one = c.steps_behind-left.ensures in
     absurd (omega (arith, few, more, none, one))
 
 pub returns-in-Err-clause-still_content : goal.returns-in-Err-clause-still_content

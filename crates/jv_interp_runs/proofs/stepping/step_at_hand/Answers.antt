@@ -1,7 +1,8 @@
 use Rattle.jv_code.specs.Opcodes.{array_load_opcode, array_store_opcode, return_opcode}
 use Rattle.std.proofs.Common.{sym}
+use Rattle.jv_interp_words.proofs.OpcodesStand.{both_fit}
 use Rattle.jv_interp_runs.proofs.Known.{starts}
-use Rattle.jv_interp_runs.proofs.Operands.{with_index, with_byte, alone}
+use Rattle.jv_interp_runs.proofs.Operands.{with_index, with_byte, with_count, alone}
 use Rattle.jv_interp_runs.proofs.stepping.step_at_hand.Goals as goal
 
 pub opcode_at-opcode-requires-clause-start : goal.opcode_at-opcode-requires-clause-start
@@ -93,6 +94,18 @@ step_known-requires-in-183-clause-bytes g c =
 pub step_known-requires-in-184-clause-bytes : goal.step_known-requires-in-184-clause-bytes
 step_known-requires-in-184-clause-bytes g c =
     with_index c.args.at.now.code.now c.args.at.now.pc c.opcode_at-opcode.result 184 c.index_behind-index-in-184.result (sym c.in-184.is) c.opcode_at-opcode.ensures.stands c.index_behind-index-in-184.ensures.stands
+
+pub step_known-requires-in-185-clause-bytes : goal.step_known-requires-in-185-clause-bytes
+step_known-requires-in-185-clause-bytes g c =
+    let w = c.requires.can in
+    with_count c.args.at.now.code.now c.args.at.now.pc c.opcode_at-opcode.result c.index_behind-index-in-185.result c.count_behind-count.result
+    (starts c.args.classes.now.world c.args.verified.now c.args.at.now w.program c.args.texts.now.names w.s w.t w.addresses c.args.frames.now c.args.control.now
+    c.args.held.now (g.S.Store.content c.args.store.now) w.steps)
+    (sym c.in-185.is) c.opcode_at-opcode.ensures.stands c.index_behind-index-in-185.ensures.stands c.count_behind-count.ensures.stands
+
+pub step_known-requires-in-185-clause-fits : goal.step_known-requires-in-185-clause-fits
+step_known-requires-in-185-clause-fits g c =
+    both_fit _ _ c.index_behind-index-in-185.ensures.fits c.count_behind-count.ensures.fits
 
 pub step_known-requires-in-187-clause-bytes : goal.step_known-requires-in-187-clause-bytes
 step_known-requires-in-187-clause-bytes g c =
