@@ -174,9 +174,9 @@ loop-left-preserved g c =
           (resuming c.args.classes.now.world c.args.verified.now program c.args.texts.now.names out.t (addresses ++ out.reaches.more) c.step_in_method.new.frames
           c.step_in_method.new.control c.step_in_method.new.held (g.S.Store.content c.step_in_method.new.store)
           (left_all c.args.classes.now.world c.args.verified.now c.args.at program c.args.texts.now.names s addresses before h (c.args.n - c.steps_behind-left.result)
-    c.step_in_method.new.frames c.step_in_method.new.control c.step_in_method.new.held (g.S.Store.content c.step_in_method.new.store) out) c.args.methods.now c.requires.methods) in
+          c.step_in_method.new.frames c.step_in_method.new.control c.step_in_method.new.held (g.S.Store.content c.step_in_method.new.store) out) c.args.methods.now c.requires.methods) in
           goes_on c.args.classes.now.world c.args.verified.now c.args.at program c.args.texts.now.names s addresses before h (c.args.n - c.steps_behind-left.result)
-    c.step_in_method.new.frames c.step_in_method.new.control c.step_in_method.new.held (g.S.Store.content c.step_in_method.new.store) out c.in-Some.next c.resume.new.frames resumed;
+          c.step_in_method.new.frames c.step_in_method.new.control c.step_in_method.new.held (g.S.Store.content c.step_in_method.new.store) out c.in-Some.next c.resume.new.frames resumed;
       linked = c.step_in_method.ensures.linked;
       fewer = let a = e.fewer in let b = c.loop-left.invariant.fewer in omega (arith, a, b);
       still = λ none. absurd (omega (arith, few, more, one, none));
