@@ -1,6 +1,7 @@
 pub mod CaughtTypes
 pub mod Changing
 pub mod CodeFound
+pub mod Constructing
 pub mod Covering
 pub mod EntriesMade
 pub mod FlowingAgain
