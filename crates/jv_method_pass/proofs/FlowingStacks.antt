@@ -1,18 +1,21 @@
 -- Stacks that are known to flow from the lowest items on.
-use Rattle.std.proofs.Common.{◌≡◌, ℕ, zero, suc, ◌+◌, ◌-◌, ◌<◌, ◌≤◌, Bool, true, false, ◌&&◌, List, [], ◌∷◌, ◌++◌, length, map, drop, take, Option, Some, None, refl, sym, ap, subst, ◌∙◌, arith, if◌then◌else◌, length-drop}
-use Rattle.std.specs.Prelude.{nat_le, slice_get, get_or, ◌⊎◌}
-use Rattle.std.specs.List.{All}
+use Rattle.std.proofs.Common.{◌≡◌, ℕ, zero, suc, ◌+◌, ◌-◌, ◌<◌, ◌≤◌, Bool, true, false, not, ◌&&◌, ◌||◌, ◌==◌, List, [], ◌∷◌, ◌++◌, length, map, drop, take, Option, Some, None, refl, sym, ap, subst, ◌∙◌, arith, if◌then◌else◌, length-drop}
+use Rattle.std.specs.Prelude.{IsTrue, nat_le, slice_get, get_or}
+use Rattle.std.specs.List.{All, list_any}
 use Rattle.std.proofs.Common.{inl, inr}
 use Rattle.std.proofs.Math.Seq.{drop-append-add, drop-length}
-use Rattle.std.proofs.lemmas.Bool.{leb-true}
-use Rattle.std.proofs.lemmas.List.{drop-drop, length-append, length-map}
+use Rattle.std.proofs.lemmas.Bool.{leb-true, eqb-true, eq-eqb}
+use Rattle.std.proofs.lemmas.List.{drop-drop, drop-map, length-append, length-map}
 use Rattle.std.proofs.lemmas.List.Elements.{All-map, All-push}
 use Rattle.std.proofs.lemmas.Option.{get_or_from_slice_get}
 use Rattle.jv_code.specs.Insns.{Instruction}
 use Rattle.jv_frames.specs.Entries.{ReadFrame}
-use Rattle.jv_frames.specs.Types.{FrameType}
+use Rattle.jv_frames.specs.declared.verification.VerificationTypeOf.TheVariants as types
+use Rattle.jv_frames.specs.Types.{FrameType, width}
 use Rattle.jv_meaning_world.specs.FrameFlow.{all_flow, item_flows}
+use Rattle.jv_meaning_world.specs.World.{World}
 use Rattle.jv_meaning_typing.specs.Environment.{Environment}
+use Rattle.jv_meaning_typing.specs.FrameChanges.{is_same_object, replaced}
 use Rattle.jv_meaning_typing.specs.Rule.{rule, constructed_object}
 use Rattle.jv_rules.specs.Laws.{StandsOn, LeavesBelow}
 use Rattle.jv_types.specs.Typed.{typed, typed_all}
@@ -20,7 +23,9 @@ use Rattle.jv_types.specs.Numbered.{Item, NumberFrame, frame_of}
 use Rattle.jv_method_pass.specs.declared.stacks.FlowedStack.{FlowedStack}
 use Rattle.jv_types.specs.Mapped.{world_of_types, types_of_entries, stack_of, stack_flows_to}
 use Rattle.jv_method_pass.specs.Pass.{Pass, names_in}
-use Rattle.jv_method_pass.specs.Inside.Stacks.{lowest_of, LowestFlow, IsFlowed, AreFlowed, lower, lowered}
+use Rattle.jv_method_pass.specs.Inside.Stacks.{lowest_of, LowestFlow, IsFlowed, AreFlowed, is_without, AreWithout, lower, lowered, lowered_below, raised, Keeps}
+use Rattle.jv_method_pass.specs.Inside.Named.{number_of, depth_by, AreNamed}
+use Rattle.jv_method_pass.proofs.Constructing.{StandsReplaced, leaves_others}
 use Rattle.jv_method_pass.proofs.Holding.{within}
 use Rattle.jv_method_frames.proofs.Lists.{at_place}
 
@@ -28,9 +33,24 @@ and_false : (b : Bool) → (b && false) ≡ false
 and_false true = refl
 and_false false = refl
 
+and_first : (b c : Bool) → (b && c) ≡ true → b ≡ true
+and_first true c e = refl
+and_first false c e = absurd cc
+
 and_second : (b c : Bool) → (b && c) ≡ true → c ≡ true
 and_second true c e = e
 and_second false c e = absurd cc
+
+both_true : (b c : Bool) → b ≡ true → c ≡ true → (b && c) ≡ true
+both_true b c e f = ap (λ d. d && c) e ∙ f
+
+or_first : (b c : Bool) → (b || c) ≡ false → b ≡ false
+or_first true c e = absurd cc
+or_first false c e = refl
+
+or_second : (b c : Bool) → (b || c) ≡ false → c ≡ false
+or_second true c e = absurd cc
+or_second false c e = e
 
 -- ---- lists that flow, in two parts
 
@@ -156,6 +176,82 @@ stay before behind given taken (suc m) few is le =
     ∙ (drop-drop (length rest - suc m) taken before
     ∙ ap (λ n. drop n before) low)))
 
+-- ---- an object that is none of the items
+
+any_dropped : {X : Type 0} (test : X → Bool) (n : ℕ) (xs : List X) → list_any test xs ≡ false → list_any test (drop n xs) ≡ false
+any_dropped test zero xs h = h
+any_dropped test (suc n) [] h = refl
+any_dropped test (suc n) (x ∷ xs) h = any_dropped test n xs (or_second (test x) (list_any test xs) h)
+
+-- none is among those below a depth, so none is among as many of the lowest
+below_depth : {X : Type 0} (test : X → Bool) (xs : List X) (depth m : ℕ) → m ≤ length xs - depth → list_any test (drop depth xs) ≡ false → list_any test (lowest_of m xs) ≡ false
+below_depth test xs depth zero le h = ap (list_any test) (none_of xs)
+below_depth test xs depth (suc m) le h =
+    let rest = (length xs - suc m) - depth in
+    let sum : depth + rest ≡ length xs - suc m = omega (arith, le) in
+    ap (list_any test) (sym (drop-drop rest depth xs ∙ ap (λ n. drop n xs) sum)) ∙ any_dropped test rest (drop depth xs) h
+
+clash : (b : Bool) → b ≡ false → b ≡ true → ⊥
+clash true e f = absurd cc
+clash false e f = absurd cc
+
+-- an object flows to itself and to top alone, to which what it becomes flows too
+module _ (world : World) (object by : FrameType) (wide : width by ≡ 1) where
+  to_top : (type : FrameType) → width type ≡ 1 → item_flows world type types.Top ≡ true
+  to_top types.Top e = refl
+  to_top types.Int e = refl
+  to_top types.Long e = absurd cc
+  to_top types.Null e = refl
+  to_top types.UninitializedThis e = refl
+  to_top (types.Class name) e = refl
+  to_top (types.Array components) e = refl
+  to_top (types.Uninitialized offset) e = refl
+
+  this_still : (y : FrameType) → is_same_object types.UninitializedThis y ≡ false → item_flows world types.UninitializedThis y ≡ true → item_flows world by y ≡ true
+  this_still types.Top none flow = to_top by wide
+  this_still types.UninitializedThis none flow = absurd cc
+  this_still y none flow = absurd cc
+
+  made_still : (o p : ℕ) (y : FrameType) → is_same_object (types.Uninitialized o) y ≡ false → (o == p) ≡ true → item_flows world (types.Uninitialized p) y ≡ true
+      → item_flows world by y ≡ true
+  made_still o p types.Top none same flow = to_top by wide
+  made_still o p (types.Uninitialized q) none same flow =
+      let one : o ≡ q = eqb-true o p same ∙ eqb-true p q flow in
+      absurd (clash (o == q) none (eq-eqb o q one))
+  made_still o p y none same flow = absurd cc
+
+  item_still : (object x y : FrameType) → is_same_object object y ≡ false → is_same_object object x ≡ true → item_flows world x y ≡ true → item_flows world by y ≡ true
+  item_still types.UninitializedThis types.UninitializedThis y none same flow = this_still y none flow
+  item_still (types.Uninitialized o) (types.Uninitialized p) y none same flow = made_still o p y none same flow
+  item_still object x y none same flow = absurd cc
+
+  all_still : (xs ys : List FrameType) → list_any (is_same_object object) ys ≡ false → all_flow (item_flows world) xs ys ≡ true
+      → all_flow (item_flows world) (replaced object by xs) ys ≡ true
+  all_still [] [] none flow = refl
+  all_still [] (y ∷ ys) none flow = absurd cc
+  all_still (x ∷ xs) [] none flow = absurd cc
+  all_still (x ∷ xs) (y ∷ ys) none flow =
+      both_true (item_flows world (if is_same_object object x then by else x) y) (all_flow (item_flows world) (replaced object by xs) ys)
+      (by_test (is_same_object object x) refl)
+      (all_still xs ys (or_second (is_same_object object y) (list_any (is_same_object object) ys) none) (and_second (item_flows world x y) (all_flow (item_flows world) xs ys) flow))
+    where
+      by_test : (b : Bool) → is_same_object object x ≡ b → item_flows world (if b then by else x) y ≡ true
+      by_test true e =
+          item_still object x y (or_first (is_same_object object y) (list_any (is_same_object object) ys) none) e (and_first (item_flows world x y) (all_flow (item_flows world) xs ys) flow)
+      by_test false e = and_first (item_flows world x y) (all_flow (item_flows world) xs ys) flow
+
+-- what is left of the lowest items where an object got another type
+lowest_replaced : (object by : FrameType) (before behind : List FrameType) (taken m : ℕ) → behind ≡ replaced object by (drop taken before) → m ≤ length behind - 6
+    → lowest_of m behind ≡ replaced object by (lowest_of m before)
+lowest_replaced object by before behind taken m is le =
+    let rest = drop taken before in
+    let put : FrameType → FrameType = λ (t : FrameType). if is_same_object object t then by else t in
+    let many : length behind ≡ length rest = ap length is ∙ length-map rest put in
+    let low : lowest_of m rest ≡ lowest_of m before = stay before rest [] taken m (omega arith) refl (omega (arith, le, many)) in
+    ap (λ n. drop (n - m) behind) many
+    ∙ (ap (drop (length rest - m)) is
+    ∙ (drop-map put (length rest - m) rest ∙ ap (map put) low))
+
 module _ (pass : Pass) where
   abbrev F : FrameType → FrameType → Bool
   F = item_flows (world_of_types pass.types)
@@ -163,74 +259,162 @@ module _ (pass : Pass) where
   entry_count : (map : ReadFrame) → length (types_of_entries pass.types map.stack) ≡ length map.stack
   entry_count map = length-map map.stack _
 
+  -- fewer of the lowest items
+  less_room : (stack : List FrameType) (map : ReadFrame) (s : FlowedStack) → LowestFlow pass.types stack map s → s.lowest ≤ length (types_of_entries pass.types map.stack)
+  less_room stack map s h = omega (arith, h.within, h.height, entry_count map)
+
+  less_flow : (stack : List FrameType) (map : ReadFrame) (s : FlowedStack) (m : ℕ) → m ≤ s.lowest → LowestFlow pass.types stack map s
+      → all_flow F (lowest_of m stack) (lowest_of m (types_of_entries pass.types map.stack)) ≡ true
+  less_flow stack map s m less h =
+      let whole = types_of_entries pass.types map.stack in
+      ap (λ xs. all_flow F xs (lowest_of m whole)) (sym (lower_still stack s.lowest m less h.there))
+      ∙ (ap (all_flow F (drop (s.lowest - m) (lowest_of s.lowest stack))) (sym (lower_still whole s.lowest m less (less_room stack map s h)))
+      ∙ drop_both F (s.lowest - m) (lowest_of s.lowest stack) (lowest_of s.lowest whole) h.flow)
+
+  lowered_flow : (before behind : List FrameType) (map : ReadFrame) (s : FlowedStack) (n : ℕ) → lower s.lowest n ≤ length behind
+      → all_flow F (lowest_of (lower s.lowest n) behind) (lowest_of (lower s.lowest n) (types_of_entries pass.types map.stack)) ≡ true → LowestFlow pass.types before map s
+      → LowestFlow pass.types behind map (lowered n s)
+  lowered_flow before behind map s n there flow h =
+      let one : lower s.lowest n ≤ s.lowest = lower_one s.lowest n in
+      record { height = h.height; there = there; within = omega (arith, one, h.within); named = h.named; flow = flow }
+
   -- an instruction leaves the lowest items
   still_flow : (before behind : List FrameType) (map : ReadFrame) (s : FlowedStack) → StandsOn before behind → LowestFlow pass.types before map s
       → LowestFlow pass.types behind map (lowered (length behind - 6) s)
   still_flow before behind map s stands h =
       let stayed = length behind - 6 in
       let m = lower s.lowest stayed in
+      let other : m ≤ stayed = lower_other s.lowest stayed in
+      lowered_flow before behind map s stayed (omega (arith, other))
+      (ap (λ xs. all_flow F xs (lowest_of m (types_of_entries pass.types map.stack))) (stay before behind stands.given stands.taken m stands.few stands.is other)
+      ∙ less_flow before map s m (lower_one s.lowest stayed) h) h
+
+  -- one that constructs an object leaves those that flow to anything but the object
+  others_flow : (object : FrameType) (before behind : List FrameType) (map : ReadFrame) (s : FlowedStack) → StandsReplaced object before behind
+      → list_any (is_same_object object) (lowest_of s.lowest (types_of_entries pass.types map.stack)) ≡ false → LowestFlow pass.types before map s
+      → LowestFlow pass.types behind map (lowered (length behind - 6) s)
+  others_flow object before behind map s stands none h =
+      let whole = types_of_entries pass.types map.stack in
+      let stayed = length behind - 6 in
+      let m = lower s.lowest stayed in
       let one : m ≤ s.lowest = lower_one s.lowest stayed in
       let other : m ≤ stayed = lower_other s.lowest stayed in
-      let whole = types_of_entries pass.types map.stack in
-      let room : s.lowest ≤ length whole = omega (arith, h.within, h.height, entry_count map) in
-      record {
-        height = h.height;
-        there = omega (arith, other);
-        within = omega (arith, one, h.within);
-        flow = ap (λ xs. all_flow F xs (lowest_of m whole)) (stay before behind stands.given stands.taken m stands.few stands.is other ∙ sym (lower_still before s.lowest m one h.there))
-            ∙ (ap (all_flow F (drop (s.lowest - m) (lowest_of s.lowest before))) (sym (lower_still whole s.lowest m one room))
-            ∙ drop_both F (s.lowest - m) (lowest_of s.lowest before) (lowest_of s.lowest whole) h.flow);
-      }
+      let without : list_any (is_same_object object) (lowest_of m whole) ≡ false =
+      ap (list_any (is_same_object object)) (sym (lower_still whole s.lowest m one (less_room before map s h)))
+      ∙ any_dropped (is_same_object object) (s.lowest - m) (lowest_of s.lowest whole) none in
+      lowered_flow before behind map s stayed (omega (arith, other))
+      (ap (λ xs. all_flow F xs (lowest_of m whole)) (lowest_replaced object stands.by before behind stands.taken m stands.is other)
+      ∙ all_still (world_of_types pass.types) object stands.by stands.wide (lowest_of m before) (lowest_of m whole) without (less_flow before map s m one h)) h
 
   pub none_flowed : (stacks : List FlowedStack) (f : NumberFrame) → stacks ≡ [] → AreFlowed pass stacks f
   none_flowed stacks f e = subst (λ (ss : List FlowedStack). AreFlowed pass ss f) (sym e) (λ k d lt. absurd (omega (arith, lt)))
 
+  -- before an instruction that constructs an object
+  one_below : (stack : List FrameType) (number : Option ℕ) (s : FlowedStack) → IsFlowed pass stack s → IsFlowed pass stack (lowered_below number s)
+  one_below stack number s h = λ map at.
+      let here = h map at in
+      let below = s.height - depth_by s.named.depths number in
+      let less : lower s.lowest below ≤ s.lowest = lower_one s.lowest below in
+      lowered_flow stack stack map s below (omega (arith, less, here.there)) (less_flow stack map s (lower s.lowest below) less here) here
+
+  pub below_flowed : (stacks new : List FlowedStack) (number : Option ℕ) (f : NumberFrame) → new ≡ map (lowered_below number) stacks → AreFlowed pass stacks f → AreFlowed pass new f
+  below_flowed stacks new number f is flowed =
+      subst (λ (ss : List FlowedStack). AreFlowed pass ss f) (sym is)
+      (All-map (IsFlowed pass (stack_of pass.types f)) (lowered_below number) stacks (λ k d lt. one_below (stack_of pass.types f) number (get_or stacks k d) (flowed k d lt)))
+
+  one_without : (stack : List FrameType) (number : Option ℕ) (object : FrameType) (s : FlowedStack) → number ≡ number_of object → IsFlowed pass stack s → (map : ReadFrame)
+      → slice_get pass.frames s.place ≡ Some map
+      → IsTrue (is_without (Some object) (lowest_of (lower s.lowest (s.height - depth_by s.named.depths number)) (types_of_entries pass.types map.stack)))
+  one_without stack number object s is h map at =
+      let here = h map at in
+      let whole = types_of_entries pass.types map.stack in
+      let depth = depth_by s.named.depths number in
+      let same : depth ≡ depth_by s.named.depths (number_of object) = ap (depth_by s.named.depths) is in
+      let less : lower s.lowest (s.height - depth) ≤ s.height - depth = lower_other s.lowest (s.height - depth) in
+      ap not (below_depth (is_same_object object) whole (depth_by s.named.depths (number_of object)) (lower s.lowest (s.height - depth))
+      (omega (arith, less, same, here.height, entry_count map)) (here.named object))
+
+  pub below_without : (stacks new : List FlowedStack) (number : Option ℕ) (known : FrameType) (object : Option FrameType) (f : NumberFrame) → number ≡ number_of known → object ≡ Some known
+      → new ≡ map (lowered_below number) stacks → AreFlowed pass stacks f → AreWithout pass object new
+  below_without stacks new number known object f number_is object_is is flowed =
+      subst (λ (o : Option FrameType). AreWithout pass o new) (sym object_is)
+      (subst (λ (ss : List FlowedStack). AreWithout pass (Some known) ss) (sym is)
+      (All-map (λ (s : FlowedStack). (map : ReadFrame) → slice_get pass.frames s.place ≡ Some map → IsTrue (is_without (Some known) (lowest_of s.lowest (types_of_entries pass.types map.stack))))
+      (lowered_below number) stacks (λ k d lt. one_without (stack_of pass.types f) number known (get_or stacks k d) number_is (flowed k d lt))))
+
+  -- before one that constructs none
+  pub all_without : (stacks : List FlowedStack) (object : Option FrameType) → object ≡ None → AreWithout pass object stacks
+  all_without stacks object e = subst (λ (o : Option FrameType). AreWithout pass o stacks) (sym e) (λ k d lt map at. refl)
+
   -- behind an instruction
   pub flowed_behind : LeavesBelow → (env : Environment) (pc : ℕ) (insn : Instruction) (stacks : List FlowedStack) (f g : NumberFrame) → AreFlowed pass stacks f
       → rule env pc insn (frame_of (names_in pass) f) ≡ Some (frame_of (names_in pass) g)
-      → ((stacks ≡ []) ⊎ (constructed_object env insn (frame_of (names_in pass) f) ≡ None)) → AreFlowed pass (map (lowered (length g.stack - 6)) stacks) g
-  flowed_behind law env pc insn stacks f g flowed left (inl none) =
-      none_flowed (map (lowered (length g.stack - 6)) stacks) g (ap (map (lowered (length g.stack - 6))) none)
-  flowed_behind law env pc insn stacks f g flowed left (inr none) = All-map (IsFlowed pass (stack_of pass.types g)) (lowered (length g.stack - 6)) stacks (λ k d lt. one (get_or stacks k d) (flowed k d lt))
+      → AreWithout pass (constructed_object env insn (frame_of (names_in pass) f)) stacks → AreFlowed pass (map (lowered (length g.stack - 6)) stacks) g
+  flowed_behind law env pc insn stacks f g flowed left without =
+      All-map (IsFlowed pass (stack_of pass.types g)) (lowered (length g.stack - 6)) stacks
+      (λ k d lt. one (get_or stacks k d) (constructed_object env insn (frame_of (names_in pass) f)) refl (without k d lt) (flowed k d lt))
     where
-      stands : StandsOn (stack_of pass.types f) (stack_of pass.types g)
-      stands = law env pc insn (frame_of (names_in pass) f) (frame_of (names_in pass) g) left none
-
       many : length (stack_of pass.types g) ≡ length g.stack
       many = length-map g.stack (typed (names_in pass))
 
-      one : (s : FlowedStack) → IsFlowed pass (stack_of pass.types f) s → IsFlowed pass (stack_of pass.types g) (lowered (length g.stack - 6) s)
-      one s h = λ map at. subst (λ n. LowestFlow pass.types (stack_of pass.types g) map (lowered (n - 6) s)) many (still_flow (stack_of pass.types f) (stack_of pass.types g) map s stands (h map at))
+      not_true : (b : Bool) → IsTrue (not b) → b ≡ false
+      not_true true e = absurd cc
+      not_true false e = refl
+
+      one : (s : FlowedStack) (object : Option FrameType) → constructed_object env insn (frame_of (names_in pass) f) ≡ object
+          → ((map : ReadFrame) → slice_get pass.frames s.place ≡ Some map → IsTrue (is_without object (lowest_of s.lowest (types_of_entries pass.types map.stack))))
+          → IsFlowed pass (stack_of pass.types f) s → IsFlowed pass (stack_of pass.types g) (lowered (length g.stack - 6) s)
+      one s None is none h = λ map at.
+          subst (λ n. LowestFlow pass.types (stack_of pass.types g) map (lowered (n - 6) s)) many
+          (still_flow (stack_of pass.types f) (stack_of pass.types g) map s (law env pc insn (frame_of (names_in pass) f) (frame_of (names_in pass) g) left is) (h map at))
+      one s (Some object) is none h = λ map at.
+          subst (λ n. LowestFlow pass.types (stack_of pass.types g) map (lowered (n - 6) s)) many
+          (others_flow object (stack_of pass.types f) (stack_of pass.types g) map s
+          (leaves_others env pc insn (frame_of (names_in pass) f) (frame_of (names_in pass) g) object left is)
+          (not_true (list_any (is_same_object object) (lowest_of s.lowest (types_of_entries pass.types map.stack))) (none map at)) (h map at))
 
   -- a stack that flows whole
-  pub all_lowest : (f : NumberFrame) (map : ReadFrame) (place height : ℕ) → height ≡ length f.stack → stack_flows_to pass.types (stack_of pass.types f) map ≡ true
-      → LowestFlow pass.types (stack_of pass.types f) map (record { place = place; height = height; lowest = height })
-  all_lowest f map place height e flow =
+  as_high : (f : NumberFrame) (map : ReadFrame) → stack_flows_to pass.types (stack_of pass.types f) map ≡ true → length map.stack ≡ length f.stack
+  as_high f map flow =
+      let same = as_many F (stack_of pass.types f) (types_of_entries pass.types map.stack) flow in
+      omega (arith, same, entry_count map, length-map f.stack (typed (names_in pass)))
+
+  pub no_higher : (f : NumberFrame) (map : ReadFrame) (height : ℕ) → height ≡ length f.stack → stack_flows_to pass.types (stack_of pass.types f) map ≡ true → length map.stack ≤ height
+  no_higher f map height e flow = omega (arith, e, as_high f map flow)
+
+  all_lowest : (f : NumberFrame) (map : ReadFrame) (s : FlowedStack) → s.height ≡ length f.stack → stack_flows_to pass.types (stack_of pass.types f) map ≡ true
+      → AreNamed s.named.depths (types_of_entries pass.types map.stack) → LowestFlow pass.types (stack_of pass.types f) map (raised s)
+  all_lowest f map s e flow named =
       let stack = stack_of pass.types f in
       let whole = types_of_entries pass.types map.stack in
       let many : length stack ≡ length f.stack = length-map f.stack (typed (names_in pass)) in
       let same : length stack ≡ length whole = as_many F stack whole flow in
-      let here : length stack - height ≡ 0 = omega (arith, many, e) in
-      let there : length whole - height ≡ 0 = omega (arith, many, same, e) in
+      let here : length stack - s.height ≡ 0 = omega (arith, many, e) in
+      let there : length whole - s.height ≡ 0 = omega (arith, many, same, e) in
       record {
         height = omega (arith, many, same, e, entry_count map);
         there = omega (arith, many, e);
         within = omega arith;
-        flow = ap (λ n. all_flow F (drop n stack) (lowest_of height whole)) here ∙ (ap (λ n. all_flow F stack (drop n whole)) there ∙ flow);
+        named = named;
+        flow = ap (λ n. all_flow F (drop n stack) (lowest_of s.height whole)) here ∙ (ap (λ n. all_flow F stack (drop n whole)) there ∙ flow);
       }
 
-  pub flows_whole : (f : NumberFrame) (map : ReadFrame) (place height : ℕ) → slice_get pass.frames place ≡ Some map → height ≡ length f.stack
-      → stack_flows_to pass.types (stack_of pass.types f) map ≡ true → IsFlowed pass (stack_of pass.types f) (record { place = place; height = height; lowest = height })
-  flows_whole f map place height at e flow = λ other is.
+  pub flows_whole : (f : NumberFrame) (map : ReadFrame) (s : FlowedStack) → slice_get pass.frames s.place ≡ Some map → s.height ≡ length f.stack
+      → stack_flows_to pass.types (stack_of pass.types f) map ≡ true → AreNamed s.named.depths (types_of_entries pass.types map.stack)
+      → IsFlowed pass (stack_of pass.types f) (raised s)
+  flows_whole f map s at e flow named = λ other is.
       let both : Some map ≡ Some other = sym at ∙ is in
       let same : map ≡ other = cc in
-      subst (λ (m : ReadFrame). LowestFlow pass.types (stack_of pass.types f) m (record { place = place; height = height; lowest = height })) same (all_lowest f map place height e flow)
+      subst (λ (m : ReadFrame). LowestFlow pass.types (stack_of pass.types f) m (raised s)) same (all_lowest f map s e flow named)
 
   -- one more that is kept, or none more
-  pub pushed_flowed : (old new : List FlowedStack) (s : FlowedStack) (stack : List FrameType) (b : Bool) → new ≡ (if b then old ++ s ∷ [] else old) → All (IsFlowed pass stack) old → IsFlowed pass stack s
-      → All (IsFlowed pass stack) new
-  pushed_flowed old new s stack true e all one = subst (All (IsFlowed pass stack)) (sym e) (All-push (IsFlowed pass stack) old s all one)
-  pushed_flowed old new s stack false e all one = subst (All (IsFlowed pass stack)) (sym e) all
+  pub kept_flowed : (old new : List FlowedStack) (f : NumberFrame) (map : ReadFrame) (place height : ℕ) → Keeps pass.types map place height old new → slice_get pass.frames place ≡ Some map
+      → height ≡ length f.stack → stack_flows_to pass.types (stack_of pass.types f) map ≡ true → AreFlowed pass old f → AreFlowed pass new f
+  kept_flowed old new f map place height (inl same) at e flow all = subst (λ (ss : List FlowedStack). AreFlowed pass ss f) (sym same) all
+  kept_flowed old new f map place height (inr kept) at e flow all =
+      let s : FlowedStack = record { place = place; height = height; lowest = height; named = kept.0 } in
+      subst (λ (ss : List FlowedStack). AreFlowed pass ss f) (sym kept.1)
+      (All-push (IsFlowed pass (stack_of pass.types f)) old s all (flows_whole f map s at e flow kept.2))
 
   -- what is known of one that was found
   pub known_at : (stacks : List FlowedStack) (stack : List FrameType) (k place : ℕ) (s : FlowedStack) (map : ReadFrame) → All (IsFlowed pass stack) stacks → slice_get stacks k ≡ Some s → s.place ≡ place

@@ -12,6 +12,7 @@ mod held;
 mod maps;
 mod merging;
 mod moving;
+mod named;
 mod opening;
 mod pass;
 mod setting;

@@ -1,7 +1,7 @@
 //! Deep stacks that flowed into frames of the stack map: what flows into one again is compared only from where the stack has changed
 //! since (JVMS 4.10.1.2).
 
-ghost use Rattle.std.specs.Prelude.{◌≡◌, ◌<◌, ◌≤◌, ◌-◌, [], ◌⊎◌, length, map, set, slice_get, take, Some, None, IfSome};
+ghost use Rattle.std.specs.Prelude.{◌≡◌, ◌<◌, ◌≤◌, ◌-◌, [], length, map, slice_get, take, Some, IfSome};
 ghost use Rattle.jv_code.specs.Insns.{instruction_of};
 ghost use Rattle.jv_meaning_world.specs.FrameFlow.{all_flow, item_flows};
 ghost use Rattle.jv_meaning_typing.specs.Environment.{Environment};
@@ -9,8 +9,9 @@ ghost use Rattle.jv_meaning_typing.specs.Rule.{constructed_object};
 ghost use Rattle.jv_types.specs.Numbered.{frame_of};
 ghost use Rattle.jv_types.specs.Mapped.{stack_of, stack_flows_to, types_of_entries, world_of_types};
 ghost use Rattle.jv_method_pass.specs.Pass.{IsOfPass, names_in};
-ghost use Rattle.jv_method_pass.specs.Inside.Stacks.{AreFlowed, lowered, lower};
+ghost use Rattle.jv_method_pass.specs.Inside.Stacks.{AreFlowed, AreWithout, IsRaised, Keeps, lower, lowered, lowered_below};
 
+use crate::named::{Named, number_of};
 use crate::pass::Pass;
 use jv_code::Insn;
 use jv_frames::MapFrame;
@@ -29,23 +30,38 @@ const KEPT: usize = 256;
 /// How many items an instruction puts on a stack at most.
 const GIVEN: usize = 6;
 
-/// A frame of the stack map by its place, how many items its stack has, and how many of the lowest items before an instruction flow to
-/// as many of its lowest.
-#[derive(Clone, Copy)]
+/// A frame of the stack map by its place, how many items its stack has, how many of the lowest items before an instruction flow to
+/// as many of its lowest, and the objects that its stack names.
 pub(crate) struct FlowedStack {
     place: usize,
     height: usize,
     lowest: usize,
+    named: Named,
+}
+
+impl Drop for FlowedStack {
+    fn drop(self) {
+        let FlowedStack {
+            place: _,
+            height: _,
+            lowest: _,
+            named: _,
+        } = self;
+    }
 }
 
 /// The stacks that are kept.
 pub(crate) struct FlowedStacks {
+    alloc: Global,
     stacks: Vec<FlowedStack>,
 }
 
 impl Drop for FlowedStacks {
     fn drop(self) {
-        let FlowedStacks { stacks: _ } = self;
+        let FlowedStacks {
+            alloc: _,
+            stacks: _,
+        } = self;
     }
 }
 
@@ -62,32 +78,32 @@ fn stayed(height: usize) -> usize
     height.saturating_sub(GIVEN)
 }
 
-/// Where at most so many of the lowest items have stayed.
-fn lowered(stayed: usize, stack: FlowedStack) -> FlowedStack
-    ensures { result ≡ lowered stayed stack }
-{
-    FlowedStack {
-        place: stack.place,
-        height: stack.height,
-        lowest: lower(stack.lowest, stayed),
-    }
-}
-
+/// At most so many of the lowest items have stayed.
 fn lower_all(stacks: &mut [FlowedStack], stayed: usize)
     ensures { stacks.new ≡ map (lowered stayed) stacks.old }
 {
     for stack in stacks.iter_mut() {
-        *stack = lowered(stayed, *stack);
+        stack.lowest = lower(stack.lowest, stayed);
     }
 }
 
-/// Puts a stack in the place of another.
-fn set_at(stacks: &mut [FlowedStack], k: usize, stack: FlowedStack)
+/// The object with a number, if there is one, gets another type: of what flows, only what is below where the map's frame names it stays.
+fn lower_below(stacks: &mut [FlowedStack], number: Option<u32>)
+    ensures { stacks.new ≡ map (lowered_below number) stacks.old }
+{
+    for stack in stacks.iter_mut() {
+        let below = stack.height.saturating_sub(stack.named.depth(number));
+        stack.lowest = lower(stack.lowest, below);
+    }
+}
+
+/// A stack flows whole.
+fn raise_at(stacks: &mut [FlowedStack], k: usize)
     requires { k < length stacks.old }
-    ensures set { stacks.new ≡ set stacks.old k stack }
+    ensures raised { IsRaised stacks.old k stacks.new }
     ensures many { length stacks.new ≡ length stacks.old }
 {
-    stacks[k] = stack;
+    stacks[k].lowest = stacks[k].height;
 }
 
 /// The number of what is kept of the frame of the stack map at a place.
@@ -135,6 +151,7 @@ impl FlowedStacks {
         ensures { result.stacks.items ≡ [] }
     {
         FlowedStacks {
+            alloc,
             stacks: Vec::new(alloc),
         }
     }
@@ -146,7 +163,15 @@ impl FlowedStacks {
         self.stacks.clear();
     }
 
-    /// Keeps none any more where an instruction constructs an object, which may give copies anywhere on the stack another type.
+    /// The object with a number, if there is one, gets another type.
+    fn go_below(&mut self, number: Option<u32>)
+        ensures { self.new.stacks.items ≡ map (lowered_below number) self.old.stacks.items }
+    {
+        lower_below(&mut self.stacks, number);
+    }
+
+    /// Where an instruction constructs an object, all copies of it get another type (JVMS 4.10.1.9.invokespecial). The object flows to
+    /// itself and to top alone (4.10.1.2), so what flowed to a stack of the map does still, below where that stack names the object.
     pub(crate) fn go_into(
         &mut self,
         pass: &Pass<'_, '_, '_, '_, '_>,
@@ -155,11 +180,11 @@ impl FlowedStacks {
     )
         requires { AreFlowed pass.now self.old.stacks.items frame.now }
         ensures stacks { AreFlowed pass.now self.new.stacks.items frame.now }
-        ensures object { (env : Environment) → IsOfPass pass.now env → (self.new.stacks.items ≡ [])
-            ⊎ (constructed_object env (instruction_of insn.now) (frame_of (names_in pass.now) frame.now) ≡ None) }
+        ensures object { (env : Environment) → IsOfPass pass.now env → AreWithout pass.now
+            (constructed_object env (instruction_of insn.now) (frame_of (names_in pass.now) frame.now)) self.new.stacks.items }
     {
         match constructed_object(pass.context, frame, insn) {
-            Some(_) => self.clear(),
+            Some(object) => self.go_below(number_of(object)),
             None => {}
         }
     }
@@ -169,6 +194,31 @@ impl FlowedStacks {
         ensures { self.new.stacks.items ≡ map (lowered (height - 6)) self.old.stacks.items }
     {
         lower_all(&mut self.stacks, stayed(height));
+    }
+
+    /// Keeps that a stack of so many items flows to that of the frame of the map at a place, where there is room for it.
+    fn keep(
+        &mut self,
+        types: &EntryTypes<'_, '_, '_>,
+        place: usize,
+        map: &MapFrame<'_>,
+        height: usize,
+    )
+        requires { length map.now.stack ≤ height }
+        ensures { Keeps types.now map.now place height self.old.stacks.items self.new.stacks.items }
+    {
+        if self.stacks.len() >= KEPT {
+            return;
+        }
+        let Ok(named) = Named::by(self.alloc, types, map, height) else {
+            return;
+        };
+        let _kept = self.stacks.push(FlowedStack {
+            place,
+            height,
+            lowest: height,
+            named,
+        });
     }
 
     /// Compares a stack with that of the frame of the map at a place, and keeps that it flows.
@@ -187,14 +237,7 @@ impl FlowedStacks {
         if !stack_flows(pass.types, frame, map) {
             return false;
         }
-        let height = frame.height();
-        if self.stacks.len() < KEPT {
-            let _kept = self.stacks.push(FlowedStack {
-                place,
-                height,
-                lowest: height,
-            });
-        }
+        self.keep(pass.types, place, map, frame.height());
         true
     }
 
@@ -214,7 +257,7 @@ impl FlowedStacks {
         ensures flows { result ≡ stack_flows_to pass.now.types (stack_of pass.now.types frame.now) map.now }
         ensures stacks { AreFlowed pass.now self.new.stacks.items frame.now }
     {
-        let known = self.stacks[k];
+        let known = &self.stacks[k];
         let height = frame.height();
         if known.height != height {
             return false;
@@ -222,15 +265,7 @@ impl FlowedStacks {
         if !top_flows(pass.types, frame, map, height - known.lowest) {
             return false;
         }
-        set_at(
-            &mut self.stacks,
-            k,
-            FlowedStack {
-                place,
-                height,
-                lowest: height,
-            },
-        );
+        raise_at(&mut self.stacks, k);
         true
     }
 

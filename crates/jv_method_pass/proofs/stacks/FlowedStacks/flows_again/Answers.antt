@@ -9,7 +9,7 @@ use Rattle.jv_types_frames.proofs.Replacing.{written}
 use Rattle.jv_method_pass.specs.declared.stacks.FlowedStack.{FlowedStack}
 use Rattle.jv_types.specs.Mapped.{stack_flows_to, stack_of, types_of_entries, world_of_types}
 use Rattle.jv_method_pass.specs.Pass.{Pass}
-use Rattle.jv_method_pass.specs.Inside.Stacks.{IsFlowed, LowestFlow}
+use Rattle.jv_method_pass.specs.Inside.Stacks.{IsFlowed, LowestFlow, raised}
 use Rattle.jv_method_pass.proofs.FlowingStacks.{known_at, other_height, room_on_top, by_top, flows_whole}
 use Rattle.jv_method_pass.proofs.stacks.FlowedStacks.flows_again.Goals as goal
 
@@ -76,7 +76,7 @@ returns-clause-stacks c =
     let map = c.args.map.now in
     let stacks = c.args.self.now.stacks in
     let items = stacks.items in
-    let new = c.set_at.new.stacks in
+    let new = c.raise_at.new.stacks in
     let known = c.index-known.result.now in
     let height = c.height-height.result in
     let n = height - known.lowest in
@@ -87,8 +87,11 @@ returns-clause-stacks c =
     sym (c.top_flows.ensures
     ∙ (ap (λ (p : Pass). all_flow (item_flows (world_of_types p.types)) (take n (stack_of p.types frame)) (take n (types_of_entries p.types map.stack))) c.pass.view_is
     ∙ by_top pass frame map known h height c.height-height.ensures c.if-known-height.false)) ∙ c.if-not-top_flows.false in
-    let one : FlowedStack = record { place = c.args.place; height = height; lowest = height } in
-    let is : new ≡ set items c.args.k one = c.set_at.ensures.set ∙ ap (λ (ss : List FlowedStack). set ss c.args.k one) c.deref_mut.ensures.value in
-    let many : stacks.len ≡ length new = stacks.ok.0 ∙ (ap length (sym c.deref_mut.ensures.value) ∙ sym c.set_at.ensures.many) in
+    let is : new ≡ set items c.args.k (raised known) =
+    c.raise_at.ensures.raised known (ap (λ (ss : List FlowedStack). slice_get ss c.args.k) c.deref_mut.ensures.value ∙ at)
+    ∙ ap (λ (ss : List FlowedStack). set ss c.args.k (raised known)) c.deref_mut.ensures.value in
+    let many : stacks.len ≡ length new = stacks.ok.0 ∙ (ap length (sym c.deref_mut.ensures.value) ∙ sym c.raise_at.ensures.many) in
     subst (λ (ss : List FlowedStack). All (IsFlowed pass (stack_of pass.types frame)) ss) (sym (written new _ stacks.len many ∙ is))
-    (All-set (IsFlowed pass (stack_of pass.types frame)) items c.args.k one (flows_whole pass frame map c.args.place height c.requires.at c.height-height.ensures flow) c.requires.stacks)
+    (All-set (IsFlowed pass (stack_of pass.types frame)) items c.args.k (raised known)
+    (flows_whole pass frame map known (ap (slice_get pass.frames) (c.requires.found known at) ∙ c.requires.at) (c.if-known-height.false ∙ c.height-height.ensures) flow h.named)
+    c.requires.stacks)
