@@ -617,6 +617,27 @@ def stack_constructs(folder, scale):
     made.write(folder)
 
 
+def stack_copies(folder, scale):
+    """2,600 objects that are constructed one after the other, each with a copy at the bottom of a stack of 65,530 items and a branch behind it
+    to a frame with top there; in 21 methods 3.9 MB."""
+    made = ClassFile("Main")
+    made.main()
+    made.method(1, "<init>", "()V", 1, 1, bytes([42, 183]) + u2(made.called("java/lang/Object", "<init>", "()V")) + bytes([177]))
+    count = scaled(scale, 2600)
+    end = 1 + 11 * count
+    called = u2(made.called("Main", "<init>", "()V"))
+    code = bytes([177])
+    for k in range(count):
+        code += bytes([196, 25]) + u2(k) + bytes([183]) + called + branch(end, 8 + 11 * k)
+    code += bytes([177]) + (bytes([187]) + u2(made.named("Main")) + bytes([87])) * count + bytes([177])
+    objects = [u1(8) + u2(end + 1 + 4 * k) for k in range(count)]
+    ints = [INT] * (65530 - count)
+    spelled = full(1, objects, objects + ints) + full(end - 2, [], [TOP] * count + ints) + full(0, [], [])
+    for n in range(scaled(scale, 21)):
+        made.method(9, f"m{n}", "()V", 65535, count, code, b"", (3, spelled))
+    made.write(folder)
+
+
 def stack_to_objects(folder, scale):
     """8,000 branches with 65,533 items of a class on the stack, which flow to as many of Object."""
     made = ClassFile("Main")
@@ -853,6 +874,22 @@ def stacks_kept(folder, scale):
     written_with(folder, add, scaled(scale, 85))
 
 
+def stacks_named(folder, scale):
+    """256 branches with 64 objects that are not initialized on the stack to as many frames, then 4,600 times `new, <init>`; in 50 methods 4 MB."""
+    targets, count = scaled(scale, 256), scaled(scale, 4600)
+    at = 192 + 4 * targets + 6 * count
+
+    def add(made, name):
+        new = bytes([187]) + u2(made.named("java/lang/Object"))
+        construct = bytes([183]) + u2(made.called("java/lang/Object", "<init>", "()V"))
+        code = new * 64 + b"".join(branch(at + k, 192 + 4 * k) for k in range(targets)) + (new + construct) * count + bytes([177]) * targets
+        objects = [u1(8) + u2(3 * k) for k in range(64)]
+        spelled = b"".join(full(at if k == 0 else 0, [], objects) for k in range(targets))
+        made.method(9, name, "()V", 65, 0, code, b"", (targets, spelled))
+
+    written_with(folder, add, scaled(scale, 50))
+
+
 def stores_for_many(folder, scale):
     """Branches to 64 frames of 1,024 entries over 65,535 local variables, of two kinds in turn, then 15,000 stores, then the branches once more;
     in 115 methods 4 MB."""
@@ -1019,10 +1056,10 @@ SHAPES = [
     int_frames_and_stores, int_stores, int_switch,
     handlers_at_front, handlers_and_frames, handlers_over_all, handlers_apart, handlers_and_stores, new_popped, new_left, new_made,
     no_package, interface_entries, supers_chain, supers_diamond, supers_dense, many_finals, branches_apart, branches_apart_often,
-    stack_branches, stack_branches_often, stack_pushed, stack_in_turn, stack_calls, stack_constructs, stack_to_objects,
+    stack_branches, stack_branches_often, stack_pushed, stack_in_turn, stack_calls, stack_constructs, stack_copies, stack_to_objects,
     start_branches, switch_apart, stores_apart, frames_in_turn, branches_in_turn, branches_in_turn_often, new_branches,
     interfaces_long, interfaces_before, catches_long, stores_and_branches, stores_below_handler, new_held, made_below_handler,
-    frames_fall_in_turn, start_in_turn, few_in_turn, pairs_in_turn, apart_in_turn, short_in_turn, small_in_turn, stacks_kept,
+    frames_fall_in_turn, start_in_turn, few_in_turn, pairs_in_turn, apart_in_turn, short_in_turn, small_in_turn, stacks_kept, stacks_named,
     stores_for_many, new_named, many_named, one_named, named_in_turn, stack_named, named_and_made, this_made,
 ]
 
