@@ -76,9 +76,21 @@ fn same_array(one: FieldTypeOf<u32>, other: FieldTypeOf<u32>) -> bool
     one.dimensions == other.dimensions && same_element(one.element, other.element)
 }
 
-/// Whether two types are known to be one without a look at a table.
+/// Whether two types are known to be one without a look at them as a whole.
 #[inline(always)]
 fn are_same(one: Item, other: Item) -> bool
+    ensures { IsTrue result → one ≡ other }
+{
+    match (one, other) {
+        (VerificationTypeOf::Int, VerificationTypeOf::Int) => true,
+        (VerificationTypeOf::Class(one), VerificationTypeOf::Class(other)) => one == other,
+        _ => false,
+    }
+}
+
+/// Whether two types are known to be one without a look at a table.
+#[inline(always)]
+fn are_alike(one: Item, other: Item) -> bool
     ensures { IsTrue result → one ≡ other }
 {
     match (one, other) {
@@ -136,7 +148,7 @@ fn left_flows(
     if is_top(item) {
         return true;
     }
-    if are_same(left, item) {
+    if are_alike(left, item) {
         return true;
     }
     local_flows(types, frame, object, at, entry)

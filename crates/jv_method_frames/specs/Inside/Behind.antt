@@ -22,7 +22,8 @@ left_in (Some object) local = if is_same_object object local then types.Top else
 -- whether a local variable flows to an entry of a frame, once an object cannot be used any more
 abbrev pub local_flows_to : EntryTypes → Option Item → Item → FrameEntry → Bool
 local_flows_to t object local entry =
-    flows (world_of_types t) (left_in (option_map (typed (names_of_types t)) object) (typed (names_of_types t) local)) (type_of_entry t entry)
+    flows (world_of_types t) (left_in (option_map (typed (names_of_types t)) object) (typed (names_of_types t) local))
+    (type_of_entry t entry)
 
 -- one type is the local variable's at an index, once an object cannot be used any more, and the other is an entry's
 pub record AreLeft (t : EntryTypes) (frame : NumberFrame) (object : Option Item) (at : ℕ) (entry : FrameEntry) (left item : Item)

@@ -11,10 +11,10 @@ returns-then-is_top c = λ are.
     let names = names_of_types c.args.types.now in
     sym (ap (λ (t : Item). flows (world_of_types c.args.types.now) (typed names c.args.left) (typed names t)) (c.is_top.ensures c.if-is_top.true))
 
-pub returns-then-are_same : goal.returns-then-are_same
-returns-then-are_same c = λ are.
+pub returns-then-are_alike : goal.returns-then-are_alike
+returns-then-are_alike c = λ are.
     let names = names_of_types c.args.types.now in
-    sym (ap (λ (t : Item). flows (world_of_types c.args.types.now) (typed names c.args.left) (typed names t)) (sym (c.are_same.ensures c.if-are_same.true))
+    sym (ap (λ (t : Item). flows (world_of_types c.args.types.now) (typed names c.args.left) (typed names t)) (sym (c.are_alike.ensures c.if-are_alike.true))
     ∙ flows_is_reflexive (world_of_types c.args.types.now) (typed names c.args.left))
 
 pub returns : goal.returns
