@@ -27,8 +27,8 @@ pub struct Turn {
     pub refused: bool,
 }
 
-/// Takes at most so many steps, from that of the method in the registers on, in whatever method they come to, until the newest frame is an
-/// initialization or none is left. Then all frames stand in their records.
+/// Takes at most so many steps, from that of the method in the registers on, until another frame goes on. Then all frames stand in their
+/// records.
 fn run_method<'a, 'l, S: Store>(
     frames: &mut Frames,
     at: Registers<'l>,
