@@ -23,4 +23,5 @@ pub use constant_value::ConstantValue;
 pub use fault::ClassFault;
 pub use jv_class_structure::{ClassFlags, Field, FieldFlags, Method, MethodCode, MethodFlags};
 pub use law::{is_some_class, one_of_each_name, one_structure};
+pub use names::is_clinit;
 pub use reading::read_class;

@@ -10,7 +10,8 @@ pub(crate) fn is_object(name: &[u8]) -> bool
     name == b"java/lang/Object".as_slice()
 }
 
-pub(crate) fn is_clinit(name: &[u8]) -> bool
+/// Whether a name is that of a class's initialization (JVMS 2.9).
+pub fn is_clinit(name: &[u8]) -> bool
     ensures { result ≡ is_clinit name.now }
 {
     name == b"<clinit>".as_slice()

@@ -3,7 +3,6 @@
 ghost use Rattle.std.specs.Prelude.{◌≡◌, ◌<◌, Some, IfOk, length};
 ghost use Rattle.jv_text.specs.Name.{is_init as is_init_name};
 ghost use Rattle.jv_class.specs.Class.{Field, Method};
-ghost use Rattle.jv_class.specs.Rules.{is_clinit};
 ghost use Rattle.jv_meaning_world.specs.Overriding.{Declared};
 ghost use Rattle.jv_meaning_world.specs.LookUps.{DeclaredField};
 ghost use Rattle.jv_loader.specs.of_lookups.Places.{field_at, method_at, IsFieldPlace};
@@ -19,6 +18,7 @@ use crate::error::LinkError;
 use crate::member::{field_at, method_at};
 use crate::site::{Site, Use};
 use crate::target::MethodTarget;
+use jv_class::is_clinit;
 use jv_loader::{ClassTable, Place};
 use jv_text::is_init;
 
@@ -52,13 +52,6 @@ fn has_method_kind(how: Use, flags: u16) -> bool
         Use::Invokeinterface => flags & STATIC_OR_PRIVATE == 0,
         _ => true,
     }
-}
-
-/// Whether a name is that of a class's initialization (JVMS 2.9).
-pub fn is_clinit(name: &[u8]) -> bool
-    ensures { result ≡ is_clinit name.now }
-{
-    name == b"<clinit>".as_slice()
 }
 
 /// The name of the method at a site.

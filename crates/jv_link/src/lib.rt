@@ -29,7 +29,7 @@ pub use class::{constants_class, created, resolve_class, same_class};
 pub use error::LinkError;
 pub use field::{constants_field, resolve_field};
 pub use jv_loader as of_loader;
-pub use kind::{callable_with, is_clinit, usable_with};
+pub use kind::{callable_with, usable_with};
 pub use laying::layout_of;
 pub use layout::{Layout, PlacedField};
 pub use member::{class_at, field_at, method_at};

@@ -12,8 +12,8 @@ use crate::constants::ConstantTypes;
 use crate::indices::{method_indices, text_at};
 use crate::names::Item;
 use crate::value::value_type;
+use jv_class::is_clinit;
 use jv_frames::VerificationTypeOf;
-use jv_link::is_clinit;
 use jv_text::{FieldTypeOf, is_init};
 
 /// The class or array that a method is named with, and the types of its arguments and of its result.
