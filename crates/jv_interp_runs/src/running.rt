@@ -27,8 +27,8 @@ pub struct Turn {
     pub refused: bool,
 }
 
-/// Takes at most so many steps, from that of the method in the registers on, until another frame goes on. Then all frames stand in their
-/// records.
+/// Takes at most so many steps, from that of the method in the registers on, through the methods that it calls and that it returns to,
+/// until an initialization is the newest frame or none is left. Then all frames stand in their records.
 fn run_method<'a, 'l, S: Store>(
     frames: &mut Frames,
     at: Registers<'l>,

@@ -1,4 +1,4 @@
-use Rattle.std.proofs.Common.{ℕ, Some, refl, sym, subst, ◌∙◌, arith, rules}
+use Rattle.std.proofs.Common.{ℕ, Some, sym, subst, ◌∙◌, arith}
 use Rattle.jv_interp_creation.specs.Literals.{LiteralGiven}
 use Rattle.jv_interp_creation.proofs.LiteralMade.{kept_length, kept_is, known, is_text, lacking, given}
 use Rattle.jv_interp_creation.proofs.literals.literal.Goals as goal
