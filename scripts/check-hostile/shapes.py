@@ -890,6 +890,53 @@ def stacks_named(folder, scale):
     written_with(folder, add, scaled(scale, 50))
 
 
+def objects_in_turn(folder, scale):
+    """120 frames of 1,000 objects that are not initialized on the stack, with branches behind each to 120 more of them in turn; in five
+    methods 3.6 MB."""
+    half, depth = scaled(scale, 60), scaled(scale, 1000)
+    sides = 2 * half
+    first = 3 * depth
+    at = first + 4 * sides * half
+    behind = at + sides
+
+    def add(made, name):
+        code = (bytes([187]) + u2(made.named("java/lang/Object"))) * depth
+        code += b"".join(branch(at + k % sides, first + 4 * k) for k in range(sides * half)) + bytes([177]) * sides
+        code += b"".join(branch(at + k % sides, behind + 4 * k) for k in range(sides * half)) + bytes([177])
+        objects = [u1(8) + u2(3 * k) for k in range(depth)]
+        again, next_one = full(4 * sides - 1, [], objects), full(0, [], objects)
+        spelled = full(first, [], objects) + again * half + next_one * sides + again * (half - 1)
+        made.method(9, name, "()V", depth + 1, 0, code, b"", (2 * sides, spelled))
+
+    written_with(folder, add, scaled(scale, 5))
+
+
+def copies_in_turn(folder, scale):
+    """30 times an object 1,024 times on the stack, with branches behind it to 256 frames of as many tops, then its `<init>`; in 12 methods 3.8 MB."""
+    half, targets, pairs = scaled(scale, 15), scaled(scale, 256), scaled(scale, 511)
+    size = 8 + 2 * pairs + 4 * targets
+    at = size * half + 1
+
+    def add(made, name):
+        new = bytes([187]) + u2(made.named("java/lang/Object"))
+        construct = bytes([183]) + u2(made.called("java/lang/Object", "<init>", "()V"))
+
+        def times(begin):
+            code = b""
+            for k in range(half):
+                before = begin + size * k + 4 + pairs
+                code += new + bytes([89]) + bytes([92]) * pairs
+                code += b"".join(branch(at + n, before + 4 * n) for n in range(targets)) + construct + bytes([88]) * pairs + bytes([87])
+            return code
+
+        code = times(0) + bytes([177]) * (1 + targets) + times(at + targets) + bytes([177])
+        tops = [TOP] * (2 * pairs + 2)
+        spelled = full(at, [], tops) + full(0, [], tops) * (targets - 1) + full(0, [], [])
+        made.method(9, name, "()V", 2 * pairs + 3, 0, code, b"", (targets + 1, spelled))
+
+    written_with(folder, add, scaled(scale, 12))
+
+
 def stores_for_many(folder, scale):
     """Branches to 64 frames of 1,024 entries over 65,535 local variables, of two kinds in turn, then 15,000 stores, then the branches once more;
     in 115 methods 4 MB."""
@@ -1060,7 +1107,7 @@ SHAPES = [
     start_branches, switch_apart, stores_apart, frames_in_turn, branches_in_turn, branches_in_turn_often, new_branches,
     interfaces_long, interfaces_before, catches_long, stores_and_branches, stores_below_handler, new_held, made_below_handler,
     frames_fall_in_turn, start_in_turn, few_in_turn, pairs_in_turn, apart_in_turn, short_in_turn, small_in_turn, stacks_kept, stacks_named,
-    stores_for_many, new_named, many_named, one_named, named_in_turn, stack_named, named_and_made, this_made,
+    objects_in_turn, copies_in_turn, stores_for_many, new_named, many_named, one_named, named_in_turn, stack_named, named_and_made, this_made,
 ]
 
 

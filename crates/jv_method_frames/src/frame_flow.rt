@@ -1,12 +1,13 @@
 //! What flows into a frame of the stack map (JVMS 4.10.1.2, 4.10.1.4).
 
-ghost use Rattle.std.specs.Prelude.{◌≡◌, Some, slice_get, ◌&&◌, ◌||◌, not, ℕ, List, ◌∷◌, [], IsTrue, map, reverse};
+ghost use Rattle.std.specs.Prelude.{◌≡◌, Some, true, slice_get, ◌&&◌, ◌||◌, not, ℕ, List, ◌∷◌, [], IsTrue, map, reverse};
 ghost use Rattle.std.specs.List.{list_any};
 ghost use Rattle.std.specs.Option.{option_map};
 ghost use Rattle.jv_frames.specs.Frames.{is_uninitialized_this};
 ghost use Rattle.jv_frames.specs.declared.verification.VerificationTypeOf.TheVariants as variants;
 ghost use Rattle.jv_meaning_world.specs.Flow.{flows};
 ghost use Rattle.jv_meaning_world.specs.FrameFlow.{item_flows, frame_flows};
+ghost use Rattle.jv_meaning_world.specs.World.{World};
 ghost use Rattle.jv_meaning_typing.specs.FrameChanges.{is_same_object};
 ghost use Rattle.jv_types.specs.Typed.{typed};
 ghost use Rattle.jv_types.specs.Numbered.{Item};
@@ -84,6 +85,9 @@ fn are_same(one: Item, other: Item) -> bool
     match (one, other) {
         (VerificationTypeOf::Int, VerificationTypeOf::Int) => true,
         (VerificationTypeOf::Class(one), VerificationTypeOf::Class(other)) => one == other,
+        (VerificationTypeOf::Uninitialized(one), VerificationTypeOf::Uninitialized(other)) => {
+            one == other
+        }
         _ => false,
     }
 }
@@ -154,12 +158,27 @@ fn left_flows(
     local_flows(types, frame, object, at, entry)
 }
 
-/// Whether a stack item's type does: where the two are one, no table is asked.
+/// Whether an item is an object that is not initialized, and another is top.
 #[inline(always)]
-fn item_flows(names: &TypeNames<'_, '_>, from: Item, to: Item) -> bool
+fn is_left_unused(from: Item, to: Item) -> bool
+    ensures { (world : World) (names : List (List ℕ)) → IsTrue result → item_flows world (typed names from) (typed names to) ≡ true }
+{
+    match (from, to) {
+        (VerificationTypeOf::Uninitialized(_), VerificationTypeOf::Top) => true,
+        _ => false,
+    }
+}
+
+/// Whether a stack item's type flows to another: where the two are one, and from an object that is not initialized to top, no table is
+/// asked.
+#[inline(always)]
+pub fn item_flows(names: &TypeNames<'_, '_>, from: Item, to: Item) -> bool
     ensures { result ≡ item_flows names.now.world (typed names.now.names from) (typed names.now.names to) }
 {
     if are_same(from, to) {
+        return true;
+    }
+    if is_left_unused(from, to) {
         return true;
     }
     names.item_flows(from, to)

@@ -8,6 +8,7 @@ mod frame_flow;
 mod rule;
 
 pub use frame_flow::{
-    flag_flows, frame_flows, has_this, locals_flow, stack_flows, thrown_flows, thrown_stack_flows,
+    flag_flows, frame_flows, has_this, item_flows, locals_flow, stack_flows, thrown_flows,
+    thrown_stack_flows,
 };
 pub use rule::apply;

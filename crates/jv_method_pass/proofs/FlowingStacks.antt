@@ -1,10 +1,10 @@
 -- Stacks that are known to flow from the lowest items on.
-use Rattle.std.proofs.Common.{◌≡◌, ℕ, zero, suc, ◌+◌, ◌-◌, ◌<◌, ◌≤◌, Bool, true, false, not, ◌&&◌, ◌||◌, ◌==◌, List, [], ◌∷◌, ◌++◌, length, map, drop, take, Option, Some, None, refl, sym, ap, subst, ◌∙◌, arith, if◌then◌else◌, length-drop}
-use Rattle.std.specs.Prelude.{IsTrue, nat_le, slice_get, get_or}
+use Rattle.std.proofs.Common.{◌≡◌, ℕ, zero, suc, ◌+◌, ◌-◌, ◌<◌, ◌≤◌, Bool, true, false, not, ◌&&◌, ◌||◌, ◌==◌, List, [], ◌∷◌, ◌++◌, length, map, drop, take, reverse, Option, Some, None, refl, sym, ap, subst, ◌∙◌, arith, if◌then◌else◌, length-drop}
+use Rattle.std.specs.Prelude.{IsTrue, slice_get, get_or}
 use Rattle.std.specs.List.{All, list_any}
 use Rattle.std.proofs.Common.{inl, inr}
-use Rattle.std.proofs.Math.Seq.{drop-append-add, drop-length}
-use Rattle.std.proofs.lemmas.Bool.{leb-true, eqb-true, eq-eqb}
+use Rattle.std.proofs.Math.Seq.{drop-append-add}
+use Rattle.std.proofs.lemmas.Bool.{eqb-true, eq-eqb}
 use Rattle.std.proofs.lemmas.List.{drop-drop, drop-map, length-append, length-map}
 use Rattle.std.proofs.lemmas.List.Elements.{All-map, All-push}
 use Rattle.std.proofs.lemmas.Option.{get_or_from_slice_get}
@@ -19,14 +19,17 @@ use Rattle.jv_meaning_typing.specs.FrameChanges.{is_same_object, replaced}
 use Rattle.jv_meaning_typing.specs.Rule.{rule, constructed_object}
 use Rattle.jv_rules.specs.Laws.{StandsOn, LeavesBelow}
 use Rattle.jv_types.specs.Typed.{typed, typed_all}
+use Rattle.jv_types_frames.specs.Inside.Noted.{is_among, is_in_local}
+use Rattle.jv_types_frames.proofs.Replacing.{map_reversed}
 use Rattle.jv_types.specs.Numbered.{Item, NumberFrame, frame_of}
 use Rattle.jv_method_pass.specs.declared.stacks.FlowedStack.{FlowedStack}
 use Rattle.jv_types.specs.Mapped.{world_of_types, types_of_entries, stack_of, stack_flows_to}
 use Rattle.jv_method_pass.specs.Pass.{Pass, names_in}
-use Rattle.jv_method_pass.specs.Inside.Stacks.{lowest_of, LowestFlow, IsFlowed, AreFlowed, is_without, AreWithout, lower, lowered, lowered_below, raised, Keeps}
-use Rattle.jv_method_pass.specs.Inside.Named.{number_of, depth_by, AreNamed}
+use Rattle.jv_method_pass.specs.Inside.Stacks.{lowest_of, LowestFlow, IsFlowed, AreFlowed, is_without, AreWithout, lowered, lowered_below, raised, GoesBelow, Keeps}
+use Rattle.jv_method_pass.specs.Inside.Objects.{below_places, lower, objects_of}
 use Rattle.jv_method_pass.proofs.Constructing.{StandsReplaced, leaves_others}
 use Rattle.jv_method_pass.proofs.Holding.{within}
+use Rattle.jv_method_pass.proofs.ObjectsBelow.{lower_one, lower_other, none_of, places_less, none_left}
 use Rattle.jv_method_frames.proofs.Lists.{at_place}
 
 and_false : (b : Bool) → (b && false) ≡ false
@@ -138,29 +141,10 @@ module _ (f : FrameType → FrameType → Bool) (names : List (List ℕ)) (stack
 
 -- ---- the lowest items
 
-lower_one : (a b : ℕ) → lower a b ≤ a
-lower_one a b = by_test (nat_le a b) refl
-  where
-    by_test : (t : Bool) → nat_le a b ≡ t → (if t then a else b) ≤ a
-    by_test true e = omega arith
-    by_test false e = grind (arith, e)
-
-lower_other : (a b : ℕ) → lower a b ≤ b
-lower_other a b = by_test (nat_le a b) refl
-  where
-    by_test : (t : Bool) → nat_le a b ≡ t → (if t then a else b) ≤ b
-    by_test true e = leb-true a b e
-    by_test false e = omega arith
-
 lower_still : {X : Type 0} (xs : List X) (a b : ℕ) → b ≤ a → a ≤ length xs → drop (a - b) (lowest_of a xs) ≡ lowest_of b xs
 lower_still xs a b le room =
     let sum : (length xs - a) + (a - b) ≡ length xs - b = omega (arith, le, room) in
     drop-drop (a - b) (length xs - a) xs ∙ ap (λ n. drop n xs) sum
-
-none_of : {X : Type 0} (xs : List X) → lowest_of 0 xs ≡ []
-none_of xs =
-    let all : length xs - 0 ≡ length xs = omega arith in
-    ap (λ n. drop n xs) all ∙ drop-length xs
 
 stay : (before behind given : List FrameType) (taken m : ℕ) → length given ≤ 6 → behind ≡ given ++ drop taken before → m ≤ length behind - 6 → lowest_of m behind ≡ lowest_of m before
 stay before behind given taken zero few is le = none_of behind ∙ sym (none_of before)
@@ -182,14 +166,6 @@ any_dropped : {X : Type 0} (test : X → Bool) (n : ℕ) (xs : List X) → list_
 any_dropped test zero xs h = h
 any_dropped test (suc n) [] h = refl
 any_dropped test (suc n) (x ∷ xs) h = any_dropped test n xs (or_second (test x) (list_any test xs) h)
-
--- none is among those below a depth, so none is among as many of the lowest
-below_depth : {X : Type 0} (test : X → Bool) (xs : List X) (depth m : ℕ) → m ≤ length xs - depth → list_any test (drop depth xs) ≡ false → list_any test (lowest_of m xs) ≡ false
-below_depth test xs depth zero le h = ap (list_any test) (none_of xs)
-below_depth test xs depth (suc m) le h =
-    let rest = (length xs - suc m) - depth in
-    let sum : depth + rest ≡ length xs - suc m = omega (arith, le) in
-    ap (list_any test) (sym (drop-drop rest depth xs ∙ ap (λ n. drop n xs) sum)) ∙ any_dropped test rest (drop depth xs) h
 
 clash : (b : Bool) → b ≡ false → b ≡ true → ⊥
 clash true e f = absurd cc
@@ -276,7 +252,7 @@ module _ (pass : Pass) where
       → LowestFlow pass.types behind map (lowered n s)
   lowered_flow before behind map s n there flow h =
       let one : lower s.lowest n ≤ s.lowest = lower_one s.lowest n in
-      record { height = h.height; there = there; within = omega (arith, one, h.within); named = h.named; flow = flow }
+      record { height = h.height; there = there; within = omega (arith, one, h.within); objects = h.objects; flow = flow }
 
   -- an instruction leaves the lowest items
   still_flow : (before behind : List FrameType) (map : ReadFrame) (s : FlowedStack) → StandsOn before behind → LowestFlow pass.types before map s
@@ -310,37 +286,41 @@ module _ (pass : Pass) where
   none_flowed stacks f e = subst (λ (ss : List FlowedStack). AreFlowed pass ss f) (sym e) (λ k d lt. absurd (omega (arith, lt)))
 
   -- before an instruction that constructs an object
-  one_below : (stack : List FrameType) (number : Option ℕ) (s : FlowedStack) → IsFlowed pass stack s → IsFlowed pass stack (lowered_below number s)
-  one_below stack number s h = λ map at.
-      let here = h map at in
-      let below = s.height - depth_by s.named.depths number in
-      let less : lower s.lowest below ≤ s.lowest = lower_one s.lowest below in
-      lowered_flow stack stack map s below (omega (arith, less, here.there)) (less_flow stack map s (lower s.lowest below) less here) here
+  less_flowed : (stack : List FrameType) (map : ReadFrame) (s : FlowedStack) (m : ℕ) → m ≤ s.lowest → LowestFlow pass.types stack map s → LowestFlow pass.types stack map (record s { lowest = m })
+  less_flowed stack map s m less h =
+      record { height = h.height; there = omega (arith, less, h.there); within = omega (arith, less, h.within); objects = h.objects; flow = less_flow stack map s m less h }
 
-  pub below_flowed : (stacks new : List FlowedStack) (number : Option ℕ) (f : NumberFrame) → new ≡ map (lowered_below number) stacks → AreFlowed pass stacks f → AreFlowed pass new f
-  below_flowed stacks new number f is flowed =
-      subst (λ (ss : List FlowedStack). AreFlowed pass ss f) (sym is)
-      (All-map (IsFlowed pass (stack_of pass.types f)) (lowered_below number) stacks (λ k d lt. one_below (stack_of pass.types f) number (get_or stacks k d) (flowed k d lt)))
+  one_below : (stack : List FrameType) (places : List ℕ) (s : FlowedStack) → IsFlowed pass stack s → IsFlowed pass stack (lowered_below places s)
+  one_below stack places s h = λ map at.
+      less_flowed stack map s (below_places s.objects.items places s.lowest) (places_less s.objects.items places s.lowest) (h map at)
 
-  one_without : (stack : List FrameType) (number : Option ℕ) (object : FrameType) (s : FlowedStack) → number ≡ number_of object → IsFlowed pass stack s → (map : ReadFrame)
-      → slice_get pass.frames s.place ≡ Some map
-      → IsTrue (is_without (Some object) (lowest_of (lower s.lowest (s.height - depth_by s.named.depths number)) (types_of_entries pass.types map.stack)))
-  one_without stack number object s is h map at =
+  pub below_flowed : (object : Item) (stacks new : List FlowedStack) (f : NumberFrame) → GoesBelow object f.stack stacks new → AreFlowed pass stacks f → AreFlowed pass new f
+  below_flowed object stacks new f (inl lower_all) flowed =
+      subst (λ (ss : List FlowedStack). AreFlowed pass ss f) (sym lower_all.2)
+      (All-map (IsFlowed pass (stack_of pass.types f)) (lowered_below lower_all.0) stacks (λ k d lt. one_below (stack_of pass.types f) lower_all.0 (get_or stacks k d) (flowed k d lt)))
+  below_flowed object stacks new f (inr none) flowed = none_flowed new f none
+
+  one_without : (stack : List FrameType) (object : FrameType) (places : List ℕ) → ((k : ℕ) → is_among places k ≡ false → is_in_local object (reverse stack) k ≡ false)
+      → (s : FlowedStack) → IsFlowed pass stack s → (map : ReadFrame) → slice_get pass.frames s.place ≡ Some map
+      → IsTrue (is_without (Some object) (lowest_of (below_places s.objects.items places s.lowest) (types_of_entries pass.types map.stack)))
+  one_without stack object places hold s h map at =
       let here = h map at in
       let whole = types_of_entries pass.types map.stack in
-      let depth = depth_by s.named.depths number in
-      let same : depth ≡ depth_by s.named.depths (number_of object) = ap (depth_by s.named.depths) is in
-      let less : lower s.lowest (s.height - depth) ≤ s.height - depth = lower_other s.lowest (s.height - depth) in
-      ap not (below_depth (is_same_object object) whole (depth_by s.named.depths (number_of object)) (lower s.lowest (s.height - depth))
-      (omega (arith, less, same, here.height, entry_count map)) (here.named object))
+      ap not (ap (λ bs. list_any (is_same_object object) (lowest_of (below_places bs places s.lowest) whole)) here.objects
+      ∙ none_left (world_of_types pass.types) object stack whole places hold s.lowest here.there (less_room stack map s here) (λ m less. less_flow stack map s m less here))
 
-  pub below_without : (stacks new : List FlowedStack) (number : Option ℕ) (known : FrameType) (object : Option FrameType) (f : NumberFrame) → number ≡ number_of known → object ≡ Some known
-      → new ≡ map (lowered_below number) stacks → AreFlowed pass stacks f → AreWithout pass object new
-  below_without stacks new number known object f number_is object_is is flowed =
+  pub below_without : (item : Item) (object : Option FrameType) (stacks new : List FlowedStack) (f : NumberFrame) → object ≡ Some (typed (names_in pass) item)
+      → GoesBelow item f.stack stacks new → AreFlowed pass stacks f → AreWithout pass object new
+  below_without item object stacks new f object_is (inl lower_all) flowed =
+      let known = typed (names_in pass) item in
+      let hold : (k : ℕ) → is_among lower_all.0 k ≡ false → is_in_local known (reverse (stack_of pass.types f)) k ≡ false = λ k e.
+      subst (λ (xs : List FrameType). is_in_local known xs k ≡ false) (map_reversed (typed (names_in pass)) f.stack) (lower_all.1 (names_in pass) k e) in
       subst (λ (o : Option FrameType). AreWithout pass o new) (sym object_is)
-      (subst (λ (ss : List FlowedStack). AreWithout pass (Some known) ss) (sym is)
+      (subst (λ (ss : List FlowedStack). AreWithout pass (Some known) ss) (sym lower_all.2)
       (All-map (λ (s : FlowedStack). (map : ReadFrame) → slice_get pass.frames s.place ≡ Some map → IsTrue (is_without (Some known) (lowest_of s.lowest (types_of_entries pass.types map.stack))))
-      (lowered_below number) stacks (λ k d lt. one_without (stack_of pass.types f) number known (get_or stacks k d) number_is (flowed k d lt))))
+      (lowered_below lower_all.0) stacks (λ k d lt. one_without (stack_of pass.types f) known lower_all.0 hold (get_or stacks k d) (flowed k d lt))))
+  below_without item object stacks new f object_is (inr none) flowed =
+      subst (λ (ss : List FlowedStack). AreWithout pass object ss) (sym none) (λ k d lt. absurd (omega (arith, lt)))
 
   -- before one that constructs none
   pub all_without : (stacks : List FlowedStack) (object : Option FrameType) → object ≡ None → AreWithout pass object stacks
@@ -374,17 +354,9 @@ module _ (pass : Pass) where
           (not_true (list_any (is_same_object object) (lowest_of s.lowest (types_of_entries pass.types map.stack))) (none map at)) (h map at))
 
   -- a stack that flows whole
-  as_high : (f : NumberFrame) (map : ReadFrame) → stack_flows_to pass.types (stack_of pass.types f) map ≡ true → length map.stack ≡ length f.stack
-  as_high f map flow =
-      let same = as_many F (stack_of pass.types f) (types_of_entries pass.types map.stack) flow in
-      omega (arith, same, entry_count map, length-map f.stack (typed (names_in pass)))
-
-  pub no_higher : (f : NumberFrame) (map : ReadFrame) (height : ℕ) → height ≡ length f.stack → stack_flows_to pass.types (stack_of pass.types f) map ≡ true → length map.stack ≤ height
-  no_higher f map height e flow = omega (arith, e, as_high f map flow)
-
   all_lowest : (f : NumberFrame) (map : ReadFrame) (s : FlowedStack) → s.height ≡ length f.stack → stack_flows_to pass.types (stack_of pass.types f) map ≡ true
-      → AreNamed s.named.depths (types_of_entries pass.types map.stack) → LowestFlow pass.types (stack_of pass.types f) map (raised s)
-  all_lowest f map s e flow named =
+      → s.objects.items ≡ objects_of (types_of_entries pass.types map.stack) → LowestFlow pass.types (stack_of pass.types f) map (raised s)
+  all_lowest f map s e flow objects =
       let stack = stack_of pass.types f in
       let whole = types_of_entries pass.types map.stack in
       let many : length stack ≡ length f.stack = length-map f.stack (typed (names_in pass)) in
@@ -395,24 +367,24 @@ module _ (pass : Pass) where
         height = omega (arith, many, same, e, entry_count map);
         there = omega (arith, many, e);
         within = omega arith;
-        named = named;
+        objects = objects;
         flow = ap (λ n. all_flow F (drop n stack) (lowest_of s.height whole)) here ∙ (ap (λ n. all_flow F stack (drop n whole)) there ∙ flow);
       }
 
   pub flows_whole : (f : NumberFrame) (map : ReadFrame) (s : FlowedStack) → slice_get pass.frames s.place ≡ Some map → s.height ≡ length f.stack
-      → stack_flows_to pass.types (stack_of pass.types f) map ≡ true → AreNamed s.named.depths (types_of_entries pass.types map.stack)
+      → stack_flows_to pass.types (stack_of pass.types f) map ≡ true → s.objects.items ≡ objects_of (types_of_entries pass.types map.stack)
       → IsFlowed pass (stack_of pass.types f) (raised s)
-  flows_whole f map s at e flow named = λ other is.
+  flows_whole f map s at e flow objects = λ other is.
       let both : Some map ≡ Some other = sym at ∙ is in
       let same : map ≡ other = cc in
-      subst (λ (m : ReadFrame). LowestFlow pass.types (stack_of pass.types f) m (raised s)) same (all_lowest f map s e flow named)
+      subst (λ (m : ReadFrame). LowestFlow pass.types (stack_of pass.types f) m (raised s)) same (all_lowest f map s e flow objects)
 
   -- one more that is kept, or none more
   pub kept_flowed : (old new : List FlowedStack) (f : NumberFrame) (map : ReadFrame) (place height : ℕ) → Keeps pass.types map place height old new → slice_get pass.frames place ≡ Some map
       → height ≡ length f.stack → stack_flows_to pass.types (stack_of pass.types f) map ≡ true → AreFlowed pass old f → AreFlowed pass new f
   kept_flowed old new f map place height (inl same) at e flow all = subst (λ (ss : List FlowedStack). AreFlowed pass ss f) (sym same) all
   kept_flowed old new f map place height (inr kept) at e flow all =
-      let s : FlowedStack = record { place = place; height = height; lowest = height; named = kept.0 } in
+      let s : FlowedStack = record { place = place; height = height; lowest = height; objects = kept.0 } in
       subst (λ (ss : List FlowedStack). AreFlowed pass ss f) (sym kept.1)
       (All-push (IsFlowed pass (stack_of pass.types f)) old s all (flows_whole f map s at e flow kept.2))
 

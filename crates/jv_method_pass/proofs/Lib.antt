@@ -12,7 +12,7 @@ pub mod FramesSpelled
 pub mod Holding
 pub mod MapFrames
 pub mod MovedLocals
-pub mod NamedObjects
+pub mod ObjectsBelow
 pub mod Opened
 pub mod Passing
 pub mod SameTypes

@@ -5,7 +5,7 @@ pub mod Held
 pub mod Kept
 pub mod Locals
 pub mod Moved
-pub mod Named
+pub mod Objects
 pub mod Opening
 pub mod Parts
 pub mod Settled

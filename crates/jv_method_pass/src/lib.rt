@@ -12,7 +12,7 @@ mod held;
 mod maps;
 mod merging;
 mod moving;
-mod named;
+mod objects;
 mod opening;
 mod pass;
 mod setting;

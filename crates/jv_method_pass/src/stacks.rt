@@ -9,15 +9,16 @@ ghost use Rattle.jv_meaning_typing.specs.Rule.{constructed_object};
 ghost use Rattle.jv_types.specs.Numbered.{frame_of};
 ghost use Rattle.jv_types.specs.Mapped.{stack_of, stack_flows_to, types_of_entries, world_of_types};
 ghost use Rattle.jv_method_pass.specs.Pass.{IsOfPass, names_in};
-ghost use Rattle.jv_method_pass.specs.Inside.Stacks.{AreFlowed, AreWithout, IsRaised, Keeps, lower, lowered, lowered_below};
+ghost use Rattle.jv_method_pass.specs.Inside.Objects.{below_place, below_places, least_of, lower};
+ghost use Rattle.jv_method_pass.specs.Inside.Stacks.{AreFlowed, AreWithout, GoesBelow, IsRaised, Keeps, lowered, lowered_below};
 
-use crate::named::{Named, number_of};
+use crate::objects::objects_of;
 use crate::pass::Pass;
 use jv_code::Insn;
 use jv_frames::MapFrame;
-use jv_method_frames::stack_flows;
+use jv_method_frames::{item_flows, stack_flows};
 use jv_rules::constructed_object;
-use jv_types::EntryTypes;
+use jv_types::{EntryTypes, Item};
 use jv_types_frames::TypeFrame;
 use std::alloc::Global;
 
@@ -31,12 +32,12 @@ const KEPT: usize = 256;
 const GIVEN: usize = 6;
 
 /// A frame of the stack map by its place, how many items its stack has, how many of the lowest items before an instruction flow to
-/// as many of its lowest, and the objects that its stack names.
+/// as many of its lowest, and whether each of its items is an object that is not initialized, from the lowest on.
 pub(crate) struct FlowedStack {
     place: usize,
     height: usize,
     lowest: usize,
-    named: Named,
+    objects: Vec<bool>,
 }
 
 impl Drop for FlowedStack {
@@ -45,7 +46,7 @@ impl Drop for FlowedStack {
             place: _,
             height: _,
             lowest: _,
-            named: _,
+            objects: _,
         } = self;
     }
 }
@@ -87,13 +88,57 @@ fn lower_all(stacks: &mut [FlowedStack], stayed: usize)
     }
 }
 
-/// The object with a number, if there is one, gets another type: of what flows, only what is below where the map's frame names it stays.
-fn lower_below(stacks: &mut [FlowedStack], number: Option<u32>)
-    ensures { stacks.new ≡ map (lowered_below number) stacks.old }
+/// So many of the lowest items, or as many as are below a place, if an object is there.
+fn below_place(objects: &[bool], place: u16, lowest: usize) -> usize
+    ensures { result ≡ below_place objects.now place lowest }
 {
+    if objects.get(usize::from(place)).copied().unwrap_or(false) {
+        lower(lowest, usize::from(place))
+    } else {
+        lowest
+    }
+}
+
+/// So many of the lowest items, or as many as are below each of these places at which there is an object.
+fn below_places(objects: &[bool], places: &[u16], lowest: usize) -> usize
+    ensures { result ≡ below_places objects.now places.now lowest }
+{
+    let mut left = lowest;
+    for k in 0..places.len() {
+        left = below_place(objects, places[k], left);
+    }
+    left
+}
+
+/// The least of these places, or the greatest number that a place can have.
+fn least_of(places: &[u16]) -> usize
+    ensures { result ≡ least_of 65535 places.now }
+{
+    let mut least = 65_535;
+    for k in 0..places.len() {
+        least = lower(least, usize::from(places[k]));
+    }
+    least
+}
+
+/// What [`below_places`] gives, where the least of these places is known: they are not gone over where they are all above.
+fn below_least(objects: &[bool], places: &[u16], least: usize, lowest: usize) -> usize
+    requires { least ≡ least_of 65535 places.now }
+    ensures { result ≡ below_places objects.now places.now lowest }
+{
+    if lowest <= least {
+        return lowest;
+    }
+    below_places(objects, places, lowest)
+}
+
+/// What is at these places gets another type: of what flows, what is below those at which the map's frame has an object stays.
+fn lower_below(stacks: &mut [FlowedStack], places: &[u16])
+    ensures { stacks.new ≡ map (lowered_below places.now) stacks.old }
+{
+    let least = least_of(places);
     for stack in stacks.iter_mut() {
-        let below = stack.height.saturating_sub(stack.named.depth(number));
-        stack.lowest = lower(stack.lowest, below);
+        stack.lowest = below_least(&stack.objects, places, least, stack.lowest);
     }
 }
 
@@ -138,7 +183,7 @@ fn top_flows(
         let Some(item) = frame.item(depth) else {
             return false;
         };
-        if !types.names().item_flows(item, types.item(entry)) {
+        if !item_flows(types.names(), item, types.item(entry)) {
             return false;
         }
     }
@@ -163,15 +208,21 @@ impl FlowedStacks {
         self.stacks.clear();
     }
 
-    /// The object with a number, if there is one, gets another type.
-    fn go_below(&mut self, number: Option<u32>)
-        ensures { self.new.stacks.items ≡ map (lowered_below number) self.old.stacks.items }
+    /// An object that is not initialized gets another type, wherever it is on the stack of a frame.
+    fn go_below(&mut self, frame: &TypeFrame, object: Item)
+        ensures { GoesBelow object frame.now.stack self.old.stacks.items self.new.stacks.items }
     {
-        lower_below(&mut self.stacks, number);
+        if self.stacks.is_empty() {
+            return;
+        }
+        match frame.copies_on_stack(self.alloc, object) {
+            Ok(places) => lower_below(&mut self.stacks, &places),
+            Err(_) => self.stacks.clear(),
+        }
     }
 
     /// Where an instruction constructs an object, all copies of it get another type (JVMS 4.10.1.9.invokespecial). The object flows to
-    /// itself and to top alone (4.10.1.2), so what flowed to a stack of the map does still, below where that stack names the object.
+    /// itself and to top alone (4.10.1.2), so what flowed to a stack of the map does still, below where that stack has the object.
     pub(crate) fn go_into(
         &mut self,
         pass: &Pass<'_, '_, '_, '_, '_>,
@@ -184,7 +235,7 @@ impl FlowedStacks {
             (constructed_object env (instruction_of insn.now) (frame_of (names_in pass.now) frame.now)) self.new.stacks.items }
     {
         match constructed_object(pass.context, frame, insn) {
-            Some(object) => self.go_below(number_of(object)),
+            Some(object) => self.go_below(frame, object),
             None => {}
         }
     }
@@ -204,21 +255,23 @@ impl FlowedStacks {
         map: &MapFrame<'_>,
         height: usize,
     )
-        requires { length map.now.stack ≤ height }
         ensures { Keeps types.now map.now place height self.old.stacks.items self.new.stacks.items }
     {
         if self.stacks.len() >= KEPT {
             return;
         }
-        let Ok(named) = Named::by(self.alloc, types, map, height) else {
+        let Ok(objects) = objects_of(self.alloc, types, map) else {
             return;
         };
-        let _kept = self.stacks.push(FlowedStack {
+        let Ok(()) = self.stacks.push(FlowedStack {
             place,
             height,
             lowest: height,
-            named,
-        });
+            objects,
+        })
+        else {
+            return;
+        };
     }
 
     /// Compares a stack with that of the frame of the map at a place, and keeps that it flows.

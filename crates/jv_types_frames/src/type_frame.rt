@@ -205,6 +205,20 @@ impl TypeFrame {
         Ok(places)
     }
 
+    /// The places of the stack at which an object that is not initialized is, counted from the lowest item.
+    ///
+    /// # Errors
+    ///
+    /// Where the host had no memory for them.
+    pub fn copies_on_stack(&self, alloc: Global, object: Item) -> Result<Vec<u16>, AllocError>
+        ensures { IfOk result (λ places. (names : List (List ℕ)) (k : ℕ) → is_among places.items k ≡ false
+            → is_in_local (typed names object) (typed_all names (reverse self.now.stack)) k ≡ false) }
+    {
+        let height = self.stack.len();
+        let places = self.stack.copies(alloc, object, height)?;
+        Ok(places)
+    }
+
     /// Whether an object that is not initialized is on the stack.
     pub fn has_on_stack(&mut self, object: Item) -> bool
         ensures found { (names : List (List ℕ)) → result ≡ list_any (is_same_object (typed names object)) (typed_all names self.old.stack) }

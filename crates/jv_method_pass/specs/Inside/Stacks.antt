@@ -1,13 +1,13 @@
 -- Frames of a stack map to whose stacks the lowest items of the stack are known to flow.
-use Rattle.std.specs.Prelude.{◌≡◌, ◌⊎◌, ℕ, ◌-◌, ◌≤◌, Bool, true, not, nat_le, List, [], ◌∷◌, ◌++◌, length, drop, set, Option, Some, None, IsTrue, slice_get, if◌then◌else◌}
+use Rattle.std.specs.Prelude.{◌≡◌, ◌⊎◌, ℕ, ◌-◌, ◌≤◌, Bool, true, not, List, [], ◌∷◌, ◌++◌, length, map, drop, set, Option, Some, None, IsTrue, slice_get}
 use Rattle.std.specs.List.{All, list_any}
 use Rattle.jv_frames.specs.Entries.{ReadFrame}
 use Rattle.jv_frames.specs.Types.{FrameType}
 use Rattle.jv_meaning_world.specs.FrameFlow.{all_flow, item_flows}
 use Rattle.jv_meaning_typing.specs.FrameChanges.{is_same_object}
-use Rattle.jv_types.specs.Numbered.{NumberFrame}
-use Rattle.jv_method_pass.specs.declared.named.Named.{Named}
-use Rattle.jv_method_pass.specs.Inside.Named.{AreNamed, depth_by}
+use Rattle.std.specs.Global.{Vec}
+use Rattle.jv_types.specs.Numbered.{Item, NumberFrame}
+use Rattle.jv_method_pass.specs.Inside.Objects.{HoldOnStack, below_places, lower, objects_of}
 use Rattle.jv_method_pass.specs.declared.stacks.FlowedStack.{FlowedStack}
 use Rattle.jv_types.specs.Mapped.{EntryTypes, world_of_types, types_of_entries, stack_of}
 use Rattle.jv_method_pass.specs.Pass.{Pass}
@@ -21,7 +21,7 @@ pub record LowestFlow (types : EntryTypes) (stack : List FrameType) (map : ReadF
   pub height : length map.stack ≡ s.height
   pub there : s.lowest ≤ length stack
   pub within : s.lowest ≤ s.height
-  pub named : AreNamed s.named.depths (types_of_entries types map.stack)
+  pub objects : s.objects.items ≡ objects_of (types_of_entries types map.stack)
   pub flow :
       all_flow (item_flows (world_of_types types)) (lowest_of s.lowest stack) (lowest_of s.lowest (types_of_entries types map.stack)) ≡ true
 
@@ -43,15 +43,17 @@ AreWithout pass object stacks =
     → IsTrue (is_without object (lowest_of s.lowest (types_of_entries pass.types map.stack)))) stacks
 
 -- where at most so many of the lowest items have stayed
-abbrev pub lower : ℕ → ℕ → ℕ
-lower one other = if nat_le one other then one else other
-
 abbrev pub lowered : ℕ → FlowedStack → FlowedStack
 lowered stayed s = record s { lowest = lower s.lowest stayed }
 
--- where only the items have stayed that are below an object, by its number
-abbrev pub lowered_below : Option ℕ → FlowedStack → FlowedStack
-lowered_below number s = lowered (s.height - depth_by s.named.depths number) s
+-- where only the items have stayed that are below those of these places at which the map's frame has an object
+abbrev pub lowered_below : List ℕ → FlowedStack → FlowedStack
+lowered_below places s = record s { lowest = below_places s.objects.items places s.lowest }
+
+-- an object gets another type wherever it is on a stack; or nothing is kept
+abbrev pub GoesBelow : Item → List Item → List FlowedStack → List FlowedStack → Type 0
+GoesBelow object stack old new =
+    ((places : List ℕ) × HoldOnStack places object stack × (new ≡ map (lowered_below places) old)) ⊎ (new ≡ [])
 
 -- one that flows whole
 abbrev pub raised : FlowedStack → FlowedStack
@@ -64,5 +66,5 @@ IsRaised old k new = (s : FlowedStack) → slice_get old k ≡ Some s → new �
 -- that a stack of so many items flows to that of a frame of the map is kept, or nothing more is
 abbrev pub Keeps : EntryTypes → ReadFrame → ℕ → ℕ → List FlowedStack → List FlowedStack → Type 0
 Keeps types map place height old new =
-    (new ≡ old) ⊎ ((named : Named) × (new ≡ old ++ record { place = place; height = height; lowest = height; named = named } ∷ [])
-    × AreNamed named.depths (types_of_entries types map.stack))
+    (new ≡ old) ⊎ ((objects : Vec Bool) × (new ≡ old ++ record { place = place; height = height; lowest = height; objects = objects } ∷ [])
+    × (objects.items ≡ objects_of (types_of_entries types map.stack)))

@@ -10,3 +10,8 @@ returns-then-are_same c =
     let names = c.args.names.now in
     sym (ap (λ (t : Item). item_flows names.world (typed names.names c.args.from) (typed names.names t)) (sym (c.are_same.ensures c.if-are_same.true))
     ∙ item_to_itself names.world (typed names.names c.args.from))
+
+pub returns-then-is_left_unused : goal.returns-then-is_left_unused
+returns-then-is_left_unused c =
+    let names = c.args.names.now in
+    sym (c.is_left_unused.ensures names.world names.names c.if-is_left_unused.true)

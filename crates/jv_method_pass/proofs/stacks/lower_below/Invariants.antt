@@ -3,4 +3,4 @@ use Rattle.jv_method_pass.specs.Inside.Stacks.{lowered_below}
 use Rattle.jv_method_pass.proofs.stacks.lower_below.Given as goal
 
 abbrev pub invariant-loop-stack : goal.invariant-loop-stack
-invariant-loop-stack l = l.stacks ≡ map (lowered_below l.number) (take l.stack-index l.fn.stacks) ++ drop l.stack-index l.fn.stacks
+invariant-loop-stack l = l.stacks ≡ map (lowered_below l.places) (take l.stack-index l.fn.stacks) ++ drop l.stack-index l.fn.stacks

@@ -93,5 +93,5 @@ returns-clause-stacks c =
     let many : stacks.len ≡ length new = stacks.ok.0 ∙ (ap length (sym c.deref_mut.ensures.value) ∙ sym c.raise_at.ensures.many) in
     subst (λ (ss : List FlowedStack). All (IsFlowed pass (stack_of pass.types frame)) ss) (sym (written new _ stacks.len many ∙ is))
     (All-set (IsFlowed pass (stack_of pass.types frame)) items c.args.k (raised known)
-    (flows_whole pass frame map known (ap (slice_get pass.frames) (c.requires.found known at) ∙ c.requires.at) (c.if-known-height.false ∙ c.height-height.ensures) flow h.named)
+    (flows_whole pass frame map known (ap (slice_get pass.frames) (c.requires.found known at) ∙ c.requires.at) (c.if-known-height.false ∙ c.height-height.ensures) flow h.objects)
     c.requires.stacks)

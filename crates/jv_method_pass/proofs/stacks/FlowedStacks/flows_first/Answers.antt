@@ -2,21 +2,12 @@ use Rattle.std.proofs.Common.{◌≡◌, true, ap, sym, subst, ◌∙◌}
 use Rattle.jv_types.specs.Mapped.{stack_flows_to, stack_of}
 use Rattle.jv_method_pass.specs.Pass.{Pass}
 use Rattle.jv_method_pass.specs.Inside.Stacks.{Keeps}
-use Rattle.jv_method_pass.proofs.FlowingStacks.{kept_flowed, no_higher}
+use Rattle.jv_method_pass.proofs.FlowingStacks.{kept_flowed}
 use Rattle.jv_method_pass.proofs.stacks.FlowedStacks.flows_first.Goals as goal
 
 pub returns-then-not-stack_flows-clause-flows : goal.returns-then-not-stack_flows-clause-flows
 returns-then-not-stack_flows-clause-flows c =
     sym c.if-not-stack_flows.true ∙ (c.stack_flows.ensures ∙ ap (λ (p : Pass). stack_flows_to p.types (stack_of p.types c.args.frame.now) c.args.map.now) c.pass.view_is)
-
-pub keep-requires : goal.keep-requires
-keep-requires c =
-    let pass = c.args.pass.now in
-    let frame = c.args.frame.now in
-    let map = c.args.map.now in
-    let flow : stack_flows_to pass.types (stack_of pass.types frame) map ≡ true =
-    sym (c.stack_flows.ensures ∙ ap (λ (p : Pass). stack_flows_to p.types (stack_of p.types frame) map) c.pass.view_is) ∙ c.if-not-stack_flows.false in
-    no_higher pass frame map c.height.result c.height.ensures flow
 
 pub returns-clause-flows : goal.returns-clause-flows
 returns-clause-flows c =
