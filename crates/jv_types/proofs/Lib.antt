@@ -14,3 +14,4 @@ pub mod Members
 pub mod Naming
 pub mod OfClass
 pub mod Plain
+pub mod Protecting

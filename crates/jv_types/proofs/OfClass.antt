@@ -27,13 +27,15 @@ chained : {A B : Type 0} (o : Option A) (f : A → Option B) (y : B) → (o >>= 
 chained None f y e = absurd cc
 chained (Some a) f y e = (a, refl, e)
 
-record AreParts (c : ClassStructure) (class : Class) : Type 0 where
+pub record AreParts (c : ClassStructure) (class : Class) : Type 0 where
   pub name : class_name c ≡ Some class.name
   pub super_class : super_of c ≡ Some class.super_class
   pub interfaces : all_found (class_name_at c.constant_pool) c.interfaces ≡ Some class.interfaces
   pub pool : c.constant_pool ≡ class.constant_pool
+  pub flags : c.access_flags ≡ class.access_flags
+  pub methods : all_found (method_of c.constant_pool) c.methods ≡ Some class.methods
 
-parts : (c : ClassStructure) (class : Class) → class_of c ≡ Some class → AreParts c class
+pub parts : (c : ClassStructure) (class : Class) → class_of c ≡ Some class → AreParts c class
 parts c class e =
     let name = chained (class_name c) _ class e in
     let above = chained (super_of c) _ class name.2 in
@@ -45,6 +47,8 @@ parts c class e =
       super_class = above.1 ∙ ap (λ l. Some l) cc;
       interfaces = interfaces.1 ∙ ap (λ l. Some l) cc;
       pool = cc;
+      flags = cc;
+      methods = methods.1 ∙ ap (λ l. Some l) cc;
     }
 
 -- ---- the rules on the names of a class and of its superclass, where both are

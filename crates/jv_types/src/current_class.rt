@@ -60,8 +60,9 @@ impl Drop for CurrentClass<'_, '_, '_> {
 }
 
 impl<'e, 't, 'a> CurrentClass<'e, 't, 'a> {
-    /// What is known of the class with a number, whose file has these constants. Takes a step for each constant, and a
-    /// look-up of a member for each that names one by way of a superclass.
+    /// What is known of the class with a number, whose file has these constants. Takes a step for each class and each
+    /// constant, and a look-up of a member for each constant that names one by way of a superclass: a method's goes by the
+    /// superclasses alone.
     ///
     /// # Errors
     ///

@@ -8,15 +8,16 @@ ghost use Rattle.jv_meaning_world.specs.Numbers.{HoldsAtBoth};
 ghost use Rattle.jv_meaning_world.specs.Numbers.{HoldsAtNumber};
 ghost use Rattle.jv_link.specs.Inside.References.{method_operand_in};
 ghost use Rattle.jv_meaning_typing.specs.Named.{is_guarded_field, is_guarded_method};
-ghost use Rattle.jv_types.specs.Inside.Guarded.{is_proper_subclass, is_far, field_is_far, method_is_far, member_named, IsGuard, IsNumberNamed, IsFoundAt, IsProperAbove, IsNoProperSuper, IsFieldGuarded, IsMethodGuarded};
+ghost use Rattle.jv_types.specs.Inside.Guarded.{is_proper_subclass, is_far, field_is_far, method_is_far, member_named, IsGuard, IsNumberNamed, IsFoundAt, IsProperAbove, IsNoProperSuper, IsFieldGuarded, IsMethodGuarded, has_wrongly_protected, AreRightlyProtected};
 ghost use Rattle.jv_types.specs.Inside.KeptClass.{AreGuardsOf};
 
 use crate::classes::names_class;
 use crate::constants::ConstantTypes;
 use crate::hashed::{PoolHashes, called_indices, descriptor_index, name_index, text_with};
 use crate::indices::{MemberIndices, field_indices};
+use crate::superclasses::class_method;
 use jv_classes::pool_hashes;
-use jv_link::of_loader::{ClassTable, Classes};
+use jv_link::of_loader::{ClassTable, Classes, LoadedClass};
 use jv_link::{field_at, method_at, same_class, same_package};
 use jv_pool::{Constant, MemberName, Pool, kinds_name};
 use std::alloc::{AllocError, Global};
@@ -25,6 +26,25 @@ use std::alloc::{AllocError, Global};
 const PROTECTED: u16 = 0x0004;
 
 const STATIC: u16 = 0x0008;
+
+/// No method of a class that is public, or whose class is an interface, is protected, where it is not static (JVMS 4.6).
+/// The call does nothing.
+fn class_is_right(class: &LoadedClass<'_>)
+    ensures { has_wrongly_protected class.now.class ≡ false }
+{
+    if let Some(file) = class.file() {
+        file.is_well_formed();
+    }
+}
+
+/// The same of each class. Takes a step for each.
+fn classes_are_right(table: &ClassTable<'_>)
+    ensures { AreRightlyProtected table.now }
+{
+    for number in 0..table.count() {
+        class_is_right(&table.classes()[number]);
+    }
+}
 
 /// Whether a class is a proper superclass of the current one.
 fn is_below(table: &ClassTable<'_>, current: usize, named: usize) -> bool
@@ -74,7 +94,8 @@ fn field_is_far(
     }
 }
 
-/// Whether the method that is found from a superclass is such a member.
+/// Whether the method that is found from a superclass is such a member. No method of an interface is, so that none of the
+/// superinterfaces is asked.
 fn method_is_far(
     classes: &Classes<'_>,
     constants: &ConstantTypes<'_, '_>,
@@ -85,15 +106,19 @@ fn method_is_far(
     method: &MemberName<'_>,
 ) -> bool
     requires hashes { AreHashes hashes.seed constants.now.pool hashes.hashes.now }
+    requires right { AreRightlyProtected classes.now.world }
     requires current { current < length classes.now.world }
     requires named { named < length classes.now.world }
     ensures { HoldsAtBoth classes.now.world current named (λ c n. result ≡ method_is_far classes.now.world c n (seen_member method.now)) }
 {
     let table = classes.table();
+    if table.classes()[named].is_interface() {
+        return false;
+    }
     let pool = constants.pool();
     let name = text_with(hashes, pool, name_index(indices), method.name);
     let descriptor = text_with(hashes, pool, descriptor_index(indices), method.descriptor);
-    match classes.find_method(named, &name, &descriptor) {
+    match class_method(table, named, &name, &descriptor) {
         Some(place) => is_far(
             table,
             current,
@@ -193,6 +218,7 @@ fn is_guarded_method(
     index: u16,
 ) -> bool
     requires hashes { AreHashes hashes.seed constants.now.pool hashes.hashes.now }
+    requires right { AreRightlyProtected classes.now.world }
     requires world { constants.now.types.world ≡ classes.now.world }
     requires current { current < length classes.now.world }
     ensures { IsMethodGuarded classes.now.world constants.now.pool class index current result }
@@ -218,6 +244,7 @@ fn is_guarded(
     index: u16,
 ) -> bool
     requires hashes { AreHashes hashes.seed constants.now.pool hashes.hashes.now }
+    requires right { AreRightlyProtected classes.now.world }
     requires world { constants.now.types.world ≡ classes.now.world }
     requires current { current < length classes.now.world }
     ensures { HoldsAtNumber classes.now.world current (λ c. IsGuard classes.now.world c constants.now.pool index result) }
@@ -247,6 +274,7 @@ pub(crate) fn guards_of(
     requires current { current < length classes.now.world }
     ensures { IfOk result (λ marks. AreGuardsOf classes.now.world current constants.now.pool marks.items) }
 {
+    classes_are_right(classes.table());
     let seed = classes.table().seed();
     let kept = pool_hashes(alloc, seed, constants.pool())?;
     let hashes = PoolHashes {

@@ -20,6 +20,7 @@ mod names;
 mod numbers;
 mod outcome;
 mod pushed;
+mod superclasses;
 mod texts;
 mod value;
 mod words;

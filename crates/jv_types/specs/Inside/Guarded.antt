@@ -1,14 +1,19 @@
 -- Protected members by the constants that name them (JVMS 4.10.1.8).
-use Rattle.std.specs.Prelude.{◌≡◌, ℕ, Bool, false, not, ◌&&◌, List, Some, unwrap_or, true, Option}
+use Rattle.std.specs.Prelude.{◌≡◌, ℕ, Bool, false, not, ◌&&◌, ◌||◌, List, ◌∷◌, Some, unwrap_or, true, Option}
+use Rattle.std.specs.List.{list_any}
 use Rattle.jv_format.specs.Format.{◌>>=◌}
 use Rattle.jv_pool.specs.Constants.{Entry, MemberReference, field_reference_at, class_name_at}
-use Rattle.jv_class_structure.specs.Flags.{has, acc_protected, acc_static}
+use Rattle.jv_class_structure.specs.Flags.{has, acc_public, acc_protected, acc_static, acc_interface}
+use Rattle.jv_class.specs.Class.{Class, Method}
 use Rattle.jv_meaning_world.specs.World.{Loaded, World, same_package, class_named}
-use Rattle.jv_meaning_world.specs.LookUps.{is_subclass, lookup_field, lookup_method}
+use Rattle.jv_meaning_world.specs.Above.{superclasses}
+use Rattle.jv_meaning_world.specs.LookUps.{first_found, method_in, is_subclass, lookup_field, lookup_method}
 use Rattle.jv_meaning_typing.specs.Access.{same_class}
 use Rattle.jv_meaning_typing.specs.Operands.{MethodReference}
 use Rattle.jv_meaning_typing.specs.Named.{is_guarded_field, is_guarded_method}
 use Rattle.jv_link.specs.Inside.References.{method_operand_in}
+use Rattle.jv_link.specs.of_lookups.declared.place.Place.{Place}
+use Rattle.jv_link.specs.of_lookups.Places.{IsMethodFound}
 use Rattle.jv_meaning_world.specs.Numbers.{HoldsAtNumber, HoldsAtBoth, number_named}
 
 -- the class is a proper superclass of the current one
@@ -28,6 +33,31 @@ abbrev pub method_is_far : World → Loaded → Loaded → MemberReference → B
 method_is_far world current named reference =
     unwrap_or (lookup_method world named reference.name reference.descriptor
     >>= λ d. Some (is_far current d.by d.method.access_flags)) false
+
+-- ---- what the rules of flags leave (JVMS 4.6)
+
+-- a method with these flags is protected, and not static
+abbrev pub is_protected_instance : ℕ → Bool
+is_protected_instance flags = has flags acc_protected && not (has flags acc_static)
+
+-- such a method, though it is public, or its class an interface: no class file has one
+abbrev pub is_wrongly_protected : Class → Method → Bool
+is_wrongly_protected class m =
+    (has class.access_flags acc_interface || has m.access_flags acc_public) && is_protected_instance m.access_flags
+
+abbrev pub has_wrongly_protected : Class → Bool
+has_wrongly_protected class = list_any (is_wrongly_protected class) class.methods
+
+-- no class of the world has one
+abbrev pub AreRightlyProtected : World → Type 0
+AreRightlyProtected world = (number : ℕ) → HoldsAtNumber world number (λ l. has_wrongly_protected l.class ≡ false)
+
+-- ---- methods without superinterfaces
+
+-- the first that a class or a superclass of it declares
+abbrev pub IsFirstOfClasses : World → ℕ → List ℕ → List ℕ → Option Place → Type 0
+IsFirstOfClasses world from name descriptor answer =
+    HoldsAtNumber world from (λ l. IsMethodFound world answer (first_found (method_in name descriptor) (l ∷ superclasses world l.class)))
 
 -- ---- constants
 

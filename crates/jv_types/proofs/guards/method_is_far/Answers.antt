@@ -1,0 +1,35 @@
+use Rattle.std.proofs.Common.{◌≡◌, ◌∙◌, Bool, false, sym, ap, subst}
+use Rattle.jv_meaning_world.specs.World.{World}
+use Rattle.jv_meaning_world.specs.Numbers.{HoldsAtBoth}
+use Rattle.jv_meaning_world.specs.Verdicts.{is_interface}
+use Rattle.jv_pool.specs.Seen.{seen_member}
+use Rattle.jv_types.specs.Inside.Guarded.{method_is_far, AreRightlyProtected}
+use Rattle.jv_types.proofs.Protecting.{class_there, interface_is_near, none_of_classes, place_is_far}
+use Rattle.jv_types.proofs.guards.method_is_far.Goals as goal
+
+pub returns-then-is_interface : goal.returns-then-is_interface
+returns-then-is_interface c = λ l at n at_n.
+    let world : World = c.args.classes.now.world in
+    let there = class_there world c.classes.result.now c.args.named c.index-classes-named.result n (c.classes.ensures ∙ c.table-table.ensures) c.index-classes-named.is at_n in
+    interface_is_near world l (seen_member c.args.method.now) c.args.named n at_n c.requires.right
+    (ap is_interface (sym there) ∙ (sym c.is_interface.ensures ∙ c.if-is_interface.true))
+
+pub returns-in-Some : goal.returns-in-Some
+returns-in-Some c =
+    let answer : Bool = c.is_far.result in
+    subst (λ (w : World). HoldsAtBoth w c.args.current c.args.named (λ m n. answer ≡ method_is_far w m n (seen_member c.args.method.now))) c.table-table.ensures
+    (λ l at n at_n.
+    let there = class_there c.table-table.result.now c.classes.result.now c.args.named c.index-classes-named.result n c.classes.ensures c.index-classes-named.is at_n in
+    place_is_far c.table-table.result.now l (seen_member c.args.method.now) c.args.named n at_n c.in-Some.place c.method_at.result.access_flags answer
+    (ap is_interface (sym there) ∙ (sym c.is_interface.ensures ∙ c.if-is_interface.false))
+    c.text_with-name.result c.text_with-descriptor.result c.text_with-name.ensures c.text_with-descriptor.ensures
+    c.in-Some.ensures.place (c.in-Some.ensures.found n at_n) (λ d e. (c.method_at.ensures d e).access_flags) (c.is_far.ensures l at))
+
+pub returns : goal.returns
+returns c =
+    subst (λ (w : World). HoldsAtBoth w c.args.current c.args.named (λ m n. false ≡ method_is_far w m n (seen_member c.args.method.now))) c.table-table.ensures
+    (λ l at n at_n.
+    let there = class_there c.table-table.result.now c.classes.result.now c.args.named c.index-classes-named.result n c.classes.ensures c.index-classes-named.is at_n in
+    none_of_classes c.table-table.result.now l (seen_member c.args.method.now) c.args.named n at_n (subst AreRightlyProtected (sym c.table-table.ensures) c.requires.right)
+    (ap is_interface (sym there) ∙ (sym c.is_interface.ensures ∙ c.if-is_interface.false))
+    c.text_with-name.result c.text_with-descriptor.result c.text_with-name.ensures c.text_with-descriptor.ensures (c.in-None.ensures.found n at_n))
