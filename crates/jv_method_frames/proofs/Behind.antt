@@ -9,6 +9,8 @@ use Rattle.std.proofs.lemmas.List.Sums.{sum_by-cons}
 use Rattle.std.proofs.lemmas.Option.{slice_get-get_or}
 use Rattle.std.proofs.lemmas.List.Sorted.{IsPermutation-reverse, sum_by-IsPermutation}
 use Rattle.std.proofs.lemmas.Grind.{flat_map-append}
+use Rattle.jv_frames.specs.declared.entry.FrameEntry.{FrameEntry}
+use Rattle.jv_frames.specs.declared.entry.FrameEntry.TheVariants as entries
 use Rattle.jv_frames.specs.declared.verification.VerificationTypeOf.TheVariants as types
 use Rattle.jv_frames.specs.Frames.{type_by_words, expanded}
 use Rattle.jv_frames.specs.Types.{FrameType, width, words}
@@ -18,7 +20,7 @@ use Rattle.jv_meaning_world.specs.World.{World}
 use Rattle.jv_meaning_typing.specs.Rule.{without_object}
 use Rattle.jv_types.specs.Typed.{TypeWorld, typed, typed_all}
 use Rattle.jv_types.specs.Numbered.{Item}
-use Rattle.jv_method_frames.specs.Inside.Behind.{left_in, words_of_entries, FlowsBehind}
+use Rattle.jv_method_frames.specs.Inside.Behind.{left_in, narrow_item, words_of_entries, FlowsBehind}
 use Rattle.jv_method_frames.proofs.Lists.{at_place, behind_front, too_few, to_tops}
 
 -- ---- words
@@ -57,6 +59,16 @@ some_width types.UninitializedThis = omega arith
 some_width (types.Class name) = omega arith
 some_width (types.Array type) = omega arith
 some_width (types.Uninitialized offset) = omega arith
+
+pub narrow_width : (names : List (List ℕ)) (entry : FrameEntry) → 1 ≡ width (typed names (narrow_item entry))
+narrow_width names entries.Top = refl
+narrow_width names entries.Int = refl
+narrow_width names entries.Long = refl
+narrow_width names entries.Null = refl
+narrow_width names entries.UninitializedThis = refl
+narrow_width names (entries.Object class) = refl
+narrow_width names (entries.Uninitialized offset) = refl
+narrow_width names (entries.Initial place) = refl
 
 -- ---- one entry
 
@@ -197,3 +209,17 @@ module _ (numbered : TypeWorld) (object : Option Item) (locals : List Item) (who
 
       pub flows_not : result ≡ false → whole ≡ false
       flows_not f = stops numbered.world left_locals whole e left at (at - w) (typed numbered.names l) first below_at at_local (sym found_is ∙ f)
+
+    module _ (local : Item) (is_local : slice_get locals (at - w) ≡ Some local)
+        (result : Bool) (found : result ≡ flows numbered.world (left_in (option_map (typed numbered.names) object) (typed numbered.names local)) (typed numbered.names item)) where
+      abbrev left_local : FrameType
+      left_local = left_in (option_map (typed numbered.names) object) (typed numbered.names local)
+
+      left_found : result ≡ flows numbered.world left_local e
+      left_found = found ∙ ap (flows numbered.world left_local) typed_as
+
+      pub left_goes_on : result ≡ true → FlowsBehind numbered.world left_locals whole left (at - w)
+      left_goes_on t = step numbered.world left_locals whole e left at (at - w) left_local first below_at (local_at numbered.names object locals (at - w) local is_local) (sym left_found ∙ t)
+
+      pub left_flows_not : result ≡ false → whole ≡ false
+      left_flows_not f = stops numbered.world left_locals whole e left at (at - w) left_local first below_at (local_at numbered.names object locals (at - w) local is_local) (sym left_found ∙ f)

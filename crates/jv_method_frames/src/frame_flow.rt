@@ -1,6 +1,6 @@
 //! What flows into a frame of the stack map (JVMS 4.10.1.2, 4.10.1.4).
 
-ghost use Rattle.std.specs.Prelude.{◌≡◌, Some, true, slice_get, ◌&&◌, ◌||◌, not, ℕ, List, ◌∷◌, [], IsTrue, map, reverse};
+ghost use Rattle.std.specs.Prelude.{◌≡◌, Option, Some, true, slice_get, ◌&&◌, ◌||◌, not, ℕ, List, ◌∷◌, [], IsTrue, map, reverse};
 ghost use Rattle.std.specs.List.{list_any};
 ghost use Rattle.std.specs.Option.{option_map};
 ghost use Rattle.jv_frames.specs.Frames.{is_uninitialized_this};
@@ -11,8 +11,8 @@ ghost use Rattle.jv_meaning_world.specs.World.{World};
 ghost use Rattle.jv_meaning_typing.specs.FrameChanges.{is_same_object};
 ghost use Rattle.jv_types.specs.Typed.{typed};
 ghost use Rattle.jv_types.specs.Numbered.{Item};
-ghost use Rattle.jv_types.specs.Mapped.{world_of_types, names_of_types, types_of_entries, local_entry_words, stack_of, flows_to_map, thrown_flows_to_map, has_uninitialized_this, locals_flow_to, stack_flows_to};
-ghost use Rattle.jv_method_frames.specs.Inside.Behind.{left_in, local_flows_to, AreLeft};
+ghost use Rattle.jv_types.specs.Mapped.{EntryTypes, world_of_types, names_of_types, types_of_entries, type_of_entry, local_entry_words, stack_of, flows_to_map, thrown_flows_to_map, has_uninitialized_this, locals_flow_to, stack_flows_to};
+ghost use Rattle.jv_method_frames.specs.Inside.Behind.{left_in, local_flows_to, AreLeft, narrow_item};
 
 use jv_frames::of_pool::of_text::{Base, Element, FieldTypeOf};
 use jv_frames::{Entries, FrameEntry, MapFrame, VerificationTypeOf};
@@ -184,6 +184,30 @@ pub fn item_flows(names: &TypeNames<'_, '_>, from: Item, to: Item) -> bool
     names.item_flows(from, to)
 }
 
+/// Whether an entry stands for one word that no table has to be asked for: top or an int.
+#[inline(always)]
+fn is_narrow(entry: FrameEntry) -> bool
+    ensures { IsTrue result → (t : EntryTypes) → typed (names_of_types t) (narrow_item entry) ≡ type_of_entry t entry }
+{
+    match entry {
+        FrameEntry::Top => true,
+        FrameEntry::Int => true,
+        _ => false,
+    }
+}
+
+/// Whether a local variable flows to such an entry: what is left of it once an object cannot be used any more is an int where it was one.
+#[inline(always)]
+fn narrow_flows(entry: FrameEntry, local: Item) -> bool
+    ensures { (world : World) (names : List (List ℕ)) (object : Option Item)
+        → result ≡ flows world (left_in (option_map (typed names) object) (typed names local)) (typed names (narrow_item entry)) }
+{
+    match entry {
+        FrameEntry::Top => true,
+        _ => matches!(local, VerificationTypeOf::Int),
+    }
+}
+
 /// Whether the local variables flow to a frame's entries, once an object cannot be used any more.
 pub fn locals_flow(
     types: &EntryTypes<'_, '_, '_>,
@@ -200,6 +224,16 @@ pub fn locals_flow(
     }
     let mut entries = map.locals();
     while let Some(entry) = entries.next() {
+        if is_narrow(entry) {
+            at -= 1;
+            let Some(local) = frame.local(at) else {
+                return false;
+            };
+            if !narrow_flows(entry, local) {
+                return false;
+            }
+            continue;
+        }
         let item = types.item(entry);
         at -= words_of(item);
         let Some(local) = frame.local(at) else {

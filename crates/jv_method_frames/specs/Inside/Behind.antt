@@ -3,6 +3,7 @@ use Rattle.std.specs.Prelude.{◌≡◌, ℕ, ◌≤◌, ◌-◌, Bool, true, Li
 use Rattle.std.specs.List.{flat_map}
 use Rattle.std.specs.Option.{option_map}
 use Rattle.jv_frames.specs.declared.entry.FrameEntry.{FrameEntry}
+use Rattle.jv_frames.specs.declared.entry.FrameEntry.TheVariants as entries
 use Rattle.jv_frames.specs.declared.verification.VerificationTypeOf.TheVariants as types
 use Rattle.jv_frames.specs.Frames.{type_by_words}
 use Rattle.jv_frames.specs.Types.{FrameType, words}
@@ -32,6 +33,11 @@ pub record AreLeft (t : EntryTypes) (frame : NumberFrame) (object : Option Item)
   pub there : slice_get frame.locals at ≡ Some local
   pub left_is : typed (names_of_types t) left ≡ left_in (option_map (typed (names_of_types t)) object) (typed (names_of_types t) local)
   pub item_is : typed (names_of_types t) item ≡ type_of_entry t entry
+
+-- what an entry of one word stands for that is top or an int
+abbrev pub narrow_item : FrameEntry → Item
+narrow_item entries.Top = types.Top
+narrow_item entry = types.Int
 
 -- the words of entries, of which the last is first
 abbrev pub words_of_entries : List FrameType → List FrameType
