@@ -1,5 +1,6 @@
 -- What is kept of a pool's texts.
 use Rattle.std.specs.Prelude.{◌≡◌, ℕ, ◌<◌, ◌≤◌, Bool, true, false, List, ◌++◌, length, get_or, slice_get, slice_range, codes, Option, Some, None, ◌∷◌, [], map}
+use Rattle.std.specs.Option.{option_map}
 use Rattle.jv_format.specs.Format.{◌>>=◌}
 use Rattle.jv_text.specs.declared.descriptor.FieldTypeOf.{FieldTypeOf}
 use Rattle.jv_text.specs.Descriptor.{MethodDescriptor}
@@ -9,12 +10,12 @@ use Rattle.jv_pool.specs.Constants.{Entry, at_index, utf8_at}
 use Rattle.jv_frames.specs.declared.verification.VerificationTypeOf.{VerificationTypeOf}
 use Rattle.jv_frames.specs.Types.{FrameType, value_type}
 use Rattle.jv_meaning_typing.specs.Named.{named_type}
-use Rattle.jv_types.specs.Typed.{typed_all}
+use Rattle.jv_types.specs.Typed.{typed, typed_all}
 use Rattle.jv_types.specs.declared.texts.Described.{Described}
 use Rattle.jv_types.specs.declared.texts.Described.TheVariants as forms
 use Rattle.jv_types.specs.declared.texts.MethodEntry.{MethodEntry}
 use Rattle.jv_types.specs.declared.texts.TextTypes.{TextTypes}
-use Rattle.jv_types.specs.PoolTypes.{call_types, typed_result}
+use Rattle.jv_types.specs.PoolTypes.{call_types, class_type_at, typed_result}
 use Rattle.jv_types.specs.Inside.Lasting.{Lasts}
 
 abbrev pub Item : Type 0
@@ -98,9 +99,24 @@ pub record AreKept (names : List (List ℕ)) (arguments : List Item) (pool : Lis
   pub described : (index : ℕ) → IsDescribed names arguments (utf8_at pool index) (kept_at texts index).described
   pub named : (index name : ℕ) → at_index pool index ≡ Some (Class name) → IsNamed names (utf8_at pool name) (kept_at texts name).named
 
+-- ---- the types of objects of what the constants name
+
+abbrev pub IsItemAt : List (List ℕ) → List Entry → List (Option Item) → ℕ → Type 0
+IsItemAt names pool items index = option_map (typed names) (get_or items index None) ≡ class_type_at pool index
+
+-- they are kept below an index, or all
+abbrev pub AreItemsBelow : ℕ → List (List ℕ) → List Entry → List (Option Item) → Type 0
+AreItemsBelow count names pool items = (index : ℕ) → index < count → IsItemAt names pool items index
+
+abbrev pub AreItems : List (List ℕ) → List Entry → List (Option Item) → Type 0
+AreItems names pool items = (index : ℕ) → IsItemAt names pool items index
+
+-- ---- what is kept of a pool's constants
+
 pub record AreConstants (names : List (List ℕ)) (pool : List Entry) (arguments : List Item) (texts : List TextTypes)
-    (string throwable : ℕ) : Type 0 where
+    (items : List (Option Item)) (string throwable : ℕ) : Type 0 where
   pub kept : AreKept names arguments pool texts
+  pub items_are : AreItems names pool items
   pub string_at : slice_get names string ≡ Some (codes "java/lang/String")
   pub throwable_at : slice_get names throwable ≡ Some (codes "java/lang/Throwable")
 

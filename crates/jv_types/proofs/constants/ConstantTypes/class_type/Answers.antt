@@ -1,6 +1,12 @@
-use Rattle.std.proofs.Common.{◌∙◌, Some, ap}
-use Rattle.jv_types.proofs.Finding.{object_of_named}
+use Rattle.std.proofs.Common.{◌≡◌, ◌∙◌, None, get_or, ap, subst}
+use Rattle.std.specs.Option.{option_map}
+use Rattle.jv_types.specs.Typed.{typed}
+use Rattle.jv_types.specs.PoolTypes.{PoolTypes, class_type_at}
 use Rattle.jv_types.proofs.constants.ConstantTypes.class_type.Goals as goal
 
 pub returns : goal.returns
-returns c = ap (λ t. Some t) (c.value_type.ensures _) ∙ object_of_named c.args.self.now.pool c.args.index _ c.in_ok-type_of.ensures
+returns c =
+    let inside = c.self.inside in
+    subst (λ (t : PoolTypes). option_map (typed t.types.names) c.item_at.result ≡ class_type_at t.pool c.args.index) c.self.view_is
+    (ap (option_map (typed inside.names.names)) (c.item_at.ensures ∙ ap (λ l. get_or l c.args.index None) c.deref.ensures.value)
+    ∙ c.self.invariant.items_are c.args.index)
