@@ -1,6 +1,6 @@
 //! What flows to what, by numbers of names (JVMS 4.10.1.2).
 
-ghost use Rattle.std.specs.Prelude.{◌≡◌};
+ghost use Rattle.std.specs.Prelude.{◌≡◌, IsTrue, codes};
 ghost use Rattle.jv_frames.specs.declared.verification.VerificationTypeOf.TheVariants as variants;
 ghost use Rattle.jv_text.specs.Descriptor.{base_letter};
 ghost use Rattle.jv_text.specs.Seen.{seen_field_type};
@@ -114,6 +114,27 @@ impl<'t, 'a> TypeNames<'t, 'a> {
         }
     }
 
+    /// Whether a number is that of the name java/lang/Object.
+    #[inline]
+    fn is_object(&self, number: u32) -> bool
+        ensures { IsTrue result → name_at self.now.names number ≡ codes "java/lang/Object" }
+    {
+        self.same_name(number, self.object())
+    }
+
+    /// Whether an array flows to a class: each does to java/lang/Object, without a look at the name.
+    fn array_flows_to_class(&self, from: FieldTypeOf<u32>, to: u32) -> bool
+        ensures { result ≡ flows self.now.world (typed self.now.names (variants.Array from)) (typed self.now.names (variants.Class to)) }
+    {
+        if self.is_object(to) {
+            return true;
+        }
+        self.other_flows(
+            VerificationTypeOf::Array(from),
+            VerificationTypeOf::Class(to),
+        )
+    }
+
     /// Whether a type flows to a class.
     #[inline]
     fn flows_to_class(&self, from: Item, to: u32) -> bool
@@ -122,7 +143,7 @@ impl<'t, 'a> TypeNames<'t, 'a> {
         match from {
             VerificationTypeOf::Class(name) => self.class_flows(name, to),
             VerificationTypeOf::Null => true,
-            VerificationTypeOf::Array(_) => self.other_flows(from, VerificationTypeOf::Class(to)),
+            VerificationTypeOf::Array(components) => self.array_flows_to_class(components, to),
             _ => false,
         }
     }
@@ -140,7 +161,7 @@ impl<'t, 'a> TypeNames<'t, 'a> {
     }
 
     /// Whether a type can stand where another is expected (JVMS 4.10.1.2). No name of a class is looked
-    /// at but where an array flows to a class, or to an array of other dimensions.
+    /// at but where an array flows to a class other than java/lang/Object, or to an array of other dimensions.
     #[inline]
     pub fn flows(&self, from: Item, to: Item) -> bool
         ensures { result ≡ flows self.now.world (typed self.now.names from) (typed self.now.names to) }
