@@ -21,19 +21,22 @@ use crate::pass::Pass;
 use crate::setting::set_locals;
 use jv_code::Insn;
 use jv_frames::MapFrame;
-use jv_method_frames::{flag_flows, has_this, locals_flow};
+use jv_method_frames::has_this;
 use jv_types::{EntryTypes, TypeNames};
 use jv_types_frames::TypeFrame;
 use std::alloc::{AllocError, Global};
 
 /// How many words of local entries a frame has at least that is kept: fewer are as soon compared.
-const MANY: u16 = 64;
+const MANY: u16 = 32;
 
 /// How many local variables of all frames together are kept at most, but for those of the last one.
 const KEPT: usize = 2097152;
 
-/// How many frames of a method are made at most to be kept.
-const MADE: usize = 128;
+/// How many frames are kept at most.
+const MOST: usize = 128;
+
+/// How many local variables of all frames together are made for a method at most.
+const MADE: usize = 8388608;
 
 /// How many frames are known that were asked for once.
 const ASKED: usize = 64;
@@ -64,7 +67,7 @@ impl Drop for FlowedFrame {
 }
 
 /// Where local variables were written, one place behind the other, and the frames that are kept, that to which they flowed last behind
-/// the others; how many were made, and how many local variables those have that are kept; and the places of frames of the map that were
+/// the others; how many local variables were made, and how many those have that are kept; and the places of frames of the map that were
 /// asked for once, and not kept.
 pub(crate) struct FlowedLocals {
     alloc: Global,
@@ -89,7 +92,7 @@ impl Drop for FlowedLocals {
 }
 
 /// Whether a frame of so many words of local entries is kept.
-pub(crate) fn is_kept(words: u16) -> bool {
+fn is_kept(words: u16) -> bool {
     words >= MANY
 }
 
@@ -241,6 +244,22 @@ fn is_wanted(
     was_asked(asked, pass, place) || frames.is_empty()
 }
 
+/// The number of the first of the frames with the fewest local variables, where these are fewer than so many.
+fn smallest(frames: &[FlowedFrame], count: usize) -> Option<usize>
+    ensures { IfSome result (λ k. k < length frames.now) }
+{
+    let mut found = None;
+    let mut least = count;
+    for k in 0..frames.len() {
+        let count = frames[k].made.local_count();
+        if count < least {
+            least = count;
+            found = Some(k);
+        }
+    }
+    found
+}
+
 /// Whether none is kept.
 fn is_none_kept(frames: &[FlowedFrame]) -> bool
     ensures { IsTrue result → frames.now ≡ [] }
@@ -340,8 +359,24 @@ impl FlowedLocals {
         }
     }
 
-    /// Keeps the frame of the map at a place, if it was asked for before or none is kept, the host has memory for it, and not too many were
-    /// made.
+    /// Whether one more frame is kept, with so many local variables: where there are as many frames as are kept, one with fewer is let go
+    /// for it.
+    fn has_place(&mut self, count: usize) -> bool
+        ensures { (pass : Pass) → StaysRight pass self.old.writes.items self.old.frames.items self.new.writes.items self.new.frames.items }
+    {
+        if self.frames.len() < MOST {
+            return true;
+        }
+        let Some(k) = smallest(&self.frames, count) else {
+            return false;
+        };
+        let gone = self.frames.remove(k);
+        self.room = self.room.saturating_sub(gone.made.local_count());
+        true
+    }
+
+    /// Keeps the frame of the map at a place, if it was asked for before or none is kept, it has more local variables than one of many that
+    /// are kept, the host has memory for it, and not too many local variables were made.
     fn begin(&mut self, pass: &Pass<'_, '_, '_, '_, '_>, place: usize, map: &MapFrame<'_>)
         requires at { slice_get pass.now.frames place ≡ Some map.now }
         requires room { HasRoom pass.now.types pass.now.max_locals map.now }
@@ -353,7 +388,11 @@ impl FlowedLocals {
         if !is_wanted(&mut self.asked, &self.frames, pass, place) {
             return;
         }
-        self.begun += 1;
+        let count = usize::from(room_for(map.local_words(), pass.max_locals));
+        if !self.has_place(count) {
+            return;
+        }
+        self.begun = self.begun.saturating_add(count);
         self.make_room();
         let Ok(flowed) = made_of(self.alloc, pass, place, map, self.writes.len()) else {
             return;
@@ -420,26 +459,27 @@ impl FlowedLocals {
         flag
     }
 
-    /// Whether local variables and the flag flow to those of the frame of the map at a place.
+    /// Whether local variables and the flag flow to those of the frame of the map at a place, where that is kept.
     pub(crate) fn flows(
         &mut self,
         pass: &Pass<'_, '_, '_, '_, '_>,
         frame: &TypeFrame,
         place: usize,
         map: &MapFrame<'_>,
-    ) -> bool
+    ) -> Option<bool>
         requires at { slice_get pass.now.frames place ≡ Some map.now }
         requires room { HasRoom pass.now.types pass.now.max_locals map.now }
         requires locals { length frame.now.locals ≡ pass.now.max_locals }
         requires flowed { HaveFlowed pass.now self.old.writes.items self.old.frames.items frame.now.locals }
-        ensures flows { result ≡ flows_but_stack pass.now.types frame.now map.now }
+        ensures flows { IfSome result (λ flows. flows ≡ flows_but_stack pass.now.types frame.now map.now) }
         ensures flowed { HaveFlowed pass.now self.new.writes.items self.new.frames.items frame.now.locals }
     {
+        if !is_kept(map.local_words()) {
+            return None;
+        }
         match self.place_of(pass, place, map) {
-            Some(k) => self.flows_again(pass, frame, k, place, map),
-            None => {
-                locals_flow(pass.types, frame, None, map) && flag_flows(pass.types, frame, map)
-            }
+            Some(k) => Some(self.flows_again(pass, frame, k, place, map)),
+            None => None,
         }
     }
 }

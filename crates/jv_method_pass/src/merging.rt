@@ -7,7 +7,7 @@ ghost use Rattle.jv_method_pass.specs.Pass.{HasRoom, names_in};
 ghost use Rattle.jv_method_pass.specs.Inside.Flowed.{HaveFlowed};
 ghost use Rattle.jv_method_pass.specs.Inside.Held.{IsHeld};
 
-use crate::flowed::{FlowedLocals, is_kept};
+use crate::flowed::FlowedLocals;
 use crate::held::Held;
 use crate::pass::Pass;
 use crate::setting::{push_items, set_to_map};
@@ -17,7 +17,31 @@ use jv_types::{EntryTypes, Item};
 use jv_types_frames::TypeFrame;
 use std::alloc::AllocError;
 
-/// Whether a frame flows into the frame of the map at a place, where it is known whether its stack does.
+/// Whether a frame flows into the frame of the map at a place, where it is known whether its stack does: what is held is compared
+/// only where local variables were written since.
+fn flows_beside(
+    pass: &Pass<'_, '_, '_, '_, '_>,
+    held: &Held,
+    frame: &TypeFrame,
+    place: usize,
+    map: &MapFrame<'_>,
+    stack: bool,
+) -> bool
+    requires at { slice_get pass.now.frames place ≡ Some map.now }
+    requires room { HasRoom pass.now.types pass.now.max_locals map.now }
+    requires locals { length frame.now.locals ≡ pass.now.max_locals }
+    requires stack { stack ≡ stack_flows_to pass.now.types (stack_of pass.now.types frame.now) map.now }
+    requires held { IsHeld pass.now held.now frame.now }
+    ensures { result ≡ flows_to_map pass.now.types frame.now map.now }
+{
+    if held.is_of(pass, place) {
+        held.flows(pass.types, frame, stack)
+    } else {
+        frame_flows(pass.types, frame, map, stack)
+    }
+}
+
+/// The same, where the frame of the map may be kept.
 pub(crate) fn flows_by_stack(
     pass: &Pass<'_, '_, '_, '_, '_>,
     held: &Held,
@@ -36,13 +60,9 @@ pub(crate) fn flows_by_stack(
     ensures flows { result ≡ flows_to_map pass.now.types frame.now map.now }
     ensures flowed { HaveFlowed pass.now flowed.new.writes.items flowed.new.frames.items frame.now.locals }
 {
-    if is_kept(map.local_words()) {
-        return flowed.flows(pass, frame, place, map) && stack;
-    }
-    if held.is_of(pass, place) {
-        held.flows(pass.types, frame, stack)
-    } else {
-        frame_flows(pass.types, frame, map, stack)
+    match flowed.flows(pass, frame, place, map) {
+        Some(flows) => flows && stack,
+        None => flows_beside(pass, held, frame, place, map, stack),
     }
 }
 
@@ -67,7 +87,30 @@ pub(crate) fn flows_to_map(
     flows_by_stack(pass, held, flowed, frame, place, map, stack)
 }
 
-/// Whether the frame with which a handler begins, where no object is constructed, flows into the frame of the map at a place.
+/// Whether the frame with which a handler begins, where no object is constructed, flows into the frame of the map at a place: what is
+/// held is compared only where local variables were written since.
+fn thrown_flows_beside(
+    pass: &Pass<'_, '_, '_, '_, '_>,
+    held: &Held,
+    frame: &TypeFrame,
+    thrown: Item,
+    place: usize,
+    map: &MapFrame<'_>,
+) -> bool
+    requires at { slice_get pass.now.frames place ≡ Some map.now }
+    requires room { HasRoom pass.now.types pass.now.max_locals map.now }
+    requires locals { length frame.now.locals ≡ pass.now.max_locals }
+    requires held { IsHeld pass.now held.now frame.now }
+    ensures { result ≡ thrown_flows_to_map pass.now.types frame.now None thrown map.now }
+{
+    if held.is_of(pass, place) {
+        held.flows_thrown(pass.types, frame, thrown, map)
+    } else {
+        thrown_flows(pass.types, frame, None, thrown, map)
+    }
+}
+
+/// The same, where the frame of the map may be kept.
 fn thrown_flows_without(
     pass: &Pass<'_, '_, '_, '_, '_>,
     held: &Held,
@@ -85,13 +128,9 @@ fn thrown_flows_without(
     ensures flows { result ≡ thrown_flows_to_map pass.now.types frame.now None thrown map.now }
     ensures flowed { HaveFlowed pass.now flowed.new.writes.items flowed.new.frames.items frame.now.locals }
 {
-    if is_kept(map.local_words()) {
-        return flowed.flows(pass, frame, place, map) && thrown_stack_flows(pass.types, thrown, map);
-    }
-    if held.is_of(pass, place) {
-        held.flows_thrown(pass.types, frame, thrown, map)
-    } else {
-        thrown_flows(pass.types, frame, None, thrown, map)
+    match flowed.flows(pass, frame, place, map) {
+        Some(flows) => flows && thrown_stack_flows(pass.types, thrown, map),
+        None => thrown_flows_beside(pass, held, frame, thrown, place, map),
     }
 }
 

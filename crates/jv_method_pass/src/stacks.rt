@@ -23,7 +23,7 @@ use jv_types_frames::TypeFrame;
 use std::alloc::Global;
 
 /// How many items a stack has at least that is kept: fewer are as soon compared.
-const DEEP: usize = 64;
+const DEEP: usize = 32;
 
 /// How many stacks are kept at most.
 const KEPT: usize = 256;
