@@ -13,13 +13,14 @@ use crate::tables::{broken, check_tables};
 use jv_class_structure::{Method, MethodCode};
 use jv_code::Code;
 use jv_meaning_typing::VerifyRule;
-use jv_method_pass::CodeFault;
 use jv_method_pass::of_types::{CurrentClass, MethodTypes};
+use jv_method_pass::{CodeFault, FrameRoom};
 use std::alloc::{AllocError, Global};
 
 /// Checks a method whose body has this code, and whose descriptor says these types.
 fn check_typed<'a>(
     alloc: Global,
+    room: &mut FrameRoom,
     class: &CurrentClass<'_, '_, 'a>,
     method: &Method<'a>,
     body: &MethodCode<'a>,
@@ -36,7 +37,7 @@ fn check_typed<'a>(
         unreachable!();
     };
     let read = ReadMethod::new(class, body, code, &items, count, is_init, types.result);
-    check_tables(alloc, &read)
+    check_tables(alloc, room, &read)
 }
 
 /// Checks the code of a method of the current class: the first rule that it breaks (JVMS 4.10.1), and where; `None` where it
@@ -47,6 +48,7 @@ fn check_typed<'a>(
 /// Where the host had no memory for its frames.
 pub fn check_method<'a>(
     alloc: Global,
+    room: &mut FrameRoom,
     class: &CurrentClass<'_, '_, 'a>,
     method: &Method<'a>,
     code: &MethodCode<'a>,
@@ -58,7 +60,7 @@ pub fn check_method<'a>(
         return Ok(Some(broken(VerifyRule::Code)));
     };
     match Code::read(code.code) {
-        Ok(read) => check_typed(alloc, class, method, code, &read, types),
+        Ok(read) => check_typed(alloc, room, class, method, code, &read, types),
         Err(_) => Ok(Some(broken(VerifyRule::Code))),
     }
 }

@@ -11,16 +11,17 @@ ghost use Rattle.jv_method.specs.Inside.Shown.{method_in, AreMethodsOf, IsJudged
 use crate::check::check_method;
 use jv_class::{ClassFile, Method};
 use jv_meaning_typing::VerifyFault;
-use jv_method_pass::CodeFault;
 use jv_method_pass::of_link::class_at;
 use jv_method_pass::of_loader::Classes;
 use jv_method_pass::of_types::{ConstantTypes, CurrentClass};
+use jv_method_pass::{CodeFault, FrameRoom};
 use std::alloc::{AllocError, Global};
 use std::hash::RandomState;
 
 /// The first rule that a method breaks, where it has code.
 fn check_code<'a>(
     alloc: Global,
+    room: &mut FrameRoom,
     class: &CurrentClass<'_, '_, 'a>,
     method: &Method<'a>,
 ) -> Result<Option<CodeFault>, AllocError>
@@ -28,7 +29,7 @@ fn check_code<'a>(
     ensures { IsJudgedIn class.now (seen_method method.now) result }
 {
     match &method.code {
-        Some(code) => check_method(alloc, class, method, code),
+        Some(code) => check_method(alloc, room, class, method, code),
         None => Ok(None),
     }
 }
@@ -56,8 +57,9 @@ fn first_fault<'a>(
     requires count { length methods.now < 65536 }
     ensures { IfOk result (AreJudged class.now.types.world class.now.by) }
 {
+    let mut room = FrameRoom::new(alloc)?;
     for place in 0..methods.len() {
-        if let Some(fault) = check_code(alloc, class, &methods[place])? {
+        if let Some(fault) = check_code(alloc, &mut room, class, &methods[place])? {
             return Ok(Some(fault_at(place as u16, fault)));
         }
     }

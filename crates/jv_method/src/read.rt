@@ -14,7 +14,7 @@ use jv_code::{Code, Starts};
 use jv_frames::{Limits, MapFrames};
 use jv_method_pass::of_rules::MethodContext;
 use jv_method_pass::of_types::{CurrentClass, EntryTypes, Item};
-use jv_method_pass::{CodeFault, Pass, check_code, handlers_hold, read_map};
+use jv_method_pass::{CodeFault, FrameRoom, Pass, check_code, handlers_hold, read_map};
 use jv_text::FieldTypeOf;
 use std::alloc::{AllocError, Global};
 use std::marker::Model;
@@ -170,6 +170,7 @@ impl<'m, 'e, 't, 'a> ReadMethod<'m, 'e, 't, 'a> {
     pub(crate) fn check_instructions(
         &self,
         alloc: Global,
+        room: &mut FrameRoom,
         starts: &Starts<'a>,
         frames: &MapFrames,
     ) -> Result<Option<CodeFault>, AllocError>
@@ -189,6 +190,6 @@ impl<'m, 'e, 't, 'a> ReadMethod<'m, 'e, 't, 'a> {
             self.body.exception_table,
             frames,
         );
-        check_code(alloc, &pass)
+        check_code(alloc, room, &pass)
     }
 }

@@ -9,7 +9,7 @@ ghost use Rattle.jv_method.specs.Inside.Read.{IsOfRead, IsVerdictBehindHandlers}
 use crate::read::ReadMethod;
 use jv_code::Starts;
 use jv_meaning_typing::VerifyRule;
-use jv_method_pass::CodeFault;
+use jv_method_pass::{CodeFault, FrameRoom};
 use std::alloc::{AllocError, Global};
 
 /// A rule on the whole code is broken, which is at offset 0.
@@ -23,6 +23,7 @@ pub(crate) fn broken(rule: VerifyRule) -> CodeFault
 /// Checks a method whose handlers are right, with these starts of its instructions.
 fn check_frames<'a>(
     alloc: Global,
+    room: &mut FrameRoom,
     method: &ReadMethod<'_, '_, '_, 'a>,
     starts: &Starts<'a>,
 ) -> Result<Option<CodeFault>, AllocError>
@@ -33,12 +34,13 @@ fn check_frames<'a>(
     let Some(frames) = method.map_frames(alloc, starts)? else {
         return Ok(Some(broken(VerifyRule::MapFrames)));
     };
-    method.check_instructions(alloc, starts, &frames)
+    method.check_instructions(alloc, room, starts, &frames)
 }
 
 /// Checks a method whose code was read.
 pub(crate) fn check_tables(
     alloc: Global,
+    room: &mut FrameRoom,
     method: &ReadMethod<'_, '_, '_, '_>,
 ) -> Result<Option<CodeFault>, AllocError>
     requires { (env : Environment) × IsOfRead method.now env }
@@ -46,7 +48,7 @@ pub(crate) fn check_tables(
 {
     let starts = method.starts(alloc)?;
     if method.handlers_keep_rules(&starts) {
-        check_frames(alloc, method, &starts)
+        check_frames(alloc, room, method, &starts)
     } else {
         Ok(Some(broken(VerifyRule::HandlerTable)))
     }

@@ -197,7 +197,7 @@ impl Held {
     }
 
     /// Nothing is held any more.
-    fn forget(&mut self)
+    pub(crate) fn forget(&mut self)
         ensures { self.new.place ≡ None }
     {
         self.place = None;
@@ -334,7 +334,7 @@ impl Held {
             self.clear_written();
             return Ok(());
         }
-        self.base = TypeFrame::new(self.alloc, max_locals)?;
+        self.base.renew(max_locals)?;
         self.make_marks(max_locals)?;
         Ok(())
     }

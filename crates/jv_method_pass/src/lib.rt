@@ -29,4 +29,4 @@ pub use jv_rules::{of_link, of_loader};
 pub use jv_types as of_types;
 pub use maps::read_map;
 pub use pass::Pass;
-pub use walk::check_code;
+pub use walk::{FrameRoom, check_code};

@@ -85,14 +85,36 @@ fn walk(
     Ok(None)
 }
 
-/// Checks the code of a method whose handlers and stack map keep their rules: the first rule that is broken at the least
-/// offset, if one is.
-///
-/// # Errors
-///
-/// Where the host had no memory for the frame.
-pub fn check_code(
+/// Frames of one method after another, with the local variables of the largest: memory for these is taken once.
+pub struct FrameRoom {
+    frame: TypeFrame,
+    held: Held,
+}
+
+impl Drop for FrameRoom {
+    fn drop(self) {
+        let FrameRoom { frame: _, held: _ } = self;
+    }
+}
+
+impl FrameRoom {
+    /// Without local variables yet.
+    ///
+    /// # Errors
+    ///
+    /// Where the host had no memory for it.
+    pub fn new(alloc: Global) -> Result<FrameRoom, AllocError> {
+        let frame = TypeFrame::new(alloc, 0)?;
+        let held = Held::new(alloc)?;
+        Ok(FrameRoom { frame, held })
+    }
+}
+
+/// Checks the code of a method in a frame that is made anew, beside one that comes to be held.
+fn check_in(
     alloc: Global,
+    frame: &mut TypeFrame,
+    held: &mut Held,
     pass: &Pass<'_, '_, '_, '_, '_>,
 ) -> Result<Option<CodeFault>, AllocError>
     requires { (env : Environment) × IsOfPass pass.now env }
@@ -100,20 +122,37 @@ pub fn check_code(
 {
     stands_in_list();
     starts_apart();
-    let mut frame = TypeFrame::new(alloc, pass.max_locals)?;
-    set_to_initial(&mut frame, pass.initial, pass.words);
+    frame.renew(pass.max_locals)?;
+    set_to_initial(frame, pass.initial, pass.words);
     let cover = cover_of(alloc, pass.handlers, pass.context.code().size())?;
     let mut openings = Openings::of(alloc, pass.handlers)?;
-    let mut held = Held::new(alloc)?;
+    held.forget();
     let mut flowed = FlowedLocals::new(alloc);
     let mut stacks = FlowedStacks::new(alloc);
     walk(
         pass,
         &cover,
         &mut openings,
-        &mut held,
+        held,
         &mut flowed,
         &mut stacks,
-        &mut frame,
+        frame,
     )
+}
+
+/// Checks the code of a method whose handlers and stack map keep their rules: the first rule that is broken at the least
+/// offset, if one is. Its frames stand in the room.
+///
+/// # Errors
+///
+/// Where the host had no memory for the frame.
+pub fn check_code(
+    alloc: Global,
+    room: &mut FrameRoom,
+    pass: &Pass<'_, '_, '_, '_, '_>,
+) -> Result<Option<CodeFault>, AllocError>
+    requires { (env : Environment) × IsOfPass pass.now env }
+    ensures { (env : Environment) → IsOfPass pass.now env → IfOk result (IsFound env (maps_of pass.now)) }
+{
+    check_in(alloc, &mut room.frame, &mut room.held, pass)
 }

@@ -113,6 +113,21 @@ impl Items {
         self.notes.forget();
     }
 
+    /// So many times top, where those from a place on are.
+    pub(crate) fn renew(&mut self, used: usize, count: usize) -> Result<(), AllocError>
+        requires { AreTops used self.old }
+        ensures ok { OnOk result (self.new ≡ replicate count types.Top) }
+        ensures refused { OnErr result (self.new ≡ []) }
+    {
+        if self.items.len() == count {
+            self.make_tops_below(used);
+            return Ok(());
+        }
+        self.clear();
+        self.items.resize(count, VerificationTypeOf::Top)?;
+        Ok(())
+    }
+
     /// Takes all away.
     pub(crate) fn clear(&mut self)
         ensures { self.new ≡ [] }

@@ -72,6 +72,21 @@ impl TypeFrame {
         self.clear_flag();
     }
 
+    /// Takes all away, and comes to have so many local variables.
+    ///
+    /// # Errors
+    ///
+    /// Where the host had no memory for the local variables; the frame is then of no more use.
+    pub fn renew(&mut self, max_locals: u16) -> Result<(), AllocError>
+        ensures { OnOk result (self.new ≡ blank max_locals) }
+    {
+        self.stack.clear();
+        self.words = 0;
+        self.clear_flag();
+        self.locals.renew(usize::from(max_locals))?;
+        Ok(())
+    }
+
     /// `this` may not be initialized, or is.
     pub fn set_flag(&mut self, flag: bool)
         ensures { self.new ≡ with_flag flag self.old }

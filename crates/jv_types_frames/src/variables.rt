@@ -1,6 +1,6 @@
 //! Local variables.
 
-ghost use Rattle.std.specs.Prelude.{◌≡◌, ◌<◌, ◌≤◌, length, map, replicate, set, slice_get, IfOk};
+ghost use Rattle.std.specs.Prelude.{◌≡◌, ◌<◌, ◌≤◌, length, map, replicate, set, slice_get, IfOk, OnOk};
 ghost use Rattle.std.specs.List.{list_any};
 ghost use Rattle.jv_frames.specs.declared.verification.VerificationTypeOf.TheVariants as types;
 ghost use Rattle.jv_types_frames.specs.Inside.Noted.{Holds};
@@ -61,6 +61,17 @@ impl Variables {
     {
         self.items.make_tops_below(self.used);
         self.used = 0;
+    }
+
+    /// So many that hold nothing, in the place of these.
+    pub(crate) fn renew(&mut self, count: usize) -> Result<(), AllocError>
+        ensures { OnOk result (self.new ≡ replicate count types.Top) }
+    {
+        let used = self.used;
+        self.used = count;
+        self.items.renew(used, count)?;
+        self.used = 0;
+        Ok(())
     }
 
     #[inline(always)]

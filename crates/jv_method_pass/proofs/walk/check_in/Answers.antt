@@ -13,7 +13,7 @@ use Rattle.jv_method_pass.proofs.Holding.{none_held}
 use Rattle.jv_method_pass.proofs.FlowingAgain.{none_all}
 use Rattle.jv_method_pass.specs.Inside.Flowed.{HasFlowed}
 use Rattle.jv_method_pass.proofs.FlowsInto.{first_is}
-use Rattle.jv_method_pass.proofs.walk.check_code.Goals as goal
+use Rattle.jv_method_pass.proofs.walk.check_in.Goals as goal
 
 pub returns : goal.returns
 returns c = λ env is.
@@ -21,15 +21,15 @@ returns c = λ env is.
     let entries = c.pass.inside.initial.now in
     let count = c.pass.inside.words in
     let kept : IsPass pass entries count = subst (λ (p : Pass). IsPass p entries count) c.pass.view_is c.pass.invariant in
-    let many : length c.in_ok-frame.frame.locals ≡ pass.max_locals =
-    ap (λ (f : NumberFrame). length f.locals) c.in_ok-frame.ensures
+    let many : length c.renew.new.self.locals ≡ pass.max_locals =
+    ap (λ (f : NumberFrame). length f.locals) c.in_ok-renew.ensures
     ∙ (length-replicate {A = Item} c.pass.inside.max_locals variants.Top ∙ ap (λ (p : Pass). p.max_locals) c.pass.view_is) in
     c.walk.ensures env is
-    (subst (λ (f : Frame). Reaches env (maps_of pass) 0 (Some f)) (first_is pass entries count kept env is c.set_to_initial.new.frame (length c.in_ok-frame.frame.locals) many c.set_to_initial.ensures.frame)
+    (subst (λ (f : Frame). Reaches env (maps_of pass) 0 (Some f)) (first_is pass entries count kept env is c.set_to_initial.new.frame (length c.renew.new.self.locals) many c.set_to_initial.ensures.frame)
     (begins c.stands_in_list.ensures c.starts_apart.ensures env is.is (maps_of pass)))
 
 pub walk-requires-clause-held : goal.walk-requires-clause-held
-walk-requires-clause-held c = none_held c.args.pass.now c.in_ok-held.held c.set_to_initial.new.frame.locals c.in_ok-held.ensures
+walk-requires-clause-held c = none_held c.args.pass.now c.forget.new.self c.set_to_initial.new.frame.locals c.forget.ensures
 
 pub walk-requires-clause-openings : goal.walk-requires-clause-openings
 walk-requires-clause-openings c = λ offset test.
