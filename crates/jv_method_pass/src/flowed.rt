@@ -35,8 +35,11 @@ const KEPT: usize = 2097152;
 /// How many frames are kept at most.
 const MOST: usize = 128;
 
-/// How many local variables of all frames together are made for a method at most.
-const MADE: usize = 8388608;
+/// For how many local variables that were compared one is made to be kept.
+const PRICE: usize = 8;
+
+/// How many local variables count as compared when a method begins.
+const CREDIT: usize = 8388608;
 
 /// How many frames are known that were asked for once.
 const ASKED: usize = 64;
@@ -67,13 +70,13 @@ impl Drop for FlowedFrame {
 }
 
 /// Where local variables were written, one place behind the other, and the frames that are kept, that to which they flowed last behind
-/// the others; how many local variables were made, and how many those have that are kept; and the places of frames of the map that were
-/// asked for once, and not kept.
+/// the others; how many local variables were compared and not paid with, and how many those have that are kept; and the places of frames
+/// of the map that were asked for once, and not kept.
 pub(crate) struct FlowedLocals {
     alloc: Global,
     writes: Vec<u16>,
     frames: Vec<FlowedFrame>,
-    begun: usize,
+    credit: usize,
     room: usize,
     asked: Vec<usize>,
 }
@@ -84,7 +87,7 @@ impl Drop for FlowedLocals {
             alloc: _,
             writes: _,
             frames: _,
-            begun: _,
+            credit: _,
             room: _,
             asked: _,
         } = self;
@@ -260,6 +263,15 @@ fn smallest(frames: &[FlowedFrame], count: usize) -> Option<usize>
     found
 }
 
+/// How many local variables count as compared, where so many more are to be, but for those that are held.
+fn paid(credit: usize, words: u16, is_held: bool) -> usize {
+    if is_held {
+        credit
+    } else {
+        credit.saturating_add(usize::from(words))
+    }
+}
+
 /// Whether none is kept.
 fn is_none_kept(frames: &[FlowedFrame]) -> bool
     ensures { IsTrue result → frames.now ≡ [] }
@@ -276,7 +288,7 @@ impl FlowedLocals {
             alloc,
             writes: Vec::new(alloc),
             frames: Vec::new(alloc),
-            begun: 0,
+            credit: CREDIT,
             room: 0,
             asked: Vec::new(alloc),
         }
@@ -375,24 +387,24 @@ impl FlowedLocals {
         true
     }
 
-    /// Keeps the frame of the map at a place, if it was asked for before or none is kept, it has more local variables than one of many that
-    /// are kept, the host has memory for it, and not too many local variables were made.
+    /// Keeps the frame of the map at a place, if it was asked for before or none is kept, what was compared pays for it, it has more local
+    /// variables than one of many that are kept, and the host has memory for it.
     fn begin(&mut self, pass: &Pass<'_, '_, '_, '_, '_>, place: usize, map: &MapFrame<'_>)
         requires at { slice_get pass.now.frames place ≡ Some map.now }
         requires room { HasRoom pass.now.types pass.now.max_locals map.now }
         ensures { StaysRight pass.now self.old.writes.items self.old.frames.items self.new.writes.items self.new.frames.items }
     {
-        if self.begun >= MADE {
-            return;
-        }
         if !is_wanted(&mut self.asked, &self.frames, pass, place) {
             return;
         }
         let count = usize::from(room_for(map.local_words(), pass.max_locals));
+        let Some(left) = self.credit.checked_sub(PRICE * count) else {
+            return;
+        };
         if !self.has_place(count) {
             return;
         }
-        self.begun = self.begun.saturating_add(count);
+        self.credit = left;
         self.make_room();
         let Ok(flowed) = made_of(self.alloc, pass, place, map, self.writes.len()) else {
             return;
@@ -459,13 +471,15 @@ impl FlowedLocals {
         flag
     }
 
-    /// Whether local variables and the flag flow to those of the frame of the map at a place, where that is kept.
+    /// Whether local variables and the flag flow to those of the frame of the map at a place, where that is kept. What is not, and not held
+    /// beside the one frame, is to be compared.
     pub(crate) fn flows(
         &mut self,
         pass: &Pass<'_, '_, '_, '_, '_>,
         frame: &TypeFrame,
         place: usize,
         map: &MapFrame<'_>,
+        is_held: bool,
     ) -> Option<bool>
         requires at { slice_get pass.now.frames place ≡ Some map.now }
         requires room { HasRoom pass.now.types pass.now.max_locals map.now }
@@ -479,7 +493,10 @@ impl FlowedLocals {
         }
         match self.place_of(pass, place, map) {
             Some(k) => Some(self.flows_again(pass, frame, k, place, map)),
-            None => None,
+            None => {
+                self.credit = paid(self.credit, map.local_words(), is_held);
+                None
+            }
         }
     }
 }

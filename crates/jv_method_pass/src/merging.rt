@@ -60,7 +60,8 @@ pub(crate) fn flows_by_stack(
     ensures flows { result ≡ flows_to_map pass.now.types frame.now map.now }
     ensures flowed { HaveFlowed pass.now flowed.new.writes.items flowed.new.frames.items frame.now.locals }
 {
-    match flowed.flows(pass, frame, place, map) {
+    let is_held = held.is_of(pass, place);
+    match flowed.flows(pass, frame, place, map, is_held) {
         Some(flows) => flows && stack,
         None => flows_beside(pass, held, frame, place, map, stack),
     }
@@ -128,7 +129,8 @@ fn thrown_flows_without(
     ensures flows { result ≡ thrown_flows_to_map pass.now.types frame.now None thrown map.now }
     ensures flowed { HaveFlowed pass.now flowed.new.writes.items flowed.new.frames.items frame.now.locals }
 {
-    match flowed.flows(pass, frame, place, map) {
+    let is_held = held.is_of(pass, place);
+    match flowed.flows(pass, frame, place, map, is_held) {
         Some(flows) => flows && thrown_stack_flows(pass.types, thrown, map),
         None => thrown_flows_beside(pass, held, frame, thrown, place, map),
     }

@@ -10,5 +10,5 @@ returns c = λ locals have.
     pushed P left.frames.items _ c.in-Ok.flowed (is_ok c.push-kept.result) c.push-kept.ensures.items (c.make_room.ensures c.args.pass.now locals (c.has_place.ensures c.args.pass.now locals have))
     (c.in-Ok.ensures {u = tt} left.writes.items locals (omega (arith, c.len.ensures, left.writes.ok.0)))
 
-pub returns-in_default : goal.returns-in_default
-returns-in_default c = λ locals have. c.make_room.ensures c.args.pass.now locals (c.has_place.ensures c.args.pass.now locals have)
+pub returns-in_default-made_of : goal.returns-in_default-made_of
+returns-in_default-made_of c = λ locals have. c.make_room.ensures c.args.pass.now locals (c.has_place.ensures c.args.pass.now locals have)
