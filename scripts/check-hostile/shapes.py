@@ -1097,6 +1097,209 @@ def catches_long(folder, scale):
     made.write(folder)
 
 
+def defaults_many(folder, scale):
+    """1,000 interfaces with the same default method and one more with it below all of them, above a class; 10,000 references to it below that."""
+    count = scaled(scale, 1000)
+    names = [f"I{k}" for k in range(count)]
+
+    def interface(name, above):
+        made = ClassFile(name, flags=0x601)
+        made.interfaces = above
+        made.method(1, "m", "()V", 0, 1, bytes([177]))
+        made.write(folder)
+
+    for name in names:
+        interface(name, [])
+    interface("J", names)
+    made = ClassFile("B")
+    made.interfaces = names + ["J"]
+    made.write(folder)
+    made = ClassFile("Main", "B")
+    made.main()
+    for k in range(scaled(scale, 10000)):
+        made.called("B", "m", "()V", 10, k)
+    made.write(folder)
+
+
+def references_often(folder, scale):
+    """10 classes below a chain of 1,000 with 62,000 references each to methods that are not there."""
+    count = scaled(scale, 1000)
+    chain(folder, count, lambda made, n: made.field(1, "f", "I"))
+    given = descriptors(40)
+    for c in range(10):
+        made = ClassFile("Main" if c == 0 else f"M{c}", f"C{count - 1}")
+        made.main()
+        for k in range(scaled(scale, 62000)):
+            made.called(f"C{count - 1}", f"m{k % 50}", given[k // 50 % 40], 10, k)
+        made.write(folder)
+
+
+def names_alike(folder, scale):
+    """9 classes with 62,000 references each to a field of a superclass whose name has 65,535 bytes, and whose descriptor too."""
+    name, kind = "f" * 65535, "L" + "k" * 65533 + ";"
+    top = ClassFile("A")
+    top.field(1, name, kind)
+    top.write(folder)
+    for c in range(9):
+        made = ClassFile("Main" if c == 0 else f"M{c}", "A")
+        made.main()
+        for k in range(scaled(scale, 62000)):
+            made.called("A", name, kind, 9, k)
+        made.write(folder)
+
+
+def finals_apart(folder, scale):
+    """A chain of 1,000 classes with the same 432 abstract methods below one with a final method; a class that is not above them declares each of
+    these final."""
+    given = descriptors(24)
+    apart = ClassFile("Apart", flags=0x421)
+    for n in range(18):
+        for descriptor in given:
+            apart.method(0x11, f"m{n}", descriptor, 0, 24, bytes([177]))
+    apart.write(folder)
+    top = ClassFile("C0", flags=0x421)
+    top.method(0x11, "last", "()V", 0, 1, bytes([177]))
+    top.write(folder)
+    count = scaled(scale, 1000)
+    for k in range(1, count):
+        made = ClassFile(f"C{k}" if k < count - 1 else "Main", f"C{k - 1}", 0x421)
+        for n in range(18):
+            for descriptor in given:
+                made.declare(0x401, f"m{n}", descriptor)
+        if k == count - 1:
+            made.main()
+        made.write(folder)
+
+
+def wide_tiny(folder, scale):
+    """6,500 methods of two instructions with 16 parameters, 65,535 local variables and a frame of the map."""
+    made = ClassFile("Main")
+    made.main()
+    given = ["(" + "".join("IJ"[k >> bit & 1] for bit in range(16)) + ")V" for k in range(250)]
+    for n in range(scaled(scale, 6500)):
+        made.method(9, f"m{n // 250}", given[n % 250], 0, 65535, bytes([177, 177]), b"", (1, u1(1)))
+    made.write(folder)
+
+
+def switch(at, targets):
+    """A tableswitch at an offset to these targets, the first of which is the default, too."""
+    code = bytes([170]) + bytes(-(at + 1) % 4) + struct.pack(">iii", targets[0] - at, 0, len(targets) - 1)
+    return code + b"".join(struct.pack(">i", target - at) for target in targets)
+
+
+def asked_twice(count):
+    """So many numbers, each twice, not far apart."""
+    order = []
+    for k in range(0, count, 32):
+        order += list(range(k, min(k + 32, count))) * 2
+    return order
+
+
+def few_entries(number, item):
+    """64 local entries, no two numbers' alike."""
+    return [item if number >> bit & 1 else TOP for bit in range(8)] + [TOP] * 56
+
+
+def nops_behind_many(folder, scale):
+    """A tableswitch to 140 frames of 64 entries, twice to each, then 30,000 nops with a frame of 10,000 ints each; in four methods."""
+    count = scaled(scale, 30000)
+    order = asked_twice(140)
+    end = 2 + len(switch(2, [0] * len(order)))
+
+    def add(made, name):
+        code = bytes([177, 3]) + switch(2, [end + k for k in order]) + bytes([177]) * 140 + bytes(count) + bytes([177])
+        spelled = full(1, [INT] * 64, [])
+        for k in range(140):
+            spelled += full(end - 2 if k == 0 else 0, few_entries(k, INT), [])
+        spelled += full(0, [INT] * 10000, []) + u1(0) * count
+        made.method(9, name, "()V", 1, 10000, code, b"", (142 + count, spelled))
+
+    written_with(folder, add, 4)
+
+
+def switch_behind_many(folder, scale):
+    """A tableswitch to 140 frames of 64 entries, twice to each, then 14,000 times to a frame of 10,000 ints; in 20 methods."""
+    order = asked_twice(140) + [140] * scaled(scale, 14000)
+    end = 2 + len(switch(2, [0] * len(order)))
+
+    def add(made, name):
+        code = bytes([177, 3]) + switch(2, [end + k for k in order]) + bytes([177]) * 141
+        spelled = full(1, [INT] * 10000, [])
+        for k in range(140):
+            spelled += full(end - 2 if k == 0 else 0, few_entries(k, INT), [])
+        spelled += full(0, [INT] * 10000, [])
+        made.method(9, name, "()V", 1, 10000, code, b"", (142, spelled))
+
+    written_with(folder, add, scaled(scale, 20))
+
+
+def objects_behind_many(folder, scale):
+    """The same to a frame of 1,000 entries of Object from as many arrays."""
+    order = asked_twice(140) + [140] * scaled(scale, 14000)
+    end = 2 + len(switch(2, [0] * len(order)))
+
+    def add(made, name):
+        array, above = u1(7) + u2(made.named("[[I")), u1(7) + u2(made.named("java/lang/Object"))
+        code = bytes([177, 3]) + switch(2, [end + k for k in order]) + bytes([177]) * 141
+        spelled = full(1, [array] * 1000, [])
+        for k in range(140):
+            spelled += full(end - 2 if k == 0 else 0, few_entries(k, above), [])
+        spelled += full(0, [above] * 1000, [])
+        made.method(9, name, "()V", 1, 1000, code, b"", (142, spelled))
+
+    written_with(folder, add, scaled(scale, 20))
+
+
+def objects_few(folder, scale):
+    """A tableswitch of 16,000 targets to a frame of 63 local entries and 62 items of Object, from as many arrays; in 62 methods 4 MB."""
+    count = scaled(scale, 16000)
+    end = 2 + len(switch(2, [0] * count))
+
+    def add(made, name):
+        array, above = u1(7) + u2(made.named("[[I")), u1(7) + u2(made.named("java/lang/Object"))
+        code = bytes([177, 3]) + switch(2, [end] * count) + bytes([177])
+        spelled = full(1, [array] * 63, [array] * 62) + full(end - 2, [above] * 63, [above] * 62)
+        made.method(9, name, "()V", 63, 63, code, b"", (2, spelled))
+
+    written_with(folder, add, scaled(scale, 62))
+
+
+def handlers_many(folder, scale):
+    """2,000 handlers over 4,000 stores, with 63 local variables: arrays, which flow to Object."""
+    count = scaled(scale, 4000)
+    made = ClassFile("Main")
+    made.main()
+    array, above = u1(7) + u2(made.named("[[I")), u1(7) + u2(made.named("java/lang/Object"))
+    code = bytes([177]) + bytes([3, 54, 63]) * count + bytes([177, 191])
+    end = len(code) - 1
+    spelled = full(1, [array] * 63, []) + full(end - 2, [above] * 63, [u1(7) + u2(made.named("java/lang/Throwable"))])
+    table = (u2(1) + u2(end - 1) + u2(end) + u2(0)) * scaled(scale, 2000)
+    made.method(9, "m", "()V", 1, 64, code, table, (2, spelled))
+    made.write(folder)
+
+
+def abstract_methods(folder, scale):
+    """A class of 65,000 abstract methods: 8 bytes each; in eight classes 4.2 MB."""
+    given = descriptors(250)
+    for c in range(8):
+        made = ClassFile("Main" if c == 0 else f"M{c}", flags=0x421)
+        made.main()
+        for n in range(scaled(scale, 65000)):
+            made.declare(0x401, f"m{n // 250}", given[n % 250])
+        made.write(folder)
+
+
+def class_constants(folder, scale):
+    """40 classes of 65,000 Class constants each."""
+    for c in range(40):
+        made = ClassFile("Main" if c == 0 else f"M{c}")
+        made.main()
+        text = made.text("A")
+        for k in range(scaled(scale, 65000)):
+            made.constant(("class", k), u1(7) + u2(text))
+        made.write(folder)
+
+
 SHAPES = [
     long_references, short_references, used_references, interface_often, long_methods, long_methods_final, long_fields,
     methods_below_final, classes_below_final, finals_in_each, finals_in_two_chains, finals_private, blank_frames, int_frames,
@@ -1108,6 +1311,8 @@ SHAPES = [
     interfaces_long, interfaces_before, catches_long, stores_and_branches, stores_below_handler, new_held, made_below_handler,
     frames_fall_in_turn, start_in_turn, few_in_turn, pairs_in_turn, apart_in_turn, short_in_turn, small_in_turn, stacks_kept, stacks_named,
     objects_in_turn, copies_in_turn, stores_for_many, new_named, many_named, one_named, named_in_turn, stack_named, named_and_made, this_made,
+    defaults_many, references_often, names_alike, finals_apart, wide_tiny, nops_behind_many, switch_behind_many, objects_behind_many, objects_few,
+    handlers_many, abstract_methods, class_constants,
 ]
 
 
