@@ -1181,6 +1181,11 @@ def wide_tiny(folder, scale):
     made.write(folder)
 
 
+def object_of(made, name):
+    """An item of the stack map: an object of a class or an array."""
+    return u1(7) + u2(made.named(name))
+
+
 def switch(at, targets):
     """A tableswitch at an offset to these targets, the first of which is the default, too."""
     code = bytes([170]) + bytes(-(at + 1) % 4) + struct.pack(">iii", targets[0] - at, 0, len(targets) - 1)
@@ -1217,37 +1222,32 @@ def nops_behind_many(folder, scale):
     written_with(folder, add, 4)
 
 
-def switch_behind_many(folder, scale):
-    """A tableswitch to 140 frames of 64 entries, twice to each, then 14,000 times to a frame of 10,000 ints; in 20 methods."""
+def behind_many(folder, scale, entries, item, target):
+    """A tableswitch to 140 frames of 64 entries, twice to each, then 14,000 times to a frame of so many entries target(class), from as many
+    item(class); in 20 methods."""
     order = asked_twice(140) + [140] * scaled(scale, 14000)
     end = 2 + len(switch(2, [0] * len(order)))
 
     def add(made, name):
+        of, to = item(made), target(made)
         code = bytes([177, 3]) + switch(2, [end + k for k in order]) + bytes([177]) * 141
-        spelled = full(1, [INT] * 10000, [])
+        spelled = full(1, [of] * entries, [])
         for k in range(140):
-            spelled += full(end - 2 if k == 0 else 0, few_entries(k, INT), [])
-        spelled += full(0, [INT] * 10000, [])
-        made.method(9, name, "()V", 1, 10000, code, b"", (142, spelled))
+            spelled += full(end - 2 if k == 0 else 0, few_entries(k, to), [])
+        spelled += full(0, [to] * entries, [])
+        made.method(9, name, "()V", 1, entries, code, b"", (142, spelled))
 
     written_with(folder, add, scaled(scale, 20))
+
+
+def switch_behind_many(folder, scale):
+    """A tableswitch to 140 frames of 64 entries, twice to each, then 14,000 times to a frame of 10,000 ints; in 20 methods."""
+    behind_many(folder, scale, 10000, lambda made: INT, lambda made: INT)
 
 
 def objects_behind_many(folder, scale):
     """The same to a frame of 1,000 entries of Object from as many arrays."""
-    order = asked_twice(140) + [140] * scaled(scale, 14000)
-    end = 2 + len(switch(2, [0] * len(order)))
-
-    def add(made, name):
-        array, above = u1(7) + u2(made.named("[[I")), u1(7) + u2(made.named("java/lang/Object"))
-        code = bytes([177, 3]) + switch(2, [end + k for k in order]) + bytes([177]) * 141
-        spelled = full(1, [array] * 1000, [])
-        for k in range(140):
-            spelled += full(end - 2 if k == 0 else 0, few_entries(k, above), [])
-        spelled += full(0, [above] * 1000, [])
-        made.method(9, name, "()V", 1, 1000, code, b"", (142, spelled))
-
-    written_with(folder, add, scaled(scale, 20))
+    behind_many(folder, scale, 1000, lambda made: object_of(made, "[[I"), lambda made: object_of(made, "java/lang/Object"))
 
 
 def objects_few(folder, scale):
@@ -1256,7 +1256,7 @@ def objects_few(folder, scale):
     end = 2 + len(switch(2, [0] * count))
 
     def add(made, name):
-        array, above = u1(7) + u2(made.named("[[I")), u1(7) + u2(made.named("java/lang/Object"))
+        array, above = object_of(made, "[[I"), object_of(made, "java/lang/Object")
         code = bytes([177, 3]) + switch(2, [end] * count) + bytes([177])
         spelled = full(1, [array] * 63, [array] * 62) + full(end - 2, [above] * 63, [above] * 62)
         made.method(9, name, "()V", 63, 63, code, b"", (2, spelled))
@@ -1269,10 +1269,10 @@ def handlers_many(folder, scale):
     count = scaled(scale, 4000)
     made = ClassFile("Main")
     made.main()
-    array, above = u1(7) + u2(made.named("[[I")), u1(7) + u2(made.named("java/lang/Object"))
+    array, above = object_of(made, "[[I"), object_of(made, "java/lang/Object")
     code = bytes([177]) + bytes([3, 54, 63]) * count + bytes([177, 191])
     end = len(code) - 1
-    spelled = full(1, [array] * 63, []) + full(end - 2, [above] * 63, [u1(7) + u2(made.named("java/lang/Throwable"))])
+    spelled = full(1, [array] * 63, []) + full(end - 2, [above] * 63, [object_of(made, "java/lang/Throwable")])
     table = (u2(1) + u2(end - 1) + u2(end) + u2(0)) * scaled(scale, 2000)
     made.method(9, "m", "()V", 1, 64, code, table, (2, spelled))
     made.write(folder)
