@@ -8,10 +8,12 @@ pub mod Adding
 pub mod AllFound
 pub mod Chains
 pub mod Followed
+pub mod KeyRows
 pub mod Knowing
 pub mod Linked
 pub mod Listing
 pub mod Loaded
+pub mod Marking
 pub mod Numbers
 pub mod OfFile
 pub mod OnceEach

@@ -6,6 +6,7 @@ pub mod Kept
 pub mod Known
 pub mod Linked
 pub mod Listed
+pub mod Marked
 pub mod Once
 pub mod Rows
 pub mod Seen

@@ -5,4 +5,5 @@ pub mod Inside
 pub mod Faults
 pub mod Hashes
 pub mod Members
+pub mod Marks
 pub mod Once

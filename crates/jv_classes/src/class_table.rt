@@ -9,13 +9,19 @@ ghost use Rattle.jv_meaning_world.specs.Numbers.{number_named, superclass_number
 ghost use Rattle.std.specs.List.{All};
 ghost use Rattle.jv_classes.specs.Faults.{fault_of_supers};
 ghost use Rattle.jv_classes.specs.Once.{direct_numbers};
+ghost use Rattle.jv_classes.specs.Marks.{MarksField, MarksMethod};
 ghost use Rattle.jv_meaning_world.specs.Numbers.{HoldsAtNumber};
 
+use crate::declared_marks::{field_marks, member_key, method_marks};
+use crate::key_marks::KeyMarks;
 use crate::list::ClassList;
 use crate::loaded_class::LoadedClass;
 use crate::relation::Relation;
-use crate::supers::{are_marked, can_name_supers, have_right_kind, is_final_at, superclass_of};
-use crate::table::{above_of, all_loadable, all_stand, all_supers, superclasses_of};
+use crate::supers::{are_marked, can_name_supers, have_right_kind, is_final_at};
+use crate::table::{
+    above_of, all_loadable, all_stand, all_supers, direct_superclasses, superclasses_of,
+};
+use crate::text::Text;
 use jv_meaning_world::LoadVerdict;
 use std::alloc::{AllocError, Global};
 use std::marker::Model;
@@ -25,9 +31,13 @@ use std::marker::Model;
 pub struct ClassTable<'a> {
     list: ClassList<'a>,
     supers: Vec<Vec<Option<usize>>>,
+    direct: Vec<Option<usize>>,
     above: Relation,
     superclasses: Relation,
     loadable: Vec<bool>,
+    seed: u64,
+    methods: KeyMarks,
+    fields: KeyMarks,
 }
 
 impl<'a> Model for ClassTable<'a> {
@@ -39,7 +49,7 @@ impl<'a> Model for ClassTable<'a> {
 
     ghost view = { λ t. t.list };
 
-    ghost invariant = { λ t. IsTable t.list (numbers_of t.supers.items) t.above t.superclasses t.loadable.items };
+    ghost invariant = { λ t. IsTable t.list (numbers_of t.supers.items) t.direct.items t.above t.superclasses t.loadable.items t.seed t.methods t.fields };
 }
 
 impl Drop for ClassTable<'_> {
@@ -47,9 +57,13 @@ impl Drop for ClassTable<'_> {
         let ClassTable {
             list: _,
             supers: _,
+            direct: _,
             above: _,
             superclasses: _,
             loadable: _,
+            seed: _,
+            methods: _,
+            fields: _,
         } = self;
     }
 }
@@ -71,12 +85,20 @@ impl<'a> ClassTable<'a> {
         let superclasses = superclasses_of(alloc, classes, &supers)?;
         let stand = all_stand(alloc, classes, &supers, &above)?;
         let loadable = all_loadable(alloc, classes, &above, &stand)?;
+        let direct = direct_superclasses(alloc, classes, &supers)?;
+        let seed = list.seed();
+        let methods = method_marks(alloc, seed, classes)?;
+        let fields = field_marks(alloc, seed, classes)?;
         Ok(ClassTable {
             list,
             supers,
+            direct,
             above,
             superclasses,
             loadable,
+            seed,
+            methods,
+            fields,
         })
     }
 
@@ -96,7 +118,7 @@ impl<'a> ClassTable<'a> {
 
     /// The seed under which the texts of members are hashed.
     pub fn seed(&self) -> u64 {
-        self.list.seed()
+        self.seed
     }
 
     /// How many classes there are.
@@ -134,7 +156,22 @@ impl<'a> ClassTable<'a> {
         requires { number < length self.now }
         ensures { HoldsAtNumber self.now number (λ l. result ≡ superclass_number self.now l.class) }
     {
-        superclass_of(&self.classes()[number], self.supers(number))
+        self.direct[number]
+    }
+
+    /// Marks by number of the classes that may declare a method of a name and a descriptor: one that is not marked does not. It
+    /// costs no look at a class.
+    pub fn marks_of_method(&self, name: &Text<'_>, descriptor: &Text<'_>) -> &[bool]
+        ensures { MarksMethod self.now name.now descriptor.now result.now }
+    {
+        self.methods.row(member_key(self.seed, name, descriptor))
+    }
+
+    /// The same of a field.
+    pub fn marks_of_field(&self, name: &Text<'_>, descriptor: &Text<'_>) -> &[bool]
+        ensures { MarksField self.now name.now descriptor.now result.now }
+    {
+        self.fields.row(member_key(self.seed, name, descriptor))
     }
 
     /// Whether a class is among the superclasses and superinterfaces of another, at any distance.

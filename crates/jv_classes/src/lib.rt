@@ -5,9 +5,11 @@
 #![tactic(auto)]
 
 mod class_table;
+mod declared_marks;
 mod hashing;
 mod host_io;
 mod kept;
+mod key_marks;
 mod law;
 mod list;
 mod loaded_class;
@@ -24,7 +26,9 @@ mod table;
 mod text;
 
 pub use class_table::ClassTable;
+pub use declared_marks::member_key;
 pub use hashing::{pool_hashes, text_in};
+pub use key_marks::KeyMarks;
 pub use law::short_ways;
 pub use list::ClassList;
 pub use loaded_class::LoadedClass;

@@ -208,6 +208,22 @@ impl<'a> LoadedClass<'a> {
         self.field_of(&Text::new(seed, name), &Text::new(seed, descriptor))
     }
 
+    /// The name of the field at a place, with its hash.
+    pub fn field_name(&self, place: usize) -> Text<'a>
+        requires { place < length self.now.class.fields }
+        ensures { IsSomeAnd (slice_get self.now.class.fields place) (λ f. f.name ≡ result) }
+    {
+        self.kept.fields.name_at(place)
+    }
+
+    /// The descriptor of the field at a place, with its hash.
+    pub fn field_descriptor(&self, place: usize) -> Text<'a>
+        requires { place < length self.now.class.fields }
+        ensures { IsSomeAnd (slice_get self.now.class.fields place) (λ f. f.descriptor ≡ result) }
+    {
+        self.kept.fields.descriptor_at(place)
+    }
+
     /// How many methods there are.
     pub fn method_count(&self) -> usize
         ensures { result ≡ length self.now.class.methods }

@@ -98,7 +98,8 @@ fn slots_for(count: usize) -> usize
 }
 
 /// The slot into which a key falls.
-fn slot_of(size: usize, key: u64) -> usize
+#[inline]
+pub(crate) fn slot_of(size: usize, key: u64) -> usize
     requires { 0 < size }
     ensures slot { result ≡ slot_of size key }
     ensures within { result < size }

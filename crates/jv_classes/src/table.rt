@@ -8,7 +8,7 @@ ghost use Rattle.jv_meaning_world.specs.Laws.Above.{stands_itself, SystemStandsA
 ghost use Rattle.jv_meaning_world.specs.Verdicts.{is_loadable};
 ghost use Rattle.jv_classes.specs.Inside.Direct.{IsToSuperclass};
 ghost use Rattle.jv_classes.specs.Inside.Told.{TellsAbove, TellsSuperclasses, AreAllMarked};
-ghost use Rattle.jv_classes.specs.Inside.Rows.{numbers_of, all_direct_numbers, AreAllBelow};
+ghost use Rattle.jv_classes.specs.Inside.Rows.{numbers_of, all_direct_numbers, all_superclass_numbers, AreAllBelow};
 ghost use Rattle.jv_meaning_world.specs.Above.{superclasses};
 
 use crate::law::short_ways;
@@ -31,6 +31,22 @@ pub(crate) fn all_supers(
         all.push(supers_of(alloc, list, class)?)?;
     }
     Ok(all)
+}
+
+/// The number of the superclass of each class, where it has one and that is there.
+pub(crate) fn direct_superclasses(
+    alloc: Global,
+    classes: &[LoadedClass<'_>],
+    rows: &[Vec<Option<usize>>],
+) -> Result<Vec<Option<usize>>, AllocError>
+    requires { numbers_of rows.now ≡ all_direct_numbers classes.now }
+    ensures { IfOk result (λ direct. direct.items ≡ all_superclass_numbers classes.now) }
+{
+    let mut direct = Vec::new(alloc);
+    for from in 0..classes.len() {
+        direct.push(superclass_of(&classes[from], &rows[from]))?;
+    }
+    Ok(direct)
 }
 
 /// The relation of each number to those in its row.

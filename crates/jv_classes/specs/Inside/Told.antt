@@ -5,7 +5,9 @@ use Rattle.jv_meaning_world.specs.World.{Loaded, World}
 use Rattle.jv_meaning_world.specs.Above.{is_above, superclasses}
 use Rattle.jv_meaning_world.specs.LookUps.{is_among}
 use Rattle.jv_meaning_world.specs.Verdicts.{is_loadable}
-use Rattle.jv_classes.specs.Inside.Rows.{all_direct_numbers}
+use Rattle.jv_classes.specs.Marks.{MarkedKeys}
+use Rattle.jv_classes.specs.Inside.Marked.{AreMarked}
+use Rattle.jv_classes.specs.Inside.Rows.{all_direct_numbers, all_superclass_numbers}
 
 -- which class is above which
 abbrev pub TellsAbove : World → Rows → Type 0
@@ -23,12 +25,15 @@ abbrev pub AreAllMarked : Rows → List Bool → ℕ → Type 0
 AreAllMarked rows marks number =
     IsTrue (get_or marks number false) × ((to : ℕ) → IsTrue (related rows number to) → IsTrue (get_or marks to false))
 
--- a table tells of a world: who the direct supers are, which class is above which, which is a superclass of which, and which
--- can be loaded
-pub record IsTable (world : World) (numbers : List (List (Option ℕ))) (ups chains : Rows) (marks : List Bool) : Type 0 where
+-- a table tells of a world: who the direct supers are, and the superclass, which class is above which, which is a superclass of
+-- which, which can be loaded, and which may declare a method or a field with a key
+pub record IsTable (world : World) (numbers : List (List (Option ℕ))) (direct : List (Option ℕ)) (ups chains : Rows) (marks : List Bool)
+    (seed : ℕ) (methods fields : MarkedKeys) : Type 0 where
   pub supers : numbers ≡ all_direct_numbers world
+  pub direct_superclasses : direct ≡ all_superclass_numbers world
   pub above_size : length ups ≡ length world
   pub above : TellsAbove world ups
   pub superclasses_size : length chains ≡ length world
   pub superclasses : TellsSuperclasses world chains
   pub loadable : marks ≡ map (is_loadable world) world
+  pub members : AreMarked seed world methods fields
