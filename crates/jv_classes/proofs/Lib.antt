@@ -20,6 +20,7 @@ pub mod OnceEach
 pub mod Places
 pub mod Rows
 pub mod Tests
+pub mod TextPlaces
 pub mod Told
 pub mod Unlike
 pub mod Ways

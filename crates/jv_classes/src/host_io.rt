@@ -1,12 +1,12 @@
 //! host/Io, which is built in without a file.
 
-ghost use Rattle.std.specs.Prelude.{◌≡◌, IfOk, map};
+ghost use Rattle.std.specs.Prelude.{◌≡◌, ◌++◌, ◌∷◌, [], IfOk, OnOk, map};
 ghost use Rattle.jv_meaning_world.specs.System.Io.{io};
 ghost use Rattle.jv_classes.specs.Inside.Kept.{Keeps};
-ghost use Rattle.jv_classes.specs.Inside.Seen.{method_seen};
+ghost use Rattle.jv_classes.specs.Inside.Seen.{member_made, method_seen};
 
 use crate::kept::Kept;
-use crate::members::Members;
+use crate::members::{Gathered, Members};
 use crate::text::{Text, seed_of};
 use std::alloc::{AllocError, Global};
 use std::hash::RandomState;
@@ -15,29 +15,48 @@ const PUBLIC_STATIC: u16 = 0x0009;
 
 const PUBLIC_FINAL_SUPER: u16 = 0x0031;
 
+/// Adds a method behind the others.
+fn add_method<'a>(
+    gathered: &mut Gathered<'a>,
+    seed: u64,
+    access_flags: u16,
+    name: &'a [u8],
+    descriptor: &'a [u8],
+) -> Result<(), AllocError>
+    ensures { OnOk result (gathered.new.members ≡ gathered.old.members ++ member_made access_flags name.now descriptor.now ∷ []) }
+{
+    let name = gathered.add_text(&Text::new(seed, name))?;
+    let descriptor = gathered.add_text(&Text::new(seed, descriptor))?;
+    gathered.add(access_flags, name, descriptor)
+}
+
 fn io_methods<'a>(alloc: Global, state: RandomState) -> Result<Members<'a>, AllocError>
     ensures { IfOk result (λ methods. methods ≡ map method_seen io.methods) }
 {
     let seed = seed_of(state);
-    let mut methods = Members::with_capacity(alloc, state, 2)?;
-    methods.add(
+    let mut gathered = Gathered::with_capacity(alloc, state, 2)?;
+    add_method(
+        &mut gathered,
+        seed,
         PUBLIC_STATIC,
-        &Text::new(seed, b"read".as_slice()),
-        &Text::new(seed, b"()I".as_slice()),
+        b"read".as_slice(),
+        b"()I".as_slice(),
     )?;
-    methods.add(
+    add_method(
+        &mut gathered,
+        seed,
         PUBLIC_STATIC,
-        &Text::new(seed, b"write".as_slice()),
-        &Text::new(seed, b"(I)V".as_slice()),
+        b"write".as_slice(),
+        b"(I)V".as_slice(),
     )?;
-    Ok(methods)
+    Ok(gathered.members())
 }
 
 /// What is kept of host/Io.
 pub(crate) fn kept_of_io<'a>(alloc: Global, state: RandomState) -> Result<Kept<'a>, AllocError>
     ensures { IfOk result (Keeps io) }
 {
-    let fields = Members::with_capacity(alloc, state, 0)?;
+    let fields = Gathered::with_capacity(alloc, state, 0)?;
     let methods = io_methods(alloc, state)?;
     Ok(Kept {
         major: 52,
@@ -45,7 +64,7 @@ pub(crate) fn kept_of_io<'a>(alloc: Global, state: RandomState) -> Result<Kept<'
         name: b"host/Io".as_slice(),
         package_name: b"host".as_slice(),
         super_name: Some(b"java/lang/Object".as_slice()),
-        fields,
+        fields: fields.members(),
         methods,
     })
 }

@@ -1,10 +1,10 @@
 //! The fields or the methods of a class.
 
-ghost use Rattle.std.specs.Prelude.{◌≡◌, ◌<◌, ◌+◌, ◌++◌, ◌∷◌, [], ℕ, IfOk, OnOk, Some, cond, length, map, position, slice_get, get_or, set};
+ghost use Rattle.std.specs.Prelude.{◌≡◌, ◌<◌, ◌+◌, IfOk, OnOk, Some, cond, length, map, position, slice_get, get_or, set};
 ghost use Rattle.std.specs.List.{All};
 ghost use Rattle.std.specs.Option.{IsSomeAnd};
-ghost use Rattle.jv_classes.specs.Inside.Seen.{kept_seen, kept_key, member_made, member_seen, declares, key_of, IsHashed};
-ghost use Rattle.jv_classes.specs.Inside.Linked.{slot_of, AreLinked};
+ghost use Rattle.jv_classes.specs.Inside.Seen.{kept_seen, kept_text, text_at, member_seen, declares, key_of, IsHashed, IsWithin, nothing_gathered, with_text, with_member};
+ghost use Rattle.jv_classes.specs.Inside.Linked.{slot_of, AreKept};
 
 use crate::member::Member;
 use crate::text::{Text, seed_of};
@@ -15,57 +15,97 @@ use std::marker::Model;
 /// As many members as a class file can declare of a kind (JVMS 4.1).
 const MOST: usize = 65_535;
 
-/// A field or a method with the hashes of its texts under the seed of all of them. Members whose keys fall into one slot of the
-/// table are linked: each has the end of those up to the last one before it, 0 where there is none.
-pub(crate) struct KeptMember<'a> {
-    name: &'a [u8],
-    name_hash: u64,
-    descriptor: &'a [u8],
-    descriptor_hash: u64,
+/// A text with its hash under the seed of all of them.
+pub(crate) struct KeptText<'a> {
+    bytes: &'a [u8],
+    hash: u64,
+}
+
+impl Drop for KeptText<'_> {
+    fn drop(self) {
+        let KeptText { bytes: _, hash: _ } = self;
+    }
+}
+
+/// A field or a method by the places of its texts. Members whose keys fall into one slot of the table are linked: each has the end
+/// of those up to the last one before it, 0 where there is none.
+pub(crate) struct KeptMember {
     access_flags: u16,
+    name: u16,
+    descriptor: u16,
     end_before: u16,
 }
 
-impl Drop for KeptMember<'_> {
+impl Drop for KeptMember {
     fn drop(self) {
         let KeptMember {
-            name: _,
-            name_hash: _,
-            descriptor: _,
-            descriptor_hash: _,
             access_flags: _,
+            name: _,
+            descriptor: _,
             end_before: _,
         } = self;
     }
 }
 
-/// The fields or the methods of a class in the order of its file. A look-up hashes no text that knows its hash, and goes from a
-/// slot of the table through the members whose keys fall into it, fewer than one on average; texts are compared with those of a
-/// member with the same key alone. For each slot the table has the end of the members up to the last one in it. What falls
-/// where is up to hashes that a stranger cannot know.
+/// The fields or the methods of a class in the order of its file, eight bytes each beside the texts, each of which is kept once.
+/// A look-up hashes no text that knows its hash, and goes from a slot of the table through the members whose keys fall into it,
+/// fewer than one on average; texts are compared with those of a member with the same key alone. For each slot the table has the
+/// end of the members up to the last one in it. What falls where is up to hashes that a stranger cannot know.
 pub(crate) struct Members<'a> {
     seed: u64,
-    members: Vec<KeptMember<'a>>,
+    texts: Vec<KeptText<'a>>,
+    members: Vec<KeptMember>,
     ends: Vec<u16>,
 }
 
 impl<'a> Model for Members<'a> {
-    ghost use Rattle.std.specs.Prelude.{List, length, map};
-    ghost use Rattle.std.specs.List.{All};
-    ghost use Rattle.jv_classes.specs.Inside.Seen.{MemberSeen, IsHashed, kept_seen};
-    ghost use Rattle.jv_classes.specs.Inside.Linked.{AreLinked};
+    ghost use Rattle.std.specs.Prelude.{List, map};
+    ghost use Rattle.jv_classes.specs.Inside.Seen.{MemberSeen, kept_seen, kept_text};
+    ghost use Rattle.jv_classes.specs.Inside.Linked.{AreKept};
 
     ghost Value = { List MemberSeen };
 
-    ghost view = { λ m. map kept_seen m.members.items };
+    ghost view = { λ m. map (kept_seen (map kept_text m.texts.items)) m.members.items };
 
-    ghost invariant = { λ m. AreLinked m.seed (length m.ends.items) m.members.items m.ends.items × All (IsHashed m.seed) m.members.items };
+    ghost invariant = { λ m. AreKept m.seed m.texts.items m.members.items m.ends.items };
 }
 
 impl Drop for Members<'_> {
     fn drop(self) {
         let Members {
             seed: _,
+            texts: _,
+            members: _,
+            ends: _,
+        } = self;
+    }
+}
+
+/// The fields or the methods of a class while they are gathered: texts first, and members by the places of theirs.
+pub(crate) struct Gathered<'a> {
+    seed: u64,
+    texts: Vec<KeptText<'a>>,
+    members: Vec<KeptMember>,
+    ends: Vec<u16>,
+}
+
+impl<'a> Model for Gathered<'a> {
+    ghost use Rattle.std.specs.Prelude.{List, map};
+    ghost use Rattle.jv_classes.specs.Inside.Seen.{GatheredSeen, gathered_seen};
+    ghost use Rattle.jv_classes.specs.Inside.Linked.{AreKept};
+
+    ghost Value = { GatheredSeen };
+
+    ghost view = { λ g. gathered_seen g.texts.items g.members.items };
+
+    ghost invariant = { λ g. AreKept g.seed g.texts.items g.members.items g.ends.items };
+}
+
+impl Drop for Gathered<'_> {
+    fn drop(self) {
+        let Gathered {
+            seed: _,
+            texts: _,
             members: _,
             ends: _,
         } = self;
@@ -81,19 +121,12 @@ fn key_of(seed: u64, name: &Text<'_>, descriptor: &Text<'_>) -> u64
         .wrapping_add(descriptor.hash_under(seed))
 }
 
-/// The key of a member, by the hashes that are kept.
-fn key_kept(member: &KeptMember<'_>) -> u64
-    ensures { (seed : ℕ) → IsHashed seed member.now → result ≡ kept_key seed member.now }
-{
-    member.name_hash.wrapping_add(member.descriptor_hash)
-}
-
-/// How many slots a table for so many members has, a power of two: eight to sixteen for each, so that most are empty, and what is
-/// not there is known as such without a look at a member.
+/// How many slots a table for so many members has, a power of two: two to four for each, so that what is not there is mostly known
+/// as such without a look at a member.
 fn slots_for(count: usize) -> usize
     ensures { 0 < result }
 {
-    let wanted = 8 * count.min(MOST);
+    let wanted = 2 * count.min(MOST);
     wanted.max(1).next_power_of_two()
 }
 
@@ -130,43 +163,60 @@ fn put_end(ends: &mut Vec<u16>, key: u64, end: u16) -> u16
     before
 }
 
-/// What is kept of a member, with the end of those before it in its slot.
-fn kept<'a>(
-    seed: u64,
-    access_flags: u16,
-    name: &Text<'a>,
-    descriptor: &Text<'a>,
-    end_before: u16,
-) -> KeptMember<'a>
-    ensures seen { kept_seen result ≡ member_made access_flags name.now descriptor.now }
+/// What is kept of a text.
+fn kept<'a>(seed: u64, text: &Text<'a>) -> KeptText<'a>
+    ensures seen { kept_text result ≡ text.now }
     ensures hashed { IsHashed seed result }
-    ensures before { result.end_before ≡ end_before }
 {
-    KeptMember {
-        name: name.bytes(),
-        name_hash: name.hash_under(seed),
-        descriptor: descriptor.bytes(),
-        descriptor_hash: descriptor.hash_under(seed),
-        access_flags,
-        end_before,
+    KeptText {
+        bytes: text.bytes(),
+        hash: text.hash_under(seed),
     }
+}
+
+/// The text at a place.
+fn text_at<'a>(seed: u64, texts: &[KeptText<'a>], place: u16) -> Text<'a>
+    requires hashed { All (IsHashed seed) texts.now }
+    requires within { place < length texts.now }
+    ensures { result ≡ text_at (map kept_text texts.now) place }
+{
+    let text = &texts[usize::from(place)];
+    Text::known(seed, text.hash, text.bytes)
+}
+
+/// The key of a member by the places of its texts.
+fn key_at(seed: u64, texts: &[KeptText<'_>], name: u16, descriptor: u16) -> u64
+    requires hashed { All (IsHashed seed) texts.now }
+    requires name { name < length texts.now }
+    requires descriptor { descriptor < length texts.now }
+    ensures { result ≡ key_of seed (text_at (map kept_text texts.now) name) (text_at (map kept_text texts.now) descriptor) }
+{
+    key_of(
+        seed,
+        &text_at(seed, texts, name),
+        &text_at(seed, texts, descriptor),
+    )
 }
 
 /// Whether a member has a name and a descriptor, of which a key is known.
 fn declares(
     seed: u64,
-    member: &KeptMember<'_>,
+    texts: &[KeptText<'_>],
+    member: &KeptMember,
     key: u64,
     name: &Text<'_>,
     descriptor: &Text<'_>,
 ) -> bool
-    requires hashed { IsHashed seed member.now }
+    requires hashed { All (IsHashed seed) texts.now }
+    requires within { IsWithin (length texts.now) member.now }
     requires key { key ≡ key_of seed name.now descriptor.now }
-    ensures { result ≡ declares name.now descriptor.now (kept_seen member.now) }
+    ensures { result ≡ declares name.now descriptor.now (kept_seen (map kept_text texts.now) member.now) }
 {
-    key_kept(member) == key
-        && member.name == name.bytes()
-        && member.descriptor == descriptor.bytes()
+    let own_name = text_at(seed, texts, member.name);
+    let own_descriptor = text_at(seed, texts, member.descriptor);
+    key_of(seed, &own_name, &own_descriptor) == key
+        && own_name.bytes() == name.bytes()
+        && own_descriptor.bytes() == descriptor.bytes()
 }
 
 /// A place where it passes, and else what was found before.
@@ -179,14 +229,14 @@ fn found_at(passes: bool, place: usize, found: Option<usize>) -> Option<usize>
 /// The place of the first member with a name and a descriptor, by the table's ends.
 fn first_of(
     seed: u64,
-    members: &[KeptMember<'_>],
+    texts: &[KeptText<'_>],
+    members: &[KeptMember],
     ends: &[u16],
     name: &Text<'_>,
     descriptor: &Text<'_>,
 ) -> Option<usize>
-    requires linked { AreLinked seed (length ends.now) members.now ends.now }
-    requires hashed { All (IsHashed seed) members.now }
-    ensures { result ≡ position (declares name.now descriptor.now) (map kept_seen members.now) }
+    requires { AreKept seed texts.now members.now ends.now }
+    ensures { result ≡ position (declares name.now descriptor.now) (map (kept_seen (map kept_text texts.now)) members.now) }
 {
     let key = key_of(seed, name, descriptor);
     let slot = slot_of(ends.len(), key);
@@ -194,53 +244,92 @@ fn first_of(
     let mut found = None;
     while end > 0 {
         let member = &members[end - 1];
-        let passes = declares(seed, member, key, name, descriptor);
+        let passes = declares(seed, texts, member, key, name, descriptor);
         found = found_at(passes, end - 1, found);
         end = usize::from(member.end_before);
     }
     found
 }
 
-impl<'a> Members<'a> {
-    /// No members, with room for so many; they are hashed with the state.
+impl<'a> Gathered<'a> {
+    /// Nothing yet, with room for so many members; texts are hashed with the state.
     pub(crate) fn with_capacity(
         alloc: Global,
         state: RandomState,
         count: usize,
-    ) -> Result<Members<'a>, AllocError>
-        ensures { IfOk result (λ m. m ≡ []) }
+    ) -> Result<Gathered<'a>, AllocError>
+        ensures { IfOk result (λ g. g ≡ nothing_gathered) }
     {
         let seed = seed_of(state);
+        let texts = Vec::new(alloc);
         let members = Vec::with_capacity(alloc, count)?;
         let ends = vec![in alloc; 0u16; slots_for(count)]?;
-        Ok(Members {
+        Ok(Gathered {
             seed,
+            texts,
             members,
             ends,
         })
     }
 
-    /// The seed under which texts are hashed.
-    pub(crate) fn seed(&self) -> u64 {
-        self.seed
+    /// Adds a text behind the others, and answers its place. There is no memory for more of them than a class file can have.
+    pub(crate) fn add_text(&mut self, text: &Text<'a>) -> Result<u16, AllocError>
+        ensures place { IfOk result (λ place. place ≡ length self.old.texts) }
+        ensures added { OnOk result (self.new ≡ with_text self.old text.now) }
+    {
+        let end = end_behind(self.texts.len())?;
+        self.texts.push(kept(self.seed, text))?;
+        Ok(end - 1)
     }
 
-    /// Adds a member behind the others. There is no memory for more of them than a class file can declare.
+    /// Adds a member behind the others, by the places of its texts. There is no memory for more of them than a class file can
+    /// declare.
     pub(crate) fn add(
         &mut self,
         access_flags: u16,
-        name: &Text<'a>,
-        descriptor: &Text<'a>,
+        name: u16,
+        descriptor: u16,
     ) -> Result<(), AllocError>
-        ensures { OnOk result (self.new ≡ self.old ++ member_made access_flags name.now descriptor.now ∷ []) }
+        requires name { name < length self.now.texts }
+        requires descriptor { descriptor < length self.now.texts }
+        ensures { OnOk result (self.new ≡ with_member self.old access_flags name descriptor) }
     {
-        let key = key_of(self.seed, name, descriptor);
+        let key = key_at(self.seed, &self.texts, name, descriptor);
         let end = end_behind(self.members.len())?;
         self.members.reserve(1)?;
-        let before = put_end(&mut self.ends, key, end);
-        self.members
-            .push_reserved(kept(self.seed, access_flags, name, descriptor, before));
+        let end_before = put_end(&mut self.ends, key, end);
+        self.members.push_reserved(KeptMember {
+            access_flags,
+            name,
+            descriptor,
+            end_before,
+        });
         Ok(())
+    }
+
+    /// The members, once all of them are gathered.
+    pub(crate) fn members(self) -> Members<'a>
+        ensures { result ≡ self.entry.members }
+    {
+        let Gathered {
+            seed,
+            texts,
+            members,
+            ends,
+        } = self;
+        Members {
+            seed,
+            texts,
+            members,
+            ends,
+        }
+    }
+}
+
+impl<'a> Members<'a> {
+    /// The seed under which texts are hashed.
+    pub(crate) fn seed(&self) -> u64 {
+        self.seed
     }
 
     /// How many members there are.
@@ -256,10 +345,12 @@ impl<'a> Members<'a> {
         ensures { slice_get self.now place ≡ Some (member_seen result) }
     {
         let member = &self.members[place];
+        let name = text_at(self.seed, &self.texts, member.name);
+        let descriptor = text_at(self.seed, &self.texts, member.descriptor);
         Member {
             access_flags: member.access_flags,
-            name: member.name,
-            descriptor: member.descriptor,
+            name: name.bytes(),
+            descriptor: descriptor.bytes(),
         }
     }
 
@@ -269,7 +360,7 @@ impl<'a> Members<'a> {
         ensures { IsSomeAnd (slice_get self.now place) (λ m. m.name ≡ result) }
     {
         let member = &self.members[place];
-        Text::known(self.seed, member.name_hash, member.name)
+        text_at(self.seed, &self.texts, member.name)
     }
 
     /// The descriptor of the member at a place.
@@ -278,13 +369,20 @@ impl<'a> Members<'a> {
         ensures { IsSomeAnd (slice_get self.now place) (λ m. m.descriptor ≡ result) }
     {
         let member = &self.members[place];
-        Text::known(self.seed, member.descriptor_hash, member.descriptor)
+        text_at(self.seed, &self.texts, member.descriptor)
     }
 
     /// The place of the first member with a name and a descriptor.
     pub(crate) fn place_of(&self, name: &Text<'_>, descriptor: &Text<'_>) -> Option<usize>
         ensures { result ≡ position (declares name.now descriptor.now) self.now }
     {
-        first_of(self.seed, &self.members, &self.ends, name, descriptor)
+        first_of(
+            self.seed,
+            &self.texts,
+            &self.members,
+            &self.ends,
+            name,
+            descriptor,
+        )
     }
 }

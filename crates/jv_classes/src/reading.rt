@@ -1,6 +1,6 @@
 //! What is kept of the class of a file.
 
-ghost use Rattle.std.specs.Prelude.{◌≡◌, ◌<◌, IfOk, OnOk, IsSome, Some, length, map, slice_get};
+ghost use Rattle.std.specs.Prelude.{◌≡◌, ◌<◌, IfOk, OnOk, IsSome, None, Some, get_or, length, map, set, slice_get};
 ghost use Rattle.std.specs.List.{All};
 ghost use Rattle.std.specs.Option.{option_copied};
 ghost use Rattle.jv_meaning_world.specs.of_pool.Constants.{utf8_at};
@@ -9,11 +9,11 @@ ghost use Rattle.jv_meaning_world.specs.of_class.Rules.{NoTwoAlike};
 ghost use Rattle.jv_classes.specs.Hashes.{AreHashes};
 ghost use Rattle.jv_classes.specs.Inside.Kept.{Keeps};
 ghost use Rattle.jv_classes.specs.Inside.Seen.{field_seen, method_seen};
-ghost use Rattle.jv_classes.specs.Inside.Found.{Joins, field_at, field_texts, member_seen_at, method_at, method_texts};
+ghost use Rattle.jv_classes.specs.Inside.Found.{ArePlaces, Joins, Stay, field_at, field_texts, member_seen_at, method_at, method_texts};
 
 use crate::hashing::{pool_hashes, text_in};
 use crate::kept::Kept;
-use crate::members::Members;
+use crate::members::{Gathered, Members};
 use crate::package::package;
 use crate::text::seed_of;
 use jv_meaning_world::of_class::{ClassFile, Field, Method};
@@ -21,9 +21,55 @@ use jv_meaning_world::of_pool::{Pool, Utf8Index};
 use std::alloc::{AllocError, Global};
 use std::hash::RandomState;
 
+/// The place that is known of the text at an index.
+fn place_known(places: &[Option<u16>], index: u16) -> Option<u16>
+    ensures { result ≡ get_or places.now index None }
+{
+    match places.get(usize::from(index)) {
+        Some(place) => *place,
+        None => None,
+    }
+}
+
+/// Keeps the place of the text at an index.
+fn keep_place(places: &mut Vec<Option<u16>>, index: u16, place: u16)
+    ensures { places.new.items ≡ set places.old.items index (Some place) }
+{
+    let index = usize::from(index);
+    if index < places.len() {
+        places[index] = Some(place);
+    }
+}
+
+/// The place of the text at an index among those that are gathered, to which it is added where none is known.
+fn place_of_text<'a>(
+    gathered: &mut Gathered<'a>,
+    places: &mut Vec<Option<u16>>,
+    seed: u64,
+    hashes: &[u64],
+    pool: &Pool<'a>,
+    index: Utf8Index,
+) -> Result<u16, AllocError>
+    requires hashes { AreHashes seed pool.now hashes.now }
+    requires text { IsSome (utf8_at pool.now index.0) }
+    requires places { ArePlaces pool.now places.now.items gathered.now.texts }
+    ensures found { IfOk result (λ place. slice_get gathered.new.texts place ≡ utf8_at pool.now index.0) }
+    ensures places { OnOk result (ArePlaces pool.now places.new.items gathered.new.texts) }
+    ensures texts { OnOk result (Stay gathered.old.texts gathered.new.texts) }
+    ensures members { OnOk result (gathered.new.members ≡ gathered.old.members) }
+{
+    if let Some(place) = place_known(places, index.0) {
+        return Ok(place);
+    }
+    let place = gathered.add_text(&text_in(seed, hashes, pool, index))?;
+    keep_place(places, index.0, place);
+    Ok(place)
+}
+
 /// Adds the member with these flags and texts behind the others.
 fn add_member<'a>(
-    members: &mut Members<'a>,
+    gathered: &mut Gathered<'a>,
+    places: &mut Vec<Option<u16>>,
     seed: u64,
     hashes: &[u64],
     pool: &Pool<'a>,
@@ -34,11 +80,13 @@ fn add_member<'a>(
     requires hashes { AreHashes seed pool.now hashes.now }
     requires name { IsSome (utf8_at pool.now name.0) }
     requires descriptor { IsSome (utf8_at pool.now descriptor.0) }
-    ensures { OnOk result (Joins (member_seen_at pool.now access_flags name.0 descriptor.0) members.old members.new) }
+    requires places { ArePlaces pool.now places.now.items gathered.now.texts }
+    ensures joins { OnOk result (Joins (member_seen_at pool.now access_flags name.0 descriptor.0) gathered.old.members gathered.new.members) }
+    ensures places { OnOk result (ArePlaces pool.now places.new.items gathered.new.texts) }
 {
-    let name = text_in(seed, hashes, pool, name);
-    let descriptor = text_in(seed, hashes, pool, descriptor);
-    members.add(access_flags, &name, &descriptor)
+    let name = place_of_text(gathered, places, seed, hashes, pool, name)?;
+    let descriptor = place_of_text(gathered, places, seed, hashes, pool, descriptor)?;
+    gathered.add(access_flags, name, descriptor)
 }
 
 fn fields_in<'a>(
@@ -55,10 +103,12 @@ fn fields_in<'a>(
     requires unlike { NoTwoAlike (map (field_texts pool.now) fields.now) }
     ensures { IfOk result (λ members. all_found (field_at pool.now) fields.now ≡ Some members) }
 {
-    let mut members = Members::with_capacity(alloc, state, fields.len())?;
+    let mut gathered = Gathered::with_capacity(alloc, state, fields.len())?;
+    let mut places = vec![in alloc; None; usize::from(pool.count())]?;
     for field in fields {
         add_member(
-            &mut members,
+            &mut gathered,
+            &mut places,
             seed,
             hashes,
             pool,
@@ -67,7 +117,7 @@ fn fields_in<'a>(
             field.descriptor,
         )?;
     }
-    Ok(members)
+    Ok(gathered.members())
 }
 
 fn methods_in<'a>(
@@ -84,10 +134,12 @@ fn methods_in<'a>(
     requires unlike { NoTwoAlike (map (method_texts pool.now) methods.now) }
     ensures { IfOk result (λ members. all_found (method_at pool.now) methods.now ≡ Some members) }
 {
-    let mut members = Members::with_capacity(alloc, state, methods.len())?;
+    let mut gathered = Gathered::with_capacity(alloc, state, methods.len())?;
+    let mut places = vec![in alloc; None; usize::from(pool.count())]?;
     for method in methods {
         add_member(
-            &mut members,
+            &mut gathered,
+            &mut places,
             seed,
             hashes,
             pool,
@@ -96,7 +148,7 @@ fn methods_in<'a>(
             method.descriptor,
         )?;
     }
-    Ok(members)
+    Ok(gathered.members())
 }
 
 fn fields_of<'a>(

@@ -1,8 +1,8 @@
 -- What is read of a file, by the texts that its indices name.
-use Rattle.std.specs.Prelude.{◌≡◌, ℕ, List, [], ◌∷◌, ◌++◌, Option}
+use Rattle.std.specs.Prelude.{◌≡◌, ℕ, List, [], ◌∷◌, ◌++◌, Option, None, Some, get_or, slice_get}
 use Rattle.std.specs.Option.{option_map, IsSomeAnd}
 use Rattle.jv_meaning_world.specs.of_pool.declared.index.ClassIndex.{ClassIndex}
-use Rattle.jv_meaning_world.specs.of_pool.Constants.{Entry, NameAndDescriptor, named_at, class_name_at}
+use Rattle.jv_meaning_world.specs.of_pool.Constants.{Entry, NameAndDescriptor, named_at, class_name_at, utf8_at}
 use Rattle.jv_meaning_world.specs.of_class_structure.declared.member.Field.{Field}
 use Rattle.jv_meaning_world.specs.of_class_structure.declared.member.Method.{Method}
 use Rattle.jv_classes.specs.Inside.Seen.{MemberSeen, member_made}
@@ -17,6 +17,15 @@ member_seen_at pool access_flags name descriptor = option_map (member_with acces
 -- the member that is found joins others
 abbrev pub Joins : Option MemberSeen → List MemberSeen → List MemberSeen → Type 0
 Joins found old new = IsSomeAnd found (λ m. new ≡ old ++ m ∷ [])
+
+-- where a place is known for the index of a text, that text stands there
+abbrev pub ArePlaces : List Entry → List (Option ℕ) → List (List ℕ) → Type 0
+ArePlaces pool places texts =
+    (index place : ℕ) (text : List ℕ) → utf8_at pool index ≡ Some text → get_or places index None ≡ Some place → slice_get texts place ≡ Some text
+
+-- what stands among these texts stands in the same place among those
+abbrev pub Stay : List (List ℕ) → List (List ℕ) → Type 0
+Stay old new = (place : ℕ) (text : List ℕ) → slice_get old place ≡ Some text → slice_get new place ≡ Some text
 
 abbrev pub field_texts : List Entry → Field → Option NameAndDescriptor
 field_texts pool f = named_at pool f.name.0 f.descriptor.0

@@ -1,7 +1,9 @@
 -- A table in which members are found: each falls into a slot, and those of one slot are linked, the last one first.
 use Rattle.std.specs.Prelude.{◌≡◌, ◌<◌, ◌-◌, ℕ, zero, suc, Bool, List, [], Some, length, map, get_or, slice_get, bit_and, nat_eq, if◌then◌else◌}
-use Rattle.jv_classes.specs.Inside.Seen.{MemberSeen, Key, key_of, kept_key, kept_seen, member_made}
+use Rattle.std.specs.List.{All}
+use Rattle.jv_classes.specs.Inside.Seen.{MemberSeen, IsHashed, IsWithin, Key, key_of, kept_key, kept_seen, kept_text, member_made}
 use Rattle.jv_classes.specs.declared.members.KeptMember.{KeptMember}
+use Rattle.jv_classes.specs.declared.members.KeptText.{KeptText}
 
 -- the slot into which a key falls, of so many, which are a power of two
 abbrev pub slot_of : ℕ → Key → ℕ
@@ -19,9 +21,16 @@ end_of test members zero = 0
 end_of test members (suc place) = if test (seen_at members place) then suc place else end_of test members place
 
 -- a table of so many slots has the end for each of them, and each member that for those before it in its slot
-pub record AreLinked (seed size : ℕ) (members : List KeptMember) (table : List ℕ) : Type 0 where
+pub record AreLinked (seed size : ℕ) (texts : List (List ℕ)) (members : List KeptMember) (table : List ℕ) : Type 0 where
   pub long : length table ≡ size
   pub some_slot : 0 < size
-  pub ends : (slot : ℕ) → slot < size → get_or table slot 0 ≡ end_of (is_in_slot seed size slot) (map kept_seen members) (length members)
+  pub ends : (slot : ℕ) → slot < size
+      → get_or table slot 0 ≡ end_of (is_in_slot seed size slot) (map (kept_seen texts) members) (length members)
   pub before : (place : ℕ) (m : KeptMember) → slice_get members place ≡ Some m
-      → m.end_before ≡ end_of (is_in_slot seed size (slot_of size (kept_key seed m))) (map kept_seen members) place
+      → m.end_before ≡ end_of (is_in_slot seed size (slot_of size (kept_key seed texts m))) (map (kept_seen texts) members) place
+
+-- texts that know their hashes, and members by the places of theirs, linked
+pub record AreKept (seed : ℕ) (texts : List KeptText) (members : List KeptMember) (table : List ℕ) : Type 0 where
+  pub linked : AreLinked seed (length table) (map kept_text texts) members table
+  pub hashed : All (IsHashed seed) texts
+  pub within : All (IsWithin (length texts)) members

@@ -1,10 +1,11 @@
 -- A field or a method as it is kept.
-use Rattle.std.specs.Prelude.{◌≡◌, ◌+◌, ◌%◌, ◌^◌, ℕ, Bool, ◌&&◌, List}
+use Rattle.std.specs.Prelude.{◌≡◌, ◌<◌, ◌+◌, ◌%◌, ◌^◌, ◌++◌, ℕ, Bool, ◌&&◌, List, [], ◌∷◌, get_or, map}
 use Rattle.std.specs.Str.{bytes_eq}
 use Rattle.jv_classes.specs.Texts.{text_hash}
 use Rattle.jv_meaning_world.specs.of_class.Class.{Field, Method}
 use Rattle.jv_classes.specs.declared.member.Member.{Member}
 use Rattle.jv_classes.specs.declared.members.KeptMember.{KeptMember}
+use Rattle.jv_classes.specs.declared.members.KeptText.{KeptText}
 
 -- a field or a method, as far as it is kept
 pub record MemberSeen : Type 0 where
@@ -28,13 +29,24 @@ method_seen m = member_made m.access_flags m.name m.descriptor
 abbrev pub declares : List ℕ → List ℕ → MemberSeen → Bool
 declares name descriptor m = bytes_eq m.name name && bytes_eq m.descriptor descriptor
 
--- a member as it is kept
-abbrev pub kept_seen : KeptMember → MemberSeen
-kept_seen m = member_made m.access_flags m.name.now m.descriptor.now
+-- a text as it is kept
+abbrev pub kept_text : KeptText → List ℕ
+kept_text t = t.bytes.now
 
--- the hashes that are kept beside its texts are theirs under a seed
-abbrev pub IsHashed : ℕ → KeptMember → Type 0
-IsHashed seed m = (m.name_hash ≡ text_hash seed m.name.now) × (m.descriptor_hash ≡ text_hash seed m.descriptor.now)
+-- the hash that is kept beside it is its own under a seed
+abbrev pub IsHashed : ℕ → KeptText → Type 0
+IsHashed seed t = t.hash ≡ text_hash seed t.bytes.now
+
+abbrev pub text_at : List (List ℕ) → ℕ → List ℕ
+text_at texts place = get_or texts place []
+
+-- a member as it is kept, beside the texts among which its own are
+abbrev pub kept_seen : List (List ℕ) → KeptMember → MemberSeen
+kept_seen texts m = member_made m.access_flags (text_at texts m.name) (text_at texts m.descriptor)
+
+-- its texts are among so many
+abbrev pub IsWithin : ℕ → KeptMember → Type 0
+IsWithin count m = (m.name < count) × (m.descriptor < count)
 
 -- the number under which a member is found, by the hashes of its name and of its descriptor
 abbrev pub Key : Type 0
@@ -44,5 +56,25 @@ abbrev pub key_of : ℕ → List ℕ → List ℕ → Key
 key_of seed name descriptor = (text_hash seed name + text_hash seed descriptor) % 2 ^ 64
 
 -- the key of a member as it is kept
-abbrev pub kept_key : ℕ → KeptMember → Key
-kept_key seed m = key_of seed m.name.now m.descriptor.now
+abbrev pub kept_key : ℕ → List (List ℕ) → KeptMember → Key
+kept_key seed texts m = key_of seed (text_at texts m.name) (text_at texts m.descriptor)
+
+-- what is gathered of a class: texts, and members by the places of theirs
+pub record GatheredSeen : Type 0 where
+  pub texts : List (List ℕ)
+  pub members : List MemberSeen
+
+abbrev pub gathered_seen : List KeptText → List KeptMember → GatheredSeen
+gathered_seen texts members = record { texts = map kept_text texts; members = map (kept_seen (map kept_text texts)) members }
+
+abbrev pub nothing_gathered : GatheredSeen
+nothing_gathered = record { texts = []; members = [] }
+
+-- one text more
+abbrev pub with_text : GatheredSeen → List ℕ → GatheredSeen
+with_text g text = record { texts = g.texts ++ text ∷ []; members = g.members }
+
+-- one member more, whose texts stand at these places
+abbrev pub with_member : GatheredSeen → ℕ → ℕ → ℕ → GatheredSeen
+with_member g access_flags name descriptor =
+    record { texts = g.texts; members = g.members ++ member_made access_flags (text_at g.texts name) (text_at g.texts descriptor) ∷ [] }
