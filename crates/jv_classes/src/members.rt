@@ -3,7 +3,8 @@
 ghost use Rattle.std.specs.Prelude.{◌≡◌, ◌<◌, ◌+◌, IfOk, OnOk, Some, cond, length, map, position, slice_get, get_or, set};
 ghost use Rattle.std.specs.List.{All};
 ghost use Rattle.std.specs.Option.{IsSomeAnd};
-ghost use Rattle.jv_classes.specs.Inside.Seen.{kept_seen, kept_text, text_at, member_seen, declares, key_of, IsHashed, IsWithin, nothing_gathered, with_text, with_member};
+ghost use Rattle.jv_classes.specs.Inside.Seen.{kept_seen, kept_text, text_at, member_seen, declares, key_of, IsHashed, IsWithin};
+ghost use Rattle.jv_classes.specs.Inside.Seen.{nothing_gathered, with_text, with_member};
 ghost use Rattle.jv_classes.specs.Inside.Linked.{slot_of, AreKept};
 
 use crate::member::Member;

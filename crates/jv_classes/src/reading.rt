@@ -73,7 +73,7 @@ fn add_member<'a>(
     seed: u64,
     hashes: &[u64],
     pool: &Pool<'a>,
-    access_flags: u16,
+    flags: u16,
     name: Utf8Index,
     descriptor: Utf8Index,
 ) -> Result<(), AllocError>
@@ -81,12 +81,12 @@ fn add_member<'a>(
     requires name { IsSome (utf8_at pool.now name.0) }
     requires descriptor { IsSome (utf8_at pool.now descriptor.0) }
     requires places { ArePlaces pool.now places.now.items gathered.now.texts }
-    ensures joins { OnOk result (Joins (member_seen_at pool.now access_flags name.0 descriptor.0) gathered.old.members gathered.new.members) }
+    ensures joins { OnOk result (Joins (member_seen_at pool.now flags name.0 descriptor.0) gathered.old.members gathered.new.members) }
     ensures places { OnOk result (ArePlaces pool.now places.new.items gathered.new.texts) }
 {
     let name = place_of_text(gathered, places, seed, hashes, pool, name)?;
     let descriptor = place_of_text(gathered, places, seed, hashes, pool, descriptor)?;
-    gathered.add(access_flags, name, descriptor)
+    gathered.add(flags, name, descriptor)
 }
 
 fn fields_in<'a>(

@@ -21,7 +21,8 @@ Joins found old new = IsSomeAnd found (λ m. new ≡ old ++ m ∷ [])
 -- where a place is known for the index of a text, that text stands there
 abbrev pub ArePlaces : List Entry → List (Option ℕ) → List (List ℕ) → Type 0
 ArePlaces pool places texts =
-    (index place : ℕ) (text : List ℕ) → utf8_at pool index ≡ Some text → get_or places index None ≡ Some place → slice_get texts place ≡ Some text
+    (index place : ℕ) (text : List ℕ) → utf8_at pool index ≡ Some text → get_or places index None ≡ Some place
+    → slice_get texts place ≡ Some text
 
 -- what stands among these texts stands in the same place among those
 abbrev pub Stay : List (List ℕ) → List (List ℕ) → Type 0
