@@ -48,10 +48,11 @@ impl Drop for KeptMember {
     }
 }
 
-/// The fields or the methods of a class in the order of its file, eight bytes each beside the texts, each of which is kept once.
-/// A look-up hashes no text that knows its hash, and goes from a slot of the table through the members whose keys fall into it,
-/// fewer than one on average; texts are compared with those of a member with the same key alone. For each slot the table has the
-/// end of the members up to the last one in it. What falls where is up to hashes that a stranger cannot know.
+/// The fields or the methods of a class in the order of its file, eight bytes each beside the texts, of which that of a constant is
+/// kept once, in 24 bytes, however many members have it. A look-up hashes no text that knows its hash, and goes from a slot of the
+/// table through the members whose keys fall into it, fewer than one on average; texts are compared with those of a member with the
+/// same key alone. For each slot the table has the end of the members up to the last one in it. What falls where is up to hashes
+/// that a stranger cannot know.
 pub(crate) struct Members<'a> {
     seed: u64,
     texts: Vec<KeptText<'a>>,
@@ -308,16 +309,17 @@ impl<'a> Gathered<'a> {
         Ok(())
     }
 
-    /// The members, once all of them are gathered.
+    /// The members, once all of them are gathered, with no more room for texts than there are.
     pub(crate) fn members(self) -> Members<'a>
         ensures { result ≡ self.entry.members }
     {
         let Gathered {
             seed,
-            texts,
+            mut texts,
             members,
             ends,
         } = self;
+        texts.shrink_to_fit();
         Members {
             seed,
             texts,
