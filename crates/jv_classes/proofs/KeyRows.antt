@@ -1,12 +1,12 @@
 -- Rows of marks, all of one width.
-use Rattle.std.proofs.Common.{◌≡◌, ℕ, ◌+◌, ◌-◌, ◌<◌, ◌≤◌, Bool, true, false, List, [], ◌∷◌, ◌++◌, nat_eq, length, set, get_or, refl, sym, ap, ◌∙◌, subst, arith}
-use Rattle.std.specs.Prelude.{bit_and, replicate}
+use Rattle.std.proofs.Common.{◌≡◌, ℕ, ◌<◌, Bool, true, false, List, [], nat_eq, length, set, get_or, refl, sym, ap, ◌∙◌, subst, arith}
+use Rattle.std.specs.Prelude.{replicate}
 use Rattle.std.specs.Global.{Vec}
 use Rattle.std.specs.List.{All}
 use Rattle.std.proofs.lemmas.List.{length-map, length-replicate, get_or-replicate, get_or-set_same, get_or-set_other, length-set}
 use borrow.Author.Tests.{eqb-true, eqb-false}
 use Rattle.jv_classes.specs.Ways.{Rows, related, with_pair}
-use Rattle.jv_classes.specs.Marks.{MarkedKeys, AreKept, is_marked, with_mark}
+use Rattle.jv_classes.specs.Marks.{MarkedKeys, AreKept, is_marked}
 use Rattle.jv_classes.specs.Inside.Linked.{slot_of}
 use Rattle.jv_classes.specs.Inside.Steps.{row_items, rows_of}
 use Rattle.jv_classes.specs.Inside.Marked.{AreWide}

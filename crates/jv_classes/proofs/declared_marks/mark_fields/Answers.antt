@@ -1,13 +1,12 @@
-use Rattle.std.proofs.Common.{◌≡◌, ◌≤◌, ◌∙◌, length, refl, arith}
+use Rattle.std.proofs.Common.{◌≤◌, ◌∙◌, length, refl, arith}
 use Rattle.jv_meaning_world.specs.of_class.Class.{Field}
-use Rattle.jv_classes.specs.Marks.{AreKept}
 use Rattle.jv_classes.proofs.Marking.{none_marked, one_marked, all_marked}
 use Rattle.jv_classes.proofs.declared_marks.mark_fields.Goals as goal
 
 pub loop-place-init : goal.loop-place-init
 loop-place-init c = (
-    none_marked (λ (f : Field). f.name) (λ f. f.descriptor) c.args.seed c.args.marks.now c.args.number c.args.class.now.class.fields,
-    record { width = refl; marked = λ key class h. h },
+  none_marked (λ (f : Field). f.name) (λ f. f.descriptor) c.args.seed c.args.marks.now c.args.number c.args.class.now.class.fields,
+  record { width = refl; marked = λ key class h. h },
 )
 
 pub mark-requires : goal.mark-requires
@@ -17,7 +16,7 @@ pub loop-place-preserved : goal.loop-place-preserved
 loop-place-preserved c =
     let before = c.loop-place.invariant.1 in (
       one_marked (λ (f : Field). f.name) (λ f. f.descriptor) c.args.seed c.loop-place.marks c.mark.new.self c.args.number c.args.class.now.class.fields c.loop-place.place c.member_key-key.result
-      _ _ c.loop-place.invariant.0 c.mark.ensures.kept c.field_name.ensures c.field_descriptor.ensures c.member_key-key.ensures c.mark.ensures.marked,
+          _ _ c.loop-place.invariant.0 c.mark.ensures.kept c.field_name.ensures c.field_descriptor.ensures c.member_key-key.ensures c.mark.ensures.marked,
       record { width = c.mark.ensures.kept.width ∙ before.width; marked = λ key class h. c.mark.ensures.kept.marked key class (before.marked key class h) },
     )
 

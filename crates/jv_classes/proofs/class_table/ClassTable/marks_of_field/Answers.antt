@@ -1,5 +1,4 @@
-use Rattle.std.proofs.Common.{◌≡◌, ◌∙◌, false, length, get_or, None, Some, sym, ap, subst}
-use Rattle.std.specs.Prelude.{slice_get}
+use Rattle.std.proofs.Common.{◌∙◌, sym, ap, subst}
 use Rattle.jv_meaning_world.specs.of_class.Class.{Field}
 use Rattle.jv_meaning_world.specs.World.{World}
 use Rattle.jv_classes.specs.Marks.{MarksField, is_marked}

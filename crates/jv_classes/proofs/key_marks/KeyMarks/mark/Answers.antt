@@ -1,7 +1,7 @@
 use Rattle.std.proofs.Common.{◌≡◌, ◌<◌, ◌∙◌, true, length, set, sym, ap, subst, refl, arith}
 use Rattle.std.specs.Vec.{with_item}
 use Rattle.std.proofs.lemmas.List.{length-map}
-use Rattle.jv_classes.specs.Ways.{Rows, with_pair}
+use Rattle.jv_classes.specs.Ways.{Rows}
 use Rattle.jv_classes.specs.Marks.{MarkedKeys, AreKept, is_marked}
 use Rattle.jv_classes.specs.Inside.Linked.{slot_of}
 use Rattle.jv_classes.specs.Inside.Marked.{AreWide}

@@ -1,5 +1,4 @@
-use Rattle.std.proofs.Common.{◌≡◌, ◌<◌, ◌∙◌, sym, ap, subst, false, arith}
-use Rattle.std.specs.Prelude.{replicate}
+use Rattle.std.proofs.Common.{◌<◌, ◌∙◌, ap, arith}
 use Rattle.jv_classes.specs.Inside.Steps.{rows_of}
 use Rattle.jv_classes.proofs.KeyRows.{wide_none}
 use Rattle.jv_classes.proofs.RelationRows.{empty_more}

@@ -1,4 +1,4 @@
-use Rattle.std.proofs.Common.{◌≡◌, ◌<◌, ◌∙◌, length, ap, arith}
+use Rattle.std.proofs.Common.{◌<◌, ◌∙◌, length, ap, arith}
 use Rattle.jv_classes.specs.Marks.{MarkedKeys}
 use Rattle.jv_classes.proofs.KeyRows.{wide_row}
 use Rattle.jv_classes.proofs.key_marks.KeyMarks.row.Goals as goal
