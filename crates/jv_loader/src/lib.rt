@@ -26,7 +26,7 @@ pub use classes::Classes;
 pub use files::{SystemFiles, system_files};
 pub use jv_classes::{ClassTable, LoadedClass, Member};
 pub use jv_lookups as of_lookups;
-pub use jv_lookups::{Defaults, Place};
+pub use jv_lookups::{Defaults, Place, class_method};
 pub use jv_meaning_world::LoadVerdict;
 pub use memory::Memory;
 pub use reading::read_content;

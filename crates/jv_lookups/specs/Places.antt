@@ -1,11 +1,12 @@
 -- The members at their places.
-use Rattle.std.specs.Prelude.{ℕ, ◌<◌, length, Option, slice_get, List, ◌≡◌, Some}
+use Rattle.std.specs.Prelude.{ℕ, ◌<◌, length, Option, slice_get, List, ◌∷◌, ◌≡◌, Some}
 use Rattle.std.specs.Option.{option_map, option_and_then}
 use Rattle.jv_format.specs.Format.{◌>>=◌}
 use Rattle.jv_meaning_world.specs.World.{Loaded, World}
 use Rattle.jv_meaning_world.specs.Overriding.{Declared}
 use Rattle.jv_meaning_world.specs.Verdicts.{declared_by}
-use Rattle.jv_meaning_world.specs.LookUps.{DeclaredField, field_by, searched_from, lookup_field, lookup_method}
+use Rattle.jv_meaning_world.specs.LookUps.{DeclaredField, field_by, first_found, method_in, searched_from, lookup_field, lookup_method}
+use Rattle.jv_meaning_world.specs.Above.{superclasses}
 use Rattle.jv_meaning_world.specs.Numbers.{HoldsAtNumber, classes_at}
 use Rattle.jv_lookups.specs.declared.place.Place.{Place}
 
@@ -56,6 +57,11 @@ HoldsWhereSearched world number searched P = HoldsAtNumber world number (λ l. c
 -- the method that a rule finds for a class whose searches go by these numbers
 abbrev pub FindsMethod : World → ℕ → List ℕ → Option Place → (Loaded → Option Declared) → Type 0
 FindsMethod world number searched place rule = HoldsWhereSearched world number searched (λ l. IsMethodFound world place (rule l))
+
+-- the first method that a class or a superclass of it declares
+abbrev pub IsFirstOfClasses : World → ℕ → List ℕ → List ℕ → Option Place → Type 0
+IsFirstOfClasses world from name descriptor answer =
+    HoldsAtNumber world from (λ l. IsMethodFound world answer (first_found (method_in name descriptor) (l ∷ superclasses world l.class)))
 
 -- the classes that a search meets
 abbrev pub AreSearched : World → ℕ → List ℕ → Type 0

@@ -1,6 +1,7 @@
 //! The methods that a class declares, and what their flags say.
 
 ghost use Rattle.std.specs.Prelude.{◌≡◌, ◌<◌, Some, length, IfSome};
+ghost use Rattle.jv_classes.specs.Marks.{MarksMethod};
 ghost use Rattle.jv_meaning_world.specs.Overriding.{Declared};
 ghost use Rattle.jv_meaning_world.specs.LookUps.{method_in, is_inheritable, is_concrete, is_public_instance};
 ghost use Rattle.jv_meaning_world.specs.Numbers.{HoldsAtNumber};
@@ -31,6 +32,26 @@ pub(crate) fn declared_method(
 {
     let member = table.classes()[class].method_of(name, descriptor)?;
     Some(Place { class, member })
+}
+
+/// The same, where it is marked which classes may declare such a method: one that is not is not looked at.
+pub(crate) fn marked_method(
+    table: &ClassTable<'_>,
+    marks: &[bool],
+    class: usize,
+    name: &Text<'_>,
+    descriptor: &Text<'_>,
+) -> Option<Place>
+    requires class { class < length table.now }
+    requires marks { MarksMethod table.now name.now descriptor.now marks.now }
+    ensures found { HoldsAtNumber table.now class (λ l. IsMethodFound table.now result (method_in name.now descriptor.now l)) }
+    ensures place { IfSome result (IsMethodPlace table.now) }
+{
+    if marks[class] {
+        declared_method(table, class, name, descriptor)
+    } else {
+        None
+    }
 }
 
 /// The access flags of the method at a place (JVMS table 4.6-A).

@@ -1,6 +1,7 @@
 //! Where a field is found (JVMS 5.4.3.2).
 
 ghost use Rattle.std.specs.Prelude.{◌<◌, length, IfSome};
+ghost use Rattle.jv_classes.specs.Marks.{MarksField};
 ghost use Rattle.jv_meaning_world.specs.LookUps.{lookup_field};
 ghost use Rattle.jv_meaning_world.specs.Numbers.{HoldsAtNumber};
 ghost use Rattle.jv_meaning_world.specs.Numbers.{AreNumbers};
@@ -25,8 +26,28 @@ fn declared_field(
     Some(Place { class, member })
 }
 
+/// The same, where it is marked which classes may declare such a field: one that is not is not looked at.
+fn marked_field(
+    table: &ClassTable<'_>,
+    marks: &[bool],
+    class: usize,
+    name: &Text<'_>,
+    descriptor: &Text<'_>,
+) -> Option<Place>
+    requires class { class < length table.now }
+    requires marks { MarksField table.now name.now descriptor.now marks.now }
+    ensures found { HoldsAtNumber table.now class (λ l. IsFieldFound table.now result (field_named_in name.now descriptor.now l)) }
+    ensures place { IfSome result (IsFieldPlace table.now) }
+{
+    if marks[class] {
+        declared_field(table, class, name, descriptor)
+    } else {
+        None
+    }
+}
+
 /// Where the field of a name and a descriptor is found from a class, by what a search from it meets
-/// (JVMS 5.4.3.2).
+/// (JVMS 5.4.3.2). It costs a mark for each class, and a look at those that may declare such a field.
 pub fn lookup_field(
     table: &ClassTable<'_>,
     searched: &[usize],
@@ -37,8 +58,9 @@ pub fn lookup_field(
     ensures found { FindsField table.now searched.now name.now descriptor.now result }
     ensures place { IfSome result (IsFieldPlace table.now) }
 {
+    let marks = table.marks_of_field(name, descriptor);
     for class in searched {
-        if let Some(place) = declared_field(table, *class, name, descriptor) {
+        if let Some(place) = marked_field(table, marks, *class, name, descriptor) {
             return Some(place);
         }
     }

@@ -24,7 +24,7 @@ pub use finals::{breaks_final, final_declarers};
 pub use jv_classes as of_classes;
 pub use keys::{FinalKeys, final_keys};
 pub use marks::Marks;
-pub use method::{lookup_method, method_of_object};
+pub use method::{class_method, lookup_method, method_of_object};
 pub use packages::package_numbers;
 pub use place::Place;
 pub use searching::{interfaces_of, searched_from};

@@ -3,10 +3,10 @@
 ghost use Rattle.std.specs.Prelude.{◌<◌, length, IfSome};
 ghost use Rattle.jv_meaning_world.specs.LookUps.{is_public_instance, lookup_class_method, lookup_interface_method, lookup_method};
 ghost use Rattle.jv_meaning_world.specs.Numbers.{AreNumbers};
-ghost use Rattle.jv_lookups.specs.Places.{IsMethodPlace, IsMethodFound, FindsMethod};
+ghost use Rattle.jv_lookups.specs.Places.{IsMethodPlace, IsMethodFound, IsFirstOfClasses, FindsMethod};
 ghost use Rattle.jv_lookups.specs.Inside.Members.{IsFirstAbove, method_of_object};
 
-use crate::declared::{declared_method, is_public_instance};
+use crate::declared::{declared_method, is_public_instance, marked_method};
 use crate::place::Place;
 use crate::superinterface::superinterface_method;
 use jv_classes::{ClassTable, Text};
@@ -22,17 +22,36 @@ fn superclass_method(
     ensures found { IsFirstAbove table.now from name.now descriptor.now result }
     ensures place { IfSome result (IsMethodPlace table.now) }
 {
+    let marks = table.marks_of_method(name, descriptor);
     let mut next = table.super_of(from);
     for _ in 0..table.count() {
         let Some(superclass) = next else {
             return None;
         };
-        if let Some(place) = declared_method(table, superclass, name, descriptor) {
+        if let Some(place) = marked_method(table, marks, superclass, name, descriptor) {
             return Some(place);
         }
         next = table.super_of(superclass);
     }
     None
+}
+
+/// The first method of a name and a descriptor that a class or a superclass of it declares, superinterfaces aside. It costs a
+/// mark for each of these, and a look at those that may declare such a method.
+pub fn class_method(
+    table: &ClassTable<'_>,
+    from: usize,
+    name: &Text<'_>,
+    descriptor: &Text<'_>,
+) -> Option<Place>
+    requires { from < length table.now }
+    ensures found { IsFirstOfClasses table.now from name.now descriptor.now result }
+    ensures place { IfSome result (IsMethodPlace table.now) }
+{
+    if let Some(place) = declared_method(table, from, name, descriptor) {
+        return Some(place);
+    }
+    superclass_method(table, from, name, descriptor)
 }
 
 /// Where a method is found from a class: its own, its superclasses', and those of its superinterfaces

@@ -20,7 +20,6 @@ mod names;
 mod numbers;
 mod outcome;
 mod pushed;
-mod superclasses;
 mod texts;
 mod value;
 mod words;

@@ -1,19 +1,16 @@
 -- Protected members by the constants that name them (JVMS 4.10.1.8).
-use Rattle.std.specs.Prelude.{◌≡◌, ℕ, Bool, false, not, ◌&&◌, ◌||◌, List, ◌∷◌, Some, unwrap_or, true, Option}
+use Rattle.std.specs.Prelude.{◌≡◌, ℕ, Bool, false, not, ◌&&◌, ◌||◌, List, Some, unwrap_or, true, Option}
 use Rattle.std.specs.List.{list_any}
 use Rattle.jv_format.specs.Format.{◌>>=◌}
 use Rattle.jv_pool.specs.Constants.{Entry, MemberReference, field_reference_at, class_name_at}
 use Rattle.jv_class_structure.specs.Flags.{has, acc_public, acc_protected, acc_static, acc_interface}
 use Rattle.jv_class.specs.Class.{Class, Method}
 use Rattle.jv_meaning_world.specs.World.{Loaded, World, same_package, class_named}
-use Rattle.jv_meaning_world.specs.Above.{superclasses}
-use Rattle.jv_meaning_world.specs.LookUps.{first_found, method_in, is_subclass, lookup_field, lookup_method}
+use Rattle.jv_meaning_world.specs.LookUps.{is_subclass, lookup_field, lookup_method}
 use Rattle.jv_meaning_typing.specs.Access.{same_class}
 use Rattle.jv_meaning_typing.specs.Operands.{MethodReference}
 use Rattle.jv_meaning_typing.specs.Named.{is_guarded_field, is_guarded_method}
 use Rattle.jv_link.specs.Inside.References.{method_operand_in}
-use Rattle.jv_link.specs.of_lookups.declared.place.Place.{Place}
-use Rattle.jv_link.specs.of_lookups.Places.{IsMethodFound}
 use Rattle.jv_meaning_world.specs.Numbers.{HoldsAtNumber, HoldsAtBoth, number_named}
 
 -- the class is a proper superclass of the current one
@@ -51,13 +48,6 @@ has_wrongly_protected class = list_any (is_wrongly_protected class) class.method
 -- no class of the world has one
 abbrev pub AreRightlyProtected : World → Type 0
 AreRightlyProtected world = (number : ℕ) → HoldsAtNumber world number (λ l. has_wrongly_protected l.class ≡ false)
-
--- ---- methods without superinterfaces
-
--- the first that a class or a superclass of it declares
-abbrev pub IsFirstOfClasses : World → ℕ → List ℕ → List ℕ → Option Place → Type 0
-IsFirstOfClasses world from name descriptor answer =
-    HoldsAtNumber world from (λ l. IsMethodFound world answer (first_found (method_in name descriptor) (l ∷ superclasses world l.class)))
 
 -- ---- constants
 

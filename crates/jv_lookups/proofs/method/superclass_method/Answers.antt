@@ -19,15 +19,15 @@ returns-in_default-clause-found c =
     let left = c.count-end.result - c.loop.counter in
     climb_end world look c.args.from left (subst (Climbs world look c.args.from left) c.in_default.is c.loop.invariant)
 
-pub returns-in-Some-declared_method-clause-found : goal.returns-in-Some-declared_method-clause-found
-returns-in-Some-declared_method-clause-found c = λ l at.
+pub returns-in-Some-marked_method-clause-found : goal.returns-in-Some-marked_method-clause-found
+returns-in-Some-marked_method-clause-found c = λ l at.
     let world = c.args.table.now in
     let look = method_in c.args.name.now c.args.descriptor.now in
     let left = c.count-end.result - (c.loop.counter + 1) in
     let one_less : c.count-end.result - c.loop.counter ≡ suc (c.count-end.result - (c.loop.counter + 1)) = omega (arith, c.loop-test.true) in
     let class = some_class world c.in-Some.superclass (subst (IsBelowSize (length world)) c.in-Some.is c.loop.invariant.below) in
-    let there = method_stands world c.in-Some-declared_method.place c.in-Some-declared_method.ensures.place in
-    there.1 ∙ climb_found world look c.args.from left c.in-Some.superclass class.0 there.0 class.1 (sym (c.in-Some-declared_method.ensures.found class.0 class.1) ∙ there.1)
+    let there = method_stands world c.in-Some-marked_method.place c.in-Some-marked_method.ensures.place in
+    there.1 ∙ climb_found world look c.args.from left c.in-Some.superclass class.0 there.0 class.1 (sym (c.in-Some-marked_method.ensures.found class.0 class.1) ∙ there.1)
     (subst (λ n. Climbs world look c.args.from n (Some c.in-Some.superclass)) one_less (subst (Climbs world look c.args.from (c.count-end.result - c.loop.counter)) c.in-Some.is c.loop.invariant)) l at
 
 pub loop-preserved : goal.loop-preserved
@@ -37,5 +37,5 @@ loop-preserved c =
     let left = c.count-end.result - (c.loop.counter + 1) in
     let one_less : c.count-end.result - c.loop.counter ≡ suc (c.count-end.result - (c.loop.counter + 1)) = omega (arith, c.loop-test.true) in
     let class = some_class world c.in-Some.superclass (subst (IsBelowSize (length world)) c.in-Some.is c.loop.invariant.below) in
-    climb_on world look c.args.from left c.in-Some.superclass class.0 c.super_of-next-in-loop.result class.1 (sym (c.in_default-declared_method.ensures.found class.0 class.1)) c.super_of-next-in-loop.ensures
+    climb_on world look c.args.from left c.in-Some.superclass class.0 c.super_of-next-in-loop.result class.1 (sym (c.in_default-marked_method.ensures.found class.0 class.1)) c.super_of-next-in-loop.ensures
     (subst (λ n. Climbs world look c.args.from n (Some c.in-Some.superclass)) one_less (subst (Climbs world look c.args.from (c.count-end.result - c.loop.counter)) c.in-Some.is c.loop.invariant))
