@@ -22,6 +22,7 @@ struct Finals {
     keys: FinalKeys,
     packages: Vec<usize>,
     marks: Marks,
+    asked: Marks,
 }
 
 /// What is known of the finals and the packages of a table's classes.
@@ -37,11 +38,13 @@ fn finals_of(
     let keys = final_keys(alloc, state, classes)?;
     let packages = package_numbers(alloc, state, classes)?;
     let marks = Marks::new(alloc, 2 * classes.len())?;
+    let asked = Marks::new(alloc, 2 * classes.len())?;
     Ok(Finals {
         declarers,
         keys,
         packages,
         marks,
+        asked,
     })
 }
 
@@ -66,6 +69,7 @@ fn overrides_final(
         &finals.keys,
         &finals.packages,
         &mut finals.marks,
+        &mut finals.asked,
         number,
         &chain,
     ))

@@ -5,8 +5,7 @@ pub mod Chain
 pub mod Classes
 pub mod Defaulting
 pub mod Found
-pub mod KeyBits
-pub mod KeyMarks
+pub mod KeyRows
 pub mod Looking
 pub mod Marking
 pub mod Next
@@ -18,4 +17,5 @@ pub mod Stamped
 pub mod Standing
 pub mod Tests
 pub mod Upward
+pub mod Voids
 pub use Rattle.jv_classes.proofs as laws_of_classes

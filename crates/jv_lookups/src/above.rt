@@ -1,12 +1,17 @@
 //! What a method overrides, from its class up.
 
-ghost use Rattle.std.specs.Prelude.{◌≡◌, ◌*◌, ◌<◌, ◌≤◌, [], ◌∷◌, true, false, length, get_or};
+ghost use Rattle.std.specs.Prelude.{◌≡◌, ◌*◌, ◌<◌, ◌≤◌, ◌&&◌, [], ◌∷◌, true, false, length, get_or, set, if◌then◌else◌};
+ghost use Rattle.std.specs.List.{All};
 ghost use Rattle.jv_meaning_world.specs.Numbers.{AreNumbers};
 ghost use Rattle.jv_lookups.specs.Packages.{AreNumbered};
+ghost use Rattle.jv_lookups.specs.FinalKeys.{TellsFinals};
+ghost use Rattle.jv_lookups.specs.Inside.Fronts.{IsUpToFinal};
+ghost use Rattle.jv_lookups.specs.Inside.Keys.{AreAsked, TellsFinalsOf};
 ghost use Rattle.jv_lookups.specs.Inside.Overridden.{overrides_final_above, breaks_final_by};
 ghost use Rattle.jv_lookups.specs.Inside.Steps.{as_method, flags_alike, is_final_overridden_if, marked_with};
 ghost use Rattle.jv_lookups.specs.Finals.{PassesWith};
 
+use crate::keys::{FinalKeys, row_of};
 use crate::marks::Marks;
 use crate::member::{FINAL, PRIVATE, can_override, is_instance, is_overridden};
 use jv_classes::{LoadedClass, Member, Text};
@@ -59,11 +64,72 @@ fn overrides_final_of(
     access_flags & FINAL != 0
 }
 
-/// Whether the method of the class overrides a final one of these superclasses, the direct one first.
-pub(crate) fn overrides_final_above(
+/// The superclasses up to the last one that is marked.
+pub(crate) fn up_to_marked<'b>(marks: &[bool], chain: &'b [usize]) -> &'b [usize]
+    requires { All (λ number. number < length marks.now) chain.now }
+    ensures { IsUpToFinal marks.now chain.now result.now }
+{
+    let mut end = chain.len();
+    while end > 0 && !marks[chain[end - 1]] {
+        end -= 1;
+    }
+    &chain[..end]
+}
+
+/// Asks for the package with this number, where it is wanted.
+fn ask_if(is_wanted: bool, asked: &mut Marks, number: usize)
+    requires { number < length asked.old }
+    ensures many { length asked.new ≡ length asked.old }
+    ensures asked { asked.new ≡ (if is_wanted then set asked.old number true else asked.old) }
+{
+    if is_wanted {
+        asked.mark(number);
+    }
+}
+
+/// Asks for the packages of those superclasses that the row marks, and for no other one.
+fn ask(packages: &[usize], row: &[bool], asked: &mut Marks, chain: &[usize])
+    requires row { All (λ number. number < length row.now) chain.now }
+    requires packages { All (λ number. number < length packages.now) chain.now }
+    requires asked { All (λ number. get_or packages.now number 0 < length asked.old) chain.now }
+    ensures many { length asked.new ≡ length asked.old }
+    ensures asked { AreAsked packages.now row.now asked.new chain.now }
+{
+    asked.clear();
+    for place in chain {
+        ask_if(row[*place], asked, packages[*place]);
+    }
+}
+
+/// The same where this package is asked for: a class of another one is passed over.
+#[inline(always)]
+fn overrides_final_if_asked(
+    asked: &Marks,
+    class: &LoadedClass<'_>,
+    number: usize,
+    method: &Member<'_>,
+    name: &Text<'_>,
+    descriptor: &Text<'_>,
+    marks: &mut Marks,
+) -> bool
+    requires asked { number < length asked.now }
+    requires number { number < length marks.old }
+    requires name { name.now ≡ method.now.name.now }
+    requires descriptor { descriptor.now ≡ method.now.descriptor.now }
+    ensures broken { result ≡ (get_or asked.now number false && is_final_overridden_if (get_or marks.old number false) (flags_alike class.now (as_method method.now))) }
+    ensures marks { marks.new ≡ (if get_or asked.now number false then marked_with marks.old number (flags_alike class.now (as_method method.now)) else marks.old) }
+{
+    asked.is_marked(number) && overrides_final_of(class, number, method, name, descriptor, marks)
+}
+
+/// Whether the method of the class overrides a final one of these superclasses, the direct one first. The row marks those that may
+/// declare one. What another class declares counts only where it is of the package of such a class: the others are passed over.
+fn overrides_final_above(
     classes: &[LoadedClass<'_>],
     packages: &[usize],
+    row: &[bool],
     marks: &mut Marks,
+    asked: &mut Marks,
     of: usize,
     chain: &[usize],
     method: &Member<'_>,
@@ -74,15 +140,20 @@ pub(crate) fn overrides_final_above(
     requires descriptor { descriptor.now ≡ method.now.descriptor.now }
     requires of { of < length classes.now }
     requires chain { AreNumbers classes.now chain.now }
+    requires row { TellsFinalsOf classes.now row.now (as_method method.now) }
     requires packages { AreNumbered classes.now packages.now }
     requires marks { 2 * length classes.now ≤ length marks.old }
+    requires asked { 2 * length classes.now ≤ length asked.old }
     ensures broken { PassesWith classes.now of chain.now (λ l up. overrides_final_above (as_method method.now) (l ∷ []) up) result }
     ensures marks { length marks.new ≡ length marks.old }
+    ensures asked { length asked.new ≡ length asked.old }
 {
+    ask(packages, row, asked, chain);
     marks.clear();
     marks.mark(packages[of]);
     for place in chain {
-        if overrides_final_of(
+        if overrides_final_if_asked(
+            asked,
             &classes[*place],
             packages[*place],
             method,
@@ -96,11 +167,13 @@ pub(crate) fn overrides_final_above(
     false
 }
 
-/// Whether the method of the class can override, and overrides a final one of these superclasses.
-pub(crate) fn breaks_final_by(
+/// The same, where the row may mark none of these superclasses.
+fn overrides_final_if_marked(
     classes: &[LoadedClass<'_>],
     packages: &[usize],
+    row: &[bool],
     marks: &mut Marks,
+    asked: &mut Marks,
     of: usize,
     chain: &[usize],
     method: &Member<'_>,
@@ -111,13 +184,59 @@ pub(crate) fn breaks_final_by(
     requires descriptor { descriptor.now ≡ method.now.descriptor.now }
     requires of { of < length classes.now }
     requires chain { AreNumbers classes.now chain.now }
+    requires row { TellsFinalsOf classes.now row.now (as_method method.now) }
     requires packages { AreNumbered classes.now packages.now }
     requires marks { 2 * length classes.now ≤ length marks.old }
+    requires asked { 2 * length classes.now ≤ length asked.old }
+    ensures broken { PassesWith classes.now of chain.now (λ l up. overrides_final_above (as_method method.now) (l ∷ []) up) result }
+    ensures marks { length marks.new ≡ length marks.old }
+    ensures asked { length asked.new ≡ length asked.old }
+{
+    let chain = up_to_marked(row, chain);
+    if chain.is_empty() {
+        return false;
+    }
+    overrides_final_above(
+        classes, packages, row, marks, asked, of, chain, method, name, descriptor,
+    )
+}
+
+/// Whether the method of the class can override, and overrides a final one of these superclasses.
+pub(crate) fn breaks_final_by(
+    classes: &[LoadedClass<'_>],
+    keys: &FinalKeys,
+    packages: &[usize],
+    marks: &mut Marks,
+    asked: &mut Marks,
+    of: usize,
+    chain: &[usize],
+    method: &Member<'_>,
+    name: &Text<'_>,
+    descriptor: &Text<'_>,
+) -> bool
+    requires name { name.now ≡ method.now.name.now }
+    requires descriptor { descriptor.now ≡ method.now.descriptor.now }
+    requires of { of < length classes.now }
+    requires chain { AreNumbers classes.now chain.now }
+    requires keys { TellsFinals classes.now keys.now }
+    requires packages { AreNumbered classes.now packages.now }
+    requires marks { 2 * length classes.now ≤ length marks.old }
+    requires asked { 2 * length classes.now ≤ length asked.old }
     ensures broken { PassesWith classes.now of chain.now (λ l up. breaks_final_by l up (as_method method.now)) result }
     ensures marks { length marks.new ≡ length marks.old }
+    ensures asked { length asked.new ≡ length asked.old }
 {
     can_override(method)
-        && overrides_final_above(
-            classes, packages, marks, of, chain, method, name, descriptor,
+        && overrides_final_if_marked(
+            classes,
+            packages,
+            row_of(keys, method, name, descriptor),
+            marks,
+            asked,
+            of,
+            chain,
+            method,
+            name,
+            descriptor,
         )
 }

@@ -1,22 +1,20 @@
 //! Classes that break a final method of a superclass.
 
 ghost use Rattle.std.specs.Prelude.{◌≡◌, ◌*◌, ◌<◌, ◌≤◌, IfOk, length, map};
-ghost use Rattle.std.specs.List.{All, list_any};
+ghost use Rattle.std.specs.List.{list_any};
 ghost use Rattle.jv_meaning_world.specs.of_class.Class.{EachIsNamed};
-ghost use Rattle.jv_meaning_world.specs.Numbers.{classes_at, AreNumbers, HoldsAtNumber};
+ghost use Rattle.jv_meaning_world.specs.Numbers.{classes_at, AreNumbers};
 ghost use Rattle.jv_lookups.specs.Packages.{AreNumbered};
 ghost use Rattle.jv_lookups.specs.Finals.{declares_final, AreUnlike, breaks_final_at, PassesWith};
 ghost use Rattle.jv_lookups.specs.FinalKeys.{TellsFinals};
-ghost use Rattle.jv_lookups.specs.Inside.Fronts.{AreNamed, IsUpToFinal};
-ghost use Rattle.jv_lookups.specs.Inside.Members.{IsMethodOf};
-ghost use Rattle.jv_lookups.specs.Inside.Steps.{as_method};
+ghost use Rattle.jv_lookups.specs.Inside.Fronts.{AreNamed};
 ghost use Rattle.jv_lookups.specs.Inside.Overridden.{breaks_final_by};
 
-use crate::above::breaks_final_by;
-use crate::keys::{FinalKeys, is_marked_by_others};
+use crate::above::{breaks_final_by, up_to_marked};
+use crate::keys::FinalKeys;
 use crate::marks::Marks;
 use crate::member::is_final_instance;
-use jv_classes::{LoadedClass, Member, Text};
+use jv_classes::LoadedClass;
 use jv_meaning_world::of_class::one_of_each_name;
 use std::alloc::{AllocError, Global};
 
@@ -46,18 +44,6 @@ pub fn final_declarers(alloc: Global, classes: &[LoadedClass<'_>]) -> Result<Vec
         .collect(alloc)
 }
 
-/// The superclasses up to the last one that declares a final instance method.
-fn up_to_final<'b>(finals: &[bool], chain: &'b [usize]) -> &'b [usize]
-    requires { All (λ number. number < length finals.now) chain.now }
-    ensures { IsUpToFinal finals.now chain.now result.now }
-{
-    let mut end = chain.len();
-    while end > 0 && !finals[chain[end - 1]] {
-        end -= 1;
-    }
-    &chain[..end]
-}
-
 /// The class has one method of a name and a descriptor at most (JVMS 4.6). The call does nothing.
 fn is_named(class: &LoadedClass<'_>)
     ensures { EachIsNamed class.now.class }
@@ -78,62 +64,34 @@ fn are_named(classes: &[LoadedClass<'_>], chain: &[usize])
     }
 }
 
-/// Whether the method of the class overrides a final one of these superclasses. They are looked at where another class may
-/// declare a final method with its key.
-fn breaks_final_if_marked(
-    classes: &[LoadedClass<'_>],
-    keys: &FinalKeys,
-    packages: &[usize],
-    marks: &mut Marks,
-    of: usize,
-    chain: &[usize],
-    method: &Member<'_>,
-    name: &Text<'_>,
-    descriptor: &Text<'_>,
-) -> bool
-    requires name { name.now ≡ method.now.name.now }
-    requires descriptor { descriptor.now ≡ method.now.descriptor.now }
-    requires of { of < length classes.now }
-    requires own { HoldsAtNumber classes.now of (λ l. IsMethodOf l method.now) }
-    requires chain { AreNumbers classes.now chain.now }
-    requires unlike { AreUnlike classes.now of chain.now }
-    requires keys { TellsFinals classes.now keys.now }
-    requires packages { AreNumbered classes.now packages.now }
-    requires marks { 2 * length classes.now ≤ length marks.old }
-    ensures broken { PassesWith classes.now of chain.now (λ l up. breaks_final_by l up (as_method method.now)) result }
-    ensures marks { length marks.new ≡ length marks.old }
-{
-    is_marked_by_others(keys, method, name, descriptor)
-        && breaks_final_by(
-            classes, packages, marks, of, chain, method, name, descriptor,
-        )
-}
-
 /// Whether a method of the class overrides a final one of these superclasses.
 fn some_overrides_final(
     classes: &[LoadedClass<'_>],
     keys: &FinalKeys,
     packages: &[usize],
     marks: &mut Marks,
+    asked: &mut Marks,
     of: usize,
     chain: &[usize],
 ) -> bool
     requires of { of < length classes.now }
     requires chain { AreNumbers classes.now chain.now }
-    requires unlike { AreUnlike classes.now of chain.now }
     requires keys { TellsFinals classes.now keys.now }
     requires packages { AreNumbered classes.now packages.now }
     requires marks { 2 * length classes.now ≤ length marks.old }
+    requires asked { 2 * length classes.now ≤ length asked.old }
     ensures broken { PassesWith classes.now of chain.now (λ l up. list_any (breaks_final_by l up) l.class.methods) result }
     ensures marks { length marks.new ≡ length marks.old }
+    ensures asked { length asked.new ≡ length asked.old }
 {
     let class = &classes[of];
     for place in 0..class.method_count() {
-        if breaks_final_if_marked(
+        if breaks_final_by(
             classes,
             keys,
             packages,
             marks,
+            asked,
             of,
             chain,
             &class.method(place),
@@ -148,17 +106,18 @@ fn some_overrides_final(
 
 /// Whether the class overrides a final method of a superclass (JVMS 4.10, 5.4.5); the superclasses are
 /// those of the chain, the direct one first. `finals` says which classes declare a final instance
-/// method, `keys` has the keys of all final methods, `packages` the number of each class's package,
-/// and `marks` is room for such numbers.
+/// method, `keys` which of them one with which key, `packages` has the number of each class's package,
+/// and `marks` and `asked` are room for such numbers.
 ///
-/// Where no superclass declares one it looks at no method; else it looks those methods of the class up
-/// in each superclass of whose keys another class may declare a final one.
+/// Where no superclass declares one it looks at no method. Else it goes for each method of the class once or twice over the chain,
+/// by numbers alone, and looks the method up only in the superclasses that are in one package with one that may declare it final.
 pub fn breaks_final(
     classes: &[LoadedClass<'_>],
     finals: &[bool],
     keys: &FinalKeys,
     packages: &[usize],
     marks: &mut Marks,
+    asked: &mut Marks,
     of: usize,
     chain: &[usize],
 ) -> bool
@@ -169,14 +128,16 @@ pub fn breaks_final(
     requires keys { TellsFinals classes.now keys.now }
     requires packages { AreNumbered classes.now packages.now }
     requires marks { 2 * length classes.now ≤ length marks.old }
+    requires asked { 2 * length classes.now ≤ length asked.old }
     ensures broken { result ≡ breaks_final_at classes.now of chain.now }
     ensures marks { length marks.new ≡ length marks.old }
+    ensures asked { length asked.new ≡ length asked.old }
 {
-    let chain = up_to_final(finals, chain);
+    let chain = up_to_marked(finals, chain);
     if chain.is_empty() {
         return false;
     }
     is_named(&classes[of]);
     are_named(classes, chain);
-    some_overrides_final(classes, keys, packages, marks, of, chain)
+    some_overrides_final(classes, keys, packages, marks, asked, of, chain)
 }

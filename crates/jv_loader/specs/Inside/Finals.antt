@@ -13,6 +13,7 @@ pub record AreTold (world : World) (finals : Finals) : Type 0 where
   pub keys : TellsFinals world finals.keys
   pub packages : AreNumbered world finals.packages.items
   pub marks : 2 * length world ≤ length finals.marks
+  pub asked : 2 * length world ≤ length finals.asked
 
 -- a method of the class breaks a final one of its superclasses
 abbrev pub breaks_final_above : World → Loaded → Bool

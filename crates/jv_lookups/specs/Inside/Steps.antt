@@ -29,10 +29,11 @@ abbrev pub is_found_if : Bool → Option ℕ → Bool
 is_found_if found None = false
 is_found_if found (Some flags) = is_overridden_if found flags && not (has flags acc_private)
 
--- marked are the packages of these classes
-abbrev pub ArePackagesMarked : List Loaded → List ℕ → List Bool → List Loaded → Type 0
-ArePackagesMarked classes packages marks found =
-    (place : ℕ) (l : Loaded) → slice_get classes place ≡ Some l → get_or marks (get_or packages place 0) false ≡ have_package found l
+-- of the packages that are asked for, those of these classes are marked
+abbrev pub ArePackagesMarked : List Loaded → List ℕ → List Bool → List Bool → List Loaded → Type 0
+ArePackagesMarked classes packages asked marks found =
+    (place : ℕ) (l : Loaded) → slice_get classes place ≡ Some l → get_or asked (get_or packages place 0) false ≡ true
+    → get_or marks (get_or packages place 0) false ≡ have_package found l
 
 -- the class's package is marked where its method is found
 abbrev pub marked_with : List Bool → ℕ → Option ℕ → List Bool

@@ -9,7 +9,7 @@ use Rattle.jv_lookups.proofs.above.overrides_final_above.Given as goal
 
 abbrev pub invariant-loop-place : goal.invariant-loop-place
 invariant-loop-place l = record {
-  walked : IsWalked l.classes l.packages l.marks (as_method l.method) (drop l.place-index l.chain)
+  walked : IsWalked l.classes l.packages l.asked l.marks (as_method l.method) (drop l.place-index l.chain)
       (passes (λ c. overrides_final_above (as_method l.method) (c ∷ []) (classes_at l.classes l.chain)) (slice_get l.classes l.of));
   many : length l.marks ≡ length l.fn.marks;
 }

@@ -8,4 +8,5 @@ abbrev pub invariant-loop-place : goal.invariant-loop-place
 invariant-loop-place l = record {
   none : list_any (breaks_final_by l.class (classes_at l.classes l.chain)) (take l.place l.class.class.methods) ≡ false;
   many : length l.marks ≡ length l.fn.marks;
+  asked : length l.asked ≡ length l.fn.asked;
 }

@@ -1,16 +1,16 @@
-use Rattle.std.proofs.Common.{◌∙◌, refl, arith}
-use Rattle.jv_lookups.proofs.KeyMarks.{no_class, one_class_more, all_classes}
+use Rattle.std.proofs.Common.{◌∙◌, arith}
+use Rattle.jv_lookups.proofs.KeyRows.{no_class, one_class_more, all_classes}
 use Rattle.jv_lookups.proofs.keys.mark_classes.Goals as goal
 
-pub loop-class-init : goal.loop-class-init
-loop-class-init c = record { size = refl; marked = no_class c.args.seed c.args.bytes.now.items c.args.classes.now }
+pub loop-number-init : goal.loop-number-init
+loop-number-init c = record { width = c.requires; marked = no_class c.args.seed c.args.marks.now c.args.classes.now }
 
-pub loop-class-preserved : goal.loop-class-preserved
-loop-class-preserved c = record {
-  size = c.mark_class.ensures.size ∙ c.loop-class.invariant.size;
-  marked = one_class_more c.args.seed c.loop-class.bytes.items c.mark_class.new.bytes.items c.args.classes.now c.loop-class.class-index c.class-item.result
-      (omega arith) c.class-item.is c.loop-class.invariant.marked c.mark_class.ensures.marked;
+pub loop-number-preserved : goal.loop-number-preserved
+loop-number-preserved c = record {
+  width = c.mark_class.ensures.kept.width ∙ c.loop-number.invariant.width;
+  marked = one_class_more c.args.seed c.loop-number.marks c.mark_class.new.marks c.args.classes.now c.loop-number.number c.index-classes-number.result
+      (omega arith) c.index-classes-number.is c.loop-number.invariant.marked c.mark_class.ensures;
 }
 
 pub returns-clause-marked : goal.returns-clause-marked
-returns-clause-marked c = all_classes c.args.seed c.loop-class.bytes.items c.args.classes.now c.loop-class.class-index (omega arith) c.loop-class.invariant.marked
+returns-clause-marked c = all_classes c.args.seed c.loop-number.marks c.args.classes.now c.loop-number.number (omega arith) c.loop-number.invariant.marked

@@ -1,11 +1,11 @@
 use Rattle.std.proofs.Common.{◌≡◌, ◌≤◌, false, length, drop, get_or}
 use Rattle.std.specs.List.{All}
-use Rattle.jv_lookups.proofs.finals.up_to_final.Given as goal
+use Rattle.jv_lookups.proofs.above.up_to_marked.Given as goal
 
 abbrev pub invariant-loop-end : goal.invariant-loop-end
 invariant-loop-end l = record {
   within : l.end ≤ length l.chain;
-  none_behind : All (λ number. get_or l.finals number false ≡ false) (drop l.end l.chain);
+  none_behind : All (λ number. get_or l.marks number false ≡ false) (drop l.end l.chain);
 }
 
 abbrev pub decreases-loop-end : goal.decreases-loop-end
