@@ -100,11 +100,6 @@ module _ (classes : List Loaded) (finals : List Bool) (of : ℕ) (chain front : 
       (sym (list_all-append (λ s. not (bytes_eq s.class.name l.class.name)) (classes_at classes front) (classes_at classes (drop upto.many chain)))
       ∙ (sym (ap (have_other_names l) front_and_rest) ∙ (sym (ap (passes (λ k. have_other_names k (classes_at classes chain))) at) ∙ unlike)))).0
 
-  pub front_unlike : of < length classes → AreUnlike classes of chain → AreUnlike classes of front
-  front_unlike here unlike =
-      let l = some_at classes of here in
-      ap (passes (λ k. have_other_names k (classes_at classes front))) l.1 ∙ front_others l.0 l.1 unlike
-
   -- else the methods of the class say it
   pub front_says : (l : Loaded) (b : Bool) → slice_get classes of ≡ Some l → AreUnlike classes of chain → EachIsNamed l.class → AreNamed (classes_at classes front)
       → b ≡ passes (λ k. list_any (breaks_final_by k (classes_at classes front)) k.class.methods) (slice_get classes of) → b ≡ breaks_final_at classes of chain

@@ -24,7 +24,7 @@ use Rattle.jv_lookups.proofs.Upward.{alike_same}
 
 -- ---- what a member shows
 
-instance_same : (member : Member) (m : Method) → IsMethod member m → is_instance (as_method member) ≡ is_instance m
+pub instance_same : (member : Member) (m : Method) → IsMethod member m → is_instance (as_method member) ≡ is_instance m
 instance_same member m h = ap (λ f. not (has f acc_static) && not (is_init member.name.now)) h.access_flags ∙ ap (λ n. not (has m.access_flags acc_static) && not (is_init n)) h.name
 
 pub final_same : (member : Member) (m : Method) → IsMethod member m → is_final_instance m ≡ is_final_instance (as_method member)

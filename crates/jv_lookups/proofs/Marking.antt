@@ -1,6 +1,6 @@
 -- The packages found on the way up are those that are marked.
 use Rattle.std.proofs.Common.{◌≡◌, ℕ, zero, suc, ◌+◌, ◌*◌, ◌<◌, ◌≤◌, Bool, true, false, cond, ◌||◌, List, [], ◌∷◌, length, drop, get_or, set, nat_eq, take, ◌++◌, ◌&&◌, inl, inr, ◌⊎◌, ◌≢◌, Option, Some, None, refl, sym, ap, ◌∙◌, subst, arith, add-one, get_or-set_same, get_or-set_other}
-use Rattle.std.specs.Prelude.{slice_get, replicate}
+use Rattle.std.specs.Prelude.{slice_get, replicate, not}
 use Rattle.std.specs.List.{All, cons_option}
 use Rattle.std.specs.Option.{option_map}
 use Rattle.std.proofs.lemmas.Bool.{eqb-true, eqb-false, and_parts}
@@ -9,6 +9,7 @@ use Rattle.std.proofs.lemmas.List.{length-replicate, length-set, take_all, take-
 use Rattle.std.proofs.lemmas.List.Elements.{All-more, filter_map-append}
 use Rattle.std.proofs.lemmas.Option.{slice_get_read}
 use Rattle.std.proofs.Math.Seq.{drop-cons}
+use Rattle.jv_meaning_world.specs.of_class_structure.Flags.{has, acc_private, acc_final}
 use Rattle.jv_meaning_world.specs.of_class.Class.{Method, method_named}
 use Rattle.jv_meaning_world.specs.World.{Loaded}
 use Rattle.jv_meaning_world.specs.Overriding.{Declared, is_instance, declared_if, alike_in}
@@ -16,10 +17,10 @@ use Rattle.jv_meaning_world.specs.Verdicts.{passes, declared_by}
 use Rattle.jv_meaning_world.specs.Numbers.{classes_at, AreNumbers}
 use Rattle.jv_lookups.specs.Packages.{AreNumbered}
 use Rattle.jv_lookups.specs.Inside.Fronts.{IsUpToFinal}
-use Rattle.jv_lookups.specs.Inside.Keys.{AreAsked, TellsFinalsOf}
+use Rattle.jv_lookups.specs.Inside.Keys.{AreAsked, TellsFinalsOf, is_looked_at}
 use Rattle.jv_lookups.specs.Inside.Overridden.{have_package, with_overridden, overrides_final, overrides_final_above}
-use Rattle.jv_lookups.specs.Inside.Steps.{flags_alike, is_final_overridden_if, is_found_if, ArePackagesMarked}
-use Rattle.jv_lookups.proofs.Passing.{some_at}
+use Rattle.jv_lookups.specs.Inside.Steps.{flags_alike, is_alike_overridden_if, is_final_overridden_if, is_found_if, ArePackagesMarked}
+use Rattle.jv_lookups.proofs.Passing.{some_at, and_none}
 
 -- ---- one class further up
 
@@ -89,6 +90,17 @@ one_more_unasked classes packages asked marks found place s numbered at unasked 
         absurd cc
     by_test false t = t
 
+-- nor does one whose package is marked
+pub one_more_found : (classes : List Loaded) (packages : List ℕ) (asked marks : List Bool) (found : List Loaded) (place : ℕ) (s : Loaded) → AreNumbered classes packages → slice_get classes place ≡ Some s
+    → get_or marks (get_or packages place 0) false ≡ true → ArePackagesMarked classes packages asked marks found → ArePackagesMarked classes packages asked marks (s ∷ found)
+one_more_found classes packages asked marks found place s numbered at its marked k l e a =
+    by_test (nat_eq (get_or packages place 0) (get_or packages k 0)) refl ∙ ap (λ b. b || have_package found l) (numbered.same place k s l at e)
+  where
+    by_test : (b : Bool) → nat_eq (get_or packages place 0) (get_or packages k 0) ≡ b → get_or marks (get_or packages k 0) false ≡ (nat_eq (get_or packages place 0) (get_or packages k 0) || have_package found l)
+    by_test true t =
+        ap (λ n. get_or marks n false) (sym (eqb-true (get_or packages place 0) (get_or packages k 0) t)) ∙ (its ∙ ap (λ b. b || have_package found l) (sym t))
+    by_test false t = marked k l e a ∙ ap (λ b. b || have_package found l) (sym t)
+
 -- ---- the way up
 
 -- of the classes found, whose packages are marked, the rest of the way says what the whole way says
@@ -153,17 +165,45 @@ module _ (classes : List Loaded) (packages : List ℕ) (asked marks : List Bool)
       by_test true = one_more_marked classes packages asked marks walked.found place s numbered within at walked.marked
       by_test false = walked.marked
 
-  -- a class is passed over
-  way_passes : get_or asked number false ≡ false → overrides_final walked.found (alike_in s m) ≡ false → IsWalked classes packages asked marks m rest whole
-  way_passes unasked none = record {
+  -- where it declares no final method that is overridden, and what it adds changes nothing, it is passed over
+  passes_by : overrides_final walked.found (alike_in s m) ≡ false
+      → ArePackagesMarked classes packages asked marks (cond (is_found_if (have_package walked.found s) flags) (s ∷ walked.found) walked.found) → IsWalked classes packages asked marks m rest whole
+  passes_by none marked = record {
     found = with_overridden walked.found (alike_in s m);
-    marked = subst (ArePackagesMarked classes packages asked marks) (sym (step_found walked.found s m)) (by_test (is_found_if (have_package walked.found s) flags));
+    marked = subst (ArePackagesMarked classes packages asked marks) (sym (step_found walked.found s m)) marked;
     same = onward none;
   }
+
+  -- its package is not asked for
+  way_passes : get_or asked number false ≡ false → overrides_final walked.found (alike_in s m) ≡ false → IsWalked classes packages asked marks m rest whole
+  way_passes unasked none = passes_by none (by_test (is_found_if (have_package walked.found s) flags))
     where
       by_test : (b : Bool) → ArePackagesMarked classes packages asked marks (cond b (s ∷ walked.found) walked.found)
       by_test true = one_more_unasked classes packages asked marks walked.found place s numbered at unasked walked.marked
       by_test false = walked.marked
+
+  -- its package is found
+  way_passes_found : get_or marks number false ≡ true → overrides_final walked.found (alike_in s m) ≡ false → IsWalked classes packages asked marks m rest whole
+  way_passes_found found none = passes_by none (by_test (is_found_if (have_package walked.found s) flags))
+    where
+      by_test : (b : Bool) → ArePackagesMarked classes packages asked marks (cond b (s ∷ walked.found) walked.found)
+      by_test true = one_more_found classes packages asked marks walked.found place s numbered at found walked.marked
+      by_test false = walked.marked
+
+  -- its package is asked for and not found, and its method is neither public nor protected
+  way_passes_closed : get_or asked number false ≡ true → get_or marks number false ≡ false → is_alike_overridden_if false flags ≡ false → IsWalked classes packages asked marks m rest whole
+  way_passes_closed its unfound closed =
+      let without : have_package walked.found s ≡ false = sym (walked.marked place s at its) ∙ unfound in
+      passes_by (step_final walked.found s m ∙ (ap (λ b. is_final_overridden_if b flags) without ∙ not_final flags closed))
+      (subst (λ b. ArePackagesMarked classes packages asked marks (cond b (s ∷ walked.found) walked.found)) (sym (ap (λ b. is_found_if b flags) without ∙ not_found flags closed)) walked.marked)
+    where
+      not_final : (o : Option ℕ) → is_alike_overridden_if false o ≡ false → is_final_overridden_if false o ≡ false
+      not_final None h = refl
+      not_final (Some f) h = ap (λ b. has f acc_final && b) h ∙ and_none (has f acc_final)
+
+      not_found : (o : Option ℕ) → is_alike_overridden_if false o ≡ false → is_found_if false o ≡ false
+      not_found None h = refl
+      not_found (Some f) h = ap (λ b. b && not (has f acc_private)) h
 
 -- ---- the same by a place of the chain
 
@@ -186,38 +226,60 @@ module _ (classes : List Loaded) (packages : List ℕ) (row asked marks : List B
   walked_here : IsWalked classes packages asked marks m (get_or chain i 0 ∷ drop (i + 1) chain) whole
   walked_here = subst (λ rest. IsWalked classes packages asked marks m rest whole) (next_place chain i h) walked
 
-  pub chain_broken : true ≡ (get_or asked there_package false && is_final_overridden_if (get_or marks there_package false) (flags_alike s m)) → true ≡ whole
-  chain_broken broken =
-      let parts = and_parts (get_or asked there_package false) (is_final_overridden_if (get_or marks there_package false) (flags_alike s m)) (sym broken) in
-      way_broken classes packages asked marks m (get_or chain i 0) (drop (i + 1) chain) s whole numbered walked_here (class_there classes chain i s numbers h e) parts.0 parts.1
+  abbrev pub looked : Bool
+  looked = is_looked_at row asked marks (length classes) there_package (get_or chain i 0)
+
+  pub chain_broken : (answer : Bool) → answer ≡ looked → true ≡ (answer && is_final_overridden_if (get_or marks there_package false) (flags_alike s m)) → true ≡ whole
+  chain_broken answer is broken =
+      let parts = and_parts looked (is_final_overridden_if (get_or marks there_package false) (flags_alike s m)) (sym (broken ∙ ap (λ b. b && is_final_overridden_if (get_or marks there_package false) (flags_alike s m)) is)) in
+      let asks = and_parts (get_or asked there_package false) (get_or row (cond (get_or marks there_package false) (get_or chain i 0) (length classes + get_or chain i 0)) false) parts.0 in
+      way_broken classes packages asked marks m (get_or chain i 0) (drop (i + 1) chain) s whole numbered walked_here (class_there classes chain i s numbers h e) asks.0 parts.1
 
   pub chain_goes_on : (after : List Bool) (n : ℕ) → 2 * length classes ≤ n → length marks ≡ n → TellsFinalsOf classes row m → AreAsked packages row asked chain
-      → false ≡ (get_or asked there_package false && is_final_overridden_if (get_or marks there_package false) (flags_alike s m))
-      → after ≡ cond (get_or asked there_package false) (cond (is_found_if (get_or marks there_package false) (flags_alike s m)) (set marks there_package true) marks) marks
+      → (answer : Bool) → answer ≡ looked → false ≡ (answer && is_final_overridden_if (get_or marks there_package false) (flags_alike s m))
+      → after ≡ cond answer (cond (is_found_if (get_or marks there_package false) (flags_alike s m)) (set marks there_package true) marks) marks
       → IsWalked classes packages asked after m (drop (i + 1) chain) whole × (length after ≡ n)
-  chain_goes_on after n room many tells are kept made = by_asked (get_or asked there_package false) refl kept made
+  chain_goes_on after n room long tells are answer is kept made =
+      by_asked (get_or asked there_package false) refl (kept ∙ ap (λ b. b && is_final_overridden_if (get_or marks there_package false) (flags_alike s m)) is) (made ∙ ap (λ b. cond b (cond (is_found_if (get_or marks there_package false) (flags_alike s m)) (set marks there_package true) marks) marks) is)
     where
       there : slice_get classes (get_or chain i 0) ≡ Some s
       there = class_there classes chain i s numbers h e
+
+      Goal : Type 0
+      Goal = IsWalked classes packages asked after m (drop (i + 1) chain) whole × (length after ≡ n)
 
       by_test : (b : Bool) → length (cond b (set marks there_package true) marks) ≡ length marks
       by_test true = length-set marks there_package true
       by_test false = refl
 
-      by_asked : (b : Bool) → get_or asked there_package false ≡ b → false ≡ (b && is_final_overridden_if (get_or marks there_package false) (flags_alike s m))
-          → after ≡ cond b (cond (is_found_if (get_or marks there_package false) (flags_alike s m)) (set marks there_package true) marks) marks
-          → IsWalked classes packages asked after m (drop (i + 1) chain) whole × (length after ≡ n)
-      by_asked true its kept made = (
+      -- marks are as they were
+      passed : after ≡ marks → IsWalked classes packages asked marks m (drop (i + 1) chain) whole → Goal
+      passed made on = (subst (λ ms. IsWalked classes packages asked ms m (drop (i + 1) chain) whole) (sym made) on, ap length made ∙ long)
+
+      by_row : (f : Bool) → get_or marks there_package false ≡ f → get_or asked there_package false ≡ true → (b : Bool) → get_or row (cond f (get_or chain i 0) (length classes + get_or chain i 0)) false ≡ b
+          → false ≡ (b && is_final_overridden_if (get_or marks there_package false) (flags_alike s m))
+          → after ≡ cond b (cond (is_found_if (get_or marks there_package false) (flags_alike s m)) (set marks there_package true) marks) marks → Goal
+      by_row f found its true marked kept made = (
         way_goes_on classes packages asked marks m (get_or chain i 0) (drop (i + 1) chain) s whole numbered walked_here there after
-            (number_within classes packages marks (get_or chain i 0) numbered (subst (λ k. 2 * length classes ≤ k) (sym many) room) (numbers i 0 h)) its (sym kept) made,
-        ap length made ∙ (by_test (is_found_if (get_or marks there_package false) (flags_alike s m)) ∙ many),
+            (number_within classes packages marks (get_or chain i 0) numbered (subst (λ k. 2 * length classes ≤ k) (sym long) room) (numbers i 0 h)) its (sym kept) made,
+        ap length made ∙ (by_test (is_found_if (get_or marks there_package false) (flags_alike s m)) ∙ long),
       )
-      by_asked false its kept made = (
-        subst (λ ms. IsWalked classes packages asked ms m (drop (i + 1) chain) whole) (sym made)
-            (way_passes classes packages asked marks m (get_or chain i 0) (drop (i + 1) chain) s whole numbered walked_here there its
-            (tells.none (get_or chain i 0) s walked_here.found there (unmarked_if (get_or row (get_or chain i 0) false) (get_or asked there_package false) (are i 0 h) its))),
-        ap length made ∙ many,
-      )
+      by_row true found its false unmarked kept made =
+          passed made (way_passes_found classes packages asked marks m (get_or chain i 0) (drop (i + 1) chain) s whole numbered walked_here there found
+          (tells.none (get_or chain i 0) s walked_here.found there unmarked))
+      by_row false found its false unmarked kept made =
+          passed made (way_passes_closed classes packages asked marks m (get_or chain i 0) (drop (i + 1) chain) s whole numbered walked_here there its found
+          (tells.closed (get_or chain i 0) s there unmarked))
+
+      by_asked : (a : Bool) → get_or asked there_package false ≡ a
+          → false ≡ ((a && get_or row (cond (get_or marks there_package false) (get_or chain i 0) (length classes + get_or chain i 0)) false) && is_final_overridden_if (get_or marks there_package false) (flags_alike s m))
+          → after ≡ cond (a && get_or row (cond (get_or marks there_package false) (get_or chain i 0) (length classes + get_or chain i 0)) false) (cond (is_found_if (get_or marks there_package false) (flags_alike s m)) (set marks there_package true) marks) marks
+          → Goal
+      by_asked true its kept made =
+          by_row (get_or marks there_package false) refl its (get_or row (cond (get_or marks there_package false) (get_or chain i 0) (length classes + get_or chain i 0)) false) refl kept made
+      by_asked false its kept made =
+          passed made (way_passes classes packages asked marks m (get_or chain i 0) (drop (i + 1) chain) s whole numbered walked_here there its
+          (tells.none (get_or chain i 0) s walked_here.found there (unmarked_if (get_or row (get_or chain i 0) false) (get_or asked there_package false) (are i 0 h) its)))
 
 -- ---- what is asked for
 

@@ -34,10 +34,6 @@ both_ways true b there back = sym (there refl)
 both_ways false true there back = back refl
 both_ways false false there back = refl
 
-pub not_both : (b : Bool) → not b ≡ true → b ≡ true → ⊥
-not_both true h k = absurd cc
-not_both false h k = absurd cc
-
 -- ---- lists
 
 module _ {X : Type 0} where

@@ -1,14 +1,12 @@
--- Which classes of a guest declare a final method that another can override, by keys (JVMS 4.6, 5.4.5).
-use Rattle.std.specs.Prelude.{◌≡◌, ℕ, true, List, length, Some, slice_get}
-use Rattle.std.specs.List.{list_any}
-use Rattle.jv_classes.specs.Inside.Seen.{Key}
+-- Which classes of a guest declare which methods that others can override, by keys (JVMS 4.6, 5.4.5).
+use Rattle.std.specs.Prelude.{◌≡◌, ℕ, ◌+◌, ◌*◌, List, length}
 use Rattle.jv_meaning_world.specs.World.{Loaded}
 use Rattle.jv_lookups.specs.declared.keys.FinalKeys.{FinalKeys}
-use Rattle.jv_lookups.specs.Marks.{is_marked}
-use Rattle.jv_lookups.specs.Inside.Keys.{declares_key}
+use Rattle.jv_lookups.specs.Inside.Keys.{AreMarkedBelow, is_final_open, is_open}
 
--- the key of each such method is marked for its class
+-- two marks of each key for each class: the key of each final method that others can override is marked, and behind these marks that
+-- of each public or protected one
 pub record TellsFinals (classes : List Loaded) (keys : FinalKeys) : Type 0 where
-  pub width : keys.marks.width ≡ length classes
-  pub marked : (n : ℕ) (s : Loaded) (key : Key) → slice_get classes n ≡ Some s → list_any (declares_key keys.seed key) s.class.methods ≡ true
-      → is_marked keys.marks key n ≡ true
+  pub width : keys.marks.width ≡ 2 * length classes
+  pub finals : AreMarkedBelow is_final_open keys.seed keys.marks classes (λ n. n) (length classes)
+  pub opens : AreMarkedBelow is_open keys.seed keys.marks classes (λ n. length classes + n) (length classes)

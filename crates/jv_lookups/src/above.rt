@@ -6,7 +6,7 @@ ghost use Rattle.jv_meaning_world.specs.Numbers.{AreNumbers};
 ghost use Rattle.jv_lookups.specs.Packages.{AreNumbered};
 ghost use Rattle.jv_lookups.specs.FinalKeys.{TellsFinals};
 ghost use Rattle.jv_lookups.specs.Inside.Fronts.{IsUpToFinal};
-ghost use Rattle.jv_lookups.specs.Inside.Keys.{AreAsked, TellsFinalsOf};
+ghost use Rattle.jv_lookups.specs.Inside.Keys.{AreAsked, TellsFinalsOf, is_looked_at};
 ghost use Rattle.jv_lookups.specs.Inside.Overridden.{overrides_final_above, breaks_final_by};
 ghost use Rattle.jv_lookups.specs.Inside.Steps.{as_method, flags_alike, is_final_overridden_if, marked_with};
 ghost use Rattle.jv_lookups.specs.Finals.{PassesWith};
@@ -101,10 +101,35 @@ fn ask(packages: &[usize], row: &[bool], asked: &mut Marks, chain: &[usize])
     }
 }
 
-/// The same where this package is asked for: a class of another one is passed over.
+/// Whether a superclass has to be looked at, one of so many classes: what it declares counts only where its package is asked for, and
+/// then, where that is found, only a final method, and else only a public or protected one.
 #[inline(always)]
-fn overrides_final_if_asked(
+fn is_looked_at(
+    row: &[bool],
     asked: &Marks,
+    marks: &Marks,
+    many: usize,
+    number: usize,
+    place: usize,
+) -> bool
+    requires asked { number < length asked.now }
+    requires marks { number < length marks.now }
+    requires place { place < many }
+    requires row { length row.now ≡ 2 * many }
+    ensures { result ≡ is_looked_at row.now asked.now marks.now many number place }
+{
+    asked.is_marked(number)
+        && row[if marks.is_marked(number) {
+            place
+        } else {
+            many + place
+        }]
+}
+
+/// Whether the method overrides a final one of this class further up, where that has to be looked at.
+#[inline(always)]
+fn overrides_final_if(
+    is_looked_at: bool,
     class: &LoadedClass<'_>,
     number: usize,
     method: &Member<'_>,
@@ -112,18 +137,16 @@ fn overrides_final_if_asked(
     descriptor: &Text<'_>,
     marks: &mut Marks,
 ) -> bool
-    requires asked { number < length asked.now }
     requires number { number < length marks.old }
     requires name { name.now ≡ method.now.name.now }
     requires descriptor { descriptor.now ≡ method.now.descriptor.now }
-    ensures broken { result ≡ (get_or asked.now number false && is_final_overridden_if (get_or marks.old number false) (flags_alike class.now (as_method method.now))) }
-    ensures marks { marks.new ≡ (if get_or asked.now number false then marked_with marks.old number (flags_alike class.now (as_method method.now)) else marks.old) }
+    ensures broken { result ≡ (is_looked_at && is_final_overridden_if (get_or marks.old number false) (flags_alike class.now (as_method method.now))) }
+    ensures marks { marks.new ≡ (if is_looked_at then marked_with marks.old number (flags_alike class.now (as_method method.now)) else marks.old) }
 {
-    asked.is_marked(number) && overrides_final_of(class, number, method, name, descriptor, marks)
+    is_looked_at && overrides_final_of(class, number, method, name, descriptor, marks)
 }
 
-/// Whether the method of the class overrides a final one of these superclasses, the direct one first. The row marks those that may
-/// declare one. What another class declares counts only where it is of the package of such a class: the others are passed over.
+/// Whether the method of the class overrides a final one of these superclasses, the direct one first. The row is of the method's key.
 fn overrides_final_above(
     classes: &[LoadedClass<'_>],
     packages: &[usize],
@@ -148,14 +171,16 @@ fn overrides_final_above(
     ensures marks { length marks.new ≡ length marks.old }
     ensures asked { length asked.new ≡ length asked.old }
 {
+    let many = classes.len();
     ask(packages, row, asked, chain);
     marks.clear();
     marks.mark(packages[of]);
     for place in chain {
-        if overrides_final_if_asked(
-            asked,
+        let number = packages[*place];
+        if overrides_final_if(
+            is_looked_at(row, asked, marks, many, number, *place),
             &classes[*place],
-            packages[*place],
+            number,
             method,
             name,
             descriptor,

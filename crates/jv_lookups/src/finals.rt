@@ -106,11 +106,13 @@ fn some_overrides_final(
 
 /// Whether the class overrides a final method of a superclass (JVMS 4.10, 5.4.5); the superclasses are
 /// those of the chain, the direct one first. `finals` says which classes declare a final instance
-/// method, `keys` which of them one with which key, `packages` has the number of each class's package,
-/// and `marks` and `asked` are room for such numbers.
+/// method, `keys` which of them may declare which method that others can override, `packages` has the
+/// number of each class's package, and `marks` and `asked` are room for such numbers.
 ///
-/// Where no superclass declares one it looks at no method. Else it goes for each method of the class once or twice over the chain,
-/// by numbers alone, and looks the method up only in the superclasses that are in one package with one that may declare it final.
+/// Where no superclass declares a final method it looks at no method. Else it goes over the chain by numbers alone for each method
+/// of the class, and looks the method up only in a superclass of a package in which one may declare it final: where the method
+/// overrides another one in that package so far, it is one that may declare it final, and else one that may declare it public or
+/// protected.
 pub fn breaks_final(
     classes: &[LoadedClass<'_>],
     finals: &[bool],

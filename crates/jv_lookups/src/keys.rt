@@ -1,20 +1,21 @@
 //! Which classes of a guest declare which final methods, by keys.
 
-ghost use Rattle.std.specs.Prelude.{◌≡◌, ◌<◌, ◌∷◌, [], List, IfOk, length};
+ghost use Rattle.std.specs.Prelude.{◌≡◌, ◌+◌, ◌*◌, ◌<◌, ◌∷◌, [], true, List, IfOk, length};
 ghost use Rattle.jv_classes.specs.Inside.Seen.{key_of};
 ghost use Rattle.jv_meaning_world.specs.World.{Loaded};
 ghost use Rattle.jv_lookups.specs.FinalKeys.{TellsFinals};
-ghost use Rattle.jv_lookups.specs.Inside.Keys.{AreMarkedBelow, AreMarkedMore, TellsFinalsOf, is_final_open};
+ghost use Rattle.jv_lookups.specs.Marks.{AreKept, is_marked};
+ghost use Rattle.jv_lookups.specs.Inside.Keys.{AreMarkedBelow, AreMarkedMore, TellsFinalsOf, is_final_open, is_open};
 ghost use Rattle.jv_lookups.specs.Inside.Steps.{as_method};
 
 use crate::key_marks::KeyMarks;
-use crate::member::{is_final_instance, is_overridden};
+use crate::member::{is_final_instance, is_instance, is_overridden};
 use jv_classes::{LoadedClass, Member, Text};
 use std::alloc::{AllocError, Global};
 use std::hash::{BuildHasher, Hasher, RandomState};
 
-/// The final methods of a guest's classes that others can override: the key of each is marked for its class. Which keys share a row
-/// of marks is up to hashes that a stranger cannot know.
+/// The methods of a guest's classes that others can override, by keys: a key has a row of two marks for each class, one for a final
+/// method, and behind these one for a public or protected method. Which keys share a row is up to hashes that a stranger cannot know.
 pub struct FinalKeys {
     seed: u64,
     marks: KeyMarks,
@@ -47,35 +48,59 @@ fn is_final_open(method: &Member<'_>) -> bool
     is_final_instance(method) && is_overridden(true, method.access_flags)
 }
 
-/// Marks the key of a method for its class where it is a final one.
+/// Whether it is an instance method that a method of any other class can override: a public or protected one (JVMS 5.4.5).
+fn is_open(method: &Member<'_>) -> bool
+    ensures { result ≡ is_open (as_method method.now) }
+{
+    is_instance(method) && is_overridden(false, method.access_flags)
+}
+
+/// Marks a key in a column, where it is wanted.
+fn mark_if(is_wanted: bool, marks: &mut KeyMarks, key: u64, column: usize)
+    requires { column < marks.old.width }
+    ensures marked { is_wanted ≡ true → is_marked marks.new key column ≡ true }
+    ensures kept { AreKept marks.old marks.new }
+{
+    if is_wanted {
+        marks.mark(key, column);
+    }
+}
+
+/// Marks the key of a method in the two columns of its class.
 fn mark_method(
     marks: &mut KeyMarks,
     seed: u64,
-    number: usize,
+    finals: usize,
+    opens: usize,
     method: &Member<'_>,
     name: &Text<'_>,
     descriptor: &Text<'_>,
 )
-    requires number { number < marks.old.width }
+    requires finals { finals < marks.old.width }
+    requires opens { opens < marks.old.width }
     requires name { name.now ≡ method.now.name.now }
     requires descriptor { descriptor.now ≡ method.now.descriptor.now }
-    ensures { AreMarkedMore seed marks.old number (as_method method.now ∷ []) marks.new }
+    ensures finals { AreMarkedMore is_final_open seed marks.old finals (as_method method.now ∷ []) marks.new }
+    ensures opens { AreMarkedMore is_open seed marks.old opens (as_method method.now ∷ []) marks.new }
 {
-    if is_final_open(method) {
-        marks.mark(key_of(seed, name, descriptor), number);
-    }
+    let key = key_of(seed, name, descriptor);
+    mark_if(is_final_open(method), marks, key, finals);
+    mark_if(is_open(method), marks, key, opens);
 }
 
-/// Marks the keys of the final methods of a class.
-fn mark_class(marks: &mut KeyMarks, seed: u64, number: usize, class: &LoadedClass<'_>)
-    requires { number < marks.old.width }
-    ensures { AreMarkedMore seed marks.old number class.now.class.methods marks.new }
+/// Marks the keys of the methods of a class in its two columns.
+fn mark_class(marks: &mut KeyMarks, seed: u64, finals: usize, opens: usize, class: &LoadedClass<'_>)
+    requires finals { finals < marks.old.width }
+    requires opens { opens < marks.old.width }
+    ensures finals { AreMarkedMore is_final_open seed marks.old finals class.now.class.methods marks.new }
+    ensures opens { AreMarkedMore is_open seed marks.old opens class.now.class.methods marks.new }
 {
     for place in 0..class.method_count() {
         mark_method(
             marks,
             seed,
-            number,
+            finals,
+            opens,
             &class.method(place),
             &class.method_name(place),
             &class.method_descriptor(place),
@@ -83,38 +108,29 @@ fn mark_class(marks: &mut KeyMarks, seed: u64, number: usize, class: &LoadedClas
     }
 }
 
-/// Marks the keys of the final methods of all classes.
+/// Marks the keys of the methods of all classes.
 fn mark_classes(marks: &mut KeyMarks, seed: u64, classes: &[LoadedClass<'_>])
-    requires { marks.old.width ≡ length classes.now }
-    ensures width { marks.new.width ≡ length classes.now }
-    ensures marked { AreMarkedBelow seed marks.new classes.now (length classes.now) }
+    requires { marks.old.width ≡ 2 * length classes.now }
+    ensures width { marks.new.width ≡ 2 * length classes.now }
+    ensures finals { AreMarkedBelow is_final_open seed marks.new classes.now (λ n. n) (length classes.now) }
+    ensures opens { AreMarkedBelow is_open seed marks.new classes.now (λ n. length classes.now + n) (length classes.now) }
 {
-    for number in 0..classes.len() {
-        mark_class(marks, seed, number, &classes[number]);
+    let many = classes.len();
+    for number in 0..many {
+        mark_class(marks, seed, number, many + number, &classes[number]);
     }
 }
 
-/// How many final methods the class declares that another can override.
-fn final_count(class: &LoadedClass<'_>) -> usize {
-    let mut count = 0usize;
-    for place in 0..class.method_count() {
-        if is_final_open(&class.method(place)) {
-            count = count.saturating_add(1);
-        }
-    }
-    count
-}
-
-/// How many such methods the classes declare.
-fn final_count_of_all(classes: &[LoadedClass<'_>]) -> usize {
+/// How many methods the classes declare.
+fn method_count_of_all(classes: &[LoadedClass<'_>]) -> usize {
     let mut count = 0usize;
     for class in classes {
-        count = count.saturating_add(final_count(class));
+        count = count.saturating_add(class.method_count());
     }
     count
 }
 
-/// The final methods of these classes by keys, hashed with the state.
+/// The methods of these classes by keys, hashed with the state.
 ///
 /// # Errors
 ///
@@ -127,12 +143,13 @@ pub fn final_keys(
     ensures { IfOk result (TellsFinals classes.now) }
 {
     let seed = seed_of(state);
-    let mut marks = KeyMarks::new(alloc, final_count_of_all(classes), classes.len())?;
+    let members = method_count_of_all(classes).saturating_mul(2);
+    let mut marks = KeyMarks::new(alloc, members, 2 * classes.len())?;
     mark_classes(&mut marks, seed, classes);
     Ok(FinalKeys { seed, marks })
 }
 
-/// The marks of the method's key, one for each class: a class without one declares no final method that this one overrides.
+/// The row of the method's key.
 pub(crate) fn row_of<'k>(
     keys: &'k FinalKeys,
     method: &Member<'_>,

@@ -1,44 +1,59 @@
--- Final methods by their keys, and the classes that are marked for one key (JVMS 4.6, 5.4.5).
-use Rattle.std.specs.Prelude.{◌≡◌, ℕ, ◌<◌, Bool, true, false, ◌&&◌, List, length, get_or, nat_eq, Some, slice_get}
+-- Methods that others can override by their keys, and the classes that are marked for one key (JVMS 4.6, 5.4.5).
+use Rattle.std.specs.Prelude.{◌≡◌, ℕ, ◌+◌, ◌*◌, ◌<◌, Bool, true, false, ◌&&◌, List, length, get_or, nat_eq, Some, slice_get, if◌then◌else◌}
 use Rattle.std.specs.List.{All, list_any}
 use Rattle.jv_classes.specs.Inside.Seen.{Key, key_of}
 use Rattle.jv_meaning_world.specs.of_class.Class.{Method}
 use Rattle.jv_meaning_world.specs.World.{Loaded}
-use Rattle.jv_meaning_world.specs.Overriding.{alike_in}
+use Rattle.jv_meaning_world.specs.Overriding.{is_instance, alike_in}
 use Rattle.jv_meaning_world.specs.Verdicts.{is_final_instance}
 use Rattle.jv_lookups.specs.Marks.{MarkedKeys, AreKept, is_marked}
 use Rattle.jv_lookups.specs.Inside.Overridden.{overrides_final}
-use Rattle.jv_lookups.specs.Inside.Steps.{is_overridden_if}
+use Rattle.jv_lookups.specs.Inside.Steps.{is_overridden_if, flags_alike, is_alike_overridden_if}
 
 -- a final instance method that is overridden by a method in a package that is found
 abbrev pub is_final_open : Method → Bool
 is_final_open m = is_final_instance m && is_overridden_if true m.access_flags
 
--- the method is such a one with the key
-abbrev pub declares_key : ℕ → Key → Method → Bool
-declares_key seed key m = is_final_open m && nat_eq (key_of seed m.name m.descriptor) key
+-- an instance method that is overridden whatever package is found: it is public or protected
+abbrev pub is_open : Method → Bool
+is_open m = is_instance m && is_overridden_if false m.access_flags
+
+-- the method passes a test and has the key
+abbrev pub has_key : (Method → Bool) → ℕ → Key → Method → Bool
+has_key test seed key m = test m && nat_eq (key_of seed m.name m.descriptor) key
 
 -- ---- marks
 
--- the keys of such methods among these are marked for a class, and what was marked still is
-pub record AreMarkedMore (seed : ℕ) (old : MarkedKeys) (class : ℕ) (methods : List Method) (new : MarkedKeys) : Type 0 where
-  pub marked : (key : Key) → list_any (declares_key seed key) methods ≡ true → is_marked new key class ≡ true
+-- the keys of the methods among these that pass a test are marked in a column, and what was marked still is
+pub record AreMarkedMore (test : Method → Bool) (seed : ℕ) (old : MarkedKeys) (column : ℕ) (methods : List Method) (new : MarkedKeys)
+    : Type 0 where
+  pub marked : (key : Key) → list_any (has_key test seed key) methods ≡ true → is_marked new key column ≡ true
   pub kept : AreKept old new
 
 -- so are those of the methods of so many classes
-abbrev pub AreMarkedBelow : ℕ → MarkedKeys → List Loaded → ℕ → Type 0
-AreMarkedBelow seed marks classes many =
-    (n : ℕ) (s : Loaded) (key : Key) → n < many → slice_get classes n ≡ Some s → list_any (declares_key seed key) s.class.methods ≡ true
-    → is_marked marks key n ≡ true
+abbrev pub AreMarkedBelow : (Method → Bool) → ℕ → MarkedKeys → List Loaded → (ℕ → ℕ) → ℕ → Type 0
+AreMarkedBelow test seed marks classes column many =
+    (n : ℕ) (s : Loaded) (key : Key) → n < many → slice_get classes n ≡ Some s → list_any (has_key test seed key) s.class.methods ≡ true
+    → is_marked marks key (column n) ≡ true
 
 -- ---- the row of one key
 
--- each class has a mark, and one that is not marked declares no final method that a method with this name and descriptor overrides
+-- Two marks for each class: one without the first declares no final method that a method with this name and descriptor overrides,
+-- and one without the second none that it overrides where its package is not found.
 pub record TellsFinalsOf (classes : List Loaded) (row : List Bool) (m : Method) : Type 0 where
-  pub size : length row ≡ length classes
+  pub size : length row ≡ 2 * length classes
   pub none : (place : ℕ) (s : Loaded) (found : List Loaded) → slice_get classes place ≡ Some s → get_or row place false ≡ false
       → overrides_final found (alike_in s m) ≡ false
+  pub closed : (place : ℕ) (s : Loaded) → slice_get classes place ≡ Some s → get_or row (length classes + place) false ≡ false
+      → is_alike_overridden_if false (flags_alike s m) ≡ false
 
 -- the packages of those of these classes that a row marks are asked for
 abbrev pub AreAsked : List ℕ → List Bool → List Bool → List ℕ → Type 0
-AreAsked packages row asked chain = All (λ number. get_or row number false ≡ true → get_or asked (get_or packages number 0) false ≡ true) chain
+AreAsked packages row asked chain =
+    All (λ number. get_or row number false ≡ true → get_or asked (get_or packages number 0) false ≡ true) chain
+
+-- a class has to be looked at: its package is asked for, and is found and the class may declare a final method, or is not found and
+-- the class may declare a public or protected one
+abbrev pub is_looked_at : List Bool → List Bool → List Bool → ℕ → ℕ → ℕ → Bool
+is_looked_at row asked marks many number place =
+    get_or asked number false && get_or row (if get_or marks number false then place else many + place) false

@@ -21,6 +21,10 @@ abbrev pub is_overridden_if : Bool → ℕ → Bool
 is_overridden_if found flags =
     has flags (acc_public + acc_protected) || (not (has flags (acc_public + acc_protected + acc_private)) && found)
 
+abbrev pub is_alike_overridden_if : Bool → Option ℕ → Bool
+is_alike_overridden_if found None = false
+is_alike_overridden_if found (Some flags) = is_overridden_if found flags
+
 abbrev pub is_final_overridden_if : Bool → Option ℕ → Bool
 is_final_overridden_if found None = false
 is_final_overridden_if found (Some flags) = has flags acc_final && is_overridden_if found flags

@@ -7,16 +7,16 @@ loop-place-init c =
     let begun = way_begins c.args.classes.now c.args.packages.now c.ask.new.asked c.clear.new.self c.mark.new.self _ _ c.args.chain.now c.args.of c.requires.packages c.requires.marks c.requires.of c.clear.ensures c.mark.ensures in
     record { walked = begun.0; many = begun.1 }
 
-pub returns-then-overrides_final_if_asked-clause-broken :
-    goal.returns-then-overrides_final_if_asked-clause-broken
-returns-then-overrides_final_if_asked-clause-broken c =
+pub returns-then-overrides_final_if-clause-broken :
+    goal.returns-then-overrides_final_if-clause-broken
+returns-then-overrides_final_if-clause-broken c =
     chain_broken c.args.classes.now c.args.packages.now c.args.row.now c.ask.new.asked c.loop-place.marks _ c.args.chain.now c.loop-place.place-index c.index-classes-place.result _ c.requires.chain (omega arith) c.index-classes-place.is
-    c.requires.packages c.loop-place.invariant.walked c.if-overrides_final_if_asked.ensures.broken
+    c.requires.packages c.loop-place.invariant.walked c.is_looked_at.result c.is_looked_at.ensures c.if-overrides_final_if.ensures.broken
 
 pub loop-place-preserved : goal.loop-place-preserved
 loop-place-preserved c =
     let on = chain_goes_on c.args.classes.now c.args.packages.now c.args.row.now c.ask.new.asked c.loop-place.marks _ c.args.chain.now c.loop-place.place-index c.index-classes-place.result _ c.requires.chain (omega arith) c.index-classes-place.is
-    c.requires.packages c.loop-place.invariant.walked c.overrides_final_if_asked.new.marks _ c.requires.marks c.loop-place.invariant.many c.requires.row c.ask.ensures.asked
-    c.if-overrides_final_if_asked.ensures.broken c.if-overrides_final_if_asked.ensures.marks
+    c.requires.packages c.loop-place.invariant.walked c.overrides_final_if.new.marks _ c.requires.marks c.loop-place.invariant.many c.requires.row c.ask.ensures.asked
+    c.is_looked_at.result c.is_looked_at.ensures c.if-overrides_final_if.ensures.broken c.if-overrides_final_if.ensures.marks
     in
     record { walked = on.0; many = on.1 }
