@@ -3,23 +3,23 @@ use Rattle.std.proofs.Common.{◌≡◌, ℕ, zero, suc, ◌+◌, ◌*◌, ◌<�
 use Rattle.std.specs.Prelude.{slice_get, replicate, not}
 use Rattle.std.specs.List.{All, cons_option}
 use Rattle.std.specs.Option.{option_map}
-use Rattle.std.proofs.lemmas.Bool.{eqb-true, eqb-false, and_parts}
+use Rattle.std.proofs.lemmas.Bool.{eqb-true, eqb-false, eq-eqb, and_parts, or_cases, or_right}
 use Rattle.std.proofs.lemmas.Bool.Decides.{eqb_tells}
-use Rattle.std.proofs.lemmas.List.{length-replicate, length-set, take_all, take-append-drop}
+use Rattle.std.proofs.lemmas.List.{length-replicate, length-set, drop_all, take-append-drop}
 use Rattle.std.proofs.lemmas.List.Elements.{All-more, filter_map-append}
 use Rattle.std.proofs.lemmas.Option.{slice_get_read}
 use Rattle.std.proofs.Math.Seq.{drop-cons}
 use Rattle.jv_meaning_world.specs.of_class_structure.Flags.{has, acc_private, acc_final}
 use Rattle.jv_meaning_world.specs.of_class.Class.{Method, method_named}
-use Rattle.jv_meaning_world.specs.World.{Loaded}
+use Rattle.jv_meaning_world.specs.World.{Loaded, same_package}
 use Rattle.jv_meaning_world.specs.Overriding.{Declared, is_instance, declared_if, alike_in}
 use Rattle.jv_meaning_world.specs.Verdicts.{passes, declared_by}
 use Rattle.jv_meaning_world.specs.Numbers.{classes_at, AreNumbers}
 use Rattle.jv_lookups.specs.Packages.{AreNumbered}
 use Rattle.jv_lookups.specs.Inside.Fronts.{IsUpToFinal}
-use Rattle.jv_lookups.specs.Inside.Keys.{AreAsked, TellsFinalsOf, is_looked_at}
+use Rattle.jv_lookups.specs.Inside.Keys.{AreAsked, TellsFinalsOf, is_wanted, is_looked_at}
 use Rattle.jv_lookups.specs.Inside.Overridden.{have_package, with_overridden, overrides_final, overrides_final_above}
-use Rattle.jv_lookups.specs.Inside.Steps.{flags_alike, is_alike_overridden_if, is_final_overridden_if, is_found_if, ArePackagesMarked}
+use Rattle.jv_lookups.specs.Inside.Steps.{flags_alike, is_alike_overridden_if, is_final_overridden_if, is_found_if}
 use Rattle.jv_lookups.proofs.Passing.{some_at, and_none}
 
 -- ---- one class further up
@@ -57,153 +57,189 @@ number_within classes packages marks place numbered room h =
     let less : get_or packages place 0 < 2 * length classes = numbered.below place 0 (omega (arith, many, h)) in
     omega (arith, less, room)
 
-pub none_are_marked : (classes : List Loaded) (packages : List ℕ) (asked : List Bool) (n : ℕ) → ArePackagesMarked classes packages asked (replicate n false) []
-none_are_marked classes packages asked n place l e a = unmarked n (get_or packages place 0)
+-- of the packages in which one of these classes is marked by the row, those of the classes found are marked
+abbrev pub ArePackagesMarked : List Loaded → List ℕ → List Bool → List ℕ → List Bool → List Loaded → Type 0
+ArePackagesMarked classes packages row rest marks found =
+    (place : ℕ) (l : Loaded) → slice_get classes place ≡ Some l → is_wanted packages row rest (get_or packages place 0) ≡ true → get_or marks (get_or packages place 0) false ≡ have_package found l
+
+own_package : (classes : List Loaded) (packages : List ℕ) (place k : ℕ) (s l : Loaded) → AreNumbered classes packages → slice_get classes place ≡ Some s → slice_get classes k ≡ Some l → (b : Bool) → nat_eq (get_or packages place 0) (get_or packages k 0) ≡ b
+    → same_package s l ≡ b
+own_package classes packages place k s l numbered at e b is = sym (numbered.same place k s l at e) ∙ is
+
+first_marked : (classes : List Loaded) (packages : List ℕ) (row : List Bool) (rest : List ℕ) (n of : ℕ) (l : Loaded) → AreNumbered classes packages → get_or packages of 0 < n → slice_get classes of ≡ Some l
+    → ArePackagesMarked classes packages row rest (set (replicate n false) (get_or packages of 0) true) (l ∷ [])
+first_marked classes packages row rest n of l numbered within at k j e w =
+    by_test (nat_eq (get_or packages of 0) (get_or packages k 0)) refl ∙ ap (λ b. b || false) (numbered.same of k l j at e)
   where
     unmarked : (n k : ℕ) → get_or (replicate n false) k false ≡ false
     unmarked zero k = refl
     unmarked (suc n) zero = refl
     unmarked (suc n) (suc k) = unmarked n k
 
-pub one_more_marked : (classes : List Loaded) (packages : List ℕ) (asked marks : List Bool) (found : List Loaded) (place : ℕ) (s : Loaded) → AreNumbered classes packages → get_or packages place 0 < length marks → slice_get classes place ≡ Some s
-    → ArePackagesMarked classes packages asked marks found → ArePackagesMarked classes packages asked (set marks (get_or packages place 0) true) (s ∷ found)
-one_more_marked classes packages asked marks found place s numbered within at marked k l e a =
-    by_test (nat_eq (get_or packages place 0) (get_or packages k 0)) refl ∙ ap (λ b. b || have_package found l) (numbered.same place k s l at e)
-  where
-    by_test : (b : Bool) → nat_eq (get_or packages place 0) (get_or packages k 0) ≡ b → get_or (set marks (get_or packages place 0) true) (get_or packages k 0) false ≡ (nat_eq (get_or packages place 0) (get_or packages k 0) || have_package found l)
+    by_test : (b : Bool) → nat_eq (get_or packages of 0) (get_or packages k 0) ≡ b → get_or (set (replicate n false) (get_or packages of 0) true) (get_or packages k 0) false ≡ (nat_eq (get_or packages of 0) (get_or packages k 0) || false)
     by_test true t =
-        ap (λ n. get_or (set marks (get_or packages place 0) true) n false) (sym (eqb-true (get_or packages place 0) (get_or packages k 0) t))
-        ∙ (get_or-set_same marks (get_or packages place 0) true false within ∙ ap (λ b. b || have_package found l) (sym t))
+        ap (λ q. get_or (set (replicate n false) (get_or packages of 0) true) q false) (sym (eqb-true (get_or packages of 0) (get_or packages k 0) t))
+        ∙ (get_or-set_same (replicate n false) (get_or packages of 0) true false (subst (λ q. get_or packages of 0 < q) (sym (length-replicate n false)) within) ∙ ap (λ b. b || false) (sym t))
     by_test false t =
-        let other : get_or packages k 0 ≡ get_or packages place 0 → ⊥ = λ same. eqb-false (get_or packages place 0) (get_or packages k 0) t (sym same) in
-        get_or-set_other marks (get_or packages place 0) (get_or packages k 0) true false other ∙ (marked k l e a ∙ ap (λ b. b || have_package found l) (sym t))
-
--- a class whose package is not asked for changes nothing
-pub one_more_unasked : (classes : List Loaded) (packages : List ℕ) (asked marks : List Bool) (found : List Loaded) (place : ℕ) (s : Loaded) → AreNumbered classes packages → slice_get classes place ≡ Some s
-    → get_or asked (get_or packages place 0) false ≡ false → ArePackagesMarked classes packages asked marks found → ArePackagesMarked classes packages asked marks (s ∷ found)
-one_more_unasked classes packages asked marks found place s numbered at unasked marked k l e a =
-    marked k l e a ∙ ap (λ b. b || have_package found l) (sym (sym (numbered.same place k s l at e) ∙ by_test (nat_eq (get_or packages place 0) (get_or packages k 0)) refl))
-  where
-    by_test : (b : Bool) → nat_eq (get_or packages place 0) (get_or packages k 0) ≡ b → nat_eq (get_or packages place 0) (get_or packages k 0) ≡ false
-    by_test true t =
-        let same : get_or asked (get_or packages place 0) false ≡ get_or asked (get_or packages k 0) false = ap (λ n. get_or asked n false) (eqb-true (get_or packages place 0) (get_or packages k 0) t) in
-        absurd cc
-    by_test false t = t
-
--- nor does one whose package is marked
-pub one_more_found : (classes : List Loaded) (packages : List ℕ) (asked marks : List Bool) (found : List Loaded) (place : ℕ) (s : Loaded) → AreNumbered classes packages → slice_get classes place ≡ Some s
-    → get_or marks (get_or packages place 0) false ≡ true → ArePackagesMarked classes packages asked marks found → ArePackagesMarked classes packages asked marks (s ∷ found)
-one_more_found classes packages asked marks found place s numbered at its marked k l e a =
-    by_test (nat_eq (get_or packages place 0) (get_or packages k 0)) refl ∙ ap (λ b. b || have_package found l) (numbered.same place k s l at e)
-  where
-    by_test : (b : Bool) → nat_eq (get_or packages place 0) (get_or packages k 0) ≡ b → get_or marks (get_or packages k 0) false ≡ (nat_eq (get_or packages place 0) (get_or packages k 0) || have_package found l)
-    by_test true t =
-        ap (λ n. get_or marks n false) (sym (eqb-true (get_or packages place 0) (get_or packages k 0) t)) ∙ (its ∙ ap (λ b. b || have_package found l) (sym t))
-    by_test false t = marked k l e a ∙ ap (λ b. b || have_package found l) (sym t)
+        let other : get_or packages k 0 ≡ get_or packages of 0 → ⊥ = λ same. eqb-false (get_or packages of 0) (get_or packages k 0) t (sym same) in
+        get_or-set_other (replicate n false) (get_or packages of 0) (get_or packages k 0) true false other ∙ (unmarked n (get_or packages k 0) ∙ ap (λ b. b || false) (sym t))
 
 -- ---- the way up
 
 -- of the classes found, whose packages are marked, the rest of the way says what the whole way says
-pub record IsWalked (classes : List Loaded) (packages : List ℕ) (asked marks : List Bool) (m : Method) (rest : List ℕ) (whole : Bool) : Type 0 where
+pub record IsWalked (classes : List Loaded) (packages : List ℕ) (row marks : List Bool) (m : Method) (rest : List ℕ) (whole : Bool) : Type 0 where
   pub found : List Loaded
-  pub marked : ArePackagesMarked classes packages asked marks found
+  pub marked : ArePackagesMarked classes packages row rest marks found
   pub same : overrides_final_above m found (classes_at classes rest) ≡ whole
 
-pub way_begins : (classes : List Loaded) (packages : List ℕ) (asked cleared marks : List Bool) (n : ℕ) (m : Method) (chain : List ℕ) (of : ℕ) → AreNumbered classes packages → 2 * length classes ≤ n → of < length classes
-    → cleared ≡ replicate n false → marks ≡ set cleared (get_or packages of 0) true
-    → IsWalked classes packages asked marks m chain (passes (λ c. overrides_final_above m (c ∷ []) (classes_at classes chain)) (slice_get classes of)) × (length marks ≡ n)
-way_begins classes packages asked cleared marks n m chain of numbered room here unmarked marked =
+pub way_begins : (classes : List Loaded) (packages : List ℕ) (row cleared marks : List Bool) (k n : ℕ) (m : Method) (chain : List ℕ) (of : ℕ) → AreNumbered classes packages → 2 * length classes ≤ n → of < length classes
+    → k ≡ n → cleared ≡ replicate k false → marks ≡ set cleared (get_or packages of 0) true
+    → IsWalked classes packages row marks m chain (passes (λ c. overrides_final_above m (c ∷ []) (classes_at classes chain)) (slice_get classes of)) × (length marks ≡ n)
+way_begins classes packages row cleared marks k n m chain of numbered room here many unmarked marked =
     let found = some_at classes of here in
-    let Walked : List Bool → Type 0 = λ ms. IsWalked classes packages asked ms m chain (passes (λ c. overrides_final_above m (c ∷ []) (classes_at classes chain)) (slice_get classes of)) in
-    let same : marks ≡ set (replicate n false) (get_or packages of 0) true = marked ∙ ap (λ ms. set ms (get_or packages of 0) true) unmarked in
-    let within = number_within classes packages (replicate n false) of numbered (subst (λ k. 2 * length classes ≤ k) (sym (length-replicate n false)) room) here in
+    let Walked : List Bool → Type 0 = λ ms. IsWalked classes packages row ms m chain (passes (λ c. overrides_final_above m (c ∷ []) (classes_at classes chain)) (slice_get classes of)) in
+    let same : marks ≡ set (replicate n false) (get_or packages of 0) true = marked ∙ ap (λ ms. set ms (get_or packages of 0) true) (unmarked ∙ ap (λ j. replicate j false) many) in
+    let within = number_within classes packages (replicate n false) of numbered (subst (λ j. 2 * length classes ≤ j) (sym (length-replicate n false)) room) here in
     let begun : Walked (set (replicate n false) (get_or packages of 0) true) = record {
       found = found.0 ∷ [];
-      marked = one_more_marked classes packages asked (replicate n false) [] of found.0 numbered within found.1 (none_are_marked classes packages asked n);
+      marked = first_marked classes packages row chain n of found.0 numbered (subst (λ j. get_or packages of 0 < j) (length-replicate n false) within) found.1;
       same = ap (passes (λ c. overrides_final_above m (c ∷ []) (classes_at classes chain))) (sym found.1);
     } in (
       subst Walked (sym same) begun,
       ap length same ∙ (length-set (replicate n false) (get_or packages of 0) true ∙ length-replicate n false),
     )
 
-module _ (classes : List Loaded) (packages : List ℕ) (asked marks : List Bool) (m : Method) (place : ℕ) (rest : List ℕ) (s : Loaded) (whole : Bool) (numbered : AreNumbered classes packages)
-    (walked : IsWalked classes packages asked marks m (place ∷ rest) whole) (at : slice_get classes place ≡ Some s) where
+module _ (classes : List Loaded) (packages : List ℕ) (row marks : List Bool) (m : Method) (n : ℕ) (rest : List ℕ) (s : Loaded) (whole : Bool) (numbered : AreNumbered classes packages)
+    (walked : IsWalked classes packages row marks m (n ∷ rest) whole) (at : slice_get classes n ≡ Some s) (tells : TellsFinalsOf classes row m) where
   abbrev pub number : ℕ
-  number = get_or packages place 0
+  number = get_or packages n 0
 
   abbrev pub flags : Option ℕ
   flags = flags_alike s m
 
-  -- the rest, with what this class adds
-  onward : overrides_final walked.found (alike_in s m) ≡ false → overrides_final_above m (with_overridden walked.found (alike_in s m)) (classes_at classes rest) ≡ whole
-  onward none =
-      ap (λ b. b || overrides_final_above m (with_overridden walked.found (alike_in s m)) (classes_at classes rest)) (sym none)
-      ∙ (ap (λ o. overrides_final_above m walked.found (cons_option o (classes_at classes rest))) (sym at) ∙ walked.same)
+  own_wanted : get_or row n false ≡ true → is_wanted packages row (n ∷ rest) number ≡ true
+  own_wanted h = ap (λ b. (b && nat_eq number number) || is_wanted packages row rest number) h ∙ ap (λ b. b || is_wanted packages row rest number) (eq-eqb number number refl)
+
+  unmarked_final : get_or row n false ≡ false → (b : Bool) → is_final_overridden_if b flags ≡ false
+  unmarked_final h false = sym (step_final [] s m) ∙ tells.none n s [] at h
+  unmarked_final h true =
+      ap (λ b. is_final_overridden_if b flags) (sym (ap (λ b. b || false) (own_package classes packages n n s s numbered at at true (eq-eqb number number refl))))
+      ∙ (sym (step_final (s ∷ []) s m) ∙ tells.none n s (s ∷ []) at h)
 
   -- where a superclass's final method is overridden, one is on the whole way
-  way_broken : get_or asked number false ≡ true → is_final_overridden_if (get_or marks number false) flags ≡ true → true ≡ whole
-  way_broken its broken =
-      ap (λ b. b || overrides_final_above m (with_overridden walked.found (alike_in s m)) (classes_at classes rest))
-      (sym broken ∙ (ap (λ b. is_final_overridden_if b flags) (walked.marked place s at its) ∙ sym (step_final walked.found s m)))
-      ∙ (ap (λ o. overrides_final_above m walked.found (cons_option o (classes_at classes rest))) (sym at) ∙ walked.same)
-
-  -- where it isn't, the way goes on
-  way_goes_on : (after : List Bool) → number < length marks → get_or asked number false ≡ true → is_final_overridden_if (get_or marks number false) flags ≡ false
-      → after ≡ cond (is_found_if (get_or marks number false) flags) (set marks number true) marks → IsWalked classes packages asked after m rest whole
-  way_goes_on after within its kept e = record {
-    found = with_overridden walked.found (alike_in s m);
-    marked = subst (λ ms. ArePackagesMarked classes packages asked ms (with_overridden walked.found (alike_in s m))) (sym e)
-        (subst (ArePackagesMarked classes packages asked (cond (is_found_if (get_or marks number false) flags) (set marks number true) marks)) (sym found_by)
-        (by_test (is_found_if (get_or marks number false) flags)));
-    same = onward (step_final walked.found s m ∙ (ap (λ b. is_final_overridden_if b flags) (sym (walked.marked place s at its)) ∙ kept));
-  }
+  way_broken : is_final_overridden_if (get_or marks number false) flags ≡ true → true ≡ whole
+  way_broken broken = by_row (get_or row n false) refl
     where
-      found_by : with_overridden walked.found (alike_in s m) ≡ cond (is_found_if (get_or marks number false) flags) (s ∷ walked.found) walked.found
-      found_by = step_found walked.found s m ∙ ap (λ b. cond (is_found_if b flags) (s ∷ walked.found) walked.found) (sym (walked.marked place s at its))
+      by_row : (b : Bool) → get_or row n false ≡ b → true ≡ whole
+      by_row false h = let none = unmarked_final h (get_or marks number false) in absurd cc
+      by_row true h =
+          ap (λ b. b || overrides_final_above m (with_overridden walked.found (alike_in s m)) (classes_at classes rest))
+          (sym broken ∙ (ap (λ b. is_final_overridden_if b flags) (walked.marked n s at (own_wanted h)) ∙ sym (step_final walked.found s m)))
+          ∙ (ap (λ o. overrides_final_above m walked.found (cons_option o (classes_at classes rest))) (sym at) ∙ walked.same)
 
-      by_test : (b : Bool) → ArePackagesMarked classes packages asked (cond b (set marks number true) marks) (cond b (s ∷ walked.found) walked.found)
-      by_test true = one_more_marked classes packages asked marks walked.found place s numbered within at walked.marked
-      by_test false = walked.marked
+  not_final : (o : Option ℕ) → is_alike_overridden_if false o ≡ false → is_final_overridden_if false o ≡ false
+  not_final None h = refl
+  not_final (Some f) h = ap (λ b. has f acc_final && b) h ∙ and_none (has f acc_final)
 
-  -- where it declares no final method that is overridden, and what it adds changes nothing, it is passed over
-  passes_by : overrides_final walked.found (alike_in s m) ≡ false
-      → ArePackagesMarked classes packages asked marks (cond (is_found_if (have_package walked.found s) flags) (s ∷ walked.found) walked.found) → IsWalked classes packages asked marks m rest whole
-  passes_by none marked = record {
-    found = with_overridden walked.found (alike_in s m);
-    marked = subst (ArePackagesMarked classes packages asked marks) (sym (step_found walked.found s m)) marked;
-    same = onward none;
-  }
+  not_found : (o : Option ℕ) → is_alike_overridden_if false o ≡ false → is_found_if false o ≡ false
+  not_found None h = refl
+  not_found (Some f) h = ap (λ b. b && not (has f acc_private)) h
 
-  -- its package is not asked for
-  way_passes : get_or asked number false ≡ false → overrides_final walked.found (alike_in s m) ≡ false → IsWalked classes packages asked marks m rest whole
-  way_passes unasked none = passes_by none (by_test (is_found_if (have_package walked.found s) flags))
-    where
-      by_test : (b : Bool) → ArePackagesMarked classes packages asked marks (cond b (s ∷ walked.found) walked.found)
-      by_test true = one_more_unasked classes packages asked marks walked.found place s numbered at unasked walked.marked
-      by_test false = walked.marked
+  module _ (asked after : List Bool) (within : number < length marks) (asks : is_wanted packages row (n ∷ rest) number ≡ true → get_or asked n false ≡ true) where
+    abbrev pub may : Bool → Bool
+    may found = get_or row (cond found n (length classes + n)) false
 
-  -- its package is found
-  way_passes_found : get_or marks number false ≡ true → overrides_final walked.found (alike_in s m) ≡ false → IsWalked classes packages asked marks m rest whole
-  way_passes_found found none = passes_by none (by_test (is_found_if (have_package walked.found s) flags))
-    where
-      by_test : (b : Bool) → ArePackagesMarked classes packages asked marks (cond b (s ∷ walked.found) walked.found)
-      by_test true = one_more_found classes packages asked marks walked.found place s numbered at found walked.marked
-      by_test false = walked.marked
+    abbrev pub looked : Bool
+    looked = get_or asked n false && may (get_or marks number false)
 
-  -- its package is asked for and not found, and its method is neither public nor protected
-  way_passes_closed : get_or asked number false ≡ true → get_or marks number false ≡ false → is_alike_overridden_if false flags ≡ false → IsWalked classes packages asked marks m rest whole
-  way_passes_closed its unfound closed =
-      let without : have_package walked.found s ≡ false = sym (walked.marked place s at its) ∙ unfound in
-      passes_by (step_final walked.found s m ∙ (ap (λ b. is_final_overridden_if b flags) without ∙ not_final flags closed))
-      (subst (λ b. ArePackagesMarked classes packages asked marks (cond b (s ∷ walked.found) walked.found)) (sym (ap (λ b. is_found_if b flags) without ∙ not_found flags closed)) walked.marked)
-    where
-      not_final : (o : Option ℕ) → is_alike_overridden_if false o ≡ false → is_final_overridden_if false o ≡ false
-      not_final None h = refl
-      not_final (Some f) h = ap (λ b. has f acc_final && b) h ∙ and_none (has f acc_final)
+    -- no final method of the class is overridden
+    fails : (f a t : Bool) → a ≡ true → may f ≡ t → get_or row n false ≡ true → false ≡ ((a && t) && is_final_overridden_if f flags) → is_final_overridden_if f flags ≡ false
+    fails f false t ha e h kept = absurd cc
+    fails f true true ha e h kept = sym kept
+    fails true true false ha e h kept = absurd cc
+    fails false true false ha e h kept = not_final flags (tells.closed n s at e)
 
-      not_found : (o : Option ℕ) → is_alike_overridden_if false o ≡ false → is_found_if false o ≡ false
-      not_found None h = refl
-      not_found (Some f) h = ap (λ b. b && not (has f acc_private)) h
+    none_overridden : false ≡ (looked && is_final_overridden_if (get_or marks number false) flags) → overrides_final walked.found (alike_in s m) ≡ false
+    none_overridden kept = by_row (get_or row n false) refl
+      where
+        by_row : (b : Bool) → get_or row n false ≡ b → overrides_final walked.found (alike_in s m) ≡ false
+        by_row false h = tells.none n s walked.found at h
+        by_row true h =
+            step_final walked.found s m
+            ∙ (ap (λ b. is_final_overridden_if b flags) (sym (walked.marked n s at (own_wanted h)))
+            ∙ fails (get_or marks number false) (get_or asked n false) (may (get_or marks number false)) (asks (own_wanted h)) refl h kept)
+
+    -- the packages that still count are marked as they have to be
+    module _ (k : ℕ) (l : Loaded) (e : slice_get classes k ≡ Some l) (w : is_wanted packages row rest (get_or packages k 0) ≡ true) where
+      abbrev pub q : ℕ
+      q = get_or packages k 0
+
+      wanted : is_wanted packages row (n ∷ rest) q ≡ true
+      wanted = or_right (get_or row n false && nat_eq number q) (is_wanted packages row rest q) w
+
+      its : get_or marks q false ≡ have_package walked.found l
+      its = walked.marked k l e wanted
+
+      -- another package
+      aside : nat_eq number q ≡ false → (b c : Bool) → get_or (cond b (cond c (set marks number true) marks) marks) q false ≡ get_or marks q false
+      aside d true true = get_or-set_other marks number q true false (λ same. eqb-false number q d (sym same))
+      aside d true false = refl
+      aside d false c = refl
+
+      apart : nat_eq number q ≡ false → (b : Bool) → have_package (cond b (s ∷ walked.found) walked.found) l ≡ have_package walked.found l
+      apart d true = ap (λ b. b || have_package walked.found l) (own_package classes packages n k s l numbered at e false d)
+      apart d false = refl
+
+      -- its own package
+      here : nat_eq number q ≡ true → get_or marks number false ≡ have_package walked.found l
+      here d = ap (λ x. get_or marks x false) (eqb-true number q d) ∙ its
+
+      joined : nat_eq number q ≡ true → true ≡ (same_package s l || have_package walked.found l)
+      joined d = ap (λ b. b || have_package walked.found l) (sym (own_package classes packages n k s l numbered at e true d))
+
+      by_found : nat_eq number q ≡ true → (c : Bool) → get_or (cond c (set marks number true) marks) number false ≡ have_package (cond c (s ∷ walked.found) walked.found) l
+      by_found d true = get_or-set_same marks number true false within ∙ joined d
+      by_found d false = here d
+
+      still : nat_eq number q ≡ true → get_or marks number false ≡ true → (c : Bool) → get_or marks number false ≡ have_package (cond c (s ∷ walked.found) walked.found) l
+      still d h true = h ∙ joined d
+      still d h false = here d
+
+      core : nat_eq number q ≡ true → (f a t : Bool) → a ≡ true → get_or marks number false ≡ f → may f ≡ t
+          → get_or (cond (a && t) (cond (is_found_if f flags) (set marks number true) marks) marks) number false ≡ have_package (cond (is_found_if f flags) (s ∷ walked.found) walked.found) l
+      core d f false t ha hf m = absurd cc
+      core d f true true ha hf m = by_found d (is_found_if f flags)
+      core d true true false ha hf m = still d hf (is_found_if true flags)
+      core d false true false ha hf m = here d ∙ ap (λ b. have_package (cond b (s ∷ walked.found) walked.found) l) (sym (not_found flags (tells.closed n s at m)))
+
+      marked_at : after ≡ cond looked (cond (is_found_if (get_or marks number false) flags) (set marks number true) marks) marks → get_or after q false ≡ have_package (with_overridden walked.found (alike_in s m)) l
+      marked_at made = by_place (nat_eq number q) refl
+        where
+          of_own : nat_eq number q ≡ true → get_or after q false ≡ have_package (with_overridden walked.found (alike_in s m)) l
+          of_own d =
+              let same : number ≡ q = eqb-true number q d in
+              let own : is_wanted packages row (n ∷ rest) number ≡ true = ap (is_wanted packages row (n ∷ rest)) same ∙ wanted in
+              ap (λ x. get_or after x false) (sym same)
+              ∙ (ap (λ ms. get_or ms number false) made
+              ∙ (core d (get_or marks number false) (get_or asked n false) (may (get_or marks number false)) (asks own) refl refl
+              ∙ sym (ap (λ f. have_package f l) (step_found walked.found s m ∙ ap (λ b. cond (is_found_if b flags) (s ∷ walked.found) walked.found) (sym (walked.marked n s at own))))))
+
+          by_place : (b : Bool) → nat_eq number q ≡ b → get_or after q false ≡ have_package (with_overridden walked.found (alike_in s m)) l
+          by_place true d = of_own d
+          by_place false d =
+              ap (λ ms. get_or ms q false) made
+              ∙ (aside d looked (is_found_if (get_or marks number false) flags)
+              ∙ (its ∙ sym (ap (λ f. have_package f l) (step_found walked.found s m) ∙ apart d (is_found_if (have_package walked.found s) flags))))
+
+    -- where no final method is overridden, the way goes on
+    way_goes_on : false ≡ (looked && is_final_overridden_if (get_or marks number false) flags) → after ≡ cond looked (cond (is_found_if (get_or marks number false) flags) (set marks number true) marks) marks
+        → IsWalked classes packages row after m rest whole
+    way_goes_on kept made = record {
+      found = with_overridden walked.found (alike_in s m);
+      marked = λ k l e w. marked_at k l e w made;
+      same = ap (λ b. b || overrides_final_above m (with_overridden walked.found (alike_in s m)) (classes_at classes rest)) (sym (none_overridden kept))
+          ∙ (ap (λ o. overrides_final_above m walked.found (cons_option o (classes_at classes rest))) (sym at) ∙ walked.same);
+    }
 
 -- ---- the same by a place of the chain
 
@@ -213,106 +249,97 @@ class_there classes chain i s numbers h e = slice_get_read classes (length class
 next_place : (chain : List ℕ) (i : ℕ) → i < length chain → drop i chain ≡ get_or chain i 0 ∷ drop (i + 1) chain
 next_place chain i h = drop-cons chain i 0 h ∙ ap (λ k. get_or chain i 0 ∷ drop k chain) (sym (add-one i))
 
--- what is not asked for is not marked
-unmarked_if : (b c : Bool) → (b ≡ true → c ≡ true) → c ≡ false → b ≡ false
-unmarked_if true c h e = absurd (let t = h refl in cc)
-unmarked_if false c h e = refl
-
-module _ (classes : List Loaded) (packages : List ℕ) (row asked marks : List Bool) (m : Method) (chain : List ℕ) (i : ℕ) (s : Loaded) (whole : Bool) (numbers : AreNumbers classes chain) (h : i < length chain)
-    (e : s ≡ get_or classes (get_or chain i 0) s) (numbered : AreNumbered classes packages) (walked : IsWalked classes packages asked marks m (drop i chain) whole) where
+module _ (classes : List Loaded) (packages : List ℕ) (row marks : List Bool) (m : Method) (chain : List ℕ) (i : ℕ) (s : Loaded) (whole : Bool) (numbers : AreNumbers classes chain) (h : i < length chain)
+    (e : s ≡ get_or classes (get_or chain i 0) s) (numbered : AreNumbered classes packages) (tells : TellsFinalsOf classes row m) (walked : IsWalked classes packages row marks m (drop i chain) whole) where
   abbrev pub there_package : ℕ
   there_package = get_or packages (get_or chain i 0) 0
 
-  walked_here : IsWalked classes packages asked marks m (get_or chain i 0 ∷ drop (i + 1) chain) whole
-  walked_here = subst (λ rest. IsWalked classes packages asked marks m rest whole) (next_place chain i h) walked
+  walked_here : IsWalked classes packages row marks m (get_or chain i 0 ∷ drop (i + 1) chain) whole
+  walked_here = subst (λ rest. IsWalked classes packages row marks m rest whole) (next_place chain i h) walked
 
-  abbrev pub looked : Bool
-  looked = is_looked_at row asked marks (length classes) there_package (get_or chain i 0)
+  pub chain_broken : (answer : Bool) → true ≡ (answer && is_final_overridden_if (get_or marks there_package false) (flags_alike s m)) → true ≡ whole
+  chain_broken answer broken =
+      way_broken classes packages row marks m (get_or chain i 0) (drop (i + 1) chain) s whole numbered walked_here (class_there classes chain i s numbers h e) tells
+      (and_parts answer (is_final_overridden_if (get_or marks there_package false) (flags_alike s m)) (sym broken)).1
 
-  pub chain_broken : (answer : Bool) → answer ≡ looked → true ≡ (answer && is_final_overridden_if (get_or marks there_package false) (flags_alike s m)) → true ≡ whole
-  chain_broken answer is broken =
-      let parts = and_parts looked (is_final_overridden_if (get_or marks there_package false) (flags_alike s m)) (sym (broken ∙ ap (λ b. b && is_final_overridden_if (get_or marks there_package false) (flags_alike s m)) is)) in
-      let asks = and_parts (get_or asked there_package false) (get_or row (cond (get_or marks there_package false) (get_or chain i 0) (length classes + get_or chain i 0)) false) parts.0 in
-      way_broken classes packages asked marks m (get_or chain i 0) (drop (i + 1) chain) s whole numbered walked_here (class_there classes chain i s numbers h e) asks.0 parts.1
-
-  pub chain_goes_on : (after : List Bool) (n : ℕ) → 2 * length classes ≤ n → length marks ≡ n → TellsFinalsOf classes row m → AreAsked packages row asked chain
-      → (answer : Bool) → answer ≡ looked → false ≡ (answer && is_final_overridden_if (get_or marks there_package false) (flags_alike s m))
+  pub chain_goes_on : (asked after : List Bool) (n : ℕ) → 2 * length classes ≤ n → length marks ≡ n → AreAsked packages row asked (drop i chain)
+      → (answer : Bool) → answer ≡ is_looked_at row asked marks (length classes) there_package (get_or chain i 0)
+      → false ≡ (answer && is_final_overridden_if (get_or marks there_package false) (flags_alike s m))
       → after ≡ cond answer (cond (is_found_if (get_or marks there_package false) (flags_alike s m)) (set marks there_package true) marks) marks
-      → IsWalked classes packages asked after m (drop (i + 1) chain) whole × (length after ≡ n)
-  chain_goes_on after n room long tells are answer is kept made =
-      by_asked (get_or asked there_package false) refl (kept ∙ ap (λ b. b && is_final_overridden_if (get_or marks there_package false) (flags_alike s m)) is) (made ∙ ap (λ b. cond b (cond (is_found_if (get_or marks there_package false) (flags_alike s m)) (set marks there_package true) marks) marks) is)
-    where
-      there : slice_get classes (get_or chain i 0) ≡ Some s
-      there = class_there classes chain i s numbers h e
-
-      Goal : Type 0
-      Goal = IsWalked classes packages asked after m (drop (i + 1) chain) whole × (length after ≡ n)
-
-      by_test : (b : Bool) → length (cond b (set marks there_package true) marks) ≡ length marks
-      by_test true = length-set marks there_package true
-      by_test false = refl
-
-      -- marks are as they were
-      passed : after ≡ marks → IsWalked classes packages asked marks m (drop (i + 1) chain) whole → Goal
-      passed made on = (subst (λ ms. IsWalked classes packages asked ms m (drop (i + 1) chain) whole) (sym made) on, ap length made ∙ long)
-
-      by_row : (f : Bool) → get_or marks there_package false ≡ f → get_or asked there_package false ≡ true → (b : Bool) → get_or row (cond f (get_or chain i 0) (length classes + get_or chain i 0)) false ≡ b
-          → false ≡ (b && is_final_overridden_if (get_or marks there_package false) (flags_alike s m))
-          → after ≡ cond b (cond (is_found_if (get_or marks there_package false) (flags_alike s m)) (set marks there_package true) marks) marks → Goal
-      by_row f found its true marked kept made = (
-        way_goes_on classes packages asked marks m (get_or chain i 0) (drop (i + 1) chain) s whole numbered walked_here there after
-            (number_within classes packages marks (get_or chain i 0) numbered (subst (λ k. 2 * length classes ≤ k) (sym long) room) (numbers i 0 h)) its (sym kept) made,
-        ap length made ∙ (by_test (is_found_if (get_or marks there_package false) (flags_alike s m)) ∙ long),
+      → IsWalked classes packages row after m (drop (i + 1) chain) whole × (length after ≡ n) × AreAsked packages row asked (drop (i + 1) chain)
+  chain_goes_on asked after n room long are answer is kept made =
+      let asks : AreAsked packages row asked (get_or chain i 0 ∷ drop (i + 1) chain) = subst (AreAsked packages row asked) (next_place chain i h) are in (
+        way_goes_on classes packages row marks m (get_or chain i 0) (drop (i + 1) chain) s whole numbered walked_here (class_there classes chain i s numbers h e) tells asked after
+            (number_within classes packages marks (get_or chain i 0) numbered (subst (λ k. 2 * length classes ≤ k) (sym long) room) (numbers i 0 h)) asks.0
+            (kept ∙ ap (λ b. b && is_final_overridden_if (get_or marks there_package false) (flags_alike s m)) is)
+            (made ∙ ap (λ b. cond b (cond (is_found_if (get_or marks there_package false) (flags_alike s m)) (set marks there_package true) marks) marks) is),
+        ap length made ∙ (by_test answer (is_found_if (get_or marks there_package false) (flags_alike s m)) ∙ long),
+        asks.1,
       )
-      by_row true found its false unmarked kept made =
-          passed made (way_passes_found classes packages asked marks m (get_or chain i 0) (drop (i + 1) chain) s whole numbered walked_here there found
-          (tells.none (get_or chain i 0) s walked_here.found there unmarked))
-      by_row false found its false unmarked kept made =
-          passed made (way_passes_closed classes packages asked marks m (get_or chain i 0) (drop (i + 1) chain) s whole numbered walked_here there its found
-          (tells.closed (get_or chain i 0) s there unmarked))
+    where
+      by_test : (a b : Bool) → length (cond a (cond b (set marks there_package true) marks) marks) ≡ length marks
+      by_test true true = length-set marks there_package true
+      by_test true false = refl
+      by_test false b = refl
 
-      by_asked : (a : Bool) → get_or asked there_package false ≡ a
-          → false ≡ ((a && get_or row (cond (get_or marks there_package false) (get_or chain i 0) (length classes + get_or chain i 0)) false) && is_final_overridden_if (get_or marks there_package false) (flags_alike s m))
-          → after ≡ cond (a && get_or row (cond (get_or marks there_package false) (get_or chain i 0) (length classes + get_or chain i 0)) false) (cond (is_found_if (get_or marks there_package false) (flags_alike s m)) (set marks there_package true) marks) marks
-          → Goal
-      by_asked true its kept made =
-          by_row (get_or marks there_package false) refl its (get_or row (cond (get_or marks there_package false) (get_or chain i 0) (length classes + get_or chain i 0)) false) refl kept made
-      by_asked false its kept made =
-          passed made (way_passes classes packages asked marks m (get_or chain i 0) (drop (i + 1) chain) s whole numbered walked_here there its
-          (tells.none (get_or chain i 0) s walked_here.found there (unmarked_if (get_or row (get_or chain i 0) false) (get_or asked there_package false) (are i 0 h) its)))
+-- ---- what is asked for, from the last class of the chain down
 
--- ---- what is asked for
+-- the packages of the marked classes are marked
+abbrev pub AreWantedMarked : List ℕ → List Bool → List ℕ → List Bool → Type 0
+AreWantedMarked packages row rest marks = (number : ℕ) → is_wanted packages row rest number ≡ true → get_or marks number false ≡ true
 
-pub none_asked : (packages : List ℕ) (row asked : List Bool) → AreAsked packages row asked []
-none_asked packages row asked k d less = absurd (omega (arith, less))
-
-pub one_more_asked : (packages : List ℕ) (row asked after : List Bool) (chain : List ℕ) (i : ℕ) → i < length chain → All (λ number. get_or packages number 0 < length asked) chain
-    → after ≡ cond (get_or row (get_or chain i 0) false) (set asked (get_or packages (get_or chain i 0) 0) true) asked
-    → AreAsked packages row asked (take i chain) → AreAsked packages row after (take (i + 1) chain)
-one_more_asked packages row asked after chain i h within made before =
-    subst (λ a. AreAsked packages row a (take (i + 1) chain)) (sym made)
-    (All-more (Asks (cond (get_or row (get_or chain i 0) false) (set asked (get_or packages (get_or chain i 0) 0) true) asked)) chain i 0 h
-    (λ k d less marked. kept (get_or row (get_or chain i 0) false) (get_or packages (get_or (take i chain) k d) 0) (before k d less marked))
-    (its (get_or row (get_or chain i 0) false)))
+stays : (xs : List Bool) (b : Bool) (k j : ℕ) → k < length xs → get_or xs j false ≡ true → get_or (cond b (set xs k true) xs) j false ≡ true
+stays xs false k j within h = h
+stays xs true k j within h = by_place (eqb_tells j k)
   where
-    Asks : List Bool → ℕ → Type 0
-    Asks a number = get_or row number false ≡ true → get_or a (get_or packages number 0) false ≡ true
+    by_place : ((nat_eq j k ≡ true) × (j ≡ k)) ⊎ ((nat_eq j k ≡ false) × (j ≢ k)) → get_or (set xs k true) j false ≡ true
+    by_place (inl same) = ap (λ n. get_or (set xs k true) n false) same.1 ∙ get_or-set_same xs k true false within
+    by_place (inr other) = get_or-set_other xs k j true false other.1 ∙ h
 
-    its : (b : Bool) → b ≡ true → get_or (cond b (set asked (get_or packages (get_or chain i 0) 0) true) asked) (get_or packages (get_or chain i 0) 0) false ≡ true
-    its true e = get_or-set_same asked (get_or packages (get_or chain i 0) 0) true false (within i 0 h)
-    its false e = absurd cc
+asked_still : (packages : List ℕ) (row asked after : List Bool) → ((k : ℕ) → get_or asked k false ≡ true → get_or after k false ≡ true) → (chain : List ℕ) → AreAsked packages row asked chain → AreAsked packages row after chain
+asked_still packages row asked after still [] are = tt
+asked_still packages row asked after still (n ∷ chain) are = (λ w. still n (are.0 w), asked_still packages row asked after still chain are.1)
 
-    kept : (b : Bool) (k : ℕ) → get_or asked k false ≡ true → get_or (cond b (set asked (get_or packages (get_or chain i 0) 0) true) asked) k false ≡ true
-    kept false k e = e
-    kept true k e = by_place (eqb_tells k (get_or packages (get_or chain i 0) 0))
-      where
-        by_place : ((nat_eq k (get_or packages (get_or chain i 0) 0) ≡ true) × (k ≡ get_or packages (get_or chain i 0) 0)) ⊎ ((nat_eq k (get_or packages (get_or chain i 0) 0) ≡ false) × (k ≢ get_or packages (get_or chain i 0) 0))
-            → get_or (set asked (get_or packages (get_or chain i 0) 0) true) k false ≡ true
-        by_place (inl same) = ap (λ n. get_or (set asked (get_or packages (get_or chain i 0) 0) true) n false) same.1 ∙ get_or-set_same asked (get_or packages (get_or chain i 0) 0) true false (within i 0 h)
-        by_place (inr other) = get_or-set_other asked (get_or packages (get_or chain i 0) 0) k true false other.1 ∙ e
+pub none_asked : (packages : List ℕ) (row asked marks : List Bool) (chain : List ℕ) (i : ℕ) → length chain ≤ i → AreAsked packages row asked (drop i chain) × AreWantedMarked packages row (drop i chain) marks
+none_asked packages row asked marks chain i past =
+    subst (λ rest. AreAsked packages row asked rest × AreWantedMarked packages row rest marks) (sym (drop_all i chain past)) (tt, λ number w. absurd cc)
 
-pub all_asked : (packages : List ℕ) (row asked : List Bool) (chain : List ℕ) (i : ℕ) → length chain ≤ i → AreAsked packages row asked (take i chain) → AreAsked packages row asked chain
-all_asked packages row asked chain i past are = subst (AreAsked packages row asked) (take_all i chain past) are
+module _ (packages : List ℕ) (row asked marks asked_on marks_on : List Bool) (chain : List ℕ) (i j : ℕ) (within : i < length chain) (before : i + 1 ≡ j) where
+  pub one_more_asked : get_or packages (get_or chain i 0) 0 < length marks → get_or chain i 0 < length asked
+      → marks_on ≡ cond (get_or row (get_or chain i 0) false) (set marks (get_or packages (get_or chain i 0) 0) true) marks
+      → asked_on ≡ cond (get_or marks_on (get_or packages (get_or chain i 0) 0) false) (set asked (get_or chain i 0) true) asked
+      → AreAsked packages row asked (drop j chain) → AreWantedMarked packages row (drop j chain) marks
+      → AreAsked packages row asked_on (drop i chain) × AreWantedMarked packages row (drop i chain) marks_on
+  one_more_asked room space marks_made asked_made are wanted =
+      subst (λ rest. AreAsked packages row asked_on rest × AreWantedMarked packages row rest marks_on)
+      (sym (next_place chain i within ∙ ap (λ k. get_or chain i 0 ∷ drop k chain) before))
+      ((λ w. asks (wanted_on (get_or packages (get_or chain i 0) 0) w), asked_still packages row asked asked_on still (drop j chain) are), wanted_on)
+    where
+      place : ℕ
+      place = get_or chain i 0
+
+      wanted_on : AreWantedMarked packages row (place ∷ drop j chain) marks_on
+      wanted_on number w = ap (λ ms. get_or ms number false) marks_made ∙ by_first (or_cases (get_or row place false && nat_eq (get_or packages place 0) number) (is_wanted packages row (drop j chain) number) w)
+        where
+          set_now : (b : Bool) → b ≡ true → get_or (cond b (set marks (get_or packages place 0) true) marks) (get_or packages place 0) false ≡ true
+          set_now true e = get_or-set_same marks (get_or packages place 0) true false room
+          set_now false e = absurd cc
+
+          by_first : ((get_or row place false && nat_eq (get_or packages place 0) number) ≡ true) ⊎ (is_wanted packages row (drop j chain) number ≡ true)
+              → get_or (cond (get_or row place false) (set marks (get_or packages place 0) true) marks) number false ≡ true
+          by_first (inl d) =
+              let parts = and_parts (get_or row place false) (nat_eq (get_or packages place 0) number) d in
+              ap (λ n. get_or (cond (get_or row place false) (set marks (get_or packages place 0) true) marks) n false) (sym (eqb-true (get_or packages place 0) number parts.1))
+              ∙ set_now (get_or row place false) parts.0
+          by_first (inr d) = stays marks (get_or row place false) (get_or packages place 0) number room (wanted number d)
+
+      asks : get_or marks_on (get_or packages place 0) false ≡ true → get_or asked_on place false ≡ true
+      asks h =
+          ap (λ a. get_or a place false) (asked_made ∙ ap (λ b. cond b (set asked place true) asked) h)
+          ∙ get_or-set_same asked place true false space
+
+      still : (k : ℕ) → get_or asked k false ≡ true → get_or asked_on k false ≡ true
+      still k h = ap (λ a. get_or a k false) asked_made ∙ stays asked (get_or marks_on (get_or packages place 0) false) place k space h
 
 -- ---- what lies behind the last one that the row marks
 

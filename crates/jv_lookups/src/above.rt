@@ -76,33 +76,42 @@ pub(crate) fn up_to_marked<'b>(marks: &[bool], chain: &'b [usize]) -> &'b [usize
     &chain[..end]
 }
 
-/// Asks for the package with this number, where it is wanted.
-fn ask_if(is_wanted: bool, asked: &mut Marks, number: usize)
-    requires { number < length asked.old }
-    ensures many { length asked.new ≡ length asked.old }
-    ensures asked { asked.new ≡ (if is_wanted then set asked.old number true else asked.old) }
+/// Marks a number, where it is wanted.
+fn mark_if(is_wanted: bool, marks: &mut Marks, number: usize)
+    requires { number < length marks.old }
+    ensures many { length marks.new ≡ length marks.old }
+    ensures marked { marks.new ≡ (if is_wanted then set marks.old number true else marks.old) }
 {
     if is_wanted {
-        asked.mark(number);
+        marks.mark(number);
     }
 }
 
-/// Asks for the packages of those superclasses that the row marks, and for no other one.
-fn ask(packages: &[usize], row: &[bool], asked: &mut Marks, chain: &[usize])
+/// Asks for each of these superclasses that is in one package with a class that the row marks, itself or one further up. `marks` is
+/// room for packages.
+fn ask(packages: &[usize], row: &[bool], marks: &mut Marks, asked: &mut Marks, chain: &[usize])
     requires row { All (λ number. number < length row.now) chain.now }
     requires packages { All (λ number. number < length packages.now) chain.now }
-    requires asked { All (λ number. get_or packages.now number 0 < length asked.old) chain.now }
+    requires marks { All (λ number. get_or packages.now number 0 < length marks.old) chain.now }
+    requires asked { All (λ number. number < length asked.old) chain.now }
+    ensures marks { length marks.new ≡ length marks.old }
     ensures many { length asked.new ≡ length asked.old }
     ensures asked { AreAsked packages.now row.now asked.new chain.now }
 {
+    marks.clear();
     asked.clear();
-    for place in chain {
-        ask_if(row[*place], asked, packages[*place]);
+    let mut end = chain.len();
+    while end > 0 {
+        end -= 1;
+        let place = chain[end];
+        let number = packages[place];
+        mark_if(row[place], marks, number);
+        mark_if(marks.is_marked(number), asked, place);
     }
 }
 
-/// Whether a superclass has to be looked at, one of so many classes: what it declares counts only where its package is asked for, and
-/// then, where that is found, only a final method, and else only a public or protected one.
+/// Whether a superclass has to be looked at, one of so many classes: what it declares counts only where it is asked for, and then,
+/// where its package is found, only a final method, and else only a public or protected one.
 #[inline(always)]
 fn is_looked_at(
     row: &[bool],
@@ -112,13 +121,13 @@ fn is_looked_at(
     number: usize,
     place: usize,
 ) -> bool
-    requires asked { number < length asked.now }
+    requires asked { place < length asked.now }
     requires marks { number < length marks.now }
     requires place { place < many }
     requires row { length row.now ≡ 2 * many }
     ensures { result ≡ is_looked_at row.now asked.now marks.now many number place }
 {
-    asked.is_marked(number)
+    asked.is_marked(place)
         && row[if marks.is_marked(number) {
             place
         } else {
@@ -172,7 +181,7 @@ fn overrides_final_above(
     ensures asked { length asked.new ≡ length asked.old }
 {
     let many = classes.len();
-    ask(packages, row, asked, chain);
+    ask(packages, row, marks, asked, chain);
     marks.clear();
     marks.mark(packages[of]);
     for place in chain {

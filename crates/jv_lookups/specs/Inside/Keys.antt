@@ -1,6 +1,6 @@
 -- Methods that others can override by their keys, and the classes that are marked for one key (JVMS 4.6, 5.4.5).
-use Rattle.std.specs.Prelude.{◌≡◌, ℕ, ◌+◌, ◌*◌, ◌<◌, Bool, true, false, ◌&&◌, List, length, get_or, nat_eq, Some, slice_get, if◌then◌else◌}
-use Rattle.std.specs.List.{All, list_any}
+use Rattle.std.specs.Prelude.{◌≡◌, ℕ, ◌+◌, ◌*◌, ◌<◌, Bool, true, false, ◌&&◌, List, [], ◌∷◌, length, get_or, nat_eq, Some, slice_get, if◌then◌else◌}
+use Rattle.std.specs.List.{list_any}
 use Rattle.jv_classes.specs.Inside.Seen.{Key, key_of}
 use Rattle.jv_meaning_world.specs.of_class.Class.{Method}
 use Rattle.jv_meaning_world.specs.World.{Loaded}
@@ -47,13 +47,18 @@ pub record TellsFinalsOf (classes : List Loaded) (row : List Bool) (m : Method) 
   pub closed : (place : ℕ) (s : Loaded) → slice_get classes place ≡ Some s → get_or row (length classes + place) false ≡ false
       → is_alike_overridden_if false (flags_alike s m) ≡ false
 
--- the packages of those of these classes that a row marks are asked for
-abbrev pub AreAsked : List ℕ → List Bool → List Bool → List ℕ → Type 0
-AreAsked packages row asked chain =
-    All (λ number. get_or row number false ≡ true → get_or asked (get_or packages number 0) false ≡ true) chain
+-- one of these classes is marked, and in the package with a number
+abbrev pub is_wanted : List ℕ → List Bool → List ℕ → ℕ → Bool
+is_wanted packages row chain number = list_any (λ n. get_or row n false && nat_eq (get_or packages n 0) number) chain
 
--- a class has to be looked at: its package is asked for, and is found and the class may declare a final method, or is not found and
--- the class may declare a public or protected one
+-- a class is asked for where it, or one behind it, is marked and in its package
+abbrev pub AreAsked : List ℕ → List Bool → List Bool → List ℕ → Type 0
+AreAsked packages row asked [] = Unit {0}
+AreAsked packages row asked (n ∷ chain) =
+    (is_wanted packages row (n ∷ chain) (get_or packages n 0) ≡ true → get_or asked n false ≡ true) × AreAsked packages row asked chain
+
+-- a class has to be looked at: it is asked for, and its package is found and it may declare a final method, or its package is not
+-- found and it may declare a public or protected one
 abbrev pub is_looked_at : List Bool → List Bool → List Bool → ℕ → ℕ → ℕ → Bool
 is_looked_at row asked marks many number place =
-    get_or asked number false && get_or row (if get_or marks number false then place else many + place) false
+    get_or asked place false && get_or row (if get_or marks number false then place else many + place) false

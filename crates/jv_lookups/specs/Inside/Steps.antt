@@ -1,12 +1,11 @@
 -- One class further up, by the flags of its method (JVMS 4.6, 5.4.5).
-use Rattle.std.specs.Prelude.{◌≡◌, ℕ, ◌+◌, Bool, false, not, ◌&&◌, ◌||◌, List, Option, Some, None, get_or, slice_get, set, true, if◌then◌else◌}
+use Rattle.std.specs.Prelude.{◌≡◌, ℕ, ◌+◌, Bool, false, not, ◌&&◌, ◌||◌, List, Option, Some, None, get_or, set, true, if◌then◌else◌}
 use Rattle.std.specs.Option.{option_map}
 use Rattle.jv_meaning_world.specs.of_class_structure.Flags.{has, acc_public, acc_private, acc_protected, acc_final}
 use Rattle.jv_meaning_world.specs.of_class.Class.{Method}
 use Rattle.jv_classes.specs.declared.member.Member.{Member}
 use Rattle.jv_meaning_world.specs.World.{Loaded}
 use Rattle.jv_meaning_world.specs.Overriding.{Declared, alike_in}
-use Rattle.jv_lookups.specs.Inside.Overridden.{have_package}
 
 -- what a member shows of its method
 abbrev pub as_method : Member → Method
@@ -32,12 +31,6 @@ is_final_overridden_if found (Some flags) = has flags acc_final && is_overridden
 abbrev pub is_found_if : Bool → Option ℕ → Bool
 is_found_if found None = false
 is_found_if found (Some flags) = is_overridden_if found flags && not (has flags acc_private)
-
--- of the packages that are asked for, those of these classes are marked
-abbrev pub ArePackagesMarked : List Loaded → List ℕ → List Bool → List Bool → List Loaded → Type 0
-ArePackagesMarked classes packages asked marks found =
-    (place : ℕ) (l : Loaded) → slice_get classes place ≡ Some l → get_or asked (get_or packages place 0) false ≡ true
-    → get_or marks (get_or packages place 0) false ≡ have_package found l
 
 -- the class's package is marked where its method is found
 abbrev pub marked_with : List Bool → ℕ → Option ℕ → List Bool

@@ -1,17 +1,39 @@
-use Rattle.std.proofs.Common.{◌≡◌, ◌<◌, length, get_or, sym, subst, ◌∙◌, arith}
-use Rattle.std.specs.List.{All}
-use Rattle.jv_lookups.proofs.Marking.{one_more_asked, all_asked}
+use Rattle.std.proofs.Common.{◌≡◌, ◌+◌, ◌-◌, ◌<◌, ◌≤◌, true, false, cond, set, length, get_or, sym, ap, subst, ◌∙◌, arith}
+use Rattle.std.proofs.lemmas.List.{length-replicate}
+use Rattle.jv_lookups.proofs.Marking.{none_asked, one_more_asked}
 use Rattle.jv_lookups.proofs.above.ask.Goals as goal
 
-pub loop-place-preserved : goal.loop-place-preserved
-loop-place-preserved c =
-    let within : All (λ number. get_or c.args.packages.now number 0 < length c.loop-place.asked) c.args.chain.now =
-    subst (λ n. All (λ number. get_or c.args.packages.now number 0 < n) c.args.chain.now) (sym c.loop-place.invariant.many) c.requires.asked
-    in
+pub loop-end-init : goal.loop-end-init
+loop-end-init c =
+    let none = none_asked c.args.packages.now c.args.row.now c.clear-2.new.self c.clear.new.self c.args.chain.now (length c.args.chain.now) (omega arith) in
     record {
-      asked = one_more_asked c.args.packages.now c.args.row.now c.loop-place.asked c.ask_if.new.asked c.args.chain.now c.loop-place.place-index (omega arith) within c.ask_if.ensures.asked c.loop-place.invariant.asked;
-      many = c.ask_if.ensures.many ∙ c.loop-place.invariant.many;
+      within = omega arith;
+      asked = none.0;
+      wanted = none.1;
+      marks_many = ap length c.clear.ensures ∙ length-replicate (length c.args.marks.now) false;
+      asked_many = ap length c.clear-2.ensures ∙ length-replicate (length c.args.asked.now) false;
     }
 
-pub returns-clause-asked : goal.returns-clause-asked
-returns-clause-asked c = all_asked c.args.packages.now c.args.row.now c.loop-place.asked c.args.chain.now c.loop-place.place-index (omega arith) c.loop-place.invariant.asked
+pub loop-end-preserved : goal.loop-end-preserved
+loop-end-preserved c =
+    let chain = c.args.chain.now in
+    let last = c.loop-end.end - 1 in
+    let some : 0 < c.loop-end.end = omega (arith, c.loop-end-test.true) in
+    let inside : c.loop-end.end ≤ length chain = c.loop-end.invariant.within in
+    let within : last < length chain = omega (arith, some, inside) in
+    let before : last + 1 ≡ c.loop-end.end = omega (arith, some) in
+    let room : get_or c.args.packages.now (get_or chain last 0) 0 < length c.loop-end.marks =
+    subst (λ n. get_or c.args.packages.now (get_or chain last 0) 0 < n) (sym c.loop-end.invariant.marks_many) (c.requires.marks last 0 within)
+    in
+    let space : get_or chain last 0 < length c.loop-end.asked = subst (λ n. get_or chain last 0 < n) (sym c.loop-end.invariant.asked_many) (c.requires.asked last 0 within) in
+    let on = one_more_asked c.args.packages.now c.args.row.now c.loop-end.asked c.loop-end.marks c.mark_if-in-loop-end.new.marks c.mark_if.new.marks chain last c.loop-end.end within before room space
+    c.mark_if.ensures.marked (subst (λ b. c.mark_if-in-loop-end.new.marks ≡ cond b (set c.loop-end.asked (get_or chain last 0) true) c.loop-end.asked) c.is_marked.ensures c.mark_if-in-loop-end.ensures.marked)
+    c.loop-end.invariant.asked c.loop-end.invariant.wanted
+    in
+    record {
+      within = omega (arith, inside);
+      asked = on.0;
+      wanted = on.1;
+      marks_many = c.mark_if.ensures.many ∙ c.loop-end.invariant.marks_many;
+      asked_many = c.mark_if-in-loop-end.ensures.many ∙ c.loop-end.invariant.asked_many;
+    }

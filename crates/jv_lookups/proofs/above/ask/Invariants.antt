@@ -1,9 +1,16 @@
-use Rattle.std.proofs.Common.{◌≡◌, length, take}
+use Rattle.std.proofs.Common.{◌≡◌, ◌≤◌, length, drop}
 use Rattle.jv_lookups.specs.Inside.Keys.{AreAsked}
+use Rattle.jv_lookups.proofs.Marking.{AreWantedMarked}
 use Rattle.jv_lookups.proofs.above.ask.Given as goal
 
-abbrev pub invariant-loop-place : goal.invariant-loop-place
-invariant-loop-place l = record {
-  asked : AreAsked l.packages l.row l.asked (take l.place-index l.chain);
-  many : length l.asked ≡ length l.fn.asked;
+abbrev pub invariant-loop-end : goal.invariant-loop-end
+invariant-loop-end l = record {
+  within : l.end ≤ length l.chain;
+  asked : AreAsked l.packages l.row l.asked (drop l.end l.chain);
+  wanted : AreWantedMarked l.packages l.row (drop l.end l.chain) l.marks;
+  marks_many : length l.marks ≡ length l.fn.marks;
+  asked_many : length l.asked ≡ length l.fn.asked;
 }
+
+abbrev pub decreases-loop-end : goal.decreases-loop-end
+decreases-loop-end l = l.end
