@@ -20,7 +20,7 @@ use Rattle.jv_meaning_world.specs.Overriding.{Declared, is_instance, is_package_
 use Rattle.jv_meaning_world.specs.Verdicts.{is_final_instance}
 use Rattle.jv_lookups.specs.declared.keys.FinalKeys.{FinalKeys}
 use Rattle.jv_lookups.specs.FinalKeys.{TellsFinals}
-use Rattle.jv_lookups.specs.Marks.{MarkedKeys, AreKept, is_marked}
+use Rattle.jv_classes.specs.Marks.{MarkedKeys, AreKept, is_marked}
 use Rattle.jv_lookups.specs.Inside.Keys.{is_final_open, is_open, has_key, AreMarkedMore, AreMarkedBelow, TellsFinalsOf}
 use Rattle.jv_lookups.specs.Inside.Overridden.{have_package, is_overridden, overrides_final}
 use Rattle.jv_lookups.specs.Inside.Steps.{as_method, is_overridden_if, flags_alike, is_alike_overridden_if}

@@ -17,5 +17,4 @@ pub mod Stamped
 pub mod Standing
 pub mod Tests
 pub mod Upward
-pub mod Voids
 pub use Rattle.jv_classes.proofs as laws_of_classes

@@ -2,7 +2,6 @@ pub mod Defaults
 pub mod FinalKeys
 pub mod Finals
 pub mod Inside
-pub mod Marks
 pub mod Packages
 pub mod Places
 pub use Rattle.jv_classes.specs as of_classes

@@ -1,16 +1,14 @@
 //! Which classes of a guest declare which final methods, by keys.
 
 ghost use Rattle.std.specs.Prelude.{◌≡◌, ◌+◌, ◌*◌, ◌<◌, ◌∷◌, [], true, List, IfOk, length};
-ghost use Rattle.jv_classes.specs.Inside.Seen.{key_of};
 ghost use Rattle.jv_meaning_world.specs.World.{Loaded};
 ghost use Rattle.jv_lookups.specs.FinalKeys.{TellsFinals};
-ghost use Rattle.jv_lookups.specs.Marks.{AreKept, is_marked};
+ghost use Rattle.jv_classes.specs.Marks.{AreKept, is_marked};
 ghost use Rattle.jv_lookups.specs.Inside.Keys.{AreMarkedBelow, AreMarkedMore, TellsFinalsOf, is_final_open, is_open};
 ghost use Rattle.jv_lookups.specs.Inside.Steps.{as_method};
 
-use crate::key_marks::KeyMarks;
 use crate::member::{is_final_instance, is_instance, is_overridden};
-use jv_classes::{LoadedClass, Member, Text};
+use jv_classes::{KeyMarks, LoadedClass, Member, Text, member_key};
 use std::alloc::{AllocError, Global};
 use std::hash::{BuildHasher, Hasher, RandomState};
 
@@ -31,14 +29,6 @@ impl Drop for FinalKeys {
 fn seed_of(state: RandomState) -> u64 {
     let hasher = state.build_hasher();
     hasher.finish()
-}
-
-/// The key of a method, by the hashes of its name and of its descriptor.
-fn key_of(seed: u64, name: &Text<'_>, descriptor: &Text<'_>) -> u64
-    ensures { result ≡ key_of seed name.now descriptor.now }
-{
-    name.hash_under(seed)
-        .wrapping_add(descriptor.hash_under(seed))
 }
 
 /// Whether it is a final instance method that a method of another class can override (JVMS 5.4.5).
@@ -83,7 +73,7 @@ fn mark_method(
     ensures finals { AreMarkedMore is_final_open seed marks.old finals (as_method method.now ∷ []) marks.new }
     ensures opens { AreMarkedMore is_open seed marks.old opens (as_method method.now ∷ []) marks.new }
 {
-    let key = key_of(seed, name, descriptor);
+    let key = member_key(seed, name, descriptor);
     mark_if(is_final_open(method), marks, key, finals);
     mark_if(is_open(method), marks, key, opens);
 }
@@ -160,5 +150,5 @@ pub(crate) fn row_of<'k>(
     requires descriptor { descriptor.now ≡ method.now.descriptor.now }
     ensures { (classes : List Loaded) → TellsFinals classes keys.now → TellsFinalsOf classes result.now (as_method method.now) }
 {
-    keys.marks.row(key_of(keys.seed, name, descriptor))
+    keys.marks.row(member_key(keys.seed, name, descriptor))
 }

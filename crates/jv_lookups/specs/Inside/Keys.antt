@@ -6,7 +6,7 @@ use Rattle.jv_meaning_world.specs.of_class.Class.{Method}
 use Rattle.jv_meaning_world.specs.World.{Loaded}
 use Rattle.jv_meaning_world.specs.Overriding.{is_instance, alike_in}
 use Rattle.jv_meaning_world.specs.Verdicts.{is_final_instance}
-use Rattle.jv_lookups.specs.Marks.{MarkedKeys, AreKept, is_marked}
+use Rattle.jv_classes.specs.Marks.{MarkedKeys, AreKept, is_marked}
 use Rattle.jv_lookups.specs.Inside.Overridden.{overrides_final}
 use Rattle.jv_lookups.specs.Inside.Steps.{is_overridden_if, flags_alike, is_alike_overridden_if}
 

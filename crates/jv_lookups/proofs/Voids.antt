@@ -1,5 +1,0 @@
-use Rattle.jv_lookups.specs.Marks.{Void}
-
-pub void : Void → ⊥
-unfolding Void
-void v = v
