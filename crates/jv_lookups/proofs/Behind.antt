@@ -13,7 +13,7 @@ use Rattle.jv_meaning_world.specs.World.{Loaded}
 use Rattle.jv_meaning_world.specs.Verdicts.{passes, is_final_instance, breaks_final_of, breaks_final, overrides_in, declared_by}
 use Rattle.jv_meaning_world.specs.Numbers.{classes_at, AreNumbers}
 use Rattle.jv_lookups.specs.Finals.{declares_final, have_other_names, AreUnlike, breaks_final_at}
-use Rattle.jv_lookups.specs.Inside.Fronts.{AreNamed, IsUpToFinal}
+use Rattle.jv_lookups.specs.Inside.Fronts.{AreNamed, IsUpToMarked}
 use Rattle.jv_lookups.specs.Inside.Overridden.{breaks_final_by}
 use Rattle.jv_lookups.proofs.Passing.{some_at}
 use Rattle.jv_lookups.proofs.Upward.{breaks_final_same}
@@ -69,7 +69,7 @@ none_declared classes finals (n ∷ behind) e numbers none =
         in
         ap (λ o. declare_none (cons_option o (classes_at classes behind))) found.1 ∙ (ap (λ b. not b && declare_none (classes_at classes behind)) unsaid ∙ rest)
 
-module _ (classes : List Loaded) (finals : List Bool) (of : ℕ) (chain front : List ℕ) (numbers : AreNumbers classes chain) (are : finals ≡ map declares_final classes) (upto : IsUpToFinal finals chain front) where
+module _ (classes : List Loaded) (finals : List Bool) (of : ℕ) (chain front : List ℕ) (numbers : AreNumbers classes chain) (are : finals ≡ map declares_final classes) (upto : IsUpToMarked finals chain front) where
   front_and_rest : classes_at classes chain ≡ classes_at classes front ++ classes_at classes (drop upto.many chain)
   front_and_rest =
       ap (classes_at classes) (sym (take-append-drop upto.many chain))

@@ -16,7 +16,7 @@ use Rattle.jv_meaning_world.specs.Overriding.{Declared, is_instance, declared_if
 use Rattle.jv_meaning_world.specs.Verdicts.{passes, declared_by}
 use Rattle.jv_meaning_world.specs.Numbers.{classes_at, AreNumbers}
 use Rattle.jv_lookups.specs.Packages.{AreNumbered}
-use Rattle.jv_lookups.specs.Inside.Fronts.{IsUpToFinal}
+use Rattle.jv_lookups.specs.Inside.Fronts.{IsUpToMarked}
 use Rattle.jv_lookups.specs.Inside.Keys.{AreAsked, TellsFinalsOf, is_wanted, is_looked_at}
 use Rattle.jv_lookups.specs.Inside.Overridden.{have_package, with_overridden, overrides_final, overrides_final_above}
 use Rattle.jv_lookups.specs.Inside.Steps.{flags_alike, is_alike_overridden_if, is_final_overridden_if, is_found_if}
@@ -362,7 +362,7 @@ above_front m found [] behind none = none found
 above_front m found (s ∷ front) behind none =
     ap (λ b. overrides_final found (alike_in s m) || b) (above_front m (with_overridden found (alike_in s m)) front behind none)
 
-module _ (classes : List Loaded) (row : List Bool) (m : Method) (of : ℕ) (chain front : List ℕ) (tells : TellsFinalsOf classes row m) (upto : IsUpToFinal row chain front) where
+module _ (classes : List Loaded) (row : List Bool) (m : Method) (of : ℕ) (chain front : List ℕ) (tells : TellsFinalsOf classes row m) (upto : IsUpToMarked row chain front) where
   front_same : (l : Loaded) → overrides_final_above m (l ∷ []) (classes_at classes chain) ≡ overrides_final_above m (l ∷ []) (classes_at classes front)
   front_same l =
       ap (λ c. overrides_final_above m (l ∷ []) (classes_at classes c)) (sym (take-append-drop upto.many chain))

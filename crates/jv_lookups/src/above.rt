@@ -5,7 +5,7 @@ ghost use Rattle.std.specs.List.{All};
 ghost use Rattle.jv_meaning_world.specs.Numbers.{AreNumbers};
 ghost use Rattle.jv_lookups.specs.Packages.{AreNumbered};
 ghost use Rattle.jv_lookups.specs.FinalKeys.{TellsFinals};
-ghost use Rattle.jv_lookups.specs.Inside.Fronts.{IsUpToFinal};
+ghost use Rattle.jv_lookups.specs.Inside.Fronts.{IsUpToMarked};
 ghost use Rattle.jv_lookups.specs.Inside.Keys.{AreAsked, TellsFinalsOf, is_looked_at};
 ghost use Rattle.jv_lookups.specs.Inside.Overridden.{overrides_final_above, breaks_final_by};
 ghost use Rattle.jv_lookups.specs.Inside.Steps.{as_method, flags_alike, is_final_overridden_if, marked_with};
@@ -67,7 +67,7 @@ fn overrides_final_of(
 /// The superclasses up to the last one that is marked.
 pub(crate) fn up_to_marked<'b>(marks: &[bool], chain: &'b [usize]) -> &'b [usize]
     requires { All (λ number. number < length marks.now) chain.now }
-    ensures { IsUpToFinal marks.now chain.now result.now }
+    ensures { IsUpToMarked marks.now chain.now result.now }
 {
     let mut end = chain.len();
     while end > 0 && !marks[chain[end - 1]] {

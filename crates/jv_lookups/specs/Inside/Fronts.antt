@@ -9,8 +9,8 @@ abbrev pub AreNamed : List Loaded → Type 0
 AreNamed [] = Unit {0}
 AreNamed (l ∷ classes) = EachIsNamed l.class × AreNamed classes
 
--- the superclasses from the direct one on, behind which no class declares a final instance method
-pub record IsUpToFinal (finals : List Bool) (chain front : List ℕ) : Type 0 where
+-- the superclasses from the direct one on, behind which none is marked
+pub record IsUpToMarked (marks : List Bool) (chain front : List ℕ) : Type 0 where
   pub many : ℕ
   pub is : front ≡ take many chain
-  pub none_behind : All (λ number. get_or finals number false ≡ false) (drop many chain)
+  pub none_behind : All (λ number. get_or marks number false ≡ false) (drop many chain)
