@@ -1,5 +1,6 @@
 pub mod Components
 pub mod Numbered
+pub mod Answering
 pub mod Arguments
 pub mod Arrays
 pub mod Called

@@ -24,7 +24,7 @@ bound (Some c) None d = refl
 bound (Some c) (Some n) None = refl
 bound (Some c) (Some n) (Some d) = refl
 
-member_reference : (pool : List Entry) (class : ℕ) (o : Option Entry)
+pub member_reference : (pool : List Entry) (class : ℕ) (o : Option Entry)
     → (class_name_at pool class >>= λ c. name_and_type_in pool o >>= λ m. Some (member_of c m)) ≡ (member_indices class o >>= reference_at pool)
 member_reference pool class None = none_behind (class_name_at pool class)
 member_reference pool class (Some (NameAndType n d)) = bound (class_name_at pool class) (utf8_at pool n) (utf8_at pool d)

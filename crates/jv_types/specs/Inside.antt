@@ -1,4 +1,5 @@
 pub mod Kept
+pub mod Answered
 pub mod Calls
 pub mod Guarded
 pub mod KeptTexts

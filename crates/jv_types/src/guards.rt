@@ -1,7 +1,8 @@
 //! Which constants name a protected member on whose use the rules ask more (JVMS 4.10.1.8).
 
-ghost use Rattle.std.specs.Prelude.{◌≡◌, ◌<◌, false, length, Some, IfOk, IfSome, IfNone};
+ghost use Rattle.std.specs.Prelude.{◌≡◌, ◌<◌, false, length, Some, IfOk, IfSome, IfNone, OnOk};
 ghost use Rattle.std.specs.Option.{option_map};
+ghost use Rattle.std.specs.List.{All};
 ghost use Rattle.jv_pool.specs.Seen.{seen_member};
 ghost use Rattle.jv_classes.specs.Hashes.{AreHashes};
 ghost use Rattle.jv_meaning_world.specs.Numbers.{HoldsAtBoth};
@@ -9,8 +10,10 @@ ghost use Rattle.jv_meaning_world.specs.Numbers.{HoldsAtNumber};
 ghost use Rattle.jv_link.specs.Inside.References.{method_operand_in};
 ghost use Rattle.jv_meaning_typing.specs.Named.{is_guarded_field, is_guarded_method};
 ghost use Rattle.jv_types.specs.Inside.Guarded.{is_proper_subclass, is_far, field_is_far, method_is_far, member_named, IsGuard, IsNumberNamed, IsFoundAt, IsProperAbove, IsNoProperSuper, IsFieldGuarded, IsMethodGuarded, has_wrongly_protected, AreRightlyProtected};
+ghost use Rattle.jv_types.specs.Inside.Answered.{member_is_far, IsMemberFar, AreTextsOf, IsEntry};
 ghost use Rattle.jv_types.specs.Inside.KeptClass.{AreGuardsOf};
 
+use crate::answers::{Answer, keep, known, long_question, place_of};
 use crate::classes::names_class;
 use crate::constants::ConstantTypes;
 use crate::hashed::{PoolHashes, called_indices, descriptor_index, name_index, text_with};
@@ -128,6 +131,68 @@ fn method_is_far(
     }
 }
 
+/// Whether the method, or the field, that is found from a superclass is such a member.
+fn member_is_far(
+    of_method: bool,
+    classes: &Classes<'_>,
+    constants: &ConstantTypes<'_, '_>,
+    hashes: PoolHashes<'_>,
+    current: usize,
+    named: usize,
+    indices: Option<MemberIndices>,
+    member: &MemberName<'_>,
+) -> bool
+    requires hashes { AreHashes hashes.seed constants.now.pool hashes.hashes.now }
+    requires right { AreRightlyProtected classes.now.world }
+    requires current { current < length classes.now.world }
+    requires named { named < length classes.now.world }
+    ensures { IsMemberFar of_method classes.now.world current named (seen_member member.now) result }
+{
+    if of_method {
+        method_is_far(classes, constants, hashes, current, named, indices, member)
+    } else {
+        field_is_far(classes, constants, hashes, current, named, indices, member)
+    }
+}
+
+/// The same. Where the member's texts are long, which are compared in full at each look-up, the answer is kept for the next
+/// constant of the class with the same texts.
+fn member_is_far_once(
+    answers: &mut Vec<Option<Answer>>,
+    of_method: bool,
+    classes: &Classes<'_>,
+    constants: &ConstantTypes<'_, '_>,
+    hashes: PoolHashes<'_>,
+    current: usize,
+    named: usize,
+    indices: Option<MemberIndices>,
+    member: &MemberName<'_>,
+) -> Result<bool, AllocError>
+    requires hashes { AreHashes hashes.seed constants.now.pool hashes.hashes.now }
+    requires right { AreRightlyProtected classes.now.world }
+    requires current { current < length classes.now.world }
+    requires named { named < length classes.now.world }
+    requires texts { IfSome indices (λ i. AreTextsOf constants.now.pool i.name i.descriptor (seen_member member.now)) }
+    requires answers { All (IsEntry classes.now.world current constants.now.pool) answers.old.items }
+    ensures far { IfOk result (IsMemberFar of_method classes.now.world current named (seen_member member.now)) }
+    ensures answers { OnOk result (All (IsEntry classes.now.world current constants.now.pool) answers.new.items) }
+{
+    let Some(question) = long_question(of_method, named, indices, member) else {
+        return Ok(member_is_far(
+            of_method, classes, constants, hashes, current, named, indices, member,
+        ));
+    };
+    let at = place_of(hashes.seed, question);
+    if let Some(is_far) = known(answers, at, question) {
+        return Ok(is_far);
+    }
+    let is_far = member_is_far(
+        of_method, classes, constants, hashes, current, named, indices, member,
+    );
+    keep(answers, at, Answer { question, is_far })?;
+    Ok(is_far)
+}
+
 /// The number of the class that a Class constant names; of an array there is none.
 fn class_at(constants: &ConstantTypes<'_, '_>, index: u16) -> Option<usize>
     ensures number { IsNumberNamed constants.now.types.world constants.now.pool index result }
@@ -162,25 +227,31 @@ fn superclass_at(constants: &ConstantTypes<'_, '_>, current: usize, index: u16) 
 
 /// Whether a Fieldref constant of a class names a guarded field.
 fn is_guarded_field(
+    answers: &mut Vec<Option<Answer>>,
     classes: &Classes<'_>,
     constants: &ConstantTypes<'_, '_>,
     hashes: PoolHashes<'_>,
     current: usize,
     class: u16,
     index: u16,
-) -> bool
+) -> Result<bool, AllocError>
     requires hashes { AreHashes hashes.seed constants.now.pool hashes.hashes.now }
+    requires right { AreRightlyProtected classes.now.world }
     requires world { constants.now.types.world ≡ classes.now.world }
     requires current { current < length classes.now.world }
-    ensures { IsFieldGuarded classes.now.world constants.now.pool class index current result }
+    requires answers { All (IsEntry classes.now.world current constants.now.pool) answers.old.items }
+    ensures guarded { IfOk result (IsFieldGuarded classes.now.world constants.now.pool class index current) }
+    ensures answers { OnOk result (All (IsEntry classes.now.world current constants.now.pool) answers.new.items) }
 {
     let Some(named) = superclass_at(constants, current, class) else {
-        return false;
+        return Ok(false);
     };
     let indices = field_indices(constants.pool(), index);
     match constants.pool().fieldref_index(index) {
         Some(index) => {
-            field_is_far(
+            member_is_far_once(
+                answers,
+                false,
                 classes,
                 constants,
                 hashes,
@@ -190,7 +261,7 @@ fn is_guarded_field(
                 &constants.pool().field_reference(index),
             )
         }
-        None => false,
+        None => Ok(false),
     }
 }
 
@@ -209,56 +280,64 @@ fn method_in<'a>(pool: &Pool<'a>, index: u16) -> Option<MemberName<'a>>
 
 /// Whether a Methodref or an InterfaceMethodref constant of a class names a guarded method.
 fn is_guarded_method(
+    answers: &mut Vec<Option<Answer>>,
     classes: &Classes<'_>,
     constants: &ConstantTypes<'_, '_>,
     hashes: PoolHashes<'_>,
     current: usize,
     class: u16,
     index: u16,
-) -> bool
+) -> Result<bool, AllocError>
     requires hashes { AreHashes hashes.seed constants.now.pool hashes.hashes.now }
     requires right { AreRightlyProtected classes.now.world }
     requires world { constants.now.types.world ≡ classes.now.world }
     requires current { current < length classes.now.world }
-    ensures { IsMethodGuarded classes.now.world constants.now.pool class index current result }
+    requires answers { All (IsEntry classes.now.world current constants.now.pool) answers.old.items }
+    ensures guarded { IfOk result (IsMethodGuarded classes.now.world constants.now.pool class index current) }
+    ensures answers { OnOk result (All (IsEntry classes.now.world current constants.now.pool) answers.new.items) }
 {
     let Some(named) = superclass_at(constants, current, class) else {
-        return false;
+        return Ok(false);
     };
     let indices = called_indices(constants.pool(), index);
     match method_in(constants.pool(), index) {
         Some(method) => {
-            method_is_far(classes, constants, hashes, current, named, indices, &method)
+            member_is_far_once(
+                answers, true, classes, constants, hashes, current, named, indices, &method,
+            )
         }
-        None => false,
+        None => Ok(false),
     }
 }
 
 /// Whether a constant names a guarded member.
 fn is_guarded(
+    answers: &mut Vec<Option<Answer>>,
     classes: &Classes<'_>,
     constants: &ConstantTypes<'_, '_>,
     hashes: PoolHashes<'_>,
     current: usize,
     index: u16,
-) -> bool
+) -> Result<bool, AllocError>
     requires hashes { AreHashes hashes.seed constants.now.pool hashes.hashes.now }
     requires right { AreRightlyProtected classes.now.world }
     requires world { constants.now.types.world ≡ classes.now.world }
     requires current { current < length classes.now.world }
-    ensures { HoldsAtNumber classes.now.world current (λ c. IsGuard classes.now.world c constants.now.pool index result) }
+    requires answers { All (IsEntry classes.now.world current constants.now.pool) answers.old.items }
+    ensures guarded { IfOk result (λ mark. HoldsAtNumber classes.now.world current (λ c. IsGuard classes.now.world c constants.now.pool index mark)) }
+    ensures answers { OnOk result (All (IsEntry classes.now.world current constants.now.pool) answers.new.items) }
 {
     match constants.pool().constant(index) {
         Some(Constant::Fieldref(class, _)) => {
-            is_guarded_field(classes, constants, hashes, current, class, index)
+            is_guarded_field(answers, classes, constants, hashes, current, class, index)
         }
         Some(Constant::Methodref(class, _)) => {
-            is_guarded_method(classes, constants, hashes, current, class, index)
+            is_guarded_method(answers, classes, constants, hashes, current, class, index)
         }
         Some(Constant::InterfaceMethodref(class, _)) => {
-            is_guarded_method(classes, constants, hashes, current, class, index)
+            is_guarded_method(answers, classes, constants, hashes, current, class, index)
         }
-        _ => false,
+        _ => Ok(false),
     }
 }
 
@@ -282,8 +361,10 @@ pub(crate) fn guards_of(
     };
     let count = constants.pool().count();
     let mut marks = Vec::with_capacity(alloc, usize::from(count))?;
+    let mut answers = Vec::new(alloc);
     for index in 0..count {
-        marks.push(is_guarded(classes, constants, hashes, current, index))?;
+        let mark = is_guarded(&mut answers, classes, constants, hashes, current, index)?;
+        marks.push(mark)?;
     }
     Ok(marks)
 }

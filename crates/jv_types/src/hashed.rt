@@ -1,7 +1,10 @@
 //! Texts of members with their hashes.
 
-ghost use Rattle.std.specs.Prelude.{◌≡◌, IfOk};
+ghost use Rattle.std.specs.Prelude.{◌≡◌, IfOk, IfSome, Some};
 ghost use Rattle.jv_classes.specs.Hashes.{AreHashes};
+ghost use Rattle.jv_meaning_typing.specs.Operands.{MethodReference};
+ghost use Rattle.jv_link.specs.Inside.References.{method_operand_in};
+ghost use Rattle.jv_types.specs.Inside.Answered.{AreTextsOf};
 
 use crate::indices::{MemberIndices, method_indices};
 use jv_classes::{Text, text_in};
@@ -31,7 +34,10 @@ pub(crate) fn descriptor_index(indices: Option<MemberIndices>) -> Option<u16> {
 }
 
 /// The indices of a method's class, name and descriptor.
-pub(crate) fn called_indices(pool: &Pool<'_>, index: u16) -> Option<MemberIndices> {
+pub(crate) fn called_indices(pool: &Pool<'_>, index: u16) -> Option<MemberIndices>
+    ensures { (m : MethodReference) → method_operand_in pool.now index ≡ Some m
+        → IfSome result (λ i. AreTextsOf pool.now i.name i.descriptor m.member) }
+{
     match method_indices(pool, index) {
         Some(indices) => Some(indices.member),
         None => None,

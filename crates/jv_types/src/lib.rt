@@ -3,6 +3,7 @@
 //! class itself; and which types the entries of the stack map's frames stand for (4.7.4).
 #![tactic(auto)]
 
+mod answers;
 mod classes;
 mod constant_names;
 mod constants;

@@ -5,12 +5,13 @@ use Rattle.jv_types.proofs.guards.guards_of.Goals as goal
 
 pub loop-index-preserved : goal.loop-index-preserved
 loop-index-preserved c =
-    let pushed : c.push.new.self.items ≡ c.loop-index.marks.items ++ c.is_guarded.result ∷ [] = search rules in
+    let pushed : c.push.new.self.items ≡ c.loop-index.marks.items ++ c.in_ok-mark.mark ∷ [] = search rules in
     record {
       size = search rules;
       below = λ l at.
           subst (AreGuardsBelow (c.loop-index.index + 1) c.args.classes.now.world l c.args.constants.now.pool) (sym pushed)
-          (guards_next c.args.classes.now.world l c.args.constants.now.pool c.loop-index.marks.items c.loop-index.index c.is_guarded.result c.loop-index.invariant.size (c.loop-index.invariant.below l at) (c.is_guarded.ensures l at));
+          (guards_next c.args.classes.now.world l c.args.constants.now.pool c.loop-index.marks.items c.loop-index.index c.in_ok-mark.mark c.loop-index.invariant.size (c.loop-index.invariant.below l at) (c.in_ok-mark.ensures.guarded l at));
+      answers = c.in_ok-mark.ensures.answers;
     }
 
 pub returns : goal.returns

@@ -1,21 +1,35 @@
-use Rattle.std.proofs.Common.{◌≡◌, ◌∙◌, Bool, true, Some, sym, ap, subst}
-use Rattle.jv_pool.specs.Constants.{MemberReference, field_reference_at}
+use Rattle.std.proofs.Common.{◌≡◌, ◌∙◌, true, false, Some, sym, ap, subst}
+use Rattle.std.proofs.lemmas.Result.{IfOk-weaker}
+use Rattle.jv_pool.specs.Constants.{Entry, MemberReference, at_index, field_reference_at}
 use Rattle.jv_pool.specs.Seen.{seen_member}
+use Rattle.std.specs.Prelude.{List}
 use Rattle.jv_meaning_world.specs.World.{World}
 use Rattle.jv_meaning_world.specs.Numbers.{number_named}
 use Rattle.jv_meaning_world.specs.Numbers.{HoldsAtNumber}
-use Rattle.jv_types.specs.Inside.Guarded.{is_proper_subclass, field_is_far}
+use Rattle.jv_types.specs.Inside.Guarded.{is_proper_subclass, IsFieldGuarded}
+use Rattle.jv_types.specs.Inside.Answered.{IsMemberFar}
+use Rattle.jv_types.specs.Inside.Parts.{field_indices}
+use Rattle.jv_types.proofs.Answering.{field_texts_in}
 use Rattle.jv_types.proofs.Guarding.{one_member, field_guarded}
 use Rattle.jv_types.proofs.guards.is_guarded_field.Goals as goal
 
-pub returns-in-Some-fieldref_index : goal.returns-in-Some-fieldref_index
-returns-in-Some-fieldref_index c = λ l at reference class_is is.
+pub member_is_far_once-requires-clause-texts : goal.member_is_far_once-requires-clause-texts
+member_is_far_once-requires-clause-texts c =
+    let pool : List Entry = c.args.constants.now.pool in
+    field_texts_in pool (at_index pool c.args.index) c.field_indices-indices.result (seen_member c.field_reference.result)
+    (subst (λ (p : List Entry). c.field_indices-indices.result ≡ field_indices p (at_index p c.args.index)) c.pool.ensures c.field_indices-indices.ensures)
+    (sym (ap (field_reference_at pool) c.in-Some-fieldref_index.ensures.same) ∙ (sym (ap (λ p. field_reference_at p c.in-Some-fieldref_index.index.0) c.pool-in-Some-fieldref_index.ensures) ∙ c.field_reference.ensures))
+
+pub returns-in-Some-fieldref_index-clause-guarded : goal.returns-in-Some-fieldref_index-clause-guarded
+returns-in-Some-fieldref_index-clause-guarded c =
     let world : World = c.args.classes.now.world in
     let current = c.args.current in
     let k = c.in-Some.named in
-    let answer : Bool = c.field_is_far.result in
+    IfOk-weaker c.member_is_far_once.result (IsMemberFar false world current k (seen_member c.field_reference.result)) (IsFieldGuarded world c.args.constants.now.pool c.args.class c.args.index current)
+    (λ answer far l at reference class_is is.
     let same : seen_member c.field_reference.result ≡ reference =
     one_member (sym c.field_reference.ensures ∙ (ap (λ p. field_reference_at p c.in-Some-fieldref_index.index.0) c.pool-in-Some-fieldref_index.ensures ∙ (ap (field_reference_at c.args.constants.now.pool) c.in-Some-fieldref_index.ensures.same ∙ is))) in
     field_guarded world current l reference k answer at (subst (λ (w : World). number_named w reference.class ≡ Some k) c.requires.world (c.in-Some.ensures.found reference.class class_is))
     (subst (λ (w : World). HoldsAtNumber w current (λ m. HoldsAtNumber w k (λ n. is_proper_subclass w m n ≡ true))) c.requires.world c.in-Some.ensures.below)
-    (subst (λ (r : MemberReference). HoldsAtNumber world current (λ m. HoldsAtNumber world k (λ n. answer ≡ field_is_far world m n r))) same c.field_is_far.ensures)
+    (subst (λ (r : MemberReference). IsMemberFar false world current k r answer) same far))
+    c.member_is_far_once.ensures.far
