@@ -15,8 +15,9 @@ use std::hash::{DefaultHasher, Hasher};
 /// A name or a descriptor of more bytes is long.
 const LONG: usize = 256;
 
-/// So many answers are kept at most.
-const PLACES: u64 = 1024;
+/// So many places there are for answers, 24 bytes each: with a thousand questions of one class file, one of sixteen meets another at its
+/// place.
+const PLACES: u64 = 16_384;
 
 /// Which member is asked for: a method or a field, the number of the class that it is named in, and the indices of the Utf8
 /// constants that are its name and its descriptor.
@@ -105,6 +106,7 @@ fn make_room(entries: &mut Vec<Option<Answer>>) -> Result<(), AllocError>
         → OnOk result (All (IsEntry world current pool) entries.new.items) }
 {
     if entries.is_empty() {
+        entries.reserve(PLACES as usize)?;
         for _ in 0..PLACES {
             entries.push(None)?;
         }
