@@ -12,8 +12,8 @@ use Rattle.jv_types.specs.declared.indices.MethodIndices.{MethodIndices}
 use Rattle.jv_types.specs.declared.answers.Question.{Question}
 use Rattle.jv_types.specs.Inside.Guarded.{field_is_far, method_is_far, member_named}
 use Rattle.jv_types.specs.Inside.Answered.{member_is_far, IsMemberFar, AreTextsOf, IsAbout, IsAnswer}
-use Rattle.jv_types.specs.Inside.Parts.{field_indices, method_indices, member_indices, reference_of, reference_at}
-use Rattle.jv_types.proofs.Members.{member_reference, method_at, method_in, method_found, constant_of}
+use Rattle.jv_types.specs.Inside.Parts.{field_indices, method_indices, reference_of, reference_at}
+use Rattle.jv_types.proofs.Members.{member_reference, method_in, method_found, constant_of}
 
 -- ---- the texts of what has indices
 

@@ -9,8 +9,8 @@ ghost use Rattle.jv_meaning_world.specs.Numbers.{HoldsAtBoth};
 ghost use Rattle.jv_meaning_world.specs.Numbers.{HoldsAtNumber};
 ghost use Rattle.jv_link.specs.Inside.References.{method_operand_in};
 ghost use Rattle.jv_meaning_typing.specs.Named.{is_guarded_field, is_guarded_method};
-ghost use Rattle.jv_types.specs.Inside.Guarded.{is_proper_subclass, is_far, field_is_far, method_is_far, member_named, IsGuard, IsNumberNamed, IsFoundAt, IsProperAbove, IsNoProperSuper, IsFieldGuarded, IsMethodGuarded, has_wrongly_protected, AreRightlyProtected};
-ghost use Rattle.jv_types.specs.Inside.Answered.{member_is_far, IsMemberFar, AreTextsOf, IsEntry};
+ghost use Rattle.jv_types.specs.Inside.Guarded.{is_proper_subclass, is_far, field_is_far, method_is_far, member_named, IsGuardOf, IsNumberNamed, IsFoundAt, IsProperAbove, IsNoProperSuper, IsFieldGuarded, IsMethodGuarded, has_wrongly_protected, AreRightlyProtected};
+ghost use Rattle.jv_types.specs.Inside.Answered.{IsMemberFar, AreTextsOf, IsEntry};
 ghost use Rattle.jv_types.specs.Inside.KeptClass.{AreGuardsOf};
 
 use crate::answers::{Answer, keep, known, long_question, place_of};
@@ -324,7 +324,7 @@ fn is_guarded(
     requires world { constants.now.types.world ≡ classes.now.world }
     requires current { current < length classes.now.world }
     requires answers { All (IsEntry classes.now.world current constants.now.pool) answers.old.items }
-    ensures guarded { IfOk result (λ mark. HoldsAtNumber classes.now.world current (λ c. IsGuard classes.now.world c constants.now.pool index mark)) }
+    ensures guarded { IfOk result (IsGuardOf classes.now.world current constants.now.pool index) }
     ensures answers { OnOk result (All (IsEntry classes.now.world current constants.now.pool) answers.new.items) }
 {
     match constants.pool().constant(index) {

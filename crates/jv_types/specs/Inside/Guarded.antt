@@ -62,6 +62,10 @@ pub record IsGuard (world : World) (current : Loaded) (pool : List Entry) (index
 
 -- ---- by number and index
 
+-- what the constant names is guarded, for the class with that number
+abbrev pub IsGuardOf : World → ℕ → List Entry → ℕ → Bool → Type 0
+IsGuardOf world current pool index mark = HoldsAtNumber world current (λ c. IsGuard world c pool index mark)
+
 abbrev pub IsFieldFar : World → ℕ → ℕ → MemberReference → Bool → Type 0
 IsFieldFar world current named field answer = HoldsAtBoth world current named (λ c n. answer ≡ field_is_far world c n field)
 
