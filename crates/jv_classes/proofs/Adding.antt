@@ -3,8 +3,10 @@ use Rattle.std.proofs.Common.{◌≡◌, ℕ, true, List, sym, ap, ◌∙◌}
 use Rattle.std.specs.Str.{bytes_eq}
 use Rattle.std.proofs.lemmas.Bool.{and_parts, eq-eqb}
 use Rattle.std.proofs.lemmas.Slice.Eq.{bytes_eq-Decides}
-use Rattle.jv_classes.specs.Inside.Seen.{MemberSeen, declares, Key, key_of}
-use Rattle.jv_classes.specs.Inside.Linked.{slot_of, is_in_slot}
+use Rattle.jv_classes.specs.Inside.Seen.{MemberSeen, declares}
+use Rattle.jv_classes.specs.Texts.{Key, key_of}
+use Rattle.jv_classes.specs.Inside.Linked.{is_in_slot}
+use Rattle.jv_classes.specs.Marks.{slot_of}
 
 -- a member with a name and a descriptor has their key
 pub same_keys : (seed : ℕ) (name descriptor : List ℕ) (m : MemberSeen) → declares name descriptor m ≡ true → key_of seed m.name m.descriptor ≡ key_of seed name descriptor

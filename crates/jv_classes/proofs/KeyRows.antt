@@ -7,7 +7,7 @@ use Rattle.std.proofs.lemmas.List.{length-map, length-replicate, get_or-replicat
 use borrow.Author.Tests.{eqb-true, eqb-false}
 use Rattle.jv_classes.specs.Ways.{Rows, related, with_pair}
 use Rattle.jv_classes.specs.Marks.{MarkedKeys, AreKept, is_marked}
-use Rattle.jv_classes.specs.Inside.Linked.{slot_of}
+use Rattle.jv_classes.specs.Marks.{slot_of}
 use Rattle.jv_classes.specs.Inside.Steps.{row_items, rows_of}
 use Rattle.jv_classes.specs.Inside.Marked.{AreWide}
 use Rattle.jv_classes.proofs.RelationRows.{row_there}

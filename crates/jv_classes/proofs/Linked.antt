@@ -11,8 +11,10 @@ use Rattle.std.specs.Option.{option_map}
 use Rattle.std.proofs.lemmas.Option.{slice_get-map, slice_get_within, slice_get-get_or, get_or_from_slice_get}
 use Rattle.jv_classes.proofs.FirstPlace.{some_place, first_stays, last_place, same_place}
 use Rattle.jv_classes.proofs.Pushed.{in_two_parts}
-use Rattle.jv_classes.specs.Inside.Seen.{GatheredSeen, MemberSeen, IsHashed, IsWithin, gathered_seen, key_of, kept_key, kept_seen, kept_text, member_made, text_at, with_text}
-use Rattle.jv_classes.specs.Inside.Linked.{slot_of, is_in_slot, seen_at, end_of, AreKept, AreLinked}
+use Rattle.jv_classes.specs.Inside.Seen.{GatheredSeen, MemberSeen, IsHashed, IsWithin, gathered_seen, kept_key, kept_seen, kept_text, member_made, text_at, with_text}
+use Rattle.jv_classes.specs.Texts.{key_of}
+use Rattle.jv_classes.specs.Inside.Linked.{is_in_slot, seen_at, end_of, AreKept, AreLinked}
+use Rattle.jv_classes.specs.Marks.{slot_of}
 use Rattle.jv_classes.specs.declared.members.KeptMember.{KeptMember}
 use Rattle.jv_classes.specs.declared.members.KeptText.{KeptText}
 

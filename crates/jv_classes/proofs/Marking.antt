@@ -10,7 +10,7 @@ use Rattle.std.proofs.lemmas.Slice.Eq.{bytes_eq-Decides}
 use Rattle.std.proofs.lemmas.Option.{slice_get_within, slice_get-get_or}
 use Rattle.jv_meaning_world.specs.World.{Loaded, World}
 use Rattle.jv_classes.specs.Marks.{MarkedKeys, AreKept, is_marked}
-use Rattle.jv_classes.specs.Inside.Seen.{key_of}
+use Rattle.jv_classes.specs.Texts.{key_of}
 
 pub same_some : {X : Type 0} (x y : X) → Some x ≡ Some y → x ≡ y
 same_some x y e = cc

@@ -1,10 +1,13 @@
 -- Which classes may declare a member of a name and a descriptor, by keys: marks that leave out none that does.
-use Rattle.std.specs.Prelude.{◌≡◌, ℕ, Bool, false, true, List, length, Some, None, get_or, slice_get}
+use Rattle.std.specs.Prelude.{◌≡◌, ◌-◌, ℕ, Bool, false, true, List, length, Some, None, bit_and, get_or, slice_get}
 use Rattle.jv_meaning_world.specs.of_class.Class.{Field, Method, field_named, method_named}
 use Rattle.jv_meaning_world.specs.World.{Loaded, World}
 use Rattle.jv_classes.specs.Ways.{Rows, related, with_pair}
-use Rattle.jv_classes.specs.Inside.Seen.{Key, key_of}
-use Rattle.jv_classes.specs.Inside.Linked.{slot_of}
+use Rattle.jv_classes.specs.Texts.{Key, key_of}
+
+-- the slot into which a key falls, of so many, which are a power of two
+abbrev pub slot_of : ℕ → Key → ℕ
+slot_of size key = bit_and key (size - 1)
 
 -- rows of so many marks, one for each class; a key has the row of its slot
 pub record MarkedKeys : Type 0 where

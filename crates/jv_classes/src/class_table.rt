@@ -12,10 +12,11 @@ ghost use Rattle.jv_classes.specs.Once.{direct_numbers};
 ghost use Rattle.jv_classes.specs.Marks.{MarksField, MarksMethod};
 ghost use Rattle.jv_meaning_world.specs.Numbers.{HoldsAtNumber};
 
-use crate::declared_marks::{field_marks, member_key, method_marks};
+use crate::declared_marks::{field_marks, method_marks};
 use crate::key_marks::KeyMarks;
 use crate::list::ClassList;
 use crate::loaded_class::LoadedClass;
+use crate::members::member_key;
 use crate::relation::Relation;
 use crate::supers::{are_marked, can_name_supers, have_right_kind, is_final_at};
 use crate::table::{
@@ -49,7 +50,8 @@ impl<'a> Model for ClassTable<'a> {
 
     ghost view = { λ t. t.list };
 
-    ghost invariant = { λ t. IsTable t.list (numbers_of t.supers.items) t.direct.items t.above t.superclasses t.loadable.items t.seed t.methods t.fields };
+    ghost invariant = { λ t. IsTable t.list (numbers_of t.supers.items) t.direct.items t.above t.superclasses t.loadable.items
+        t.seed t.methods t.fields };
 }
 
 impl Drop for ClassTable<'_> {

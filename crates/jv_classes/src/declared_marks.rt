@@ -1,21 +1,12 @@
 //! Which classes of a world may declare a method, or a field, of a name and a descriptor.
 
-ghost use Rattle.std.specs.Prelude.{◌≡◌, ◌<◌, IfOk, length};
-ghost use Rattle.jv_classes.specs.Inside.Seen.{key_of};
+ghost use Rattle.std.specs.Prelude.{◌<◌, IfOk};
 ghost use Rattle.jv_classes.specs.Marks.{AreKept, AreFieldsMarked, AreMethodsMarked, TellsFields, TellsMethods};
 
 use crate::key_marks::KeyMarks;
 use crate::loaded_class::LoadedClass;
-use crate::text::Text;
+use crate::members::member_key;
 use std::alloc::{AllocError, Global};
-
-/// The key of a member, by the hashes of its name and of its descriptor.
-pub fn member_key(seed: u64, name: &Text<'_>, descriptor: &Text<'_>) -> u64
-    ensures { result ≡ key_of seed name.now descriptor.now }
-{
-    name.hash_under(seed)
-        .wrapping_add(descriptor.hash_under(seed))
-}
 
 /// Marks the methods of a class for its number.
 fn mark_methods(marks: &mut KeyMarks, seed: u64, class: &LoadedClass<'_>, number: usize)

@@ -26,12 +26,12 @@ mod table;
 mod text;
 
 pub use class_table::ClassTable;
-pub use declared_marks::member_key;
 pub use hashing::{pool_hashes, text_in};
 pub use key_marks::KeyMarks;
 pub use law::short_ways;
 pub use list::ClassList;
 pub use loaded_class::LoadedClass;
 pub use member::Member;
+pub use members::member_key;
 pub use names::Names;
 pub use text::Text;

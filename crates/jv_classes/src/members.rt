@@ -3,9 +3,11 @@
 ghost use Rattle.std.specs.Prelude.{◌≡◌, ◌<◌, ◌+◌, IfOk, OnOk, Some, cond, length, map, position, slice_get, get_or, set};
 ghost use Rattle.std.specs.List.{All};
 ghost use Rattle.std.specs.Option.{IsSomeAnd};
-ghost use Rattle.jv_classes.specs.Inside.Seen.{kept_seen, kept_text, text_at, member_seen, declares, key_of, IsHashed, IsWithin};
+ghost use Rattle.jv_classes.specs.Inside.Seen.{kept_seen, kept_text, text_at, member_seen, declares, IsHashed, IsWithin};
+ghost use Rattle.jv_classes.specs.Texts.{key_of};
 ghost use Rattle.jv_classes.specs.Inside.Seen.{nothing_gathered, with_text, with_member};
-ghost use Rattle.jv_classes.specs.Inside.Linked.{slot_of, AreKept};
+ghost use Rattle.jv_classes.specs.Inside.Linked.{AreKept};
+ghost use Rattle.jv_classes.specs.Marks.{slot_of};
 
 use crate::member::Member;
 use crate::text::{Text, seed_of};
@@ -114,9 +116,9 @@ impl Drop for Gathered<'_> {
     }
 }
 
-/// The number under which a member is found, by the hashes of its name and of its descriptor. Members of other texts that have
-/// the same are as rare as texts of one hash: what is in a name is not in a descriptor.
-fn key_of(seed: u64, name: &Text<'_>, descriptor: &Text<'_>) -> u64
+/// The key under which a member is found, by the hashes of its name and of its descriptor under a seed. Members of other texts that
+/// have the same are as rare as texts of one hash: what is in a name is not in a descriptor.
+pub fn member_key(seed: u64, name: &Text<'_>, descriptor: &Text<'_>) -> u64
     ensures { result ≡ key_of seed name.now descriptor.now }
 {
     name.hash_under(seed)
@@ -193,7 +195,7 @@ fn key_at(seed: u64, texts: &[KeptText<'_>], name: u16, descriptor: u16) -> u64
     requires descriptor { descriptor < length texts.now }
     ensures { result ≡ key_of seed (text_at (map kept_text texts.now) name) (text_at (map kept_text texts.now) descriptor) }
 {
-    key_of(
+    member_key(
         seed,
         &text_at(seed, texts, name),
         &text_at(seed, texts, descriptor),
@@ -216,7 +218,7 @@ fn declares(
 {
     let own_name = text_at(seed, texts, member.name);
     let own_descriptor = text_at(seed, texts, member.descriptor);
-    key_of(seed, &own_name, &own_descriptor) == key
+    member_key(seed, &own_name, &own_descriptor) == key
         && own_name.bytes() == name.bytes()
         && own_descriptor.bytes() == descriptor.bytes()
 }
@@ -240,7 +242,7 @@ fn first_of(
     requires { AreKept seed texts.now members.now ends.now }
     ensures { result ≡ position (declares name.now descriptor.now) (map (kept_seen (map kept_text texts.now)) members.now) }
 {
-    let key = key_of(seed, name, descriptor);
+    let key = member_key(seed, name, descriptor);
     let slot = slot_of(ends.len(), key);
     let mut end = usize::from(ends[slot]);
     let mut found = None;

@@ -12,7 +12,7 @@ use Rattle.std.proofs.lemmas.Option.{slice_get_read, get_or_from_slice_get, slic
 use Rattle.std.proofs.lemmas.Slice.Eq.{bytes_eq-Decides}
 use Rattle.jv_meaning_world.specs.of_class_structure.Flags.{has, acc_public, acc_protected, acc_final}
 use Rattle.jv_meaning_world.specs.of_class.Class.{Method, method_named}
-use Rattle.jv_classes.specs.Inside.Seen.{Key, key_of}
+use Rattle.jv_classes.specs.Texts.{Key, key_of}
 use Rattle.jv_classes.specs.declared.member.Member.{Member}
 use Rattle.jv_classes.specs.Members.{IsMethod}
 use Rattle.jv_meaning_world.specs.World.{Loaded}

@@ -149,8 +149,10 @@ fn overrides_final_if(
     requires number { number < length marks.old }
     requires name { name.now ≡ method.now.name.now }
     requires descriptor { descriptor.now ≡ method.now.descriptor.now }
-    ensures broken { result ≡ (is_looked_at && is_final_overridden_if (get_or marks.old number false) (flags_alike class.now (as_method method.now))) }
-    ensures marks { marks.new ≡ (if is_looked_at then marked_with marks.old number (flags_alike class.now (as_method method.now)) else marks.old) }
+    ensures broken { result
+        ≡ (is_looked_at && is_final_overridden_if (get_or marks.old number false) (flags_alike class.now (as_method method.now))) }
+    ensures marks { marks.new
+        ≡ (if is_looked_at then marked_with marks.old number (flags_alike class.now (as_method method.now)) else marks.old) }
 {
     is_looked_at && overrides_final_of(class, number, method, name, descriptor, marks)
 }

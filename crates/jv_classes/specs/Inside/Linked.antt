@@ -1,13 +1,11 @@
 -- A table in which members are found: each falls into a slot, and those of one slot are linked, the last one first.
-use Rattle.std.specs.Prelude.{◌≡◌, ◌<◌, ◌-◌, ℕ, zero, suc, Bool, List, [], Some, length, map, get_or, slice_get, bit_and, nat_eq, if◌then◌else◌}
+use Rattle.std.specs.Prelude.{◌≡◌, ◌<◌, ℕ, zero, suc, Bool, List, [], Some, length, map, get_or, slice_get, nat_eq, if◌then◌else◌}
 use Rattle.std.specs.List.{All}
-use Rattle.jv_classes.specs.Inside.Seen.{MemberSeen, IsHashed, IsWithin, Key, key_of, kept_key, kept_seen, kept_text, member_made}
+use Rattle.jv_classes.specs.Inside.Seen.{MemberSeen, IsHashed, IsWithin, kept_key, kept_seen, kept_text, member_made}
+use Rattle.jv_classes.specs.Marks.{slot_of}
+use Rattle.jv_classes.specs.Texts.{key_of}
 use Rattle.jv_classes.specs.declared.members.KeptMember.{KeptMember}
 use Rattle.jv_classes.specs.declared.members.KeptText.{KeptText}
-
--- the slot into which a key falls, of so many, which are a power of two
-abbrev pub slot_of : ℕ → Key → ℕ
-slot_of size key = bit_and key (size - 1)
 
 abbrev pub is_in_slot : ℕ → ℕ → ℕ → MemberSeen → Bool
 is_in_slot seed size slot m = nat_eq (slot_of size (key_of seed m.name m.descriptor)) slot

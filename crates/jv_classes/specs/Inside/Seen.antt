@@ -1,7 +1,7 @@
 -- A field or a method as it is kept.
-use Rattle.std.specs.Prelude.{◌≡◌, ◌<◌, ◌+◌, ◌%◌, ◌^◌, ◌++◌, ℕ, Bool, ◌&&◌, List, [], ◌∷◌, get_or, map}
+use Rattle.std.specs.Prelude.{◌≡◌, ◌<◌, ◌++◌, ℕ, Bool, ◌&&◌, List, [], ◌∷◌, get_or, map}
 use Rattle.std.specs.Str.{bytes_eq}
-use Rattle.jv_classes.specs.Texts.{text_hash}
+use Rattle.jv_classes.specs.Texts.{text_hash, Key, key_of}
 use Rattle.jv_meaning_world.specs.of_class.Class.{Field, Method}
 use Rattle.jv_classes.specs.declared.member.Member.{Member}
 use Rattle.jv_classes.specs.declared.members.KeptMember.{KeptMember}
@@ -47,13 +47,6 @@ kept_seen texts m = member_made m.access_flags (text_at texts m.name) (text_at t
 -- its texts are among so many
 abbrev pub IsWithin : ℕ → KeptMember → Type 0
 IsWithin count m = (m.name < count) × (m.descriptor < count)
-
--- the number under which a member is found, by the hashes of its name and of its descriptor
-abbrev pub Key : Type 0
-Key = ℕ
-
-abbrev pub key_of : ℕ → List ℕ → List ℕ → Key
-key_of seed name descriptor = (text_hash seed name + text_hash seed descriptor) % 2 ^ 64
 
 -- the key of a member as it is kept
 abbrev pub kept_key : ℕ → List (List ℕ) → KeptMember → Key

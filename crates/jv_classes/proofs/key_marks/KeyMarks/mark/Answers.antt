@@ -3,7 +3,7 @@ use Rattle.std.specs.Vec.{with_item}
 use Rattle.std.proofs.lemmas.List.{length-map}
 use Rattle.jv_classes.specs.Ways.{Rows}
 use Rattle.jv_classes.specs.Marks.{MarkedKeys, AreKept, is_marked}
-use Rattle.jv_classes.specs.Inside.Linked.{slot_of}
+use Rattle.jv_classes.specs.Marks.{slot_of}
 use Rattle.jv_classes.specs.Inside.Marked.{AreWide}
 use Rattle.jv_classes.specs.Inside.Steps.{row_items, rows_of}
 use Rattle.jv_classes.proofs.KeyRows.{wide_row, wide_more, is_set, are_kept}

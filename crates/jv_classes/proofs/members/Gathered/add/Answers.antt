@@ -2,8 +2,10 @@ use Rattle.std.proofs.Common.{◌≡◌, ◌∙◌, ◌<◌, ◌++◌, ◌∷◌
 use Rattle.std.proofs.lemmas.List.{length-map}
 use Rattle.jv_classes.specs.declared.members.KeptMember.{KeptMember}
 use Rattle.jv_classes.specs.declared.members.KeptText.{KeptText}
-use Rattle.jv_classes.specs.Inside.Seen.{kept_key, kept_text, key_of, text_at}
-use Rattle.jv_classes.specs.Inside.Linked.{slot_of, AreKept}
+use Rattle.jv_classes.specs.Inside.Seen.{kept_key, kept_text, text_at}
+use Rattle.jv_classes.specs.Texts.{key_of}
+use Rattle.jv_classes.specs.Inside.Linked.{AreKept}
+use Rattle.jv_classes.specs.Marks.{slot_of}
 use Rattle.jv_classes.proofs.Linked.{one_more_member}
 use Rattle.jv_classes.proofs.members.Gathered.add.Goals as goal
 
