@@ -77,6 +77,7 @@ pub(crate) fn up_to_marked<'b>(marks: &[bool], chain: &'b [usize]) -> &'b [usize
 }
 
 /// Marks a number, where it is wanted.
+#[inline(always)]
 fn mark_if(is_wanted: bool, marks: &mut Marks, number: usize)
     requires { number < length marks.old }
     ensures many { length marks.new ≡ length marks.old }
