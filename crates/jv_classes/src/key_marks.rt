@@ -8,7 +8,7 @@ use std::alloc::{AllocError, Global};
 use std::marker::Model;
 
 /// As many rows there are at most.
-const MOST: usize = 4096;
+const MOST: usize = 2048;
 
 /// Marks of keys by class: a key has a row, with a mark for each class, and may share it with others. Which keys share one is up
 /// to hashes that a stranger cannot know.
