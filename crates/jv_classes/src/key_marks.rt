@@ -7,8 +7,10 @@ use crate::members::slot_of;
 use std::alloc::{AllocError, Global};
 use std::marker::Model;
 
-/// As many rows there are at most.
-const MOST: usize = 2048;
+/// As many rows there are at least, and at most.
+const LEAST: usize = 256;
+
+const MOST: usize = 4096;
 
 /// Marks of keys by class: a key has a row, with a mark for each class, and may share it with others. Which keys share one is up
 /// to hashes that a stranger cannot know.
@@ -35,12 +37,13 @@ impl Drop for KeyMarks {
     }
 }
 
-/// How many rows there are for so many members of so many classes, a power of two: some four for each member of a class.
+/// How many rows there are for so many members of so many classes, a power of two: some 64 for each member that a class has, so that
+/// few keys that a class does not declare are marked for it.
 fn rows_for(members: usize, classes: usize) -> usize
     ensures { 0 < result }
 {
-    let wanted = (members / classes.max(1)).saturating_mul(4);
-    wanted.clamp(1, MOST).next_power_of_two()
+    let wanted = members.saturating_mul(64) / classes.max(1);
+    wanted.clamp(LEAST, MOST).next_power_of_two()
 }
 
 impl KeyMarks {

@@ -12,10 +12,6 @@ use jv_classes::{KeyMarks, LoadedClass, Member, Text, member_key};
 use std::alloc::{AllocError, Global};
 use std::hash::{BuildHasher, Hasher, RandomState};
 
-/// For so many times as many members as there are methods the marks have rows: each method has two columns, and with four times as
-/// many rows few keys of a class fall into one row.
-const ROOM: usize = 8;
-
 /// The methods of a guest's classes that others can override, by keys: a key has a row of two marks for each class, one for a final
 /// method, and behind these one for a public or protected method. Which keys share a row is up to hashes that a stranger cannot know.
 pub struct FinalKeys {
@@ -137,8 +133,7 @@ pub fn final_keys(
     ensures { IfOk result (TellsFinals classes.now) }
 {
     let seed = seed_of(state);
-    let members = method_count_of_all(classes).saturating_mul(ROOM);
-    let mut marks = KeyMarks::new(alloc, members, 2 * classes.len())?;
+    let mut marks = KeyMarks::new(alloc, method_count_of_all(classes), 2 * classes.len())?;
     mark_classes(&mut marks, seed, classes);
     Ok(FinalKeys { seed, marks })
 }
