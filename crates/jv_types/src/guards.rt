@@ -16,7 +16,7 @@ ghost use Rattle.jv_types.specs.Inside.KeptClass.{AreGuardsOf};
 use crate::answers::{Answer, keep, known, long_question, place_of};
 use crate::classes::names_class;
 use crate::constants::ConstantTypes;
-use crate::hashed::{PoolHashes, called_indices, descriptor_index, name_index, text_with};
+use crate::hashed::{PoolHashes, called_indices, descriptor_with, name_with};
 use crate::indices::{MemberIndices, field_indices};
 use jv_classes::pool_hashes;
 use jv_link::of_loader::{ClassTable, Classes, LoadedClass, class_method};
@@ -79,12 +79,13 @@ fn field_is_far(
     requires hashes { AreHashes hashes.seed constants.now.pool hashes.hashes.now }
     requires current { current < length classes.now.world }
     requires named { named < length classes.now.world }
+    requires texts { IfSome indices (λ i. AreTextsOf constants.now.pool i.name i.descriptor (seen_member field.now)) }
     ensures { HoldsAtBoth classes.now.world current named (λ c n. result ≡ field_is_far classes.now.world c n (seen_member field.now)) }
 {
     let table = classes.table();
     let pool = constants.pool();
-    let name = text_with(hashes, pool, name_index(indices), field.name);
-    let descriptor = text_with(hashes, pool, descriptor_index(indices), field.descriptor);
+    let name = name_with(hashes, pool, indices, field);
+    let descriptor = descriptor_with(hashes, pool, indices, field);
     match classes.find_field(named, &name, &descriptor) {
         Some(place) => is_far(
             table,
@@ -111,6 +112,7 @@ fn method_is_far(
     requires right { AreRightlyProtected classes.now.world }
     requires current { current < length classes.now.world }
     requires named { named < length classes.now.world }
+    requires texts { IfSome indices (λ i. AreTextsOf constants.now.pool i.name i.descriptor (seen_member method.now)) }
     ensures { HoldsAtBoth classes.now.world current named (λ c n. result ≡ method_is_far classes.now.world c n (seen_member method.now)) }
 {
     let table = classes.table();
@@ -118,8 +120,8 @@ fn method_is_far(
         return false;
     }
     let pool = constants.pool();
-    let name = text_with(hashes, pool, name_index(indices), method.name);
-    let descriptor = text_with(hashes, pool, descriptor_index(indices), method.descriptor);
+    let name = name_with(hashes, pool, indices, method);
+    let descriptor = descriptor_with(hashes, pool, indices, method);
     match class_method(table, named, &name, &descriptor) {
         Some(place) => is_far(
             table,
@@ -146,6 +148,7 @@ fn member_is_far(
     requires right { AreRightlyProtected classes.now.world }
     requires current { current < length classes.now.world }
     requires named { named < length classes.now.world }
+    requires texts { IfSome indices (λ i. AreTextsOf constants.now.pool i.name i.descriptor (seen_member member.now)) }
     ensures { IsMemberFar of_method classes.now.world current named (seen_member member.now) result }
 {
     if of_method {

@@ -22,7 +22,7 @@ returns-in-Some c =
     let there = class_there c.table-table.result.now c.classes.result.now c.args.named c.index-classes-named.result n c.classes.ensures c.index-classes-named.is at_n in
     place_is_far c.table-table.result.now l (seen_member c.args.method.now) c.args.named n at_n c.in-Some.place c.method_at.result.access_flags answer
     (ap is_interface (sym there) ∙ (sym c.is_interface.ensures ∙ c.if-is_interface.false))
-    c.text_with-name.result c.text_with-descriptor.result c.text_with-name.ensures c.text_with-descriptor.ensures
+    c.name_with-name.result c.descriptor_with-descriptor.result c.name_with-name.ensures c.descriptor_with-descriptor.ensures
     c.in-Some.ensures.place (c.in-Some.ensures.found n at_n) (λ d e. (c.method_at.ensures d e).access_flags) (c.is_far.ensures l at))
 
 pub returns : goal.returns
@@ -32,4 +32,4 @@ returns c =
     let there = class_there c.table-table.result.now c.classes.result.now c.args.named c.index-classes-named.result n c.classes.ensures c.index-classes-named.is at_n in
     none_of_classes c.table-table.result.now l (seen_member c.args.method.now) c.args.named n at_n (subst AreRightlyProtected (sym c.table-table.ensures) c.requires.right)
     (ap is_interface (sym there) ∙ (sym c.is_interface.ensures ∙ c.if-is_interface.false))
-    c.text_with-name.result c.text_with-descriptor.result c.text_with-name.ensures c.text_with-descriptor.ensures (c.in-None.ensures.found n at_n))
+    c.name_with-name.result c.descriptor_with-descriptor.result c.name_with-name.ensures c.descriptor_with-descriptor.ensures (c.in-None.ensures.found n at_n))
