@@ -1300,6 +1300,131 @@ def class_constants(folder, scale):
         made.write(folder)
 
 
+def finals_hidden(folder, scale):
+    """A chain of 1,000 classes with the same 432 abstract methods below one of another package that declares each of these final for its package alone."""
+    named = [(f"m{n}", descriptor) for n in range(18) for descriptor in descriptors(24)]
+    top = ClassFile("b/Top", flags=0x421)
+    for name, descriptor in named:
+        top.method(0x10, name, descriptor, 0, 24, bytes([177]))
+    top.write(folder)
+    count = scaled(scale, 999)
+    for k in range(count):
+        made = ClassFile(f"C{k}" if k < count - 1 else "Main", f"C{k - 1}" if k else "b/Top", 0x421)
+        for name, descriptor in named:
+            made.declare(0x401, name, descriptor)
+        if k == count - 1:
+            made.main()
+        made.write(folder)
+
+
+def finals_of_packages(folder, scale):
+    """A chain of 500 classes, each in a package of its own, with the same 200 final methods for it alone, below 500 of the same packages where these are public and
+    abstract, below one of another package where they are final for it alone."""
+    given = descriptors(200)
+
+    def write(name, above, flags):
+        made = ClassFile(name, above, 0x421)
+        for descriptor in given:
+            if flags == 0x401:
+                made.declare(flags, "m", descriptor)
+            else:
+                made.method(flags, "m", descriptor, 0, 200, bytes([177]))
+        made.write(folder)
+        return name
+
+    above = write("b/Top", "java/lang/Object", 0x10)
+    for letter, flags in (("R", 0x401), ("Q", 0x10)):
+        for k in range(scaled(scale, 500)):
+            above = write(f"a{k}/{letter}", above, flags)
+    made = ClassFile("Main", above)
+    made.main()
+    made.write(folder)
+
+
+def finals_of_others(folder, scale):
+    """4 classes of 65,000 abstract methods each below a chain of 1,000 classes with 200 methods each of other names, whose highest has 12,000 final methods for its
+    package alone, in which the chain is."""
+    count = scaled(scale, 1000)
+    given = descriptors(1024)
+    for n in range(count):
+        made = ClassFile(f"q/C{n}", f"q/C{n - 1}" if n else "java/lang/Object", 0x421)
+        for k in range(scaled(scale, 12000) if n == 0 else 200):
+            if n == 0:
+                made.method(0x10, f"m{k // 1024}", given[k % 1024], 0, 255, bytes([177]))
+            else:
+                made.declare(0x401, f"x{n}", given[k])
+        made.write(folder)
+    for c in range(4):
+        made = ClassFile("Main" if c == 0 else f"M{c}", f"q/C{count - 1}", 0x421)
+        made.main()
+        for k in range(scaled(scale, 65000)):
+            made.declare(0x401, f"m{k // 1024}", given[k % 1024])
+        made.write(folder)
+
+
+def references_from(folder, scale, above, classes, given, tag):
+    """Classes with 62,000 references each to these members of the class above, in turn."""
+    for c in range(classes):
+        made = ClassFile("Main" if c == 0 else f"M{c}", above)
+        made.main()
+        for k in range(scaled(scale, 62000)):
+            name, descriptor = given[k % len(given)]
+            made.called(above, name, descriptor, tag, k)
+        made.write(folder)
+
+
+def fields_in_each(folder, scale):
+    """12 classes below a chain of 1,000 with a field each, with 62,000 references each to fields that are not there."""
+    count = scaled(scale, 1000)
+    chain(folder, count, lambda made, n: made.field(1, "f", "I"))
+    references_from(folder, scale, f"C{count - 1}", 12, [(f"g{k}", "I") for k in range(40)], 9)
+
+
+def fields_by_interfaces(folder, scale):
+    """12 classes below one with 1,000 superinterfaces with a field each, with 62,000 references each to fields that are not there."""
+    names = [f"I{n}" for n in range(scaled(scale, 1000))]
+    for name in names:
+        made = ClassFile(name, flags=0x601)
+        made.field(0x19, "f", "I")
+        made.write(folder)
+    made = ClassFile("B")
+    made.interfaces = names
+    made.write(folder)
+    references_from(folder, scale, "B", 12, [(f"g{k}", "I") for k in range(40)], 9)
+
+
+def methods_in_each(folder, scale):
+    """7 classes below a chain of 1,000 with 250 abstract methods each, with 62,000 references each to methods that are not there."""
+    count = scaled(scale, 1000)
+
+    def members(made, n):
+        made.flags = 0x421
+        for k in range(250):
+            made.declare(0x401, f"d{n}x{k}", "()V")
+
+    chain(folder, count, members)
+    references_from(folder, scale, f"C{count - 1}", 7, [(f"g{k}", "()V") for k in range(1000)], 10)
+
+
+def names_alike_by_many(folder, scale):
+    """10 classes below a chain of 1,000, with 62,000 references each to 62 fields of the highest, of one name of 65,535 bytes, by way of each class of the chain."""
+    name, count = "f" * 65535, scaled(scale, 1000)
+    kinds = ["[" * k + "I" for k in range(62)]
+
+    def members(made, n):
+        if n == 0:
+            for kind in kinds:
+                made.field(1, name, kind)
+
+    chain(folder, count, members)
+    for c in range(10):
+        made = ClassFile("Main" if c == 0 else f"M{c}", f"C{count - 1}")
+        made.main()
+        for k in range(scaled(scale, 62000)):
+            made.called(f"C{k % count}", name, kinds[k // count % 62], 9, k)
+        made.write(folder)
+
+
 SHAPES = [
     long_references, short_references, used_references, interface_often, long_methods, long_methods_final, long_fields,
     methods_below_final, classes_below_final, finals_in_each, finals_in_two_chains, finals_private, blank_frames, int_frames,
@@ -1312,7 +1437,8 @@ SHAPES = [
     frames_fall_in_turn, start_in_turn, few_in_turn, pairs_in_turn, apart_in_turn, short_in_turn, small_in_turn, stacks_kept, stacks_named,
     objects_in_turn, copies_in_turn, stores_for_many, new_named, many_named, one_named, named_in_turn, stack_named, named_and_made, this_made,
     defaults_many, references_often, names_alike, finals_apart, wide_tiny, nops_behind_many, switch_behind_many, objects_behind_many, objects_few,
-    handlers_many, abstract_methods, class_constants,
+    handlers_many, abstract_methods, class_constants, finals_hidden, finals_of_packages, finals_of_others, fields_in_each, fields_by_interfaces,
+    methods_in_each, names_alike_by_many,
 ]
 
 
