@@ -1,25 +1,35 @@
 -- Which classes may declare a member of a name and a descriptor, by keys: marks that leave out none that does.
-use Rattle.std.specs.Prelude.{◌≡◌, ◌-◌, ℕ, Bool, false, true, List, length, Some, None, bit_and, get_or, slice_get}
+use Rattle.std.specs.Prelude.{◌≡◌, ◌-◌, ◌/◌, ◌%◌, ◌^◌, ◌||◌, ℕ, suc, Bool, false, true, List, [], length, Some, None, bit_and, get_or, nat_eq, slice_get, if◌then◌else◌}
 use Rattle.jv_meaning_world.specs.of_class.Class.{Field, Method, field_named, method_named}
 use Rattle.jv_meaning_world.specs.World.{Loaded, World}
-use Rattle.jv_classes.specs.Ways.{Rows, related, with_pair}
 use Rattle.jv_classes.specs.Texts.{Key, key_of}
 
 -- the slot into which a key falls, of so many, which are a power of two
 abbrev pub slot_of : ℕ → Key → ℕ
 slot_of size key = bit_and key (size - 1)
 
--- rows of so many marks, one for each class; a key has the row of its slot
+-- A cell for each class: 0 where no key was marked for it, the print of the keys where all that were have one, and else 255. A key
+-- has a print from 1 to 254.
+abbrev pub print_of : Key → ℕ
+print_of key = suc (key / 2 ^ 32 % 254)
+
+abbrev pub has_print : ℕ → ℕ → Bool
+has_print print cell = nat_eq cell print || nat_eq cell 255
+
+-- a print more in a cell
+abbrev pub with_print : ℕ → ℕ → ℕ
+with_print cell print = if nat_eq cell 0 then print else if nat_eq cell print then cell else 255
+
+-- rows of so many cells, one for each class; a key has the row of its slot
 pub record MarkedKeys : Type 0 where
   pub width : ℕ
-  pub rows : Rows
+  pub rows : List (List ℕ)
+
+abbrev pub cell_of : List (List ℕ) → ℕ → ℕ → ℕ
+cell_of rows slot class = get_or (get_or rows slot []) class 0
 
 abbrev pub is_marked : MarkedKeys → Key → ℕ → Bool
-is_marked marks key class = related marks.rows (slot_of (length marks.rows) key) class
-
--- a key is marked for one class more
-abbrev pub with_mark : MarkedKeys → Key → ℕ → MarkedKeys
-with_mark marks key class = record { width = marks.width; rows = with_pair marks.rows (slot_of (length marks.rows) key) class }
+is_marked marks key class = has_print (print_of key) (cell_of marks.rows (slot_of (length marks.rows) key) class)
 
 -- what is marked still is, and there are as many classes
 pub record AreKept (old new : MarkedKeys) : Type 0 where

@@ -14,6 +14,7 @@ ghost use Rattle.jv_meaning_world.specs.Numbers.{HoldsAtNumber};
 
 use crate::declared_marks::{field_marks, method_marks};
 use crate::key_marks::KeyMarks;
+use crate::key_row::KeyRow;
 use crate::list::ClassList;
 use crate::loaded_class::LoadedClass;
 use crate::members::member_key;
@@ -163,15 +164,15 @@ impl<'a> ClassTable<'a> {
 
     /// Marks by number of the classes that may declare a method of a name and a descriptor: one that is not marked does not. It
     /// costs no look at a class.
-    pub fn marks_of_method(&self, name: &Text<'_>, descriptor: &Text<'_>) -> &[bool]
-        ensures { MarksMethod self.now name.now descriptor.now result.now }
+    pub fn marks_of_method(&self, name: &Text<'_>, descriptor: &Text<'_>) -> KeyRow<'_>
+        ensures { MarksMethod self.now name.now descriptor.now result }
     {
         self.methods.row(member_key(self.seed, name, descriptor))
     }
 
     /// The same of a field.
-    pub fn marks_of_field(&self, name: &Text<'_>, descriptor: &Text<'_>) -> &[bool]
-        ensures { MarksField self.now name.now descriptor.now result.now }
+    pub fn marks_of_field(&self, name: &Text<'_>, descriptor: &Text<'_>) -> KeyRow<'_>
+        ensures { MarksField self.now name.now descriptor.now result }
     {
         self.fields.row(member_key(self.seed, name, descriptor))
     }

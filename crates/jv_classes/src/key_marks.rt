@@ -1,34 +1,35 @@
 //! Which classes may declare a member of a key.
 
-ghost use Rattle.std.specs.Prelude.{◌≡◌, ◌<◌, ℕ, true, false, IfOk, length, get_or};
-ghost use Rattle.jv_classes.specs.Marks.{AreKept, is_marked};
+ghost use Rattle.std.specs.Prelude.{◌≡◌, ◌<◌, ℕ, true, false, IfOk, length, get_or, set};
+ghost use Rattle.jv_classes.specs.Marks.{AreKept, has_print, is_marked, print_of, with_print};
 
+use crate::key_row::KeyRow;
 use crate::members::slot_of;
 use std::alloc::{AllocError, Global};
 use std::marker::Model;
 
 /// As many rows there are at least, and at most.
-const LEAST: usize = 256;
+const LEAST: usize = 64;
 
-const MOST: usize = 4096;
+const MOST: usize = 8192;
 
-/// Marks of keys by class: a key has a row, with a mark for each class, and may share it with others. Which keys share one is up
-/// to hashes that a stranger cannot know.
+/// Marks of keys by class: a key has a row, with a byte for each class, and may share it with others. A byte has the print of the
+/// keys that were marked there, or says that these have several. Which keys have one row and one print is up to hashes that a
+/// stranger cannot know.
 pub struct KeyMarks {
     width: usize,
-    rows: Vec<Vec<bool>>,
+    rows: Vec<Vec<u8>>,
 }
 
 impl Model for KeyMarks {
     ghost use Rattle.jv_classes.specs.Marks.{MarkedKeys};
-    ghost use Rattle.jv_classes.specs.Inside.Steps.{rows_of};
-    ghost use Rattle.jv_classes.specs.Inside.Marked.{AreWide};
+    ghost use Rattle.jv_classes.specs.Inside.Marked.{AreWide, cells_of};
 
     ghost Value = { MarkedKeys };
 
-    ghost view = { λ m. record { width = m.width; rows = rows_of m.rows.items } };
+    ghost view = { λ m. record { width = m.width; rows = cells_of m.rows.items } };
 
-    ghost invariant = { λ m. AreWide m.width (rows_of m.rows.items) };
+    ghost invariant = { λ m. AreWide m.width (cells_of m.rows.items) };
 }
 
 impl Drop for KeyMarks {
@@ -37,13 +38,42 @@ impl Drop for KeyMarks {
     }
 }
 
-/// How many rows there are for so many members of so many classes, a power of two: some 64 for each member that a class has, so that
-/// few keys that a class does not declare are marked for it.
+/// How many rows there are for so many members of so many classes, a power of two: eight for each member of a class, so that few
+/// bytes tell of several prints.
 fn rows_for(members: usize, classes: usize) -> usize
     ensures { 0 < result }
 {
-    let wanted = members.saturating_mul(64) / classes.max(1);
+    let wanted = members.saturating_mul(8) / classes.max(1);
     wanted.clamp(LEAST, MOST).next_power_of_two()
+}
+
+/// The print of a key.
+fn print_of(key: u64) -> u8
+    ensures { result ≡ print_of key }
+{
+    ((key >> 32) % 254 + 1) as u8
+}
+
+/// What a byte tells where a print joins it.
+fn with_print(cell: u8, print: u8) -> u8
+    ensures { result ≡ with_print cell print }
+{
+    if cell == 0 {
+        print
+    } else if cell == print {
+        cell
+    } else {
+        255
+    }
+}
+
+/// Joins a print to the byte of a class.
+fn put_print(row: &mut Vec<u8>, class: usize, print: u8)
+    requires { class < length row.now.items }
+    ensures { row.new.items ≡ set row.old.items class (with_print (get_or row.old.items class 0) print) }
+{
+    let cell = row[class];
+    row[class] = with_print(cell, print);
 }
 
 impl KeyMarks {
@@ -57,7 +87,7 @@ impl KeyMarks {
     {
         let mut rows = Vec::new(alloc);
         for _ in 0..rows_for(members, classes) {
-            let row = vec![in alloc; false; classes]?;
+            let row = vec![in alloc; 0u8; classes]?;
             rows.push(row)?;
         }
         Ok(KeyMarks {
@@ -73,14 +103,15 @@ impl KeyMarks {
         ensures kept { AreKept self.old self.new }
     {
         let slot = slot_of(self.rows.len(), key);
-        self.rows[slot][class] = true;
+        put_print(&mut self.rows[slot], class, print_of(key));
     }
 
     /// The marks of a key, one for each class.
-    pub fn row(&self, key: u64) -> &[bool]
-        ensures width { length result.now ≡ self.now.width }
-        ensures marks { (class : ℕ) → get_or result.now class false ≡ is_marked self.now key class }
+    pub fn row(&self, key: u64) -> KeyRow<'_>
+        ensures width { length result ≡ self.now.width }
+        ensures marks { (class : ℕ) → get_or result class false ≡ is_marked self.now key class }
     {
-        &self.rows[slot_of(self.rows.len(), key)]
+        let slot = slot_of(self.rows.len(), key);
+        KeyRow::of(print_of(key), &self.rows[slot])
     }
 }

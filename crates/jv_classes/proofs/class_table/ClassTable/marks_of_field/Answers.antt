@@ -9,7 +9,7 @@ pub returns : goal.returns
 returns c =
     let inside = c.self.inside in
     let told = c.self.invariant.members.fields_told in
-    subst (λ (w : World). MarksField w c.args.name.now c.args.descriptor.now c.row.result.now) c.self.view_is (record {
+    subst (λ (w : World). MarksField w c.args.name.now c.args.descriptor.now c.row.result) c.self.view_is (record {
       size = c.row.ensures.width ∙ told.width;
       none = λ number l at unmarked.
           none_named (λ (f : Field). f.name) (λ f. f.descriptor) inside.seed inside.fields number l.class.fields c.args.name.now c.args.descriptor.now (told.marked number l at)

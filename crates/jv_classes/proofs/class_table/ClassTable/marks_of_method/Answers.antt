@@ -9,7 +9,7 @@ pub returns : goal.returns
 returns c =
     let inside = c.self.inside in
     let told = c.self.invariant.members.methods_told in
-    subst (λ (w : World). MarksMethod w c.args.name.now c.args.descriptor.now c.row.result.now) c.self.view_is (record {
+    subst (λ (w : World). MarksMethod w c.args.name.now c.args.descriptor.now c.row.result) c.self.view_is (record {
       size = c.row.ensures.width ∙ told.width;
       none = λ number l at unmarked.
           none_named (λ (m : Method). m.name) (λ m. m.descriptor) inside.seed inside.methods number l.class.methods c.args.name.now c.args.descriptor.now (told.marked number l at)
