@@ -5,7 +5,7 @@ use Rattle.std.specs.Global.{Vec}
 use Rattle.std.specs.List.{All}
 use Rattle.std.proofs.lemmas.List.{map-append, map-set, length-map, get_or-map, length-replicate, get_or-replicate, replicate-append-replicate, get_or-set_same, get_or-set_other, length-set}
 use borrow.Author.Tests.{eqb-true, eqb-false}
-use Rattle.jv_classes.specs.Marks.{MarkedKeys, AreKept, cell_of, has_print, is_marked, print_of, slot_of, with_print}
+use Rattle.jv_classes.specs.Marks.{MarkedKeys, AreKept, cell_of, has_print, is_marked, print_of, row_of, with_print}
 use Rattle.jv_classes.specs.Inside.Marked.{AreWide, cells_in, cells_of}
 
 -- ---- prints
@@ -146,10 +146,10 @@ module _ (width : ℕ) (rows : List (List ℕ)) (slot class print : ℕ) (wide :
   abbrev pub new_keys : MarkedKeys
   new_keys = record { width = width; rows = new_rows }
 
-  slots : (key : ℕ) → slot_of (length new_rows) key ≡ slot_of (length rows) key
-  slots key = ap (λ n. slot_of n key) (length-set rows slot new_row)
+  slots : (key : ℕ) → row_of (length new_rows) key ≡ row_of (length rows) key
+  slots key = ap (λ n. row_of n key) (length-set rows slot new_row)
 
-  pub is_set : (key : ℕ) → slot ≡ slot_of (length rows) key → print ≡ print_of key → is_marked new_keys key class ≡ true
+  pub is_set : (key : ℕ) → slot ≡ row_of (length rows) key → print ≡ print_of key → is_marked new_keys key class ≡ true
   is_set key e p =
       ap (λ s. has_print (print_of key) (cell_of new_rows s class)) (slots key ∙ sym e)
       ∙ (ap (λ q. has_print q (cell_of new_rows slot class)) (sym p)
@@ -158,7 +158,7 @@ module _ (width : ℕ) (rows : List (List ℕ)) (slot class print : ℕ) (wide :
   pub are_kept : AreKept old_keys new_keys
   are_kept = record {
     width = refl;
-    marked = λ key c old. ap (λ s. has_print (print_of key) (cell_of new_rows s c)) (slots key) ∙ cell_kept _ (slot_of (length rows) key) c old;
+    marked = λ key c old. ap (λ s. has_print (print_of key) (cell_of new_rows s c)) (slots key) ∙ cell_kept _ (row_of (length rows) key) c old;
   }
 
 -- ---- as a table keeps them

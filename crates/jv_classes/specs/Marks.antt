@@ -11,7 +11,7 @@ slot_of size key = bit_and key (size - 1)
 -- A cell for each class: 0 where no key was marked for it, the print of the keys where all that were have one, and else 255. A key
 -- has a print from 1 to 254.
 abbrev pub print_of : Key → ℕ
-print_of key = suc (key / 2 ^ 32 % 254)
+print_of key = suc (key / 2 ^ 40 % 254)
 
 abbrev pub has_print : ℕ → ℕ → Bool
 has_print print cell = nat_eq cell print || nat_eq cell 255
@@ -28,8 +28,12 @@ pub record MarkedKeys : Type 0 where
 abbrev pub cell_of : List (List ℕ) → ℕ → ℕ → ℕ
 cell_of rows slot class = get_or (get_or rows slot []) class 0
 
+-- the row of a key, of so many, by other bits than those that tell its slot among a class's members
+abbrev pub row_of : ℕ → Key → ℕ
+row_of size key = slot_of size (key / 2 ^ 20)
+
 abbrev pub is_marked : MarkedKeys → Key → ℕ → Bool
-is_marked marks key class = has_print (print_of key) (cell_of marks.rows (slot_of (length marks.rows) key) class)
+is_marked marks key class = has_print (print_of key) (cell_of marks.rows (row_of (length marks.rows) key) class)
 
 -- what is marked still is, and there are as many classes
 pub record AreKept (old new : MarkedKeys) : Type 0 where

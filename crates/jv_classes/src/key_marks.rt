@@ -1,7 +1,7 @@
 //! Which classes may declare a member of a key.
 
 ghost use Rattle.std.specs.Prelude.{◌≡◌, ◌<◌, ℕ, true, false, IfOk, length, get_or, set};
-ghost use Rattle.jv_classes.specs.Marks.{AreKept, has_print, is_marked, print_of, with_print};
+ghost use Rattle.jv_classes.specs.Marks.{AreKept, has_print, is_marked, print_of, row_of, with_print};
 
 use crate::key_row::KeyRow;
 use crate::members::slot_of;
@@ -51,7 +51,16 @@ fn rows_for(members: usize, classes: usize) -> usize
 fn print_of(key: u64) -> u8
     ensures { result ≡ print_of key }
 {
-    ((key >> 32) % 254 + 1) as u8
+    ((key >> 40) % 254 + 1) as u8
+}
+
+/// The row of a key, of so many.
+fn row_of(size: usize, key: u64) -> usize
+    requires { 0 < size }
+    ensures row { result ≡ row_of size key }
+    ensures within { result < size }
+{
+    slot_of(size, key >> 20)
 }
 
 /// What a byte tells where a print joins it.
@@ -102,7 +111,7 @@ impl KeyMarks {
         ensures marked { is_marked self.new key class ≡ true }
         ensures kept { AreKept self.old self.new }
     {
-        let slot = slot_of(self.rows.len(), key);
+        let slot = row_of(self.rows.len(), key);
         put_print(&mut self.rows[slot], class, print_of(key));
     }
 
@@ -111,7 +120,7 @@ impl KeyMarks {
         ensures width { length result ≡ self.now.width }
         ensures marks { (class : ℕ) → get_or result class false ≡ is_marked self.now key class }
     {
-        let slot = slot_of(self.rows.len(), key);
+        let slot = row_of(self.rows.len(), key);
         KeyRow::of(print_of(key), &self.rows[slot])
     }
 }
