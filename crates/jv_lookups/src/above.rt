@@ -1,6 +1,6 @@
 //! What a method overrides, from its class up.
 
-ghost use Rattle.std.specs.Prelude.{◌≡◌, ◌*◌, ◌<◌, ◌≤◌, ◌&&◌, [], ◌∷◌, true, false, length, get_or, set, if◌then◌else◌};
+ghost use Rattle.std.specs.Prelude.{◌≡◌, ◌*◌, ◌<◌, ◌≤◌, ◌^◌, ◌&&◌, [], ◌∷◌, true, false, length, get_or, set, if◌then◌else◌};
 ghost use Rattle.std.specs.List.{All};
 ghost use Rattle.jv_meaning_world.specs.Numbers.{AreNumbers};
 ghost use Rattle.jv_lookups.specs.Packages.{AreNumbered};
@@ -14,7 +14,7 @@ ghost use Rattle.jv_lookups.specs.Finals.{PassesWith};
 use crate::keys::{FinalKeys, row_of};
 use crate::marks::Marks;
 use crate::member::{FINAL, PRIVATE, can_override, is_instance, is_overridden};
-use jv_classes::{LoadedClass, Member, Text};
+use jv_classes::{KeyRow, LoadedClass, Member, Text};
 
 /// The flags of the instance method of a class with the name and descriptor of another.
 fn flags_alike(
@@ -76,6 +76,18 @@ pub(crate) fn up_to_marked<'b>(marks: &[bool], chain: &'b [usize]) -> &'b [usize
     &chain[..end]
 }
 
+/// The superclasses up to the last one that the row marks.
+fn up_to_marked_in<'b>(row: &KeyRow<'_>, chain: &'b [usize]) -> &'b [usize]
+    requires { All (λ number. number < length row.now) chain.now }
+    ensures { IsUpToMarked row.now chain.now result.now }
+{
+    let mut end = chain.len();
+    while end > 0 && !row.is_marked(chain[end - 1]) {
+        end -= 1;
+    }
+    &chain[..end]
+}
+
 /// Marks a number, where it is wanted.
 #[inline(always)]
 fn mark_if(is_wanted: bool, marks: &mut Marks, number: usize)
@@ -90,7 +102,7 @@ fn mark_if(is_wanted: bool, marks: &mut Marks, number: usize)
 
 /// Asks for each of these superclasses that is in one package with a class that the row marks, itself or one further up. `marks` is
 /// room for packages.
-fn ask(packages: &[usize], row: &[bool], marks: &mut Marks, asked: &mut Marks, chain: &[usize])
+fn ask(packages: &[usize], row: &KeyRow<'_>, marks: &mut Marks, asked: &mut Marks, chain: &[usize])
     requires row { All (λ number. number < length row.now) chain.now }
     requires packages { All (λ number. number < length packages.now) chain.now }
     requires marks { All (λ number. get_or packages.now number 0 < length marks.old) chain.now }
@@ -106,7 +118,7 @@ fn ask(packages: &[usize], row: &[bool], marks: &mut Marks, asked: &mut Marks, c
         end -= 1;
         let place = chain[end];
         let number = packages[place];
-        mark_if(row[place], marks, number);
+        mark_if(row.is_marked(place), marks, number);
         mark_if(marks.is_marked(number), asked, place);
     }
 }
@@ -115,7 +127,7 @@ fn ask(packages: &[usize], row: &[bool], marks: &mut Marks, asked: &mut Marks, c
 /// where its package is found, only a final method, and else only a public or protected one.
 #[inline(always)]
 fn is_looked_at(
-    row: &[bool],
+    row: &KeyRow<'_>,
     asked: &Marks,
     marks: &Marks,
     many: usize,
@@ -126,14 +138,15 @@ fn is_looked_at(
     requires marks { number < length marks.now }
     requires place { place < many }
     requires row { length row.now ≡ 2 * many }
+    requires fits { 2 * many < 2 ^ 64 }
     ensures { result ≡ is_looked_at row.now asked.now marks.now many number place }
 {
     asked.is_marked(place)
-        && row[if marks.is_marked(number) {
+        && row.is_marked(if marks.is_marked(number) {
             place
         } else {
             many + place
-        }]
+        })
 }
 
 /// Whether the method overrides a final one of this class further up, where that has to be looked at.
@@ -162,7 +175,7 @@ fn overrides_final_if(
 fn overrides_final_above(
     classes: &[LoadedClass<'_>],
     packages: &[usize],
-    row: &[bool],
+    row: &KeyRow<'_>,
     marks: &mut Marks,
     asked: &mut Marks,
     of: usize,
@@ -208,7 +221,7 @@ fn overrides_final_above(
 fn overrides_final_if_marked(
     classes: &[LoadedClass<'_>],
     packages: &[usize],
-    row: &[bool],
+    row: &KeyRow<'_>,
     marks: &mut Marks,
     asked: &mut Marks,
     of: usize,
@@ -229,7 +242,7 @@ fn overrides_final_if_marked(
     ensures marks { length marks.new ≡ length marks.old }
     ensures asked { length asked.new ≡ length asked.old }
 {
-    let chain = up_to_marked(row, chain);
+    let chain = up_to_marked_in(row, chain);
     if chain.is_empty() {
         return false;
     }
@@ -267,7 +280,7 @@ pub(crate) fn breaks_final_by(
         && overrides_final_if_marked(
             classes,
             packages,
-            row_of(keys, method, name, descriptor),
+            &row_of(keys, method, name, descriptor),
             marks,
             asked,
             of,

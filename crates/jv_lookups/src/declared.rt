@@ -8,7 +8,7 @@ ghost use Rattle.jv_meaning_world.specs.Numbers.{HoldsAtNumber};
 ghost use Rattle.jv_lookups.specs.Places.{method_at, IsMethodPlace, IsMethodFound};
 
 use crate::place::Place;
-use jv_classes::{ClassTable, Text};
+use jv_classes::{ClassTable, KeyRow, Text};
 
 // Access flags of methods (JVMS table 4.6-A).
 const PRIVATE_OR_STATIC: u16 = 0x000a;
@@ -37,7 +37,7 @@ pub(crate) fn declared_method(
 /// The same, where it is marked which classes may declare such a method: one that is not is not looked at.
 pub(crate) fn marked_method(
     table: &ClassTable<'_>,
-    marks: &[bool],
+    marks: &KeyRow<'_>,
     class: usize,
     name: &Text<'_>,
     descriptor: &Text<'_>,
@@ -47,7 +47,7 @@ pub(crate) fn marked_method(
     ensures found { HoldsAtNumber table.now class (λ l. IsMethodFound table.now result (method_in name.now descriptor.now l)) }
     ensures place { IfSome result (IsMethodPlace table.now) }
 {
-    if marks[class] {
+    if marks.is_marked(class) {
         declared_method(table, class, name, descriptor)
     } else {
         None

@@ -9,7 +9,7 @@ ghost use Rattle.jv_lookups.specs.Places.{IsFieldPlace, IsFieldFound};
 ghost use Rattle.jv_lookups.specs.Inside.Members.{field_named_in, FindsField};
 
 use crate::place::Place;
-use jv_classes::{ClassTable, Text};
+use jv_classes::{ClassTable, KeyRow, Text};
 
 /// The field of a name and a descriptor that a class declares.
 fn declared_field(
@@ -29,7 +29,7 @@ fn declared_field(
 /// The same, where it is marked which classes may declare such a field: one that is not is not looked at.
 fn marked_field(
     table: &ClassTable<'_>,
-    marks: &[bool],
+    marks: &KeyRow<'_>,
     class: usize,
     name: &Text<'_>,
     descriptor: &Text<'_>,
@@ -39,7 +39,7 @@ fn marked_field(
     ensures found { HoldsAtNumber table.now class (λ l. IsFieldFound table.now result (field_named_in name.now descriptor.now l)) }
     ensures place { IfSome result (IsFieldPlace table.now) }
 {
-    if marks[class] {
+    if marks.is_marked(class) {
         declared_field(table, class, name, descriptor)
     } else {
         None
@@ -60,7 +60,7 @@ pub fn lookup_field(
 {
     let marks = table.marks_of_field(name, descriptor);
     for class in searched {
-        if let Some(place) = marked_field(table, marks, *class, name, descriptor) {
+        if let Some(place) = marked_field(table, &marks, *class, name, descriptor) {
             return Some(place);
         }
     }

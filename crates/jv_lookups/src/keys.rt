@@ -8,7 +8,7 @@ ghost use Rattle.jv_lookups.specs.Inside.Keys.{AreMarkedBelow, AreMarkedMore, Te
 ghost use Rattle.jv_lookups.specs.Inside.Steps.{as_method};
 
 use crate::member::{is_final_instance, is_instance, is_overridden};
-use jv_classes::{KeyMarks, LoadedClass, Member, Text, member_key};
+use jv_classes::{KeyMarks, KeyRow, LoadedClass, Member, Text, member_key};
 use std::alloc::{AllocError, Global};
 use std::hash::{BuildHasher, Hasher, RandomState};
 
@@ -144,10 +144,10 @@ pub(crate) fn row_of<'k>(
     method: &Member<'_>,
     name: &Text<'_>,
     descriptor: &Text<'_>,
-) -> &'k [bool]
+) -> KeyRow<'k>
     requires name { name.now ≡ method.now.name.now }
     requires descriptor { descriptor.now ≡ method.now.descriptor.now }
-    ensures { (classes : List Loaded) → TellsFinals classes keys.now → TellsFinalsOf classes result.now (as_method method.now) }
+    ensures { (classes : List Loaded) → TellsFinals classes keys.now → TellsFinalsOf classes result (as_method method.now) }
 {
     keys.marks.row(member_key(keys.seed, name, descriptor))
 }

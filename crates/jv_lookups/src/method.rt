@@ -28,7 +28,7 @@ fn superclass_method(
         let Some(superclass) = next else {
             return None;
         };
-        if let Some(place) = marked_method(table, marks, superclass, name, descriptor) {
+        if let Some(place) = marked_method(table, &marks, superclass, name, descriptor) {
             return Some(place);
         }
         next = table.super_of(superclass);

@@ -27,7 +27,8 @@ loop-end-preserved c =
     in
     let space : get_or chain last 0 < length c.loop-end.asked = subst (λ n. get_or chain last 0 < n) (sym c.loop-end.invariant.asked_many) (c.requires.asked last 0 within) in
     let on = one_more_asked c.args.packages.now c.args.row.now c.loop-end.asked c.loop-end.marks c.mark_if-in-loop-end.new.marks c.mark_if.new.marks chain last c.loop-end.end within before room space
-    c.mark_if.ensures.marked (subst (λ b. c.mark_if-in-loop-end.new.marks ≡ cond b (set c.loop-end.asked (get_or chain last 0) true) c.loop-end.asked) c.is_marked.ensures c.mark_if-in-loop-end.ensures.marked)
+    (subst (λ b. c.mark_if.new.marks ≡ cond b (set c.loop-end.marks (get_or c.args.packages.now (get_or chain last 0) 0) true) c.loop-end.marks) c.is_marked.ensures c.mark_if.ensures.marked)
+    (subst (λ b. c.mark_if-in-loop-end.new.marks ≡ cond b (set c.loop-end.asked (get_or chain last 0) true) c.loop-end.asked) c.is_marked-in-loop-end.ensures c.mark_if-in-loop-end.ensures.marked)
     c.loop-end.invariant.asked c.loop-end.invariant.wanted
     in
     record {

@@ -4,9 +4,9 @@ use Rattle.jv_lookups.proofs.above.overrides_final_if_marked.Goals as goal
 
 pub returns-then-is_empty-clause-broken : goal.returns-then-is_empty-clause-broken
 returns-then-is_empty-clause-broken c =
-    none_in_front c.args.classes.now c.args.row.now (as_method c.args.method.now) c.args.of c.args.chain.now c.up_to_marked-chain.result.now c.requires.row c.up_to_marked-chain.ensures c.if-is_empty.ensures
+    none_in_front c.args.classes.now c.args.row.now (as_method c.args.method.now) c.args.of c.args.chain.now c.up_to_marked_in-chain.result.now c.requires.row c.up_to_marked_in-chain.ensures c.if-is_empty.ensures
 
 pub returns-clause-broken : goal.returns-clause-broken
 returns-clause-broken c =
-    front_answers c.args.classes.now c.args.row.now (as_method c.args.method.now) c.args.of c.args.chain.now c.up_to_marked-chain.result.now c.requires.row c.up_to_marked-chain.ensures
+    front_answers c.args.classes.now c.args.row.now (as_method c.args.method.now) c.args.of c.args.chain.now c.up_to_marked_in-chain.result.now c.requires.row c.up_to_marked_in-chain.ensures
     c.overrides_final_above.result c.overrides_final_above.ensures.broken
