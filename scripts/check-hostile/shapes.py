@@ -87,7 +87,7 @@ class ClassFile:
         spelled += u2(len(self.methods)) + b"".join(self.methods) + u2(0)
         assert len(self.constants) < 65535, len(self.constants)
         path = f"{folder}/{self.name}.class"
-        if len(os.path.basename(path)) > 200:
+        if len(self.name) > 200:
             path = f"{folder}/Long{abs(hash(self.name)) % 1000000007}.class"
         os.makedirs(os.path.dirname(path), exist_ok=True)
         with open(path, "wb") as file:
@@ -1425,6 +1425,28 @@ def names_alike_by_many(folder, scale):
         made.write(folder)
 
 
+def package_above_chain(folder, scale):
+    """9 classes with 64,000 references each to a protected method of the highest class of a chain of 1,000, in one package with that, whose name has 65,500 bytes."""
+    package = "p" * 65500
+    above = f"{package}/A"
+    made = ClassFile(above, flags=0x421)
+    made.declare(0x404, "f", "()V")
+    made.write(folder)
+    for n in range(scaled(scale, 1000)):
+        made = ClassFile(f"C{n}", above, 0x421)
+        made.write(folder)
+        above = f"C{n}"
+    for c in range(9):
+        made = ClassFile(f"{package}/M{c}", above, 0x421)
+        made.main()
+        for k in range(scaled(scale, 64000)):
+            made.called(above, "f", "()V", 10, k)
+        made.write(folder)
+    made = ClassFile("Main")
+    made.main()
+    made.write(folder)
+
+
 SHAPES = [
     long_references, short_references, used_references, interface_often, long_methods, long_methods_final, long_fields,
     methods_below_final, classes_below_final, finals_in_each, finals_in_two_chains, finals_private, blank_frames, int_frames,
@@ -1438,7 +1460,7 @@ SHAPES = [
     objects_in_turn, copies_in_turn, stores_for_many, new_named, many_named, one_named, named_in_turn, stack_named, named_and_made, this_made,
     defaults_many, references_often, names_alike, finals_apart, wide_tiny, nops_behind_many, switch_behind_many, objects_behind_many, objects_few,
     handlers_many, abstract_methods, class_constants, finals_hidden, finals_of_packages, finals_of_others, fields_in_each, fields_by_interfaces,
-    methods_in_each, names_alike_by_many,
+    methods_in_each, names_alike_by_many, package_above_chain,
 ]
 
 
