@@ -120,7 +120,7 @@ contents_take : (tag : ℕ) (found : Option ConstantShape) (bytes rest : List �
 contents_take tag None bytes rest c small s e = absurd cc
 contents_take tag (Some shape) bytes rest c small s e = rw (tag_is tag shape s) (shaped_takes shape bytes rest c small e)
 
-constant_takes : (bytes rest : List ℕ) (c : Entry) → IsBytes bytes → constant_read bytes ≡ Some (c, rest) → (bytes ≡ constant_bytes c ++ rest) × IsTrue (constant_fits c)
+pub constant_takes : (bytes rest : List ℕ) (c : Entry) → IsBytes bytes → constant_read bytes ≡ Some (c, rest) → (bytes ≡ constant_bytes c ++ rest) × IsTrue (constant_fits c)
 constant_takes [] rest c small e = absurd cc
 constant_takes (tag ∷ bytes) rest c small e = let more : IsBytes bytes = λ k. small (suc k) in contents_take tag (shape_of tag) bytes rest c more refl e
 

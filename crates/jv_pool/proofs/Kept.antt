@@ -1,6 +1,7 @@
 -- What holds at every index of a table.
-use Rattle.std.proofs.Common.{◌≡◌, ℕ, zero, suc, ◌<◌, ◌≤◌, ◌+◌, Bool, true, false, inl, inr, List, [], ◌∷◌, ◌++◌, length, Option, Some, None, refl, sym, ap, subst, ◌∙◌, arith, length-append}
-use Rattle.std.specs.Prelude.{IsTrue, ◌⊎◌, ◌↔◌, slice_get, is_none}
+use Rattle.std.proofs.Common.{◌≡◌, ℕ, zero, suc, ◌<◌, ◌≤◌, ◌+◌, ◌-◌, Bool, true, false, inl, inr, List, [], ◌∷◌, ◌++◌, length, Option, Some, None, refl, sym, ap, subst, ◌∙◌, arith, length-append}
+use Rattle.std.specs.Prelude.{IsTrue, ◌⊎◌, ◌↔◌, slice_get, get_or, unwrap_or, is_none}
+use Rattle.std.proofs.lemmas.List.{append-nil}
 use Rattle.std.specs.List.{All}
 use Rattle.std.proofs.lemmas.Option.{slice_get_past}
 use Rattle.std.proofs.lemmas.List.Elements.{All-nil, All-cons, All-head, All-tail}
@@ -14,7 +15,7 @@ use Rattle.jv_pool.specs.declared.facts.MethodFacts.{MethodFacts}
 use Rattle.jv_pool.specs.Rules.{IsMethodMember, NamesMethod}
 use Rattle.jv_pool.specs.Facts.{AreFacts, AreMethodFacts}
 use Rattle.jv_pool.specs.Constants.{Entry, takes_two, entries_of, table_of, pool_count, usable, at_index, utf8_at, utf8_in, name_and_descriptor}
-use Rattle.jv_pool.specs.Inside.Known.{IsKnown, known_in, AllKnown, KnownBelow, MethodKnown, IsNamedFor, special_keeps_rules, At}
+use Rattle.jv_pool.specs.Inside.Known.{IsKnown, known_in, AllKnown, KnownBelow, IsAdded, MethodKnown, IsNamedFor, special_keeps_rules, At}
 
 -- ---- lists
 
@@ -53,23 +54,113 @@ past_texts pool index le = ap utf8_in (past_table pool index le)
 
 -- ---- what is known of the texts
 
-pub KnownBelow-push : (pool : List Entry) (i : ℕ) (facts : List (Option TextFacts)) (new : Option TextFacts) → IsKnown (utf8_at pool i) new → KnownBelow pool i facts → KnownBelow pool (i + 1) (facts ++ new ∷ [])
-KnownBelow-push pool i facts new here so_far = record {
-  long = omega (arith, so_far.long, length-append facts (new ∷ []));
-  known =
-      let P : ℕ → Type 0 = λ k. IsKnown (utf8_at pool k) (known_in (slice_get (facts ++ new ∷ []) k)) in
-      below_or_here P i
-      (λ k lt. let lt' : k < length facts = omega (arith, so_far.long, lt) in subst (λ (o : Option (Option TextFacts)). IsKnown (utf8_at pool k) (known_in o)) (sym (get_before facts (new ∷ []) k lt')) (so_far.known k lt))
-      (subst (λ (o : Option (Option TextFacts)). IsKnown (utf8_at pool i) (known_in o)) (sym (get_last facts new i so_far.long)) here);
-}
+-- what stands at a place still stands there with more behind it
+known_still : (facts more : List TextFacts) (place : ℕ) → place ≤ length facts → known_in (facts ++ more) place ≡ known_in facts place
+known_still facts more zero le = refl
+known_still facts more (suc before) le = get_before facts more before (omega arith)
 
-pub KnownBelow-all : (pool : List Entry) (i : ℕ) (facts : List (Option TextFacts)) → pool_count pool ≤ i → KnownBelow pool i facts → AllKnown pool facts
-KnownBelow-all pool i facts le so_far =
-    let P : ℕ → Type 0 = λ k. IsKnown (utf8_at pool k) (known_in (slice_get facts k)) in
+-- the next place, beside those before
+place_before : (places : List ℕ) (place : ℕ) (k : ℕ) → k < length places → get_or (places ++ place ∷ []) k 0 ≡ get_or places k 0
+place_before [] place k lt = absurd (omega arith)
+place_before (p ∷ places) place zero lt = refl
+place_before (p ∷ places) place (suc k) lt = place_before places place k (omega arith)
+
+place_last : (places : List ℕ) (place : ℕ) (i : ℕ) → length places ≡ i → get_or (places ++ place ∷ []) i 0 ≡ place
+place_last [] place zero e = refl
+place_last [] place (suc i) e = absurd (omega arith)
+place_last (p ∷ places) place zero e = absurd (omega arith)
+place_last (p ∷ places) place (suc i) e = place_last places place i (omega arith)
+
+place_past : (places : List ℕ) (k : ℕ) → length places ≤ k → get_or places k 0 ≡ 0
+place_past [] k le = refl
+place_past (p ∷ places) zero le = absurd (omega arith)
+place_past (p ∷ places) (suc k) le = place_past places k (omega arith)
+
+-- facts that joined, or none
+record Joined (text : Option (List ℕ)) (facts more : List TextFacts) (place : ℕ) : Type 0 where
+  new : List TextFacts
+  same : more ≡ facts ++ new
+  one : length new ≤ 1
+  within : place ≤ length more
+  here : IsKnown text (known_in more place)
+
+joined : (text : Option (List ℕ)) (facts more : List TextFacts) (place : ℕ) → IsAdded text facts more place → Joined text facts more place
+joined None facts more place h =
+    record { new = []; same = h.0 ∙ sym (append-nil facts); one = omega arith; within = omega (arith, h.1); here = rw h.1 tt }
+joined (Some t) facts more place h =
+    let at : known_in more place ≡ Some h.0 = rw (h.2, h.3) (known_last facts h.0) in
+    record {
+      new = h.0 ∷ [];
+      same = h.2;
+      one = omega arith;
+      within = rw (h.2, h.3) (omega (arith, length-append facts (h.0 ∷ [])));
+      here = rw at h.1;
+    }
+  where
+    known_last : (facts : List TextFacts) (new : TextFacts) → known_in (facts ++ new ∷ []) (length facts + 1) ≡ Some new
+    known_last facts new = let next : length facts + 1 ≡ suc (length facts) = omega arith in ap (known_in (facts ++ new ∷ [])) next ∙ get_last facts new (length facts) refl
+
+pub KnownBelow-start : (pool : List Entry) → KnownBelow pool 0 [] []
+KnownBelow-start pool = record { long = refl; few = omega arith; within = λ k. omega arith; known = λ k lt. absurd (omega arith) }
+
+pub KnownBelow-push : (pool : List Entry) (i : ℕ) (facts more : List TextFacts) (places : List ℕ) (place : ℕ) → IsAdded (utf8_at pool i) facts more place → KnownBelow pool i facts places
+    → KnownBelow pool (i + 1) more (places ++ place ∷ [])
+KnownBelow-push pool i facts more places place added so_far =
+    let j = joined (utf8_at pool i) facts more place added in
+    let size : length more ≡ length facts + length j.new = ap length j.same ∙ length-append facts j.new in
+    let long : length (places ++ place ∷ []) ≡ length places + 1 = length-append places (place ∷ []) in
+    let last : get_or (places ++ place ∷ []) i 0 ≡ place = place_last places place i so_far.long in
+    let W : ℕ → Type 0 = λ k. get_or (places ++ place ∷ []) k 0 ≤ length more in
+    let P : ℕ → Type 0 = λ k. IsKnown (utf8_at pool k) (known_in more (get_or (places ++ place ∷ []) k 0)) in
+    record {
+      long = omega (arith, so_far.long, long);
+      few = omega (arith, so_far.few, size, j.one);
+      within =
+          below_or_past W (i + 1)
+          (below_or_here W i (λ k lt. let same = place_before places place k (omega (arith, so_far.long, lt)) in omega (arith, same, so_far.within k, size)) (omega (arith, last, j.within)))
+          (λ k past. let none = place_past (places ++ place ∷ []) k (omega (arith, so_far.long, long, past)) in omega (arith, none));
+      known =
+          below_or_here P i
+          (λ k lt.
+          let same = place_before places place k (omega (arith, so_far.long, lt)) in
+          let still : known_in more (get_or places k 0) ≡ known_in facts (get_or places k 0) = rw j.same (known_still facts j.new (get_or places k 0) (so_far.within k)) in
+          subst (IsKnown (utf8_at pool k)) (sym (ap (known_in more) same ∙ still)) (so_far.known k lt))
+          (subst (λ (p : ℕ). IsKnown (utf8_at pool i) (known_in more p)) (sym last) j.here);
+    }
+
+pub KnownBelow-all : (pool : List Entry) (i : ℕ) (facts : List TextFacts) (places : List ℕ) → pool_count pool ≤ i → KnownBelow pool i facts places → AllKnown pool facts places
+KnownBelow-all pool i facts places le so_far =
+    let P : ℕ → Type 0 = λ k. IsKnown (utf8_at pool k) (known_in facts (get_or places k 0)) in
     below_or_past P i so_far.known (λ k past.
     let no_text : utf8_at pool k ≡ None = past_texts pool k (omega arith) in
-    let no_facts : slice_get facts k ≡ None = slice_get_past facts k (omega (arith, so_far.long)) in
-    rw (no_text, no_facts) tt)
+    let no_place : get_or places k 0 ≡ 0 = place_past places k (omega (arith, so_far.long)) in
+    rw (no_text, no_place) tt)
+
+-- what is known of the text at an index, by its place
+get_there : (places : List ℕ) (k place : ℕ) → slice_get places k ≡ Some place → get_or places k 0 ≡ place
+get_there [] k place e = absurd cc
+get_there (p ∷ places) zero place e = ap (λ (o : Option ℕ). unwrap_or o 0) e
+get_there (p ∷ places) (suc k) place e = get_there places k place e
+
+get_nothing : (places : List ℕ) (k : ℕ) → slice_get places k ≡ None → get_or places k 0 ≡ 0
+get_nothing [] k e = refl
+get_nothing (p ∷ places) zero e = absurd cc
+get_nothing (p ∷ places) (suc k) e = get_nothing places k e
+
+pub known_at_place : (pool : List Entry) (facts : List TextFacts) (places : List ℕ) (index place : ℕ) → AllKnown pool facts places → slice_get places index ≡ Some place → IsKnown (utf8_at pool index) (known_in facts place)
+known_at_place pool facts places index place all e = subst (λ (p : ℕ). IsKnown (utf8_at pool index) (known_in facts p)) (get_there places index place e) (all index)
+
+pub known_past : (pool : List Entry) (facts : List TextFacts) (places : List ℕ) (index : ℕ) → AllKnown pool facts places → slice_get places index ≡ None → IsKnown (utf8_at pool index) None
+known_past pool facts places index all e = subst (λ (p : ℕ). IsKnown (utf8_at pool index) (known_in facts p)) (get_nothing places index e) (all index)
+
+-- the facts at a place
+pub known_there : (facts : List TextFacts) (place : ℕ) (found : TextFacts) → 0 < place → slice_get facts (place - 1) ≡ Some found → Some found ≡ known_in facts place
+known_there facts zero found lt e = absurd (omega arith)
+known_there facts (suc before) found lt e = let here : before ≡ suc before - 1 = omega arith in sym (ap (slice_get facts) here ∙ e)
+
+pub known_nowhere : (facts : List TextFacts) (place : ℕ) → 0 < place → slice_get facts (place - 1) ≡ None → None ≡ known_in facts place
+known_nowhere facts zero lt e = absurd (omega arith)
+known_nowhere facts (suc before) lt e = let here : before ≡ suc before - 1 = omega arith in sym (ap (slice_get facts) here ∙ e)
 
 -- ---- every constant has an index
 

@@ -1,9 +1,11 @@
 //! The table of constants, with what is known of each text.
 
-ghost use Rattle.std.specs.Prelude.{◌≡◌, IfOk, IfErr};
+ghost use Rattle.std.specs.Prelude.{◌≡◌, ◌<◌, length, IfOk, IfErr};
+ghost use Rattle.std.specs.Option.{option_map};
 ghost use Rattle.jv_pool.specs.declared.fault.PoolFault.TheVariants.{Memory};
 ghost use Rattle.jv_pool.specs.Constants.{utf8_at};
-ghost use Rattle.jv_pool.specs.Inside.Known.{IsKnown, AllKnown};
+ghost use Rattle.jv_pool.specs.Seen.{seen_text};
+ghost use Rattle.jv_pool.specs.Inside.Known.{IsKnown, AllKnown, IsAdded, known_in};
 
 use crate::facts::TextFacts;
 use crate::fault::PoolFault;
@@ -12,12 +14,13 @@ use crate::texts::facts_of;
 use std::alloc::Global;
 use std::marker::Model;
 
-/// A table of constants, which may break their rules, with what is known of the text at each
-/// index.
+/// A table of constants, which may break their rules, with what is known of its texts: facts for each Utf8 constant alone, and for
+/// each index where its facts stand, one more than the number of those before, or 0.
 #[derive(Drop)]
 pub(crate) struct Known<'a> {
     table: Table<'a>,
-    facts: Vec<Option<TextFacts>>,
+    facts: Vec<TextFacts>,
+    places: Vec<u16>,
 }
 
 impl<'a> Model for Known<'a> {
@@ -29,28 +32,49 @@ impl<'a> Model for Known<'a> {
 
     ghost view = { λ k. k.table };
 
-    ghost invariant = { λ k. AllKnown k.table k.facts.items };
+    ghost invariant = { λ k. AllKnown k.table k.facts.items k.places.items };
 }
 
-fn known_at(table: &Table<'_>, index: u16) -> Option<TextFacts>
-    ensures { IsKnown (utf8_at table.now index) result }
-{
-    match table.utf8(index) {
-        Some(text) => Some(facts_of(text)),
-        None => None,
-    }
-}
-
-/// What is known of the text at each index. Each is examined once.
-fn all_known(alloc: Global, table: &Table<'_>) -> Result<Vec<Option<TextFacts>>, PoolFault>
-    ensures ok { IfOk result (λ facts. AllKnown table.now facts.items) }
+/// Adds the facts of a text behind the others, and answers their place; 0 where there is no text.
+fn add_facts(facts: &mut Vec<TextFacts>, text: Option<&[u8]>) -> Result<u16, PoolFault>
+    requires { length facts.now.items < 65535 }
+    ensures ok { IfOk result (IsAdded (option_map seen_text text.entry) facts.old.items facts.new.items) }
     ensures err { IfErr result (λ e. e ≡ Memory) }
 {
-    let mut facts = Vec::with_capacity(alloc, usize::from(table.count()))?;
+    let Some(text) = text else {
+        return Ok(0);
+    };
+    let before = facts.len();
+    facts.push(facts_of(text))?;
+    Ok(before as u16 + 1)
+}
+
+/// What is known of the text at each index, and where it stands. Each is examined once.
+fn all_known(alloc: Global, table: &Table<'_>) -> Result<(Vec<TextFacts>, Vec<u16>), PoolFault>
+    ensures ok { IfOk result (λ x. AllKnown table.now x.0.items x.1.items) }
+    ensures err { IfErr result (λ e. e ≡ Memory) }
+{
+    let mut facts = Vec::new(alloc);
+    let mut places = Vec::with_capacity(alloc, usize::from(table.count()))?;
     for index in 0..table.count() {
-        facts.push(known_at(table, index))?;
+        let place = add_facts(&mut facts, table.utf8(index))?;
+        places.push(place)?;
     }
-    Ok(facts)
+    facts.shrink_to_fit();
+    Ok((facts, places))
+}
+
+/// The facts at a place.
+fn known_in(facts: &[TextFacts], place: u16) -> Option<TextFacts>
+    ensures { result ≡ known_in facts.now place }
+{
+    if place == 0 {
+        return None;
+    }
+    match facts.get(usize::from(place) - 1) {
+        Some(facts) => Some(*facts),
+        None => None,
+    }
 }
 
 impl<'a> Known<'a> {
@@ -60,7 +84,11 @@ impl<'a> Known<'a> {
         ensures err { IfErr result (λ e. e ≡ Memory) }
     {
         match all_known(alloc, &table) {
-            Ok(facts) => Ok(Known { table, facts }),
+            Ok((facts, places)) => Ok(Known {
+                table,
+                facts,
+                places,
+            }),
             Err(fault) => Err(fault),
         }
     }
@@ -76,8 +104,8 @@ impl<'a> Known<'a> {
     pub(crate) fn facts(&self, index: u16) -> Option<TextFacts>
         ensures { IsKnown (utf8_at self.now index) result }
     {
-        match self.facts.get(usize::from(index)) {
-            Some(facts) => *facts,
+        match self.places.get(usize::from(index)) {
+            Some(place) => known_in(&self.facts, *place),
             None => None,
         }
     }

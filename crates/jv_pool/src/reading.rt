@@ -11,7 +11,7 @@ ghost use Rattle.jv_pool.specs.Inside.Reading.{Gives, of_quad, of_two_quads, of_
 use crate::constant::Constant;
 use crate::fault::PoolFault;
 use crate::shape::{ConstantShape, HalfKind, QuadKind, TwoHalvesKind, TwoQuadsKind, shape_of};
-use crate::table::Table;
+use crate::table::{Table, place_behind};
 use jv_format::{byte_at, half_at, quad_at, text_at};
 use std::alloc::Global;
 
@@ -143,7 +143,7 @@ fn contents_at(shape: Option<ConstantShape>, bytes: &[u8]) -> Option<(Constant<&
 }
 
 /// The constant at the front, and what follows it.
-fn constant_at(bytes: &[u8]) -> Option<(Constant<&[u8]>, &[u8])>
+pub(crate) fn constant_at(bytes: &[u8]) -> Option<(Constant<&[u8]>, &[u8])>
     ensures { Finds constant bytes.now (λ x. (seen x.0, x.1.now)) result }
 {
     let Some((tag, rest)) = byte_at(bytes) else {
@@ -178,21 +178,23 @@ fn listed(alloc: Global, length: u16, bytes: &[u8]) -> Result<(Table<'_>, &[u8])
     ensures { Gives (entries length) bytes.now (λ x. (x.0, x.1.now)) result }
 {
     let room = usize::from(length).min(bytes.len());
-    let mut entries = Vec::with_capacity(alloc, room)?;
+    let mut places = Vec::with_capacity(alloc, room)?;
     let mut rest = bytes;
     let mut unusable = false;
     for _ in 0..length {
+        let before = bytes.len() - rest.len();
         let Some((entry, more, after)) = entry_at(unusable, rest) else {
             return Err(PoolFault::BadPool);
         };
-        entries.push(entry)?;
+        let place = place_behind(entry.is_some(), before)?;
+        places.push(place)?;
         unusable = more;
         rest = after;
     }
     if unusable {
         return Err(PoolFault::BadPool);
     }
-    Ok((Table::new(length + 1, entries), rest))
+    Ok((Table::new(length + 1, bytes, places), rest))
 }
 
 /// The count at the front and the constants behind it, and what follows them.

@@ -1,42 +1,83 @@
 //! The table of constants (JVMS 4.1, 4.4.5), and what an index names there.
 
-ghost use Rattle.std.specs.Prelude.{◌≡◌, List, ℕ, map};
+ghost use Rattle.std.specs.Prelude.{◌≡◌, List, ℕ, map, IfOk, IfErr};
 ghost use Rattle.std.specs.Option.{option_map};
 ghost use Rattle.jv_pool.specs.Constants.{pool_count, at_index, kind_of, kind_at, utf8_in, utf8_at, integer_in, integer_at, long_in, long_at, class_name_in, class_name_at, string_at, named_at, name_and_type_at, member_at, field_reference_at, method_reference_at, interface_method_reference_at};
 ghost use Rattle.jv_pool.specs.Seen.{seen, seen_text, seen_name_and_type, seen_member};
-ghost use Rattle.jv_pool.specs.Inside.Reading.{IsTable, constants_in, entry_at};
+ghost use Rattle.jv_pool.specs.Inside.Reading.{IsTable, constants_in, entries_in, entry_of, entry_at, place_behind};
+ghost use Rattle.jv_pool.specs.declared.fault.PoolFault.TheVariants.{Memory};
 
 use crate::constant::{Constant, Kind, MemberName, NameAndTypeTexts};
+use crate::fault::PoolFault;
+use crate::reading::constant_at;
 use std::marker::Model;
 
-/// The table: an entry for each constant, and behind a Long and a Double a second one, `None`.
-/// Constants may break their rules.
+/// The table: where each constant stands in the file, and behind a Long and a Double a second entry, 0. Constants may break their
+/// rules. An entry takes four bytes, and what it is is read again where it is asked for.
 #[derive(Drop)]
 pub(crate) struct Table<'a> {
     count: u16,
-    entries: Vec<Option<Constant<&'a [u8]>>>,
+    bytes: &'a [u8],
+    places: Vec<u32>,
 }
 
 impl<'a> Model for Table<'a> {
     ghost use Rattle.std.specs.Prelude.{List};
     ghost use Rattle.jv_pool.specs.Constants.{Entry};
-    ghost use Rattle.jv_pool.specs.Inside.Reading.{IsTable, constants_in};
+    ghost use Rattle.jv_pool.specs.Inside.Reading.{IsTable, constants_in, entries_in};
 
     ghost Value = { List Entry };
 
-    ghost view = { λ t. constants_in t.entries.items };
+    ghost view = { λ t. constants_in (entries_in t.bytes.now t.places.items) };
 
-    ghost invariant = { λ t. IsTable t.count t.entries.items };
+    ghost invariant = { λ t. IsTable t.count (entries_in t.bytes.now t.places.items) };
 }
 
-fn entry_at<'a>(table: &[Option<Constant<&'a [u8]>>], index: u16) -> Option<Constant<&'a [u8]>>
-    ensures { result ≡ entry_at table.now index }
+/// The place of what follows so many bytes, where it is a constant.
+///
+/// # Errors
+///
+/// `Memory` for a place that has no room in an entry, which none of a pool has: 65,534 constants take less than 2^32 bytes.
+pub(crate) fn place_behind(is_constant: bool, before: usize) -> Result<u32, PoolFault>
+    ensures ok { IfOk result (λ place. place ≡ place_behind is_constant before) }
+    ensures err { IfErr result (λ e. e ≡ Memory) }
+{
+    if !is_constant {
+        return Ok(0);
+    }
+    if before < 4294967295 {
+        Ok(before as u32 + 1)
+    } else {
+        Err(PoolFault::Memory)
+    }
+}
+
+/// The constant at a place.
+fn constant_of<'a>(bytes: &'a [u8], place: u32) -> Option<Constant<&'a [u8]>>
+    ensures { option_map seen result ≡ entry_of bytes.now place }
+{
+    if place == 0 {
+        return None;
+    }
+    let before = place as usize - 1;
+    if before > bytes.len() {
+        return None;
+    }
+    let (_, rest) = bytes.split_at(before);
+    match constant_at(rest) {
+        Some((constant, _)) => Some(constant),
+        None => None,
+    }
+}
+
+fn entry_at<'a>(bytes: &'a [u8], places: &[u32], index: u16) -> Option<Constant<&'a [u8]>>
+    ensures { option_map seen result ≡ entry_at (entries_in bytes.now places.now) index }
 {
     if index == 0 {
         return None;
     }
-    match table.get(usize::from(index) - 1) {
-        Some(entry) => *entry,
+    match places.get(usize::from(index) - 1) {
+        Some(place) => constant_of(bytes, *place),
         None => None,
     }
 }
@@ -63,12 +104,16 @@ fn kind_among(constant: Constant<&[u8]>) -> Kind
 }
 
 impl<'a> Table<'a> {
-    /// The table with these entries, one less than the count.
-    pub(crate) fn new(count: u16, entries: Vec<Option<Constant<&'a [u8]>>>) -> Table<'a>
-        requires { IsTable count entries.items }
-        ensures { result ≡ constants_in entries.entry.items }
+    /// The table of the constants at these places, one less than the count.
+    pub(crate) fn new(count: u16, bytes: &'a [u8], places: Vec<u32>) -> Table<'a>
+        requires { IsTable count (entries_in bytes.now places.items) }
+        ensures { result ≡ constants_in (entries_in bytes.now places.items) }
     {
-        Table { count, entries }
+        Table {
+            count,
+            bytes,
+            places,
+        }
     }
 
     /// One more than the number of entries.
@@ -82,7 +127,7 @@ impl<'a> Table<'a> {
     pub(crate) fn constant(&self, index: u16) -> Option<Constant<&'a [u8]>>
         ensures { option_map seen result ≡ at_index self.now index }
     {
-        entry_at(&self.entries, index)
+        entry_at(self.bytes, &self.places, index)
     }
 
     /// The kind of the constant at an index.

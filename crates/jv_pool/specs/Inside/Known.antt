@@ -1,5 +1,5 @@
 -- What is known of the texts of a table, and the rules of constants in terms of it.
-use Rattle.std.specs.Prelude.{◌≡◌, ⊤, ℕ, ◌<◌, Bool, true, ◌&&◌, if◌then◌else◌, List, length, Option, Some, None, slice_get, IsTrue}
+use Rattle.std.specs.Prelude.{◌≡◌, ⊤, ℕ, zero, suc, ◌+◌, ◌<◌, ◌≤◌, Bool, true, ◌&&◌, if◌then◌else◌, List, [], ◌∷◌, ◌++◌, length, Option, Some, None, slice_get, get_or, IsTrue}
 use Rattle.std.specs.Option.{IsSomeAnd}
 use Rattle.jv_text.specs.Name.{is_plain_name, is_method_name}
 use Rattle.jv_pool.specs.declared.constant.Constant.TheVariants.{NameAndType}
@@ -17,18 +17,26 @@ IsKnown None (Some facts) = ⊥
 IsKnown (Some text) None = ⊥
 IsKnown (Some text) (Some facts) = AreFacts text facts
 
-abbrev pub known_in : Option (Option TextFacts) → Option TextFacts
-known_in None = None
-known_in (Some known) = known
+-- A place is one more than the number of the facts before some; 0 is that of none.
+abbrev pub known_in : List TextFacts → ℕ → Option TextFacts
+known_in facts zero = None
+known_in facts (suc before) = slice_get facts before
 
 -- at every index
-abbrev pub AllKnown : List Entry → List (Option TextFacts) → Type 0
-AllKnown pool facts = (index : ℕ) → IsKnown (utf8_at pool index) (known_in (slice_get facts index))
+abbrev pub AllKnown : List Entry → List TextFacts → List ℕ → Type 0
+AllKnown pool facts places = (index : ℕ) → IsKnown (utf8_at pool index) (known_in facts (get_or places index 0))
 
 -- so far
-pub record KnownBelow (pool : List Entry) (count : ℕ) (facts : List (Option TextFacts)) : Type 0 where
-  pub long : length facts ≡ count
-  pub known : (index : ℕ) → index < count → IsKnown (utf8_at pool index) (known_in (slice_get facts index))
+pub record KnownBelow (pool : List Entry) (count : ℕ) (facts : List TextFacts) (places : List ℕ) : Type 0 where
+  pub long : length places ≡ count
+  pub few : length facts ≤ count
+  pub within : (index : ℕ) → get_or places index 0 ≤ length facts
+  pub known : (index : ℕ) → index < count → IsKnown (utf8_at pool index) (known_in facts (get_or places index 0))
+
+-- facts of a text that joined behind the others, at this place, or none
+abbrev pub IsAdded : Option (List ℕ) → List TextFacts → List TextFacts → ℕ → Type 0
+IsAdded None before after place = (after ≡ before) × (place ≡ 0)
+IsAdded (Some text) before after place = (facts : TextFacts) × AreFacts text facts × (after ≡ before ++ facts ∷ []) × (place ≡ length before + 1)
 
 -- what is known of a method descriptor
 abbrev pub MethodKnown : Option (List ℕ) → Option MethodFacts → Type 0

@@ -1,5 +1,5 @@
 -- How constants are read.
-use Rattle.std.specs.Prelude.{◌≡◌, ℕ, zero, suc, Bool, true, false, List, [], ◌∷◌, map, Option, Some, None, Result, Ok, Err, ◌==◌, ◌+◌, ◌-◌, ◌&&◌, length, slice_get, if◌then◌else◌}
+use Rattle.std.specs.Prelude.{◌≡◌, ℕ, zero, suc, Bool, true, false, List, [], ◌∷◌, map, Option, Some, None, Result, Ok, Err, ◌==◌, ◌+◌, ◌-◌, ◌&&◌, length, drop, slice_get, if◌then◌else◌}
 use Rattle.std.specs.Option.{option_map}
 use Rattle.std.specs.List.{flat_map, list_all}
 use Rattle.std.specs.Borrow.{Bor}
@@ -126,26 +126,42 @@ step_read false bytes = constant_read bytes >>= λ c. Some (Some c.0, takes_two 
 abbrev pub seen_step : Option (Constant (Bor (List ℕ))) × Bool × Bor (List ℕ) → Option Entry × Bool × List ℕ
 seen_step x = (option_map seen x.0, x.1, x.2.now)
 
--- ---- the table in the code
-
-abbrev pub seen_entry : Option (Constant (Bor (List ℕ))) → List Entry
-seen_entry (Some c) = seen c ∷ []
-seen_entry None = []
-
--- the constants of a table
-abbrev pub constants_in : List (Option (Constant (Bor (List ℕ)))) → List Entry
-constants_in table = flat_map seen_entry table
-
 abbrev pub pending : Bool → List (Option Entry)
 pending true = None ∷ []
 pending false = []
 
--- the entries are the table of their constants, and so many
-pub record IsTable (count : ℕ) (table : List (Option (Constant (Bor (List ℕ))))) : Type 0 where
-  pub counted : count ≡ length table + 1
-  pub entries : table_of (constants_in table) ≡ map (option_map seen) table
+-- ---- the table in the code: of each entry it is kept where its constant stands
 
-abbrev pub entry_at : {T : Type 0} → List (Option (Constant T)) → ℕ → Option (Constant T)
+-- the constants of a table's entries
+abbrev pub entry_list : Option Entry → List Entry
+entry_list None = []
+entry_list (Some c) = c ∷ []
+
+abbrev pub constants_in : List (Option Entry) → List Entry
+constants_in table = flat_map entry_list table
+
+abbrev pub found_first : Entry × List ℕ → Entry
+found_first c = c.0
+
+-- A place is one more than the number of the bytes before a constant; 0 is that of no constant.
+abbrev pub entry_of : List ℕ → ℕ → Option Entry
+entry_of bytes zero = None
+entry_of bytes (suc before) = option_map found_first (constant_read (drop before bytes))
+
+-- the place of what stands behind so many bytes, where it is a constant
+abbrev pub place_behind : Bool → ℕ → ℕ
+place_behind true before = suc before
+place_behind false before = zero
+
+abbrev pub entries_in : List ℕ → List ℕ → List (Option Entry)
+entries_in bytes places = map (entry_of bytes) places
+
+-- the entries are the table of their constants, and so many
+pub record IsTable (count : ℕ) (table : List (Option Entry)) : Type 0 where
+  pub counted : count ≡ length table + 1
+  pub entries : table_of (constants_in table) ≡ table
+
+abbrev pub entry_at : List (Option Entry) → ℕ → Option Entry
 entry_at table zero = None
 entry_at table (suc n) = usable (slice_get table n)
 

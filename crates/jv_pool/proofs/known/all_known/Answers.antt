@@ -1,9 +1,16 @@
-use Rattle.std.proofs.Common.{arith}
+use Rattle.std.proofs.Common.{List, ℕ, Option, subst, sym, arith}
+use Rattle.jv_pool.specs.Inside.Known.{IsAdded, AllKnown}
 use Rattle.jv_pool.proofs.Kept.{KnownBelow-push, KnownBelow-all}
+use Rattle.jv_pool.specs.declared.facts.TextFacts.{TextFacts}
 use Rattle.jv_pool.proofs.known.all_known.Goals as goal
 
 pub loop-index-preserved : goal.loop-index-preserved
-loop-index-preserved c = rw c.in_ok-push.ensures.items (KnownBelow-push c.args.table.now c.loop-index.index c.loop-index.facts.items c.known_at.result c.known_at.ensures c.loop-index.invariant)
+loop-index-preserved c =
+    let added = subst (λ (t : Option (List ℕ)). IsAdded t c.loop-index.facts.items c.add_facts.new.facts.items c.in_ok-place.place) c.utf8-2.ensures c.in_ok-place.ensures.ok in
+    rw c.in_ok-push.ensures.items
+    (KnownBelow-push c.args.table.now c.loop-index.index c.loop-index.facts.items c.add_facts.new.facts.items c.loop-index.places.items c.in_ok-place.place added c.loop-index.invariant)
 
 pub returns-clause-ok : goal.returns-clause-ok
-returns-clause-ok c = KnownBelow-all c.args.table.now c.loop-index.index c.loop-index.facts.items (omega arith) c.loop-index.invariant
+returns-clause-ok c =
+    subst (λ (facts : List TextFacts). AllKnown c.args.table.now facts c.loop-index.places.items) (sym c.shrink_to_fit.ensures.items)
+    (KnownBelow-all c.args.table.now c.loop-index.index c.loop-index.facts.items c.loop-index.places.items (omega arith) c.loop-index.invariant)

@@ -2,4 +2,4 @@ use Rattle.jv_pool.specs.Inside.Known.{KnownBelow}
 use Rattle.jv_pool.proofs.known.all_known.Given as goal
 
 abbrev pub invariant-loop-index : goal.invariant-loop-index
-invariant-loop-index l = KnownBelow l.table l.index l.facts.items
+invariant-loop-index l = KnownBelow l.table l.index l.facts.items l.places.items
