@@ -107,6 +107,7 @@ impl<'a> Pool<'a> {
     }
 
     /// The constant at an index; `None` where the index names none.
+    #[inline(always)]
     pub fn constant(&self, index: u16) -> Option<Constant<&'a [u8]>>
         ensures { option_map seen result ≡ at_index self.now index }
     {

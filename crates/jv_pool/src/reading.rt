@@ -15,6 +15,7 @@ use crate::table::{Table, place_behind};
 use jv_format::{byte_at, half_at, quad_at, text_at};
 use std::alloc::Global;
 
+#[inline(always)]
 fn of_quad(kind: QuadKind, bits: u32) -> Constant<&'static [u8]>
     ensures { seen result ≡ of_quad kind bits }
 {
@@ -24,6 +25,7 @@ fn of_quad(kind: QuadKind, bits: u32) -> Constant<&'static [u8]>
     }
 }
 
+#[inline(always)]
 fn of_two_quads(kind: TwoQuadsKind, high: u32, low: u32) -> Constant<&'static [u8]>
     ensures { seen result ≡ of_two_quads kind (high, low) }
 {
@@ -33,6 +35,7 @@ fn of_two_quads(kind: TwoQuadsKind, high: u32, low: u32) -> Constant<&'static [u
     }
 }
 
+#[inline(always)]
 fn of_half(kind: HalfKind, index: u16) -> Constant<&'static [u8]>
     ensures { seen result ≡ of_half kind index }
 {
@@ -43,6 +46,7 @@ fn of_half(kind: HalfKind, index: u16) -> Constant<&'static [u8]>
     }
 }
 
+#[inline(always)]
 fn of_two_halves(kind: TwoHalvesKind, first: u16, second: u16) -> Constant<&'static [u8]>
     ensures { seen result ≡ of_two_halves kind (first, second) }
 {
@@ -55,6 +59,7 @@ fn of_two_halves(kind: TwoHalvesKind, first: u16, second: u16) -> Constant<&'sta
     }
 }
 
+#[inline(always)]
 fn text_constant(bytes: &[u8]) -> Option<(Constant<&[u8]>, &[u8])>
     ensures { Finds (shaped shapes.Text) bytes.now (λ x. (seen x.0, x.1.now)) result }
 {
@@ -64,6 +69,7 @@ fn text_constant(bytes: &[u8]) -> Option<(Constant<&[u8]>, &[u8])>
     Some((Constant::Utf8(text), rest))
 }
 
+#[inline(always)]
 fn quad_constant(kind: QuadKind, bytes: &[u8]) -> Option<(Constant<&[u8]>, &[u8])>
     ensures { Finds (shaped (shapes.Quad kind)) bytes.now (λ x. (seen x.0, x.1.now)) result }
 {
@@ -73,6 +79,7 @@ fn quad_constant(kind: QuadKind, bytes: &[u8]) -> Option<(Constant<&[u8]>, &[u8]
     Some((of_quad(kind, bits), rest))
 }
 
+#[inline(always)]
 fn two_quads_constant(kind: TwoQuadsKind, bytes: &[u8]) -> Option<(Constant<&[u8]>, &[u8])>
     ensures { Finds (shaped (shapes.TwoQuads kind)) bytes.now (λ x. (seen x.0, x.1.now)) result }
 {
@@ -85,6 +92,7 @@ fn two_quads_constant(kind: TwoQuadsKind, bytes: &[u8]) -> Option<(Constant<&[u8
     Some((of_two_quads(kind, high, low), rest))
 }
 
+#[inline(always)]
 fn half_constant(kind: HalfKind, bytes: &[u8]) -> Option<(Constant<&[u8]>, &[u8])>
     ensures { Finds (shaped (shapes.Half kind)) bytes.now (λ x. (seen x.0, x.1.now)) result }
 {
@@ -94,6 +102,7 @@ fn half_constant(kind: HalfKind, bytes: &[u8]) -> Option<(Constant<&[u8]>, &[u8]
     Some((of_half(kind, index), rest))
 }
 
+#[inline(always)]
 fn two_halves_constant(kind: TwoHalvesKind, bytes: &[u8]) -> Option<(Constant<&[u8]>, &[u8])>
     ensures { Finds (shaped (shapes.TwoHalves kind)) bytes.now (λ x. (seen x.0, x.1.now)) result }
 {
@@ -106,6 +115,7 @@ fn two_halves_constant(kind: TwoHalvesKind, bytes: &[u8]) -> Option<(Constant<&[
     Some((of_two_halves(kind, first, second), rest))
 }
 
+#[inline(always)]
 fn handle_constant(bytes: &[u8]) -> Option<(Constant<&[u8]>, &[u8])>
     ensures { Finds (shaped shapes.ByteAndHalf) bytes.now (λ x. (seen x.0, x.1.now)) result }
 {
@@ -119,6 +129,7 @@ fn handle_constant(bytes: &[u8]) -> Option<(Constant<&[u8]>, &[u8])>
 }
 
 /// The constant of this shape at the front, and what follows it.
+#[inline(always)]
 fn shaped_at(shape: ConstantShape, bytes: &[u8]) -> Option<(Constant<&[u8]>, &[u8])>
     ensures { Finds (shaped shape) bytes.now (λ x. (seen x.0, x.1.now)) result }
 {
@@ -133,6 +144,7 @@ fn shaped_at(shape: ConstantShape, bytes: &[u8]) -> Option<(Constant<&[u8]>, &[u
 }
 
 /// The constant at the front of what stands behind its tag, and what follows it.
+#[inline(always)]
 fn contents_at(shape: Option<ConstantShape>, bytes: &[u8]) -> Option<(Constant<&[u8]>, &[u8])>
     ensures { option_map seen_found result ≡ contents_read shape bytes.now }
 {
@@ -142,7 +154,8 @@ fn contents_at(shape: Option<ConstantShape>, bytes: &[u8]) -> Option<(Constant<&
     }
 }
 
-/// The constant at the front, and what follows it.
+/// The constant at the front, and what follows it. In line where one kind is asked for, it is read as that kind alone.
+#[inline(always)]
 pub(crate) fn constant_at(bytes: &[u8]) -> Option<(Constant<&[u8]>, &[u8])>
     ensures { Finds constant bytes.now (λ x. (seen x.0, x.1.now)) result }
 {

@@ -47,6 +47,7 @@ pub(crate) enum ConstantShape {
 }
 
 /// The shape of the constants with this tag.
+#[inline(always)]
 pub(crate) fn shape_of(tag: u8) -> Option<ConstantShape>
     ensures { result ≡ shape_of tag }
 {

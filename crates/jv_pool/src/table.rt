@@ -53,6 +53,7 @@ pub(crate) fn place_behind(is_constant: bool, before: usize) -> Result<u32, Pool
 }
 
 /// The constant at a place.
+#[inline(always)]
 fn constant_of<'a>(bytes: &'a [u8], place: u32) -> Option<Constant<&'a [u8]>>
     ensures { option_map seen result ≡ entry_of bytes.now place }
 {
@@ -70,6 +71,7 @@ fn constant_of<'a>(bytes: &'a [u8], place: u32) -> Option<Constant<&'a [u8]>>
     }
 }
 
+#[inline(always)]
 fn entry_at<'a>(bytes: &'a [u8], places: &[u32], index: u16) -> Option<Constant<&'a [u8]>>
     ensures { option_map seen result ≡ entry_at (entries_in bytes.now places.now) index }
 {
@@ -124,6 +126,7 @@ impl<'a> Table<'a> {
     }
 
     /// The constant at an index.
+    #[inline(always)]
     pub(crate) fn constant(&self, index: u16) -> Option<Constant<&'a [u8]>>
         ensures { option_map seen result ≡ at_index self.now index }
     {
