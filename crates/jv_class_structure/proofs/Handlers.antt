@@ -7,7 +7,8 @@ use Rattle.jv_pool.specs.of_format.Readers.{both, list_read, found_as}
 use Rattle.jv_pool.proofs.laws_of_format.Laws.{IsFormat, half_is, both_is}
 use Rattle.jv_pool.specs.of_format.declared.handlers.Handler.{Handler}
 use Rattle.jv_pool.specs.of_format.Handlers.{handler_bytes, handler_fits, handlers_in}
-use Rattle.jv_class_structure.specs.Inside.Reading.{table, exception_of, exception, handlers_kept}
+use Rattle.jv_class_structure.specs.Packed.{handlers_kept}
+use Rattle.jv_class_structure.specs.Inside.Reading.{table, exception_of, exception}
 use Rattle.jv_class_structure.proofs.Forms.{Keeps, shaped_is, by_found}
 
 fits_enter : (a b c d : Bool) → IsTrue (((a && b) && c) && d) → IsTrue ((a && b) && (c && d))

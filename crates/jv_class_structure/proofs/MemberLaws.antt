@@ -14,7 +14,8 @@ use Rattle.jv_class_structure.specs.Structure.{AttributeInfo, CodeAttribute, Met
 use Rattle.jv_class_structure.specs.Structure.MethodAttribute.{Code, Other}
 use Rattle.jv_class_structure.specs.Attributes.{has_attribute_name, has_utf8_name, all_named, at_most_one, sole, code_length_keeps_rules, field_attributes_keep_rules, code_keeps_rules, method_attribute_keeps_rules, code_in, codes_of, method_attributes_keep_rules}
 use Rattle.jv_class_structure.specs.Parts.{CodeSeen, field_shown, code_shown, method_shown}
-use Rattle.jv_class_structure.specs.Inside.Reading.{Three, three, kept, table, values_in, is_utf8, attribute_of, is_static, field_of_parts, attributes_behind, field, values_behind, field_seen_of, field_kept, exception, value_of, stack_map_of, code_attributes, code_text, CodeBody, code_of, code_body, code, handlers_kept, stack_maps_kept, code_seen, code_kept, is_code, on_left, on_right, left_of, right_of, Held, code_held, other_held, held, method_attribute_of, method_attribute, code_shown_inside, method_attributes, there, nothing, held_kept, code_behind, method_attribute_kept, codes_kept, method_of_parts, method, method_seen_of, method_kept}
+use Rattle.jv_class_structure.specs.Packed.{handlers_kept}
+use Rattle.jv_class_structure.specs.Inside.Reading.{Three, three, kept, table, values_in, is_utf8, attribute_of, is_static, field_of_parts, attributes_behind, field, values_behind, field_seen_of, field_kept, exception, value_of, stack_map_of, code_attributes, code_text, CodeBody, code_of, code_body, code, stack_maps_kept, code_seen, code_kept, is_code, on_left, on_right, left_of, right_of, Held, code_held, other_held, held, method_attribute_of, method_attribute, code_shown_inside, method_attributes, there, nothing, held_kept, code_behind, method_attribute_kept, codes_kept, method_of_parts, method, method_seen_of, method_kept}
 use Rattle.jv_class_structure.proofs.Lists.{all_both, all_parts, at_most_one-map, sole-map}
 use Rattle.jv_class_structure.proofs.Forms.{Keeps, each_side, second_side, shaped_is, table_is, solely_is, itself, both_keeps, paired_keeps, shaped_keeps, gather_keeps, enclosed_keeps}
 use Rattle.jv_class_structure.proofs.AttributeLaws.{contents_fit, contents_fit-from, field_attributes_is, field_attributes_enter, field_attributes_leave, value_shown, values_keep, code_attributes_is, stack_maps_in, code_attributes_enter, code_attributes_leave, map_shown, stack_maps_keep}

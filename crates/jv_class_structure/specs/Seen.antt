@@ -8,6 +8,7 @@ use Rattle.jv_class_structure.specs.declared.member.MethodCode.{MethodCode}
 use Rattle.jv_class_structure.specs.declared.member.Method.{Method}
 use Rattle.jv_pool.specs.of_format.Handlers.{handlers_of}
 use Rattle.jv_class_structure.specs.Parts.{FieldSeen, CodeSeen, MethodSeen}
+use Rattle.jv_class_structure.specs.Packed.{code_in, there_if}
 
 abbrev pub seen_index : ClassIndex → ℕ
 seen_index i = i.0
@@ -37,7 +38,7 @@ seen_method m = record {
   access_flags = m.access_flags.0;
   name_index = m.name.0;
   descriptor_index = m.descriptor.0;
-  code = option_map seen_code m.code;
+  code = there_if m.is_coded (code_in m.contents.now (there_if m.is_mapped m.stack_map.now));
 }
 
 abbrev pub seen_fields : List Field → List FieldSeen

@@ -6,13 +6,13 @@ ghost use Rattle.jv_pool.specs.of_format.Readers.{both, enclosed, contents, such
 ghost use Rattle.jv_pool.specs.of_format.Handlers.{handlers_of};
 ghost use Rattle.jv_class_structure.specs.Flags.{has, acc_static};
 ghost use Rattle.jv_class_structure.specs.Seen.{seen_field, seen_code, seen_method};
-ghost use Rattle.jv_class_structure.specs.Inside.Kept.{seen_map};
-ghost use Rattle.jv_class_structure.specs.Inside.Kept.{seen_codes};
-ghost use Rattle.jv_class_structure.specs.Inside.Reading.{three, values_kept, field_kept, code_text, handlers_kept, stack_maps_kept, code_kept, is_code, is_utf8, held_kept, method_attribute_kept, counted_codes, codes_kept, method_kept};
+ghost use Rattle.jv_class_structure.specs.Packed.{handlers_kept, code_front, code_in};
+ghost use Rattle.jv_class_structure.specs.Inside.Kept.{seen_map, unpacked, seen_codes};
+ghost use Rattle.jv_class_structure.specs.Inside.Reading.{three, values_kept, field_kept, code_text, stack_maps_kept, code_kept, is_code, is_utf8, held_kept, method_attribute_kept, counted_codes, codes_kept, method_seen_of, method_kept};
 
 use crate::attributes::{contents_at, is_text, is_utf8, one_more, stack_maps_at, values_at};
 use crate::flags::{FieldFlags, MethodFlags};
-use crate::member::{Field, Method, MethodCode};
+use crate::member::{Field, Method, MethodCode, PackedCode};
 use jv_pool::of_format::{ExceptionTable, bytes_at, half_at};
 use jv_pool::{Pool, Utf8Index};
 
@@ -111,6 +111,46 @@ fn handlers_at(bytes: &[u8]) -> Option<(ExceptionTable<'_>, &[u8])>
     Some((ExceptionTable { bytes }, rest))
 }
 
+/// What stands before a code's attributes, and what follows it.
+fn front_at(bytes: &[u8]) -> Option<(((u16, u16), (&[u8], ExceptionTable<'_>)), &[u8])>
+    ensures { Finds code_front bytes.now (λ x. ((x.0.0, (x.0.1.0.now, handlers_of x.0.1.1)), x.1.now)) result }
+{
+    let Some((limits, rest)) = limits_at(bytes) else {
+        return None;
+    };
+    let Some((code, rest)) = contents_at(rest) else {
+        return None;
+    };
+    let Some((handlers, rest)) = handlers_at(rest) else {
+        return None;
+    };
+    Some(((limits, (code, handlers)), rest))
+}
+
+/// The code that a Code attribute's contents hold, with what its StackMapTable holds.
+pub(crate) fn code_in<'a>(bytes: &'a [u8], stack_map_table: Option<&'a [u8]>) -> MethodCode<'a>
+    ensures { seen_code result ≡ code_in bytes.now (seen_map stack_map_table.entry) }
+{
+    match front_at(bytes) {
+        Some((((max_stack, max_locals), (code, exception_table)), _)) => MethodCode {
+            max_stack,
+            max_locals,
+            code,
+            exception_table,
+            stack_map_table,
+        },
+        None => MethodCode {
+            max_stack: 0,
+            max_locals: 0,
+            code: b"".as_slice(),
+            exception_table: ExceptionTable {
+                bytes: b"".as_slice(),
+            },
+            stack_map_table,
+        },
+    }
+}
+
 /// The exception table and the stack map table of a code, and what follows its attributes.
 fn tables_at<'a>(
     pool: &Pool<'_>,
@@ -150,14 +190,28 @@ fn code_at<'a>(pool: &Pool<'_>, bytes: &'a [u8]) -> Option<(MethodCode<'a>, &'a 
     Some((code, rest))
 }
 
+/// What a Code attribute holds, with the bytes that hold it, and what follows it.
+fn packed_code_at<'a>(pool: &Pool<'_>, bytes: &'a [u8]) -> Option<(PackedCode<'a>, &'a [u8])>
+    ensures { Finds (code_kept pool.now) bytes.now (λ x. (unpacked x.0, x.1.now)) result }
+{
+    let Some((code, rest)) = code_at(pool, bytes) else {
+        return None;
+    };
+    let packed = PackedCode {
+        contents: bytes,
+        stack_map_table: code.stack_map_table,
+    };
+    Some((packed, rest))
+}
+
 /// What a Code attribute holds behind its length, which it fills, and what follows.
-fn enclosed_code_at<'a>(pool: &Pool<'_>, bytes: &'a [u8]) -> Option<(MethodCode<'a>, &'a [u8])>
-    ensures { Finds (enclosed (code_kept pool.now)) bytes.now (λ x. (seen_code x.0, x.1.now)) result }
+fn enclosed_code_at<'a>(pool: &Pool<'_>, bytes: &'a [u8]) -> Option<(PackedCode<'a>, &'a [u8])>
+    ensures { Finds (enclosed (code_kept pool.now)) bytes.now (λ x. (unpacked x.0, x.1.now)) result }
 {
     let Some((inside, rest)) = contents_at(bytes) else {
         return None;
     };
-    let Some((code, after)) = code_at(pool, inside) else {
+    let Some((code, after)) = packed_code_at(pool, inside) else {
         return None;
     };
     if after.is_empty() {
@@ -192,7 +246,7 @@ fn held_at<'a>(
     pool: &Pool<'_>,
     name: u16,
     bytes: &'a [u8],
-) -> Option<(Option<MethodCode<'a>>, &'a [u8])>
+) -> Option<(Option<PackedCode<'a>>, &'a [u8])>
     ensures { Finds (held_kept pool.now name) bytes.now (λ x. (seen_codes x.0, x.1.now)) result }
 {
     if is_code(pool, name) {
@@ -212,7 +266,7 @@ fn held_at<'a>(
 fn method_attribute_at<'a>(
     pool: &Pool<'_>,
     bytes: &'a [u8],
-) -> Option<(Option<MethodCode<'a>>, &'a [u8])>
+) -> Option<(Option<PackedCode<'a>>, &'a [u8])>
     ensures { Finds (method_attribute_kept pool.now) bytes.now (λ x. (seen_codes x.0, x.1.now)) result }
 {
     let Some((name, rest)) = half_at(bytes) else {
@@ -226,7 +280,7 @@ fn codes_listed<'a>(
     pool: &Pool<'_>,
     count: u16,
     bytes: &'a [u8],
-) -> Option<(Option<MethodCode<'a>>, &'a [u8])>
+) -> Option<(Option<PackedCode<'a>>, &'a [u8])>
     ensures { Finds (counted_codes pool.now count) bytes.now (λ x. (seen_codes x.0, x.1.now)) result }
 {
     let mut found = None;
@@ -245,7 +299,7 @@ fn codes_listed<'a>(
 }
 
 /// The code among the attributes at the front, and what follows them.
-fn codes_at<'a>(pool: &Pool<'_>, bytes: &'a [u8]) -> Option<(Option<MethodCode<'a>>, &'a [u8])>
+fn codes_at<'a>(pool: &Pool<'_>, bytes: &'a [u8]) -> Option<(Option<PackedCode<'a>>, &'a [u8])>
     ensures { Finds (codes_kept pool.now) bytes.now (λ x. (seen_codes x.0, x.1.now)) result }
 {
     let Some((count, rest)) = half_at(bytes) else {
@@ -255,6 +309,55 @@ fn codes_at<'a>(pool: &Pool<'_>, bytes: &'a [u8]) -> Option<(Option<MethodCode<'
 }
 
 // ---- methods
+
+/// The method with this code.
+fn method_with(flags: u16, name: u16, descriptor: u16, code: Option<PackedCode<'_>>) -> Method<'_>
+    ensures { seen_method result ≡ method_seen_of ((flags, (name, descriptor)), seen_codes code.entry) }
+{
+    let access_flags = MethodFlags(flags);
+    let name = Utf8Index(name);
+    let descriptor = Utf8Index(descriptor);
+    let nothing = b"".as_slice();
+    match code {
+        Some(
+            PackedCode {
+                contents,
+                stack_map_table: Some(stack_map),
+            },
+        ) => Method {
+            access_flags,
+            name,
+            descriptor,
+            is_coded: true,
+            is_mapped: true,
+            contents,
+            stack_map,
+        },
+        Some(
+            PackedCode {
+                contents,
+                stack_map_table: None,
+            },
+        ) => Method {
+            access_flags,
+            name,
+            descriptor,
+            is_coded: true,
+            is_mapped: false,
+            contents,
+            stack_map: nothing,
+        },
+        None => Method {
+            access_flags,
+            name,
+            descriptor,
+            is_coded: false,
+            is_mapped: false,
+            contents: nothing,
+            stack_map: nothing,
+        },
+    }
+}
 
 /// The method at the front, and what follows it.
 pub(crate) fn method_at<'a>(pool: &Pool<'_>, bytes: &'a [u8]) -> Option<(Method<'a>, &'a [u8])>
@@ -266,11 +369,5 @@ pub(crate) fn method_at<'a>(pool: &Pool<'_>, bytes: &'a [u8]) -> Option<(Method<
     let Some((code, rest)) = codes_at(pool, rest) else {
         return None;
     };
-    let method = Method {
-        access_flags: MethodFlags(flags),
-        name: Utf8Index(name),
-        descriptor: Utf8Index(descriptor),
-        code,
-    };
-    Some((method, rest))
+    Some((method_with(flags, name, descriptor, code), rest))
 }

@@ -3,11 +3,12 @@ use Rattle.std.specs.Prelude.{ℕ, List, map, Option}
 use Rattle.std.specs.Option.{option_map}
 use Rattle.std.specs.Borrow.{Bor}
 use Rattle.jv_class_structure.specs.declared.attributes.Attribute.{Attribute}
-use Rattle.jv_class_structure.specs.declared.member.MethodCode.{MethodCode}
+use Rattle.jv_class_structure.specs.declared.member.PackedCode.{PackedCode}
 use Rattle.jv_class_structure.specs.declared.body.Body.{Body}
 use Rattle.jv_class_structure.specs.Structure.{AttributeInfo}
 use Rattle.jv_class_structure.specs.Parts.{CodeSeen}
-use Rattle.jv_class_structure.specs.Seen.{seen_index, seen_bytes, seen_field, seen_code, seen_method}
+use Rattle.jv_class_structure.specs.Packed.{code_in}
+use Rattle.jv_class_structure.specs.Seen.{seen_index, seen_bytes, seen_field, seen_method}
 use Rattle.jv_class_structure.specs.Inside.Reading.{BodySeen}
 
 abbrev pub seen_attribute : Attribute → AttributeInfo
@@ -16,8 +17,11 @@ seen_attribute a = record { attribute_name_index = a.name; info = a.info.now }
 abbrev pub seen_map : Option (Bor (List ℕ)) → Option (List ℕ)
 seen_map map = option_map seen_bytes map
 
-abbrev pub seen_codes : Option MethodCode → Option CodeSeen
-seen_codes code = option_map seen_code code
+abbrev pub unpacked : PackedCode → CodeSeen
+unpacked p = code_in p.contents.now (seen_map p.stack_map_table)
+
+abbrev pub seen_codes : Option PackedCode → Option CodeSeen
+seen_codes code = option_map unpacked code
 
 abbrev pub seen_body : Body → BodySeen
 seen_body b = (

@@ -1,13 +1,13 @@
 -- How the parts of a class file behind its pool are read, and what is kept of them. Not for believing: no contract of
 -- a public function is understood by it.
-use Rattle.std.specs.Prelude.{◌≡◌, ℕ, zero, suc, ◌*◌, Bool, true, false, ◌&&◌, ◌⊎◌, List, [], ◌∷◌, length, map, Option, Some, None, is_some, codes, Result, Ok, Err, if◌then◌else◌}
+use Rattle.std.specs.Prelude.{◌≡◌, ℕ, zero, suc, Bool, true, false, ◌&&◌, ◌⊎◌, List, [], ◌∷◌, length, map, Option, Some, None, is_some, codes, Result, Ok, Err, if◌then◌else◌}
 use Rattle.std.specs.Option.{option_map}
 use Rattle.std.proofs.Common.{inl, inr}
 use Rattle.std.specs.List.{flat_map}
-use Rattle.jv_pool.specs.of_format.Format.{Format, ◌>>=◌, half, front}
+use Rattle.jv_pool.specs.of_format.Format.{Format, ◌>>=◌, half}
 use Rattle.jv_pool.specs.of_format.Readers.{both, list_of, found_as, after, such_that, paired, contents, whole, enclosed, case_of}
 use Rattle.jv_pool.specs.of_format.declared.handlers.Handler.{Handler}
-use Rattle.jv_pool.specs.of_format.Handlers.{handler_bytes, handler_fits, handler, handlers_in}
+use Rattle.jv_pool.specs.of_format.Handlers.{handler_bytes, handler_fits, handler}
 use Rattle.jv_pool.specs.Constants.{Entry, utf8_at}
 use Rattle.jv_class_structure.specs.declared.fault.PartsFault.{PartsFault}
 use Rattle.jv_class_structure.specs.declared.fault.PartsFault.TheVariants.{Format as BadFormat, Memory}
@@ -16,6 +16,7 @@ use Rattle.jv_class_structure.specs.Structure.MethodAttribute.{Code, Other}
 use Rattle.jv_class_structure.specs.Flags.{has, acc_static}
 use Rattle.jv_class_structure.specs.Attributes.{is_text_at, has_attribute_name, at_most_one, has_utf8_name, value_index, code_length_keeps_rules, field_attributes_keep_rules, code_keeps_rules, method_attribute_keeps_rules, method_attributes_keep_rules}
 use Rattle.jv_class_structure.specs.Parts.{FieldSeen, CodeSeen, MethodSeen, field_shown, code_shown, method_shown}
+use Rattle.jv_class_structure.specs.Packed.{handlers_kept}
 
 -- ---- forms
 
@@ -258,13 +259,6 @@ values_behind pool t = values_kept pool (is_static t)
 
 abbrev pub field_kept : List Entry → Format FieldSeen
 field_kept pool = kept field_seen_of (paired three (values_behind pool))
-
--- as many handlers as the number says, eight bytes each
-abbrev pub handlers_read : ℕ × List ℕ → Option (List Handler × List ℕ)
-handlers_read n = front (n.0 * 8, n.1) >>= found_as handlers_in
-
-abbrev pub handlers_kept : Format (List Handler)
-handlers_kept = record { spelling = λ _. []; fits = λ _. false; read = λ bytes. half.read bytes >>= handlers_read }
 
 abbrev pub stack_map_kept : List Entry → Format (Option (List ℕ))
 stack_map_kept pool = kept (stack_map_of pool) (attribute pool)
