@@ -46,8 +46,8 @@ pub(crate) struct PackedCode<'a> {
     pub(crate) stack_map_table: Option<&'a [u8]>,
 }
 
-/// A method. Its code is kept as the bytes that hold it, and is read from them where it is asked
-/// for: most methods of a program are never looked into again.
+/// A method (4.6). Of its code the bytes that hold it are kept, and it is read from them where it
+/// is asked for, so that a method takes few bytes.
 #[derive(Clone, Copy)]
 pub struct Method<'a> {
     pub access_flags: MethodFlags,
@@ -63,7 +63,9 @@ pub struct Method<'a> {
     pub(crate) stack_map: &'a [u8],
 }
 
-/// The value, where it is there.
+const _: () = prove!(size_of::<Method<'static>>() <= 40);
+
+/// The bytes, where they are there.
 fn there_if(is_there: bool, bytes: &[u8]) -> Option<&[u8]>
     ensures { seen_map result ≡ there_if is_there bytes.now }
 {
