@@ -93,9 +93,9 @@ fn code_presence_keeps_rules(name: &[u8], method: Method<'_>) -> bool
     ensures { result ≡ code_presence_keeps_rules name.now method.entry.access_flags.0 (is_some (seen_method method.entry).code) }
 {
     if is_bodiless(name, method.access_flags) {
-        method.code.is_none()
+        !method.has_code()
     } else {
-        method.code.is_some()
+        method.has_code()
     }
 }
 

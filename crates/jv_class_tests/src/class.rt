@@ -57,7 +57,7 @@ fn is_main(method: &Method<'_>) -> bool {
 
 /// Whether a method has the code of `main`, without handlers.
 fn has_code_of_main(method: &Method<'_>) -> bool {
-    match method.code {
+    match method.code() {
         Some(code) => {
             code.max_stack == 1
                 && code.code.len() == 11

@@ -121,8 +121,9 @@ fn write_methods(out: &mut String, file: &str, class: &ClassFile<'_>) -> Result<
         ];
         out.push_str(file)?;
         write_cells(out, &cells)?;
-        write_line(out, "", &code_cells(method.code))?;
-        if let Some(code) = method.code {
+        let code = method.code();
+        write_line(out, "", &code_cells(code))?;
+        if let Some(code) = code {
             write_handlers(out, file, pool, place, code)?;
         }
     }

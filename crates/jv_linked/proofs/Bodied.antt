@@ -80,7 +80,7 @@ shown c class e k m at =
     (method_shown c.constant_pool info.0, map_at (method_shown c.constant_pool) c.methods k info.0 info.1, code_of_method c.constant_pool info.0 m info.2)
 
 pub code_shown : (c : ClassStructure) (class : Class) (method : ShownMethod) → class_of c ≡ Some class → (k : ℕ) (m : Method) → slice_get class.methods k ≡ Some m
-    → Some (seen_method method) ≡ slice_get (methods_of c) k → option_map seen_code method.code ≡ m.code
+    → Some (seen_method method) ≡ slice_get (methods_of c) k → (seen_method method).code ≡ m.code
 code_shown c class method e k m at is =
     let found = shown c class e k m at in
     ap (λ (s : MethodSeen). s.code) (same_some (is ∙ found.1)) ∙ found.2

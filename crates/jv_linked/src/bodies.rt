@@ -47,7 +47,7 @@ fn code_of<'a>(class: &LoadedClass<'a>, member: usize) -> Option<MethodCode<'a>>
     let Some(method) = file.method(member) else {
         return None;
     };
-    method.code
+    method.code()
 }
 
 /// How many words the arguments of a method have.

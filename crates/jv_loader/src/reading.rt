@@ -17,7 +17,7 @@ use std::alloc::Global;
 fn has_profile_code(method: Method<'_>) -> bool
     ensures { IsTrue result ↔ HasNoUnsupportedCode (seen_method method.entry).code }
 {
-    match method.code {
+    match method.code() {
         Some(code) => !unsupported(code.code),
         None => true,
     }

@@ -12,8 +12,7 @@ use Rattle.jv_pool.specs.Constants.{Entry, utf8_at, class_name_at, name_and_desc
 use Rattle.jv_class.specs.ClassFile.{class_name}
 use Rattle.jv_class_structure.specs.declared.member.Method.{Method as ShownMethod}
 use Rattle.jv_class_structure.specs.Parts.{CodeSeen, MethodSeen, method_shown, methods_of}
-use Rattle.jv_class_structure.specs.declared.member.MethodCode.{MethodCode}
-use Rattle.jv_class_structure.specs.Seen.{seen_code, seen_method}
+use Rattle.jv_class_structure.specs.Seen.{seen_method}
 use Rattle.jv_class_structure.specs.Structure.{MethodInfo, ClassStructure, body_fits, table_fits, field_fits, method_fits, attribute_fits}
 use Rattle.jv_class.specs.Class.{Method, Class, all_found, field_of, method_of, super_of, class_of}
 use Rattle.jv_meaning_world.specs.World.{Loaded, World}
@@ -194,25 +193,25 @@ few c methods fits shown =
 
 -- ---- where none has code
 
-none_some : (o : Option MethodCode) → is_some o ≡ false → option_map seen_code o ≡ None
+none_some : (o : Option CodeSeen) → is_some o ≡ false → o ≡ None
 none_some None h = refl
 none_some (Some code) h = absurd cc
 
-none_of : (pool : List Entry) (methods : List ShownMethod) (ms : List Method) → all_found (method_in pool) (map seen_method methods) ≡ Some ms → list_any (λ (m : ShownMethod). is_some m.code) methods ≡ false
+none_of : (pool : List Entry) (methods : List ShownMethod) (ms : List Method) → all_found (method_in pool) (map seen_method methods) ≡ Some ms → list_any (λ (m : ShownMethod). is_some (seen_method m).code) methods ≡ false
     → All (λ (m : Method). m.code ≡ None) ms
 none_of pool [] ms e h =
     let none : [] ≡ ms = cc in
     subst (λ (l : List Method). All (λ (m : Method). m.code ≡ None) l) none (All-nil (λ (m : Method). m.code ≡ None))
 none_of pool (x ∷ methods) ms e h =
     let parts = parts_found (method_in pool) (seen_method x) (map seen_method methods) ms e in
-    let apart = both_false (is_some x.code) (list_any (λ (m : ShownMethod). is_some m.code) methods) h in
+    let apart = both_false (is_some (seen_method x).code) (list_any (λ (m : ShownMethod). is_some (seen_method m).code) methods) h in
     subst (λ (l : List Method). All (λ (m : Method). m.code ≡ None) l) (sym parts.4)
-    (All-cons (λ (m : Method). m.code ≡ None) parts.0 parts.1 (has_body pool (seen_method x) parts.0 parts.2 ∙ none_some x.code apart.0) (none_of pool methods parts.1 parts.3 apart.1))
+    (All-cons (λ (m : Method). m.code ≡ None) parts.0 parts.1 (has_body pool (seen_method x) parts.0 parts.2 ∙ none_some (seen_method x).code apart.0) (none_of pool methods parts.1 parts.3 apart.1))
   where
     both_false : (a b : Bool) → (a || b) ≡ false → (a ≡ false) × (b ≡ false)
     both_false true b h = absurd cc
     both_false false b h = (refl, h)
 
-pub none_typed : (world : World) (l : Loaded) (methods : List ShownMethod) → AreMethodsOf l methods → list_any (λ (m : ShownMethod). is_some m.code) methods ≡ false → AreTyped world l l.class.methods
+pub none_typed : (world : World) (l : Loaded) (methods : List ShownMethod) → AreMethodsOf l methods → list_any (λ (m : ShownMethod). is_some (seen_method m).code) methods ≡ false → AreTyped world l l.class.methods
 none_typed world l methods are h =
     All-weaker (λ (m : Method). m.code ≡ None) (λ (m : Method). IsSome m.code → HasTyping world (declared_by l m)) (no_code world l) l.class.methods (none_of l.class.constant_pool methods l.class.methods are h)

@@ -28,8 +28,8 @@ fn check_code<'a>(
     requires { IsSome (method_in class.now.by.class.constant_pool (seen_method method.now)) }
     ensures { IsJudgedIn class.now (seen_method method.now) result }
 {
-    match &method.code {
-        Some(code) => check_method(alloc, room, class, method, code),
+    match method.code() {
+        Some(code) => check_method(alloc, room, class, method, &code),
         None => Ok(None),
     }
 }
@@ -86,9 +86,9 @@ fn check_file<'a>(
 
 /// Whether one of the methods has code.
 fn has_code(methods: &[Method<'_>]) -> bool
-    ensures { result ≡ list_any (λ m. is_some m.code) methods.now }
+    ensures { result ≡ list_any (λ m. is_some (seen_method m).code) methods.now }
 {
-    methods.iter().any(|method| method.code.is_some())
+    methods.iter().any(|method| method.has_code())
 }
 
 /// The first rule that the first ill-typed method of the class of a file breaks. Takes no memory where no method has code.

@@ -12,5 +12,5 @@ returns-in_default-method c = λ m at.
 
 pub returns : goal.returns
 returns c = λ m at.
-    code_shown c.in-Some.file.now c.args.class.now.class c.in-Some-method.method c.in-Some.ensures.file c.args.member m at
+    c.code.ensures ∙ code_shown c.in-Some.file.now c.args.class.now.class c.in-Some-method.method c.in-Some.ensures.file c.args.member m at
     (ap (λ (o : Option ShownMethod). option_map seen_method o) (sym c.in-Some-method.is) ∙ c.method.ensures.shown)
