@@ -1,3 +1,4 @@
+pub mod Above
 pub mod Ways
 pub mod Names
 pub mod Texts

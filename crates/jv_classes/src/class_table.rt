@@ -7,6 +7,7 @@ ghost use Rattle.jv_meaning_world.specs.LookUps.{is_among, is_subclass};
 ghost use Rattle.jv_meaning_world.specs.Verdicts.{is_loadable, each_super, have_right_kind, can_name_supers, has_final_super};
 ghost use Rattle.jv_meaning_world.specs.Numbers.{number_named, superclass_number, IsNumbered, AreNoArrays, HoldsAtBoth, AreSuperclassesOf};
 ghost use Rattle.std.specs.List.{All};
+ghost use Rattle.jv_classes.specs.Above.{MarksAbove};
 ghost use Rattle.jv_classes.specs.Faults.{fault_of_supers};
 ghost use Rattle.jv_classes.specs.Once.{direct_numbers};
 ghost use Rattle.jv_classes.specs.Marks.{MarksField, MarksMethod};
@@ -184,6 +185,16 @@ impl<'a> ClassTable<'a> {
         ensures { HoldsAtBoth self.now number above (λ l to. result ≡ is_above self.now to.class.name l.class) }
     {
         self.above.holds(number, above)
+    }
+
+    /// Also marks each class above a class: its superclasses and superinterfaces, at any distance.
+    pub fn mark_above(&self, number: usize, marks: &mut [bool])
+        requires number { number < length self.now }
+        requires marks { length marks.old ≡ length self.now }
+        ensures size { length marks.new ≡ length marks.old }
+        ensures marked { MarksAbove self.now number marks.old marks.new }
+    {
+        self.above.mark_related(number, marks);
     }
 
     /// Whether a class is another, or below it on the chain of superclasses.

@@ -177,6 +177,16 @@ impl Relation {
         is_within(&self.rows[from], marks)
     }
 
+    /// Also marks each number that a number is related to.
+    pub fn mark_related(&self, from: usize, marks: &mut [bool])
+        requires from { from < length self.now }
+        requires marks { length marks.old ≡ length self.now }
+        ensures size { length marks.new ≡ length marks.old }
+        ensures marked { (to : ℕ) → get_or marks.new to false ≡ (get_or marks.old to false || related self.now from to) }
+    {
+        join(marks, &self.rows[from]);
+    }
+
     /// Relates each number to all that it reaches in one step or more.
     ///
     /// # Errors
