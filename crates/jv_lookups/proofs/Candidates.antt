@@ -3,15 +3,13 @@ use Rattle.std.proofs.Common.{◌≡◌, ℕ, Bool, true, false, cond, not, ◌&
 use Rattle.std.specs.Prelude.{is_some}
 use Rattle.std.specs.List.{list_any, filter_map, cons_option}
 use Rattle.std.specs.Option.{option_map}
-use Rattle.std.specs.Str.{bytes_eq}
 use Rattle.jv_meaning_world.specs.of_class.Class.{Method, method_named}
 use Rattle.jv_meaning_world.specs.World.{Loaded, World}
-use Rattle.jv_meaning_world.specs.Above.{is_above}
 use Rattle.jv_meaning_world.specs.Overriding.{Declared}
 use Rattle.jv_meaning_world.specs.Verdicts.{declared_by}
 use Rattle.jv_meaning_world.specs.LookUps.{method_if, method_in, without_itself, is_inheritable, is_concrete, is_below, candidates, maximally_specific, only, itself, first_found, else_option, searched_from, superinterface_method}
 use Rattle.jv_meaning_world.specs.Numbers.{classes_at}
-use Rattle.jv_lookups.specs.Inside.Members.{candidate_in, candidates_at, below_in, is_specific, specific_in}
+use Rattle.jv_lookups.specs.Inside.Members.{candidate_in, candidates_at, is_other_above, below_in, is_specific, specific_in}
 
 -- ---- a candidate is its class's
 
@@ -32,9 +30,6 @@ candidate_by name descriptor l c d e = by_test (without_itself l c) (method_name
 
 -- ---- whether one is below a class
 
-abbrev class_below : World → Loaded → Loaded → Bool
-class_below world by c = not (bytes_eq by.class.name c.class.name) && is_above world by.class.name c.class
-
 and_true : (b : Bool) → b ≡ (b && true)
 and_true true = refl
 and_true false = refl
@@ -44,19 +39,19 @@ and_false true = refl
 and_false false = refl
 
 module _ (world : World) (name descriptor : List ℕ) (l by : Loaded) where
-  any_below : (cs : List Loaded) → list_any (λ (other : Declared). class_below world by other.by) (filter_map (candidate_in name descriptor l) cs) ≡ list_any (below_in world name descriptor l by) cs
+  any_below : (cs : List Loaded) → list_any (λ (other : Declared). is_other_above world by other.by) (filter_map (candidate_in name descriptor l) cs) ≡ list_any (below_in world name descriptor l by) cs
   any_below [] = refl
   any_below (c ∷ cs) = by_candidate (any_below cs) (candidate_in name descriptor l c) refl
     where
-      by_candidate : list_any (λ (other : Declared). class_below world by other.by) (filter_map (candidate_in name descriptor l) cs) ≡ list_any (below_in world name descriptor l by) cs → (o : Option Declared) → candidate_in name descriptor l c ≡ o
-          → list_any (λ (other : Declared). class_below world by other.by) (cons_option o (filter_map (candidate_in name descriptor l) cs)) ≡ ((class_below world by c && is_some o) || list_any (below_in world name descriptor l by) cs)
-      by_candidate again None e = again ∙ sym (ap (λ b. b || list_any (below_in world name descriptor l by) cs) (and_false (class_below world by c)))
+      by_candidate : list_any (λ (other : Declared). is_other_above world by other.by) (filter_map (candidate_in name descriptor l) cs) ≡ list_any (below_in world name descriptor l by) cs → (o : Option Declared) → candidate_in name descriptor l c ≡ o
+          → list_any (λ (other : Declared). is_other_above world by other.by) (cons_option o (filter_map (candidate_in name descriptor l) cs)) ≡ ((is_other_above world by c && is_some o) || list_any (below_in world name descriptor l by) cs)
+      by_candidate again None e = again ∙ sym (ap (λ b. b || list_any (below_in world name descriptor l by) cs) (and_false (is_other_above world by c)))
       by_candidate again (Some d) e =
-          ap (λ (m : Loaded). class_below world by m || list_any (λ (other : Declared). class_below world by other.by) (filter_map (candidate_in name descriptor l) cs)) (candidate_by name descriptor l c d e)
-          ∙ (ap (λ b. class_below world by c || b) again ∙ ap (λ b. b || list_any (below_in world name descriptor l by) cs) (and_true (class_below world by c)))
+          ap (λ (m : Loaded). is_other_above world by m || list_any (λ (other : Declared). is_other_above world by other.by) (filter_map (candidate_in name descriptor l) cs)) (candidate_by name descriptor l c d e)
+          ∙ (ap (λ b. is_other_above world by c || b) again ∙ ap (λ b. b || list_any (below_in world name descriptor l by) cs) (and_true (is_other_above world by c)))
 
   pub below_same : (d : Declared) (cs : List Loaded) → d.by ≡ by → list_any (is_below world d) (filter_map (candidate_in name descriptor l) cs) ≡ list_any (below_in world name descriptor l by) cs
-  below_same d cs e = ap (λ (m : Loaded). list_any (λ (other : Declared). class_below world m other.by) (filter_map (candidate_in name descriptor l) cs)) e ∙ any_below cs
+  below_same d cs e = ap (λ (m : Loaded). list_any (λ (other : Declared). is_other_above world m other.by) (filter_map (candidate_in name descriptor l) cs)) e ∙ any_below cs
 
 -- ---- lists of them
 
@@ -124,6 +119,22 @@ above_other world all d e f = ap (λ b. b && not (list_any (is_below world d) al
 
 pub most_specific : (world : World) (all : List Declared) (d : Declared) → is_concrete d ≡ true → list_any (is_below world d) all ≡ false → is_specific world all d ≡ true
 most_specific world all d e f = ap (λ b. b && not (list_any (is_below world d) all)) e ∙ ap not f
+
+-- a class with such a method below it has none that is specific
+pub none_specific : (world : World) (searched name descriptor : List ℕ) (l c : Loaded) → list_any (below_in world name descriptor l c) (classes_at world searched) ≡ true
+    → None ≡ specific_in world (candidates_at world searched name descriptor l) name descriptor l c
+none_specific world searched name descriptor l c e = by_candidate (candidate_in name descriptor l c) refl
+  where
+    by_concrete : (all : List Declared) (d : Declared) (b : Bool) → is_concrete d ≡ b → list_any (is_below world d) all ≡ true → is_specific world all d ≡ false
+    by_concrete all d true f g = above_other world all d f g
+    by_concrete all d false f g = abstract_one world all d f
+
+    by_candidate : (o : Option Declared) → candidate_in name descriptor l c ≡ o → None ≡ method_if (is_specific world (candidates_at world searched name descriptor l)) o
+    by_candidate None f = refl
+    by_candidate (Some d) f =
+        sym (ap (λ b. cond b (Some d) None)
+        (by_concrete (candidates_at world searched name descriptor l) d (is_concrete d) refl
+        (below_same world name descriptor l c d (classes_at world searched) (candidate_by name descriptor l c d f) ∙ e)))
 
 pub specific_same : (world : World) (searched : List ℕ) (name descriptor : List ℕ) (l : Loaded)
     → filter is_concrete (maximally_specific world (candidates_at world searched name descriptor l)) ≡ filter_map (specific_in world (candidates_at world searched name descriptor l) name descriptor l) (classes_at world searched)

@@ -3,15 +3,16 @@ pub mod Behind
 pub mod Candidates
 pub mod Chain
 pub mod Classes
+pub mod Collected
 pub mod Defaulting
 pub mod Found
 pub mod KeyRows
 pub mod Looking
+pub mod MarkedAbove
 pub mod Marking
 pub mod Next
 pub mod Numbering
 pub mod Once
-pub mod Only
 pub mod Passing
 pub mod Stamped
 pub mod Standing

@@ -19,6 +19,17 @@ dropped test o d e t = sym (ap (method_if test) e ∙ ap (λ b. cond b (Some d) 
 pub candidate_by_method : (name descriptor : List ℕ) (l c : Loaded) (o : Option Declared) → without_itself l c ≡ true → o ≡ method_if is_inheritable (method_in name descriptor c) → o ≡ candidate_in name descriptor l c
 candidate_by_method name descriptor l c o is e = e ∙ sym (ap (λ b. cond b (method_if is_inheritable (method_in name descriptor c)) None) is)
 
+-- there is none where the class declares no such method, or is no superinterface
+pub no_candidate : (name descriptor : List ℕ) (l c : Loaded) → None ≡ method_in name descriptor c → None ≡ candidate_in name descriptor l c
+no_candidate name descriptor l c none = by_test (without_itself l c) ∙ ap (λ o. cond (without_itself l c) (method_if is_inheritable o) None) none
+  where
+    by_test : (t : Bool) → None ≡ cond t (method_if is_inheritable None) None
+    by_test true = refl
+    by_test false = refl
+
+pub no_superinterface : (name descriptor : List ℕ) (l c : Loaded) → without_itself l c ≡ false → None ≡ candidate_in name descriptor l c
+no_superinterface name descriptor l c is = sym (ap (λ b. cond b (method_if is_inheritable (method_in name descriptor c)) None) is)
+
 pub and_not : (b t : Bool) → t ≡ false → b ≡ (b && not t)
 and_not false t e = refl
 and_not true t e = sym (ap not e)

@@ -4,6 +4,9 @@ use Rattle.jv_lookups.specs.Inside.Members.{below_in}
 use Rattle.jv_lookups.proofs.Found.{any_found, any_passed}
 use Rattle.jv_lookups.proofs.superinterface.has_below.Goals as goal
 
+pub returns-then-class-above : goal.returns-then-class-above
+returns-then-class-above c = c.requires.above c.args.class c.if-class-above.true
+
 pub returns-then-is_below_candidate : goal.returns-then-is_below_candidate
 returns-then-is_below_candidate c = λ l at by at_by.
     let world = c.args.table.now in

@@ -1,10 +1,18 @@
 use Rattle.std.proofs.Common.{◌∙◌, sym}
 use Rattle.jv_meaning_world.specs.Numbers.{classes_at}
 use Rattle.jv_lookups.specs.Inside.Members.{candidates_at, is_specific}
-use Rattle.jv_lookups.proofs.Candidates.{candidate_by, below_same, abstract_one, above_other, most_specific}
+use Rattle.jv_lookups.proofs.Candidates.{candidate_by, below_same, abstract_one, above_other, most_specific, none_specific}
+use Rattle.jv_lookups.proofs.MarkedAbove.{within}
 use Rattle.jv_lookups.proofs.Standing.{method_stands}
 use Rattle.jv_lookups.proofs.Tests.{kept, dropped}
 use Rattle.jv_lookups.proofs.superinterface.specific.Goals as goal
+
+pub returns-then-is_marked_above-clause-found : goal.returns-then-is_marked_above-clause-found
+returns-then-is_marked_above-clause-found c = λ l at m at_m.
+    let world = c.args.table.now in
+    let marked = sym c.is_marked_above.ensures ∙ c.if-is_marked_above.true in
+    none_specific world c.args.searched.now c.args.name.now c.args.descriptor.now l m
+    (sym (c.requires.above c.args.class (within c.args.above.now c.args.class marked) l at m at_m) ∙ marked)
 
 pub returns-then-not-is_concrete-clause-found : goal.returns-then-not-is_concrete-clause-found
 returns-then-not-is_concrete-clause-found c = λ l at m at_m.
