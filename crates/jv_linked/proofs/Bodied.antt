@@ -7,7 +7,7 @@ use Rattle.jv_format.specs.Format.{◌>>=◌}
 use Rattle.jv_pool.specs.Constants.{Entry, class_name_at, named_at, NameAndDescriptor}
 use Rattle.jv_class_structure.specs.declared.member.Method.{Method as ShownMethod}
 use Rattle.jv_class_structure.specs.Parts.{MethodSeen, method_shown, methods_of}
-use Rattle.jv_class_structure.specs.Seen.{seen_code, seen_method}
+use Rattle.jv_class_structure.specs.Seen.{seen_method}
 use Rattle.jv_class_structure.specs.Structure.{MethodInfo, ClassStructure}
 use Rattle.jv_class.specs.Class.{Method, Class, all_found, field_of, method_of, super_of, class_of}
 use Rattle.jv_class.specs.ClassFile.{class_name}
