@@ -13,6 +13,7 @@ pub mod Lasting
 pub mod Marking
 pub mod Members
 pub mod Naming
+pub mod Neighbouring
 pub mod OfClass
 pub mod Plain
 pub mod Protecting

@@ -5,11 +5,11 @@ ghost use Rattle.std.specs.List.{All};
 ghost use Rattle.jv_pool.specs.Constants.{Entry};
 ghost use Rattle.jv_pool.specs.Seen.{seen_member};
 ghost use Rattle.jv_meaning_world.specs.World.{World};
-ghost use Rattle.jv_types.specs.Inside.Answered.{AreTextsOf, IsAbout, IsAnswer, IsEntry};
+ghost use Rattle.jv_types.specs.Inside.Answered.{AreTextsOf, IsAbout, IsAnswer, IsEntry, AreAnswers};
 
 use crate::indices::MemberIndices;
 use jv_pool::MemberName;
-use std::alloc::AllocError;
+use std::alloc::{AllocError, Global};
 use std::hash::{DefaultHasher, Hasher};
 
 /// A name or a descriptor of more bytes is long.
@@ -34,6 +34,32 @@ pub(crate) struct Question {
 pub(crate) struct Answer {
     pub(crate) question: Question,
     pub(crate) is_far: bool,
+}
+
+/// What is kept while the constants of a class are gone through: answers about members, each at the place of its question, and for each
+/// class, by its number, whether it is in the run-time package of the current one (JVMS 5.3).
+pub(crate) struct Answers {
+    pub(crate) members: Vec<Option<Answer>>,
+    pub(crate) packages: Vec<Option<bool>>,
+}
+
+impl Drop for Answers {
+    fn drop(self) {
+        let Answers {
+            members: _,
+            packages: _,
+        } = self;
+    }
+}
+
+/// Nothing yet.
+pub(crate) fn no_answers(alloc: Global) -> Answers
+    ensures { (world : World) (current : ℕ) (pool : List Entry) → AreAnswers world current pool result }
+{
+    Answers {
+        members: Vec::new(alloc),
+        packages: Vec::new(alloc),
+    }
 }
 
 /// Whether two questions are one.

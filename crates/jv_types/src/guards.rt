@@ -9,18 +9,19 @@ ghost use Rattle.jv_meaning_world.specs.Numbers.{HoldsAtBoth};
 ghost use Rattle.jv_meaning_world.specs.Numbers.{HoldsAtNumber};
 ghost use Rattle.jv_link.specs.Inside.References.{method_operand_in};
 ghost use Rattle.jv_meaning_typing.specs.Named.{is_guarded_field, is_guarded_method};
-ghost use Rattle.jv_types.specs.Inside.Guarded.{is_proper_subclass, is_far, field_is_far, method_is_far, member_named, IsGuardOf, IsNumberNamed, IsFoundAt, IsProperAbove, IsNoProperSuper, IsFieldGuarded, IsMethodGuarded, has_wrongly_protected, AreRightlyProtected};
-ghost use Rattle.jv_types.specs.Inside.Answered.{IsMemberFar, AreTextsOf, IsEntry};
+ghost use Rattle.jv_types.specs.Inside.Guarded.{is_proper_subclass, is_far, IsFieldFar, IsMethodFar, member_named, IsGuardOf, IsNumberNamed, IsFoundAt, IsProperAbove, IsNoProperSuper, IsFieldGuarded, IsMethodGuarded, is_protected_instance, has_wrongly_protected, AreRightlyProtected};
+ghost use Rattle.jv_types.specs.Inside.Answered.{IsMemberFar, AreTextsOf, AreNeighbours, AreAnswers};
 ghost use Rattle.jv_types.specs.Inside.KeptClass.{AreGuardsOf};
 
-use crate::answers::{Answer, keep, known, long_question, place_of};
+use crate::answers::{Answer, Answers, keep, known, long_question, no_answers, place_of};
 use crate::classes::names_class;
 use crate::constants::ConstantTypes;
 use crate::hashed::{PoolHashes, called_indices, descriptor_with, name_with};
 use crate::indices::{MemberIndices, field_indices};
+use crate::packages::same_package_once;
 use jv_classes::pool_hashes;
 use jv_link::of_loader::{ClassTable, Classes, LoadedClass, class_method};
-use jv_link::{field_at, method_at, same_class, same_package};
+use jv_link::{field_at, method_at, same_class};
 use jv_pool::{Constant, MemberName, Pool, kinds_name};
 use std::alloc::{AllocError, Global};
 
@@ -57,17 +58,37 @@ fn is_below(table: &ClassTable<'_>, current: usize, named: usize) -> bool
     table.is_subclass(current, named) && !same_class(table, current, named)
 }
 
+/// Whether a member with these flags is protected and not static.
+fn is_protected_instance(flags: u16) -> bool
+    ensures { result ≡ is_protected_instance flags }
+{
+    flags & PROTECTED != 0 && flags & STATIC == 0
+}
+
 /// Whether a member with these flags that a class declares is protected, not static, and of another run-time package.
-fn is_far(table: &ClassTable<'_>, current: usize, by: usize, flags: u16) -> bool
+fn is_far(
+    packages: &mut Vec<Option<bool>>,
+    table: &ClassTable<'_>,
+    current: usize,
+    by: usize,
+    flags: u16,
+) -> Result<bool, AllocError>
     requires current { current < length table.now }
     requires by { by < length table.now }
-    ensures { HoldsAtNumber table.now current (λ c. HoldsAtNumber table.now by (λ l. result ≡ is_far c l flags)) }
+    requires packages { AreNeighbours table.now current packages.old.items }
+    ensures far { IfOk result (λ far. HoldsAtBoth table.now current by (λ c l. far ≡ is_far c l flags)) }
+    ensures packages { OnOk result (AreNeighbours table.now current packages.new.items) }
 {
-    flags & PROTECTED != 0 && flags & STATIC == 0 && !same_package(table, current, by)
+    if !is_protected_instance(flags) {
+        return Ok(false);
+    }
+    let is_same = same_package_once(packages, table, current, by)?;
+    Ok(!is_same)
 }
 
 /// Whether the field that is found from a superclass is such a member.
 fn field_is_far(
+    packages: &mut Vec<Option<bool>>,
     classes: &Classes<'_>,
     constants: &ConstantTypes<'_, '_>,
     hashes: PoolHashes<'_>,
@@ -75,31 +96,33 @@ fn field_is_far(
     named: usize,
     indices: Option<MemberIndices>,
     field: &MemberName<'_>,
-) -> bool
+) -> Result<bool, AllocError>
     requires hashes { AreHashes hashes.seed constants.now.pool hashes.hashes.now }
     requires current { current < length classes.now.world }
     requires named { named < length classes.now.world }
     requires texts { IfSome indices (λ i. AreTextsOf constants.now.pool i.name i.descriptor (seen_member field.now)) }
-    ensures { HoldsAtBoth classes.now.world current named (λ c n. result ≡ field_is_far classes.now.world c n (seen_member field.now)) }
+    requires packages { AreNeighbours classes.now.world current packages.old.items }
+    ensures far { IfOk result (IsFieldFar classes.now.world current named (seen_member field.now)) }
+    ensures packages { OnOk result (AreNeighbours classes.now.world current packages.new.items) }
 {
     let table = classes.table();
     let pool = constants.pool();
     let name = name_with(hashes, pool, indices, field);
     let descriptor = descriptor_with(hashes, pool, indices, field);
     match classes.find_field(named, &name, &descriptor) {
-        Some(place) => is_far(
-            table,
-            current,
-            place.class,
-            field_at(table, place).access_flags,
-        ),
-        None => false,
+        Some(place) => {
+            let flags = field_at(table, place).access_flags;
+            let far = is_far(packages, table, current, place.class, flags)?;
+            Ok(far)
+        }
+        None => Ok(false),
     }
 }
 
 /// Whether the method that is found from a superclass is such a member. No method of an interface is, so that none of the
 /// superinterfaces is asked.
 fn method_is_far(
+    packages: &mut Vec<Option<bool>>,
     classes: &Classes<'_>,
     constants: &ConstantTypes<'_, '_>,
     hashes: PoolHashes<'_>,
@@ -107,61 +130,36 @@ fn method_is_far(
     named: usize,
     indices: Option<MemberIndices>,
     method: &MemberName<'_>,
-) -> bool
+) -> Result<bool, AllocError>
     requires hashes { AreHashes hashes.seed constants.now.pool hashes.hashes.now }
     requires right { AreRightlyProtected classes.now.world }
     requires current { current < length classes.now.world }
     requires named { named < length classes.now.world }
     requires texts { IfSome indices (λ i. AreTextsOf constants.now.pool i.name i.descriptor (seen_member method.now)) }
-    ensures { HoldsAtBoth classes.now.world current named (λ c n. result ≡ method_is_far classes.now.world c n (seen_member method.now)) }
+    requires packages { AreNeighbours classes.now.world current packages.old.items }
+    ensures far { IfOk result (IsMethodFar classes.now.world current named (seen_member method.now)) }
+    ensures packages { OnOk result (AreNeighbours classes.now.world current packages.new.items) }
 {
     let table = classes.table();
     if table.classes()[named].is_interface() {
-        return false;
+        return Ok(false);
     }
     let pool = constants.pool();
     let name = name_with(hashes, pool, indices, method);
     let descriptor = descriptor_with(hashes, pool, indices, method);
     match class_method(table, named, &name, &descriptor) {
-        Some(place) => is_far(
-            table,
-            current,
-            place.class,
-            method_at(table, place).access_flags,
-        ),
-        None => false,
+        Some(place) => {
+            let flags = method_at(table, place).access_flags;
+            let far = is_far(packages, table, current, place.class, flags)?;
+            Ok(far)
+        }
+        None => Ok(false),
     }
 }
 
 /// Whether the method, or the field, that is found from a superclass is such a member.
 fn member_is_far(
-    of_method: bool,
-    classes: &Classes<'_>,
-    constants: &ConstantTypes<'_, '_>,
-    hashes: PoolHashes<'_>,
-    current: usize,
-    named: usize,
-    indices: Option<MemberIndices>,
-    member: &MemberName<'_>,
-) -> bool
-    requires hashes { AreHashes hashes.seed constants.now.pool hashes.hashes.now }
-    requires right { AreRightlyProtected classes.now.world }
-    requires current { current < length classes.now.world }
-    requires named { named < length classes.now.world }
-    requires texts { IfSome indices (λ i. AreTextsOf constants.now.pool i.name i.descriptor (seen_member member.now)) }
-    ensures { IsMemberFar of_method classes.now.world current named (seen_member member.now) result }
-{
-    if of_method {
-        method_is_far(classes, constants, hashes, current, named, indices, member)
-    } else {
-        field_is_far(classes, constants, hashes, current, named, indices, member)
-    }
-}
-
-/// The same. Where the member's texts are long, which are compared in full at each look-up, the answer is kept for the next
-/// constant of the class with the same texts.
-fn member_is_far_once(
-    answers: &mut Vec<Option<Answer>>,
+    packages: &mut Vec<Option<bool>>,
     of_method: bool,
     classes: &Classes<'_>,
     constants: &ConstantTypes<'_, '_>,
@@ -176,23 +174,73 @@ fn member_is_far_once(
     requires current { current < length classes.now.world }
     requires named { named < length classes.now.world }
     requires texts { IfSome indices (λ i. AreTextsOf constants.now.pool i.name i.descriptor (seen_member member.now)) }
-    requires answers { All (IsEntry classes.now.world current constants.now.pool) answers.old.items }
+    requires packages { AreNeighbours classes.now.world current packages.old.items }
     ensures far { IfOk result (IsMemberFar of_method classes.now.world current named (seen_member member.now)) }
-    ensures answers { OnOk result (All (IsEntry classes.now.world current constants.now.pool) answers.new.items) }
+    ensures packages { OnOk result (AreNeighbours classes.now.world current packages.new.items) }
+{
+    if of_method {
+        method_is_far(
+            packages, classes, constants, hashes, current, named, indices, member,
+        )
+    } else {
+        field_is_far(
+            packages, classes, constants, hashes, current, named, indices, member,
+        )
+    }
+}
+
+/// The same. Where the member's texts are long, which are compared in full at each look-up, the answer is kept for the next
+/// constant of the class with the same texts.
+fn member_is_far_once(
+    answers: &mut Answers,
+    of_method: bool,
+    classes: &Classes<'_>,
+    constants: &ConstantTypes<'_, '_>,
+    hashes: PoolHashes<'_>,
+    current: usize,
+    named: usize,
+    indices: Option<MemberIndices>,
+    member: &MemberName<'_>,
+) -> Result<bool, AllocError>
+    requires hashes { AreHashes hashes.seed constants.now.pool hashes.hashes.now }
+    requires right { AreRightlyProtected classes.now.world }
+    requires current { current < length classes.now.world }
+    requires named { named < length classes.now.world }
+    requires texts { IfSome indices (λ i. AreTextsOf constants.now.pool i.name i.descriptor (seen_member member.now)) }
+    requires answers { AreAnswers classes.now.world current constants.now.pool answers.old }
+    ensures far { IfOk result (IsMemberFar of_method classes.now.world current named (seen_member member.now)) }
+    ensures answers { OnOk result (AreAnswers classes.now.world current constants.now.pool answers.new) }
 {
     let Some(question) = long_question(of_method, named, indices, member) else {
-        return Ok(member_is_far(
-            of_method, classes, constants, hashes, current, named, indices, member,
-        ));
+        let is_far = member_is_far(
+            &mut answers.packages,
+            of_method,
+            classes,
+            constants,
+            hashes,
+            current,
+            named,
+            indices,
+            member,
+        )?;
+        return Ok(is_far);
     };
     let at = place_of(hashes.seed, question);
-    if let Some(is_far) = known(answers, at, question) {
+    if let Some(is_far) = known(&answers.members, at, question) {
         return Ok(is_far);
     }
     let is_far = member_is_far(
-        of_method, classes, constants, hashes, current, named, indices, member,
-    );
-    keep(answers, at, Answer { question, is_far })?;
+        &mut answers.packages,
+        of_method,
+        classes,
+        constants,
+        hashes,
+        current,
+        named,
+        indices,
+        member,
+    )?;
+    keep(&mut answers.members, at, Answer { question, is_far })?;
     Ok(is_far)
 }
 
@@ -230,7 +278,7 @@ fn superclass_at(constants: &ConstantTypes<'_, '_>, current: usize, index: u16) 
 
 /// Whether a Fieldref constant of a class names a guarded field.
 fn is_guarded_field(
-    answers: &mut Vec<Option<Answer>>,
+    answers: &mut Answers,
     classes: &Classes<'_>,
     constants: &ConstantTypes<'_, '_>,
     hashes: PoolHashes<'_>,
@@ -242,9 +290,9 @@ fn is_guarded_field(
     requires right { AreRightlyProtected classes.now.world }
     requires world { constants.now.types.world ≡ classes.now.world }
     requires current { current < length classes.now.world }
-    requires answers { All (IsEntry classes.now.world current constants.now.pool) answers.old.items }
+    requires answers { AreAnswers classes.now.world current constants.now.pool answers.old }
     ensures guarded { IfOk result (IsFieldGuarded classes.now.world constants.now.pool class index current) }
-    ensures answers { OnOk result (All (IsEntry classes.now.world current constants.now.pool) answers.new.items) }
+    ensures answers { OnOk result (AreAnswers classes.now.world current constants.now.pool answers.new) }
 {
     let Some(named) = superclass_at(constants, current, class) else {
         return Ok(false);
@@ -283,7 +331,7 @@ fn method_in<'a>(pool: &Pool<'a>, index: u16) -> Option<MemberName<'a>>
 
 /// Whether a Methodref or an InterfaceMethodref constant of a class names a guarded method.
 fn is_guarded_method(
-    answers: &mut Vec<Option<Answer>>,
+    answers: &mut Answers,
     classes: &Classes<'_>,
     constants: &ConstantTypes<'_, '_>,
     hashes: PoolHashes<'_>,
@@ -295,9 +343,9 @@ fn is_guarded_method(
     requires right { AreRightlyProtected classes.now.world }
     requires world { constants.now.types.world ≡ classes.now.world }
     requires current { current < length classes.now.world }
-    requires answers { All (IsEntry classes.now.world current constants.now.pool) answers.old.items }
+    requires answers { AreAnswers classes.now.world current constants.now.pool answers.old }
     ensures guarded { IfOk result (IsMethodGuarded classes.now.world constants.now.pool class index current) }
-    ensures answers { OnOk result (All (IsEntry classes.now.world current constants.now.pool) answers.new.items) }
+    ensures answers { OnOk result (AreAnswers classes.now.world current constants.now.pool answers.new) }
 {
     let Some(named) = superclass_at(constants, current, class) else {
         return Ok(false);
@@ -315,7 +363,7 @@ fn is_guarded_method(
 
 /// Whether a constant names a guarded member.
 fn is_guarded(
-    answers: &mut Vec<Option<Answer>>,
+    answers: &mut Answers,
     classes: &Classes<'_>,
     constants: &ConstantTypes<'_, '_>,
     hashes: PoolHashes<'_>,
@@ -326,9 +374,9 @@ fn is_guarded(
     requires right { AreRightlyProtected classes.now.world }
     requires world { constants.now.types.world ≡ classes.now.world }
     requires current { current < length classes.now.world }
-    requires answers { All (IsEntry classes.now.world current constants.now.pool) answers.old.items }
+    requires answers { AreAnswers classes.now.world current constants.now.pool answers.old }
     ensures guarded { IfOk result (IsGuardOf classes.now.world current constants.now.pool index) }
-    ensures answers { OnOk result (All (IsEntry classes.now.world current constants.now.pool) answers.new.items) }
+    ensures answers { OnOk result (AreAnswers classes.now.world current constants.now.pool answers.new) }
 {
     match constants.pool().constant(index) {
         Some(Constant::Fieldref(class, _)) => {
@@ -364,7 +412,7 @@ pub(crate) fn guards_of(
     };
     let count = constants.pool().count();
     let mut marks = Vec::with_capacity(alloc, usize::from(count))?;
-    let mut answers = Vec::new(alloc);
+    let mut answers = no_answers(alloc);
     for index in 0..count {
         let mark = is_guarded(&mut answers, classes, constants, hashes, current, index)?;
         marks.push(mark)?;

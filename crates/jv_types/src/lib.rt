@@ -20,6 +20,7 @@ mod name_marks;
 mod names;
 mod numbers;
 mod outcome;
+mod packages;
 mod pushed;
 mod texts;
 mod value;

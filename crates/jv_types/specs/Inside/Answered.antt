@@ -1,10 +1,12 @@
--- Answers about members, by the constants that are their texts (JVMS 4.4.6, 4.10.1.8).
-use Rattle.std.specs.Prelude.{◌≡◌, ℕ, Bool, true, false, List, Option, Some, None, ⊤}
+-- Answers about members, by the constants that are their texts (JVMS 4.4.6, 4.10.1.8), and about run-time packages (5.3).
+use Rattle.std.specs.Prelude.{◌≡◌, ℕ, Bool, true, false, List, Option, Some, None, ⊤, get_or}
+use Rattle.std.specs.List.{All}
 use Rattle.jv_pool.specs.Constants.{Entry, MemberReference, utf8_at}
-use Rattle.jv_meaning_world.specs.World.{Loaded, World}
+use Rattle.jv_meaning_world.specs.World.{Loaded, World, same_package}
 use Rattle.jv_meaning_world.specs.Numbers.{HoldsAtBoth}
 use Rattle.jv_types.specs.declared.answers.Question.{Question}
 use Rattle.jv_types.specs.declared.answers.Answer.{Answer}
+use Rattle.jv_types.specs.declared.answers.Answers.{Answers}
 use Rattle.jv_types.specs.Inside.Guarded.{field_is_far, method_is_far}
 
 -- whether the method, or the field, that is found from a superclass is protected, not static, and of another run-time package
@@ -38,3 +40,24 @@ IsAnswer world current pool question answer =
 abbrev pub IsEntry : World → ℕ → List Entry → Option Answer → Type 0
 IsEntry world current pool None = ⊤
 IsEntry world current pool (Some entry) = IsAnswer world current pool entry.question entry.is_far
+
+-- ---- run-time packages
+
+-- whether the class with a number is in the package of the current one
+abbrev pub IsNeighbour : World → ℕ → ℕ → Bool → Type 0
+IsNeighbour world current by answer = HoldsAtBoth world current by (λ c l. answer ≡ same_package c l)
+
+-- nothing is kept of a class, or this
+abbrev pub IsNeighbourKept : World → ℕ → ℕ → Option Bool → Type 0
+IsNeighbourKept world current by None = ⊤
+IsNeighbourKept world current by (Some answer) = IsNeighbour world current by answer
+
+-- by the numbers of the classes
+abbrev pub AreNeighbours : World → ℕ → List (Option Bool) → Type 0
+AreNeighbours world current kept = (by : ℕ) → IsNeighbourKept world current by (get_or kept by None)
+
+-- ---- all that is kept
+
+pub record AreAnswers (world : World) (current : ℕ) (pool : List Entry) (answers : Answers) : Type 0 where
+  pub members : All (IsEntry world current pool) answers.members.items
+  pub packages : AreNeighbours world current answers.packages.items

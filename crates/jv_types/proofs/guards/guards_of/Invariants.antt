@@ -1,7 +1,6 @@
 use Rattle.std.proofs.Common.{◌≡◌, length}
-use Rattle.std.specs.List.{All}
 use Rattle.jv_meaning_world.specs.Numbers.{HoldsAtNumber}
-use Rattle.jv_types.specs.Inside.Answered.{IsEntry}
+use Rattle.jv_types.specs.Inside.Answered.{AreAnswers}
 use Rattle.jv_types.proofs.Guarding.{AreGuardsBelow}
 use Rattle.jv_types.proofs.guards.guards_of.Given as goal
 
@@ -9,5 +8,5 @@ abbrev pub invariant-loop-index : goal.invariant-loop-index
 invariant-loop-index l = record {
   size : length l.marks.items ≡ l.index;
   below : HoldsAtNumber l.classes.world l.current (λ c. AreGuardsBelow l.index l.classes.world c l.constants.pool l.marks.items);
-  answers : All (IsEntry l.classes.world l.current l.constants.pool) l.answers.items;
+  answers : AreAnswers l.classes.world l.current l.constants.pool l.answers;
 }

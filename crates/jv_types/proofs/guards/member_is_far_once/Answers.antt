@@ -10,10 +10,13 @@ returns-in-Some-known-clause-far c =
     answered c.args.classes.now.world c.args.current c.args.constants.now.pool c.args.of_method c.args.named (seen_member c.args.member.now) c.in-Some.question c.in-Some-known.is_far
     (c.in-Some.ensures c.args.constants.now.pool c.requires.texts)
     (c.in-Some-known.ensures c.args.classes.now.world c.args.current c.args.constants.now.pool
-    (subst (All (IsEntry c.args.classes.now.world c.args.current c.args.constants.now.pool)) (sym c.deref.ensures.value) c.requires.answers))
+    (subst (All (IsEntry c.args.classes.now.world c.args.current c.args.constants.now.pool)) (sym c.deref.ensures.value) c.requires.answers.members))
 
 pub returns-clause-answers : goal.returns-clause-answers
-returns-clause-answers c =
-    c.in_ok-keep.ensures c.args.classes.now.world c.args.current c.args.constants.now.pool c.requires.answers
-    (answers_all c.args.classes.now.world c.args.current c.args.constants.now.pool c.args.of_method c.args.named (seen_member c.args.member.now) c.in-Some.question c.member_is_far-is_far.result
-    (c.in-Some.ensures c.args.constants.now.pool c.requires.texts) c.member_is_far-is_far.ensures)
+returns-clause-answers c = record {
+  members =
+      c.in_ok-keep.ensures c.args.classes.now.world c.args.current c.args.constants.now.pool c.requires.answers.members
+      (answers_all c.args.classes.now.world c.args.current c.args.constants.now.pool c.args.of_method c.args.named (seen_member c.args.member.now) c.in-Some.question c.in_ok-is_far-2.is_far
+      (c.in-Some.ensures c.args.constants.now.pool c.requires.texts) c.in_ok-is_far-2.ensures.far);
+  packages = c.in_ok-is_far-2.ensures.packages;
+}

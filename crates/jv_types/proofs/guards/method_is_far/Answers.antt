@@ -7,26 +7,26 @@ use Rattle.jv_types.specs.Inside.Guarded.{method_is_far, AreRightlyProtected}
 use Rattle.jv_types.proofs.Protecting.{class_there, interface_is_near, none_of_classes, place_is_far}
 use Rattle.jv_types.proofs.guards.method_is_far.Goals as goal
 
-pub returns-then-is_interface : goal.returns-then-is_interface
-returns-then-is_interface c = λ l at n at_n.
+pub returns-then-is_interface-clause-far : goal.returns-then-is_interface-clause-far
+returns-then-is_interface-clause-far c = λ l at n at_n.
     let world : World = c.args.classes.now.world in
     let there = class_there world c.classes.result.now c.args.named c.index-classes-named.result n (c.classes.ensures ∙ c.table-table.ensures) c.index-classes-named.is at_n in
     interface_is_near world l (seen_member c.args.method.now) c.args.named n at_n c.requires.right
     (ap is_interface (sym there) ∙ (sym c.is_interface.ensures ∙ c.if-is_interface.true))
 
-pub returns-in-Some : goal.returns-in-Some
-returns-in-Some c =
-    let answer : Bool = c.is_far.result in
+pub returns-in-Some-clause-far : goal.returns-in-Some-clause-far
+returns-in-Some-clause-far c =
+    let answer : Bool = c.in_ok-far-in-Some.far in
     subst (λ (w : World). HoldsAtBoth w c.args.current c.args.named (λ m n. answer ≡ method_is_far w m n (seen_member c.args.method.now))) c.table-table.ensures
     (λ l at n at_n.
     let there = class_there c.table-table.result.now c.classes.result.now c.args.named c.index-classes-named.result n c.classes.ensures c.index-classes-named.is at_n in
-    place_is_far c.table-table.result.now l (seen_member c.args.method.now) c.args.named n at_n c.in-Some.place c.method_at.result.access_flags answer
+    place_is_far c.table-table.result.now l (seen_member c.args.method.now) c.args.named n at_n c.in-Some.place c.method_at-flags.result.access_flags answer
     (ap is_interface (sym there) ∙ (sym c.is_interface.ensures ∙ c.if-is_interface.false))
     c.name_with-name.result c.descriptor_with-descriptor.result c.name_with-name.ensures c.descriptor_with-descriptor.ensures
-    c.in-Some.ensures.place (c.in-Some.ensures.found n at_n) (λ d e. (c.method_at.ensures d e).access_flags) (c.is_far.ensures l at))
+    c.in-Some.ensures.place (c.in-Some.ensures.found n at_n) (λ d e. (c.method_at-flags.ensures d e).access_flags) (c.in_ok-far-in-Some.ensures.far l at))
 
-pub returns : goal.returns
-returns c =
+pub returns-clause-far : goal.returns-clause-far
+returns-clause-far c =
     subst (λ (w : World). HoldsAtBoth w c.args.current c.args.named (λ m n. false ≡ method_is_far w m n (seen_member c.args.method.now))) c.table-table.ensures
     (λ l at n at_n.
     let there = class_there c.table-table.result.now c.classes.result.now c.args.named c.index-classes-named.result n c.classes.ensures c.index-classes-named.is at_n in
