@@ -150,8 +150,8 @@ impl<'a> Classes<'a> {
         self.verdicts[file]
     }
 
-    /// The classes that a search for a member from a class meets, in its order.
-    fn searched(&self, class: usize) -> &[usize]
+    /// The classes that a search for a member from a class meets, in its order (JVMS 5.4.3.2).
+    pub fn searched(&self, class: usize) -> &[usize]
         requires { class < length self.now.world }
         ensures { IsSearch self.now.world class result.now }
     {

@@ -1,17 +1,15 @@
--- Answers about members, by the constants that are their texts.
-use Rattle.std.proofs.Common.{◌≡◌, ℕ, Bool, true, false, List, Option, Some, None, refl, sym, ap, subst, ◌∙◌}
-use Rattle.std.specs.Prelude.{slice_get, IfSome}
+-- The texts of members, by the constants that are these texts.
+use Rattle.std.proofs.Common.{◌≡◌, ℕ, List, Option, Some, None, refl, sym, ap, subst, ◌∙◌}
+use Rattle.std.specs.Prelude.{IfSome}
 use Rattle.std.specs.Option.{option_map}
 use Rattle.jv_format.specs.Format.{◌>>=◌}
 use Rattle.jv_pool.specs.declared.constant.Constant.TheVariants.{Utf8, Integer, Float, Long, Double, Class, String, Fieldref, Methodref, InterfaceMethodref, NameAndType, MethodHandle, MethodType, InvokeDynamic}
 use Rattle.jv_pool.specs.Constants.{Entry, MemberReference, at_index, class_name_at, utf8_at, field_reference_in}
-use Rattle.jv_meaning_world.specs.World.{Loaded, World}
 use Rattle.jv_meaning_typing.specs.Operands.{MethodReference, through}
 use Rattle.jv_types.specs.declared.indices.MemberIndices.{MemberIndices}
 use Rattle.jv_types.specs.declared.indices.MethodIndices.{MethodIndices}
-use Rattle.jv_types.specs.declared.answers.Question.{Question}
-use Rattle.jv_types.specs.Inside.Guarded.{field_is_far, method_is_far, member_named}
-use Rattle.jv_types.specs.Inside.Answered.{member_is_far, IsMemberFar, AreTextsOf, IsAbout, IsAnswer}
+use Rattle.jv_types.specs.Inside.Guarded.{member_named}
+use Rattle.jv_types.specs.Inside.Answered.{AreTextsOf}
 use Rattle.jv_types.specs.Inside.Parts.{field_indices, method_indices, reference_of, reference_at}
 use Rattle.jv_types.proofs.Members.{member_reference, method_in, method_found, constant_of}
 
@@ -76,32 +74,3 @@ method_texts pool o i m e f = by_reference (reference_at pool i.member) refl (sy
 pub of_named : (P : MemberReference → Type 0) (o : Option MethodReference) (r : MemberReference) → Some r ≡ option_map member_named o → ((m : MethodReference) → o ≡ Some m → P m.member) → P r
 of_named P None r e h = absurd cc
 of_named P (Some m) r e h = subst P (same_reference (sym e)) (h m refl)
-
--- ---- one answer for all references with the same texts
-
-same_text : {a b : List ℕ} → Some a ≡ Some b → a ≡ b
-same_text e = cc
-
-same_far : (of_method : Bool) (world : World) (c n : Loaded) (r s : MemberReference) → r.name ≡ s.name → r.descriptor ≡ s.descriptor
-    → member_is_far of_method world c n r ≡ member_is_far of_method world c n s
-same_far true world c n r s e f =
-    ap (λ t. method_is_far world c n (record { class = r.class; name = t; descriptor = r.descriptor })) e
-    ∙ ap (λ t. method_is_far world c n (record { class = s.class; name = s.name; descriptor = t })) f
-same_far false world c n r s e f =
-    ap (λ t. field_is_far world c n (record { class = r.class; name = t; descriptor = r.descriptor })) e
-    ∙ ap (λ t. field_is_far world c n (record { class = s.class; name = s.name; descriptor = t })) f
-
--- what was found for one is the answer to the question
-pub answers_all : (world : World) (current : ℕ) (pool : List Entry) (of_method : Bool) (class : ℕ) (r : MemberReference) (question : Question) (answer : Bool)
-    → IsAbout pool of_method class r question → IsMemberFar of_method world current class r answer → IsAnswer world current pool question answer
-answers_all world current pool of_method class r question answer about far s texts = λ c at n there.
-    subst (λ k. answer ≡ member_is_far k world c n s) (sym about.kind_is)
-    (far c at n (subst (λ k. slice_get world k ≡ Some n) about.class_is there)
-    ∙ same_far of_method world c n r s (same_text (sym about.texts.name_is ∙ texts.name_is)) (same_text (sym about.texts.descriptor_is ∙ texts.descriptor_is)))
-
--- and the answer to the question is right for each
-pub answered : (world : World) (current : ℕ) (pool : List Entry) (of_method : Bool) (class : ℕ) (r : MemberReference) (question : Question) (answer : Bool)
-    → IsAbout pool of_method class r question → IsAnswer world current pool question answer → IsMemberFar of_method world current class r answer
-answered world current pool of_method class r question answer about right =
-    subst (λ k. IsMemberFar of_method world current k r answer) about.class_is
-    (subst (λ b. IsMemberFar b world current question.class r answer) about.kind_is (right r about.texts))

@@ -4,6 +4,7 @@ pub mod Answering
 pub mod Arguments
 pub mod Arrays
 pub mod Called
+pub mod Declaring
 pub mod Descriptors
 pub mod Finding
 pub mod Guarding

@@ -1,26 +1,25 @@
-//! Answers about members whose texts are long, kept while the constants of a class are gone through: equal questions are answered once.
+//! Where classes declare members whose texts are long, kept while the constants of a class file are gone through: a class is looked into
+//! once for two such texts.
 
 ghost use Rattle.std.specs.Prelude.{◌≡◌, ℕ, List, true, IfSome, OnOk, Some};
-ghost use Rattle.std.specs.List.{All};
 ghost use Rattle.jv_pool.specs.Constants.{Entry};
 ghost use Rattle.jv_pool.specs.Seen.{seen_member};
 ghost use Rattle.jv_meaning_world.specs.World.{World};
-ghost use Rattle.jv_types.specs.Inside.Answered.{AreTextsOf, IsAbout, IsAnswer, IsEntry, AreAnswers};
+ghost use Rattle.jv_types.specs.Inside.Answered.{AreTextsOf, IsAnswer, IsEntry, AreEntries, AreAnswers};
 
 use crate::indices::MemberIndices;
 use jv_pool::MemberName;
 use std::alloc::{AllocError, Global};
-use std::hash::{DefaultHasher, Hasher};
 
 /// A name or a descriptor of more bytes is long.
 const LONG: usize = 256;
 
-/// So many places there are for answers, 24 bytes each: with a thousand questions of one class file, one of sixteen meets another at its
-/// place.
-const PLACES: u64 = 16_384;
+/// So many places there are for answers, 24 bytes each, two to the 14th: with a thousand questions of one class file, one of sixteen meets
+/// another at its place.
+const PLACES: usize = 16_384;
 
-/// Which member is asked for: a method or a field, the number of the class that it is named in, and the indices of the Utf8
-/// constants that are its name and its descriptor.
+/// Which member is asked for: a method or a field that the class with a number declares, and the indices of the Utf8 constants that are its
+/// name and its descriptor.
 #[derive(Clone, Copy)]
 pub(crate) struct Question {
     pub(crate) of_method: bool,
@@ -29,15 +28,15 @@ pub(crate) struct Question {
     pub(crate) descriptor: u16,
 }
 
-/// Whether what is found is protected, not static, and of another run-time package.
+/// The class declares it, at this place among its methods or its fields.
 #[derive(Clone, Copy)]
 pub(crate) struct Answer {
     pub(crate) question: Question,
-    pub(crate) is_far: bool,
+    pub(crate) place: usize,
 }
 
-/// What is kept while the constants of a class are gone through: answers about members, each at the place of its question, and for each
-/// class, by its number, whether it is in the run-time package of the current one (JVMS 5.3).
+/// What is kept while the constants of a class file are gone through: answers about members, each at the place of its question, and for
+/// each class, by its number, whether it is in the run-time package of the current one (JVMS 5.3).
 pub(crate) struct Answers {
     pub(crate) members: Vec<Option<Answer>>,
     pub(crate) packages: Vec<Option<bool>>,
@@ -72,67 +71,51 @@ fn same_question(one: Question, other: Question) -> bool
         && one.descriptor == other.descriptor
 }
 
-/// Whether a text of a member is so long that an answer is kept.
+/// Whether a text of a member is so long that answers are kept.
 fn is_long(member: &MemberName<'_>) -> bool {
     member.name.len() > LONG || member.descriptor.len() > LONG
 }
 
-/// The question for a member of a class, where its texts are long.
-pub(crate) fn long_question(
-    of_method: bool,
-    class: usize,
+/// The indices of a member's texts, where these are long.
+pub(crate) fn long_texts(
     indices: Option<MemberIndices>,
     member: &MemberName<'_>,
-) -> Option<Question>
+) -> Option<MemberIndices>
     ensures { (pool : List Entry) → IfSome indices (λ i. AreTextsOf pool i.name i.descriptor (seen_member member.now))
-        → IfSome result (IsAbout pool of_method class (seen_member member.now)) }
+        → IfSome result (λ i. AreTextsOf pool i.name i.descriptor (seen_member member.now)) }
 {
-    let Some(indices) = indices else {
-        return None;
-    };
-    if !is_long(member) {
-        return None;
-    }
-    Some(Question {
-        of_method,
-        class,
-        name: indices.name,
-        descriptor: indices.descriptor,
-    })
+    if is_long(member) { indices } else { None }
 }
 
-/// The place of a question's answer, which a stranger cannot foretell.
+/// The place of a question's answer, which a stranger cannot foretell: bits of its product with an odd number.
 pub(crate) fn place_of(seed: u64, question: Question) -> usize {
-    let mut hasher = DefaultHasher::new();
-    hasher.write_u64(seed);
-    hasher.write_usize(question.class);
-    hasher.write_u16(question.name);
-    hasher.write_u16(question.descriptor);
-    hasher.write_u8(u8::from(question.of_method));
-    (hasher.finish() % PLACES) as usize
+    let texts = (u64::from(question.name) << 16) | u64::from(question.descriptor);
+    let class = ((question.class as u64) << 1) | u64::from(question.of_method);
+    let product = (texts ^ class.rotate_left(32)).wrapping_mul(seed | 1);
+    (product >> 50) as usize
 }
 
 /// The answer to a question, where it is kept.
-pub(crate) fn known(entries: &[Option<Answer>], at: usize, question: Question) -> Option<bool>
-    ensures { (world : World) (current : ℕ) (pool : List Entry) → All (IsEntry world current pool) entries.now
-        → IfSome result (IsAnswer world current pool question) }
+pub(crate) fn known(entries: &[Option<Answer>], at: usize, question: Question) -> Option<usize>
+    ensures { (world : World) (pool : List Entry) → AreEntries world pool entries.now
+        → IfSome result (IsAnswer world pool question) }
 {
     if at < entries.len()
         && let Some(entry) = &entries[at]
         && same_question(entry.question, question)
     {
-        return Some(entry.is_far);
+        return Some(entry.place);
     }
     None
 }
 
 /// Room for all answers, where there is none yet.
 fn make_room(entries: &mut Vec<Option<Answer>>) -> Result<(), AllocError>
-    ensures { (world : World) (current : ℕ) (pool : List Entry) → All (IsEntry world current pool) entries.old.items
-        → OnOk result (All (IsEntry world current pool) entries.new.items) }
+    ensures { (world : World) (pool : List Entry) → AreEntries world pool entries.old.items
+        → OnOk result (AreEntries world pool entries.new.items) }
 {
     if entries.is_empty() {
-        entries.reserve(PLACES as usize)?;
+        entries.reserve(PLACES)?;
         for _ in 0..PLACES {
             entries.push(None)?;
         }
@@ -146,8 +129,8 @@ pub(crate) fn keep(
     at: usize,
     answer: Answer,
 ) -> Result<(), AllocError>
-    ensures { (world : World) (current : ℕ) (pool : List Entry) → All (IsEntry world current pool) entries.old.items
-        → IsEntry world current pool (Some answer) → OnOk result (All (IsEntry world current pool) entries.new.items) }
+    ensures { (world : World) (pool : List Entry) → AreEntries world pool entries.old.items
+        → IsEntry world pool (Some answer) → OnOk result (AreEntries world pool entries.new.items) }
 {
     make_room(entries)?;
     if at < entries.len() {

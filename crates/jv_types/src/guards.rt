@@ -10,17 +10,18 @@ ghost use Rattle.jv_meaning_world.specs.Numbers.{HoldsAtNumber};
 ghost use Rattle.jv_link.specs.Inside.References.{method_operand_in};
 ghost use Rattle.jv_meaning_typing.specs.Named.{is_guarded_field, is_guarded_method};
 ghost use Rattle.jv_types.specs.Inside.Guarded.{is_proper_subclass, is_far, IsFieldFar, IsMethodFar, member_named, IsGuardOf, IsNumberNamed, IsFoundAt, IsProperAbove, IsNoProperSuper, IsFieldGuarded, IsMethodGuarded, is_protected_instance, has_wrongly_protected, AreRightlyProtected};
-ghost use Rattle.jv_types.specs.Inside.Answered.{IsMemberFar, AreTextsOf, AreNeighbours, AreAnswers};
+ghost use Rattle.jv_types.specs.Inside.Answered.{AreTextsOf, AreNeighbours, AreAnswers};
 ghost use Rattle.jv_types.specs.Inside.KeptClass.{AreGuardsOf};
 
-use crate::answers::{Answer, Answers, keep, known, long_question, no_answers, place_of};
+use crate::answers::{Answers, no_answers};
 use crate::classes::names_class;
 use crate::constants::ConstantTypes;
-use crate::hashed::{PoolHashes, called_indices, descriptor_with, name_with};
+use crate::declared::{field_found, method_found};
+use crate::hashed::{PoolHashes, called_indices};
 use crate::indices::{MemberIndices, field_indices};
 use crate::packages::same_package_once;
 use jv_classes::pool_hashes;
-use jv_link::of_loader::{ClassTable, Classes, LoadedClass, class_method};
+use jv_link::of_loader::{ClassTable, Classes, LoadedClass};
 use jv_link::{field_at, method_at, same_class};
 use jv_pool::{Constant, MemberName, Pool, kinds_name};
 use std::alloc::{AllocError, Global};
@@ -88,7 +89,7 @@ fn is_far(
 
 /// Whether the field that is found from a superclass is such a member.
 fn field_is_far(
-    packages: &mut Vec<Option<bool>>,
+    answers: &mut Answers,
     classes: &Classes<'_>,
     constants: &ConstantTypes<'_, '_>,
     hashes: PoolHashes<'_>,
@@ -101,18 +102,18 @@ fn field_is_far(
     requires current { current < length classes.now.world }
     requires named { named < length classes.now.world }
     requires texts { IfSome indices (λ i. AreTextsOf constants.now.pool i.name i.descriptor (seen_member field.now)) }
-    requires packages { AreNeighbours classes.now.world current packages.old.items }
+    requires answers { AreAnswers classes.now.world current constants.now.pool answers.old }
     ensures far { IfOk result (IsFieldFar classes.now.world current named (seen_member field.now)) }
-    ensures packages { OnOk result (AreNeighbours classes.now.world current packages.new.items) }
+    ensures answers { OnOk result (AreAnswers classes.now.world current constants.now.pool answers.new) }
 {
     let table = classes.table();
     let pool = constants.pool();
-    let name = name_with(hashes, pool, indices, field);
-    let descriptor = descriptor_with(hashes, pool, indices, field);
-    match classes.find_field(named, &name, &descriptor) {
+    let members = &mut answers.members;
+    let found = field_found(members, classes, pool, hashes, named, indices, field)?;
+    match found {
         Some(place) => {
             let flags = field_at(table, place).access_flags;
-            let far = is_far(packages, table, current, place.class, flags)?;
+            let far = is_far(&mut answers.packages, table, current, place.class, flags)?;
             Ok(far)
         }
         None => Ok(false),
@@ -122,7 +123,7 @@ fn field_is_far(
 /// Whether the method that is found from a superclass is such a member. No method of an interface is, so that none of the
 /// superinterfaces is asked.
 fn method_is_far(
-    packages: &mut Vec<Option<bool>>,
+    answers: &mut Answers,
     classes: &Classes<'_>,
     constants: &ConstantTypes<'_, '_>,
     hashes: PoolHashes<'_>,
@@ -136,112 +137,25 @@ fn method_is_far(
     requires current { current < length classes.now.world }
     requires named { named < length classes.now.world }
     requires texts { IfSome indices (λ i. AreTextsOf constants.now.pool i.name i.descriptor (seen_member method.now)) }
-    requires packages { AreNeighbours classes.now.world current packages.old.items }
+    requires answers { AreAnswers classes.now.world current constants.now.pool answers.old }
     ensures far { IfOk result (IsMethodFar classes.now.world current named (seen_member method.now)) }
-    ensures packages { OnOk result (AreNeighbours classes.now.world current packages.new.items) }
+    ensures answers { OnOk result (AreAnswers classes.now.world current constants.now.pool answers.new) }
 {
     let table = classes.table();
     if table.classes()[named].is_interface() {
         return Ok(false);
     }
     let pool = constants.pool();
-    let name = name_with(hashes, pool, indices, method);
-    let descriptor = descriptor_with(hashes, pool, indices, method);
-    match class_method(table, named, &name, &descriptor) {
+    let members = &mut answers.members;
+    let found = method_found(members, table, pool, hashes, named, indices, method)?;
+    match found {
         Some(place) => {
             let flags = method_at(table, place).access_flags;
-            let far = is_far(packages, table, current, place.class, flags)?;
+            let far = is_far(&mut answers.packages, table, current, place.class, flags)?;
             Ok(far)
         }
         None => Ok(false),
     }
-}
-
-/// Whether the method, or the field, that is found from a superclass is such a member.
-fn member_is_far(
-    packages: &mut Vec<Option<bool>>,
-    of_method: bool,
-    classes: &Classes<'_>,
-    constants: &ConstantTypes<'_, '_>,
-    hashes: PoolHashes<'_>,
-    current: usize,
-    named: usize,
-    indices: Option<MemberIndices>,
-    member: &MemberName<'_>,
-) -> Result<bool, AllocError>
-    requires hashes { AreHashes hashes.seed constants.now.pool hashes.hashes.now }
-    requires right { AreRightlyProtected classes.now.world }
-    requires current { current < length classes.now.world }
-    requires named { named < length classes.now.world }
-    requires texts { IfSome indices (λ i. AreTextsOf constants.now.pool i.name i.descriptor (seen_member member.now)) }
-    requires packages { AreNeighbours classes.now.world current packages.old.items }
-    ensures far { IfOk result (IsMemberFar of_method classes.now.world current named (seen_member member.now)) }
-    ensures packages { OnOk result (AreNeighbours classes.now.world current packages.new.items) }
-{
-    if of_method {
-        method_is_far(
-            packages, classes, constants, hashes, current, named, indices, member,
-        )
-    } else {
-        field_is_far(
-            packages, classes, constants, hashes, current, named, indices, member,
-        )
-    }
-}
-
-/// The same. Where the member's texts are long, which are compared in full at each look-up, the answer is kept for the next
-/// constant of the class with the same texts.
-fn member_is_far_once(
-    answers: &mut Answers,
-    of_method: bool,
-    classes: &Classes<'_>,
-    constants: &ConstantTypes<'_, '_>,
-    hashes: PoolHashes<'_>,
-    current: usize,
-    named: usize,
-    indices: Option<MemberIndices>,
-    member: &MemberName<'_>,
-) -> Result<bool, AllocError>
-    requires hashes { AreHashes hashes.seed constants.now.pool hashes.hashes.now }
-    requires right { AreRightlyProtected classes.now.world }
-    requires current { current < length classes.now.world }
-    requires named { named < length classes.now.world }
-    requires texts { IfSome indices (λ i. AreTextsOf constants.now.pool i.name i.descriptor (seen_member member.now)) }
-    requires answers { AreAnswers classes.now.world current constants.now.pool answers.old }
-    ensures far { IfOk result (IsMemberFar of_method classes.now.world current named (seen_member member.now)) }
-    ensures answers { OnOk result (AreAnswers classes.now.world current constants.now.pool answers.new) }
-{
-    let Some(question) = long_question(of_method, named, indices, member) else {
-        let is_far = member_is_far(
-            &mut answers.packages,
-            of_method,
-            classes,
-            constants,
-            hashes,
-            current,
-            named,
-            indices,
-            member,
-        )?;
-        return Ok(is_far);
-    };
-    let at = place_of(hashes.seed, question);
-    if let Some(is_far) = known(&answers.members, at, question) {
-        return Ok(is_far);
-    }
-    let is_far = member_is_far(
-        &mut answers.packages,
-        of_method,
-        classes,
-        constants,
-        hashes,
-        current,
-        named,
-        indices,
-        member,
-    )?;
-    keep(&mut answers.members, at, Answer { question, is_far })?;
-    Ok(is_far)
 }
 
 /// The number of the class that a Class constant names; of an array there is none.
@@ -300,9 +214,8 @@ fn is_guarded_field(
     let indices = field_indices(constants.pool(), index);
     match constants.pool().fieldref_index(index) {
         Some(index) => {
-            member_is_far_once(
+            field_is_far(
                 answers,
-                false,
                 classes,
                 constants,
                 hashes,
@@ -353,8 +266,8 @@ fn is_guarded_method(
     let indices = called_indices(constants.pool(), index);
     match method_in(constants.pool(), index) {
         Some(method) => {
-            member_is_far_once(
-                answers, true, classes, constants, hashes, current, named, indices, &method,
+            method_is_far(
+                answers, classes, constants, hashes, current, named, indices, &method,
             )
         }
         None => Ok(false),

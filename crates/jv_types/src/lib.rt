@@ -8,6 +8,7 @@ mod classes;
 mod constant_names;
 mod constants;
 mod current_class;
+mod declared;
 mod entries;
 mod fields;
 mod flow;

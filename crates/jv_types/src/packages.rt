@@ -1,5 +1,5 @@
-//! Which classes are in the run-time package of the current one (JVMS 5.3), kept while the constants of its class file are gone through: the
-//! names of two packages are compared once.
+//! Which classes are in the run-time package of the current one (JVMS 5.3), kept while the constants of its class file are gone through:
+//! the names of two packages are compared once.
 
 ghost use Rattle.std.specs.Prelude.{◌≡◌, ◌<◌, ℕ, length, IfOk, IfSome, OnOk};
 ghost use Rattle.jv_meaning_world.specs.World.{World};

@@ -1,45 +1,63 @@
--- Answers about members, by the constants that are their texts (JVMS 4.4.6, 4.10.1.8), and about run-time packages (5.3).
-use Rattle.std.specs.Prelude.{◌≡◌, ℕ, Bool, true, false, List, Option, Some, None, ⊤, get_or}
+-- Which members classes declare, by the constants that are their texts (JVMS 4.4.6), and which classes are in the run-time package of the
+-- current one (5.3), as both are kept while the constants of a class file are gone through.
+use Rattle.std.specs.Prelude.{◌≡◌, ℕ, ◌<◌, Bool, true, false, List, length, Option, Some, None, ⊤, IfSome, get_or, slice_get}
 use Rattle.std.specs.List.{All}
+use Rattle.std.specs.Option.{option_and_then}
 use Rattle.jv_pool.specs.Constants.{Entry, MemberReference, utf8_at}
-use Rattle.jv_meaning_world.specs.World.{Loaded, World, same_package}
-use Rattle.jv_meaning_world.specs.Numbers.{HoldsAtBoth}
+use Rattle.jv_meaning_world.specs.of_class.Class.{field_named, method_named}
+use Rattle.jv_meaning_world.specs.World.{World, same_package}
+use Rattle.jv_meaning_world.specs.Numbers.{HoldsAtNumber, HoldsAtBoth}
+use Rattle.jv_meaning_world.specs.LookUps.{method_in}
+use Rattle.jv_link.specs.of_lookups.declared.place.Place.{Place}
+use Rattle.jv_link.specs.of_lookups.Places.{IsMethodPlace, IsMethodFound, IsFieldPlace, IsFieldFound}
+use Rattle.jv_link.specs.of_lookups.Inside.Members.{field_named_in}
 use Rattle.jv_types.specs.declared.answers.Question.{Question}
 use Rattle.jv_types.specs.declared.answers.Answer.{Answer}
 use Rattle.jv_types.specs.declared.answers.Answers.{Answers}
-use Rattle.jv_types.specs.Inside.Guarded.{field_is_far, method_is_far}
-
--- whether the method, or the field, that is found from a superclass is protected, not static, and of another run-time package
-abbrev pub member_is_far : Bool → World → Loaded → Loaded → MemberReference → Bool
-member_is_far true = method_is_far
-member_is_far false = field_is_far
-
--- of the classes with two numbers, the current one and the one that a reference names
-abbrev pub IsMemberFar : Bool → World → ℕ → ℕ → MemberReference → Bool → Type 0
-IsMemberFar of_method world current named reference answer =
-    HoldsAtBoth world current named (λ c n. answer ≡ member_is_far of_method world c n reference)
 
 -- the Utf8 constants at these indices are the name and the descriptor of a reference
 pub record AreTextsOf (pool : List Entry) (name descriptor : ℕ) (reference : MemberReference) : Type 0 where
   pub name_is : utf8_at pool name ≡ Some reference.name
   pub descriptor_is : utf8_at pool descriptor ≡ Some reference.descriptor
 
--- the question is the one for this member of this class
-pub record IsAbout (pool : List Entry) (of_method : Bool) (class : ℕ) (reference : MemberReference) (question : Question) : Type 0 where
-  pub kind_is : question.of_method ≡ of_method
-  pub class_is : question.class ≡ class
-  pub texts : AreTextsOf pool question.name question.descriptor reference
+-- ---- the members that a class declares
 
--- the answer is right for each reference with the question's texts
-abbrev pub IsAnswer : World → ℕ → List Entry → Question → Bool → Type 0
-IsAnswer world current pool question answer =
+-- the place is that of the method of a name and a descriptor among those that the class with a number declares, or there is none
+pub record IsMethodDeclared (world : World) (class : ℕ) (name descriptor : List ℕ) (place : Option ℕ) : Type 0 where
+  pub found : HoldsAtNumber world class (λ l. option_and_then (slice_get l.class.methods) place ≡ method_named l.class name descriptor)
+  pub within : HoldsAtNumber world class (λ l. IfSome place (λ p. p < length l.class.methods))
+
+-- the same of a field
+pub record IsFieldDeclared (world : World) (class : ℕ) (name descriptor : List ℕ) (place : Option ℕ) : Type 0 where
+  pub found : HoldsAtNumber world class (λ l. option_and_then (slice_get l.class.fields) place ≡ field_named l.class name descriptor)
+  pub within : HoldsAtNumber world class (λ l. IfSome place (λ p. p < length l.class.fields))
+
+abbrev pub IsDeclared : Bool → World → ℕ → List ℕ → List ℕ → Option ℕ → Type 0
+IsDeclared true = IsMethodDeclared
+IsDeclared false = IsFieldDeclared
+
+-- it is so for each reference with the question's texts
+abbrev pub IsAnswer : World → List Entry → Question → ℕ → Type 0
+IsAnswer world pool question place =
     (reference : MemberReference) → AreTextsOf pool question.name question.descriptor reference
-    → IsMemberFar question.of_method world current question.class reference answer
+    → IsDeclared question.of_method world question.class reference.name reference.descriptor (Some place)
 
 -- an entry is empty or right
-abbrev pub IsEntry : World → ℕ → List Entry → Option Answer → Type 0
-IsEntry world current pool None = ⊤
-IsEntry world current pool (Some entry) = IsAnswer world current pool entry.question entry.is_far
+abbrev pub IsEntry : World → List Entry → Option Answer → Type 0
+IsEntry world pool None = ⊤
+IsEntry world pool (Some entry) = IsAnswer world pool entry.question entry.place
+
+abbrev pub AreEntries : World → List Entry → List (Option Answer) → Type 0
+AreEntries world pool entries = All (IsEntry world pool) entries
+
+-- the place in the world is that of the method, or the field, of a name and a descriptor that the class with a number declares
+pub record IsMethodOfClass (world : World) (class : ℕ) (reference : MemberReference) (place : Option Place) : Type 0 where
+  pub found : HoldsAtNumber world class (λ l. IsMethodFound world place (method_in reference.name reference.descriptor l))
+  pub stands : IfSome place (IsMethodPlace world)
+
+pub record IsFieldOfClass (world : World) (class : ℕ) (reference : MemberReference) (place : Option Place) : Type 0 where
+  pub found : HoldsAtNumber world class (λ l. IsFieldFound world place (field_named_in reference.name reference.descriptor l))
+  pub stands : IfSome place (IsFieldPlace world)
 
 -- ---- run-time packages
 
@@ -59,5 +77,5 @@ AreNeighbours world current kept = (by : ℕ) → IsNeighbourKept world current 
 -- ---- all that is kept
 
 pub record AreAnswers (world : World) (current : ℕ) (pool : List Entry) (answers : Answers) : Type 0 where
-  pub members : All (IsEntry world current pool) answers.members.items
+  pub members : AreEntries world pool answers.members.items
   pub packages : AreNeighbours world current answers.packages.items

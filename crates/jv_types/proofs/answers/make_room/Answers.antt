@@ -4,4 +4,4 @@ use Rattle.jv_types.specs.Inside.Answered.{IsEntry}
 use Rattle.jv_types.proofs.answers.make_room.Goals as goal
 
 pub loop-preserved : goal.loop-preserved
-loop-preserved c = λ world current pool before. rw c.in_ok-push.ensures.items (All-push (IsEntry world current pool) _ None (c.loop.invariant world current pool before) tt)
+loop-preserved c = λ world pool before. rw c.in_ok-push.ensures.items (All-push (IsEntry world pool) _ None (c.loop.invariant world pool before) tt)
