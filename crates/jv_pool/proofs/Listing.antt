@@ -3,7 +3,7 @@ use Rattle.std.proofs.Common.{◌≡◌, ℕ, suc, ◌≤◌, ◌+◌, ◌-◌, 
 use Rattle.std.specs.Prelude.{is_some as has_value}
 use Rattle.std.specs.Option.{option_map}
 use Rattle.std.proofs.lemmas.Grind.{flat_map-append}
-use Rattle.std.proofs.lemmas.List.{append-nil, map_push, length-append, length-map}
+use Rattle.std.proofs.lemmas.List.{append-nil, map_push, length-append}
 use Rattle.std.proofs.Math.Seq.{drop-append_seam}
 use Rattle.jv_format.specs.Format.{Finds, byte, ◌>>=◌, IsBytes}
 use Rattle.jv_format.proofs.Laws.{is_some, bind_some, with_front, just, IsBytes-rest}
@@ -11,7 +11,7 @@ use Rattle.jv_pool.specs.declared.constant.Constant.{Constant}
 use Rattle.jv_pool.specs.declared.shape.ConstantShape.{ConstantShape}
 use Rattle.jv_pool.specs.Constants.{Entry, constant_bytes, takes_two, entries_of, table_of}
 use Rattle.jv_pool.specs.Seen.{seen}
-use Rattle.jv_pool.specs.Inside.Reading.{shape_of, contents_read, constant_read, seen_found, constant, entries_read, step_read, entry_list, constants_in, entry_of, entries_in, found_first, place_behind, pending, IsTable}
+use Rattle.jv_pool.specs.Inside.Reading.{shape_of, contents_read, constant_read, seen_found, constant, entries_read, step_read, entry_list, constants_in, entry_of, entries_in, found_first, place_behind, pending}
 use Rattle.jv_pool.proofs.Constants.{constant_takes}
 
 -- ---- one constant
@@ -197,10 +197,3 @@ Listed-done count i flag places rest bytes le off so_far =
     let k : count - i ≡ 0 = omega arith in
     sym so_far.found.read ∙ ap (λ (n : ℕ). with_front (constants_in table) (entries_read flag n rest)) k ∙ ap (λ (b : Bool). with_front (constants_in table) (entries_read b 0 rest)) off
     ∙ ap (λ (xs : List Entry). just (xs, rest)) (append-nil (constants_in table))
-
-pub Listed-table : (count i : ℕ) (flag : Bool) (places rest bytes : List ℕ) → i < count + 1 → count ≤ i → flag ≡ false → Listed count i flag places rest bytes → IsTable (count + 1) (entries_in bytes places)
-Listed-table count i flag places rest bytes lt le off so_far =
-    record {
-      counted = omega (arith, so_far.long, length-map places (entry_of bytes));
-      entries = so_far.found.entries ∙ ap (λ (b : Bool). entries_in bytes places ++ pending b) off ∙ append-nil (entries_in bytes places);
-    }

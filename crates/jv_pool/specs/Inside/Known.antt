@@ -36,7 +36,8 @@ pub record KnownBelow (pool : List Entry) (count : ℕ) (facts : List TextFacts)
 -- facts of a text that joined behind the others, at this place, or none
 abbrev pub IsAdded : Option (List ℕ) → List TextFacts → List TextFacts → ℕ → Type 0
 IsAdded None before after place = (after ≡ before) × (place ≡ 0)
-IsAdded (Some text) before after place = (facts : TextFacts) × AreFacts text facts × (after ≡ before ++ facts ∷ []) × (place ≡ length before + 1)
+IsAdded (Some text) before after place =
+    (facts : TextFacts) × AreFacts text facts × (after ≡ before ++ facts ∷ []) × (place ≡ length before + 1)
 
 -- what is known of a method descriptor
 abbrev pub MethodKnown : Option (List ℕ) → Option MethodFacts → Type 0
