@@ -1,6 +1,7 @@
 -- The superclass chain, followed number by number.
-use Rattle.std.proofs.Common.{◌≡◌, ℕ, zero, suc, ◌<◌, Bool, false, ◌&&◌, List, [], ◌∷◌, ◌++◌, map, length, get_or, Option, Some, None, refl, sym, ap, ◌∙◌, subst, arith, append-nil, append_assoc}
+use Rattle.std.proofs.Common.{◌≡◌, ℕ, zero, suc, ◌+◌, ◌<◌, Bool, false, ◌&&◌, List, [], ◌∷◌, ◌++◌, map, length, get_or, Option, Some, None, refl, sym, ap, ◌∙◌, subst, arith, append-nil, append_assoc, length-append}
 use Rattle.std.specs.Prelude.{slice_get}
+use Rattle.std.specs.Global.{Vec}
 use Rattle.std.specs.List.{All, filter_map, list_all, cons_option}
 use Rattle.std.proofs.lemmas.List.Elements.{All-append}
 use Rattle.std.proofs.lemmas.Option.{slice_get-get_or}
@@ -12,6 +13,8 @@ use Rattle.jv_meaning_world.specs.Above.{superclass_in, class_if_named, chain_wi
 use Rattle.jv_meaning_world.specs.Verdicts.{passes}
 use Rattle.jv_meaning_world.specs.Numbers.{number_named, superclass_number}
 use Rattle.jv_meaning_world.specs.Numbers.{HoldsAtNumber}
+use Rattle.jv_classes.specs.Inside.Rows.{all_superclass_numbers}
+use Rattle.jv_classes.specs.Inside.Told.{IsChain, AreChains}
 use Rattle.jv_classes.specs.Inside.Tests.{passes_at, marked_at}
 use Rattle.jv_classes.proofs.Numbers.{numbered, number_at}
 use Rattle.jv_classes.proofs.Told.{at_map, past_map, superclass_below}
@@ -108,3 +111,32 @@ follow_all world number chain left next e h = λ l at.
 pub some_class : (world : World) (k : ℕ) → k < length world → (l : Loaded) × (slice_get world k ≡ Some l)
 some_class [] k h = absurd (omega (arith, h))
 some_class (x ∷ world) k h = (get_or (x ∷ world) k x, slice_get-get_or (x ∷ world) k x h)
+
+-- ---- the superclasses of each class
+
+pub superclass_told : (world : World) (direct : List (Option ℕ)) (k : ℕ) (d : Option ℕ) → direct ≡ all_superclass_numbers world → HoldsAtNumber world k (λ l. get_or direct k d ≡ superclass_number world l.class)
+superclass_told world direct k d e = λ l at. ap (λ numbers. get_or numbers k d) e ∙ at_map (λ m. superclass_number world m.class) world k l d at
+
+one_more : (P : ℕ → Vec ℕ → Type 0) (chains : List (Vec ℕ)) (last : Vec ℕ) → ((k : ℕ) (v : Vec ℕ) → slice_get chains k ≡ Some v → P k v) → P (length chains) last
+    → (k : ℕ) (v : Vec ℕ) → slice_get (chains ++ last ∷ []) k ≡ Some v → P k v
+one_more P [] last each at zero v e = subst (P 0) (same e) at
+  where
+    same : Some last ≡ Some v → last ≡ v
+    same e = cc
+one_more P [] last each at (suc k) v e = absurd (past k e)
+  where
+    past : (j : ℕ) → slice_get [] j ≡ Some v → ⊥
+    past zero e = absurd cc
+    past (suc j) e = absurd cc
+one_more P (c ∷ chains) last each at zero v e = each zero v e
+one_more P (c ∷ chains) last each at (suc k) v e = one_more (λ j. P (suc j)) chains last (λ j. each (suc j)) at k v e
+
+pub chain_more : (world : World) (count : ℕ) (chains : List (Vec ℕ)) (chain : Vec ℕ) → IsChain world count chain.items → AreChains world count chains → AreChains world (count + 1) (chains ++ chain ∷ [])
+chain_more world count chains chain is are = record {
+  size = length-append chains (chain ∷ []) ∙ ap (λ n. n + 1) are.size;
+  each = one_more (λ k v. IsChain world k v.items) chains chain are.each (subst (λ n. IsChain world n chain.items) (sym are.size) is);
+}
+
+pub chain_at : (world : World) (count : ℕ) (chains : List (Vec ℕ)) (number : ℕ) (chain : Vec ℕ) → AreChains world count chains → number < count → chain ≡ get_or chains number chain → IsChain world number chain.items
+chain_at world count chains number chain are less is =
+    are.each number chain (slice_get-get_or chains number chain (subst (λ n. number < n) (sym are.size) less) ∙ ap (λ v. Some v) (sym is))

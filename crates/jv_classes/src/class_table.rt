@@ -22,7 +22,7 @@ use crate::members::member_key;
 use crate::relation::Relation;
 use crate::supers::{are_marked, can_name_supers, have_right_kind, is_final_at};
 use crate::table::{
-    above_of, all_loadable, all_stand, all_supers, direct_superclasses, superclasses_of,
+    above_of, all_chains, all_loadable, all_stand, all_supers, direct_superclasses, superclasses_of,
 };
 use crate::text::Text;
 use jv_meaning_world::LoadVerdict;
@@ -35,6 +35,7 @@ pub struct ClassTable<'a> {
     list: ClassList<'a>,
     supers: Vec<Vec<Option<usize>>>,
     direct: Vec<Option<usize>>,
+    chains: Vec<Vec<usize>>,
     above: Relation,
     superclasses: Relation,
     loadable: Vec<bool>,
@@ -52,8 +53,8 @@ impl<'a> Model for ClassTable<'a> {
 
     ghost view = { λ t. t.list };
 
-    ghost invariant = { λ t. IsTable t.list (numbers_of t.supers.items) t.direct.items t.above t.superclasses t.loadable.items
-        t.seed t.methods t.fields };
+    ghost invariant = { λ t. IsTable t.list (numbers_of t.supers.items) t.direct.items t.chains.items t.above t.superclasses
+        t.loadable.items t.seed t.methods t.fields };
 }
 
 impl Drop for ClassTable<'_> {
@@ -62,6 +63,7 @@ impl Drop for ClassTable<'_> {
             list: _,
             supers: _,
             direct: _,
+            chains: _,
             above: _,
             superclasses: _,
             loadable: _,
@@ -90,6 +92,7 @@ impl<'a> ClassTable<'a> {
         let stand = all_stand(alloc, classes, &supers, &above)?;
         let loadable = all_loadable(alloc, classes, &above, &stand)?;
         let direct = direct_superclasses(alloc, classes, &supers)?;
+        let chains = all_chains(alloc, classes, &direct)?;
         let seed = list.seed();
         let methods = method_marks(alloc, seed, classes)?;
         let fields = field_marks(alloc, seed, classes)?;
@@ -97,6 +100,7 @@ impl<'a> ClassTable<'a> {
             list,
             supers,
             direct,
+            chains,
             above,
             superclasses,
             loadable,
@@ -161,6 +165,16 @@ impl<'a> ClassTable<'a> {
         ensures { HoldsAtNumber self.now number (λ l. result ≡ superclass_number self.now l.class) }
     {
         self.direct[number]
+    }
+
+    /// The numbers of the superclasses of a class that are there, the direct one first. A chain that ends in a circle is followed
+    /// as often as there are classes. It takes no memory, and one look.
+    pub fn superclasses(&self, number: usize) -> &[usize]
+        requires { number < length self.now }
+        ensures found { AreSuperclassesOf self.now number result.now }
+        ensures numbers { All (λ k. k < length self.now) result.now }
+    {
+        &self.chains[number]
     }
 
     /// Marks by number of the classes that may declare a method of a name and a descriptor: one that is not marked does not. It
@@ -281,28 +295,5 @@ impl<'a> ClassTable<'a> {
         } else {
             None
         }
-    }
-
-    /// Puts the numbers of a class's superclasses that are there behind one another, the direct one first.
-    /// A chain that ends in a circle is followed as often as there are classes.
-    ///
-    /// # Errors
-    ///
-    /// Where the host had no memory for them.
-    pub fn superclasses(&self, alloc: Global, number: usize) -> Result<Vec<usize>, AllocError>
-        requires { number < length self.now }
-        ensures found { IfOk result (λ chain. AreSuperclassesOf self.now number chain.items) }
-        ensures numbers { IfOk result (λ chain. All (λ k. k < length self.now) chain.items) }
-    {
-        let mut chain = Vec::new(alloc);
-        let mut next = self.super_of(number);
-        for _ in 0..self.count() {
-            let Some(superclass) = next else {
-                return Ok(chain);
-            };
-            chain.push(superclass)?;
-            next = self.super_of(superclass);
-        }
-        Ok(chain)
     }
 }

@@ -7,7 +7,7 @@ ghost use Rattle.jv_meaning_world.specs.Numbers.{IsNumbered};
 ghost use Rattle.jv_meaning_world.specs.Laws.Above.{stands_itself, SystemStandsAlone};
 ghost use Rattle.jv_meaning_world.specs.Verdicts.{is_loadable};
 ghost use Rattle.jv_classes.specs.Inside.Direct.{IsToSuperclass};
-ghost use Rattle.jv_classes.specs.Inside.Told.{TellsAbove, TellsSuperclasses, AreAllMarked};
+ghost use Rattle.jv_classes.specs.Inside.Told.{TellsAbove, TellsSuperclasses, IsChain, AreChains, AreAllMarked};
 ghost use Rattle.jv_classes.specs.Inside.Rows.{numbers_of, all_direct_numbers, all_superclass_numbers, AreAllBelow};
 ghost use Rattle.jv_meaning_world.specs.Above.{superclasses};
 
@@ -47,6 +47,46 @@ pub(crate) fn direct_superclasses(
         direct.push(superclass_of(&classes[from], &rows[from]))?;
     }
     Ok(direct)
+}
+
+/// The numbers of the superclasses of a class that are there, the direct one first. A chain that ends in a circle is followed as
+/// often as there are classes.
+fn chain_of(
+    alloc: Global,
+    classes: &[LoadedClass<'_>],
+    direct: &[Option<usize>],
+    number: usize,
+) -> Result<Vec<usize>, AllocError>
+    requires number { number < length classes.now }
+    requires direct { direct.now ≡ all_superclass_numbers classes.now }
+    ensures { IfOk result (λ chain. IsChain classes.now number chain.items) }
+{
+    let mut chain = Vec::new(alloc);
+    let mut next = direct[number];
+    for _ in 0..classes.len() {
+        let Some(superclass) = next else {
+            return Ok(chain);
+        };
+        chain.push(superclass)?;
+        next = direct[superclass];
+    }
+    Ok(chain)
+}
+
+/// The numbers of the superclasses of each class.
+pub(crate) fn all_chains(
+    alloc: Global,
+    classes: &[LoadedClass<'_>],
+    direct: &[Option<usize>],
+) -> Result<Vec<Vec<usize>>, AllocError>
+    requires { direct.now ≡ all_superclass_numbers classes.now }
+    ensures { IfOk result (λ chains. AreChains classes.now (length classes.now) chains.items) }
+{
+    let mut chains = Vec::new(alloc);
+    for number in 0..classes.len() {
+        chains.push(chain_of(alloc, classes, direct, number)?)?;
+    }
+    Ok(chains)
 }
 
 /// The relation of each number to those in its row.

@@ -158,22 +158,17 @@ ups_more world numbers step k layout later c h e at bound more on = record {
         ∙ (sym (flat_map-append own_fields (reverse rest) (c ∷ []))
         ∙ (ap (flat_map own_fields) (sym (reverse-append (c ∷ []) rest)) ∙ ap (λ ls. flat_map own_fields (reverse ls)) (sym opened)))
 
-any_default : (xs : List ℕ) (i a b : ℕ) → i < length xs → get_or xs i a ≡ get_or xs i b
-any_default [] i a b h = absurd (omega (arith, h))
-any_default (x ∷ xs) zero a b h = refl
-any_default (x ∷ xs) (suc i) a b h = let less : i < length xs = omega (arith, h) in any_default xs i a b less
-
-pub ups_on : (world : World) (numbers : List ℕ) (step k : ℕ) (layout later : Layout) → step < length numbers → k ≡ get_or numbers (length numbers - 1 - step) k → AreNumbers world numbers → later.words ≤ 2 * vec_len later.fields
+pub ups_on : (world : World) (numbers : List ℕ) (step k : ℕ) (layout later : Layout) → step < length numbers → get_or numbers (length numbers - 1 - step) 0 ≡ k → AreNumbers world numbers → later.words ≤ 2 * vec_len later.fields
     → HoldsAtNumber world k (λ c. (ds : List DeclaredField) → IsLaid world layout ds → IsLaid world later (ds ++ own_fields c)) → LaysUp world numbers step layout → LaysUp world numbers (step + 1) later
 ups_on world numbers step k layout later h e all bound more on =
     let class = some_class world k within in
-    ups_more world numbers step k layout later class.0 h (any_default numbers (length numbers - 1 - step) 0 k less ∙ sym e) class.1 bound (more class.0 class.1) on
+    ups_more world numbers step k layout later class.0 h e class.1 bound (more class.0 class.1) on
   where
     less : length numbers - 1 - step < length numbers
     less = omega (arith, h)
 
     within : k < length world
-    within = subst (λ n. n < length world) (sym e) (all (length numbers - 1 - step) k less)
+    within = subst (λ n. n < length world) e (all (length numbers - 1 - step) 0 less)
 
 -- all superclasses, and then the class
 pub ups_end : (world : World) (numbers : List ℕ) (step : ℕ) (layout later : Layout) (l : Loaded) → step ≡ length numbers → classes_at world numbers ≡ superclasses world l.class

@@ -59,7 +59,7 @@ fn layout_in(alloc: Global, table: &ClassTable<'_>, class: usize) -> Result<Layo
     requires { class < length table.now }
     ensures { IfOk result (λ layout. HoldsAtNumber table.now class (λ l. IsLaid table.now layout (instance_fields table.now l))) }
 {
-    let numbers = table.superclasses(alloc, class)?;
+    let numbers = table.superclasses(class);
     let mut layout = Layout {
         fields: Vec::new(alloc),
         words: 0,

@@ -126,7 +126,6 @@ fn all_own_words(alloc: Global, table: &ClassTable<'_>) -> Result<Vec<usize>, Al
 
 /// How many words the fields of a class's superclasses have in its objects.
 fn inherited_words(
-    alloc: Global,
     table: &ClassTable<'_>,
     own: &[usize],
     number: usize,
@@ -135,9 +134,8 @@ fn inherited_words(
     requires own { own.now ≡ map own_words table.now }
     ensures { IfOk result (λ n. HoldsAtNumber table.now number (λ l. n ≡ inherited_words table.now l)) }
 {
-    let superclasses = table.superclasses(alloc, number)?;
     let mut words = 0;
-    for superclass in &superclasses {
+    for superclass in table.superclasses(number) {
         words = sum(words, own[*superclass])?;
     }
     Ok(words)
@@ -176,7 +174,7 @@ pub(crate) fn all_words(
     let mut all = Vec::with_capacity(alloc, table.count())?;
     let mut statics = 0;
     for number in 0..table.count() {
-        let object = inherited_words(alloc, table, &own, number)?;
+        let object = inherited_words(table, &own, number)?;
         let words = words_of(alloc, class_at(table, number), Ends { object, statics })?;
         all.push(words.0)?;
         statics = words.1;

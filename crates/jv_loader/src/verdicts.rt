@@ -49,21 +49,15 @@ fn finals_of(
 }
 
 /// Whether a class that is not circular overrides a final method of a superclass (JVMS 4.10).
-fn overrides_final(
-    alloc: Global,
-    table: &ClassTable<'_>,
-    finals: &mut Finals,
-    number: usize,
-) -> Result<bool, AllocError>
+fn overrides_final(table: &ClassTable<'_>, finals: &mut Finals, number: usize) -> bool
     requires number { number < length table.now }
     requires finals { AreTold table.now finals.now }
     requires circular { HoldsAtNumber table.now number (λ l. is_circular table.now l.class ≡ false) }
-    ensures found { IfOk result (λ broken. HoldsAtNumber table.now number (λ l. broken ≡ breaks_final_above table.now l)) }
+    ensures found { HoldsAtNumber table.now number (λ l. result ≡ breaks_final_above table.now l) }
     ensures finals { AreTold table.now finals.new }
 {
     table.is_numbered();
-    let chain = table.superclasses(alloc, number)?;
-    Ok(breaks_final(
+    breaks_final(
         table.classes(),
         &finals.declarers,
         &finals.keys,
@@ -71,46 +65,40 @@ fn overrides_final(
         &mut finals.marks,
         &mut finals.asked,
         number,
-        &chain,
-    ))
+        table.superclasses(number),
+    )
 }
 
 /// What is wrong with a class before its methods are looked at.
-fn verdict_of(
-    alloc: Global,
-    table: &ClassTable<'_>,
-    finals: &mut Finals,
-    number: usize,
-) -> Result<Option<LoadVerdict>, AllocError>
+fn verdict_of(table: &ClassTable<'_>, finals: &mut Finals, number: usize) -> Option<LoadVerdict>
     requires number { number < length table.now }
     requires finals { AreTold table.now finals.now }
-    ensures verdict { IfOk result (λ verdict. HoldsAtNumber table.now number (λ l. verdict ≡ verdict_of_class table.now l)) }
+    ensures verdict { HoldsAtNumber table.now number (λ l. result ≡ verdict_of_class table.now l) }
     ensures finals { AreTold table.now finals.new }
 {
     if let Some(verdict) = table.fault_of_supers(number) {
-        return Ok(Some(verdict));
+        return Some(verdict);
     }
-    if table.has_final_super(number) || overrides_final(alloc, table, finals, number)? {
-        return Ok(Some(LoadVerdict::FinalBroken));
+    if table.has_final_super(number) || overrides_final(table, finals, number) {
+        return Some(LoadVerdict::FinalBroken);
     }
-    Ok(None)
+    None
 }
 
 /// The verdict on a file, where its entry is known.
 fn verdict_of_entry(
-    alloc: Global,
     table: &ClassTable<'_>,
     finals: &mut Finals,
     entry: Entry,
-) -> Result<Option<LoadVerdict>, AllocError>
+) -> Option<LoadVerdict>
     requires place { IsPlace table.now entry }
     requires finals { AreTold table.now finals.now }
-    ensures verdict { IfOk result (λ verdict. verdict ≡ verdict_of_entry table.now entry) }
+    ensures verdict { result ≡ verdict_of_entry table.now entry }
     ensures finals { AreTold table.now finals.new }
 {
     match entry {
-        Ok(number) => verdict_of(alloc, table, finals, number),
-        Err(verdict) => Ok(Some(verdict)),
+        Ok(number) => verdict_of(table, finals, number),
+        Err(verdict) => Some(verdict),
     }
 }
 
@@ -127,7 +115,7 @@ pub(crate) fn verdicts_of(
     let mut finals = finals_of(alloc, state, table)?;
     let mut verdicts = Vec::new(alloc);
     for entry in entries {
-        verdicts.push(verdict_of_entry(alloc, table, &mut finals, *entry)?)?;
+        verdicts.push(verdict_of_entry(table, &mut finals, *entry))?;
     }
     Ok(verdicts)
 }

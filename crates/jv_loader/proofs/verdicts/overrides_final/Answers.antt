@@ -7,7 +7,7 @@ use Rattle.jv_loader.proofs.verdicts.overrides_final.Goals as goal
 pub breaks_final-requires-clause-unlike : goal.breaks_final-requires-clause-unlike
 breaks_final-requires-clause-unlike c =
     let world = c.args.table.now in
+    let above = c.superclasses in
     let class = some_class world c.args.number c.requires.number in
-    subst (λ w. AreUnlike w c.args.number c.deref-3.result.now) (sym c.classes.ensures)
-    (subst (AreUnlike world c.args.number) (sym c.deref-3.ensures.value)
-    (are_unlike world c.args.number class.0 c.in_ok-chain.chain.items class.1 (c.requires.circular class.0 class.1) (c.in_ok-chain.ensures.found class.0 class.1)))
+    subst (λ w. AreUnlike w c.args.number above.result.now) (sym c.classes.ensures)
+    (are_unlike world c.args.number class.0 above.result.now class.1 (c.requires.circular class.0 class.1) (above.ensures.found class.0 class.1))

@@ -1,6 +1,0 @@
-use Rattle.std.proofs.Common.{◌-◌}
-use Rattle.jv_classes.proofs.Followed.{HasFollowed}
-use Rattle.jv_classes.proofs.class_table.ClassTable.superclasses.Given as goal
-
-abbrev pub invariant-loop : goal.invariant-loop
-invariant-loop l = HasFollowed l.self l.number l.chain.items (l.end - l.counter) l.next
