@@ -16,15 +16,10 @@ fn superclass_alike(table: &ClassTable<'_>, from: usize, called: Place) -> Optio
     ensures found { IsAlikeAbove table.now called from result }
     ensures place { IfSome result (IsMethodPlace table.now) }
 {
-    let mut next = table.super_of(from);
-    for _ in 0..table.count() {
-        let Some(superclass) = next else {
-            return None;
-        };
-        if let Some(place) = alike_in(table, superclass, called) {
+    for superclass in table.superclasses(from) {
+        if let Some(place) = alike_in(table, *superclass, called) {
             return Some(place);
         }
-        next = table.super_of(superclass);
     }
     None
 }

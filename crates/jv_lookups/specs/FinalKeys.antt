@@ -1,5 +1,5 @@
 -- Which classes of a guest declare which methods that others can override, by keys (JVMS 4.6, 5.4.5).
-use Rattle.std.specs.Prelude.{◌≡◌, ℕ, ◌+◌, ◌*◌, List, length}
+use Rattle.std.specs.Prelude.{◌≡◌, ◌+◌, ◌*◌, List, length}
 use Rattle.jv_meaning_world.specs.World.{Loaded}
 use Rattle.jv_lookups.specs.declared.keys.FinalKeys.{FinalKeys}
 use Rattle.jv_lookups.specs.Inside.Keys.{AreMarkedBelow, is_final_open, is_open}

@@ -23,15 +23,10 @@ fn superclass_method(
     ensures place { IfSome result (IsMethodPlace table.now) }
 {
     let marks = table.marks_of_method(name, descriptor);
-    let mut next = table.super_of(from);
-    for _ in 0..table.count() {
-        let Some(superclass) = next else {
-            return None;
-        };
-        if let Some(place) = marked_method(table, &marks, superclass, name, descriptor) {
+    for superclass in table.superclasses(from) {
+        if let Some(place) = marked_method(table, &marks, *superclass, name, descriptor) {
             return Some(place);
         }
-        next = table.super_of(superclass);
     }
     None
 }

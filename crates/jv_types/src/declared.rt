@@ -195,18 +195,20 @@ fn superclass_method(
     let name = name_with(hashes, pool, Some(indices), method);
     let descriptor = descriptor_with(hashes, pool, Some(indices), method);
     let marks = table.marks_of_method(&name, &descriptor);
-    let mut next = table.super_of(from);
-    for _ in 0..table.count() {
-        let Some(superclass) = next else {
-            return Ok(None);
-        };
+    for superclass in table.superclasses(from) {
         let found = marked_method(
-            answers, &marks, table, pool, hashes, superclass, indices, method,
+            answers,
+            &marks,
+            table,
+            pool,
+            hashes,
+            *superclass,
+            indices,
+            method,
         )?;
         if let Some(place) = found {
             return Ok(Some(place));
         }
-        next = table.super_of(superclass);
     }
     Ok(None)
 }

@@ -1,5 +1,4 @@
-use Rattle.std.proofs.Common.{◌≡◌, true, sym, ◌∙◌}
-use Rattle.jv_classes.specs.Marks.{AreKept, is_marked}
+use Rattle.std.proofs.Common.{◌∙◌}
 use Rattle.jv_lookups.specs.Inside.Keys.{is_final_open, is_open}
 use Rattle.jv_lookups.specs.Inside.Steps.{as_method}
 use Rattle.jv_lookups.proofs.KeyRows.{kept_on, method_marked}
