@@ -32,6 +32,9 @@ use std::marker::Model;
 /// How many words of local entries a frame has at least that is held: fewer are as soon compared.
 const FEW: u16 = 16;
 
+/// With so many local variables each frame is held: to make one anew may cost all of them.
+const WIDE: u16 = 1024;
+
 /// A frame of the stack map as it was made, its place in the map, and where local variables may have been written since, each place
 /// once. Where there is no place, nothing is held.
 pub(crate) struct Held {
@@ -391,7 +394,7 @@ impl Held {
             → typed_all (names_in pass.now) locals ≡ expanded_entries pass.now.types pass.now.max_locals map.now.locals
             → IsHeldBy pass.now self.new.place self.new locals) }
     {
-        if map.local_words() < FEW {
+        if map.local_words() < FEW && pass.max_locals < WIDE {
             self.forget();
             return Ok(());
         }

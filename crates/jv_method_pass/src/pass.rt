@@ -22,6 +22,10 @@ use std::marker::Model;
 /// The part of the words of a frame's local entries that it has apart from another at most that shares all but few: one in so many.
 const FAR: u16 = 4;
 
+/// So many of a method's local variables allow for one word more that is apart: to make a frame anew costs each of these that was written,
+/// or one below.
+const WIDE: u16 = 256;
+
 /// A method whose code is checked: what the rules ask of it, its initial local entries, with their words, its handlers, and
 /// the frames of its stack map.
 pub struct Pass<'p, 'm, 'e, 't, 'a> {
@@ -138,7 +142,7 @@ impl<'p, 'm, 'e, 't, 'a> Pass<'p, 'm, 'e, 't, 'a> {
             return None;
         }
         let words = self.frames.frame_at(place).local_words();
-        let most = usize::from(words / FAR);
+        let most = usize::from((words / FAR).max(self.max_locals / WIDE));
         let above = self.frames.above_shared(place, other, most)?;
         Some((words, above.1))
     }

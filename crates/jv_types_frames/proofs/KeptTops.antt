@@ -1,5 +1,5 @@
 -- Local variables that hold nothing from a place on.
-use Rattle.std.proofs.Common.{◌≡◌, ℕ, zero, suc, ◌<◌, ◌≤◌, List, [], ◌∷◌, ◌++◌, map, take, length, replicate, set, refl, sym, ap, subst, ◌∙◌, arith}
+use Rattle.std.proofs.Common.{◌≡◌, ℕ, zero, suc, ◌<◌, ◌≤◌, List, [], ◌∷◌, ◌++◌, ◌-◌, map, take, length, replicate, set, refl, sym, ap, subst, ◌∙◌, arith}
 use Rattle.jv_frames.specs.declared.verification.VerificationTypeOf.TheVariants as types
 use Rattle.jv_types.specs.Numbered.{Item}
 use Rattle.jv_types_frames.specs.Inside.Swapped.{swapped}
@@ -64,3 +64,9 @@ still_tops object by (suc used) (x ∷ items) h = still_tops object by used item
 -- what a Vec holds when its items were written
 pub tops_written : (used : ℕ) (new old : List Item) (n : ℕ) → n ≡ length new → AreTops used new → AreTops used (take n (new ++ old))
 tops_written used new old n e h = subst (AreTops used) (sym (written new old n e)) h
+
+-- of so many tops, others so many: the first of them, and as many more as are lacking
+pub refilled : (n m k : ℕ) → k ≡ n - m → take n (replicate m types.Top) ++ replicate k types.Top ≡ replicate {A = Item} n types.Top
+refilled zero m k e = let none : k ≡ 0 = omega arith in rw none refl
+refilled (suc n) zero k e = let all : k ≡ suc n = omega arith in rw all refl
+refilled (suc n) (suc m) k e = let less : k ≡ n - m = omega arith in ap (λ (items : List Item). types.Top ∷ items) (refilled n m k less)

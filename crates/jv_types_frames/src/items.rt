@@ -113,19 +113,20 @@ impl Items {
         self.notes.forget();
     }
 
-    /// So many times top, where those from a place on are.
+    /// So many times top, where those from a place on are. It costs those before the place, and as many as there come to be more.
     pub(crate) fn renew(&mut self, used: usize, count: usize) -> Result<(), AllocError>
         requires { AreTops used self.old }
         ensures ok { OnOk result (self.new ≡ replicate count types.Top) }
         ensures refused { OnErr result (self.new ≡ []) }
     {
-        if self.items.len() == count {
-            self.make_tops_below(used);
-            return Ok(());
+        self.make_tops_below(used);
+        match self.items.resize(count, VerificationTypeOf::Top) {
+            Ok(()) => Ok(()),
+            Err(fault) => {
+                self.clear();
+                Err(fault)
+            }
         }
-        self.clear();
-        self.items.resize(count, VerificationTypeOf::Top)?;
-        Ok(())
     }
 
     /// Takes all away.
