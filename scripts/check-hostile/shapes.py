@@ -1464,8 +1464,8 @@ SHAPES = [
 ]
 
 
-def write(folder, scale, names):
-    for shape in SHAPES:
+def write(folder, scale, names, given=SHAPES):
+    for shape in given:
         if names and shape.__name__ not in names:
             continue
         place = os.path.join(folder, shape.__name__)
