@@ -15,7 +15,8 @@ use Rattle.jv_pool.specs.declared.facts.MethodFacts.{MethodFacts}
 use Rattle.jv_pool.specs.Rules.{IsMethodMember, NamesMethod}
 use Rattle.jv_pool.specs.Facts.{AreFacts, AreMethodFacts}
 use Rattle.jv_pool.specs.Constants.{Entry, takes_two, entries_of, table_of, pool_count, usable, at_index, utf8_at, utf8_in, name_and_descriptor}
-use Rattle.jv_pool.specs.Inside.Known.{IsKnown, known_in, AllKnown, KnownBelow, IsAdded, MethodKnown, IsNamedFor, special_keeps_rules, At}
+use Rattle.jv_pool.specs.Inside.Alike.{IsAlike, IsInOrder}
+use Rattle.jv_pool.specs.Inside.Known.{IsKnown, known_in, AllKnown, KnownBelow, place_alike, IsAdded, MethodKnown, IsNamedFor, special_keeps_rules, At}
 
 -- ---- lists
 
@@ -76,6 +77,17 @@ place_past [] k le = refl
 place_past (p ∷ places) zero le = absurd (omega arith)
 place_past (p ∷ places) (suc k) le = place_past places k (omega arith)
 
+-- an item that is there
+get_there : (places : List ℕ) (k place : ℕ) → slice_get places k ≡ Some place → get_or places k 0 ≡ place
+get_there [] k place e = absurd cc
+get_there (p ∷ places) zero place e = ap (λ (o : Option ℕ). unwrap_or o 0) e
+get_there (p ∷ places) (suc k) place e = get_there places k place e
+
+there_below : (places : List ℕ) (k place : ℕ) → slice_get places k ≡ Some place → k < length places
+there_below [] k place e = absurd cc
+there_below (p ∷ places) zero place e = omega arith
+there_below (p ∷ places) (suc k) place e = let lt = there_below places k place e in omega (arith, lt)
+
 -- facts that joined, or none
 record Joined (text : Option (List ℕ)) (facts more : List TextFacts) (place : ℕ) : Type 0 where
   new : List TextFacts
@@ -84,10 +96,24 @@ record Joined (text : Option (List ℕ)) (facts more : List TextFacts) (place : 
   within : place ≤ length more
   here : IsKnown text (known_in more place)
 
-joined : (text : Option (List ℕ)) (facts more : List TextFacts) (place : ℕ) → IsAdded text facts more place → Joined text facts more place
-joined None facts more place h =
+-- what a place that was found is known to be
+abbrev IsPlaced : List ℕ → List TextFacts → ℕ → Type 0
+IsPlaced text facts place = (place ≤ length facts) × IsKnown (Some text) (known_in facts place)
+
+joined : (text : Option (List ℕ)) (known : Option ℕ) (facts more : List TextFacts) (place : ℕ) → ((t : List ℕ) (p : ℕ) → text ≡ Some t → known ≡ Some p → IsPlaced t facts p)
+    → IsAdded text known facts more place → Joined text facts more place
+joined None known facts more place there h =
     record { new = []; same = h.0 ∙ sym (append-nil facts); one = omega arith; within = omega (arith, h.1); here = rw h.1 tt }
-joined (Some t) facts more place h =
+joined (Some t) (Some p) facts more place there h =
+    let placed : IsPlaced t facts p = there t p refl refl in
+    record {
+      new = [];
+      same = h.0 ∙ sym (append-nil facts);
+      one = omega arith;
+      within = rw (h.0, h.1) placed.0;
+      here = rw (h.0, h.1) placed.1;
+    }
+joined (Some t) None facts more place there h =
     let at : known_in more place ≡ Some h.0 = rw (h.2, h.3) (known_last facts h.0) in
     record {
       new = h.0 ∷ [];
@@ -100,13 +126,31 @@ joined (Some t) facts more place h =
     known_last : (facts : List TextFacts) (new : TextFacts) → known_in (facts ++ new ∷ []) (length facts + 1) ≡ Some new
     known_last facts new = let next : length facts + 1 ≡ suc (length facts) = omega arith in ap (known_in (facts ++ new ∷ [])) next ∙ get_last facts new (length facts) refl
 
+-- the place of the first text alike is right for this text too
+placed_before : (pool : List Entry) (alike : List ℕ) (i : ℕ) (facts : List TextFacts) (places : List ℕ) → IsInOrder pool alike → KnownBelow pool i facts places
+    → (t : List ℕ) (p : ℕ) → utf8_at pool i ≡ Some t → place_alike alike places i ≡ Some p → IsPlaced t facts p
+placed_before pool alike i facts places order so_far t p here e = by_first (slice_get alike i) refl e
+  where
+    by_first : (o : Option ℕ) → slice_get alike i ≡ o → (o >>= slice_get places) ≡ Some p → IsPlaced t facts p
+    by_first None first found = absurd cc
+    by_first (Some f) first found =
+        let there : IsAlike pool i (utf8_at pool i) (Some f) = subst (λ (o : Option ℕ). IsAlike pool i (utf8_at pool i) o) first (order i) in
+        let is_alike : IsAlike pool i (Some t) (Some f) = subst (λ (o : Option (List ℕ)). IsAlike pool i o (Some f)) here there in
+        let below : f < length places = there_below places f p found in
+        let at : get_or places f 0 ≡ p = get_there places f p found in
+        let same : utf8_at pool f ≡ Some t = is_alike.same ∙ here in (
+          omega (arith, at, so_far.within f),
+          subst (λ (o : Option (List ℕ)). IsKnown o (known_in facts p)) same
+              (subst (λ (k : ℕ). IsKnown (utf8_at pool f) (known_in facts k)) at (so_far.known f (omega (arith, below, so_far.long)))),
+        )
+
 pub KnownBelow-start : (pool : List Entry) → KnownBelow pool 0 [] []
 KnownBelow-start pool = record { long = refl; few = omega arith; within = λ k. omega arith; known = λ k lt. absurd (omega arith) }
 
-pub KnownBelow-push : (pool : List Entry) (i : ℕ) (facts more : List TextFacts) (places : List ℕ) (place : ℕ) → IsAdded (utf8_at pool i) facts more place → KnownBelow pool i facts places
-    → KnownBelow pool (i + 1) more (places ++ place ∷ [])
-KnownBelow-push pool i facts more places place added so_far =
-    let j = joined (utf8_at pool i) facts more place added in
+pub KnownBelow-push : (pool : List Entry) (alike : List ℕ) (i : ℕ) (facts more : List TextFacts) (places : List ℕ) (place : ℕ) → IsInOrder pool alike
+    → IsAdded (utf8_at pool i) (place_alike alike places i) facts more place → KnownBelow pool i facts places → KnownBelow pool (i + 1) more (places ++ place ∷ [])
+KnownBelow-push pool alike i facts more places place order added so_far =
+    let j = joined (utf8_at pool i) (place_alike alike places i) facts more place (placed_before pool alike i facts places order so_far) added in
     let size : length more ≡ length facts + length j.new = ap length j.same ∙ length-append facts j.new in
     let long : length (places ++ place ∷ []) ≡ length places + 1 = length-append places (place ∷ []) in
     let last : get_or (places ++ place ∷ []) i 0 ≡ place = place_last places place i so_far.long in
@@ -137,11 +181,6 @@ KnownBelow-all pool i facts places le so_far =
     rw (no_text, no_place) tt)
 
 -- what is known of the text at an index, by its place
-get_there : (places : List ℕ) (k place : ℕ) → slice_get places k ≡ Some place → get_or places k 0 ≡ place
-get_there [] k place e = absurd cc
-get_there (p ∷ places) zero place e = ap (λ (o : Option ℕ). unwrap_or o 0) e
-get_there (p ∷ places) (suc k) place e = get_there places k place e
-
 get_nothing : (places : List ℕ) (k : ℕ) → slice_get places k ≡ None → get_or places k 0 ≡ 0
 get_nothing [] k e = refl
 get_nothing (p ∷ places) zero e = absurd cc

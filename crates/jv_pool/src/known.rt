@@ -5,7 +5,8 @@ ghost use Rattle.std.specs.Option.{option_map};
 ghost use Rattle.jv_pool.specs.declared.fault.PoolFault.TheVariants.{Memory};
 ghost use Rattle.jv_pool.specs.Constants.{utf8_at};
 ghost use Rattle.jv_pool.specs.Seen.{seen_text};
-ghost use Rattle.jv_pool.specs.Inside.Known.{IsKnown, AllKnown, IsAdded, known_in};
+ghost use Rattle.jv_pool.specs.Inside.Alike.{IsInOrder};
+ghost use Rattle.jv_pool.specs.Inside.Known.{IsKnown, AllKnown, IsAdded, known_in, place_alike};
 
 use crate::facts::TextFacts;
 use crate::fault::PoolFault;
@@ -14,8 +15,8 @@ use crate::texts::facts_of;
 use std::alloc::Global;
 use std::marker::Model;
 
-/// A table of constants, which may break their rules, with what is known of its texts: facts for each Utf8 constant alone, and for
-/// each index where its facts stand, one more than the number of those before, or 0.
+/// A table of constants, which may break their rules, with what is known of its texts: facts for each text once, however many Utf8
+/// constants have it, and for each index where its facts stand, one more than the number of those before, or 0.
 #[derive(Drop)]
 pub(crate) struct Known<'a> {
     table: Table<'a>,
@@ -35,29 +36,53 @@ impl<'a> Model for Known<'a> {
     ghost invariant = { λ k. AllKnown k.table k.facts.items k.places.items };
 }
 
-/// Adds the facts of a text behind the others, and answers their place; 0 where there is no text.
-fn add_facts(facts: &mut Vec<TextFacts>, text: Option<&[u8]>) -> Result<u16, PoolFault>
+/// The place of the facts of the first text alike, where that stands at a lower index, which has its place already.
+fn place_alike(alike: &[u16], places: &[u16], index: u16) -> Option<u16>
+    ensures { result ≡ place_alike alike.now places.now index }
+{
+    match alike.get(usize::from(index)) {
+        Some(first) => places.get(usize::from(*first)).copied(),
+        None => None,
+    }
+}
+
+/// The place of the facts of a text: the one that facts of the same text have, or else one behind all others, where its own are put;
+/// 0 where there is no text.
+fn add_facts(
+    facts: &mut Vec<TextFacts>,
+    text: Option<&[u8]>,
+    before: Option<u16>,
+) -> Result<u16, PoolFault>
     requires { length facts.now.items < 65535 }
-    ensures ok { IfOk result (IsAdded (option_map seen_text text.entry) facts.old.items facts.new.items) }
+    ensures ok { IfOk result (IsAdded (option_map seen_text text.entry) before facts.old.items facts.new.items) }
     ensures err { IfErr result (λ e. e ≡ Memory) }
 {
     let Some(text) = text else {
         return Ok(0);
     };
-    let before = facts.len();
+    if let Some(place) = before {
+        return Ok(place);
+    }
+    let count = facts.len();
     facts.push(facts_of(text))?;
-    Ok(before as u16 + 1)
+    Ok(count as u16 + 1)
 }
 
-/// What is known of the text at each index, and where it stands. Each is examined once.
-fn all_known(alloc: Global, table: &Table<'_>) -> Result<(Vec<TextFacts>, Vec<u16>), PoolFault>
+/// What is known of the text at each index, and where it stands, by the least index of the text at each. Each text is examined once.
+fn all_known(
+    alloc: Global,
+    table: &Table<'_>,
+    alike: &[u16],
+) -> Result<(Vec<TextFacts>, Vec<u16>), PoolFault>
+    requires { IsInOrder table.now alike.now }
     ensures ok { IfOk result (λ x. AllKnown table.now x.0.items x.1.items) }
     ensures err { IfErr result (λ e. e ≡ Memory) }
 {
     let mut facts = Vec::new(alloc);
     let mut places = Vec::with_capacity(alloc, usize::from(table.count()))?;
     for index in 0..table.count() {
-        let place = add_facts(&mut facts, table.utf8(index))?;
+        let before = place_alike(alike, &places, index);
+        let place = add_facts(&mut facts, table.utf8(index), before)?;
         places.push(place)?;
     }
     facts.shrink_to_fit();
@@ -78,12 +103,17 @@ fn known_in(facts: &[TextFacts], place: u16) -> Option<TextFacts>
 }
 
 impl<'a> Known<'a> {
-    /// The table, with what is known of its texts.
-    pub(crate) fn new(alloc: Global, table: Table<'a>) -> Result<Known<'a>, PoolFault>
+    /// The table, with what is known of its texts, by the least index of the text at each index.
+    pub(crate) fn new(
+        alloc: Global,
+        table: Table<'a>,
+        alike: &[u16],
+    ) -> Result<Known<'a>, PoolFault>
+        requires { IsInOrder table alike.now }
         ensures ok { IfOk result (λ known. known ≡ table.entry) }
         ensures err { IfErr result (λ e. e ≡ Memory) }
     {
-        match all_known(alloc, &table) {
+        match all_known(alloc, &table, alike) {
             Ok((facts, places)) => Ok(Known {
                 table,
                 facts,

@@ -8,6 +8,7 @@ ghost use Rattle.jv_pool.specs.Constants.{Entry, pool_count, kind_at, at_index, 
 ghost use Rattle.jv_pool.specs.Rules.{KeepsRules, IsPool};
 ghost use Rattle.jv_pool.specs.Facts.{AreFacts};
 ghost use Rattle.jv_pool.specs.Seen.{seen, seen_text, seen_name_and_type, seen_member};
+ghost use Rattle.jv_pool.specs.Inside.Pools.{IsInside};
 ghost use Rattle.jv_pool.specs.declared.fault.PoolFault.TheVariants.{BadPool, Memory};
 
 use crate::alike::all_alike;
@@ -62,26 +63,23 @@ pub fn read_pool<'a>(alloc: Global, bytes: &'a [u8]) -> Result<(Pool<'a>, usize)
         → (pool : List Entry) (front rest : List ℕ) → bytes.now ≡ front ++ rest → IsPool front pool → ⊥ }
 {
     let (table, rest) = table_at(alloc, bytes)?;
-    let known = Known::new(alloc, table)?;
+    let alike = all_alike(alloc, &table)?;
+    let known = Known::new(alloc, table, &alike)?;
     if !keep_rules(&known) {
         return Err(PoolFault::BadPool);
     }
     let taken = bytes.len() - rest.len();
-    let pool = Pool::new(alloc, known)?;
+    let pool = Pool::new(known, alike);
     Ok((pool, taken))
 }
 
 impl<'a> Pool<'a> {
-    /// The pool of a table.
-    fn new(alloc: Global, known: Known<'a>) -> Result<Pool<'a>, PoolFault>
-        requires { All (KeepsRules known) known }
-        ensures ok { IfOk result (λ pool. pool ≡ known.entry) }
-        ensures err { IfErr result (λ e. e ≡ Memory) }
+    /// The pool of a table, with the least index of the text at each index.
+    fn new(known: Known<'a>, alike: Vec<u16>) -> Pool<'a>
+        requires { IsInside known alike.items }
+        ensures { result ≡ known.entry }
     {
-        match all_alike(alloc, known.table()) {
-            Ok(alike) => Ok(Pool { known, alike }),
-            Err(fault) => Err(fault),
-        }
+        Pool { known, alike }
     }
 
     /// Each constant keeps the rules of its kind (4.4). The call does nothing: a holder of a pool

@@ -1,6 +1,7 @@
 -- What is known of the texts of a table, and the rules of constants in terms of it.
 use Rattle.std.specs.Prelude.{◌≡◌, ⊤, ℕ, zero, suc, ◌+◌, ◌<◌, ◌≤◌, Bool, true, ◌&&◌, if◌then◌else◌, List, [], ◌∷◌, ◌++◌, length, Option, Some, None, slice_get, get_or, IsTrue}
 use Rattle.std.specs.Option.{IsSomeAnd}
+use Rattle.jv_format.specs.Format.{◌>>=◌}
 use Rattle.jv_text.specs.Name.{is_plain_name, is_method_name}
 use Rattle.jv_pool.specs.declared.constant.Constant.TheVariants.{NameAndType}
 use Rattle.jv_pool.specs.declared.facts.TextFacts.{TextFacts}
@@ -33,10 +34,15 @@ pub record KnownBelow (pool : List Entry) (count : ℕ) (facts : List TextFacts)
   pub within : (index : ℕ) → get_or places index 0 ≤ length facts
   pub known : (index : ℕ) → index < count → IsKnown (utf8_at pool index) (known_in facts (get_or places index 0))
 
--- facts of a text that joined behind the others, at this place, or none
-abbrev pub IsAdded : Option (List ℕ) → List TextFacts → List TextFacts → ℕ → Type 0
-IsAdded None before after place = (after ≡ before) × (place ≡ 0)
-IsAdded (Some text) before after place =
+-- the place that the first text alike has, where it is among these
+abbrev pub place_alike : List ℕ → List ℕ → ℕ → Option ℕ
+place_alike alike places index = slice_get alike index >>= slice_get places
+
+-- The place of a text's facts: none where there is no text; the one that facts of the same text have; or one behind the others, where they joined.
+abbrev pub IsAdded : Option (List ℕ) → Option ℕ → List TextFacts → List TextFacts → ℕ → Type 0
+IsAdded None known before after place = (after ≡ before) × (place ≡ 0)
+IsAdded (Some text) (Some known) before after place = (after ≡ before) × (place ≡ known)
+IsAdded (Some text) None before after place =
     (facts : TextFacts) × AreFacts text facts × (after ≡ before ++ facts ∷ []) × (place ≡ length before + 1)
 
 -- what is known of a method descriptor

@@ -33,5 +33,5 @@ pub returns-clause-ok : goal.returns-clause-ok
 returns-clause-ok c =
     let one = pool_taken c.args.bytes.now c.in_ok-table.rest.now c.in_ok-table.table (λ i. omega (arith, c.type_inv.bytes i)) c.in_ok-table.ensures
     (subst Kept c.in_ok-known.ensures.ok (c.keep_rules.ensures.0 c.if-not-keep_rules.false)) in
-    let same : c.in_ok-pool.pool ≡ c.in_ok-table.table = c.in_ok-pool.ensures.ok ∙ c.in_ok-known.ensures.ok in
+    let same : c.new-pool.result ≡ c.in_ok-table.table = c.new-pool.ensures ∙ c.in_ok-known.ensures.ok in
     subst (λ (p : List Entry). IsPool (take (length c.args.bytes.now - length c.in_ok-table.rest.now) c.args.bytes.now) p) (sym same) one.1
