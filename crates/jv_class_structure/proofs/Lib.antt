@@ -4,6 +4,7 @@ pub mod Forms
 pub mod AttributeLaws
 pub mod Handlers
 pub mod MemberLaws
+pub mod Packing
 pub mod Whole
 pub use Rattle.jv_pool.proofs.laws_of_format
 pub use Rattle.jv_pool.proofs.laws_of_text

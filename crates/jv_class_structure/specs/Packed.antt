@@ -1,5 +1,5 @@
 -- How a method's code is found in the contents of its Code attribute (JVMS 4.7.3).
-use Rattle.std.specs.Prelude.{ℕ, ◌*◌, Bool, true, false, List, [], Option, Some, None}
+use Rattle.std.specs.Prelude.{ℕ, ◌*◌, Bool, true, false, List, [], take, drop, Option, Some, None}
 use Rattle.jv_pool.specs.of_format.Format.{Format, ◌>>=◌, half, front}
 use Rattle.jv_pool.specs.of_format.Readers.{both, contents, found_as}
 use Rattle.jv_pool.specs.of_format.declared.handlers.Handler.{Handler}
@@ -33,6 +33,10 @@ code_with map f =
 -- the code that a Code attribute's contents hold, from max_stack on
 abbrev pub code_in : List ℕ → Option (List ℕ) → CodeSeen
 code_in bytes map = code_with map (front_found (code_front.read bytes))
+
+-- as many bytes as the number says, from this place on; fewer where they end before
+abbrev pub part_of : List ℕ → ℕ → ℕ → List ℕ
+part_of bytes place count = take count (drop place bytes)
 
 -- the value, where it is there
 abbrev pub there_if : {A : Type 0} → Bool → A → Option A

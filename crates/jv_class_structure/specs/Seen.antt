@@ -8,7 +8,7 @@ use Rattle.jv_class_structure.specs.declared.member.MethodCode.{MethodCode}
 use Rattle.jv_class_structure.specs.declared.member.Method.{Method}
 use Rattle.jv_pool.specs.of_format.Handlers.{handlers_of}
 use Rattle.jv_class_structure.specs.Parts.{FieldSeen, CodeSeen, MethodSeen}
-use Rattle.jv_class_structure.specs.Packed.{code_in, there_if}
+use Rattle.jv_class_structure.specs.Packed.{code_in, part_of, there_if}
 
 abbrev pub seen_index : ClassIndex → ℕ
 seen_index i = i.0
@@ -38,7 +38,8 @@ seen_method m = record {
   access_flags = m.access_flags.0;
   name_index = m.name.0;
   descriptor_index = m.descriptor.0;
-  code = there_if m.is_coded (code_in m.contents.now (there_if m.is_mapped m.stack_map.now));
+  code = there_if m.is_coded
+      (code_in m.contents.now (there_if m.is_mapped (part_of m.contents.now m.map_place m.map_length)));
 }
 
 abbrev pub seen_fields : List Field → List FieldSeen

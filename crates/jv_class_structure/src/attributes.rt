@@ -1,10 +1,11 @@
 //! Reads attributes (JVMS 4.7). An attribute that is not looked at is passed over by its length.
 
-ghost use Rattle.std.specs.Prelude.{◌≡◌, codes};
+ghost use Rattle.std.specs.Prelude.{◌≡◌, codes, IfSome};
 ghost use Rattle.jv_pool.specs.of_format.Format.{Finds, half};
 ghost use Rattle.jv_pool.specs.of_format.Readers.{contents, such_that};
 ghost use Rattle.jv_class_structure.specs.Attributes.{is_text_at, has_attribute_name, value_index};
-ghost use Rattle.jv_class_structure.specs.Inside.Kept.{seen_attribute, seen_map};
+ghost use Rattle.jv_class_structure.specs.Inside.Kept.{seen_attribute, seen_found};
+ghost use Rattle.jv_class_structure.specs.Inside.Within.{IsFoundIn, AreFoundIn};
 ghost use Rattle.jv_class_structure.specs.Inside.Reading.{is_utf8, attribute, one_more, value_kept, counted_values, values_kept, stack_map_kept, counted_stack_maps, stack_maps_kept};
 
 use jv_pool::Pool;
@@ -15,6 +16,13 @@ use jv_pool::of_format::{bytes_at, half_at, quad_at};
 pub(crate) struct Attribute<'a> {
     pub(crate) name: u16,
     pub(crate) info: &'a [u8],
+}
+
+/// The contents of a StackMapTable that was found, and all that stands behind them.
+#[derive(Clone, Copy)]
+pub(crate) struct FoundMap<'a> {
+    pub(crate) info: &'a [u8],
+    pub(crate) behind: &'a [u8],
 }
 
 /// Whether the index names a text.
@@ -171,14 +179,19 @@ pub(crate) fn values_at<'a>(
 // ---- a code's
 
 /// The stack map table that the attribute at the front is, and what follows it.
-fn stack_map_at<'a>(pool: &Pool<'_>, bytes: &'a [u8]) -> Option<(Option<&'a [u8]>, &'a [u8])>
-    ensures { Finds (stack_map_kept pool.now) bytes.now (λ x. (seen_map x.0, x.1.now)) result }
+fn stack_map_at<'a>(pool: &Pool<'_>, bytes: &'a [u8]) -> Option<(Option<FoundMap<'a>>, &'a [u8])>
+    ensures found { Finds (stack_map_kept pool.now) bytes.now (λ x. (seen_found x.0, x.1.now)) result }
+    ensures there { IfSome result (λ x. AreFoundIn bytes.now x.0 x.1.now) }
 {
     let Some((attribute, rest)) = attribute_at(pool, bytes) else {
         return None;
     };
     if is_stack_map_table(pool, attribute) {
-        Some((Some(attribute.info), rest))
+        let found = FoundMap {
+            info: attribute.info,
+            behind: rest,
+        };
+        Some((Some(found), rest))
     } else {
         Some((None, rest))
     }
@@ -189,8 +202,9 @@ fn stack_maps_listed<'a>(
     pool: &Pool<'_>,
     count: u16,
     bytes: &'a [u8],
-) -> Option<(Option<&'a [u8]>, &'a [u8])>
-    ensures { Finds (counted_stack_maps pool.now count) bytes.now (λ x. (seen_map x.0, x.1.now)) result }
+) -> Option<(Option<FoundMap<'a>>, &'a [u8])>
+    ensures found { Finds (counted_stack_maps pool.now count) bytes.now (λ x. (seen_found x.0, x.1.now)) result }
+    ensures there { IfSome result (λ x. IsFoundIn bytes.now x.0) }
 {
     let mut found = None;
     let mut rest = bytes;
@@ -211,8 +225,9 @@ fn stack_maps_listed<'a>(
 pub(crate) fn stack_maps_at<'a>(
     pool: &Pool<'_>,
     bytes: &'a [u8],
-) -> Option<(Option<&'a [u8]>, &'a [u8])>
-    ensures { Finds (stack_maps_kept pool.now) bytes.now (λ x. (seen_map x.0, x.1.now)) result }
+) -> Option<(Option<FoundMap<'a>>, &'a [u8])>
+    ensures found { Finds (stack_maps_kept pool.now) bytes.now (λ x. (seen_found x.0, x.1.now)) result }
+    ensures there { IfSome result (λ x. IsFoundIn bytes.now x.0) }
 {
     let Some((count, rest)) = half_at(bytes) else {
         return None;

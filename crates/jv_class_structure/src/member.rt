@@ -2,7 +2,7 @@
 
 ghost use Rattle.std.specs.Prelude.{◌≡◌, is_some};
 ghost use Rattle.std.specs.Option.{option_map};
-ghost use Rattle.jv_class_structure.specs.Packed.{there_if};
+ghost use Rattle.jv_class_structure.specs.Packed.{part_of, there_if};
 ghost use Rattle.jv_class_structure.specs.Seen.{seen_code, seen_method};
 ghost use Rattle.jv_class_structure.specs.Inside.Kept.{seen_map};
 
@@ -42,8 +42,12 @@ pub struct MethodCode<'a> {
 pub(crate) struct PackedCode<'a> {
     /// Its contents, from max_stack on.
     pub(crate) contents: &'a [u8],
-    /// What its StackMapTable holds; `None` where it has none.
-    pub(crate) stack_map_table: Option<&'a [u8]>,
+    /// Whether it has a StackMapTable.
+    pub(crate) is_mapped: bool,
+    /// Where among these the contents of the StackMapTable begin.
+    pub(crate) map_place: u32,
+    /// How many bytes those are.
+    pub(crate) map_length: u32,
 }
 
 /// A method (4.6). Of its code the bytes that hold it are kept, and it is read from them where it
@@ -59,17 +63,32 @@ pub struct Method<'a> {
     pub(crate) is_mapped: bool,
     /// The contents of its Code attribute, from max_stack on (4.7.3).
     pub(crate) contents: &'a [u8],
-    /// The contents of the StackMapTable (4.7.4).
-    pub(crate) stack_map: &'a [u8],
+    /// Where among these the contents of the StackMapTable (4.7.4) begin.
+    pub(crate) map_place: u32,
+    /// How many bytes those are.
+    pub(crate) map_length: u32,
 }
 
-const _: () = prove!(size_of::<Method<'static>>() <= 40);
+const _: () = prove!(size_of::<Method<'static>>() <= 32);
 
-/// The bytes, where they are there.
-fn there_if(is_there: bool, bytes: &[u8]) -> Option<&[u8]>
-    ensures { seen_map result ≡ there_if is_there bytes.now }
+/// As many bytes as the number says, from this place on; fewer where they end before.
+fn part_of(bytes: &[u8], place: u32, count: u32) -> &[u8]
+    ensures { result.now ≡ part_of bytes.now place count }
 {
-    if is_there { Some(bytes) } else { None }
+    let (_, rest) = bytes.split_at((place as usize).min(bytes.len()));
+    let (part, _) = rest.split_at((count as usize).min(rest.len()));
+    part
+}
+
+/// The contents of the StackMapTable that stand there, where there is one.
+fn stack_map_in(contents: &[u8], is_mapped: bool, place: u32, count: u32) -> Option<&[u8]>
+    ensures { seen_map result ≡ there_if is_mapped (part_of contents.now place count) }
+{
+    if is_mapped {
+        Some(part_of(contents, place, count))
+    } else {
+        None
+    }
 }
 
 impl<'a> Method<'a> {
@@ -79,7 +98,9 @@ impl<'a> Method<'a> {
         ensures { option_map seen_code result ≡ (seen_method self.now).code }
     {
         if self.is_coded {
-            Some(code_in(self.contents, there_if(self.is_mapped, self.stack_map)))
+            let contents = self.contents;
+            let map = stack_map_in(contents, self.is_mapped, self.map_place, self.map_length);
+            Some(code_in(contents, map))
         } else {
             None
         }

@@ -1,16 +1,19 @@
 //! Reads fields and methods (JVMS 4.5, 4.6, 4.7.3).
 
-ghost use Rattle.std.specs.Prelude.{◌≡◌};
+ghost use Rattle.std.specs.Prelude.{◌≡◌, ◌<◌, length, IfSome};
 ghost use Rattle.jv_pool.specs.of_format.Format.{Finds, half};
 ghost use Rattle.jv_pool.specs.of_format.Readers.{both, enclosed, contents, such_that};
 ghost use Rattle.jv_pool.specs.of_format.Handlers.{handlers_of};
 ghost use Rattle.jv_class_structure.specs.Flags.{has, acc_static};
 ghost use Rattle.jv_class_structure.specs.Seen.{seen_field, seen_code, seen_method};
 ghost use Rattle.jv_class_structure.specs.Packed.{handlers_kept, code_front, code_in};
-ghost use Rattle.jv_class_structure.specs.Inside.Kept.{seen_map, unpacked, seen_codes};
+ghost use Rattle.jv_class_structure.specs.Inside.Kept.{seen_map, seen_found, unpacked, seen_codes};
+ghost use Rattle.jv_class_structure.specs.Inside.Within.{IsFoundIn};
 ghost use Rattle.jv_class_structure.specs.Inside.Reading.{three, values_kept, field_kept, code_text, stack_maps_kept, code_kept, is_code, is_utf8, held_kept, method_attribute_kept, counted_codes, codes_kept, method_seen_of, method_kept};
 
-use crate::attributes::{contents_at, is_text, is_utf8, one_more, stack_maps_at, values_at};
+use crate::attributes::{
+    FoundMap, contents_at, is_text, is_utf8, one_more, stack_maps_at, values_at,
+};
 use crate::flags::{FieldFlags, MethodFlags};
 use crate::member::{Field, Method, MethodCode, PackedCode};
 use jv_pool::of_format::{ExceptionTable, bytes_at, half_at};
@@ -155,8 +158,9 @@ pub(crate) fn code_in<'a>(bytes: &'a [u8], stack_map_table: Option<&'a [u8]>) ->
 fn tables_at<'a>(
     pool: &Pool<'_>,
     bytes: &'a [u8],
-) -> Option<((ExceptionTable<'a>, Option<&'a [u8]>), &'a [u8])>
-    ensures { Finds (both handlers_kept (stack_maps_kept pool.now)) bytes.now (λ x. ((handlers_of x.0.0, seen_map x.0.1), x.1.now)) result }
+) -> Option<((ExceptionTable<'a>, Option<FoundMap<'a>>), &'a [u8])>
+    ensures found { Finds (both handlers_kept (stack_maps_kept pool.now)) bytes.now (λ x. ((handlers_of x.0.0, seen_found x.0.1), x.1.now)) result }
+    ensures there { IfSome result (λ x. IsFoundIn bytes.now x.0.1) }
 {
     let Some((handlers, rest)) = handlers_at(bytes) else {
         return None;
@@ -167,41 +171,54 @@ fn tables_at<'a>(
     Some(((handlers, map), rest))
 }
 
-/// What a Code attribute holds, and what follows it.
-fn code_at<'a>(pool: &Pool<'_>, bytes: &'a [u8]) -> Option<(MethodCode<'a>, &'a [u8])>
-    ensures { Finds (code_kept pool.now) bytes.now (λ x. (seen_code x.0, x.1.now)) result }
+/// The stack map table of the code that a Code attribute holds, and what follows that code.
+fn code_at<'a>(pool: &Pool<'_>, bytes: &'a [u8]) -> Option<(Option<FoundMap<'a>>, &'a [u8])>
+    ensures found { Finds (code_kept pool.now) bytes.now (λ x. (code_in bytes.now (seen_found x.0), x.1.now)) result }
+    ensures there { IfSome result (λ x. IsFoundIn bytes.now x.0) }
 {
-    let Some(((max_stack, max_locals), rest)) = limits_at(bytes) else {
+    let Some((_, rest)) = limits_at(bytes) else {
         return None;
     };
-    let Some((code, rest)) = code_text_at(rest) else {
+    let Some((_, rest)) = code_text_at(rest) else {
         return None;
     };
-    let Some(((exception_table, stack_map_table), rest)) = tables_at(pool, rest) else {
+    let Some(((_, map), rest)) = tables_at(pool, rest) else {
         return None;
     };
-    let code = MethodCode {
-        max_stack,
-        max_locals,
-        code,
-        exception_table,
-        stack_map_table,
-    };
-    Some((code, rest))
+    Some((map, rest))
+}
+
+/// The code that these contents of a Code attribute hold, by where its stack map table was found among them.
+fn packed_in<'a>(contents: &'a [u8], map: Option<FoundMap<'a>>) -> PackedCode<'a>
+    requires small { length contents.now < 4294967296 }
+    requires there { IsFoundIn contents.now map }
+    ensures { unpacked result ≡ code_in contents.now (seen_found map.entry) }
+{
+    match map {
+        Some(FoundMap { info, behind }) => PackedCode {
+            contents,
+            is_mapped: true,
+            map_place: (contents.len() - behind.len() - info.len()) as u32,
+            map_length: info.len() as u32,
+        },
+        None => PackedCode {
+            contents,
+            is_mapped: false,
+            map_place: 0,
+            map_length: 0,
+        },
+    }
 }
 
 /// What a Code attribute holds, with the bytes that hold it, and what follows it.
 fn packed_code_at<'a>(pool: &Pool<'_>, bytes: &'a [u8]) -> Option<(PackedCode<'a>, &'a [u8])>
+    requires { length bytes.now < 4294967296 }
     ensures { Finds (code_kept pool.now) bytes.now (λ x. (unpacked x.0, x.1.now)) result }
 {
-    let Some((code, rest)) = code_at(pool, bytes) else {
+    let Some((map, rest)) = code_at(pool, bytes) else {
         return None;
     };
-    let packed = PackedCode {
-        contents: bytes,
-        stack_map_table: code.stack_map_table,
-    };
-    Some((packed, rest))
+    Some((packed_in(bytes, map), rest))
 }
 
 /// What a Code attribute holds behind its length, which it fills, and what follows.
@@ -317,35 +334,16 @@ fn method_with(flags: u16, name: u16, descriptor: u16, code: Option<PackedCode<'
     let access_flags = MethodFlags(flags);
     let name = Utf8Index(name);
     let descriptor = Utf8Index(descriptor);
-    let nothing = b"".as_slice();
     match code {
-        Some(
-            PackedCode {
-                contents,
-                stack_map_table: Some(stack_map),
-            },
-        ) => Method {
+        Some(code) => Method {
             access_flags,
             name,
             descriptor,
             is_coded: true,
-            is_mapped: true,
-            contents,
-            stack_map,
-        },
-        Some(
-            PackedCode {
-                contents,
-                stack_map_table: None,
-            },
-        ) => Method {
-            access_flags,
-            name,
-            descriptor,
-            is_coded: true,
-            is_mapped: false,
-            contents,
-            stack_map: nothing,
+            is_mapped: code.is_mapped,
+            contents: code.contents,
+            map_place: code.map_place,
+            map_length: code.map_length,
         },
         None => Method {
             access_flags,
@@ -353,8 +351,9 @@ fn method_with(flags: u16, name: u16, descriptor: u16, code: Option<PackedCode<'
             descriptor,
             is_coded: false,
             is_mapped: false,
-            contents: nothing,
-            stack_map: nothing,
+            contents: b"".as_slice(),
+            map_place: 0,
+            map_length: 0,
         },
     }
 }
