@@ -28,9 +28,9 @@ pub record MarkedKeys : Type 0 where
 abbrev pub cell_of : List (List ℕ) → ℕ → ℕ → ℕ
 cell_of rows slot class = get_or (get_or rows slot []) class 0
 
--- the row of a key, of so many, by other bits than those that tell its slot among a class's members
+-- the row of a key, of so many, whatever their number, by other bits than those that tell its slot among a class's members
 abbrev pub row_of : ℕ → Key → ℕ
-row_of size key = slot_of size (key / 2 ^ 20)
+row_of size key = key / 2 ^ 20 % size
 
 abbrev pub is_marked : MarkedKeys → Key → ℕ → Bool
 is_marked marks key class = has_print (print_of key) (cell_of marks.rows (row_of (length marks.rows) key) class)

@@ -35,7 +35,7 @@ pub struct ClassTable<'a> {
     list: ClassList<'a>,
     supers: Vec<Vec<Option<usize>>>,
     direct: Vec<Option<usize>>,
-    chains: Vec<Vec<usize>>,
+    chains: Vec<Vec<u16>>,
     above: Relation,
     superclasses: Relation,
     loadable: Vec<bool>,
@@ -79,7 +79,7 @@ impl<'a> ClassTable<'a> {
     ///
     /// # Errors
     ///
-    /// Where the host had no memory for it.
+    /// Where the host had no memory for it; there is none for a superclass whose number has no room in two bytes.
     pub fn of(alloc: Global, list: ClassList<'a>) -> Result<ClassTable<'a>, AllocError>
         requires { SystemStandsAlone list }
         ensures { IfOk result (λ t. t ≡ list.entry) }
@@ -168,8 +168,8 @@ impl<'a> ClassTable<'a> {
     }
 
     /// The numbers of the superclasses of a class that are there, the direct one first. A chain that ends in a circle is followed
-    /// as often as there are classes. It takes no memory, and one look.
-    pub fn superclasses(&self, number: usize) -> &[usize]
+    /// as often as there are classes. It takes no memory, and one look; each number is kept in two bytes.
+    pub fn superclasses(&self, number: usize) -> &[u16]
         requires { number < length self.now }
         ensures found { AreSuperclassesOf self.now number result.now }
         ensures numbers { All (λ k. k < length self.now) result.now }

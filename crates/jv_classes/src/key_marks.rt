@@ -4,7 +4,6 @@ ghost use Rattle.std.specs.Prelude.{◌≡◌, ◌<◌, ℕ, true, false, IfOk, 
 ghost use Rattle.jv_classes.specs.Marks.{AreKept, has_print, is_marked, print_of, row_of, with_print};
 
 use crate::key_row::KeyRow;
-use crate::members::slot_of;
 use std::alloc::{AllocError, Global};
 use std::marker::Model;
 
@@ -38,13 +37,13 @@ impl Drop for KeyMarks {
     }
 }
 
-/// How many rows there are for so many members of so many classes, a power of two: eight for each member of a class, so that few
-/// bytes tell of several prints.
+/// How many rows there are for so many members of so many classes: four for each member of a class, which is four bytes for each
+/// member of all of them, so that few bytes tell of several prints.
 fn rows_for(members: usize, classes: usize) -> usize
     ensures { 0 < result }
 {
-    let wanted = members.saturating_mul(8) / classes.max(1);
-    wanted.clamp(LEAST, MOST).next_power_of_two()
+    let wanted = members.saturating_mul(4) / classes.max(1);
+    wanted.clamp(LEAST, MOST)
 }
 
 /// The print of a key.
@@ -60,7 +59,7 @@ fn row_of(size: usize, key: u64) -> usize
     ensures row { result ≡ row_of size key }
     ensures within { result < size }
 {
-    slot_of(size, key >> 20)
+    (key >> 20) as usize % size
 }
 
 /// What a byte tells where a print joins it.

@@ -15,6 +15,7 @@ use crate::law::short_ways;
 use crate::list::ClassList;
 use crate::loaded_class::LoadedClass;
 use crate::relation::Relation;
+use crate::short::short_number;
 use crate::supers::{stands_itself, superclass_of, supers_of};
 use jv_meaning_world::loadable_by_all;
 use std::alloc::{AllocError, Global};
@@ -50,13 +51,13 @@ pub(crate) fn direct_superclasses(
 }
 
 /// The numbers of the superclasses of a class that are there, the direct one first. A chain that ends in a circle is followed as
-/// often as there are classes.
+/// often as there are classes. There is no memory for a number that has no room in two bytes.
 fn chain_of(
     alloc: Global,
     classes: &[LoadedClass<'_>],
     direct: &[Option<usize>],
     number: usize,
-) -> Result<Vec<usize>, AllocError>
+) -> Result<Vec<u16>, AllocError>
     requires number { number < length classes.now }
     requires direct { direct.now ≡ all_superclass_numbers classes.now }
     ensures { IfOk result (λ chain. IsChain classes.now number chain.items) }
@@ -67,24 +68,26 @@ fn chain_of(
         let Some(superclass) = next else {
             return Ok(chain);
         };
-        chain.push(superclass)?;
+        chain.push(short_number(superclass)?)?;
         next = direct[superclass];
     }
     Ok(chain)
 }
 
-/// The numbers of the superclasses of each class.
+/// The numbers of the superclasses of each class, in two bytes each, with no more room than there are of them.
 pub(crate) fn all_chains(
     alloc: Global,
     classes: &[LoadedClass<'_>],
     direct: &[Option<usize>],
-) -> Result<Vec<Vec<usize>>, AllocError>
+) -> Result<Vec<Vec<u16>>, AllocError>
     requires { direct.now ≡ all_superclass_numbers classes.now }
     ensures { IfOk result (λ chains. AreChains classes.now (length classes.now) chains.items) }
 {
     let mut chains = Vec::new(alloc);
     for number in 0..classes.len() {
-        chains.push(chain_of(alloc, classes, direct, number)?)?;
+        let mut chain = chain_of(alloc, classes, direct, number)?;
+        chain.shrink_to_fit();
+        chains.push(chain)?;
     }
     Ok(chains)
 }

@@ -17,7 +17,7 @@ fn superclass_alike(table: &ClassTable<'_>, from: usize, called: Place) -> Optio
     ensures place { IfSome result (IsMethodPlace table.now) }
 {
     for superclass in table.superclasses(from) {
-        if let Some(place) = alike_in(table, *superclass, called) {
+        if let Some(place) = alike_in(table, *superclass as usize, called) {
             return Some(place);
         }
     }

@@ -46,7 +46,7 @@ pub(crate) fn enumerated(
     alloc: Global,
     table: &ClassTable<'_>,
     class: usize,
-) -> Result<Vec<usize>, AllocError>
+) -> Result<Vec<u16>, AllocError>
     requires { class < length table.now }
     ensures found { IfOk result (λ given. AreEnumerated table.now class given.items) }
     ensures numbers { IfOk result (λ given. AreNumbers table.now given.items) }

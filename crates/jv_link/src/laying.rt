@@ -65,7 +65,11 @@ fn layout_in(alloc: Global, table: &ClassTable<'_>, class: usize) -> Result<Layo
         words: 0,
     };
     for step in 0..numbers.len() {
-        add_class(table, numbers[numbers.len() - 1 - step], &mut layout)?;
+        add_class(
+            table,
+            numbers[numbers.len() - 1 - step] as usize,
+            &mut layout,
+        )?;
     }
     add_class(table, class, &mut layout)?;
     Ok(layout)

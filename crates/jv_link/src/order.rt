@@ -59,7 +59,7 @@ fn add_if_default(
 /// Puts those with such a method behind others.
 fn add_defaults(
     table: &ClassTable<'_>,
-    interfaces: &[usize],
+    interfaces: &[u16],
     order: &mut Vec<usize>,
 ) -> Result<(), AllocError>
     requires interfaces { AreNumbers table.now interfaces.now }
@@ -68,7 +68,7 @@ fn add_defaults(
     ensures numbers { AreNumbers table.now order.new.items }
 {
     for interface in interfaces {
-        add_if_default(table, *interface, order)?;
+        add_if_default(table, *interface as usize, order)?;
     }
     Ok(())
 }

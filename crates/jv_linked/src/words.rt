@@ -136,7 +136,7 @@ fn inherited_words(
 {
     let mut words = 0;
     for superclass in table.superclasses(number) {
-        words = sum(words, own[*superclass])?;
+        words = sum(words, own[*superclass as usize])?;
     }
     Ok(words)
 }

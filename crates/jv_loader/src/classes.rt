@@ -29,7 +29,7 @@ use std::marker::Model;
 pub struct Classes<'a> {
     table: ClassTable<'a>,
     verdicts: Vec<Option<LoadVerdict>>,
-    searches: Vec<Vec<usize>>,
+    searches: Vec<Vec<u16>>,
 }
 
 impl<'a> Model for Classes<'a> {
@@ -73,7 +73,7 @@ impl<'a> Classes<'a> {
     ///
     /// # Errors
     ///
-    /// Where the host had no memory for them; nothing is then kept.
+    /// Where the host had no memory for them, as there is none for a class whose number has no room in two bytes; nothing is then kept.
     pub fn load(
         alloc: Global,
         state: RandomState,
@@ -150,8 +150,8 @@ impl<'a> Classes<'a> {
         self.verdicts[file]
     }
 
-    /// The classes that a search for a member from a class meets, in its order (JVMS 5.4.3.2).
-    pub fn searched(&self, class: usize) -> &[usize]
+    /// The classes that a search for a member from a class meets, in its order (JVMS 5.4.3.2); each number is kept in two bytes.
+    pub fn searched(&self, class: usize) -> &[u16]
         requires { class < length self.now.world }
         ensures { IsSearch self.now.world class result.now }
     {

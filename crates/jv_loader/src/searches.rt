@@ -7,11 +7,11 @@ use jv_classes::ClassTable;
 use jv_lookups::searched_from;
 use std::alloc::{AllocError, Global};
 
-/// The classes that a search for a member from each class meets, in its order (JVMS 5.4.3.2).
+/// The classes that a search for a member from each class meets, in its order (JVMS 5.4.3.2), by numbers of two bytes.
 pub(crate) fn searches_of(
     alloc: Global,
     table: &ClassTable<'_>,
-) -> Result<Vec<Vec<usize>>, AllocError>
+) -> Result<Vec<Vec<u16>>, AllocError>
     ensures { IfOk result (λ searches. AreSearches table.now (lists_of searches.items)) }
 {
     let mut searches = Vec::new(alloc);

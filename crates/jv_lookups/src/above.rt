@@ -65,24 +65,24 @@ fn overrides_final_of(
 }
 
 /// The superclasses up to the last one that is marked.
-pub(crate) fn up_to_marked<'b>(marks: &[bool], chain: &'b [usize]) -> &'b [usize]
+pub(crate) fn up_to_marked<'b>(marks: &[bool], chain: &'b [u16]) -> &'b [u16]
     requires { All (λ number. number < length marks.now) chain.now }
     ensures { IsUpToMarked marks.now chain.now result.now }
 {
     let mut end = chain.len();
-    while end > 0 && !marks[chain[end - 1]] {
+    while end > 0 && !marks[chain[end - 1] as usize] {
         end -= 1;
     }
     &chain[..end]
 }
 
 /// The superclasses up to the last one that the row marks.
-fn up_to_marked_in<'b>(row: &KeyRow<'_>, chain: &'b [usize]) -> &'b [usize]
+fn up_to_marked_in<'b>(row: &KeyRow<'_>, chain: &'b [u16]) -> &'b [u16]
     requires { All (λ number. number < length row.now) chain.now }
     ensures { IsUpToMarked row.now chain.now result.now }
 {
     let mut end = chain.len();
-    while end > 0 && !row.is_marked(chain[end - 1]) {
+    while end > 0 && !row.is_marked(chain[end - 1] as usize) {
         end -= 1;
     }
     &chain[..end]
@@ -102,7 +102,7 @@ fn mark_if(is_wanted: bool, marks: &mut Marks, number: usize)
 
 /// Asks for each of these superclasses that is in one package with a class that the row marks, itself or one further up. `marks` is
 /// room for packages.
-fn ask(packages: &[usize], row: &KeyRow<'_>, marks: &mut Marks, asked: &mut Marks, chain: &[usize])
+fn ask(packages: &[usize], row: &KeyRow<'_>, marks: &mut Marks, asked: &mut Marks, chain: &[u16])
     requires row { All (λ number. number < length row.now) chain.now }
     requires packages { All (λ number. number < length packages.now) chain.now }
     requires marks { All (λ number. get_or packages.now number 0 < length marks.old) chain.now }
@@ -116,7 +116,7 @@ fn ask(packages: &[usize], row: &KeyRow<'_>, marks: &mut Marks, asked: &mut Mark
     let mut end = chain.len();
     while end > 0 {
         end -= 1;
-        let place = chain[end];
+        let place = chain[end] as usize;
         let number = packages[place];
         mark_if(row.is_marked(place), marks, number);
         mark_if(marks.is_marked(number), asked, place);
@@ -179,7 +179,7 @@ fn overrides_final_above(
     marks: &mut Marks,
     asked: &mut Marks,
     of: usize,
-    chain: &[usize],
+    chain: &[u16],
     method: &Member<'_>,
     name: &Text<'_>,
     descriptor: &Text<'_>,
@@ -201,10 +201,10 @@ fn overrides_final_above(
     marks.clear();
     marks.mark(packages[of]);
     for place in chain {
-        let number = packages[*place];
+        let number = packages[*place as usize];
         if overrides_final_if(
-            is_looked_at(row, asked, marks, many, number, *place),
-            &classes[*place],
+            is_looked_at(row, asked, marks, many, number, *place as usize),
+            &classes[*place as usize],
             number,
             method,
             name,
@@ -225,7 +225,7 @@ fn overrides_final_if_marked(
     marks: &mut Marks,
     asked: &mut Marks,
     of: usize,
-    chain: &[usize],
+    chain: &[u16],
     method: &Member<'_>,
     name: &Text<'_>,
     descriptor: &Text<'_>,
@@ -259,7 +259,7 @@ pub(crate) fn breaks_final_by(
     marks: &mut Marks,
     asked: &mut Marks,
     of: usize,
-    chain: &[usize],
+    chain: &[u16],
     method: &Member<'_>,
     name: &Text<'_>,
     descriptor: &Text<'_>,

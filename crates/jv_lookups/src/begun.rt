@@ -4,12 +4,13 @@ ghost use Rattle.std.specs.Prelude.{◌≡◌, ◌<◌, ◌++◌, ◌∷◌, [],
 ghost use Rattle.std.specs.List.{All, list_any};
 ghost use Rattle.jv_lookups.specs.Inside.Numbers.{numbers_below};
 
+use jv_classes::short_number;
 use std::alloc::{AllocError, Global};
 use std::marker::Model;
 
-/// Numbers below a size in the order in which they came, with a mark for each.
+/// Numbers below a size in the order in which they came, in two bytes each, with a mark for each.
 pub struct Begun {
-    order: Vec<usize>,
+    order: Vec<u16>,
     marks: Vec<bool>,
 }
 
@@ -58,22 +59,26 @@ impl Begun {
     ///
     /// # Errors
     ///
-    /// Where the host had no memory for it; nothing has then changed.
+    /// Where the host had no memory for it, as there is none for a number that has no room in two bytes; nothing has then changed.
     pub fn add(&mut self, number: usize) -> Result<(), AllocError>
         requires { number < self.old.size }
         ensures ok { OnOk result (self.new ≡ numbers_below self.old.size (self.old.numbers ++ number ∷ [])) }
         ensures refused { OnErr result (self.new ≡ self.old) }
     {
-        self.order.push(number)?;
+        self.order.push(short_number(number)?)?;
         self.marks[number] = true;
         Ok(())
     }
 
-    /// The numbers in the order in which they came.
-    pub fn numbers(self) -> Vec<usize>
+    /// The numbers in the order in which they came, with no more room than there are of them.
+    pub fn numbers(self) -> Vec<u16>
         ensures { result.items ≡ self.numbers }
     {
-        let Begun { order, marks: _ } = self;
+        let Begun {
+            mut order,
+            marks: _,
+        } = self;
+        order.shrink_to_fit();
         order
     }
 }

@@ -50,7 +50,7 @@ fn marked_field(
 /// (JVMS 5.4.3.2). It costs a mark for each class, and a look at those that may declare such a field.
 pub fn lookup_field(
     table: &ClassTable<'_>,
-    searched: &[usize],
+    searched: &[u16],
     name: &Text<'_>,
     descriptor: &Text<'_>,
 ) -> Option<Place>
@@ -60,7 +60,7 @@ pub fn lookup_field(
 {
     let marks = table.marks_of_field(name, descriptor);
     for class in searched {
-        if let Some(place) = marked_field(table, &marks, *class, name, descriptor) {
+        if let Some(place) = marked_field(table, &marks, *class as usize, name, descriptor) {
             return Some(place);
         }
     }

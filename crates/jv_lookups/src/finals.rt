@@ -55,12 +55,12 @@ fn is_named(class: &LoadedClass<'_>)
 }
 
 /// So have the classes with these numbers.
-fn are_named(classes: &[LoadedClass<'_>], chain: &[usize])
+fn are_named(classes: &[LoadedClass<'_>], chain: &[u16])
     requires { AreNumbers classes.now chain.now }
     ensures { AreNamed (classes_at classes.now chain.now) }
 {
     for place in chain {
-        is_named(&classes[*place]);
+        is_named(&classes[*place as usize]);
     }
 }
 
@@ -72,7 +72,7 @@ fn some_overrides_final(
     marks: &mut Marks,
     asked: &mut Marks,
     of: usize,
-    chain: &[usize],
+    chain: &[u16],
 ) -> bool
     requires of { of < length classes.now }
     requires chain { AreNumbers classes.now chain.now }
@@ -121,7 +121,7 @@ pub fn breaks_final(
     marks: &mut Marks,
     asked: &mut Marks,
     of: usize,
-    chain: &[usize],
+    chain: &[u16],
 ) -> bool
     requires of { of < length classes.now }
     requires chain { AreNumbers classes.now chain.now }

@@ -24,7 +24,7 @@ fn superclass_method(
 {
     let marks = table.marks_of_method(name, descriptor);
     for superclass in table.superclasses(from) {
-        if let Some(place) = marked_method(table, &marks, *superclass, name, descriptor) {
+        if let Some(place) = marked_method(table, &marks, *superclass as usize, name, descriptor) {
             return Some(place);
         }
     }
@@ -54,7 +54,7 @@ pub fn class_method(
 fn lookup_class_method(
     table: &ClassTable<'_>,
     from: usize,
-    searched: &[usize],
+    searched: &[u16],
     name: &Text<'_>,
     descriptor: &Text<'_>,
 ) -> Option<Place>
@@ -107,7 +107,7 @@ pub fn method_of_object(table: &ClassTable<'_>, name: &[u8], descriptor: &[u8]) 
 fn lookup_interface_method(
     table: &ClassTable<'_>,
     from: usize,
-    searched: &[usize],
+    searched: &[u16],
     name: &Text<'_>,
     descriptor: &Text<'_>,
 ) -> Option<Place>
@@ -130,7 +130,7 @@ fn lookup_interface_method(
 pub fn lookup_method(
     table: &ClassTable<'_>,
     from: usize,
-    searched: &[usize],
+    searched: &[u16],
     name: &Text<'_>,
     descriptor: &Text<'_>,
 ) -> Option<Place>

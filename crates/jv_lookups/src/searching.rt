@@ -67,12 +67,12 @@ fn go_on(
 ///
 /// # Errors
 ///
-/// Where the host had no memory for them.
+/// Where the host had no memory for them, as there is none for a class whose number has no room in two bytes.
 pub fn searched_from(
     alloc: Global,
     table: &ClassTable<'_>,
     number: usize,
-) -> Result<Vec<usize>, AllocError>
+) -> Result<Vec<u16>, AllocError>
     requires { number < length table.now }
     ensures found { IfOk result (λ searched. AreSearched table.now number searched.items) }
     ensures numbers { IfOk result (λ searched. AreNumbers table.now searched.items) }

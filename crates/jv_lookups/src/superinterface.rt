@@ -67,7 +67,7 @@ fn first_candidate(
     table: &ClassTable<'_>,
     marks: &KeyRow<'_>,
     from: usize,
-    searched: &[usize],
+    searched: &[u16],
     name: &Text<'_>,
     descriptor: &Text<'_>,
 ) -> Option<Place>
@@ -78,7 +78,7 @@ fn first_candidate(
     ensures place { IfSome result (IsMethodPlace table.now) }
 {
     for class in searched {
-        if let Some(place) = candidate(table, marks, from, *class, name, descriptor) {
+        if let Some(place) = candidate(table, marks, from, *class as usize, name, descriptor) {
             return Some(place);
         }
     }
@@ -113,7 +113,7 @@ fn has_below(
     table: &ClassTable<'_>,
     marks: &KeyRow<'_>,
     from: usize,
-    searched: &[usize],
+    searched: &[u16],
     class: usize,
     name: &Text<'_>,
     descriptor: &Text<'_>,
@@ -130,7 +130,7 @@ fn has_below(
         return above[class];
     }
     for other in searched {
-        if is_below_candidate(table, marks, from, class, *other, name, descriptor) {
+        if is_below_candidate(table, marks, from, class, *other as usize, name, descriptor) {
             return true;
         }
     }
@@ -150,7 +150,7 @@ fn specific(
     table: &ClassTable<'_>,
     marks: &KeyRow<'_>,
     from: usize,
-    searched: &[usize],
+    searched: &[u16],
     class: usize,
     name: &Text<'_>,
     descriptor: &Text<'_>,
@@ -184,7 +184,7 @@ fn specifics(
     table: &ClassTable<'_>,
     marks: &KeyRow<'_>,
     from: usize,
-    searched: &[usize],
+    searched: &[u16],
     name: &Text<'_>,
     descriptor: &Text<'_>,
     above: &[bool],
@@ -199,7 +199,14 @@ fn specifics(
     let mut found = None;
     for class in searched {
         if let Some(place) = specific(
-            table, marks, from, searched, *class, name, descriptor, above,
+            table,
+            marks,
+            from,
+            searched,
+            *class as usize,
+            name,
+            descriptor,
+            above,
         ) {
             if found.is_some() {
                 return Defaults::Several;
@@ -253,7 +260,7 @@ fn mark_above_candidates(
     table: &ClassTable<'_>,
     marks: &KeyRow<'_>,
     from: usize,
-    searched: &[usize],
+    searched: &[u16],
     name: &Text<'_>,
     descriptor: &Text<'_>,
     above: &mut [bool],
@@ -266,7 +273,7 @@ fn mark_above_candidates(
     ensures marked { MarksAboveCandidates table.now from searched.now name.now descriptor.now above.old above.new }
 {
     for class in searched {
-        mark_above_candidate(table, marks, from, *class, name, descriptor, above);
+        mark_above_candidate(table, marks, from, *class as usize, name, descriptor, above);
     }
 }
 
@@ -276,7 +283,7 @@ fn marked_specifics(
     table: &ClassTable<'_>,
     marks: &KeyRow<'_>,
     from: usize,
-    searched: &[usize],
+    searched: &[u16],
     name: &Text<'_>,
     descriptor: &Text<'_>,
     above: &mut [bool],
@@ -298,7 +305,7 @@ fn all_specifics(
     table: &ClassTable<'_>,
     marks: &KeyRow<'_>,
     from: usize,
-    searched: &[usize],
+    searched: &[u16],
     name: &Text<'_>,
     descriptor: &Text<'_>,
 ) -> Defaults
@@ -330,7 +337,7 @@ fn only_specific(
     table: &ClassTable<'_>,
     marks: &KeyRow<'_>,
     from: usize,
-    searched: &[usize],
+    searched: &[u16],
     name: &Text<'_>,
     descriptor: &Text<'_>,
 ) -> Option<Place>
@@ -351,7 +358,7 @@ fn only_specific(
 pub(crate) fn superinterface_method(
     table: &ClassTable<'_>,
     from: usize,
-    searched: &[usize],
+    searched: &[u16],
     name: &Text<'_>,
     descriptor: &Text<'_>,
 ) -> Option<Place>
@@ -372,7 +379,7 @@ pub(crate) fn superinterface_method(
 pub fn superinterface_defaults(
     table: &ClassTable<'_>,
     from: usize,
-    searched: &[usize],
+    searched: &[u16],
     name: &Text<'_>,
     descriptor: &Text<'_>,
 ) -> Defaults

@@ -202,7 +202,7 @@ fn superclass_method(
             table,
             pool,
             hashes,
-            *superclass,
+            *superclass as usize,
             indices,
             method,
         )?;
@@ -244,7 +244,7 @@ fn field_of_searched_once(
     table: &ClassTable<'_>,
     pool: &Pool<'_>,
     hashes: PoolHashes<'_>,
-    searched: &[usize],
+    searched: &[u16],
     indices: MemberIndices,
     field: &MemberName<'_>,
 ) -> Result<Option<Place>, AllocError>
@@ -260,7 +260,16 @@ fn field_of_searched_once(
     let descriptor = descriptor_with(hashes, pool, Some(indices), field);
     let marks = table.marks_of_field(&name, &descriptor);
     for class in searched {
-        let found = marked_field(answers, &marks, table, pool, hashes, *class, indices, field)?;
+        let found = marked_field(
+            answers,
+            &marks,
+            table,
+            pool,
+            hashes,
+            *class as usize,
+            indices,
+            field,
+        )?;
         if let Some(place) = found {
             return Ok(Some(place));
         }

@@ -1,4 +1,4 @@
-use Rattle.std.proofs.Common.{◌≡◌, ◌+◌, ◌-◌, suc, length, get_or, Some, None, sym, subst, arith}
+use Rattle.std.proofs.Common.{◌≡◌, ◌∙◌, ◌+◌, ◌-◌, ◌++◌, ◌∷◌, [], suc, length, get_or, Some, None, sym, ap, subst, arith}
 use Rattle.jv_classes.specs.Ways.{IsBelowSize}
 use Rattle.jv_classes.proofs.Followed.{HasFollowed, follow_start, follow_step, follow_end, some_class, superclass_told}
 use Rattle.jv_classes.proofs.table.chain_of.Goals as goal
@@ -32,7 +32,8 @@ loop-preserved c =
     let one_less : length world - c.loop.counter ≡ suc (length world - (c.loop.counter + 1)) = omega (arith, c.loop-test.true) in
     let less = subst (IsBelowSize (length world)) c.in-Some.is c.loop.invariant.below in
     let class = some_class world superclass less in
-    subst (λ items. HasFollowed world c.args.number items left next) (sym c.in_ok-push.ensures.items)
+    let pushed : c.push.new.self.items ≡ chain ++ superclass ∷ [] = c.in_ok-push.ensures.items ∙ ap (λ n. chain ++ n ∷ []) c.in_ok-short_number.ensures in
+    subst (λ items. HasFollowed world c.args.number items left next) (sym pushed)
     (follow_step world c.args.number chain left superclass next class.0 class.1 less (superclass_told world c.args.direct.now superclass None c.requires.direct)
     (subst (λ n. HasFollowed world c.args.number chain n (Some superclass)) one_less
     (subst (λ n. HasFollowed world c.args.number chain (length world - c.loop.counter) n) c.in-Some.is c.loop.invariant)))
