@@ -15,6 +15,7 @@ mod flow;
 mod guards;
 mod hashed;
 mod indices;
+mod kept_number;
 mod marks;
 mod methods;
 mod name_marks;
