@@ -67,7 +67,7 @@ def copies_referred(made, folder, name, owners, copies):
 
 def long_by_copies(folder, scale, classes=33, copies=1000, referring=96):
     """33 classes in a chain with a field each, of one name of 65,535 bytes; 96 classes below them with 63,000 references each to it by way of each of them, with 1,000 copies of its
-    descriptor: more questions than there are places for answers."""
+    descriptor."""
     name = "f" * 65535
     for n in range(classes):
         made = ClassFile(f"C{n}", f"C{n - 1}" if n else "java/lang/Object")
@@ -81,7 +81,7 @@ def long_by_copies(folder, scale, classes=33, copies=1000, referring=96):
 
 def long_by_interfaces(folder, scale, classes=33, copies=1000, referring=96):
     """33 classes in a chain with a field each, of one name of 65,535 bytes, with one below each of them that has 850 superinterfaces; 96 classes below these with 63,000 references each to
-    the field by way of each of those, with 1,000 copies of its descriptor: more questions than there are places for answers."""
+    the field by way of each of those, with 1,000 copies of its descriptor."""
     name = "f" * 65535
     listed = [f"I{n}" for n in range(1024 - 2 * classes - referring - 10)]
     for one in listed:
@@ -105,8 +105,8 @@ def long_by_interfaces(folder, scale, classes=33, copies=1000, referring=96):
 
 
 def long_by_many(folder, scale, classes=8, kinds=3875, referring=80):
-    """8 classes in a chain with 3,875 fields each, of one name of 65,535 bytes; 80 classes below them with 57,000 references each to these by way of each of them: more than there are
-    places for answers, and no text twice."""
+    """8 classes in a chain with 3,875 fields each, of one name of 65,535 bytes; 80 classes below them with 57,000 references each to these by way of each of them: as many questions as
+    fields, and no text twice."""
     name = "f" * 65535
     given = [("[" * (k % 40)) + "L" + chr(97 + k // 40 % 26) + chr(97 + k // 40 // 26 % 26) + ";" for k in range(kinds)]
     for n in range(classes):

@@ -1,13 +1,13 @@
 //! The local entries with which a method begins (JVMS 4.10.1.6).
 
-ghost use Rattle.std.specs.Prelude.{◌≡◌, ◌≤◌, ◌<◌, ℕ, List, codes, IfOk, IfSome, IfNone};
+ghost use Rattle.std.specs.Prelude.{◌≡◌, ◌≤◌, ◌<◌, ◌++◌, ℕ, List, codes, IfOk, OnOk, IfSome, IfNone};
 ghost use Rattle.std.specs.Str.{bytes_eq};
 ghost use Rattle.jv_frames.specs.Types.{words};
 ghost use Rattle.jv_method_pass.specs.of_types.Typed.{typed, typed_all};
 ghost use Rattle.jv_method.specs.Inside.Known.{IsReceiver, AreReceivers, AreFirstEntries};
 
 use jv_frames::VerificationTypeOf;
-use jv_method_pass::of_types::{CurrentClass, Item, words_of};
+use jv_method_pass::of_types::{Argument, CurrentClass, Item, words_of};
 use std::alloc::{AllocError, Global};
 
 /// Whether the class is java/lang/Object.
@@ -44,18 +44,29 @@ fn receiver_items(
     Ok(items)
 }
 
+/// The types of arguments join others.
+fn push_items(items: &mut Vec<Item>, arguments: &[Argument]) -> Result<(), AllocError>
+    ensures { OnOk result (items.new.items ≡ items.old.items ++ arguments.now) }
+{
+    items.reserve(arguments.len())?;
+    for argument in arguments {
+        items.push(argument.item())?;
+    }
+    Ok(())
+}
+
 /// The types of the initial local entries: the receiver's, where there is one, and the arguments'.
 pub(crate) fn initial_items(
     alloc: Global,
     class: &CurrentClass<'_, '_, '_>,
     is_static: bool,
     is_init: bool,
-    arguments: &[Item],
+    arguments: &[Argument],
 ) -> Result<Vec<Item>, AllocError>
     ensures { IfOk result (λ items. AreFirstEntries class.now is_static is_init arguments.now items.items) }
 {
     let mut items = receiver_items(alloc, class, is_static, is_init)?;
-    items.extend_from_slice(arguments)?;
+    push_items(&mut items, arguments)?;
     Ok(items)
 }
 

@@ -6,9 +6,9 @@ ghost use Rattle.jv_types.specs.Typed.{typed};
 ghost use Rattle.jv_types.specs.Numbered.{item_words, with_flag};
 ghost use Rattle.jv_rules.specs.Objects.{TakesBelowArguments, Constructs};
 
-use crate::stack::take;
+use crate::stack::take_arguments;
 use jv_frames::VerificationTypeOf;
-use jv_types::{Item, TypeNames};
+use jv_types::{Argument, Item, TypeNames};
 use jv_types_frames::TypeFrame;
 
 /// Takes the arguments of `<init>`, the first first, and the object below them, and gives this; `None` where the
@@ -16,11 +16,11 @@ use jv_types_frames::TypeFrame;
 pub fn take_constructed(
     types: &TypeNames<'_, '_>,
     frame: &mut TypeFrame,
-    arguments: &[Item],
+    arguments: &[Argument],
 ) -> Option<Item>
     ensures { TakesBelowArguments types.now arguments.now frame.old frame.new result }
 {
-    if take(types, frame, arguments) {
+    if take_arguments(types, frame, arguments) {
         frame.pop()
     } else {
         None

@@ -8,9 +8,9 @@ ghost use Rattle.jv_types.specs.Outcomes.{outcome_of, Applies};
 ghost use Rattle.jv_rules.specs.Operands.{FollowsMethod, FollowsNear, counts_words, calls_guarded};
 
 use crate::receivers::take_receiver;
-use crate::stack::{exchange, take};
+use crate::stack::{exchange_arguments, take_arguments};
 use jv_frames::VerificationTypeOf;
-use jv_types::{Item, Outcome, TypeNames, words_of};
+use jv_types::{Argument, Item, Outcome, TypeNames, words_of};
 use jv_types_frames::TypeFrame;
 
 /// A method as an instruction names it: the class that is named, the types of the arguments, the first first, and of the
@@ -24,7 +24,7 @@ pub struct MethodOperand<'m> {
     pub owner: Item,
     /// The current class, to which the object has to flow too, if the method is guarded (JVMS 4.10.1.8).
     pub guard: Option<Item>,
-    pub arguments: &'m [Item],
+    pub arguments: &'m [Argument],
     pub result: Option<Item>,
 }
 
@@ -47,7 +47,9 @@ fn call_on(
 ) -> Outcome
     ensures { Applies types.now.names (calls_guarded types.now method.entry receiver guard) frame.old frame.new result }
 {
-    if take(types, frame, method.arguments) && take_receiver(types, frame, receiver, guard) {
+    if take_arguments(types, frame, method.arguments)
+        && take_receiver(types, frame, receiver, guard)
+    {
         outcome_of(method.result)
     } else {
         Outcome::Fails
@@ -78,20 +80,20 @@ pub fn invoke_static(
     ensures { FollowsMethod types.now method.entry (λ env named. invoke_static env named) frame.old frame.new result }
 {
     if method.plain_name {
-        exchange(types, frame, method.arguments, method.result)
+        exchange_arguments(types, frame, method.arguments, method.result)
     } else {
         Outcome::Fails
     }
 }
 
 /// Whether a number is that of the arguments' words and of the receiver's.
-fn counts_arguments(arguments: &[Item], count: u8) -> bool
+fn counts_arguments(arguments: &[Argument], count: u8) -> bool
     ensures { (names : List (List ℕ)) → result ≡ (count == words (typed_all names arguments.now) + 1) }
 {
     let mut left = arguments;
     let mut rest = u16::from(count);
-    while let Some((item, more)) = left.split_first() {
-        let width = words_of(*item);
+    while let Some((argument, more)) = left.split_first() {
+        let width = words_of(argument.item());
         if rest < width {
             return false;
         }

@@ -5,7 +5,7 @@ ghost use Rattle.jv_meaning_typing.specs.FrameChanges.{taken, taken_as_all};
 ghost use Rattle.jv_types.specs.Typed.{typed, typed_all};
 ghost use Rattle.jv_types.specs.Outcomes.{given, outcome_of, Exchanges, TakesBy};
 
-use jv_types::{Item, Outcome, TypeNames};
+use jv_types::{Argument, Item, Outcome, TypeNames};
 use jv_types_frames::TypeFrame;
 
 /// Takes an item that flows to a type.
@@ -32,6 +32,24 @@ pub fn take(types: &TypeNames<'_, '_>, frame: &mut TypeFrame, expected: &[Item])
     true
 }
 
+/// The same of a method's arguments.
+pub fn take_arguments(
+    types: &TypeNames<'_, '_>,
+    frame: &mut TypeFrame,
+    expected: &[Argument],
+) -> bool
+    ensures { TakesBy types.now.names (taken types.now.world (typed_all types.now.names expected.now)) frame.old frame.new result }
+{
+    let mut left = expected;
+    while let Some((argument, before)) = left.split_last() {
+        if !take_as(types, frame, argument.item()) {
+            return false;
+        }
+        left = before;
+    }
+    true
+}
+
 fn outcome_of(item: Option<Item>) -> Outcome
     ensures { result ≡ outcome_of item }
 {
@@ -51,6 +69,22 @@ pub fn exchange(
     ensures { Exchanges types.now (typed_all types.now.names expected.now) (given types.now.names gives) frame.old frame.new result }
 {
     if take(types, frame, expected) {
+        outcome_of(gives)
+    } else {
+        Outcome::Fails
+    }
+}
+
+/// Takes a method's arguments, and gives an item, or none.
+pub fn exchange_arguments(
+    types: &TypeNames<'_, '_>,
+    frame: &mut TypeFrame,
+    expected: &[Argument],
+    gives: Option<Item>,
+) -> Outcome
+    ensures { Exchanges types.now (typed_all types.now.names expected.now) (given types.now.names gives) frame.old frame.new result }
+{
+    if take_arguments(types, frame, expected) {
         outcome_of(gives)
     } else {
         Outcome::Fails

@@ -16,5 +16,6 @@ pub mod Members
 pub mod Naming
 pub mod Neighbouring
 pub mod OfClass
+pub mod Packing
 pub mod Plain
 pub mod Protecting

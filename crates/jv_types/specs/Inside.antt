@@ -8,4 +8,5 @@ pub mod Lasting
 pub mod Made
 pub mod Marked
 pub mod Named
+pub mod Packed
 pub mod Parts

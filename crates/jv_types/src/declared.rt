@@ -1,16 +1,18 @@
 //! Where the member is found that a constant names (JVMS 5.4.3.2, 5.4.3.3). Where its texts are long, a search goes over the marks of the
 //! classes as ever, but looks once into a class that declares such a member, however many constants lead there.
 
-ghost use Rattle.std.specs.Prelude.{◌≡◌, ◌<◌, true, false, length, IfOk, IfSome, OnOk};
+ghost use Rattle.std.specs.Prelude.{◌≡◌, ◌<◌, ℕ, List, true, false, length, IfOk, IfSome, OnOk};
+ghost use Rattle.jv_pool.specs.Constants.{Entry};
 ghost use Rattle.jv_pool.specs.Seen.{seen_member};
 ghost use Rattle.jv_classes.specs.Hashes.{AreHashes};
 ghost use Rattle.jv_classes.specs.Marks.{MarksField, MarksMethod};
 ghost use Rattle.jv_meaning_world.specs.Numbers.{AreNumbers};
+ghost use Rattle.jv_meaning_world.specs.World.{World};
 ghost use Rattle.jv_link.specs.of_lookups.Places.{IsFieldPlace, IsMethodPlace, IsFirstOfClasses, IsFieldLookedUp};
 ghost use Rattle.jv_link.specs.of_lookups.Inside.Members.{IsFirstAbove, FindsField};
-ghost use Rattle.jv_types.specs.Inside.Answered.{AreTextsOf, AreEntries, IsDeclared, IsFieldOfClass, IsMethodOfClass};
+ghost use Rattle.jv_types.specs.Inside.Answered.{AreTextsOf, AreEntries, IsAnswer, IsDeclared, IsFieldOfClass, IsMethodOfClass};
 
-use crate::answers::{Answer, Question, keep, known, long_texts, place_of};
+use crate::answers::{Answer, Question, in_16_bits, keep, known, long_texts, place_of};
 use crate::hashed::{PoolHashes, descriptor_with, name_with};
 use crate::indices::MemberIndices;
 use jv_classes::{KeyRow, Text};
@@ -37,7 +39,44 @@ fn declared(
     }
 }
 
-/// The same by the member's indices. Where there is one, its texts are compared once.
+/// The same by the member's indices, which give the hashes of its texts.
+fn looked_up(
+    table: &ClassTable<'_>,
+    pool: &Pool<'_>,
+    hashes: PoolHashes<'_>,
+    of_method: bool,
+    class: usize,
+    indices: MemberIndices,
+    member: &MemberName<'_>,
+) -> Option<usize>
+    requires hashes { AreHashes hashes.seed pool.now hashes.hashes.now }
+    requires class { class < length table.now }
+    requires texts { AreTextsOf pool.now indices.name indices.descriptor (seen_member member.now) }
+    ensures { IsDeclared of_method table.now class (seen_member member.now).name (seen_member member.now).descriptor result }
+{
+    let name = name_with(hashes, pool, Some(indices), member);
+    let descriptor = descriptor_with(hashes, pool, Some(indices), member);
+    declared(table, of_method, class, &name, &descriptor)
+}
+
+/// Keeps where a class declares a member, unless it has so many that the place has no room in an answer.
+fn keep_declared(
+    answers: &mut Vec<Option<Answer>>,
+    places: u16,
+    at: usize,
+    question: Question,
+    place: usize,
+) -> Result<(), AllocError>
+    ensures { (world : World) (pool : List Entry) → AreEntries world pool answers.old.items
+        → IsAnswer world pool question place → OnOk result (AreEntries world pool answers.new.items) }
+{
+    match in_16_bits(place) {
+        Some(place) => keep(answers, places, at, Answer { question, place }),
+        None => Ok(()),
+    }
+}
+
+/// The same. Where there is one, its texts are compared once.
 fn declared_once(
     answers: &mut Vec<Option<Answer>>,
     table: &ClassTable<'_>,
@@ -55,22 +94,24 @@ fn declared_once(
     ensures found { IfOk result (IsDeclared of_method table.now class (seen_member member.now).name (seen_member member.now).descriptor) }
     ensures answers { OnOk result (AreEntries table.now pool.now answers.new.items) }
 {
+    let Some(number) = in_16_bits(class) else {
+        return Ok(looked_up(table, pool, hashes, of_method, class, indices, member));
+    };
     let question = Question {
         of_method,
-        class,
+        class: number,
         name: indices.name,
         descriptor: indices.descriptor,
     };
-    let at = place_of(hashes.seed, question);
+    let places = pool.count();
+    let at = place_of(hashes.seed, places, question);
     if let Some(place) = known(answers, at, question) {
         return Ok(Some(place));
     }
-    let name = name_with(hashes, pool, Some(indices), member);
-    let descriptor = descriptor_with(hashes, pool, Some(indices), member);
-    let Some(place) = declared(table, of_method, class, &name, &descriptor) else {
+    let Some(place) = looked_up(table, pool, hashes, of_method, class, indices, member) else {
         return Ok(None);
     };
-    keep(answers, at, Answer { question, place })?;
+    keep_declared(answers, places, at, question, place)?;
     Ok(Some(place))
 }
 
@@ -296,7 +337,7 @@ pub(crate) fn method_found(
     ensures stands { IfOk result (λ place. IfSome place (IsMethodPlace table.now)) }
     ensures answers { OnOk result (AreEntries table.now pool.now answers.new.items) }
 {
-    if let Some(indices) = long_texts(indices, method) {
+    if let Some(indices) = long_texts(pool, indices, method) {
         let found = class_method_once(answers, table, pool, hashes, named, indices, method)?;
         return Ok(found);
     }
@@ -323,7 +364,7 @@ pub(crate) fn field_found(
     ensures stands { IfOk result (λ place. IfSome place (IsFieldPlace classes.now.world)) }
     ensures answers { OnOk result (AreEntries classes.now.world pool.now answers.new.items) }
 {
-    if let Some(indices) = long_texts(indices, field) {
+    if let Some(indices) = long_texts(pool, indices, field) {
         let table = classes.table();
         let searched = classes.searched(named);
         let found = field_of_searched_once(answers, table, pool, hashes, searched, indices, field)?;

@@ -4,6 +4,7 @@
 #![tactic(auto)]
 
 mod answers;
+mod argument;
 mod classes;
 mod constant_names;
 mod constants;
@@ -15,6 +16,7 @@ mod flow;
 mod guards;
 mod hashed;
 mod indices;
+mod kept_number;
 mod marks;
 mod methods;
 mod name_marks;
@@ -27,6 +29,7 @@ mod texts;
 mod value;
 mod words;
 
+pub use argument::Argument;
 pub use classes::{array_of, array_type, class_number, names_class};
 pub use constants::ConstantTypes;
 pub use current_class::CurrentClass;

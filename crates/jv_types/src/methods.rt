@@ -8,6 +8,7 @@ ghost use Rattle.jv_types.specs.Outcomes.{given};
 ghost use Rattle.jv_types.specs.Operands.{FindsCalledTypes, WithPool};
 ghost use Rattle.jv_types.specs.Inside.Calls.{can_be_of, result_given};
 
+use crate::argument::Argument;
 use crate::constants::ConstantTypes;
 use crate::indices::{method_indices, text_at};
 use crate::names::Item;
@@ -26,7 +27,7 @@ pub struct CalledTypes<'c> {
     /// Whether its name is neither `<init>` nor `<clinit>`.
     pub plain_name: bool,
     pub owner: Item,
-    pub arguments: &'c [Item],
+    pub arguments: &'c [Argument],
     pub result: Option<Item>,
 }
 

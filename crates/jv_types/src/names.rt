@@ -6,6 +6,7 @@ ghost use Rattle.jv_meaning_world.specs.Numbers.{number_named};
 ghost use Rattle.jv_types.specs.Typed.{name_at, GoesOn};
 ghost use Rattle.jv_types.specs.Inside.Kept.{AreDistinct, AreNames};
 
+use crate::kept_number::{KeptNumber, kept_number};
 use jv_classes::{ClassTable, Names};
 use jv_frames::VerificationTypeOf;
 use std::alloc::{AllocError, Global};
@@ -30,7 +31,7 @@ pub type Item = VerificationTypeOf<u32>;
 pub struct TypeNames<'t, 'a> {
     table: &'t ClassTable<'a>,
     names: Names<'a>,
-    classes: Vec<Option<usize>>,
+    classes: Vec<KeptNumber>,
 }
 
 impl<'t, 'a> Model for TypeNames<'t, 'a> {
@@ -71,7 +72,7 @@ impl<'t, 'a> TypeNames<'t, 'a> {
         let mut names = Names::new(alloc, state);
         let mut classes = Vec::new(alloc);
         names.add(object)?;
-        classes.push(table.find(object))?;
+        classes.push(kept_number(table.find(object))?)?;
         Ok(TypeNames {
             table,
             names,
@@ -139,7 +140,7 @@ impl<'t, 'a> TypeNames<'t, 'a> {
         ensures number { result ≡ number_named self.now.world (name_at self.now.names number) }
         ensures within { IfSome result (λ n. n < length self.now.world) }
     {
-        self.classes[self.place(number)]
+        self.classes[self.place(number)].number()
     }
 
     /// A name more, with the class of that name.
@@ -152,7 +153,7 @@ impl<'t, 'a> TypeNames<'t, 'a> {
     {
         let number = as_number(self.names.count())?;
         self.classes.reserve(1)?;
-        let class = self.table.find(name);
+        let class = kept_number(self.table.find(name))?;
         self.names.add(name)?;
         self.classes.push_reserved(class);
         Ok(number)
@@ -162,7 +163,7 @@ impl<'t, 'a> TypeNames<'t, 'a> {
     ///
     /// # Errors
     ///
-    /// Where the host had no memory for it, or there are 4,294,967,296 others.
+    /// Where the host had no memory for it, there are 4,294,967,296 others, or the class of that name is the 65,536th or one behind it.
     pub fn number_of(&mut self, name: &'a [u8]) -> Result<u32, AllocError>
         ensures number { IfOk result (λ n. slice_get self.new.names n ≡ Some name.now) }
         ensures goes_on { GoesOn self.old.names self.new.names }

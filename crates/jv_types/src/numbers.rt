@@ -8,8 +8,8 @@ ghost use Rattle.jv_types.specs.PoolTypes.{typed_result};
 ghost use Rattle.jv_types.specs.Inside.Lasting.{Lasts};
 ghost use Rattle.jv_types.specs.Inside.KeptTexts.{JoinsOne, JoinsAll};
 
-use crate::names::{Item, TypeNames};
-use crate::value::value_type;
+use crate::argument::{Argument, argument_of};
+use crate::names::TypeNames;
 use jv_text::{Element, FieldType, FieldTypeOf};
 use std::alloc::AllocError;
 
@@ -68,7 +68,7 @@ pub(crate) fn result_by_number<'a>(
 /// The type of a parameter's values joins the others.
 fn push_argument<'a>(
     names: &mut TypeNames<'_, 'a>,
-    arguments: &mut Vec<Item>,
+    arguments: &mut Vec<Argument>,
     parameter: FieldType<'a>,
 ) -> Result<(), AllocError>
     ensures joins { OnOk result (JoinsOne names.new.names arguments.old.items arguments.new.items (seen_field_type parameter.entry)) }
@@ -76,14 +76,15 @@ fn push_argument<'a>(
     ensures world { names.new.world ≡ names.old.world }
 {
     let number_type = field_by_number(names, parameter)?;
-    arguments.push(value_type(number_type))?;
+    let argument = argument_of(number_type)?;
+    arguments.push(argument)?;
     Ok(())
 }
 
 /// The types of the values of a method's parameters join the others, in their order.
 pub(crate) fn push_arguments<'b, 'a: 'b>(
     names: &mut TypeNames<'_, 'a>,
-    arguments: &mut Vec<Item>,
+    arguments: &mut Vec<Argument>,
     parameters: &'b [FieldType<'a>],
 ) -> Result<(), AllocError>
     ensures joins { OnOk result (JoinsAll names.new.names arguments.old.items arguments.new.items (map seen_field_type parameters.now)) }

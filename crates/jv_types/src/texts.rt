@@ -10,8 +10,9 @@ ghost use Rattle.jv_types.specs.PoolTypes.{typed_result};
 ghost use Rattle.jv_types.specs.Inside.Lasting.{Lasts, IsFront};
 ghost use Rattle.jv_types.specs.Inside.KeptTexts.{IsMethodEntry, field_in, IsDescribed, IsNamed, IsKept, kept_at, AreKept};
 
+use crate::argument::Argument;
 use crate::marks::named_by_classes;
-use crate::names::{Item, TypeNames};
+use crate::names::TypeNames;
 use crate::numbers::{field_by_number, push_arguments, result_by_number};
 use jv_pool::{Pool, TextFacts, Utf8Index};
 use jv_text::{
@@ -24,7 +25,7 @@ use std::alloc::{AllocError, Global};
 /// receiver, and the type of its result, `None` for void.
 #[derive(Clone, Copy)]
 pub struct MethodTypes<'c> {
-    pub arguments: &'c [Item],
+    pub arguments: &'c [Argument],
     pub result: Option<FieldTypeOf<u32>>,
 }
 
@@ -56,7 +57,7 @@ pub(crate) struct TextTypes {
 #[derive(Drop)]
 pub(crate) struct TypeTable {
     pub texts: Vec<TextTypes>,
-    pub arguments: Vec<Item>,
+    pub arguments: Vec<Argument>,
 }
 
 /// A place as a number of 32 bits; want of memory where it has none.
@@ -72,7 +73,7 @@ fn as_number(place: usize) -> Result<u32, AllocError>
 /// The arguments of a method's descriptor join the others.
 fn method_entry<'b, 'a: 'b>(
     names: &mut TypeNames<'_, 'a>,
-    arguments: &mut Vec<Item>,
+    arguments: &mut Vec<Argument>,
     method: &'b MethodType<'a>,
 ) -> Result<MethodEntry, AllocError>
     ensures entry { IfOk result (λ e. IsMethodEntry names.new.names arguments.new.items e (seen_method_type method.now)) }
@@ -91,7 +92,7 @@ fn method_entry<'b, 'a: 'b>(
 fn described_method<'a>(
     alloc: Global,
     names: &mut TypeNames<'_, 'a>,
-    arguments: &mut Vec<Item>,
+    arguments: &mut Vec<Argument>,
     text: &'a [u8],
 ) -> Result<Described, AllocError>
     requires { field_type_of text.now ≡ None }
@@ -115,7 +116,7 @@ fn described_method<'a>(
 fn described_by<'a>(
     alloc: Global,
     names: &mut TypeNames<'_, 'a>,
-    arguments: &mut Vec<Item>,
+    arguments: &mut Vec<Argument>,
     text: &'a [u8],
     facts: TextFacts,
 ) -> Result<Described, AllocError>
@@ -178,7 +179,7 @@ impl Described {
 fn text_types<'a>(
     alloc: Global,
     names: &mut TypeNames<'_, 'a>,
-    arguments: &mut Vec<Item>,
+    arguments: &mut Vec<Argument>,
     text: &'a [u8],
     facts: TextFacts,
     is_name: bool,
@@ -207,7 +208,7 @@ const NOTHING: TextTypes = TextTypes {
 fn types_at<'a>(
     alloc: Global,
     names: &mut TypeNames<'_, 'a>,
-    arguments: &mut Vec<Item>,
+    arguments: &mut Vec<Argument>,
     pool: &Pool<'a>,
     index: u16,
     is_name: bool,
@@ -273,7 +274,7 @@ pub(crate) fn kept_at(texts: &[TextTypes], index: u16) -> TextTypes
 }
 
 /// The arguments of a method's descriptor.
-pub(crate) fn arguments_of(arguments: &[Item], method: MethodEntry) -> &[Item]
+pub(crate) fn arguments_of(arguments: &[Argument], method: MethodEntry) -> &[Argument]
     requires rising { method.start ≤ method.end }
     requires within { method.end ≤ length arguments.now }
     ensures { result.now ≡ slice_range arguments.now method.start method.end }

@@ -1,16 +1,17 @@
 //! The types of values (JVMS 4.3.2, 4.10.1.2).
 
 ghost use Rattle.std.specs.Prelude.{◌≡◌, ℕ, List};
-ghost use Rattle.jv_frames.specs.Types.{primitive_type, value_type, value_type_by};
-ghost use Rattle.jv_types.specs.Typed.{typed, typed_element, typed_field};
+ghost use Rattle.jv_frames.specs.Types.{value_type};
+ghost use Rattle.jv_types.specs.Typed.{typed, typed_field};
+ghost use Rattle.jv_types.specs.Inside.Packed.{primitive_item, value_item, value_item_by};
 
 use crate::names::Item;
 use jv_frames::VerificationTypeOf;
 use jv_text::{Base, Element, FieldTypeOf};
 
 /// The type of a number of a primitive type; top of a floating point type, which no supported class has.
-fn primitive_type(base: Base) -> Item
-    ensures { (names : List (List ℕ)) → typed names result ≡ primitive_type base }
+fn primitive_item(base: Base) -> Item
+    ensures { result ≡ primitive_item base }
 {
     match base {
         Base::Long => VerificationTypeOf::Long,
@@ -20,12 +21,25 @@ fn primitive_type(base: Base) -> Item
     }
 }
 
-fn element_type(element: Element<u32>) -> Item
-    ensures { (names : List (List ℕ)) → typed names result ≡ value_type_by 0 (typed_element names element) }
+fn element_item(element: Element<u32>) -> Item
+    ensures { result ≡ value_item_by 0 element }
 {
     match element {
-        Element::Base(base) => primitive_type(base),
+        Element::Base(base) => primitive_item(base),
         Element::Class(name) => VerificationTypeOf::Class(name),
+    }
+}
+
+/// The type of the values of a field type, by number.
+pub(crate) fn value_item(type_of: FieldTypeOf<u32>) -> Item
+    ensures { result ≡ value_item type_of }
+{
+    match type_of.dimensions.checked_sub(1) {
+        None => element_item(type_of.element),
+        Some(dimensions) => VerificationTypeOf::Array(FieldTypeOf {
+            dimensions,
+            element: type_of.element,
+        }),
     }
 }
 
@@ -33,11 +47,5 @@ fn element_type(element: Element<u32>) -> Item
 pub fn value_type(type_of: FieldTypeOf<u32>) -> Item
     ensures { (names : List (List ℕ)) → typed names result ≡ value_type (typed_field names type_of) }
 {
-    match type_of.dimensions.checked_sub(1) {
-        None => element_type(type_of.element),
-        Some(dimensions) => VerificationTypeOf::Array(FieldTypeOf {
-            dimensions,
-            element: type_of.element,
-        }),
-    }
+    value_item(type_of)
 }

@@ -1,5 +1,5 @@
 -- Names as a table keeps them.
-use Rattle.std.specs.Prelude.{◌≡◌, ℕ, List, map, Option, Some, codes, position, slice_get}
+use Rattle.std.specs.Prelude.{◌≡◌, ℕ, zero, suc, List, map, Option, Some, None, codes, position, slice_get}
 use Rattle.std.specs.Str.{bytes_eq}
 use Rattle.jv_meaning_world.specs.World.{World}
 use Rattle.jv_meaning_world.specs.Numbers.{number_named}
@@ -12,3 +12,8 @@ pub record AreNames (world : World) (names : List (List ℕ)) (classes : List (O
   pub first : slice_get names 0 ≡ Some (codes "java/lang/Object")
   pub distinct : AreDistinct names
   pub numbered : classes ≡ map (number_named world) names
+
+-- the number before one, where there is one: a number that is kept with room for none
+abbrev pub number_before : ℕ → Option ℕ
+number_before zero = None
+number_before (suc number) = Some number

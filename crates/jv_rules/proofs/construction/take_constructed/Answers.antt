@@ -1,5 +1,5 @@
 use Rattle.std.proofs.Common.{rules}
 use Rattle.jv_rules.proofs.construction.take_constructed.Goals as goal
 
-pub returns-then-take : goal.returns-then-take
-returns-then-take c = search rules
+pub returns-then-take_arguments : goal.returns-then-take_arguments
+returns-then-take_arguments c = search rules

@@ -20,8 +20,8 @@ invariant_of-self-2 c =
       distinct = subst AreDistinct (sym new) (distinct_more names name none c.self.invariant.distinct);
       numbered =
           c.push_reserved.ensures.items
-          ∙ (ap (λ xs. xs ++ c.find-class.result ∷ []) (c.reserve.ensures.items ∙ c.self.invariant.numbered)
-          ∙ (ap (λ o. map (number_named world) names ++ o ∷ []) c.find-class.ensures
+          ∙ (ap (λ xs. xs ++ c.in_ok-class.class ∷ []) (c.reserve.ensures.items ∙ c.self.invariant.numbered)
+          ∙ (ap (λ o. map (number_named world) names ++ o ∷ []) (c.in_ok-class.ensures ∙ c.find.ensures)
           ∙ (sym (map-append (number_named world) names (name ∷ [])) ∙ ap (map (number_named world)) (sym new))));
     }
 
