@@ -1,14 +1,17 @@
 -- Handlers that are open, as offsets rise.
 use Rattle.std.proofs.Common.{◌≡◌, ℕ, zero, suc, ◌+◌, ◌<◌, ◌≤◌, Bool, true, false, not, ◌&&◌, ◌||◌, List, [], ◌∷◌, ◌++◌, length, take, get_or, refl, sym, ap, subst, ◌∙◌, arith, if◌then◌else◌}
-use Rattle.std.specs.Prelude.{nat_le, nat_lt, slice_get, Some}
+use Rattle.std.specs.Prelude.{nat_le, nat_lt, slice_get, Option, Some}
 use Rattle.std.specs.List.{list_all, filter}
 use Rattle.std.specs.List.Sorted.{IsPermutation}
-use Rattle.std.proofs.lemmas.Bool.{ltb-true, ltb-false, leb-true, leb-false}
+use Rattle.std.proofs.lemmas.Bool.{ltb-true, ltb-false, leb-true, leb-false, and_parts}
 use Rattle.std.proofs.lemmas.List.Folds.{list_all_more, list_all-append}
 use Rattle.std.proofs.lemmas.List.Sorted.{All-permutation, IsPermutation-sym}
+use Rattle.std.proofs.lemmas.List.Elements.{All-same, All-filter, All-append, All-cons, All-nil, All-head, All-tail}
 use Rattle.std.proofs.lemmas.List.Sums.{AllPass-from_list_all, list_all-from_AllPass}
 use Rattle.jv_format.specs.declared.handlers.Handler.{Handler}
-use Rattle.jv_method_pass.specs.Inside.Opening.{passes_at, AreAsGood, AreOpen, start_of, AreInOrder}
+use Rattle.jv_meaning_typing.specs.Typing.{covers}
+use Rattle.jv_method_pass.specs.Inside.Opening.{passes_at, AreAsGood, AreOpen, start_of, AreInOrder, HaveBegun}
+use Rattle.jv_method_pass.specs.Inside.Settled.{is_settled, AreSettledAt}
 
 -- in another order
 pub as_good : (offset : ℕ) (xs ys : List Handler) → IsPermutation xs ys → AreAsGood offset ys xs
@@ -180,3 +183,54 @@ none_ended test (x ∷ xs) all = by_test (test x) refl (λ rest. none_ended test
     by_test : (b : Bool) → test x ≡ b → (list_all test xs ≡ true → xs ≡ filter test xs) → x ∷ xs ≡ (if b then x ∷ filter test xs else filter test xs)
     by_test true t more = ap (λ zs. x ∷ zs) (more (sym (ap (λ b. b && list_all test xs) t) ∙ all))
     by_test false t more = absurd (clash (sym all ∙ ap (λ b. b && list_all test xs) t))
+
+-- ---- those that have begun before
+
+pub begun_later : (from offset : ℕ) (opened : List Handler) → from ≤ offset → HaveBegun from opened → HaveBegun offset opened
+begun_later from offset opened le all = λ k d lt. omega (arith, all k d lt, le)
+
+pub begun_left : (from offset : ℕ) (opened left : List Handler) → from ≤ offset → left ≡ filter (λ h. nat_lt offset h.end_pc) opened → HaveBegun from opened → HaveBegun offset left
+begun_left from offset opened left le is all =
+    All-same (λ h. h.start_pc ≤ offset) left (filter (λ h. nat_lt offset h.end_pc) opened) is
+    (All-filter (λ h. nat_lt offset h.end_pc) (λ h. h.start_pc ≤ offset) opened (begun_later from offset opened le all))
+
+pub begun_more : (offset : ℕ) (opened : List Handler) (h : Handler) → true ≡ nat_le h.start_pc offset → HaveBegun offset opened → HaveBegun offset (opened ++ h ∷ [])
+begun_more offset opened h is all =
+    All-append (λ x. x.start_pc ≤ offset) opened (h ∷ []) all (All-cons (λ x. x.start_pc ≤ offset) h [] (leb-true h.start_pc offset (sym is)) (All-nil (λ x. x.start_pc ≤ offset)))
+
+pub front_more : (old opened : List Handler) (h : Handler) → take (length old) opened ≡ old → take (length old) (opened ++ h ∷ []) ≡ old
+front_more [] opened h e = refl
+front_more (x ∷ old) [] h e = absurd cc
+front_more (x ∷ old) (y ∷ opened) h e = let both : (y ≡ x) × (take (length old) opened ≡ old) = (cc, cc) in ap (λ z. z ∷ take (length old) (opened ++ h ∷ [])) both.0 ∙ ap (λ zs. x ∷ zs) (front_more old opened h both.1)
+
+-- those that have begun at an instruction, where those that cover it are known to hold, or before it
+pub begun_settled : (from before offset : ℕ) (opened : List Handler) → from ≤ before → before ≤ offset → HaveBegun from opened → AreSettledAt (Some before) offset opened
+begun_settled from before offset [] le behind all = refl
+begun_settled from before offset (h ∷ opened) le behind all =
+    ap (λ b. b && list_all (passes_at offset (is_settled (Some before))) opened) (one (nat_lt offset h.end_pc) refl (nat_lt before h.end_pc) refl (nat_le h.start_pc before) refl (nat_le h.start_pc offset))
+    ∙ begun_settled from before offset opened le behind (All-tail (λ x. x.start_pc ≤ from) h opened all)
+  where
+    begun : h.start_pc ≤ from
+    begun = All-head (λ x. x.start_pc ≤ from) h opened all
+
+    one : (b : Bool) → nat_lt offset h.end_pc ≡ b → (d : Bool) → nat_lt before h.end_pc ≡ d → (e : Bool) → nat_le h.start_pc before ≡ e → (a : Bool) → (not (a && b) || (e && d)) ≡ true
+    one false ib d id e ie false = refl
+    one false ib d id e ie true = refl
+    one true ib d id e ie false = refl
+    one true ib true id true ie true = refl
+    one true ib true id false ie true = absurd (omega (arith, leb-false h.start_pc before ie, begun, le))
+    one true ib false id e ie true = absurd (omega (arith, ltb-true offset h.end_pc ib, ltb-false before h.end_pc id, behind))
+
+-- those that are settled are settled, or hold
+pub settled_first : (settled : Option ℕ) (offset : ℕ) (holds : Handler → Bool) (handlers : List Handler) → AreSettledAt settled offset handlers
+    → list_all (passes_at offset (λ h. is_settled settled h || holds h)) handlers ≡ true
+settled_first settled offset holds [] all = refl
+settled_first settled offset holds (h ∷ handlers) all =
+    let parts = and_parts (passes_at offset (is_settled settled) h) (list_all (passes_at offset (is_settled settled)) handlers) all in
+    ap (λ b. b && list_all (passes_at offset (λ k. is_settled settled k || holds k)) handlers) (either (not (covers h offset)) (is_settled settled h) (holds h) parts.0)
+    ∙ settled_first settled offset holds handlers parts.1
+  where
+    either : (a b d : Bool) → (a || b) ≡ true → (a || (b || d)) ≡ true
+    either true b d e = refl
+    either false true d e = refl
+    either false false d e = absurd cc

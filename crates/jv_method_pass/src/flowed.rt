@@ -349,17 +349,20 @@ impl FlowedLocals {
         is_none_kept(&self.frames)
     }
 
-    /// The last one comes to be the frame of the map at a place, if that shares all but few local entries with it.
-    fn follow(&mut self, pass: &Pass<'_, '_, '_, '_, '_>, place: usize, map: &MapFrame<'_>)
+    /// The last one comes to be the frame of the map at a place, if that shares all but few local entries with it. Says whether it has too
+    /// few local variables for that.
+    fn follow(&mut self, pass: &Pass<'_, '_, '_, '_, '_>, place: usize, map: &MapFrame<'_>) -> bool
         requires at { slice_get pass.now.frames place ≡ Some map.now }
         requires room { HasRoom pass.now.types pass.now.max_locals map.now }
         ensures { StaysRight pass.now self.old.writes.items self.old.frames.items self.new.writes.items self.new.frames.items }
     {
         let Some(mut last) = self.frames.pop() else {
-            return;
+            return false;
         };
+        let is_small = last.made.local_count() < usize::from(map.local_words());
         last.follow(pass, place, map);
         let _kept = self.frames.push(last);
+        is_small
     }
 
     /// Keeps none any more, if those that are kept have many local variables.
@@ -387,14 +390,20 @@ impl FlowedLocals {
         true
     }
 
-    /// Keeps the frame of the map at a place, if it was asked for before or none is kept, what was compared pays for it, it has more local
-    /// variables than one of many that are kept, and the host has memory for it.
-    fn begin(&mut self, pass: &Pass<'_, '_, '_, '_, '_>, place: usize, map: &MapFrame<'_>)
+    /// Keeps the frame of the map at a place, if it was asked for before, none is kept or the last one is too small, what was compared pays
+    /// for it, it has more local variables than one of many that are kept, and the host has memory for it.
+    fn begin(
+        &mut self,
+        pass: &Pass<'_, '_, '_, '_, '_>,
+        place: usize,
+        map: &MapFrame<'_>,
+        is_small: bool,
+    )
         requires at { slice_get pass.now.frames place ≡ Some map.now }
         requires room { HasRoom pass.now.types pass.now.max_locals map.now }
         ensures { StaysRight pass.now self.old.writes.items self.old.frames.items self.new.writes.items self.new.frames.items }
     {
-        if !is_wanted(&mut self.asked, &self.frames, pass, place) {
+        if !is_small && !is_wanted(&mut self.asked, &self.frames, pass, place) {
             return;
         }
         let count = usize::from(room_for(map.local_words(), pass.max_locals));
@@ -430,11 +439,11 @@ impl FlowedLocals {
         if let Some(k) = find(&self.frames, pass, place) {
             return Some(k);
         }
-        self.follow(pass, place, map);
+        let is_small = self.follow(pass, place, map);
         if let Some(k) = find(&self.frames, pass, place) {
             return Some(k);
         }
-        self.begin(pass, place, map);
+        self.begin(pass, place, map, is_small);
         find(&self.frames, pass, place)
     }
 

@@ -1,8 +1,9 @@
 //! Handlers that cover an instruction (JVMS 4.10.1.6).
 
-ghost use Rattle.std.specs.Prelude.{◌≡◌, ◌&&◌, ◌||◌, not, length};
+ghost use Rattle.std.specs.Prelude.{◌≡◌, ◌&&◌, ◌||◌, not, List, true, length, take, IsTrue, IfSome};
 ghost use Rattle.std.specs.List.{list_all};
 ghost use Rattle.jv_code.specs.Insns.{Instruction};
+ghost use Rattle.jv_frames.specs.Frames.{Frame, PlacedFrame};
 ghost use Rattle.jv_meaning_typing.specs.Environment.{Environment};
 ghost use Rattle.jv_meaning_typing.specs.Rule.{handler_frame};
 ghost use Rattle.jv_meaning_typing.specs.Typing.{covers, handles};
@@ -11,7 +12,7 @@ ghost use Rattle.jv_method_pass.specs.Pass.{IsOfPass, maps_of, names_in};
 ghost use Rattle.jv_method_pass.specs.Inside.Held.{IsHeld};
 ghost use Rattle.jv_method_pass.specs.Inside.Opening.{passes_at};
 ghost use Rattle.jv_method_pass.specs.Inside.Flowed.{HaveFlowed};
-ghost use Rattle.jv_method_pass.specs.Inside.Settled.{is_settled, unsettled_holds, IsLeft};
+ghost use Rattle.jv_method_pass.specs.Inside.Settled.{is_settled, unsettled_holds, AreSettledAt, Holds, IsLeft};
 
 use crate::flowed::FlowedLocals;
 use crate::held::Held;
@@ -66,27 +67,20 @@ fn is_settled(settled: Option<u32>, handler: Handler) -> bool
     }
 }
 
-/// Whether a handler is settled, or what it begins with flows to the frame of the map there.
-fn unsettled_holds(
-    pass: &Pass<'_, '_, '_, '_, '_>,
-    held: &Held,
-    flowed: &mut FlowedLocals,
-    frame: &TypeFrame,
-    object: Option<Item>,
-    settled: Option<u32>,
-    handler: Handler,
-) -> bool
-    requires locals { length frame.now.locals ≡ pass.now.max_locals }
-    requires held { IsHeld pass.now held.now frame.now }
-    requires flowed { HaveFlowed pass.now flowed.old.writes.items flowed.old.frames.items frame.now.locals }
-    ensures hold { (env : Environment) (insn : Instruction) → IsOfPass pass.now env → IsLeft env insn (names_in pass.now) frame.now object
-        → result ≡ unsettled_holds settled env (maps_of pass.now) insn (frame_of (names_in pass.now) frame.now) handler }
-    ensures flowed { HaveFlowed pass.now flowed.new.writes.items flowed.new.frames.items frame.now.locals }
+/// Whether a handler begins where the one that was asked last does, and catches what that catches.
+fn is_alike(asked: Option<Handler>, handler: Handler) -> bool
+    ensures { IsTrue result → (env : Environment) (maps : List PlacedFrame) (frame : Frame)
+        → IfSome asked (λ h. handles env maps frame h ≡ true) → handles env maps frame handler ≡ true }
 {
-    is_settled(settled, handler) || handles(pass, held, flowed, frame, object, handler)
+    match asked {
+        Some(other) => other.handler_pc == handler.handler_pc
+            && other.catch_type == handler.catch_type,
+        None => false,
+    }
 }
 
-/// Whether a handler covers no instruction at an offset, is settled, or what it begins with flows to the frame of the map there.
+/// Whether a handler covers no instruction at an offset, is settled, or what it begins with flows to the frame of the map there. That is
+/// not asked again of one like the one that was asked last.
 fn handler_holds(
     pass: &Pass<'_, '_, '_, '_, '_>,
     held: &Held,
@@ -95,20 +89,30 @@ fn handler_holds(
     object: Option<Item>,
     settled: Option<u32>,
     offset: u32,
+    asked: &mut Option<Handler>,
     handler: Handler,
 ) -> bool
     requires locals { length frame.now.locals ≡ pass.now.max_locals }
     requires held { IsHeld pass.now held.now frame.now }
     requires flowed { HaveFlowed pass.now flowed.old.writes.items flowed.old.frames.items frame.now.locals }
+    requires asked { Holds pass.now frame.now object asked.old }
     ensures hold { (env : Environment) (insn : Instruction) → IsOfPass pass.now env → IsLeft env insn (names_in pass.now) frame.now object
         → result ≡ passes_at offset (unsettled_holds settled env (maps_of pass.now) insn (frame_of (names_in pass.now) frame.now)) handler }
     ensures flowed { HaveFlowed pass.now flowed.new.writes.items flowed.new.frames.items frame.now.locals }
+    ensures asked { IsTrue result → Holds pass.now frame.now object asked.new }
 {
-    !covers(handler, offset) || unsettled_holds(pass, held, flowed, frame, object, settled, handler)
+    if !covers(handler, offset) || is_settled(settled, handler) || is_alike(*asked, handler) {
+        return true;
+    }
+    if !handles(pass, held, flowed, frame, object, handler) {
+        return false;
+    }
+    *asked = Some(handler);
+    true
 }
 
 /// Whether each of some handlers that covers an instruction, which constructs this object, or none that a local variable holds, is settled
-/// or holds.
+/// or holds, where so many, the first ones, are known to be settled.
 pub(crate) fn handlers_hold(
     pass: &Pass<'_, '_, '_, '_, '_>,
     held: &Held,
@@ -117,17 +121,20 @@ pub(crate) fn handlers_hold(
     object: Option<Item>,
     settled: Option<u32>,
     offset: u32,
+    known: usize,
     handlers: &[Handler],
 ) -> bool
     requires locals { length frame.now.locals ≡ pass.now.max_locals }
     requires held { IsHeld pass.now held.now frame.now }
     requires flowed { HaveFlowed pass.now flowed.old.writes.items flowed.old.frames.items frame.now.locals }
+    requires known { AreSettledAt settled offset (take known handlers.now) }
     ensures hold { (env : Environment) (insn : Instruction) → IsOfPass pass.now env → IsLeft env insn (names_in pass.now) frame.now object
         → result ≡ list_all (passes_at offset
         (unsettled_holds settled env (maps_of pass.now) insn (frame_of (names_in pass.now) frame.now))) handlers.now }
     ensures flowed { HaveFlowed pass.now flowed.new.writes.items flowed.new.frames.items frame.now.locals }
 {
-    for k in 0..handlers.len() {
+    let mut asked = None;
+    for k in known..handlers.len() {
         if !handler_holds(
             pass,
             held,
@@ -136,6 +143,7 @@ pub(crate) fn handlers_hold(
             object,
             settled,
             offset,
+            &mut asked,
             handlers[k],
         ) {
             return false;

@@ -1,10 +1,11 @@
 //! Handlers that cover an instruction, found as offsets rise (JVMS 4.7.3): each is met where it begins and where it has ended.
 
-ghost use Rattle.std.specs.Prelude.{◌≡◌, ◌≤◌, ◌+◌, ◌++◌, ◌∷◌, ℕ, [], nat_lt, nat_le, length, get_or, IsTrue, IfOk, OnOk, OnErr, if◌then◌else◌};
+ghost use Rattle.std.specs.Prelude.{◌≡◌, ◌≤◌, ◌+◌, ◌++◌, ◌∷◌, ℕ, [], Some, take, nat_lt, nat_le, length, get_or, IsTrue, IfOk, OnOk, OnErr, if◌then◌else◌};
 ghost use Rattle.std.specs.List.{filter, list_all};
 ghost use Rattle.std.specs.List.Sorted.{IsPermutation};
 ghost use Rattle.jv_format.specs.Handlers.{handlers_of};
-ghost use Rattle.jv_method_pass.specs.Inside.Opening.{AreAsGood, AreInOrder, AreOpen, start_of};
+ghost use Rattle.jv_method_pass.specs.Inside.Opening.{AreAsGood, AreInOrder, AreOpen, HaveBegun, start_of};
+ghost use Rattle.jv_method_pass.specs.Inside.Settled.{AreSettledAt};
 
 use jv_format::{ExceptionTable, Handler};
 use std::alloc::{AllocError, Global};
@@ -20,13 +21,14 @@ pub(crate) struct Openings {
 }
 
 impl Model for Openings {
-    ghost use Rattle.jv_method_pass.specs.Inside.Opening.{Openings, AreInOrder, AreOpen};
+    ghost use Rattle.jv_method_pass.specs.Inside.Opening.{Openings, AreInOrder, AreOpen, HaveBegun};
 
     ghost Value = { Openings };
 
     ghost view = { λ o. record { handlers = o.sorted.items; opened = o.opened.items; from = o.from } };
 
-    ghost invariant = { λ o. AreInOrder o.sorted.items × AreOpen o.sorted.items o.next o.from o.opened.items };
+    ghost invariant = { λ o. AreInOrder o.sorted.items × AreOpen o.sorted.items o.next o.from o.opened.items
+        × HaveBegun o.from o.opened.items };
 }
 
 impl Drop for Openings {
@@ -145,17 +147,24 @@ impl Openings {
         }
     }
 
-    /// Opens those that begin up to an offset, and closes those that have ended there.
-    ///
-    /// # Errors
-    ///
-    /// Where the host had no memory for those that are open.
-    pub(crate) fn go_to(&mut self, offset: u32) -> Result<(), AllocError>
+    /// Closes those that have ended at an offset.
+    fn close_at(&mut self, offset: u32) -> Result<(), AllocError>
+        requires { self.old.from ≤ offset }
         ensures handlers { self.new.handlers ≡ self.old.handlers }
+        ensures from { OnOk result (self.new.from ≡ offset) }
+    {
+        close(self.alloc, &mut self.opened, offset)?;
+        self.from = offset;
+        Ok(())
+    }
+
+    /// Opens those that begin up to an offset, behind those that are open.
+    fn open_to(&mut self, offset: u32) -> Result<(), AllocError>
+        requires { self.old.from ≤ offset }
+        ensures handlers { self.new.handlers ≡ self.old.handlers }
+        ensures front { OnOk result (take (length self.old.opened) self.new.opened ≡ self.old.opened) }
         ensures opened { OnOk result (AreAsGood offset self.new.opened self.new.handlers) }
     {
-        self.come_to(offset);
-        close(self.alloc, &mut self.opened, offset)?;
         self.from = offset;
         while self.next < self.sorted.len() {
             let handler = self.sorted[self.next];
@@ -166,6 +175,39 @@ impl Openings {
             self.next += 1;
         }
         Ok(())
+    }
+
+    /// Opens those that begin up to an offset, and closes those that have ended there.
+    fn go_to(&mut self, offset: u32) -> Result<(), AllocError>
+        ensures handlers { self.new.handlers ≡ self.old.handlers }
+        ensures opened { OnOk result (AreAsGood offset self.new.opened self.new.handlers) }
+    {
+        self.come_to(offset);
+        self.close_at(offset)?;
+        self.open_to(offset)
+    }
+
+    /// Opens those that begin up to an offset, and says how many of those that are open, the first ones, need not be asked, since they are
+    /// settled. Where these are all that have begun before, none is looked at, and none closed.
+    ///
+    /// # Errors
+    ///
+    /// Where the host had no memory for those that are open.
+    pub(crate) fn advance(&mut self, settled: Option<u32>, offset: u32) -> Result<usize, AllocError>
+        ensures handlers { self.new.handlers ≡ self.old.handlers }
+        ensures opened { OnOk result (AreAsGood offset self.new.opened self.new.handlers) }
+        ensures settled { IfOk result (λ count. AreSettledAt settled offset (take count self.new.opened)) }
+    {
+        if let Some(before) = settled
+            && self.from <= before
+            && before <= offset
+        {
+            let count = self.opened.len();
+            self.open_to(offset)?;
+            return Ok(count);
+        }
+        self.go_to(offset)?;
+        Ok(0)
     }
 
     /// Those that are open.

@@ -139,9 +139,11 @@ fn is_handled(
     if is_quiet(cover, settled, offset) {
         return Ok(true);
     }
-    openings.go_to(offset)?;
+    let known = openings.advance(settled, offset)?;
     let opened = openings.opened();
-    Ok(handlers_hold(pass, held, flowed, frame, object, settled, offset, opened))
+    Ok(handlers_hold(
+        pass, held, flowed, frame, object, settled, offset, known, opened,
+    ))
 }
 
 /// Whether nothing is held, and nothing kept.

@@ -1,6 +1,6 @@
 -- Handlers by where they begin to cover, of which some have begun where an offset has come.
 use Rattle.std.specs.Prelude.{◌≡◌, ℕ, ◌≤◌, Bool, not, ◌||◌, List, take}
-use Rattle.std.specs.List.{list_all}
+use Rattle.std.specs.List.{list_all, All}
 use Rattle.std.specs.List.Sorted.{IsNonDecreasingBy}
 use Rattle.jv_format.specs.declared.handlers.Handler.{Handler}
 use Rattle.jv_meaning_typing.specs.Typing.{covers}
@@ -34,3 +34,7 @@ AreInOrder handlers = IsNonDecreasingBy start_of handlers
 -- those of a method
 abbrev pub AreOpenings : Pass → Openings → Type 0
 AreOpenings pass openings = (offset : ℕ) → AreAsGood offset openings.handlers pass.handlers
+
+-- they begin at an offset or before it
+abbrev pub HaveBegun : ℕ → List Handler → Type 0
+HaveBegun offset handlers = All (λ h. h.start_pc ≤ offset) handlers

@@ -1,5 +1,5 @@
 -- Handlers that are known to hold, since nothing that they ask of has changed since an instruction before.
-use Rattle.std.specs.Prelude.{◌≡◌, ℕ, Bool, false, not, ◌||◌, List, [], Option, Some, None, IsTrue, ⊤}
+use Rattle.std.specs.Prelude.{◌≡◌, ℕ, Bool, true, false, not, ◌||◌, List, [], Option, Some, None, IsTrue, IfSome, ⊤}
 use Rattle.std.specs.List.{list_all}
 use Rattle.std.specs.Option.{option_map}
 use Rattle.jv_format.specs.declared.handlers.Handler.{Handler}
@@ -12,6 +12,7 @@ use Rattle.jv_meaning_typing.specs.Typing.{covers, handles}
 use Rattle.jv_types.specs.Typed.{typed, typed_all}
 use Rattle.jv_types.specs.Numbered.{Item, NumberFrame, frame_of}
 use Rattle.jv_method_pass.specs.Pass.{Pass, IsOfPass, maps_of, names_in}
+use Rattle.jv_method_pass.specs.Inside.Opening.{passes_at}
 
 -- the handler covers the instruction at which those that cover it are known to hold
 abbrev pub is_settled : Option ℕ → Handler → Bool
@@ -26,6 +27,15 @@ IsLeft env insn names frame object =
 -- a handler is settled, or holds
 abbrev pub unsettled_holds : Option ℕ → Environment → List PlacedFrame → Instruction → Frame → Handler → Bool
 unsettled_holds settled env maps insn frame h = is_settled settled h || handles env maps (handler_frame env insn frame) h
+
+-- each of some handlers that covers an instruction is settled
+abbrev pub AreSettledAt : Option ℕ → ℕ → List Handler → Type 0
+AreSettledAt settled offset handlers = list_all (passes_at offset (is_settled settled)) handlers ≡ true
+
+-- a handler that was asked, where there is one, holds with what is left once an object cannot be used any more
+abbrev pub Holds : Pass → NumberFrame → Option Item → Option Handler → Type 0
+Holds pass frame object asked = IfSome asked (λ h. (env : Environment) (insn : Instruction) → IsOfPass pass env → IsLeft env insn (names_in pass) frame object
+    → handles env (maps_of pass) (handler_frame env insn (frame_of (names_in pass) frame)) h ≡ true)
 
 -- each handler that covers an instruction is settled, or holds
 abbrev pub hold_where_unsettled : Option ℕ → Environment → List PlacedFrame → ℕ → Instruction → Frame → Bool

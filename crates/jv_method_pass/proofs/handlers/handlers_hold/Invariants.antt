@@ -6,7 +6,7 @@ use Rattle.jv_types.specs.Numbered.{frame_of}
 use Rattle.jv_method_pass.specs.Pass.{IsOfPass, maps_of, names_in}
 use Rattle.jv_method_pass.specs.Inside.Opening.{passes_at}
 use Rattle.jv_method_pass.specs.Inside.Flowed.{HaveFlowed}
-use Rattle.jv_method_pass.specs.Inside.Settled.{unsettled_holds, IsLeft}
+use Rattle.jv_method_pass.specs.Inside.Settled.{unsettled_holds, IsLeft, Holds}
 use Rattle.jv_method_pass.proofs.handlers.handlers_hold.Given as goal
 
 abbrev pub invariant-loop-k : goal.invariant-loop-k
@@ -14,3 +14,4 @@ invariant-loop-k l =
     ((env : Environment) (insn : Instruction) → IsOfPass l.pass env → IsLeft env insn (names_in l.pass) l.frame l.object
     → list_all (passes_at l.offset (unsettled_holds l.settled env (maps_of l.pass) insn (frame_of (names_in l.pass) l.frame))) (take l.k l.handlers) ≡ true)
     × HaveFlowed l.pass l.flowed.writes.items l.flowed.frames.items l.frame.locals
+    × Holds l.pass l.frame l.object l.asked
