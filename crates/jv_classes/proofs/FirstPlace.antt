@@ -1,10 +1,8 @@
 -- The first item of a list that passes a test, where one more joins behind.
 use Rattle.std.proofs.Common.{◌≡◌, ℕ, Bool, true, false, cond, List, [], ◌∷◌, ◌++◌, ◌||◌, ◌+◌, length, Some, refl, sym, ap, ◌∙◌, arith}
 use Rattle.std.specs.Prelude.{position, is_some}
-use Rattle.std.specs.HashMap.{HashMap, get_by}
 use Rattle.std.specs.List.{list_any, position_from}
 use Rattle.std.proofs.lemmas.Iterator.Adapters.{position_from-zero}
-use Rattle.jv_classes.specs.Inside.KeptNames.{AreFirstPlaces}
 
 neither : (a b : Bool) → (a || b) ≡ false → (a ≡ false) × (b ≡ false)
 neither true b e = absurd cc
@@ -51,23 +49,3 @@ module _ {A : Type 0} (test : A → Bool) where
 
   pub same_place : (xs : List A) (y : A) → test y ≡ false → position test (xs ++ y ∷ []) ≡ position test xs
   same_place xs y e = position_from-zero test (xs ++ y ∷ []) ∙ (same_from 0 xs y e ∙ sym (position_from-zero test xs))
-
--- ---- a map from keys to the first items that they find
-
-module _ {K A S : Type 0} (same : K → K → Bool) (finds : K → A → Bool) where
-  -- an item that joins behind the others, and has their count for its place
-  pub joined : (items : List A) (item : A) (key : K) (old new : HashMap K ℕ S) → AreFirstPlaces same finds items old
-      → ((other : K) → get_by (same other) new ≡ cond (same key other) (Some (length items)) (get_by (same other) old))
-      → ((other : K) → same key other ≡ true → (list_any (finds other) items ≡ false) × (finds other item ≡ true))
-      → ((other : K) → same key other ≡ false → finds other item ≡ false) → AreFirstPlaces same finds (items ++ item ∷ []) new
-  joined items item key old new known told found unlike other = by_test (same key other) refl
-    where
-      by_test : (b : Bool) → same key other ≡ b → get_by (same other) new ≡ position (finds other) (items ++ item ∷ [])
-      by_test true e =
-          let its = found other e in
-          told other
-          ∙ (ap (λ b. cond b (Some (length items)) (get_by (same other) old)) e ∙ sym (last_place (finds other) items item its.0 its.1))
-      by_test false e =
-          told other
-          ∙ (ap (λ b. cond b (Some (length items)) (get_by (same other) old)) e
-          ∙ (known other ∙ sym (same_place (finds other) items item (unlike other e))))

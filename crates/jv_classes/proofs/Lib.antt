@@ -2,7 +2,7 @@ pub mod RelationRows
 pub mod RelationWays
 pub mod FirstPlace
 pub mod Pushed
-pub mod NamesIn
+pub mod LinkedNames
 pub mod Each
 pub mod Adding
 pub mod AllFound

@@ -1,5 +1,6 @@
 pub mod Steps
 pub mod KeptNames
+pub mod NameLinks
 pub mod Direct
 pub mod Found
 pub mod Kept

@@ -16,7 +16,6 @@ mod list;
 mod loaded_class;
 mod member;
 mod members;
-mod name_key;
 mod names;
 mod once;
 mod package;

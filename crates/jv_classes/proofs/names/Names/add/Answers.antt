@@ -1,41 +1,40 @@
-use Rattle.std.proofs.Common.{◌∙◌, ◌≡◌, ◌++◌, ◌∷◌, [], false, Some, cond, ap, sym, not}
-use Rattle.std.specs.Prelude.{position, length}
-use Rattle.std.specs.HashMap.{get_by}
+use Rattle.std.proofs.Common.{◌≡◌, ◌∙◌, ℕ, true, false, List, sym, ap, not}
+use Rattle.std.specs.Prelude.{position}
+use Rattle.std.specs.Borrow.{Bor}
 use Rattle.std.specs.Str.{bytes_eq}
 use Rattle.jv_classes.specs.Names.{has_name, with_name}
 use Rattle.jv_classes.specs.Inside.KeptNames.{texts_of}
-use Rattle.jv_classes.proofs.NamesIn.{is_there, stays, behind, placed_last}
+use Rattle.jv_classes.proofs.LinkedNames.{is_there, stays, behind}
 use Rattle.jv_classes.proofs.names.Names.add.Goals as goal
 
-pub returns-then-contains_key-clause-new : goal.returns-then-contains_key-clause-new
-returns-then-contains_key-clause-new c =
-    ap not (sym c.if-contains_key.true ∙ (c.contains_key.ensures ∙ (is_there c.self.inside.names.items c.self.inside.places c.args.name c.self.invariant
-    ∙ ap (λ names. has_name names c.args.name.now) c.self.view_is)))
+pub returns-then-is_some-clause-new : goal.returns-then-is_some-clause-new
+returns-then-is_some-clause-new c =
+    let name = c.args.name.now in
+    let found = is_there (texts_of c.self.inside.names.items) name c.place_in-place.result (c.place_in-place.ensures ∙ ap (λ (ns : List (Bor (List ℕ))). position (bytes_eq name) (texts_of ns)) c.deref.ensures.value) in
+    ap not (sym c.if-is_some.true ∙ (c.is_some.ensures ∙ (found ∙ ap (λ ns. has_name ns name) c.self.view_is)))
 
-pub returns-then-contains_key-clause-ok : goal.returns-then-contains_key-clause-ok
-returns-then-contains_key-clause-ok c =
-    sym c.self.view_is
-    ∙ (stays c.self.inside.names.items c.self.inside.places c.args.name c.self.invariant (sym c.contains_key.ensures ∙ c.if-contains_key.true)
-    ∙ ap (λ names. with_name names c.args.name.now) c.self.view_is)
+pub returns-then-is_some-clause-ok : goal.returns-then-is_some-clause-ok
+returns-then-is_some-clause-ok c =
+    let name = c.args.name.now in
+    let found = is_there (texts_of c.self.inside.names.items) name c.place_in-place.result (c.place_in-place.ensures ∙ ap (λ (ns : List (Bor (List ℕ))). position (bytes_eq name) (texts_of ns)) c.deref.ensures.value) in
+    let there : has_name c.args.self.now name ≡ true = ap (λ ns. has_name ns name) (sym c.self.view_is) ∙ (sym found ∙ (sym c.is_some.ensures ∙ c.if-is_some.true)) in
+    stays c.args.self.now name there
 
-pub invariant_of-self-2 : goal.invariant_of-self-2
-invariant_of-self-2 c other =
-    let absent : has_name (texts_of c.self.inside.names.items) c.args.name.now ≡ false =
-    sym (is_there c.self.inside.names.items c.self.inside.places c.args.name c.self.invariant) ∙ (sym c.contains_key.ensures ∙ c.if-contains_key.false) in
-    placed_last c.self.inside.names.items c.self.inside.places c.args.name c.self.invariant absent c.insert.new.self
-    (λ q. c.in_ok-insert.ensures.updates.0 q ∙ ap (λ n. cond (bytes_eq c.args.name.now q.bytes.now) (Some n) (get_by (λ key. bytes_eq q.bytes.now key.bytes.now) c.self.inside.places)) (c.len.ensures ∙ (c.reserve.new.self.ok.0 ∙ ap length c.reserve.ensures.items)))
-    other
-    ∙ ap (λ names. position (bytes_eq other.bytes.now) (texts_of names)) (sym (c.push_reserved.ensures.items ∙ ap (λ names. names ++ c.args.name ∷ []) c.reserve.ensures.items))
+pub join-requires-clause-absent : goal.join-requires-clause-absent
+join-requires-clause-absent c =
+    let name = c.args.name.now in
+    let found = is_there (texts_of c.self.inside.names.items) name c.place_in-place.result (c.place_in-place.ensures ∙ ap (λ (ns : List (Bor (List ℕ))). position (bytes_eq name) (texts_of ns)) c.deref.ensures.value) in
+    sym found ∙ (sym c.is_some.ensures ∙ c.if-is_some.false)
 
 pub returns-clause-new : goal.returns-clause-new
 returns-clause-new c =
-    ap not (sym c.if-contains_key.false ∙ (c.contains_key.ensures ∙ (is_there c.self.inside.names.items c.self.inside.places c.args.name c.self.invariant
-    ∙ ap (λ names. has_name names c.args.name.now) c.self.view_is)))
+    let name = c.args.name.now in
+    let found = is_there (texts_of c.self.inside.names.items) name c.place_in-place.result (c.place_in-place.ensures ∙ ap (λ (ns : List (Bor (List ℕ))). position (bytes_eq name) (texts_of ns)) c.deref.ensures.value) in
+    ap not (sym c.if-is_some.false ∙ (c.is_some.ensures ∙ (found ∙ ap (λ ns. has_name ns name) c.self.view_is)))
 
 pub returns-clause-ok : goal.returns-clause-ok
 returns-clause-ok c =
-    let absent : has_name (texts_of c.self.inside.names.items) c.args.name.now ≡ false =
-    sym (is_there c.self.inside.names.items c.self.inside.places c.args.name c.self.invariant) ∙ (sym c.contains_key.ensures ∙ c.if-contains_key.false) in
-    ap texts_of (c.push_reserved.ensures.items ∙ ap (λ names. names ++ c.args.name ∷ []) c.reserve.ensures.items)
-    ∙ (behind c.self.inside.names.items c.self.inside.places c.args.name c.self.invariant absent
-    ∙ ap (λ names. with_name names c.args.name.now) c.self.view_is)
+    let name = c.args.name.now in
+    let found = is_there (texts_of c.self.inside.names.items) name c.place_in-place.result (c.place_in-place.ensures ∙ ap (λ (ns : List (Bor (List ℕ))). position (bytes_eq name) (texts_of ns)) c.deref.ensures.value) in
+    let absent : has_name (texts_of c.self.inside.names.items) name ≡ false = sym found ∙ (sym c.is_some.ensures ∙ c.if-is_some.false) in
+    ap texts_of c.in_ok-join.ensures.ok ∙ (behind c.self.inside.names.items c.args.name absent ∙ ap (λ ns. with_name ns name) c.self.view_is)
