@@ -34,7 +34,8 @@ AreSettledAt settled offset handlers = list_all (passes_at offset (is_settled se
 
 -- a handler that was asked, where there is one, holds with what is left once an object cannot be used any more
 abbrev pub Holds : Pass → NumberFrame → Option Item → Option Handler → Type 0
-Holds pass frame object asked = IfSome asked (λ h. (env : Environment) (insn : Instruction) → IsOfPass pass env → IsLeft env insn (names_in pass) frame object
+Holds pass frame object asked =
+    IfSome asked (λ h. (env : Environment) (insn : Instruction) → IsOfPass pass env → IsLeft env insn (names_in pass) frame object
     → handles env (maps_of pass) (handler_frame env insn (frame_of (names_in pass) frame)) h ≡ true)
 
 -- each handler that covers an instruction is settled, or holds
