@@ -403,7 +403,8 @@ impl FlowedLocals {
         requires room { HasRoom pass.now.types pass.now.max_locals map.now }
         ensures { StaysRight pass.now self.old.writes.items self.old.frames.items self.new.writes.items self.new.frames.items }
     {
-        if !is_small && !is_wanted(&mut self.asked, &self.frames, pass, place) {
+        let is_wanted = is_wanted(&mut self.asked, &self.frames, pass, place);
+        if !is_small && !is_wanted {
             return;
         }
         let count = usize::from(room_for(map.local_words(), pass.max_locals));
