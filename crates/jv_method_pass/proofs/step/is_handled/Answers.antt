@@ -39,7 +39,7 @@ returns-clause-hold c = λ env is.
     c.handlers_hold.ensures.hold env insn is left
     ∙ (ap (list_all (passes_at c.args.offset test)) c.opened-opened.ensures
     ∙ (c.in_ok-known.ensures.opened test
-    ∙ (ap (list_all (passes_at c.args.offset test)) c.advance-known.ensures.handlers
+    ∙ (ap (list_all (passes_at c.args.offset test)) c.advance.ensures.handlers
     ∙ (c.requires.openings c.args.offset test
     ∙ (ap (list_all (passes_at c.args.offset test)) (sym is.handlers)
     ∙ (all_grouped (λ h. not (covers h c.args.offset)) (is_settled c.settled_without-settled.result) (handles env (maps_of pass) (handler_frame env insn x)) env.code.exception_table
