@@ -159,7 +159,8 @@ fn tables_at<'a>(
     pool: &Pool<'_>,
     bytes: &'a [u8],
 ) -> Option<((ExceptionTable<'a>, Option<FoundMap<'a>>), &'a [u8])>
-    ensures found { Finds (both handlers_kept (stack_maps_kept pool.now)) bytes.now (λ x. ((handlers_of x.0.0, seen_found x.0.1), x.1.now)) result }
+    ensures found { Finds (both handlers_kept (stack_maps_kept pool.now)) bytes.now
+        (λ x. ((handlers_of x.0.0, seen_found x.0.1), x.1.now)) result }
     ensures there { IfSome result (λ x. IsFoundIn bytes.now x.0.1) }
 {
     let Some((handlers, rest)) = handlers_at(bytes) else {

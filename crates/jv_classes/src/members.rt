@@ -125,13 +125,11 @@ pub fn member_key(seed: u64, name: &Text<'_>, descriptor: &Text<'_>) -> u64
         .wrapping_add(descriptor.hash_under(seed))
 }
 
-/// How many slots a table for so many members has, a power of two: two to four for each, so that what is not there is mostly known
-/// as such without a look at a member.
+/// How many slots a table for so many members has, a power of two: one to two for each.
 fn slots_for(count: usize) -> usize
     ensures { 0 < result }
 {
-    let wanted = 2 * count.min(MOST);
-    wanted.max(1).next_power_of_two()
+    count.clamp(1, MOST).next_power_of_two()
 }
 
 /// The slot into which a key falls.

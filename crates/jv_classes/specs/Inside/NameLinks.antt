@@ -23,7 +23,8 @@ end_in seed size slot texts (suc place) =
 pub record AreLinkedTo (seed size : ℕ) (texts : List (List ℕ)) (count : ℕ) (before ends : List ℕ) : Type 0 where
   pub long : length ends ≡ size
   pub heads : (slot : ℕ) → slot < size → get_or ends slot 0 ≡ end_in seed size slot texts count
-  pub links : (place : ℕ) → place < count → get_or before place 0 ≡ end_in seed size (slot_of_text seed size (text_in texts place)) texts place
+  pub links : (place : ℕ) → place < count
+      → get_or before place 0 ≡ end_in seed size (slot_of_text seed size (text_in texts place)) texts place
 
 -- no two are equal: each is the first of those like it
 abbrev pub AreApart : List (List ℕ) → Type 0

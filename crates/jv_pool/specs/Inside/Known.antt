@@ -38,7 +38,8 @@ pub record KnownBelow (pool : List Entry) (count : ℕ) (facts : List TextFacts)
 abbrev pub place_alike : List ℕ → List ℕ → ℕ → Option ℕ
 place_alike alike places index = slice_get alike index >>= slice_get places
 
--- The place of a text's facts: none where there is no text; the one that facts of the same text have; or one behind the others, where they joined.
+-- the place of a text's facts: none where there is no text; the one that facts of the same text have; or one behind the others, where
+-- they joined
 abbrev pub IsAdded : Option (List ℕ) → Option ℕ → List TextFacts → List TextFacts → ℕ → Type 0
 IsAdded None known before after place = (after ≡ before) × (place ≡ 0)
 IsAdded (Some text) (Some known) before after place = (after ≡ before) × (place ≡ known)
