@@ -1,5 +1,5 @@
 -- Numbers of pairs of texts differ exactly where the pairs do.
-use Rattle.std.proofs.Common.{◌≡◌, ◌≢◌, ℕ, ◌+◌, ◌*◌, ◌<◌, Bool, true, false, cond, eqb, List, [], ◌∷◌, ◌++◌, length, take, drop, get_or, Option, Some, None, ◌⊎◌, ⊎_elim, refl, sym, ap, subst, ◌∙◌, arith}
+use Rattle.std.proofs.Common.{◌≡◌, ◌≢◌, ℕ, ◌+◌, ◌*◌, ◌<◌, ◌≤◌, Bool, true, false, cond, eqb, List, [], ◌∷◌, ◌++◌, length, take, drop, get_or, Option, Some, None, ◌⊎◌, ⊎_elim, refl, sym, ap, subst, ◌∙◌, arith}
 use Rattle.std.specs.Prelude.{IsSome, IsTrue, nat_eq, unwrap_or, map, ◌||◌}
 use Rattle.std.specs.Option.{IsSomeAnd, option_map}
 use Rattle.std.specs.List.{All, AllZip, AllByRecursion, IsDistinct, list_any}
@@ -8,7 +8,7 @@ use Rattle.std.proofs.lemmas.Bool.Decides.{nat_tests}
 use Rattle.std.proofs.lemmas.Grind.{common_steps}
 use Rattle.std.proofs.lemmas.List.{take_more, take-append-drop}
 use Rattle.std.proofs.lemmas.List.Elements.{All-head, All-tail, All-nil, All-cons, All-get_or}
-use Rattle.std.proofs.lemmas.Option.{slice_get_within, get_or_from_slice_get}
+use Rattle.std.proofs.lemmas.Option.{slice_get_cases, slice_get_within, get_or_from_slice_get}
 use Rattle.jv_class_structure.specs.of_format.Format.{◌>>=◌}
 use Rattle.jv_class_structure.specs.of_pool.Constants.{Entry, NameAndDescriptor, name_and_descriptor, utf8_at, named_at, class_name_at}
 use Rattle.jv_class_structure.specs.of_pool.declared.index.ClassIndex.{ClassIndex}
@@ -21,8 +21,8 @@ use Rattle.jv_class_structure.specs.Structure.{ClassStructure}
 use Rattle.std.specs.Prelude.{is_some, IfSome, slice_get}
 use Rattle.jv_class.proofs.ShownOf.{members_shown}
 use Rattle.jv_class.specs.Rules.{MembersKeepRules, NoTwoAlike, is_object, is_no_array_name, is_class_at, KeepsRulesAsName, IsClassAt, SupersKeepRules, KeepsRulesAsField, KeepsRulesAsMethod}
-use Rattle.jv_class.specs.Inside.Shown.{shown_field_texts, shown_method_texts, KeepsFieldShown, KeepsMethodShown}
-use Rattle.jv_class_structure.specs.Parts.{fields_of, methods_of}
+use Rattle.jv_class.specs.Inside.Shown.{shown_field_texts, shown_method_texts, KeepsFieldShown}
+use Rattle.jv_class_structure.specs.Parts.{MethodSeen, fields_of, methods_of}
 use Rattle.jv_class.proofs.Kept.{all_there, all_unseen, some_there}
 use Rattle.jv_class.specs.Inside.Reading.{IsFirst, IsKeyOf, IsFieldKey, IsMethodKey}
 
@@ -154,6 +154,14 @@ zipped_next {X} R xs i d lt ks new k is zip last =
     let front : AllZip R (take (i + 1) xs) (ks ++ k ∷ []) = subst (λ (ys : List X). AllZip R ys (ks ++ k ∷ [])) (sym (take_more xs i d lt)) pushed in
     subst (λ (ls : List ℕ). AllZip R (take (i + 1) xs) ls) (sym is) front
 
+-- the next, where its place is known
+pub zipped_place : {X : Type 0} (R : X → ℕ → Type 0) (xs : List X) (i : ℕ) → i < length xs → (ks new : List ℕ) (k : ℕ) → new ≡ ks ++ k ∷ [] → AllZip R (take i xs) ks → IfSome (slice_get xs i) (λ x. R x k) → AllZip R (take (i + 1) xs) new
+zipped_place {X} R xs i lt ks new k is zip here =
+    ⊎_elim
+    (λ (at : (x : X) × (i < length xs) × (slice_get xs i ≡ Some x) × (get_or xs i x ≡ x)).
+    zipped_next R xs i at.0 lt ks new k is zip (subst (λ x. R x k) (sym at.3) (subst (λ o. IfSome o (λ x. R x k)) at.2 here)))
+    (λ (past : (length xs ≤ i) × (slice_get xs i ≡ None)). absurd (omega (arith, lt, past.0))) (slice_get_cases xs i).1
+
 map_map : {X Y Z : Type 0} (f : Y → Z) (g : X → Y) (xs : List X) → map (λ x. f (g x)) xs ≡ map f (map g xs)
 map_map f g [] = refl
 map_map f g (x ∷ xs) = ap (λ r. f (g x) ∷ r) (map_map f g xs)
@@ -167,15 +175,6 @@ unlike_fields pool xs ks zip some b h =
       (λ u. h.1 (keys_from_unlike pool (λ (f : Field). f.name.0) (λ (f : Field). f.descriptor.0) xs ks zip (subst NoTwoAlike (sym same) u))),
     )
 
-pub unlike_methods : (pool : List Entry) (xs : List Method) (ks : List ℕ) → AllZip (IsMethodKey pool) xs ks → All (λ x. IsSome (shown_method_texts pool (seen_method x))) xs
-    → (b : Bool) → (IsTrue b → IsDistinct nat_eq ks) × (IsDistinct nat_eq ks → IsTrue b)
-    → (IsTrue b → NoTwoAlike (map (shown_method_texts pool) (map seen_method xs))) × (NoTwoAlike (map (shown_method_texts pool) (map seen_method xs)) → IsTrue b)
-unlike_methods pool xs ks zip some b h =
-    let same = map_map (shown_method_texts pool) seen_method xs in (
-      (λ t. subst NoTwoAlike same (unlike_from_keys pool (λ (m : Method). m.name.0) (λ (m : Method). m.descriptor.0) xs ks zip some (h.0 t))),
-      (λ u. h.1 (keys_from_unlike pool (λ (m : Method). m.name.0) (λ (m : Method). m.descriptor.0) xs ks zip (subst NoTwoAlike (sym same) u))),
-    )
-
 -- ---- the texts of members that keep their rules are there
 
 pub fields_there : (c : ClassStructure) (pool : List Entry) (xs : List Field) → pool ≡ c.constant_pool → map seen_field xs ≡ fields_of c → MembersKeepRules c → All (λ x. IsSome (shown_field_texts pool (seen_field x))) xs
@@ -184,11 +183,16 @@ fields_there c pool xs e is right =
     let some : All (λ f. IsSome (shown_field_texts c.constant_pool f)) (map seen_field xs) = all_there (shown_field_texts c.constant_pool) (λ f. KeepsRulesAsField c.constant_pool c.access_flags f.access_flags f.constant_value) (map seen_field xs) all in
     all_unseen (λ f. IsSome (shown_field_texts pool f)) seen_field xs (subst (λ p. All (λ f. IsSome (shown_field_texts p f)) (map seen_field xs)) (sym e) some)
 
-pub methods_there : (c : ClassStructure) (pool : List Entry) (xs : List Method) → pool ≡ c.constant_pool → map seen_method xs ≡ methods_of c → MembersKeepRules c → All (λ x. IsSome (shown_method_texts pool (seen_method x))) xs
-methods_there c pool xs e is right =
-    let all : All (KeepsMethodShown c.constant_pool c.major_version c.access_flags) (map seen_method xs) = subst (λ fs. All (KeepsMethodShown c.constant_pool c.major_version c.access_flags) fs) (sym is) (members_shown c right).methods in
-    let some : All (λ f. IsSome (shown_method_texts c.constant_pool f)) (map seen_method xs) = all_there (shown_method_texts c.constant_pool) (λ m. KeepsRulesAsMethod c.major_version c.access_flags m.access_flags (is_some m.code)) (map seen_method xs) all in
-    all_unseen (λ f. IsSome (shown_method_texts pool f)) seen_method xs (subst (λ p. All (λ f. IsSome (shown_method_texts p f)) (map seen_method xs)) (sym e) some)
+methods_there : (c : ClassStructure) → MembersKeepRules c → All (λ m. IsSome (shown_method_texts c.constant_pool m)) (methods_of c)
+methods_there c right = all_there (shown_method_texts c.constant_pool) (λ m. KeepsRulesAsMethod c.major_version c.access_flags m.access_flags (is_some m.code)) (methods_of c) (members_shown c right).methods
+
+pub unlike_methods : (c : ClassStructure) (ks : List ℕ) → AllZip (IsMethodKey c.constant_pool) (methods_of c) ks → MembersKeepRules c
+    → (b : Bool) → (IsTrue b → IsDistinct nat_eq ks) × (IsDistinct nat_eq ks → IsTrue b)
+    → (IsTrue b → NoTwoAlike (map (shown_method_texts c.constant_pool) (methods_of c))) × (NoTwoAlike (map (shown_method_texts c.constant_pool) (methods_of c)) → IsTrue b)
+unlike_methods c ks zip right b h = (
+  (λ t. unlike_from_keys c.constant_pool (λ (m : MethodSeen). m.name_index) (λ (m : MethodSeen). m.descriptor_index) (methods_of c) ks zip (methods_there c right) (h.0 t)),
+  (λ u. h.1 (keys_from_unlike c.constant_pool (λ (m : MethodSeen). m.name_index) (λ (m : MethodSeen). m.descriptor_index) (methods_of c) ks zip u)),
+)
 
 class_there : (o : Option (List ℕ)) → IsTrue (some_and is_no_array_name o) → IsSome o
 class_there None h = absurd cc

@@ -3,10 +3,11 @@
 //! The pool knows for each text the first constant with that text, so that a name and a descriptor
 //! come to one number, and these are compared, whatever the length of the texts.
 
-ghost use Rattle.std.specs.Prelude.{◌≡◌, ◌↔◌, ◌<◌, IsSome, IsTrue, IfOk, OnErr, Err, map, nat_eq};
+ghost use Rattle.std.specs.Prelude.{◌≡◌, ◌↔◌, IsSome, IsTrue, IfSome, IfOk, OnErr, Err, map, nat_eq, slice_get};
 ghost use Rattle.std.specs.List.{All, AllZip, IsDistinct};
 ghost use Rattle.jv_class_structure.specs.of_pool.Constants.{utf8_at};
-ghost use Rattle.jv_class_structure.specs.Seen.{seen_field, seen_method};
+ghost use Rattle.jv_class_structure.specs.Seen.{seen_field};
+ghost use Rattle.jv_class_structure.specs.Parts.{methods_of};
 ghost use Rattle.jv_class.specs.Inside.Reading.{IsKeyOf, IsFieldKey, IsMethodKey, FailsForMemory};
 ghost use Rattle.jv_class.specs.Rules.{NoTwoAlike, MembersKeepRules, AreMembersUnlike};
 ghost use Rattle.jv_class.specs.Inside.Shown.{shown_field_texts, shown_method_texts, AreShownUnlike};
@@ -14,7 +15,7 @@ ghost use Rattle.jv_class.specs.declared.fault.ClassFault.TheVariants.{Memory};
 
 use crate::fault::ClassFault;
 use jv_class_structure::of_pool::{Pool, Utf8Index};
-use jv_class_structure::{Field, Method, Parts};
+use jv_class_structure::{Field, Parts};
 use std::alloc::Global;
 use std::collections::BTreeSet;
 
@@ -55,20 +56,27 @@ fn field_keys(alloc: Global, pool: &Pool<'_>, fields: &[Field]) -> Result<Vec<u3
     Ok(keys)
 }
 
-fn method_keys(
-    alloc: Global,
-    pool: &Pool<'_>,
-    methods: &[Method<'_>],
-) -> Result<Vec<u32>, ClassFault>
-    requires { All (λ m. IsSome (shown_method_texts pool.now (seen_method m))) methods.now }
-    ensures ok { IfOk result (λ keys. AllZip (IsMethodKey pool.now) methods.now keys.items) }
+/// The number of the name and the descriptor of the method at a place; 0 where there is none.
+fn method_key(parts: &Parts<'_>, place: usize) -> u32
+    requires { MembersKeepRules parts.now }
+    ensures { IfSome (slice_get (methods_of parts.now) place) (λ m. IsMethodKey parts.now.constant_pool m result) }
+{
+    match parts.method(place) {
+        Some(method) => key_of(parts.pool(), method.name, method.descriptor),
+        None => 0,
+    }
+}
+
+fn method_keys(alloc: Global, parts: &Parts<'_>) -> Result<Vec<u32>, ClassFault>
+    requires { MembersKeepRules parts.now }
+    ensures ok { IfOk result (λ keys. AllZip (IsMethodKey parts.now.constant_pool) (methods_of parts.now) keys.items) }
     ensures memory { FailsForMemory result }
 {
-    let Ok(mut keys) = Vec::with_capacity(alloc, methods.len()) else {
+    let Ok(mut keys) = Vec::with_capacity(alloc, parts.method_count()) else {
         return Err(ClassFault::Memory);
     };
-    for method in methods {
-        keys.push(key_of(pool, method.name, method.descriptor))?;
+    for place in 0..parts.method_count() {
+        keys.push(method_key(parts, place))?;
     }
     Ok(keys)
 }
@@ -84,16 +92,13 @@ fn fields_are_unlike(alloc: Global, pool: &Pool<'_>, fields: &[Field]) -> Result
 }
 
 /// Whether no two methods have the same name and descriptor.
-fn methods_are_unlike(
-    alloc: Global,
-    pool: &Pool<'_>,
-    methods: &[Method<'_>],
-) -> Result<bool, ClassFault>
-    requires { All (λ m. IsSome (shown_method_texts pool.now (seen_method m))) methods.now }
-    ensures ok { IfOk result (λ unlike. IsTrue unlike ↔ NoTwoAlike (map (shown_method_texts pool.now) (map seen_method methods.now))) }
+fn methods_are_unlike(alloc: Global, parts: &Parts<'_>) -> Result<bool, ClassFault>
+    requires { MembersKeepRules parts.now }
+    ensures ok { IfOk result
+        (λ unlike. IsTrue unlike ↔ NoTwoAlike (map (shown_method_texts parts.now.constant_pool) (methods_of parts.now))) }
     ensures memory { FailsForMemory result }
 {
-    let keys = method_keys(alloc, pool, methods)?;
+    let keys = method_keys(alloc, parts)?;
     all_differ(alloc, &keys)
 }
 
@@ -106,7 +111,7 @@ fn shown_are_unlike(alloc: Global, parts: &Parts<'_>) -> Result<bool, ClassFault
     if !fields_are_unlike(alloc, parts.pool(), parts.fields())? {
         return Ok(false);
     }
-    methods_are_unlike(alloc, parts.pool(), parts.methods())
+    methods_are_unlike(alloc, parts)
 }
 
 /// Whether no two fields, and no two methods, are alike.

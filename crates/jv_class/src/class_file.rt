@@ -1,6 +1,6 @@
 //! A class file that was read.
 
-ghost use Rattle.std.specs.Prelude.{◌≡◌, ◌≢◌, ◌↔◌, Some, IsSome, IfSome, IsTrue, IfOk, Err, map, slice_get};
+ghost use Rattle.std.specs.Prelude.{◌≡◌, ◌≢◌, ◌↔◌, Some, IsSome, IfSome, IsTrue, IfOk, Err, length, map, slice_get};
 ghost use Rattle.std.specs.Option.{option_map};
 ghost use Rattle.std.specs.List.{All};
 ghost use Rattle.jv_class_structure.specs.of_pool.Constants.{class_name_at, pool_bytes, utf8_at};
@@ -51,12 +51,7 @@ fn shown_keep_rules(parts: &Parts<'_>) -> bool
     ensures { IsTrue result ↔ ShownKeepRules parts.now }
 {
     field_rules::keep_rules(parts.pool(), parts.access_flags(), parts.fields())
-        && method_rules::keep_rules(
-            parts.pool(),
-            parts.major(),
-            parts.access_flags(),
-            parts.methods(),
-        )
+        && method_rules::keep_rules(parts)
 }
 
 /// Whether fields and methods keep the rules of their own.
@@ -71,7 +66,7 @@ fn shown_are_supported(parts: &Parts<'_>) -> bool
 {
     are_supported_constants(parts.pool())
         && are_supported_fields(parts.pool(), parts.fields())
-        && are_supported_methods(parts.pool(), parts.methods())
+        && are_supported_methods(parts)
 }
 
 fn is_supported(parts: &Parts<'_>) -> bool
@@ -113,16 +108,6 @@ pub(crate) fn class_of(alloc: Global, parts: Parts<'_>) -> Result<ClassFile<'_>,
     match judged(alloc, &parts) {
         Ok(()) => Ok(ClassFile { parts }),
         Err(fault) => Err(fault),
-    }
-}
-
-/// The method at a place.
-fn method_at<'a>(parts: &Parts<'a>, place: usize) -> Option<Method<'a>>
-    ensures { option_map seen_method result ≡ slice_get (methods_of parts.now) place }
-{
-    match parts.methods().get(place) {
-        Some(method) => Some(*method),
-        None => None,
     }
 }
 
@@ -218,13 +203,11 @@ impl<'a> ClassFile<'a> {
         self.parts.fields()
     }
 
-    /// The methods, in the order of the file (JVMS 4.6).
-    pub fn methods(&self) -> &[Method<'a>]
-        ensures shown { map seen_method result.now ≡ methods_of self.now }
-        ensures named { All (λ method. IsSome (utf8_at self.now.constant_pool method.name.0)) result.now }
-        ensures described { All (λ method. IsSome (utf8_at self.now.constant_pool method.descriptor.0)) result.now }
+    /// How many methods there are (JVMS 4.6).
+    pub fn method_count(&self) -> usize
+        ensures { result ≡ length (methods_of self.now) }
     {
-        self.parts.methods()
+        self.parts.method_count()
     }
 
     /// The field at a place, the first at 0; `None` behind the last.
@@ -236,13 +219,13 @@ impl<'a> ClassFile<'a> {
         field_at(&self.parts, place)
     }
 
-    /// The method at a place, the first at 0; `None` behind the last.
+    /// The method at a place, in the order of the file, the first at 0; `None` behind the last.
     pub fn method(&self, place: usize) -> Option<Method<'a>>
         ensures shown { option_map seen_method result ≡ slice_get (methods_of self.now) place }
         ensures named { IfSome result (λ method. IsSome (utf8_at self.now.constant_pool method.name.0)) }
         ensures described { IfSome result (λ method. IsSome (utf8_at self.now.constant_pool method.descriptor.0)) }
     {
-        method_at(&self.parts, place)
+        self.parts.method(place)
     }
 
     /// The constant that the static field at a place has as its value (JVMS 4.7.2); `None` where it

@@ -1,10 +1,11 @@
 //! The rules that a method keeps (JVMS 4.6, 4.7.3).
 
-ghost use Rattle.std.specs.Prelude.{◌≡◌, ◌↔◌, ◌&&◌, IsTrue, is_some, map};
+ghost use Rattle.std.specs.Prelude.{◌≡◌, ◌↔◌, ◌&&◌, IsTrue, IfSome, is_some, slice_get};
 ghost use Rattle.std.specs.List.{All};
 ghost use Rattle.jv_class_structure.specs.of_pool.Constants.{NameAndDescriptor};
 ghost use Rattle.jv_class_structure.specs.of_pool.Facts.{AreFacts};
 ghost use Rattle.jv_class_structure.specs.Flags.{has, acc_interface};
+ghost use Rattle.jv_class_structure.specs.Parts.{methods_of};
 ghost use Rattle.jv_class_structure.specs.Seen.{seen_method};
 ghost use Rattle.jv_class.specs.Rules.{interface_flags_keep_rules, named_flags_keep_rules, method_flags_keep_rules, init_keeps_rules, clinit_keeps_rules, slots_keep_rules, is_bodiless, code_presence_keeps_rules, KeepsRulesAsMethod};
 ghost use Rattle.jv_class.specs.Inside.Shown.{KeepsMethodShown};
@@ -17,7 +18,7 @@ use crate::names::{is_clinit, is_no_arguments_void};
 use bitflags::Flags;
 use jv_class_structure::of_pool::{MethodFacts, Pool, TextFacts};
 use jv_class_structure::of_text::is_init;
-use jv_class_structure::{ClassFlags, Method, MethodFlags};
+use jv_class_structure::{ClassFlags, Method, MethodFlags, Parts};
 
 /// Abstract and native.
 const WITHOUT_CODE: MethodFlags = MethodFlags(0x0500);
@@ -186,28 +187,21 @@ fn keeps_rules(pool: &Pool<'_>, major: u16, class_flags: ClassFlags, method: Met
     )
 }
 
-/// Whether each method keeps the rules, in a class file of this major version.
-pub(crate) fn keep_rules(
-    pool: &Pool<'_>,
-    major: u16,
-    class_flags: ClassFlags,
-    methods: &[Method<'_>],
-) -> bool
-    ensures { IsTrue result ↔ All (KeepsMethodShown pool.now major class_flags.0) (map seen_method methods.now) }
+/// Whether the method at a place keeps the rules; also where there is none.
+fn keeps_rules_at(parts: &Parts<'_>, place: usize) -> bool
+    ensures { IsTrue result ↔ IfSome (slice_get (methods_of parts.now) place)
+        (KeepsMethodShown parts.now.constant_pool parts.now.major_version parts.now.access_flags) }
 {
-    each_keeps_rules(pool, major, class_flags, methods)
+    match parts.method(place) {
+        Some(method) => keeps_rules(parts.pool(), parts.major(), parts.access_flags(), method),
+        None => true,
+    }
 }
 
-/// The same of each as it was read.
-fn each_keeps_rules(
-    pool: &Pool<'_>,
-    major: u16,
-    class_flags: ClassFlags,
-    methods: &[Method<'_>],
-) -> bool
-    ensures { IsTrue result ↔ All (λ x. KeepsMethodShown pool.now major class_flags.0 (seen_method x)) methods.now }
+/// Whether each method keeps the rules, in a class file of this major version.
+pub(crate) fn keep_rules(parts: &Parts<'_>) -> bool
+    ensures { IsTrue result ↔ All (KeepsMethodShown parts.now.constant_pool parts.now.major_version parts.now.access_flags)
+        (methods_of parts.now) }
 {
-    methods
-        .iter()
-        .all(|method| keeps_rules(pool, major, class_flags, *method))
+    (0..parts.method_count()).all(|place| keeps_rules_at(parts, place))
 }

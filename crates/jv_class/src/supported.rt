@@ -1,11 +1,12 @@
 //! What the host's profile supports, code aside.
 
-ghost use Rattle.std.specs.Prelude.{◌≡◌, ◌↔◌, ℕ, List, IsTrue, map};
+ghost use Rattle.std.specs.Prelude.{◌≡◌, ◌↔◌, ℕ, List, IsTrue, IfSome, map, slice_get};
 ghost use Rattle.std.specs.List.{All};
 ghost use Rattle.std.specs.Option.{IsSomeAnd};
 ghost use Rattle.jv_class_structure.specs.of_pool.Constants.{utf8_at};
 ghost use Rattle.jv_class_structure.specs.of_pool.Facts.{IsFieldKnown, IsMethodKnown, AreFacts};
 ghost use Rattle.jv_class_structure.specs.of_pool.Seen.{seen};
+ghost use Rattle.jv_class_structure.specs.Parts.{methods_of};
 ghost use Rattle.jv_class_structure.specs.Seen.{seen_field, seen_method};
 ghost use Rattle.jv_class.specs.Inside.Reading.{IsSupportedAt};
 ghost use Rattle.jv_class.specs.Supported.{HasNoFloatingField, HasNoFloatingMethod, HasNoFloating, IsNoFloatingArray, IsSupportedConstant, is_supported_method};
@@ -15,7 +16,7 @@ use crate::names::is_clinit;
 use bitflags::Flags;
 use jv_class_structure::of_pool::{Constant, FieldFacts, MethodFacts, Pool, TextFacts};
 use jv_class_structure::of_text::is_array_name;
-use jv_class_structure::{Field, Method, MethodFlags};
+use jv_class_structure::{Field, Method, MethodFlags, Parts};
 
 /// Native and synchronized.
 const NOT_SUPPORTED: MethodFlags = MethodFlags(0x0120);
@@ -140,18 +141,19 @@ fn is_supported_method(pool: &Pool<'_>, method: Method<'_>) -> bool
         && is_supported_at(pool, method.name.0, method.access_flags)
 }
 
-/// Whether each method is one of the profile.
-pub(crate) fn are_supported_methods(pool: &Pool<'_>, methods: &[Method<'_>]) -> bool
-    ensures { IsTrue result ↔ All (IsMethodShownSupported pool.now) (map seen_method methods.now) }
+/// Whether the method at a place is one of the profile; also where there is none.
+fn is_method_supported_at(parts: &Parts<'_>, place: usize) -> bool
+    ensures { IsTrue result ↔ IfSome (slice_get (methods_of parts.now) place) (IsMethodShownSupported parts.now.constant_pool) }
 {
-    each_method_is_supported(pool, methods)
+    match parts.method(place) {
+        Some(method) => is_supported_method(parts.pool(), method),
+        None => true,
+    }
 }
 
-/// The same of each as it was read.
-fn each_method_is_supported(pool: &Pool<'_>, methods: &[Method<'_>]) -> bool
-    ensures { IsTrue result ↔ All (λ x. IsMethodShownSupported pool.now (seen_method x)) methods.now }
+/// Whether each method is one of the profile.
+pub(crate) fn are_supported_methods(parts: &Parts<'_>) -> bool
+    ensures { IsTrue result ↔ All (IsMethodShownSupported parts.now.constant_pool) (methods_of parts.now) }
 {
-    methods
-        .iter()
-        .all(|method| is_supported_method(pool, *method))
+    (0..parts.method_count()).all(|place| is_method_supported_at(parts, place))
 }

@@ -1,5 +1,5 @@
 -- Where a stack map table stands among the contents of a Code attribute.
-use Rattle.std.proofs.Common.{◌≡◌, ℕ, Bool, true, false, cond, ◌*◌, ◌<◌, List, [], ◌++◌, length, Option, Some, None, refl, sym, ap, subst, ◌∙◌, append_assoc}
+use Rattle.std.proofs.Common.{◌≡◌, ℕ, Bool, true, false, cond, ◌*◌, ◌<◌, List, [], ◌++◌, length, Option, Some, None, refl, sym, ap, subst, ◌∙◌, append_assoc, length-append, arith}
 use Rattle.std.specs.Prelude.{IfSome}
 use Rattle.std.proofs.lemmas.Bool.{ltb-true}
 use Rattle.jv_pool.specs.of_format.Format.{◌>>=◌, IsBytes, half, quad, front}
@@ -14,7 +14,7 @@ use Rattle.jv_class_structure.specs.Attributes.{code_length_keeps_rules}
 use Rattle.jv_class_structure.specs.Parts.{CodeSeen}
 use Rattle.jv_class_structure.specs.Packed.{handlers_kept, handlers_read, CodeFront, code_front, front_found, code_with, code_in}
 use Rattle.jv_class_structure.specs.Inside.Reading.{one_more, attribute, code_seen, code_text, stack_maps_kept, code_kept}
-use Rattle.jv_class_structure.specs.Inside.Within.{IsRest, IsFoundIn}
+use Rattle.jv_class_structure.specs.Inside.Within.{IsRest, IsBehindSome, IsFoundIn}
 use Rattle.jv_class_structure.proofs.AttributeLaws.{attribute_is, contents_fit-from}
 
 -- ---- what follows what was read
@@ -51,21 +51,28 @@ handlers_rest bytes rest handlers small e =
 
 -- ---- an attribute
 
-pub attribute_within : (pool : List Entry) (bytes rest : List ℕ) (a : AttributeInfo) → IsBytes bytes → (attribute pool).read bytes ≡ Some (a, rest) → IsRest bytes (a.info ++ rest)
+pub attribute_within : (pool : List Entry) (bytes rest : List ℕ) (a : AttributeInfo) → IsBytes bytes → (attribute pool).read bytes ≡ Some (a, rest) → IsBehindSome bytes (a.info ++ rest)
 attribute_within pool bytes rest a small e =
     let spelled = ((attribute_is pool).takes bytes rest a small e).0 in
     let head : List ℕ = half.spelling a.attribute_name_index ++ quad.spelling (length a.info) in
-    record { front = head; joined = spelled ∙ append_assoc head a.info rest }
+    record { front = head; joined = spelled ∙ append_assoc head a.info rest; some = omega arith }
 
 pub attribute_rest : (pool : List Entry) (bytes rest : List ℕ) (a : AttributeInfo) → IsBytes bytes → (attribute pool).read bytes ≡ Some (a, rest) → IsRest bytes rest
 attribute_rest pool bytes rest a small e =
-    rest_more bytes (a.info ++ rest) rest (attribute_within pool bytes rest a small e) (record { front = a.info; joined = refl })
+    let within = attribute_within pool bytes rest a small e in
+    rest_more bytes (a.info ++ rest) rest (record { front = within.front; joined = within.joined }) (record { front = a.info; joined = refl })
 
 -- ---- what was found, seen from farther in front
 
 pub found_before : (bytes rest : List ℕ) (found : Option FoundMap) → IsRest bytes rest → IsFoundIn rest found → IsFoundIn bytes found
 found_before bytes rest None one there = tt
-found_before bytes rest (Some found) one there = rest_more bytes rest (found.info.now ++ found.behind.now) one there
+found_before bytes rest (Some found) one there =
+    let last : List ℕ = found.info.now ++ found.behind.now in
+    record {
+      front = one.front ++ there.front;
+      joined = one.joined ∙ ap (λ (r : List ℕ). one.front ++ r) there.joined ∙ sym (append_assoc one.front there.front last);
+      some = omega (arith, there.some, length-append one.front there.front);
+    }
 
 pub found_behind : {A : Type 0} (bytes rest : List ℕ) (found : Option (Option FoundMap × A)) → IsRest bytes rest → IfSome found (λ x. IsFoundIn rest x.0) → IfSome found (λ x. IsFoundIn bytes x.0)
 found_behind bytes rest None one there = tt

@@ -1,5 +1,5 @@
 -- How a method's code is found in the contents of its Code attribute (JVMS 4.7.3).
-use Rattle.std.specs.Prelude.{ℕ, ◌*◌, Bool, true, false, List, [], take, drop, Option, Some, None}
+use Rattle.std.specs.Prelude.{ℕ, ◌*◌, false, if◌then◌else◌, nat_eq, List, [], take, drop, Option, Some, None}
 use Rattle.jv_pool.specs.of_format.Format.{Format, ◌>>=◌, half, front}
 use Rattle.jv_pool.specs.of_format.Readers.{both, contents, found_as}
 use Rattle.jv_pool.specs.of_format.declared.handlers.Handler.{Handler}
@@ -38,7 +38,6 @@ code_in bytes map = code_with map (front_found (code_front.read bytes))
 abbrev pub part_of : List ℕ → ℕ → ℕ → List ℕ
 part_of bytes place count = take count (drop place bytes)
 
--- the value, where it is there
-abbrev pub there_if : {A : Type 0} → Bool → A → Option A
-there_if true a = Some a
-there_if false a = None
+-- the contents of the StackMapTable, so many bytes from this place on; a place of 0, where max_stack stands, says that there is none
+abbrev pub map_in : List ℕ → ℕ → ℕ → Option (List ℕ)
+map_in bytes place count = if nat_eq place 0 then None else Some (part_of bytes place count)

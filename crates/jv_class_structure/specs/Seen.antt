@@ -5,10 +5,11 @@ use Rattle.std.specs.Borrow.{Bor}
 use Rattle.jv_pool.specs.declared.index.ClassIndex.{ClassIndex}
 use Rattle.jv_class_structure.specs.declared.member.Field.{Field}
 use Rattle.jv_class_structure.specs.declared.member.MethodCode.{MethodCode}
+use Rattle.jv_class_structure.specs.declared.member.PackedCode.{PackedCode}
 use Rattle.jv_class_structure.specs.declared.member.Method.{Method}
 use Rattle.jv_pool.specs.of_format.Handlers.{handlers_of}
 use Rattle.jv_class_structure.specs.Parts.{FieldSeen, CodeSeen, MethodSeen}
-use Rattle.jv_class_structure.specs.Packed.{code_in, part_of, there_if}
+use Rattle.jv_class_structure.specs.Packed.{code_in, map_in}
 
 abbrev pub seen_index : ClassIndex → ℕ
 seen_index i = i.0
@@ -33,17 +34,17 @@ seen_code c = record {
   stack_map_table = option_map seen_bytes c.stack_map_table;
 }
 
+-- the code whose bytes are kept so
+abbrev pub unpacked : PackedCode → CodeSeen
+unpacked p = code_in p.contents.now (map_in p.contents.now p.map_place p.map_length)
+
 abbrev pub seen_method : Method → MethodSeen
 seen_method m = record {
   access_flags = m.access_flags.0;
   name_index = m.name.0;
   descriptor_index = m.descriptor.0;
-  code = there_if m.is_coded
-      (code_in m.contents.now (there_if m.is_mapped (part_of m.contents.now m.map_place m.map_length)));
+  code = option_map unpacked m.code;
 }
 
 abbrev pub seen_fields : List Field → List FieldSeen
 seen_fields fields = map seen_field fields
-
-abbrev pub seen_methods : List Method → List MethodSeen
-seen_methods methods = map seen_method methods

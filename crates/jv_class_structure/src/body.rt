@@ -3,15 +3,16 @@
 ghost use Rattle.std.specs.Prelude.{map};
 ghost use Rattle.jv_pool.specs.of_format.Format.{Finds, half};
 ghost use Rattle.jv_pool.specs.of_format.Readers.{list_of};
-ghost use Rattle.jv_class_structure.specs.Seen.{seen_index, seen_field, seen_method, seen_fields, seen_methods};
-ghost use Rattle.jv_class_structure.specs.Inside.Kept.{seen_body};
+ghost use Rattle.jv_class_structure.specs.Seen.{seen_index, seen_field, seen_fields};
+ghost use Rattle.jv_class_structure.specs.Inside.Kept.{seen_list, seen_body};
 ghost use Rattle.jv_class_structure.specs.Inside.Reading.{Gives, GivesWhole, table, field_kept, method_kept, passed_over, members_kept, body_kept, last_kept};
 
 use crate::attributes::values_at;
 use crate::fault::PartsFault;
 use crate::flags::ClassFlags;
-use crate::member::{Field, Method};
+use crate::member::Field;
 use crate::members::{field_at, method_at, three_at};
+use crate::method_list::MethodList;
 use jv_pool::of_format::half_at;
 use jv_pool::{ClassIndex, Pool};
 use std::alloc::Global;
@@ -24,7 +25,7 @@ pub(crate) struct Body<'a> {
     pub(crate) super_class: u16,
     pub(crate) interfaces: Vec<ClassIndex>,
     pub(crate) fields: Vec<Field>,
-    pub(crate) methods: Vec<Method<'a>>,
+    pub(crate) methods: MethodList<'a>,
 }
 
 // ---- interfaces
@@ -106,11 +107,11 @@ fn methods_listed<'a>(
     pool: &Pool<'_>,
     count: u16,
     bytes: &'a [u8],
-) -> Result<(Vec<Method<'a>>, &'a [u8]), PartsFault>
-    ensures { Gives (list_of count (method_kept pool.now)) bytes.now (λ x. (map seen_method x.0.items, x.1.now)) result }
+) -> Result<(MethodList<'a>, &'a [u8]), PartsFault>
+    ensures { Gives (list_of count (method_kept pool.now)) bytes.now (λ x. (seen_list x.0, x.1.now)) result }
 {
     let room = usize::from(count).min(bytes.len() / 8);
-    let mut methods = Vec::with_capacity(alloc, room)?;
+    let mut methods = MethodList::with_capacity(alloc, room)?;
     let mut rest = bytes;
     for _ in 0..count {
         let Some((method, after)) = method_at(pool, rest) else {
@@ -119,6 +120,7 @@ fn methods_listed<'a>(
         methods.push(method)?;
         rest = after;
     }
+    methods.shrink_to_fit();
     Ok((methods, rest))
 }
 
@@ -127,8 +129,8 @@ fn methods_at<'a>(
     alloc: Global,
     pool: &Pool<'_>,
     bytes: &'a [u8],
-) -> Result<(Vec<Method<'a>>, &'a [u8]), PartsFault>
-    ensures { Gives (table (method_kept pool.now)) bytes.now (λ x. (map seen_method x.0.items, x.1.now)) result }
+) -> Result<(MethodList<'a>, &'a [u8]), PartsFault>
+    ensures { Gives (table (method_kept pool.now)) bytes.now (λ x. (seen_list x.0, x.1.now)) result }
 {
     let Some((count, rest)) = half_at(bytes) else {
         return Err(PartsFault::Format);
@@ -153,8 +155,8 @@ fn last_at<'a>(
     alloc: Global,
     pool: &Pool<'_>,
     bytes: &'a [u8],
-) -> Result<(Vec<Method<'a>>, &'a [u8]), PartsFault>
-    ensures { Gives (last_kept pool.now) bytes.now (λ x. ((seen_methods x.0.items, 0), x.1.now)) result }
+) -> Result<(MethodList<'a>, &'a [u8]), PartsFault>
+    ensures { Gives (last_kept pool.now) bytes.now (λ x. ((seen_list x.0, 0), x.1.now)) result }
 {
     let (methods, rest) = methods_at(alloc, pool, bytes)?;
     let Some(rest) = passed_over_at(pool, rest) else {
@@ -168,8 +170,8 @@ fn members_at<'a>(
     alloc: Global,
     pool: &Pool<'_>,
     bytes: &'a [u8],
-) -> Result<((Vec<Field>, Vec<Method<'a>>), &'a [u8]), PartsFault>
-    ensures { Gives (members_kept pool.now) bytes.now (λ x. ((seen_fields x.0.0.items, (seen_methods x.0.1.items, 0)), x.1.now)) result }
+) -> Result<((Vec<Field>, MethodList<'a>), &'a [u8]), PartsFault>
+    ensures { Gives (members_kept pool.now) bytes.now (λ x. ((seen_fields x.0.0.items, (seen_list x.0.1, 0)), x.1.now)) result }
 {
     let (fields, rest) = fields_at(alloc, pool, bytes)?;
     let (methods, rest) = last_at(alloc, pool, rest)?;

@@ -9,6 +9,7 @@ mod flags;
 mod law;
 mod member;
 mod members;
+mod method_list;
 mod parts;
 
 pub use fault::PartsFault;

@@ -2,8 +2,8 @@
 
 ghost use Rattle.std.specs.Prelude.{◌≡◌, is_some};
 ghost use Rattle.std.specs.Option.{option_map};
-ghost use Rattle.jv_class_structure.specs.Packed.{part_of, there_if};
-ghost use Rattle.jv_class_structure.specs.Seen.{seen_code, seen_method};
+ghost use Rattle.jv_class_structure.specs.Packed.{part_of, map_in};
+ghost use Rattle.jv_class_structure.specs.Seen.{seen_code, unpacked, seen_method};
 ghost use Rattle.jv_class_structure.specs.Inside.Kept.{seen_map};
 
 use crate::flags::{FieldFlags, MethodFlags};
@@ -40,36 +40,26 @@ pub struct MethodCode<'a> {
 /// A Code attribute that was read, as the bytes that hold it.
 #[derive(Clone, Copy)]
 pub(crate) struct PackedCode<'a> {
-    /// Its contents, from max_stack on.
+    /// Its contents, from max_stack on (4.7.3).
     pub(crate) contents: &'a [u8],
-    /// Whether it has a StackMapTable.
-    pub(crate) is_mapped: bool,
-    /// Where among these the contents of the StackMapTable begin.
+    /// Where among these the contents of the StackMapTable (4.7.4) begin; 0, where max_stack
+    /// stands, says that it has none.
     pub(crate) map_place: u32,
     /// How many bytes those are.
     pub(crate) map_length: u32,
 }
 
-/// A method (4.6). Of its code the bytes that hold it are kept, and it is read from them where it
-/// is asked for, so that a method takes few bytes.
+const _: () = prove!(size_of::<PackedCode<'static>>() <= 24);
+
+/// A method (4.6). Its code is read from the bytes that hold it where it is asked for.
 #[derive(Clone, Copy)]
 pub struct Method<'a> {
     pub access_flags: MethodFlags,
     pub name: Utf8Index,
     pub descriptor: Utf8Index,
-    /// Whether it has a Code attribute.
-    pub(crate) is_coded: bool,
-    /// Whether that has a StackMapTable.
-    pub(crate) is_mapped: bool,
-    /// The contents of its Code attribute, from max_stack on (4.7.3).
-    pub(crate) contents: &'a [u8],
-    /// Where among these the contents of the StackMapTable (4.7.4) begin.
-    pub(crate) map_place: u32,
-    /// How many bytes those are.
-    pub(crate) map_length: u32,
+    /// What its Code attribute holds; `None` where it has none.
+    pub(crate) code: Option<PackedCode<'a>>,
 }
-
-const _: () = prove!(size_of::<Method<'static>>() <= 32);
 
 /// As many bytes as the number says, from this place on; fewer where they end before.
 fn part_of(bytes: &[u8], place: u32, count: u32) -> &[u8]
@@ -80,15 +70,23 @@ fn part_of(bytes: &[u8], place: u32, count: u32) -> &[u8]
     part
 }
 
-/// The contents of the StackMapTable that stand there, where there is one.
-fn stack_map_in(contents: &[u8], is_mapped: bool, place: u32, count: u32) -> Option<&[u8]>
-    ensures { seen_map result ≡ there_if is_mapped (part_of contents.now place count) }
+/// The contents of the StackMapTable that begin at a place; `None` where that is 0.
+fn stack_map_in(contents: &[u8], place: u32, count: u32) -> Option<&[u8]>
+    ensures { seen_map result ≡ map_in contents.now place count }
 {
-    if is_mapped {
-        Some(part_of(contents, place, count))
-    } else {
+    if place == 0 {
         None
+    } else {
+        Some(part_of(contents, place, count))
     }
+}
+
+/// What the bytes of a Code attribute hold.
+fn unpacked(code: PackedCode<'_>) -> MethodCode<'_>
+    ensures { seen_code result ≡ unpacked code.entry }
+{
+    let map = stack_map_in(code.contents, code.map_place, code.map_length);
+    code_in(code.contents, map)
 }
 
 impl<'a> Method<'a> {
@@ -97,12 +95,9 @@ impl<'a> Method<'a> {
     pub fn code(&self) -> Option<MethodCode<'a>>
         ensures { option_map seen_code result ≡ (seen_method self.now).code }
     {
-        if self.is_coded {
-            let contents = self.contents;
-            let map = stack_map_in(contents, self.is_mapped, self.map_place, self.map_length);
-            Some(code_in(contents, map))
-        } else {
-            None
+        match self.code {
+            Some(code) => Some(unpacked(code)),
+            None => None,
         }
     }
 
@@ -111,6 +106,6 @@ impl<'a> Method<'a> {
     pub fn has_code(&self) -> bool
         ensures { result ≡ is_some (seen_method self.now).code }
     {
-        self.is_coded
+        self.code.is_some()
     }
 }

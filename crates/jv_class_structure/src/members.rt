@@ -5,11 +5,11 @@ ghost use Rattle.jv_pool.specs.of_format.Format.{Finds, half};
 ghost use Rattle.jv_pool.specs.of_format.Readers.{both, enclosed, contents, such_that};
 ghost use Rattle.jv_pool.specs.of_format.Handlers.{handlers_of};
 ghost use Rattle.jv_class_structure.specs.Flags.{has, acc_static};
-ghost use Rattle.jv_class_structure.specs.Seen.{seen_field, seen_code, seen_method};
+ghost use Rattle.jv_class_structure.specs.Seen.{seen_field, seen_code, unpacked, seen_method};
 ghost use Rattle.jv_class_structure.specs.Packed.{handlers_kept, code_front, code_in};
-ghost use Rattle.jv_class_structure.specs.Inside.Kept.{seen_map, seen_found, unpacked, seen_codes};
+ghost use Rattle.jv_class_structure.specs.Inside.Kept.{seen_map, seen_found, seen_codes};
 ghost use Rattle.jv_class_structure.specs.Inside.Within.{IsFoundIn};
-ghost use Rattle.jv_class_structure.specs.Inside.Reading.{three, values_kept, field_kept, code_text, stack_maps_kept, code_kept, is_code, is_utf8, held_kept, method_attribute_kept, counted_codes, codes_kept, method_seen_of, method_kept};
+ghost use Rattle.jv_class_structure.specs.Inside.Reading.{three, values_kept, field_kept, code_text, stack_maps_kept, code_kept, is_code, is_utf8, held_kept, method_attribute_kept, counted_codes, codes_kept, method_kept};
 
 use crate::attributes::{
     FoundMap, contents_at, is_text, is_utf8, one_more, stack_maps_at, values_at,
@@ -198,13 +198,11 @@ fn packed_in<'a>(contents: &'a [u8], map: Option<FoundMap<'a>>) -> PackedCode<'a
     match map {
         Some(FoundMap { info, behind }) => PackedCode {
             contents,
-            is_mapped: true,
             map_place: (contents.len() - behind.len() - info.len()) as u32,
             map_length: info.len() as u32,
         },
         None => PackedCode {
             contents,
-            is_mapped: false,
             map_place: 0,
             map_length: 0,
         },
@@ -328,37 +326,6 @@ fn codes_at<'a>(pool: &Pool<'_>, bytes: &'a [u8]) -> Option<(Option<PackedCode<'
 
 // ---- methods
 
-/// The method with this code.
-fn method_with(flags: u16, name: u16, descriptor: u16, code: Option<PackedCode<'_>>) -> Method<'_>
-    ensures { seen_method result ≡ method_seen_of ((flags, (name, descriptor)), seen_codes code.entry) }
-{
-    let access_flags = MethodFlags(flags);
-    let name = Utf8Index(name);
-    let descriptor = Utf8Index(descriptor);
-    match code {
-        Some(code) => Method {
-            access_flags,
-            name,
-            descriptor,
-            is_coded: true,
-            is_mapped: code.is_mapped,
-            contents: code.contents,
-            map_place: code.map_place,
-            map_length: code.map_length,
-        },
-        None => Method {
-            access_flags,
-            name,
-            descriptor,
-            is_coded: false,
-            is_mapped: false,
-            contents: b"".as_slice(),
-            map_place: 0,
-            map_length: 0,
-        },
-    }
-}
-
 /// The method at the front, and what follows it.
 pub(crate) fn method_at<'a>(pool: &Pool<'_>, bytes: &'a [u8]) -> Option<(Method<'a>, &'a [u8])>
     ensures { Finds (method_kept pool.now) bytes.now (λ x. (seen_method x.0, x.1.now)) result }
@@ -369,5 +336,11 @@ pub(crate) fn method_at<'a>(pool: &Pool<'_>, bytes: &'a [u8]) -> Option<(Method<
     let Some((code, rest)) = codes_at(pool, rest) else {
         return None;
     };
-    Some((method_with(flags, name, descriptor, code), rest))
+    let method = Method {
+        access_flags: MethodFlags(flags),
+        name: Utf8Index(name),
+        descriptor: Utf8Index(descriptor),
+        code,
+    };
+    Some((method, rest))
 }

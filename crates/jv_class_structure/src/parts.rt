@@ -1,8 +1,9 @@
 //! The parts of a class file behind its version.
 
-ghost use Rattle.std.specs.Prelude.{◌≡◌, IfOk, Err, map};
+ghost use Rattle.std.specs.Prelude.{◌≡◌, IfOk, Err, map, length, slice_get};
+ghost use Rattle.std.specs.Option.{option_map};
 ghost use Rattle.jv_class_structure.specs.Structure.{ClassStructure};
-ghost use Rattle.jv_class_structure.specs.Parts.{IsBehindVersion, field_shown, method_shown};
+ghost use Rattle.jv_class_structure.specs.Parts.{IsBehindVersion, field_shown, methods_of};
 ghost use Rattle.jv_class_structure.specs.Seen.{seen_index, seen_field, seen_method};
 ghost use Rattle.jv_class_structure.specs.declared.fault.PartsFault.TheVariants.{Format};
 
@@ -111,9 +112,17 @@ impl<'a> Parts<'a> {
         &self.body.fields
     }
 
-    pub fn methods(&self) -> &[Method<'a>]
-        ensures { map seen_method result.now ≡ map (method_shown self.now.constant_pool) self.now.methods }
+    /// How many methods there are.
+    pub fn method_count(&self) -> usize
+        ensures { result ≡ length (methods_of self.now) }
     {
-        &self.body.methods
+        self.body.methods.len()
+    }
+
+    /// The method at a place, the first at 0; `None` behind the last.
+    pub fn method(&self, place: usize) -> Option<Method<'a>>
+        ensures { option_map seen_method result ≡ slice_get (methods_of self.now) place }
+    {
+        self.body.methods.get(place)
     }
 }

@@ -70,9 +70,11 @@ fn has_code_of_main(method: &Method<'_>) -> bool {
 
 /// Whether a class has one method, that of `HI`.
 fn has_method(class: &ClassFile<'_>) -> bool {
-    match class.methods() {
-        [method] => is_main(method) && has_code_of_main(method),
-        _ => false,
+    match class.method(0) {
+        Some(method) => {
+            class.method_count() == 1 && is_main(&method) && has_code_of_main(&method)
+        }
+        None => false,
     }
 }
 

@@ -1,5 +1,7 @@
 -- What is found of each item of a list.
-use Rattle.std.proofs.Common.{◌≡◌, ℕ, List, [], ◌∷◌, ◌++◌, ◌+◌, ◌<◌, length, take, get_or, map, Option, Some, None, refl, sym, ap, ◌∙◌}
+use Rattle.std.proofs.Common.{◌≡◌, ℕ, List, [], ◌∷◌, ◌++◌, ◌+◌, ◌<◌, ◌≤◌, ⊎_elim, length, take, get_or, map, Option, Some, None, refl, sym, ap, subst, ◌∙◌, arith}
+use Rattle.std.specs.Prelude.{◌⊎◌, IfSome, slice_get}
+use Rattle.std.proofs.lemmas.Option.{slice_get_cases}
 use Rattle.std.specs.Option.{option_map, IsSomeAnd}
 use Rattle.std.proofs.lemmas.List.{take_more}
 use Rattle.jv_format.specs.Format.{◌>>=◌}
@@ -38,6 +40,16 @@ module _ {X Y : Type 0} (look : X → Option Y) where
 pub joined_by : {Y : Type 0} (found : Option Y) (old new : List Y) → IsSomeAnd found (λ y. new ≡ old ++ y ∷ []) → (y : Y) × (found ≡ Some y) × (new ≡ old ++ y ∷ [])
 joined_by None old new h = absurd h
 joined_by (Some y) old new h = (y, refl, h)
+
+-- a loop's step by places
+pub next_joined : {X Y : Type 0} (look : X → Option Y) (xs : List X) (i : ℕ) → i < length xs → (ys new : List Y) → all_found look (take i xs) ≡ Some ys → IfSome (slice_get xs i) (λ x. IsSomeAnd (look x) (λ y. new ≡ ys ++ y ∷ []))
+    → all_found look (take (i + 1) xs) ≡ Some new
+next_joined {X = X} look xs i lt ys new found here =
+    ⊎_elim
+    (λ (at : (x : X) × (i < length xs) × (slice_get xs i ≡ Some x) × (get_or xs i x ≡ x)).
+    let joined = joined_by (look at.0) ys new (subst (λ o. IfSome o (λ x. IsSomeAnd (look x) (λ y. new ≡ ys ++ y ∷ []))) at.2 here) in
+    next_found look xs i at.0 lt ys new joined.0 joined.2 found (ap look at.3 ∙ joined.1))
+    (λ (past : (length xs ≤ i) × (slice_get xs i ≡ None)). absurd (omega (arith, lt, past.0))) (slice_get_cases xs i).1
 
 -- what is found of what is seen of each item
 pub found_of_seen : {X Y Z : Type 0} (look : Y → Option Z) (seen : X → Y) (xs : List X) → all_found (λ x. look (seen x)) xs ≡ all_found look (map seen xs)

@@ -6,9 +6,8 @@ use Rattle.jv_format.specs.Format.{◌>>=◌}
 use Rattle.jv_meaning_world.specs.of_pool.declared.index.ClassIndex.{ClassIndex}
 use Rattle.jv_meaning_world.specs.of_pool.Constants.{Entry, NameAndDescriptor, named_at, class_name_at}
 use Rattle.jv_meaning_world.specs.of_class_structure.declared.member.Field.{Field}
-use Rattle.jv_meaning_world.specs.of_class_structure.declared.member.Method.{Method}
-use Rattle.jv_meaning_world.specs.of_class_structure.Seen.{seen_index, seen_field, seen_method}
-use Rattle.jv_meaning_world.specs.of_class_structure.Parts.{FieldSeen, MethodSeen, field_shown, method_shown, fields_of, methods_of}
+use Rattle.jv_meaning_world.specs.of_class_structure.Seen.{seen_index, seen_field}
+use Rattle.jv_meaning_world.specs.of_class_structure.Parts.{FieldSeen, field_shown, method_shown, fields_of, methods_of}
 use Rattle.jv_meaning_world.specs.of_class_structure.Structure.{ClassStructure}
 use Rattle.jv_meaning_world.specs.of_class.ClassFile.{class_name}
 use Rattle.jv_meaning_world.specs.of_class.Rules.{NoTwoAlike, field_texts as field_info_texts, method_texts as method_info_texts}
@@ -19,7 +18,7 @@ use Rattle.std.proofs.lemmas.List.{length-map}
 use Rattle.jv_classes.specs.Inside.Known.{class_number}
 use Rattle.jv_classes.specs.declared.kept.Kept.{Kept}
 use Rattle.jv_classes.specs.Inside.Seen.{MemberSeen, field_seen, method_seen}
-use Rattle.jv_classes.specs.Inside.Found.{member_with, field_texts, field_at, method_texts, method_at, interface_at}
+use Rattle.jv_classes.specs.Inside.Found.{member_with, field_texts, field_at, method_at, interface_at}
 use Rattle.jv_classes.specs.Inside.Kept.{Keeps}
 use Rattle.jv_classes.proofs.AllFound.{parts_found, found_of_seen, seen_of_found}
 
@@ -83,9 +82,6 @@ module _ {X S I : Type 0} (seen : X → S) (shown : I → S) (xs : List X) (info
 abbrev shown_field_texts : List Entry → FieldSeen → Option NameAndDescriptor
 shown_field_texts pool f = named_at pool f.name_index f.descriptor_index
 
-abbrev shown_method_texts : List Entry → MethodSeen → Option NameAndDescriptor
-shown_method_texts pool m = named_at pool m.name_index m.descriptor_index
-
 module _ (c : ClassStructure) (pool : List Entry) (same : pool ≡ c.constant_pool) where
   abbrev own : List Entry
   own = c.constant_pool
@@ -94,20 +90,18 @@ module _ (c : ClassStructure) (pool : List Entry) (same : pool ≡ c.constant_po
   fields_unlike fields shown unlike =
       subst (λ (p : List Entry). NoTwoAlike (map (field_texts p) fields)) (sym same) (unlike_also seen_field (field_shown own) fields c.fields shown (shown_field_texts own) unlike)
 
-  pub methods_unlike : (methods : List Method) → map seen_method methods ≡ methods_of c → NoTwoAlike (map (method_info_texts own) c.methods) → NoTwoAlike (map (method_texts pool) methods)
-  methods_unlike methods shown unlike =
-      subst (λ (p : List Entry). NoTwoAlike (map (method_texts p) methods)) (sym same) (unlike_also seen_method (method_shown own) methods c.methods shown (shown_method_texts own) unlike)
-
   pub fields_kept : (fields : List Field) → map seen_field fields ≡ fields_of c → (members : List MemberSeen) → all_found (field_at pool) fields ≡ Some members → (class : Class) → class_of c ≡ Some class → members ≡ map field_seen class.fields
   fields_kept fields shown members found class e =
       found_also seen_field (field_shown own) fields c.fields shown (λ f. option_map (member_with f.access_flags) (shown_field_texts own f)) (field_of own) field_seen
       (λ f. mapped_twice field_seen _ (field_info_texts own f)) members (subst (λ (p : List Entry). all_found (field_at p) fields ≡ Some members) same found) class.fields (parts c class e).fields
 
-  pub methods_kept : (methods : List Method) → map seen_method methods ≡ methods_of c → (members : List MemberSeen) → all_found (method_at pool) methods ≡ Some members → (class : Class) → class_of c ≡ Some class
-      → members ≡ map method_seen class.methods
-  methods_kept methods shown members found class e =
-      found_also seen_method (method_shown own) methods c.methods shown (λ m. option_map (member_with m.access_flags) (shown_method_texts own m)) (method_of own) method_seen
-      (λ m. mapped_twice method_seen _ (method_info_texts own m)) members (subst (λ (p : List Entry). all_found (method_at p) methods ≡ Some members) same found) class.methods (parts c class e).methods
+pub methods_kept : (c : ClassStructure) (members : List MemberSeen) → all_found (method_at c.constant_pool) (methods_of c) ≡ Some members → (class : Class) → class_of c ≡ Some class → members ≡ map method_seen class.methods
+methods_kept c members found class e =
+    let own : List Entry = c.constant_pool in
+    let as_shown = found_of_seen (method_at own) (method_shown own) c.methods in
+    let as_declared = seen_of_found (method_of own) (λ m. method_at own (method_shown own m)) method_seen (λ m. mapped_twice method_seen _ (method_info_texts own m)) c.methods class.methods (parts c class e).methods in
+    let both : Some members ≡ Some (map method_seen class.methods) = sym found ∙ (sym as_shown ∙ as_declared) in
+    cc
 
 -- ---- superinterfaces
 

@@ -1,22 +1,23 @@
 //! What is kept of the class of a file.
 
-ghost use Rattle.std.specs.Prelude.{◌≡◌, ◌<◌, IfOk, OnOk, IsSome, None, Some, get_or, length, map, set, slice_get};
+ghost use Rattle.std.specs.Prelude.{◌≡◌, ◌<◌, IfOk, IfSome, OnOk, IsSome, None, Some, get_or, length, map, set, slice_get};
 ghost use Rattle.std.specs.List.{All};
 ghost use Rattle.std.specs.Option.{option_copied};
 ghost use Rattle.jv_meaning_world.specs.of_pool.Constants.{utf8_at};
 ghost use Rattle.jv_meaning_world.specs.of_class.Class.{Class, all_found, class_of, super_of};
 ghost use Rattle.jv_meaning_world.specs.of_class.Rules.{NoTwoAlike};
+ghost use Rattle.jv_meaning_world.specs.of_class_structure.Parts.{methods_of};
 ghost use Rattle.jv_classes.specs.Hashes.{AreHashes};
 ghost use Rattle.jv_classes.specs.Inside.Kept.{Keeps};
 ghost use Rattle.jv_classes.specs.Inside.Seen.{field_seen, method_seen};
-ghost use Rattle.jv_classes.specs.Inside.Found.{ArePlaces, Joins, Stay, field_at, field_texts, member_seen_at, method_at, method_texts};
+ghost use Rattle.jv_classes.specs.Inside.Found.{ArePlaces, Joins, Stay, field_at, field_texts, member_seen_at, method_at};
 
 use crate::hashing::{pool_hashes, text_in};
 use crate::kept::Kept;
 use crate::members::{Gathered, Members};
 use crate::package::package;
 use crate::text::seed_of;
-use jv_meaning_world::of_class::{ClassFile, Field, Method};
+use jv_meaning_world::of_class::{ClassFile, Field};
 use jv_meaning_world::of_pool::{Pool, Utf8Index};
 use std::alloc::{AllocError, Global};
 use std::hash::RandomState;
@@ -120,33 +121,50 @@ fn fields_in<'a>(
     Ok(gathered.members())
 }
 
+/// Adds the method at a place behind the others; nothing where there is none.
+fn add_method<'a>(
+    gathered: &mut Gathered<'a>,
+    places: &mut Vec<Option<u16>>,
+    seed: u64,
+    hashes: &[u64],
+    file: &ClassFile<'a>,
+    place: usize,
+) -> Result<(), AllocError>
+    requires hashes { AreHashes seed file.now.constant_pool hashes.now }
+    requires places { ArePlaces file.now.constant_pool places.now.items gathered.now.texts }
+    ensures joins { OnOk result (IfSome (slice_get (methods_of file.now) place)
+        (λ m. Joins (method_at file.now.constant_pool m) gathered.old.members gathered.new.members)) }
+    ensures places { OnOk result (ArePlaces file.now.constant_pool places.new.items gathered.new.texts) }
+{
+    match file.method(place) {
+        Some(method) => add_member(
+            gathered,
+            places,
+            seed,
+            hashes,
+            file.pool(),
+            method.access_flags.0,
+            method.name,
+            method.descriptor,
+        ),
+        None => Ok(()),
+    }
+}
+
 fn methods_in<'a>(
     alloc: Global,
     state: RandomState,
     seed: u64,
     hashes: &[u64],
-    pool: &Pool<'a>,
-    methods: &[Method<'a>],
+    file: &ClassFile<'a>,
 ) -> Result<Members<'a>, AllocError>
-    requires hashes { AreHashes seed pool.now hashes.now }
-    requires named { All (λ method. IsSome (utf8_at pool.now method.name.0)) methods.now }
-    requires described { All (λ method. IsSome (utf8_at pool.now method.descriptor.0)) methods.now }
-    requires unlike { NoTwoAlike (map (method_texts pool.now) methods.now) }
-    ensures { IfOk result (λ members. all_found (method_at pool.now) methods.now ≡ Some members) }
+    requires hashes { AreHashes seed file.now.constant_pool hashes.now }
+    ensures { IfOk result (λ members. all_found (method_at file.now.constant_pool) (methods_of file.now) ≡ Some members) }
 {
-    let mut gathered = Gathered::with_capacity(alloc, state, methods.len())?;
-    let mut places = vec![in alloc; None; usize::from(pool.count())]?;
-    for method in methods {
-        add_member(
-            &mut gathered,
-            &mut places,
-            seed,
-            hashes,
-            pool,
-            method.access_flags.0,
-            method.name,
-            method.descriptor,
-        )?;
+    let mut gathered = Gathered::with_capacity(alloc, state, file.method_count())?;
+    let mut places = vec![in alloc; None; usize::from(file.pool().count())]?;
+    for place in 0..file.method_count() {
+        add_method(&mut gathered, &mut places, seed, hashes, file, place)?;
     }
     Ok(gathered.members())
 }
@@ -175,8 +193,7 @@ fn methods_of<'a>(
     requires hashes { AreHashes seed file.now.constant_pool hashes.now }
     ensures { IfOk result (λ members. (class : Class) → class_of file.now ≡ Some class → members ≡ map method_seen class.methods) }
 {
-    file.is_well_formed();
-    methods_in(alloc, state, seed, hashes, file.pool(), file.methods())
+    methods_in(alloc, state, seed, hashes, file)
 }
 
 fn super_name<'a>(file: &ClassFile<'a>) -> Option<&'a [u8]>

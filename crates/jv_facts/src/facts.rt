@@ -1,7 +1,7 @@
 //! The facts of a class (JVMS 4.1, 4.5 to 4.7), in the form of `scripts/javap-facts`.
 
 use crate::line::{Cell, write_cells, write_line};
-use jv_class::{ClassFile, ConstantValue, Field, Method, MethodCode};
+use jv_class::{ClassFile, ConstantValue, Field, MethodCode};
 use jv_format::half_at;
 use jv_pool::Pool;
 use std::alloc::AllocError;
@@ -109,9 +109,10 @@ fn write_fields(out: &mut String, file: &str, class: &ClassFile<'_>) -> Result<(
 /// Writes each method, and behind it a line for each of its handlers.
 fn write_methods(out: &mut String, file: &str, class: &ClassFile<'_>) -> Result<(), AllocError> {
     let pool = class.pool();
-    let methods: &[Method<'_>] = class.methods();
-    for place in 0..methods.len() {
-        let method = methods[place];
+    for place in 0..class.method_count() {
+        let Some(method) = class.method(place) else {
+            break;
+        };
         let cells = [
             Cell::Word("method"),
             Cell::Number(place),
@@ -154,7 +155,7 @@ pub(crate) fn write_class(
         Cell::Number(usize::from(class.pool().count())),
         Cell::Number(class.interfaces().len()),
         Cell::Number(class.fields().len()),
-        Cell::Number(class.methods().len()),
+        Cell::Number(class.method_count()),
     ];
     write_line(out, file, &cells)?;
     write_interfaces(out, file, class)?;

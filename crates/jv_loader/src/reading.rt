@@ -1,6 +1,6 @@
 //! Reads what a file holds.
 
-ghost use Rattle.std.specs.Prelude.{◌↔◌, IsTrue, IfOk, IsSomeAnd};
+ghost use Rattle.std.specs.Prelude.{◌↔◌, IsTrue, IfSome, IfOk, IsSomeAnd, slice_get};
 ghost use Rattle.std.specs.List.{All};
 ghost use Rattle.jv_class_structure.specs.Seen.{seen_method};
 ghost use Rattle.jv_class_structure.specs.Parts.{methods_of};
@@ -23,17 +23,21 @@ fn has_profile_code(method: Method<'_>) -> bool
     }
 }
 
-fn each_has_profile_code(methods: &[Method<'_>]) -> bool
-    ensures { IsTrue result ↔ All (λ m. HasNoUnsupportedCode (seen_method m).code) methods.now }
+/// Whether the code of the method at a place stays within the profile; also where there is none.
+fn has_profile_code_at(class: &ClassFile<'_>, place: usize) -> bool
+    ensures { IsTrue result ↔ IfSome (slice_get (methods_of class.now) place) (λ m. HasNoUnsupportedCode m.code) }
 {
-    methods.iter().all(|method| has_profile_code(*method))
+    match class.method(place) {
+        Some(method) => has_profile_code(method),
+        None => true,
+    }
 }
 
 /// Whether the code of each method stays within the profile.
 fn is_within_profile(class: &ClassFile<'_>) -> bool
     ensures { IsTrue result ↔ All (λ m. HasNoUnsupportedCode m.code) (methods_of class.now) }
 {
-    each_has_profile_code(class.methods())
+    (0..class.method_count()).all(|place| has_profile_code_at(class, place))
 }
 
 /// What the file with these bytes holds (JVMS 4.1, 5.3.5).

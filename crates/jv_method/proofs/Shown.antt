@@ -1,18 +1,16 @@
 -- The methods that a file shows are those of its class.
 use Rattle.std.proofs.Common.{Bool, ◌≡◌, ℕ, zero, suc, ◌<◌, ◌≤◌, ◌+◌, ◌&&◌, List, [], ◌∷◌, map, length, take, get_or, Option, Some, None, refl, sym, ap, subst, ◌∙◌, arith}
-use Rattle.std.specs.Prelude.{IsTrue, is_some, ◌||◌, false, true, nat_lt, IsSome, Result, Ok, Err, IfOk, slice_get}
+use Rattle.std.specs.Prelude.{◌↔◌, IsTrue, is_some, not, nat_lt, IsSome, IfSome, Result, Ok, Err, IfOk, slice_get}
 use Rattle.std.specs.Option.{option_map}
-use Rattle.std.specs.List.{All, list_all, list_any}
+use Rattle.std.specs.List.{All, list_all}
 use Rattle.std.proofs.lemmas.Bool.{and_parts, ltb-true}
 use Rattle.std.proofs.lemmas.List.{take_all, length-map}
-use Rattle.std.proofs.lemmas.List.Elements.{All-more, All-nil, All-cons, All-weaker}
+use Rattle.std.proofs.lemmas.List.Elements.{All-more, All-head, All-tail, All-nil, All-cons, All-weaker}
 use Rattle.std.proofs.lemmas.Option.{slice_get-get_or}
 use Rattle.jv_format.specs.Format.{◌>>=◌, half}
 use Rattle.jv_pool.specs.Constants.{Entry, utf8_at, class_name_at, name_and_descriptor}
 use Rattle.jv_class.specs.ClassFile.{class_name}
-use Rattle.jv_class_structure.specs.declared.member.Method.{Method as ShownMethod}
 use Rattle.jv_class_structure.specs.Parts.{CodeSeen, MethodSeen, method_shown, methods_of}
-use Rattle.jv_class_structure.specs.Seen.{seen_method}
 use Rattle.jv_class_structure.specs.Structure.{MethodInfo, ClassStructure, body_fits, table_fits, field_fits, method_fits, attribute_fits}
 use Rattle.jv_class.specs.Class.{Method, Class, all_found, field_of, method_of, super_of, class_of}
 use Rattle.jv_meaning_world.specs.World.{Loaded, World}
@@ -87,23 +85,23 @@ module _ {S Y : Type 0} (look : S → Option Y) where
       by_cases (Some y) first None others e = absurd cc
       by_cases (Some y) first (Some more) others e = (y, more, first, others, cc)
 
-module _ {X S Y : Type 0} (seen : X → S) (look : S → Option Y) where
-  pub found_at : (xs : List X) (ys : List Y) → all_found look (map seen xs) ≡ Some ys → (k : ℕ) (d : X) → k < length xs → (y : Y) × (look (seen (get_or xs k d)) ≡ Some y) × (slice_get ys k ≡ Some y)
-  found_at [] ys e k d less = absurd (omega (arith, less))
-  found_at (x ∷ xs) ys e zero d less =
-      let parts = parts_found look (seen x) (map seen xs) ys e in
-      (parts.0, parts.2, ap (λ l. slice_get l zero) parts.4)
-  found_at (x ∷ xs) ys e (suc k) d less =
-      let parts = parts_found look (seen x) (map seen xs) ys e in
-      let again = found_at xs parts.1 parts.3 k d (omega (arith, less)) in
-      (again.0, again.1, ap (λ l. slice_get l (suc k)) parts.4 ∙ again.2)
+module _ {S Y : Type 0} (look : S → Option Y) where
+  pub found_at : (xs : List S) (ys : List Y) → all_found look xs ≡ Some ys → (k : ℕ) → k < length xs → (x : S) × (y : Y) × (slice_get xs k ≡ Some x) × (look x ≡ Some y) × (slice_get ys k ≡ Some y)
+  found_at [] ys e k less = absurd (omega (arith, less))
+  found_at (x ∷ xs) ys e zero less =
+      let parts = parts_found look x xs ys e in
+      (x, parts.0, refl, parts.2, ap (λ l. slice_get l zero) parts.4)
+  found_at (x ∷ xs) ys e (suc k) less =
+      let parts = parts_found look x xs ys e in
+      let again = found_at xs parts.1 parts.3 k (omega (arith, less)) in
+      (again.0, again.1, again.2, again.3, ap (λ l. slice_get l (suc k)) parts.4 ∙ again.4)
 
-  pub as_many : (xs : List X) (ys : List Y) → all_found look (map seen xs) ≡ Some ys → length ys ≡ length xs
+  pub as_many : (xs : List S) (ys : List Y) → all_found look xs ≡ Some ys → length ys ≡ length xs
   as_many [] ys e =
       let none : ys ≡ [] = cc in
       ap length none
   as_many (x ∷ xs) ys e =
-      let parts = parts_found look (seen x) (map seen xs) ys e in
+      let parts = parts_found look x xs ys e in
       ap length parts.4 ∙ ap suc (as_many xs parts.1 parts.3)
 
 placed : {Y : Type 0} (ys : List Y) (k : ℕ) (y : Y) → k < length ys → slice_get ys k ≡ Some y → get_or ys k y ≡ y
@@ -111,43 +109,45 @@ placed ys k y less at =
     let both : Some (get_or ys k y) ≡ Some y = sym (slice_get-get_or ys k y less) ∙ at in
     cc
 
-module _ (world : World) (l : Loaded) (methods : List ShownMethod) (are : AreMethodsOf l methods) (k : ℕ) (d : ShownMethod) (less : k < length methods) where
-  pub is_method : IsSome (method_in l.class.constant_pool (seen_method (get_or methods k d)))
+-- what is found of the method at a place
+abbrev pub IsPlaceJudged : World → Loaded → List MethodSeen → ℕ → Option CodeFault → Type 0
+IsPlaceJudged world l methods k fault =
+    IfSome (slice_get methods k) (λ shown. (m : Method) → method_in l.class.constant_pool shown ≡ Some m → IsMethodJudged world l m fault)
+
+module _ (world : World) (l : Loaded) (methods : List MethodSeen) (are : AreMethodsOf l methods) (k : ℕ) (less : k < length methods) where
+  pub is_method : IfSome (slice_get methods k) (λ shown. IsSome (method_in l.class.constant_pool shown))
   is_method =
-      let at = found_at seen_method (method_in l.class.constant_pool) methods l.class.methods are k d less in
-      subst (λ (o : Option Method). IsSome o) (sym at.1) refl
+      let at = found_at (method_in l.class.constant_pool) methods l.class.methods are k less in
+      subst (λ (o : Option MethodSeen). IfSome o (λ shown. IsSome (method_in l.class.constant_pool shown))) (sym at.2) (subst (λ (o : Option Method). IsSome o) (sym at.3) refl)
 
-  found : (m : Method) × (method_in l.class.constant_pool (seen_method (get_or methods k d)) ≡ Some m) × (slice_get l.class.methods k ≡ Some m)
-  found = found_at seen_method (method_in l.class.constant_pool) methods l.class.methods are k d less
+  found : (fault : Option CodeFault) → IsPlaceJudged world l methods k fault → (m : Method) × (slice_get l.class.methods k ≡ Some m) × IsMethodJudged world l m fault
+  found fault judged =
+      let at = found_at (method_in l.class.constant_pool) methods l.class.methods are k less in
+      let here = subst (λ (o : Option MethodSeen). IfSome o (λ shown. (m : Method) → method_in l.class.constant_pool shown ≡ Some m → IsMethodJudged world l m fault)) at.2 judged in
+      (at.1, at.4, here at.1 at.3)
 
-  pub more_typed : AreTyped world l (take k l.class.methods)
-      → ((m : Method) → method_in l.class.constant_pool (seen_method (get_or methods k d)) ≡ Some m → IsMethodJudged world l m None)
-      → AreTyped world l (take (k + 1) l.class.methods)
-  unfolding found
+  pub more_typed : AreTyped world l (take k l.class.methods) → IsPlaceJudged world l methods k None → AreTyped world l (take (k + 1) l.class.methods)
   more_typed before judged =
-      let at = found in
-      let within : k < length l.class.methods = subst (λ n. k < n) (sym (as_many seen_method (method_in l.class.constant_pool) methods l.class.methods are)) less in
+      let at = found None judged in
+      let within : k < length l.class.methods = subst (λ n. k < n) (sym (as_many (method_in l.class.constant_pool) methods l.class.methods are)) less in
       All-more (λ m. IsSome m.code → HasTyping world (declared_by l m)) l.class.methods k at.0 within before
-      (subst (λ (m : Method). IsSome m.code → HasTyping world (declared_by l m)) (sym (placed l.class.methods k at.0 within at.2)) (judged at.0 at.1))
+      (subst (λ (m : Method). IsSome m.code → HasTyping world (declared_by l m)) (sym (placed l.class.methods k at.0 within at.1)) at.2)
 
-  pub first_broken : AreTyped world l (take k l.class.methods) → (fault : CodeFault) (result : VerifyFault) → result.method ≡ k → result.offset ≡ fault.offset → result.rule ≡ fault.rule
-      → ((m : Method) → method_in l.class.constant_pool (seen_method (get_or methods k d)) ≡ Some m → IsMethodJudged world l m (Some fault))
+  pub first_broken : AreTyped world l (take k l.class.methods) → (fault : CodeFault) (result : VerifyFault) → result.method ≡ k → result.offset ≡ fault.offset → result.rule ≡ fault.rule → IsPlaceJudged world l methods k (Some fault)
       → IsFirstFault world l result
-  unfolding found
   first_broken before fault result place is_offset is_rule judged =
-      let at = found in
-      let broken = judged at.0 at.1 in
+      let at = found (Some fault) judged in
       record {
         method = at.0;
-        at = ap (slice_get l.class.methods) place ∙ at.2;
-        has_code = broken.0;
+        at = ap (slice_get l.class.methods) place ∙ at.1;
+        has_code = at.2.0;
         before = subst (λ n. AreTyped world l (take n l.class.methods)) (sym place) before;
-        breaks = subst (λ o. BreaksRule world (declared_by l at.0) o result.rule) (sym is_offset) (subst (λ r. BreaksRule world (declared_by l at.0) fault.offset r) (sym is_rule) broken.1);
+        breaks = subst (λ o. BreaksRule world (declared_by l at.0) o result.rule) (sym is_offset) (subst (λ r. BreaksRule world (declared_by l at.0) fault.offset r) (sym is_rule) at.2.1);
       }
 
-pub all_typed : (world : World) (l : Loaded) (methods : List ShownMethod) → AreMethodsOf l methods → (k : ℕ) → length methods ≤ k → AreTyped world l (take k l.class.methods) → AreTyped world l l.class.methods
+pub all_typed : (world : World) (l : Loaded) (methods : List MethodSeen) → AreMethodsOf l methods → (k : ℕ) → length methods ≤ k → AreTyped world l (take k l.class.methods) → AreTyped world l l.class.methods
 all_typed world l methods are k past before =
-    let many = as_many seen_method (method_in l.class.constant_pool) methods l.class.methods are in
+    let many = as_many (method_in l.class.constant_pool) methods l.class.methods are in
     let end : length l.class.methods ≤ k = subst (λ n. n ≤ k) (sym many) past in
     subst (AreTyped world l) (take_all k l.class.methods end) before
 
@@ -174,44 +174,40 @@ of_structure c class e =
     let methods = chained (all_found (method_of c.constant_pool) c.methods) _ class fields.2 in
     (cc, methods.1 ∙ ap (λ l. Some l) cc)
 
-pub of_file : (c : ClassStructure) (l : Loaded) (methods : List ShownMethod) → class_of c ≡ Some l.class → map seen_method methods ≡ methods_of c → AreMethodsOf l methods
-of_file c l methods e shown =
+pub of_file : (c : ClassStructure) (l : Loaded) → class_of c ≡ Some l.class → AreMethodsOf l (methods_of c)
+of_file c l e =
     let parts = of_structure c l.class e in
-    ap (λ (pool : List Entry). all_found (method_in pool) (map seen_method methods)) (sym parts.0)
-    ∙ (ap (all_found (method_in c.constant_pool)) shown ∙ (sym (found_of_shown c.constant_pool c.methods) ∙ parts.1))
+    ap (λ (pool : List Entry). all_found (method_in pool) (methods_of c)) (sym parts.0) ∙ (sym (found_of_shown c.constant_pool c.methods) ∙ parts.1)
 
 sixth : (a b c d e f g : Bool) → IsTrue (a && b && c && d && e && f && g) → IsTrue f
 sixth a b c d e f g h =
     (and_parts (a && b && c && d && e) f (and_parts (a && b && c && d && e && f) g h).0).1
 
-pub few : (c : ClassStructure) (methods : List ShownMethod) → IsTrue (body_fits c) → map seen_method methods ≡ methods_of c → length methods < 65536
-few c methods fits shown =
+pub few : (c : ClassStructure) → IsTrue (body_fits c) → length (methods_of c) < 65536
+few c fits =
     let table : IsTrue (table_fits method_fits c.methods) =
     sixth (half.fits c.access_flags) (half.fits c.this_class) (half.fits c.super_class) (table_fits half.fits c.interfaces) (table_fits field_fits c.fields) (table_fits method_fits c.methods) (table_fits attribute_fits c.attributes) fits in
-    let many : length methods ≡ length c.methods = sym (length-map methods seen_method) ∙ (ap length shown ∙ length-map c.methods (method_shown c.constant_pool)) in
-    subst (λ n. n < 65536) (sym many) (ltb-true (length c.methods) 65536 (and_parts (nat_lt (length c.methods) 65536) (list_all method_fits c.methods) table).0)
+    subst (λ n. n < 65536) (sym (length-map c.methods (method_shown c.constant_pool))) (ltb-true (length c.methods) 65536 (and_parts (nat_lt (length c.methods) 65536) (list_all method_fits c.methods) table).0)
 
 -- ---- where none has code
 
-none_some : (o : Option CodeSeen) → is_some o ≡ false → o ≡ None
-none_some None h = refl
-none_some (Some code) h = absurd cc
+none_in : (o : Option CodeSeen) (test : Bool) → test ≡ is_some o → IsTrue (not test) ↔ (o ≡ None)
+none_in None test e = (λ _. refl, λ _. ap not e)
+none_in (Some code) test e = (λ h. absurd cc, λ h. absurd cc)
 
-none_of : (pool : List Entry) (methods : List ShownMethod) (ms : List Method) → all_found (method_in pool) (map seen_method methods) ≡ Some ms → list_any (λ (m : ShownMethod). is_some (seen_method m).code) methods ≡ false
-    → All (λ (m : Method). m.code ≡ None) ms
+pub none_at : (at : Option MethodSeen) (shown : MethodSeen) (test : Bool) → Some shown ≡ at → test ≡ is_some shown.code → IsTrue (not test) ↔ IfSome at (λ m. m.code ≡ None)
+none_at at shown test here is = subst (λ (o : Option MethodSeen). IsTrue (not test) ↔ IfSome o (λ m. m.code ≡ None)) here (none_in shown.code test is)
+
+none_of : (pool : List Entry) (methods : List MethodSeen) (ms : List Method) → all_found (method_in pool) methods ≡ Some ms → All (λ (m : MethodSeen). m.code ≡ None) methods → All (λ (m : Method). m.code ≡ None) ms
 none_of pool [] ms e h =
     let none : [] ≡ ms = cc in
     subst (λ (l : List Method). All (λ (m : Method). m.code ≡ None) l) none (All-nil (λ (m : Method). m.code ≡ None))
 none_of pool (x ∷ methods) ms e h =
-    let parts = parts_found (method_in pool) (seen_method x) (map seen_method methods) ms e in
-    let apart = both_false (is_some (seen_method x).code) (list_any (λ (m : ShownMethod). is_some (seen_method m).code) methods) h in
+    let parts = parts_found (method_in pool) x methods ms e in
     subst (λ (l : List Method). All (λ (m : Method). m.code ≡ None) l) (sym parts.4)
-    (All-cons (λ (m : Method). m.code ≡ None) parts.0 parts.1 (has_body pool (seen_method x) parts.0 parts.2 ∙ none_some (seen_method x).code apart.0) (none_of pool methods parts.1 parts.3 apart.1))
-  where
-    both_false : (a b : Bool) → (a || b) ≡ false → (a ≡ false) × (b ≡ false)
-    both_false true b h = absurd cc
-    both_false false b h = (refl, h)
+    (All-cons (λ (m : Method). m.code ≡ None) parts.0 parts.1 (has_body pool x parts.0 parts.2 ∙ All-head (λ (m : MethodSeen). m.code ≡ None) x methods h)
+    (none_of pool methods parts.1 parts.3 (All-tail (λ (m : MethodSeen). m.code ≡ None) x methods h)))
 
-pub none_typed : (world : World) (l : Loaded) (methods : List ShownMethod) → AreMethodsOf l methods → list_any (λ (m : ShownMethod). is_some (seen_method m).code) methods ≡ false → AreTyped world l l.class.methods
+pub none_typed : (world : World) (l : Loaded) (methods : List MethodSeen) → AreMethodsOf l methods → All (λ (m : MethodSeen). m.code ≡ None) methods → AreTyped world l l.class.methods
 none_typed world l methods are h =
     All-weaker (λ (m : Method). m.code ≡ None) (λ (m : Method). IsSome m.code → HasTyping world (declared_by l m)) (no_code world l) l.class.methods (none_of l.class.constant_pool methods l.class.methods are h)

@@ -1,8 +1,9 @@
 //! The methods of a class against all rules.
 
-ghost use Rattle.std.specs.Prelude.{◌≡◌, ◌<◌, Some, IfOk, IsSome, is_some, length};
-ghost use Rattle.std.specs.List.{list_any};
+ghost use Rattle.std.specs.Prelude.{◌≡◌, ◌↔◌, ◌<◌, None, Some, IsTrue, IfOk, IfSome, IsSome, length, slice_get};
+ghost use Rattle.std.specs.List.{All};
 ghost use Rattle.jv_class.specs.Class.{class_of};
+ghost use Rattle.jv_class_structure.specs.Parts.{methods_of};
 ghost use Rattle.jv_class_structure.specs.Seen.{seen_method};
 ghost use Rattle.jv_meaning_world.specs.Numbers.{HoldsAtNumber};
 ghost use Rattle.jv_method.specs.Methods.{AreJudged};
@@ -47,19 +48,36 @@ fn fault_at(method: u16, fault: CodeFault) -> VerifyFault
     }
 }
 
+/// The first rule that the method at a place breaks, where it has code.
+fn check_code_at<'a>(
+    alloc: Global,
+    room: &mut FrameRoom,
+    class: &CurrentClass<'_, '_, 'a>,
+    file: &ClassFile<'a>,
+    place: usize,
+) -> Result<Option<CodeFault>, AllocError>
+    requires { IfSome (slice_get (methods_of file.now) place) (λ m. IsSome (method_in class.now.by.class.constant_pool m)) }
+    ensures { IfSome (slice_get (methods_of file.now) place) (λ m. IsJudgedIn class.now m result) }
+{
+    match file.method(place) {
+        Some(method) => check_code(alloc, room, class, &method),
+        None => Ok(None),
+    }
+}
+
 /// The first rule that the first ill-typed of the methods of a class breaks.
 fn first_fault<'a>(
     alloc: Global,
     class: &CurrentClass<'_, '_, 'a>,
-    methods: &[Method<'a>],
+    file: &ClassFile<'a>,
 ) -> Result<Option<VerifyFault>, AllocError>
-    requires methods { AreMethodsOf class.now.by methods.now }
-    requires count { length methods.now < 65536 }
+    requires methods { AreMethodsOf class.now.by (methods_of file.now) }
+    requires count { length (methods_of file.now) < 65536 }
     ensures { IfOk result (AreJudged class.now.types.world class.now.by) }
 {
     let mut room = FrameRoom::new(alloc)?;
-    for place in 0..methods.len() {
-        if let Some(fault) = check_code(alloc, &mut room, class, &methods[place])? {
+    for place in 0..file.method_count() {
+        if let Some(fault) = check_code_at(alloc, &mut room, class, file, place)? {
             return Ok(Some(fault_at(place as u16, fault)));
         }
     }
@@ -81,14 +99,24 @@ fn check_file<'a>(
     file.is_well_formed();
     let constants = ConstantTypes::new(alloc, state, classes.table(), file.pool())?;
     let current = CurrentClass::new(alloc, classes, class, file, &constants)?;
-    first_fault(alloc, &current, file.methods())
+    first_fault(alloc, &current, file)
 }
 
-/// Whether one of the methods has code.
-fn has_code(methods: &[Method<'_>]) -> bool
-    ensures { result ≡ list_any (λ m. is_some (seen_method m).code) methods.now }
+/// Whether the method at a place has no code; also where there is none.
+fn has_no_code_at(file: &ClassFile<'_>, place: usize) -> bool
+    ensures { IsTrue result ↔ IfSome (slice_get (methods_of file.now) place) (λ m. m.code ≡ None) }
 {
-    methods.iter().any(|method| method.has_code())
+    match file.method(place) {
+        Some(method) => !method.has_code(),
+        None => true,
+    }
+}
+
+/// Whether no method has code.
+fn has_no_code(file: &ClassFile<'_>) -> bool
+    ensures { IsTrue result ↔ All (λ m. m.code ≡ None) (methods_of file.now) }
+{
+    (0..file.method_count()).all(|place| has_no_code_at(file, place))
 }
 
 /// The first rule that the first ill-typed method of the class of a file breaks. Takes no memory where no method has code.
@@ -103,10 +131,10 @@ fn check_shown<'a>(
     requires file { HoldsAtNumber classes.now.world class (λ l. class_of file.now ≡ Some l.class) }
     ensures { IfOk result (λ fault. HoldsAtNumber classes.now.world class (λ l. AreJudged classes.now.world l fault)) }
 {
-    if has_code(file.methods()) {
-        check_file(alloc, state, classes, class, file)
-    } else {
+    if has_no_code(file) {
         Ok(None)
+    } else {
+        check_file(alloc, state, classes, class, file)
     }
 }
 

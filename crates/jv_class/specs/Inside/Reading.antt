@@ -4,10 +4,9 @@ use Rattle.jv_class_structure.specs.of_format.Format.{Format, half, quad}
 use Rattle.jv_class_structure.specs.of_format.Readers.{both, such_that}
 use Rattle.jv_class_structure.specs.of_pool.Constants.{Entry, at_index, utf8_at}
 use Rattle.jv_class_structure.specs.Structure.{ClassStructure}
-use Rattle.jv_class_structure.specs.Parts.{IsBehindVersion}
-use Rattle.jv_class_structure.specs.Seen.{seen_field, seen_method}
+use Rattle.jv_class_structure.specs.Parts.{IsBehindVersion, MethodSeen}
+use Rattle.jv_class_structure.specs.Seen.{seen_field}
 use Rattle.jv_class_structure.specs.declared.member.Field.{Field}
-use Rattle.jv_class_structure.specs.declared.member.Method.{Method}
 use Rattle.jv_class.specs.Rules.{KeepsClassRules}
 use Rattle.jv_class.specs.Supported.{IsSupportedConstant}
 use Rattle.jv_class.specs.declared.fault.ClassFault.{ClassFault}
@@ -51,8 +50,8 @@ pub record IsKeyOf (pool : List Entry) (name descriptor key : ℕ) : Type 0 wher
 abbrev pub IsFieldKey : List Entry → Field → ℕ → Type 0
 IsFieldKey pool f key = IsKeyOf pool (seen_field f).name_index (seen_field f).descriptor_index key
 
-abbrev pub IsMethodKey : List Entry → Method → ℕ → Type 0
-IsMethodKey pool m key = IsKeyOf pool (seen_method m).name_index (seen_method m).descriptor_index key
+abbrev pub IsMethodKey : List Entry → MethodSeen → ℕ → Type 0
+IsMethodKey pool m key = IsKeyOf pool m.name_index m.descriptor_index key
 
 -- a refusal is for want of memory
 abbrev pub FailsForMemory : {A : Type 0} → Result A ClassFault → Type 0

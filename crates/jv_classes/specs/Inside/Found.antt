@@ -4,7 +4,7 @@ use Rattle.std.specs.Option.{option_map, IsSomeAnd}
 use Rattle.jv_meaning_world.specs.of_pool.declared.index.ClassIndex.{ClassIndex}
 use Rattle.jv_meaning_world.specs.of_pool.Constants.{Entry, NameAndDescriptor, named_at, class_name_at, utf8_at}
 use Rattle.jv_meaning_world.specs.of_class_structure.declared.member.Field.{Field}
-use Rattle.jv_meaning_world.specs.of_class_structure.declared.member.Method.{Method}
+use Rattle.jv_meaning_world.specs.of_class_structure.Parts.{MethodSeen}
 use Rattle.jv_classes.specs.Inside.Seen.{MemberSeen, member_made}
 
 abbrev pub member_with : ℕ → NameAndDescriptor → MemberSeen
@@ -34,11 +34,8 @@ field_texts pool f = named_at pool f.name.0 f.descriptor.0
 abbrev pub field_at : List Entry → Field → Option MemberSeen
 field_at pool f = option_map (member_with f.access_flags.0) (field_texts pool f)
 
-abbrev pub method_texts : List Entry → Method → Option NameAndDescriptor
-method_texts pool m = named_at pool m.name.0 m.descriptor.0
-
-abbrev pub method_at : List Entry → Method → Option MemberSeen
-method_at pool m = option_map (member_with m.access_flags.0) (method_texts pool m)
+abbrev pub method_at : List Entry → MethodSeen → Option MemberSeen
+method_at pool m = member_seen_at pool m.access_flags m.name_index m.descriptor_index
 
 abbrev pub interface_at : List Entry → ClassIndex → Option (List ℕ)
 interface_at pool index = class_name_at pool index.0

@@ -1,10 +1,8 @@
 -- The methods of a class as its file shows them (JVMS 4.6), and what is found of one.
-use Rattle.std.specs.Prelude.{◌≡◌, List, map, Option, Some, None, IsSome, Result, IfOk}
+use Rattle.std.specs.Prelude.{◌≡◌, List, Option, Some, None, IsSome, Result, IfOk}
 use Rattle.std.specs.Option.{option_map}
 use Rattle.jv_pool.specs.Constants.{Entry, named_at}
 use Rattle.jv_class_structure.specs.Parts.{MethodSeen}
-use Rattle.jv_class_structure.specs.Seen.{seen_method}
-use Rattle.jv_class_structure.specs.declared.member.Method.{Method as ShownMethod}
 use Rattle.jv_class.specs.Class.{Method, all_found}
 use Rattle.jv_meaning_world.specs.World.{Loaded, World}
 use Rattle.jv_meaning_world.specs.Verdicts.{declared_by}
@@ -21,8 +19,8 @@ method_in pool shown =
     (named_at pool shown.name_index shown.descriptor_index)
 
 -- these are the methods of the class
-abbrev pub AreMethodsOf : Loaded → List ShownMethod → Type 0
-AreMethodsOf l methods = all_found (method_in l.class.constant_pool) (map seen_method methods) ≡ Some l.class.methods
+abbrev pub AreMethodsOf : Loaded → List MethodSeen → Type 0
+AreMethodsOf l methods = all_found (method_in l.class.constant_pool) methods ≡ Some l.class.methods
 
 -- the first rule that a method with code breaks, and where; none where it has no code, or its code has a typing
 abbrev pub IsMethodJudged : World → Loaded → Method → Option CodeFault → Type 0

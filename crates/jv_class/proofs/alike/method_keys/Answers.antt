@@ -1,26 +1,18 @@
-use Rattle.std.proofs.Common.{arith}
-use Rattle.std.proofs.lemmas.Grind.{common_steps}
+use Rattle.std.proofs.Common.{◌<◌, ◌≤◌, length, rules, subst}
+use Rattle.std.specs.List.{AllZip}
+use Rattle.std.proofs.lemmas.List.{take_all}
+use Rattle.jv_class_structure.specs.Parts.{methods_of}
 use Rattle.jv_class.specs.Inside.Reading.{IsMethodKey}
-use Rattle.std.proofs.lemmas.List.Elements.{All-get_or}
-use Rattle.std.specs.Prelude.{IsSome}
-use Rattle.jv_class_structure.specs.of_pool.Constants.{utf8_at}
-use Rattle.jv_class.proofs.Keys.{zipped_next, all_named, all_described}
+use Rattle.jv_class.proofs.Keys.{zipped_place}
 use Rattle.jv_class.proofs.alike.method_keys.Goals as goal
 
-pub loop-method-preserved : goal.loop-method-preserved
-loop-method-preserved c =
-    zipped_next (IsMethodKey c.args.pool.now) c.args.methods.now c.loop-method.method-index _ c.loop-method-test.true c.loop-method.keys.items c.push.new.self.items _
-    c.in_ok-push.ensures.items c.loop-method.invariant c.key_of.ensures
+pub loop-place-preserved : goal.loop-place-preserved
+loop-place-preserved c =
+    let within : c.loop-place.place < length (methods_of c.args.parts.now) = search rules in
+    zipped_place (IsMethodKey c.args.parts.now.constant_pool) (methods_of c.args.parts.now) c.loop-place.place within c.loop-place.keys.items c.push.new.self.items _
+    c.in_ok-push.ensures.items c.loop-place.invariant c.method_key.ensures
 
 pub returns-clause-ok : goal.returns-clause-ok
-returns-clause-ok c = grind (arith, common_steps)
-
-pub key_of-requires-clause-name : goal.key_of-requires-clause-name
-key_of-requires-clause-name c =
-    All-get_or (λ x. IsSome (utf8_at c.args.pool.now x.name.0)) c.args.methods.now c.loop-method.method-index _ c.loop-method-test.true
-    (all_named c.args.pool.now (λ x. x.name.0) (λ x. x.descriptor.0) c.args.methods.now c.requires)
-
-pub key_of-requires-clause-descriptor : goal.key_of-requires-clause-descriptor
-key_of-requires-clause-descriptor c =
-    All-get_or (λ x. IsSome (utf8_at c.args.pool.now x.descriptor.0)) c.args.methods.now c.loop-method.method-index _ c.loop-method-test.true
-    (all_described c.args.pool.now (λ x. x.name.0) (λ x. x.descriptor.0) c.args.methods.now c.requires)
+returns-clause-ok c =
+    let past : length (methods_of c.args.parts.now) ≤ c.loop-place.place = search rules in
+    subst (λ methods. AllZip (IsMethodKey c.args.parts.now.constant_pool) methods c.loop-place.keys.items) (take_all c.loop-place.place (methods_of c.args.parts.now) past) c.loop-place.invariant

@@ -1,5 +1,6 @@
 use Rattle.std.proofs.Common.{sym, ◌∙◌}
-use Rattle.jv_class_structure.specs.Inside.Kept.{unpacked, seen_codes}
+use Rattle.jv_class_structure.specs.Seen.{unpacked}
+use Rattle.jv_class_structure.specs.Inside.Kept.{seen_codes}
 use Rattle.jv_class_structure.specs.Inside.Reading.{method_attribute_kept}
 use Rattle.jv_class_structure.proofs.Gathering.{gathers, gathers-none, one_more-seen, one_more-none}
 use Rattle.jv_class_structure.proofs.members.codes_listed.Goals as goal

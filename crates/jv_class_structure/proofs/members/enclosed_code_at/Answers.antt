@@ -1,5 +1,5 @@
 use Rattle.std.proofs.Common.{sym, ◌∙◌, arith}
-use Rattle.jv_class_structure.specs.Inside.Kept.{unpacked}
+use Rattle.jv_class_structure.specs.Seen.{unpacked}
 use Rattle.jv_class_structure.specs.Inside.Reading.{code_kept}
 use Rattle.jv_class_structure.proofs.Gathering.{not_enclosed}
 use Rattle.jv_class_structure.proofs.Packing.{contents_small}

@@ -1,9 +1,18 @@
+use Rattle.std.proofs.Common.{◌<◌, ◌≤◌, length, arith, rules, ap, sym, ◌∙◌}
+use Rattle.std.proofs.lemmas.List.{take_all}
+use Rattle.jv_meaning_world.specs.of_class.Class.{all_found}
+use Rattle.jv_meaning_world.specs.of_class_structure.Parts.{methods_of}
 use Rattle.jv_classes.specs.Inside.Found.{method_at}
-use Rattle.jv_classes.proofs.AllFound.{joined_by, next_found}
+use Rattle.jv_classes.proofs.AllFound.{next_joined}
 use Rattle.jv_classes.proofs.reading.methods_in.Goals as goal
 
-pub loop-method-preserved : goal.loop-method-preserved
-loop-method-preserved c =
-    let joined = joined_by _ c.loop-method.gathered.members _ c.in_ok-add_member.ensures.joins in
-    let found = next_found (method_at c.args.pool.now) c.args.methods.now c.loop-method.method-index _ c.loop-method-test.true c.loop-method.gathered.members _ joined.0 joined.2 c.loop-method.invariant.0 joined.1 in
-    (found, c.in_ok-add_member.ensures.places)
+pub loop-place-preserved : goal.loop-place-preserved
+loop-place-preserved c =
+    let within : c.loop-place.place < length (methods_of c.args.file.now) = search rules in
+    let found = next_joined (method_at c.args.file.now.constant_pool) (methods_of c.args.file.now) c.loop-place.place within c.loop-place.gathered.members _ c.loop-place.invariant.0 c.in_ok-add_method.ensures.joins in
+    (found, c.in_ok-add_method.ensures.places)
+
+pub returns : goal.returns
+returns c =
+    let past : length (methods_of c.args.file.now) ≤ c.loop-place.place = search rules in
+    rw c.members.ensures (ap (all_found (method_at c.args.file.now.constant_pool)) (sym (take_all c.loop-place.place (methods_of c.args.file.now) past)) ∙ c.loop-place.invariant.0)

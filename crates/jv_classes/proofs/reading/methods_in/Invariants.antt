@@ -1,7 +1,10 @@
 use Rattle.std.proofs.Common.{◌≡◌, take, Some}
 use Rattle.jv_meaning_world.specs.of_class.Class.{all_found}
+use Rattle.jv_meaning_world.specs.of_class_structure.Parts.{methods_of}
 use Rattle.jv_classes.specs.Inside.Found.{ArePlaces, method_at}
 use Rattle.jv_classes.proofs.reading.methods_in.Given as goal
 
-abbrev pub invariant-loop-method : goal.invariant-loop-method
-invariant-loop-method l = (all_found (method_at l.pool) (take l.method-index l.methods) ≡ Some l.gathered.members) × ArePlaces l.pool l.places.items l.gathered.texts
+abbrev pub invariant-loop-place : goal.invariant-loop-place
+invariant-loop-place l =
+    (all_found (method_at l.file.constant_pool) (take l.place (methods_of l.file)) ≡ Some l.gathered.members)
+    × ArePlaces l.file.constant_pool l.places.items l.gathered.texts
