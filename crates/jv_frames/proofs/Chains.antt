@@ -8,7 +8,7 @@ use Rattle.std.specs.List.{All}
 use Rattle.jv_frames.specs.declared.entry.FrameEntry.{FrameEntry}
 use Rattle.jv_frames.specs.declared.nodes.Node.{Node}
 use Rattle.jv_frames.specs.declared.nodes.KeptFrame.{KeptFrame}
-use Rattle.jv_frames.specs.Inside.Nodes.{chain, chains_on, AreLaid, frame_in, IsKept, RiseTo}
+use Rattle.jv_frames.specs.Inside.Nodes.{chain, chains_on, AreLaid, frame_in, IsKept}
 
 abbrev Chains : Type 0
 Chains = List (List FrameEntry)
@@ -127,7 +127,3 @@ kept_more n [] f h one zero d lt = one
 kept_more n [] f h one (suc k) d lt = absurd (omega arith)
 kept_more n (g ∷ fs) f h one zero d lt = h 0 d (omega arith)
 kept_more n (g ∷ fs) f h one (suc k) d lt = kept_more n fs f (λ k d lt. h (suc k) d (omega arith)) one k d (omega arith)
-
-pub rise_more : (from base : ℕ) (fs : List KeptFrame) (f : KeptFrame) → RiseTo from fs base → base ≤ f.offset → RiseTo from (fs ++ f ∷ []) (f.offset + 1)
-rise_more from base [] f h le = (omega arith, omega arith)
-rise_more from base (g ∷ fs) f h le = (h.0, rise_more (g.offset + 1) base fs f h.1 le)

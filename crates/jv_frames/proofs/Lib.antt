@@ -4,7 +4,9 @@ pub mod Forms
 pub mod Faults
 pub mod Words
 pub mod Tables
+pub mod Rises
 pub mod Chains
+pub mod Packing
 pub mod Stepping
 pub mod Naming
 pub mod Typed

@@ -10,11 +10,12 @@ use Rattle.jv_frames.specs.declared.width.Width.{Width}
 use Rattle.jv_frames.specs.declared.width.Width.TheVariants.{One, Two}
 use Rattle.jv_frames.specs.declared.entry.FrameEntry.TheVariants as entries
 use Rattle.jv_frames.specs.Entries.{word_count, entry_words, words_in}
-use Rattle.jv_frames.specs.Inside.Nodes.{chain, frame_in, IsPile}
+use Rattle.jv_frames.specs.Inside.Nodes.{chain, frame_in, IsPile, kept_offset}
 use Rattle.jv_frames.specs.declared.limits.Limits.{Limits}
 use Rattle.jv_frames.specs.Inside.Steps.{Built, with_pile, settled, is_within_in, with_frame, finished}
 use Rattle.jv_frames.specs.Inside.Table.{built, Holds}
-use Rattle.jv_frames.proofs.Chains.{chain_kept, chain_new, frames_kept, all_kept, kept_more, rise_more}
+use Rattle.jv_frames.proofs.Chains.{chain_kept, chain_new, frames_kept, all_kept, kept_more}
+use Rattle.jv_frames.proofs.Rises.{rise_more}
 
 -- ---- words of entries
 
@@ -135,7 +136,7 @@ pub holds_joined : (widths : List Width) (cs : Chains) (frames : List KeptFrame)
 holds_joined widths cs frames base locals pile offset h low high = record {
   bottom = h.bottom;
   kept = kept_more (length cs) frames (kept_frame offset locals pile) h.kept (h.settled.there, h.laid.there);
-  rising = rise_more 0 base frames (kept_frame offset locals pile) h.rising low;
+  rising = rise_more kept_offset 0 base frames (kept_frame offset locals pile) h.rising low;
   low = omega (arith, high, h.low, length-append frames (kept_frame offset locals pile ∷ []));
   settled = h.settled;
   laid = no_pile widths cs (omega (arith, h.laid.there)) h.bottom;

@@ -22,7 +22,8 @@ use std::marker::Model;
 
 /// The frames of a method, by place, in the order of their offsets.
 ///
-/// They take 16 bytes a frame and 8 a local entry or stack item that the stack map has; what
+/// They take 16 bytes a frame and 4 a local entry or stack item that the stack map has, and 8 more
+/// at most twice a frame, where entries are laid on some that were read long before; what
 /// frames share is kept once. Room for one entry a byte of the stack map is reserved.
 #[derive(Drop)]
 pub struct MapFrames {

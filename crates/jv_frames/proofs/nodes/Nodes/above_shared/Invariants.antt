@@ -1,4 +1,4 @@
-use Rattle.std.proofs.Common.{◌-◌, ◌≡◌, ◌≤◌, ◌+◌, ℕ}
+use Rattle.std.proofs.Common.{◌-◌, ◌≡◌, ◌≤◌, ◌+◌}
 use Rattle.std.specs.Prelude.{drop}
 use Rattle.jv_frames.specs.Inside.Nodes.{chain}
 use Rattle.jv_frames.proofs.nodes.Nodes.above_shared.Given as goal
