@@ -3,9 +3,9 @@ use Rattle.std.proofs.Common.{◌≡◌, ℕ, zero, suc, ◌+◌, ◌*◌, ◌<�
 use Rattle.std.specs.Prelude.{slice_get, replicate, not}
 use Rattle.std.specs.List.{All, cons_option}
 use Rattle.std.specs.Option.{option_map}
-use Rattle.std.proofs.lemmas.Bool.{eqb-true, eqb-false, eq-eqb, and_parts, or_cases, or_right}
+use Rattle.std.proofs.lemmas.Bool.{eqb-true, eqb-false, eq-eqb, and_parts, or_cases, or_right, cases_order}
 use Rattle.std.proofs.lemmas.Bool.Decides.{eqb_tells}
-use Rattle.std.proofs.lemmas.List.{length-replicate, length-set, drop_all, take-append-drop}
+use Rattle.std.proofs.lemmas.List.{length-replicate, length-set, length-drop, drop_all, take-append-drop, get_or-drop, get_or_default}
 use Rattle.std.proofs.lemmas.List.Elements.{filter_map-append}
 use Rattle.std.proofs.lemmas.Option.{slice_get_read}
 use Rattle.std.proofs.Math.Seq.{drop-cons}
@@ -16,10 +16,10 @@ use Rattle.jv_meaning_world.specs.Overriding.{Declared, is_instance, declared_if
 use Rattle.jv_meaning_world.specs.Verdicts.{passes, declared_by}
 use Rattle.jv_meaning_world.specs.Numbers.{classes_at, AreNumbers}
 use Rattle.jv_lookups.specs.Packages.{AreNumbered}
-use Rattle.jv_lookups.specs.Inside.Fronts.{IsUpToMarked}
-use Rattle.jv_lookups.specs.Inside.Keys.{AreAsked, TellsFinalsOf, is_wanted, is_looked_at}
+use Rattle.jv_lookups.specs.Inside.Fronts.{AreUnmarked, IsUpToFinal, OverridesNoFinal}
+use Rattle.jv_lookups.specs.Inside.Keys.{AreAsked, TellsFinalsOf, is_wanted, is_any_marked, is_looked_at}
 use Rattle.jv_lookups.specs.Inside.Overridden.{have_package, with_overridden, overrides_final, overrides_final_above}
-use Rattle.jv_lookups.specs.Inside.Steps.{flags_alike, is_alike_overridden_if, is_final_overridden_if, is_found_if}
+use Rattle.jv_lookups.specs.Inside.Steps.{flags_alike, declares_final_alike, is_final_if, is_overridden_if, is_alike_overridden_if, is_final_overridden_if, is_found_if}
 use Rattle.jv_lookups.proofs.Passing.{some_at, and_none}
 
 -- ---- one class further up
@@ -145,12 +145,16 @@ module _ (classes : List Loaded) (packages : List ℕ) (row marks : List Bool) (
   not_found None h = refl
   not_found (Some f) h = ap (λ b. b && not (has f acc_private)) h
 
-  module _ (asked after : List Bool) (within : number < length marks) (asks : is_wanted packages row (n ∷ rest) number ≡ true → get_or asked n false ≡ true) where
+  module _ (asked after : List Bool) (within : number < length marks) (asks : is_any_marked row (length classes) n ≡ true → is_wanted packages row (n ∷ rest) number ≡ true → get_or asked n false ≡ true) where
     abbrev pub may : Bool → Bool
     may found = get_or row (cond found n (length classes + n)) false
 
     abbrev pub looked : Bool
     looked = get_or asked n false && may (get_or marks number false)
+
+    any_marked : (f : Bool) → may f ≡ true → is_any_marked row (length classes) n ≡ true
+    any_marked true e = ap (λ b. b || get_or row (length classes + n) false) e
+    any_marked false e = or_right (get_or row n false) (get_or row (length classes + n) false) e
 
     -- no final method of the class is overridden
     fails : (f a t : Bool) → a ≡ true → may f ≡ t → get_or row n false ≡ true → false ≡ ((a && t) && is_final_overridden_if f flags) → is_final_overridden_if f flags ≡ false
@@ -167,7 +171,7 @@ module _ (classes : List Loaded) (packages : List ℕ) (row marks : List Bool) (
         by_row true h =
             step_final walked.found s m
             ∙ (ap (λ b. is_final_overridden_if b flags) (sym (walked.marked n s at (own_wanted h)))
-            ∙ fails (get_or marks number false) (get_or asked n false) (may (get_or marks number false)) (asks (own_wanted h)) refl h kept)
+            ∙ fails (get_or marks number false) (get_or asked n false) (may (get_or marks number false)) (asks (any_marked true h) (own_wanted h)) refl h kept)
 
     -- the packages that still count are marked as they have to be
     module _ (k : ℕ) (l : Loaded) (e : slice_get classes k ≡ Some l) (w : is_wanted packages row rest (get_or packages k 0) ≡ true) where
@@ -205,12 +209,18 @@ module _ (classes : List Loaded) (packages : List ℕ) (row marks : List Bool) (
       still d h true = h ∙ joined d
       still d h false = here d
 
-      core : nat_eq number q ≡ true → (f a t : Bool) → a ≡ true → get_or marks number false ≡ f → may f ≡ t
+      passed_over : (a c : Bool) → get_or (cond (a && false) (cond c (set marks number true) marks) marks) number false ≡ get_or marks number false
+      passed_over true c = refl
+      passed_over false c = refl
+
+      core : nat_eq number q ≡ true → (f a t : Bool) → (t ≡ true → a ≡ true) → get_or marks number false ≡ f → may f ≡ t
           → get_or (cond (a && t) (cond (is_found_if f flags) (set marks number true) marks) marks) number false ≡ have_package (cond (is_found_if f flags) (s ∷ walked.found) walked.found) l
-      core d f false t ha hf m = absurd cc
+      core d f false true ha hf m = let never : false ≡ true = ha refl in absurd cc
       core d f true true ha hf m = by_found d (is_found_if f flags)
-      core d true true false ha hf m = still d hf (is_found_if true flags)
-      core d false true false ha hf m = here d ∙ ap (λ b. have_package (cond b (s ∷ walked.found) walked.found) l) (sym (not_found flags (tells.closed n s at m)))
+      core d true a false ha hf m = passed_over a (is_found_if true flags) ∙ still d hf (is_found_if true flags)
+      core d false a false ha hf m =
+          passed_over a (is_found_if false flags)
+          ∙ (here d ∙ ap (λ b. have_package (cond b (s ∷ walked.found) walked.found) l) (sym (not_found flags (tells.closed n s at m))))
 
       marked_at : after ≡ cond looked (cond (is_found_if (get_or marks number false) flags) (set marks number true) marks) marks → get_or after q false ≡ have_package (with_overridden walked.found (alike_in s m)) l
       marked_at made = by_place (nat_eq number q) refl
@@ -221,7 +231,7 @@ module _ (classes : List Loaded) (packages : List ℕ) (row marks : List Bool) (
               let own : is_wanted packages row (n ∷ rest) number ≡ true = ap (is_wanted packages row (n ∷ rest)) same ∙ wanted in
               ap (λ x. get_or after x false) (sym same)
               ∙ (ap (λ ms. get_or ms number false) made
-              ∙ (core d (get_or marks number false) (get_or asked n false) (may (get_or marks number false)) (asks own) refl refl
+              ∙ (core d (get_or marks number false) (get_or asked n false) (may (get_or marks number false)) (λ e. asks (any_marked (get_or marks number false) e) own) refl refl
               ∙ sym (ap (λ f. have_package f l) (step_found walked.found s m ∙ ap (λ b. cond (is_found_if b flags) (s ∷ walked.found) walked.found) (sym (walked.marked n s at own))))))
 
           by_place : (b : Bool) → nat_eq number q ≡ b → get_or after q false ≡ have_package (with_overridden walked.found (alike_in s m)) l
@@ -262,13 +272,13 @@ module _ (classes : List Loaded) (packages : List ℕ) (row marks : List Bool) (
       way_broken classes packages row marks m (get_or chain i 0) (drop (i + 1) chain) s whole numbered walked_here (class_there classes chain i s numbers h e) tells
       (and_parts answer (is_final_overridden_if (get_or marks there_package false) (flags_alike s m)) (sym broken)).1
 
-  pub chain_goes_on : (asked after : List Bool) (n : ℕ) → 2 * length classes ≤ n → length marks ≡ n → AreAsked packages row asked (drop i chain)
+  pub chain_goes_on : (asked after : List Bool) (n : ℕ) → 2 * length classes ≤ n → length marks ≡ n → AreAsked packages row (length classes) asked (drop i chain)
       → (answer : Bool) → answer ≡ is_looked_at row asked marks (length classes) there_package (get_or chain i 0)
       → false ≡ (answer && is_final_overridden_if (get_or marks there_package false) (flags_alike s m))
       → after ≡ cond answer (cond (is_found_if (get_or marks there_package false) (flags_alike s m)) (set marks there_package true) marks) marks
-      → IsWalked classes packages row after m (drop (i + 1) chain) whole × (length after ≡ n) × AreAsked packages row asked (drop (i + 1) chain)
+      → IsWalked classes packages row after m (drop (i + 1) chain) whole × (length after ≡ n) × AreAsked packages row (length classes) asked (drop (i + 1) chain)
   chain_goes_on asked after n room long are answer is kept made =
-      let asks : AreAsked packages row asked (get_or chain i 0 ∷ drop (i + 1) chain) = subst (AreAsked packages row asked) (next_place chain i h) are in (
+      let asks : AreAsked packages row (length classes) asked (get_or chain i 0 ∷ drop (i + 1) chain) = subst (AreAsked packages row (length classes) asked) (next_place chain i h) are in (
         way_goes_on classes packages row marks m (get_or chain i 0) (drop (i + 1) chain) s whole numbered walked_here (class_there classes chain i s numbers h e) tells asked after
             (number_within classes packages marks (get_or chain i 0) numbered (subst (λ k. 2 * length classes ≤ k) (sym long) room) (numbers i 0 h)) asks.0
             (kept ∙ ap (λ b. b && is_final_overridden_if (get_or marks there_package false) (flags_alike s m)) is)
@@ -296,24 +306,29 @@ stays xs true k j within h = by_place (eqb_tells j k)
     by_place (inl same) = ap (λ n. get_or (set xs k true) n false) same.1 ∙ get_or-set_same xs k true false within
     by_place (inr other) = get_or-set_other xs k j true false other.1 ∙ h
 
-asked_still : (packages : List ℕ) (row asked after : List Bool) → ((k : ℕ) → get_or asked k false ≡ true → get_or after k false ≡ true) → (chain : List ℕ) → AreAsked packages row asked chain → AreAsked packages row after chain
-asked_still packages row asked after still [] are = tt
-asked_still packages row asked after still (n ∷ chain) are = (λ w. still n (are.0 w), asked_still packages row asked after still chain are.1)
+-- one mark more is within the same room
+pub same_many : (after marks : List Bool) (b : Bool) (k : ℕ) → after ≡ cond b (set marks k true) marks → length after ≡ length marks
+same_many after marks true k e = ap length e ∙ length-set marks k true
+same_many after marks false k e = ap length e
 
-pub none_asked : (packages : List ℕ) (row asked marks : List Bool) (chain : List ℕ) (i : ℕ) → length chain ≤ i → AreAsked packages row asked (drop i chain) × AreWantedMarked packages row (drop i chain) marks
-none_asked packages row asked marks chain i past =
-    subst (λ rest. AreAsked packages row asked rest × AreWantedMarked packages row rest marks) (sym (drop_all i chain past)) (tt, λ number w. absurd cc)
+asked_still : (packages : List ℕ) (row : List Bool) (many : ℕ) (asked after : List Bool) → ((k : ℕ) → get_or asked k false ≡ true → get_or after k false ≡ true) → (chain : List ℕ) → AreAsked packages row many asked chain → AreAsked packages row many after chain
+asked_still packages row many asked after still [] are = tt
+asked_still packages row many asked after still (n ∷ chain) are = (λ any w. still n (are.0 any w), asked_still packages row many asked after still chain are.1)
 
-module _ (packages : List ℕ) (row asked marks asked_on marks_on : List Bool) (chain : List ℕ) (i j : ℕ) (within : i < length chain) (before : i + 1 ≡ j) where
+pub none_asked : (packages : List ℕ) (row : List Bool) (many : ℕ) (asked marks : List Bool) (chain : List ℕ) (i : ℕ) → length chain ≤ i → AreAsked packages row many asked (drop i chain) × AreWantedMarked packages row (drop i chain) marks
+none_asked packages row many asked marks chain i past =
+    subst (λ rest. AreAsked packages row many asked rest × AreWantedMarked packages row rest marks) (sym (drop_all i chain past)) (tt, λ number w. absurd cc)
+
+module _ (packages : List ℕ) (row : List Bool) (many : ℕ) (asked marks asked_on marks_on : List Bool) (chain : List ℕ) (i j : ℕ) (within : i < length chain) (before : i + 1 ≡ j) where
   pub one_more_asked : get_or packages (get_or chain i 0) 0 < length marks → get_or chain i 0 < length asked
       → marks_on ≡ cond (get_or row (get_or chain i 0) false) (set marks (get_or packages (get_or chain i 0) 0) true) marks
-      → asked_on ≡ cond (get_or marks_on (get_or packages (get_or chain i 0) 0) false) (set asked (get_or chain i 0) true) asked
-      → AreAsked packages row asked (drop j chain) → AreWantedMarked packages row (drop j chain) marks
-      → AreAsked packages row asked_on (drop i chain) × AreWantedMarked packages row (drop i chain) marks_on
+      → asked_on ≡ cond (is_any_marked row many (get_or chain i 0) && get_or marks_on (get_or packages (get_or chain i 0) 0) false) (set asked (get_or chain i 0) true) asked
+      → AreAsked packages row many asked (drop j chain) → AreWantedMarked packages row (drop j chain) marks
+      → AreAsked packages row many asked_on (drop i chain) × AreWantedMarked packages row (drop i chain) marks_on
   one_more_asked room space marks_made asked_made are wanted =
-      subst (λ rest. AreAsked packages row asked_on rest × AreWantedMarked packages row rest marks_on)
+      subst (λ rest. AreAsked packages row many asked_on rest × AreWantedMarked packages row rest marks_on)
       (sym (next_place chain i within ∙ ap (λ k. get_or chain i 0 ∷ drop k chain) before))
-      ((λ w. asks (wanted_on (get_or packages (get_or chain i 0) 0) w), asked_still packages row asked asked_on still (drop j chain) are), wanted_on)
+      ((λ any w. asks any (wanted_on (get_or packages (get_or chain i 0) 0) w), asked_still packages row many asked asked_on still (drop j chain) are), wanted_on)
     where
       place : ℕ
       place = get_or chain i 0
@@ -333,27 +348,54 @@ module _ (packages : List ℕ) (row asked marks asked_on marks_on : List Bool) (
               ∙ set_now (get_or row place false) parts.0
           by_first (inr d) = stays marks (get_or row place false) (get_or packages place 0) number room (wanted number d)
 
-      asks : get_or marks_on (get_or packages place 0) false ≡ true → get_or asked_on place false ≡ true
-      asks h =
-          ap (λ a. get_or a place false) (asked_made ∙ ap (λ b. cond b (set asked place true) asked) h)
+      asks : is_any_marked row many place ≡ true → get_or marks_on (get_or packages place 0) false ≡ true → get_or asked_on place false ≡ true
+      asks any h =
+          ap (λ a. get_or a place false) (asked_made ∙ (ap (λ b. cond (b && get_or marks_on (get_or packages place 0) false) (set asked place true) asked) any ∙ ap (λ b. cond b (set asked place true) asked) h))
           ∙ get_or-set_same asked place true false space
 
       still : (k : ℕ) → get_or asked k false ≡ true → get_or asked_on k false ≡ true
-      still k h = ap (λ a. get_or a k false) asked_made ∙ stays asked (get_or marks_on (get_or packages place 0) false) place k space h
+      still k h = ap (λ a. get_or a k false) asked_made ∙ stays asked (is_any_marked row many place && get_or marks_on (get_or packages place 0) false) place k space h
 
--- ---- what lies behind the last one that the row marks
+-- ---- what lies behind the last one that declares a final method
 
-behind_none : (classes : List Loaded) (row : List Bool) (m : Method) (tells : TellsFinalsOf classes row m) (found : List Loaded) (behind : List ℕ) → All (λ number. get_or row number false ≡ false) behind
-    → overrides_final_above m found (classes_at classes behind) ≡ false
-behind_none classes row m tells found [] none = refl
-behind_none classes row m tells found (n ∷ behind) none =
-    by_class (slice_get classes n) refl (λ f. behind_none classes row m tells f behind (λ k d less. none (suc k) d (omega (arith, less))))
+-- the row does not mark the class
+pub unmarked_overrides_none : (classes : List Loaded) (row : List Bool) (m : Method) (place : ℕ) → TellsFinalsOf classes row m → get_or row place false ≡ false → OverridesNoFinal classes m place
+unmarked_overrides_none classes row m place tells h s found at = tells.none place s found at h
+
+-- the class declares no final method with the name and descriptor
+pub none_final_overrides_none : (classes : List Loaded) (m : Method) (place : ℕ) (l : Loaded) → place < length classes → l ≡ get_or classes place l → declares_final_alike l m ≡ false → OverridesNoFinal classes m place
+none_final_overrides_none classes m place l within is h s found at =
+    step_final found s m ∙ by_flags (flags_alike s m) (subst (λ k. declares_final_alike k m ≡ false) (of_some l s (sym (slice_get_read classes (length classes) place l refl within is) ∙ at)) h)
+  where
+    of_some : (a b : Loaded) → Some a ≡ Some b → a ≡ b
+    of_some a b e = cc
+
+    by_flags : (o : Option ℕ) → is_final_if o ≡ false → is_final_overridden_if (have_package found s) o ≡ false
+    by_flags None h = refl
+    by_flags (Some flags) h = ap (λ b. b && is_overridden_if (have_package found s) flags) h
+
+-- one more place from the end: no class is marked before it, and none declares a final method behind it
+pub none_behind_more : (classes : List Loaded) (row : List Bool) (m : Method) (chain : List ℕ) (end last before : ℕ) (l : Loaded) → TellsFinalsOf classes row m → AreNumbers classes chain → last + 1 ≡ end → end ≤ length chain
+    → ((k : ℕ) → end ≤ k → k < length chain → OverridesNoFinal classes m (get_or chain k 0)) → l ≡ get_or classes (get_or chain last 0) l → false ≡ declares_final_alike l m
+    → AreUnmarked row chain before last → (k : ℕ) → before ≤ k → k < length chain → OverridesNoFinal classes m (get_or chain k 0)
+none_behind_more classes row m chain end last before l tells numbers next within none is kept unmarked k from less = by_place (cases_order k last)
+  where
+    by_place : (k ≡ last) ⊎ ((k < last) ⊎ (last < k)) → OverridesNoFinal classes m (get_or chain k 0)
+    by_place (inl here) =
+        subst (λ j. OverridesNoFinal classes m (get_or chain j 0)) (sym here) (none_final_overrides_none classes m (get_or chain last 0) l (numbers last 0 (omega (arith, next, within))) is (sym kept))
+    by_place (inr (inl below)) = unmarked_overrides_none classes row m (get_or chain k 0) tells (unmarked k from below)
+    by_place (inr (inr above)) = none k (omega (arith, next, above)) less
+
+behind_none : (classes : List Loaded) (m : Method) (found : List Loaded) (behind : List ℕ) → All (OverridesNoFinal classes m) behind → overrides_final_above m found (classes_at classes behind) ≡ false
+behind_none classes m found [] none = refl
+behind_none classes m found (n ∷ behind) none =
+    by_class (slice_get classes n) refl (λ f. behind_none classes m f behind (λ k d less. none (suc k) d (omega (arith, less))))
   where
     by_class : (o : Option Loaded) → slice_get classes n ≡ o → ((f : List Loaded) → overrides_final_above m f (classes_at classes behind) ≡ false)
         → overrides_final_above m found (cons_option o (classes_at classes behind)) ≡ false
     by_class None at again = again found
     by_class (Some s) at again =
-        ap (λ b. b || overrides_final_above m (with_overridden found (alike_in s m)) (classes_at classes behind)) (tells.none n s found at (none 0 0 (omega arith)))
+        ap (λ b. b || overrides_final_above m (with_overridden found (alike_in s m)) (classes_at classes behind)) (none 0 0 (omega arith) s found at)
         ∙ again (with_overridden found (alike_in s m))
 
 above_front : (m : Method) (found front behind : List Loaded) → ((f : List Loaded) → overrides_final_above m f behind ≡ false)
@@ -362,12 +404,17 @@ above_front m found [] behind none = none found
 above_front m found (s ∷ front) behind none =
     ap (λ b. overrides_final found (alike_in s m) || b) (above_front m (with_overridden found (alike_in s m)) front behind none)
 
-module _ (classes : List Loaded) (row : List Bool) (m : Method) (of : ℕ) (chain front : List ℕ) (tells : TellsFinalsOf classes row m) (upto : IsUpToMarked row chain front) where
+module _ (classes : List Loaded) (m : Method) (of : ℕ) (chain front : List ℕ) (upto : IsUpToFinal classes m chain front) where
+  behind : All (OverridesNoFinal classes m) (drop upto.many chain)
+  behind k d less =
+      let within : upto.many + k < length chain = omega (arith, length-drop upto.many chain, less) in
+      subst (OverridesNoFinal classes m) (sym (get_or-drop upto.many chain k d ∙ get_or_default chain (upto.many + k) d 0 within)) (upto.none_behind (upto.many + k) (omega arith) within)
+
   front_same : (l : Loaded) → overrides_final_above m (l ∷ []) (classes_at classes chain) ≡ overrides_final_above m (l ∷ []) (classes_at classes front)
   front_same l =
       ap (λ c. overrides_final_above m (l ∷ []) (classes_at classes c)) (sym (take-append-drop upto.many chain))
       ∙ (ap (overrides_final_above m (l ∷ [])) (filter_map-append (slice_get classes) (take upto.many chain) (drop upto.many chain))
-      ∙ (above_front m (l ∷ []) (classes_at classes (take upto.many chain)) (classes_at classes (drop upto.many chain)) (λ f. behind_none classes row m tells f (drop upto.many chain) upto.none_behind)
+      ∙ (above_front m (l ∷ []) (classes_at classes (take upto.many chain)) (classes_at classes (drop upto.many chain)) (λ f. behind_none classes m f (drop upto.many chain) behind)
       ∙ ap (λ c. overrides_final_above m (l ∷ []) (classes_at classes c)) (sym upto.is)))
 
   pub front_answers : (b : Bool) → b ≡ passes (λ l. overrides_final_above m (l ∷ []) (classes_at classes front)) (slice_get classes of)

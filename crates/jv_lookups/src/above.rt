@@ -5,16 +5,19 @@ ghost use Rattle.std.specs.List.{All};
 ghost use Rattle.jv_meaning_world.specs.Numbers.{AreNumbers};
 ghost use Rattle.jv_lookups.specs.Packages.{AreNumbered};
 ghost use Rattle.jv_lookups.specs.FinalKeys.{TellsFinals};
-ghost use Rattle.jv_lookups.specs.Inside.Fronts.{IsUpToMarked};
-ghost use Rattle.jv_lookups.specs.Inside.Keys.{AreAsked, TellsFinalsOf, is_looked_at};
+ghost use Rattle.jv_lookups.specs.Inside.Fronts.{AreUnmarked, IsUpToFinal, IsUpToMarked};
+ghost use Rattle.jv_lookups.specs.Inside.Keys.{AreAsked, TellsFinalsOf, is_any_marked, is_looked_at};
 ghost use Rattle.jv_lookups.specs.Inside.Overridden.{overrides_final_above, breaks_final_by};
-ghost use Rattle.jv_lookups.specs.Inside.Steps.{as_method, flags_alike, is_final_overridden_if, marked_with};
+ghost use Rattle.jv_lookups.specs.Inside.Steps.{as_method, declares_final_alike, flags_alike, is_final_overridden_if, marked_with};
 ghost use Rattle.jv_lookups.specs.Finals.{PassesWith};
 
 use crate::keys::{FinalKeys, row_of};
 use crate::marks::Marks;
 use crate::member::{FINAL, PRIVATE, can_override, is_instance, is_overridden};
 use jv_classes::{KeyRow, LoadedClass, Member, Text};
+
+// how many superclasses that may declare a method final it is looked up in at most, the highest one first, before it goes over those below
+const MOST_LOOKS: usize = 4;
 
 /// The flags of the instance method of a class with the name and descriptor of another.
 fn flags_alike(
@@ -34,6 +37,23 @@ fn flags_alike(
     } else {
         None
     }
+}
+
+/// Whether the class declares a final instance method with the name and descriptor of another.
+fn declares_final_alike(
+    class: &LoadedClass<'_>,
+    method: &Member<'_>,
+    name: &Text<'_>,
+    descriptor: &Text<'_>,
+) -> bool
+    requires name { name.now ≡ method.now.name.now }
+    requires descriptor { descriptor.now ≡ method.now.descriptor.now }
+    ensures { result ≡ declares_final_alike class.now (as_method method.now) }
+{
+    let Some(access_flags) = flags_alike(class, method, name, descriptor) else {
+        return false;
+    };
+    access_flags & FINAL != 0
 }
 
 /// Whether the method overrides a final one of this class further up, whose package has this number;
@@ -76,14 +96,47 @@ pub(crate) fn up_to_marked<'b>(marks: &[bool], chain: &'b [u16]) -> &'b [u16]
     &chain[..end]
 }
 
-/// The superclasses up to the last one that the row marks.
-fn up_to_marked_in<'b>(row: &KeyRow<'_>, chain: &'b [u16]) -> &'b [u16]
-    requires { All (λ number. number < length row.now) chain.now }
-    ensures { IsUpToMarked row.now chain.now result.now }
+/// How many there are of the first `end` of these superclasses up to the last one that the row marks.
+#[inline(never)]
+fn marked_end(row: &KeyRow<'_>, chain: &[u16], end: usize) -> usize
+    requires chain { All (λ number. number < length row.now) chain.now }
+    requires end { end ≤ length chain.now }
+    ensures within { result ≤ end }
+    ensures none_behind { AreUnmarked row.now chain.now result end }
 {
-    let mut end = chain.len();
-    while end > 0 && !row.is_marked(chain[end - 1] as usize) {
-        end -= 1;
+    let mut now = end;
+    while now > 0 && !row.is_marked(chain[now - 1] as usize) {
+        now -= 1;
+    }
+    now
+}
+
+/// The superclasses up to the last one that the row, which is of the method's key, marks and that declares a final instance method with
+/// the name and descriptor of the method; where `MOST_LOOKS` of those that it marks do not, up to the next one that it marks.
+fn up_to_final<'b>(
+    classes: &[LoadedClass<'_>],
+    row: &KeyRow<'_>,
+    chain: &'b [u16],
+    method: &Member<'_>,
+    name: &Text<'_>,
+    descriptor: &Text<'_>,
+) -> &'b [u16]
+    requires name { name.now ≡ method.now.name.now }
+    requires descriptor { descriptor.now ≡ method.now.descriptor.now }
+    requires chain { AreNumbers classes.now chain.now }
+    requires row { TellsFinalsOf classes.now row.now (as_method method.now) }
+    ensures { IsUpToFinal classes.now (as_method method.now) chain.now result.now }
+{
+    let mut end = marked_end(row, chain, chain.len());
+    for _look in 0..MOST_LOOKS {
+        if end == 0 {
+            return &chain[..end];
+        }
+        let class = &classes[chain[end - 1] as usize];
+        if declares_final_alike(class, method, name, descriptor) {
+            return &chain[..end];
+        }
+        end = marked_end(row, chain, end - 1);
     }
     &chain[..end]
 }
@@ -100,26 +153,73 @@ fn mark_if(is_wanted: bool, marks: &mut Marks, number: usize)
     }
 }
 
-/// Asks for each of these superclasses that is in one package with a class that the row marks, itself or one further up. `marks` is
-/// room for packages.
-fn ask(packages: &[usize], row: &KeyRow<'_>, marks: &mut Marks, asked: &mut Marks, chain: &[u16])
-    requires row { All (λ number. number < length row.now) chain.now }
+/// Whether the row, of so many classes, marks a class for a final method, or for a public or protected one.
+#[inline(always)]
+fn is_any_marked(row: &KeyRow<'_>, many: usize, place: usize) -> bool
+    requires place { place < many }
+    requires row { length row.now ≡ 2 * many }
+    requires fits { 2 * many < 2 ^ 64 }
+    ensures { result ≡ is_any_marked row.now many place }
+{
+    row.is_marked(place) || row.is_marked(many + place)
+}
+
+/// Marks the package of a class that the row marks for a final method, and asks for the class where its package is marked; a class that
+/// the row does not mark at all is passed over.
+#[inline(always)]
+fn ask_for(
+    packages: &[usize],
+    row: &KeyRow<'_>,
+    many: usize,
+    marks: &mut Marks,
+    asked: &mut Marks,
+    place: usize,
+)
+    requires place { place < many }
+    requires row { length row.now ≡ 2 * many }
+    requires fits { 2 * many < 2 ^ 64 }
+    requires packages { place < length packages.now }
+    requires marks { get_or packages.now place 0 < length marks.old }
+    requires asked { place < length asked.old }
+    ensures marks { marks.new ≡ (if get_or row.now place false then set marks.old (get_or packages.now place 0) true else marks.old) }
+    ensures asked { asked.new
+        ≡ (if is_any_marked row.now many place && get_or marks.new (get_or packages.now place 0) false
+        then set asked.old place true else asked.old) }
+{
+    if !is_any_marked(row, many, place) {
+        return;
+    }
+    let number = packages[place];
+    mark_if(row.is_marked(place), marks, number);
+    mark_if(marks.is_marked(number), asked, place);
+}
+
+/// Asks for each of these superclasses that the row, of so many classes, marks, and that is in one package with one, itself or further
+/// up, that it marks for a final method. `marks` is room for packages.
+fn ask(
+    packages: &[usize],
+    row: &KeyRow<'_>,
+    many: usize,
+    marks: &mut Marks,
+    asked: &mut Marks,
+    chain: &[u16],
+)
+    requires chain { All (λ number. number < many) chain.now }
+    requires row { length row.now ≡ 2 * many }
+    requires fits { 2 * many < 2 ^ 64 }
     requires packages { All (λ number. number < length packages.now) chain.now }
     requires marks { All (λ number. get_or packages.now number 0 < length marks.old) chain.now }
     requires asked { All (λ number. number < length asked.old) chain.now }
     ensures marks { length marks.new ≡ length marks.old }
     ensures many { length asked.new ≡ length asked.old }
-    ensures asked { AreAsked packages.now row.now asked.new chain.now }
+    ensures asked { AreAsked packages.now row.now many asked.new chain.now }
 {
     marks.clear();
     asked.clear();
     let mut end = chain.len();
     while end > 0 {
         end -= 1;
-        let place = chain[end] as usize;
-        let number = packages[place];
-        mark_if(row.is_marked(place), marks, number);
-        mark_if(marks.is_marked(number), asked, place);
+        ask_for(packages, row, many, marks, asked, chain[end] as usize);
     }
 }
 
@@ -197,7 +297,7 @@ fn overrides_final_above(
     ensures asked { length asked.new ≡ length asked.old }
 {
     let many = classes.len();
-    ask(packages, row, marks, asked, chain);
+    ask(packages, row, many, marks, asked, chain);
     marks.clear();
     marks.mark(packages[of]);
     for place in chain {
@@ -217,8 +317,9 @@ fn overrides_final_above(
     false
 }
 
-/// The same, where the row may mark none of these superclasses.
-fn overrides_final_if_marked(
+/// The same, and where none of these superclasses declares a final instance method with the name and descriptor of the method, it is not
+/// asked which of them are in one package.
+fn overrides_final_if_declared(
     classes: &[LoadedClass<'_>],
     packages: &[usize],
     row: &KeyRow<'_>,
@@ -242,7 +343,7 @@ fn overrides_final_if_marked(
     ensures marks { length marks.new ≡ length marks.old }
     ensures asked { length asked.new ≡ length asked.old }
 {
-    let chain = up_to_marked_in(row, chain);
+    let chain = up_to_final(classes, row, chain, method, name, descriptor);
     if chain.is_empty() {
         return false;
     }
@@ -277,7 +378,7 @@ pub(crate) fn breaks_final_by(
     ensures asked { length asked.new ≡ length asked.old }
 {
     can_override(method)
-        && overrides_final_if_marked(
+        && overrides_final_if_declared(
             classes,
             packages,
             &row_of(keys, method, name, descriptor),

@@ -109,10 +109,11 @@ fn some_overrides_final(
 /// method, `keys` which of them may declare which method that others can override, `packages` has the
 /// number of each class's package, and `marks` and `asked` are room for such numbers.
 ///
-/// Where no superclass declares a final method it looks at no method. Else it goes over the chain by numbers alone, twice for each
-/// method of the class, and looks the method up only in a superclass that is in one package with one, itself or further up, that may
-/// declare it final: where the method overrides another one in that package so far, in each that may declare it final, and else in
-/// each that may declare it public or protected.
+/// Where no superclass declares a final method it looks at no method. Else, for each method of the class that can override, it goes down
+/// the chain by numbers alone to the first superclass that declares it final, and looks it up in those that may, in a few at most: behind
+/// these, it goes to the first that may. Where it comes to one, it goes twice over the superclasses up to there by numbers alone, and looks
+/// the method up only in one that is in one package with one, itself or further up, that may declare it final: where the method overrides
+/// another one in that package so far, in each that may declare it final, and else in each that may declare it public or protected.
 pub fn breaks_final(
     classes: &[LoadedClass<'_>],
     finals: &[bool],

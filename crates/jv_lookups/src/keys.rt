@@ -111,13 +111,37 @@ fn mark_classes(marks: &mut KeyMarks, seed: u64, classes: &[LoadedClass<'_>])
     }
 }
 
-/// How many methods the classes declare.
-fn method_count_of_all(classes: &[LoadedClass<'_>]) -> usize {
+/// Whether the class declares a final method that a method of another class can override.
+fn has_final(class: &LoadedClass<'_>) -> bool {
+    for place in 0..class.method_count() {
+        if is_final_open(&class.method(place)) {
+            return true;
+        }
+    }
+    false
+}
+
+/// Whether one of the classes does.
+fn some_has_final(classes: &[LoadedClass<'_>]) -> bool {
+    for class in classes {
+        if has_final(class) {
+            return true;
+        }
+    }
+    false
+}
+
+/// For how many members the marks have room: for twice the methods of all classes, so that few bytes tell of several keys, and for none
+/// where no method is final, since then no class is looked at.
+fn room_for(classes: &[LoadedClass<'_>]) -> usize {
+    if !some_has_final(classes) {
+        return 0;
+    }
     let mut count = 0usize;
     for class in classes {
         count = count.saturating_add(class.method_count());
     }
-    count
+    count.saturating_mul(2)
 }
 
 /// The methods of these classes by keys, hashed with the state.
@@ -133,7 +157,7 @@ pub fn final_keys(
     ensures { IfOk result (TellsFinals classes.now) }
 {
     let seed = seed_of(state);
-    let mut marks = KeyMarks::new(alloc, method_count_of_all(classes), 2 * classes.len())?;
+    let mut marks = KeyMarks::new(alloc, room_for(classes), 2 * classes.len())?;
     mark_classes(&mut marks, seed, classes);
     Ok(FinalKeys { seed, marks })
 }

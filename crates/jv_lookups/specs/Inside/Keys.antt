@@ -1,5 +1,5 @@
 -- Methods that others can override by their keys, and the classes that are marked for one key (JVMS 4.6, 5.4.5).
-use Rattle.std.specs.Prelude.{◌≡◌, ℕ, ◌+◌, ◌*◌, ◌<◌, Bool, true, false, ◌&&◌, List, [], ◌∷◌, length, get_or, nat_eq, Some, slice_get, if◌then◌else◌}
+use Rattle.std.specs.Prelude.{◌≡◌, ℕ, ◌+◌, ◌*◌, ◌<◌, Bool, true, false, ◌&&◌, ◌||◌, List, [], ◌∷◌, length, get_or, nat_eq, Some, slice_get, if◌then◌else◌}
 use Rattle.std.specs.List.{list_any}
 use Rattle.jv_classes.specs.Texts.{Key, key_of}
 use Rattle.jv_meaning_world.specs.of_class.Class.{Method}
@@ -51,11 +51,16 @@ pub record TellsFinalsOf (classes : List Loaded) (row : List Bool) (m : Method) 
 abbrev pub is_wanted : List ℕ → List Bool → List ℕ → ℕ → Bool
 is_wanted packages row chain number = list_any (λ n. get_or row n false && nat_eq (get_or packages n 0) number) chain
 
--- a class is asked for where it, or one behind it, is marked and in its package
-abbrev pub AreAsked : List ℕ → List Bool → List Bool → List ℕ → Type 0
-AreAsked packages row asked [] = Unit {0}
-AreAsked packages row asked (n ∷ chain) =
-    (is_wanted packages row (n ∷ chain) (get_or packages n 0) ≡ true → get_or asked n false ≡ true) × AreAsked packages row asked chain
+-- a class, one of so many, is marked for a final method, or for a public or protected one
+abbrev pub is_any_marked : List Bool → ℕ → ℕ → Bool
+is_any_marked row many place = get_or row place false || get_or row (many + place) false
+
+-- a class that is marked is asked for where it, or one behind it, is marked for a final method and in its package
+abbrev pub AreAsked : List ℕ → List Bool → ℕ → List Bool → List ℕ → Type 0
+AreAsked packages row many asked [] = Unit {0}
+AreAsked packages row many asked (n ∷ chain) =
+    (is_any_marked row many n ≡ true → is_wanted packages row (n ∷ chain) (get_or packages n 0) ≡ true → get_or asked n false ≡ true)
+    × AreAsked packages row many asked chain
 
 -- a class has to be looked at: it is asked for, and its package is found and it may declare a final method, or its package is not
 -- found and it may declare a public or protected one

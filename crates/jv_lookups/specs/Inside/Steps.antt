@@ -15,6 +15,15 @@ as_method member = record { access_flags = member.access_flags; name = member.na
 abbrev pub flags_alike : Loaded → Method → Option ℕ
 flags_alike l m = option_map (λ (d : Declared). d.method.access_flags) (alike_in l m)
 
+-- these are the flags of a final method
+abbrev pub is_final_if : Option ℕ → Bool
+is_final_if None = false
+is_final_if (Some flags) = has flags acc_final
+
+-- a class declares a final instance method with the name and descriptor of another
+abbrev pub declares_final_alike : Loaded → Method → Bool
+declares_final_alike l m = is_final_if (flags_alike l m)
+
 -- a method with these flags is overridden, where its package is, or isn't, among those found
 abbrev pub is_overridden_if : Bool → ℕ → Bool
 is_overridden_if found flags =

@@ -1,11 +1,11 @@
-use Rattle.std.proofs.Common.{◌≡◌, ◌+◌, ◌-◌, ◌<◌, ◌≤◌, true, false, cond, set, length, get_or, sym, ap, subst, ◌∙◌, arith}
+use Rattle.std.proofs.Common.{◌≡◌, ◌+◌, ◌-◌, ◌<◌, ◌≤◌, false, length, get_or, sym, ap, subst, ◌∙◌, arith}
 use Rattle.std.proofs.lemmas.List.{length-replicate}
-use Rattle.jv_lookups.proofs.Marking.{none_asked, one_more_asked}
+use Rattle.jv_lookups.proofs.Marking.{none_asked, one_more_asked, same_many}
 use Rattle.jv_lookups.proofs.above.ask.Goals as goal
 
 pub loop-end-init : goal.loop-end-init
 loop-end-init c =
-    let none = none_asked c.args.packages.now c.args.row.now c.clear-2.new.self c.clear.new.self c.args.chain.now (length c.args.chain.now) (omega arith) in
+    let none = none_asked c.args.packages.now c.args.row.now c.args.many c.clear-2.new.self c.clear.new.self c.args.chain.now (length c.args.chain.now) (omega arith) in
     record {
       within = omega arith;
       asked = none.0;
@@ -26,15 +26,13 @@ loop-end-preserved c =
     subst (λ n. get_or c.args.packages.now (get_or chain last 0) 0 < n) (sym c.loop-end.invariant.marks_many) (c.requires.marks last 0 within)
     in
     let space : get_or chain last 0 < length c.loop-end.asked = subst (λ n. get_or chain last 0 < n) (sym c.loop-end.invariant.asked_many) (c.requires.asked last 0 within) in
-    let on = one_more_asked c.args.packages.now c.args.row.now c.loop-end.asked c.loop-end.marks c.mark_if-in-loop-end.new.marks c.mark_if.new.marks chain last c.loop-end.end within before room space
-    (subst (λ b. c.mark_if.new.marks ≡ cond b (set c.loop-end.marks (get_or c.args.packages.now (get_or chain last 0) 0) true) c.loop-end.marks) c.is_marked.ensures c.mark_if.ensures.marked)
-    (subst (λ b. c.mark_if-in-loop-end.new.marks ≡ cond b (set c.loop-end.asked (get_or chain last 0) true) c.loop-end.asked) c.is_marked-in-loop-end.ensures c.mark_if-in-loop-end.ensures.marked)
-    c.loop-end.invariant.asked c.loop-end.invariant.wanted
+    let on = one_more_asked c.args.packages.now c.args.row.now c.args.many c.loop-end.asked c.loop-end.marks c.ask_for.new.asked c.ask_for.new.marks chain last c.loop-end.end within before room space
+    c.ask_for.ensures.marks c.ask_for.ensures.asked c.loop-end.invariant.asked c.loop-end.invariant.wanted
     in
     record {
       within = omega (arith, inside);
       asked = on.0;
       wanted = on.1;
-      marks_many = c.mark_if.ensures.many ∙ c.loop-end.invariant.marks_many;
-      asked_many = c.mark_if-in-loop-end.ensures.many ∙ c.loop-end.invariant.asked_many;
+      marks_many = same_many _ _ _ _ c.ask_for.ensures.marks ∙ c.loop-end.invariant.marks_many;
+      asked_many = same_many _ _ _ _ c.ask_for.ensures.asked ∙ c.loop-end.invariant.asked_many;
     }

@@ -13,5 +13,5 @@ invariant-loop-place l = record {
   walked : IsWalked l.classes l.packages l.row l.marks (as_method l.method) (drop l.place-index l.chain)
       (passes (λ c. overrides_final_above (as_method l.method) (c ∷ []) (classes_at l.classes l.chain)) (slice_get l.classes l.of));
   many : length l.marks ≡ length l.fn.marks;
-  asked : AreAsked l.packages l.row l.asked (drop l.place-index l.chain);
+  asked : AreAsked l.packages l.row (length l.classes) l.asked (drop l.place-index l.chain);
 }
