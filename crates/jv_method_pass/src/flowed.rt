@@ -29,8 +29,11 @@ use std::alloc::{AllocError, Global};
 /// How many words of local entries a frame has at least that is kept: fewer are as soon compared.
 const MANY: u16 = 32;
 
-/// How many local variables of all frames together are kept at most, but for those of the last one.
-const KEPT: usize = 2097152;
+/// How many local variables of all frames together are kept at most.
+const KEPT: usize = 1048576;
+
+/// For how many local variables that were compared those that are kept are let go for others.
+const RENEWED: usize = 134217728;
 
 /// How many frames are kept at most.
 const MOST: usize = 128;
@@ -365,13 +368,20 @@ impl FlowedLocals {
         is_small
     }
 
-    /// Keeps none any more, if those that are kept have many local variables.
-    fn make_room(&mut self)
+    /// Whether there is room for a frame of so many local variables more. Where there is none, those that are kept are let go for it, if
+    /// what was compared pays for that.
+    fn has_room(&mut self, count: usize) -> bool
         ensures { (pass : Pass) → StaysRight pass self.old.writes.items self.old.frames.items self.new.writes.items self.new.frames.items }
     {
-        if self.room > KEPT {
-            self.forget();
+        if self.room.saturating_add(count) <= KEPT {
+            return true;
         }
+        let Some(left) = self.credit.checked_sub(RENEWED) else {
+            return false;
+        };
+        self.credit = left;
+        self.forget();
+        true
     }
 
     /// Whether one more frame is kept, with so many local variables: where there are as many frames as are kept, one with fewer is let go
@@ -391,7 +401,7 @@ impl FlowedLocals {
     }
 
     /// Keeps the frame of the map at a place, if it was asked for before, none is kept or the last one is too small, what was compared pays
-    /// for it, it has more local variables than one of many that are kept, and the host has memory for it.
+    /// for it, there is room for it, it has more local variables than one of many that are kept, and the host has memory for it.
     fn begin(
         &mut self,
         pass: &Pass<'_, '_, '_, '_, '_>,
@@ -408,14 +418,17 @@ impl FlowedLocals {
             return;
         }
         let count = usize::from(room_for(map.local_words(), pass.max_locals));
-        let Some(left) = self.credit.checked_sub(PRICE * count) else {
+        let price = PRICE * count;
+        if self.credit < price {
             return;
-        };
+        }
+        if !self.has_room(count) {
+            return;
+        }
         if !self.has_place(count) {
             return;
         }
-        self.credit = left;
-        self.make_room();
+        self.credit = self.credit.saturating_sub(price);
         let Ok(flowed) = made_of(self.alloc, pass, place, map, self.writes.len()) else {
             return;
         };

@@ -5,10 +5,10 @@ use Rattle.jv_method_pass.proofs.flowed.FlowedLocals.begin.Goals as goal
 
 pub returns : goal.returns
 returns c = λ locals have.
-    let left = c.make_room.new.self in
+    let left = c.has_place.new.self in
     let P = HasFlowed c.args.pass.now left.writes.items locals in
-    pushed P left.frames.items _ c.in-Ok.flowed (is_ok c.push-kept.result) c.push-kept.ensures.items (c.make_room.ensures c.args.pass.now locals (c.has_place.ensures c.args.pass.now locals have))
+    pushed P left.frames.items _ c.in-Ok.flowed (is_ok c.push-kept.result) c.push-kept.ensures.items (c.has_place.ensures c.args.pass.now locals (c.has_room.ensures c.args.pass.now locals have))
     (c.in-Ok.ensures {u = tt} left.writes.items locals (omega (arith, c.len.ensures, left.writes.ok.0)))
 
-pub returns-in_default-made_of : goal.returns-in_default-made_of
-returns-in_default-made_of c = λ locals have. c.make_room.ensures c.args.pass.now locals (c.has_place.ensures c.args.pass.now locals have)
+pub returns-in_default : goal.returns-in_default
+returns-in_default c = λ locals have. c.has_place.ensures c.args.pass.now locals (c.has_room.ensures c.args.pass.now locals have)
