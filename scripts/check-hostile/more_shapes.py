@@ -336,6 +336,40 @@ def finals_of_empty(folder, scale):
         made.write(folder)
 
 
+def finals_of_same(folder, scale):
+    """finals_of_empty where the highest class has 65,000 final methods of the same names, for its package alone, in which the chain is, and not these classes."""
+    count, given = 1000, descriptors(1024)
+    for n in range(count):
+        made = ClassFile(f"q/C{n}", f"q/C{n - 1}" if n else "java/lang/Object", 0x421)
+        if n == 0:
+            for k in range(65000):
+                made.method(0x10, f"m{k // 1024}", given[k % 1024], 0, 24, bytes([177]))
+        made.write(folder)
+    for c in range(14):
+        made = ClassFile("Main" if c == 0 else f"M{c}", f"q/C{count - 1}", 0x421)
+        made.main()
+        for k in range(scaled(scale, 65000)):
+            made.declare(0x401, f"m{k // 1024}", given[k % 1024])
+        made.write(folder)
+
+
+def finals_in_many(folder, scale):
+    """8 classes of 65,000 abstract methods each below a chain of 1,000 classes in their package, of which 130 have 3,800 final methods each, of other names."""
+    count, given = 1000, descriptors(1024)
+    for n in range(count):
+        made = ClassFile(f"C{n}", f"C{n - 1}" if n else "java/lang/Object", 0x421)
+        if n < 130:
+            for k in range(3800):
+                made.method(0x10, f"f{k // 1024}", given[k % 1024], 0, 24, bytes([177]))
+        made.write(folder)
+    for c in range(8):
+        made = ClassFile("Main" if c == 0 else f"M{c}", f"C{count - 1}", 0x421)
+        made.main()
+        for k in range(scaled(scale, 65000)):
+            made.declare(0x401, f"m{k // 1024}", given[k % 1024])
+        made.write(folder)
+
+
 def walked_plain(folder, scale):
     """references_often with 24 classes: 63,000 references each to methods that are not there, below a chain of 1,000."""
     given = descriptors(40)
@@ -410,7 +444,7 @@ SHAPES = [
     new_high, stores_high, locals_by_turns, long_by_interfaces, long_by_copies, long_by_many, handlers_begin_in_turn, refused_handlers_and_stores,
     refused_handlers_in_turn, refused_start_in_turn, start_at_random, start_at_random_far, handlers_in_turn, arguments_many, names_many,
     names_below_chain, names_and_frames, methods_and_names, methods_at_powers, methods_short, texts_empty, texts_and_names, finals_of_empty,
-    walked_plain, walked_found, params_tiny, classes_few, supers_all, fields_short,
+    finals_of_same, finals_in_many, walked_plain, walked_found, params_tiny, classes_few, supers_all, fields_short,
 ]
 
 
