@@ -319,55 +319,35 @@ def texts_and_names(folder, scale):
 
 # ---- under the goal, and near it
 
-def finals_of_empty(folder, scale):
-    """14 classes of 65,000 abstract methods each below a chain of 1,000 classes without methods, whose highest has 12,000 final methods for its package alone, in which the chain is."""
-    count, given = scaled(scale, 1000), descriptors(1024)
+def below_finals(folder, scale, package, finals, classes):
+    """So many classes of 65,000 abstract methods each below a chain of 1,000 classes of a package, of which the one with a number has final methods of names."""
+    count, given = 1000, descriptors(1024)
     for n in range(count):
-        made = ClassFile(f"q/C{n}", f"q/C{n - 1}" if n else "java/lang/Object", 0x421)
-        if n == 0:
-            for k in range(scaled(scale, 12000)):
-                made.method(0x10, f"m{k // 1024}", given[k % 1024], 0, 255, bytes([177]))
+        made = ClassFile(f"{package}C{n}", f"{package}C{n - 1}" if n else "java/lang/Object", 0x421)
+        for k, name in enumerate(finals(n)):
+            made.method(0x10, name, given[k % 1024], 0, 24, bytes([177]))
         made.write(folder)
-    for c in range(14):
-        made = ClassFile("Main" if c == 0 else f"M{c}", f"q/C{count - 1}", 0x421)
+    for c in range(classes):
+        made = ClassFile("Main" if c == 0 else f"M{c}", f"{package}C{count - 1}", 0x421)
         made.main()
         for k in range(scaled(scale, 65000)):
             made.declare(0x401, f"m{k // 1024}", given[k % 1024])
         made.write(folder)
+
+
+def finals_of_empty(folder, scale):
+    """14 classes of 65,000 abstract methods each below a chain of 1,000 classes without methods, whose highest has 12,000 final methods for its package alone, in which the chain is."""
+    below_finals(folder, scale, "q/", lambda n: [f"m{k // 1024}" for k in range(12000 if n == 0 else 0)], 14)
 
 
 def finals_of_same(folder, scale):
-    """finals_of_empty where the highest class has 65,000 final methods of the same names, for its package alone, in which the chain is, and not these classes."""
-    count, given = 1000, descriptors(1024)
-    for n in range(count):
-        made = ClassFile(f"q/C{n}", f"q/C{n - 1}" if n else "java/lang/Object", 0x421)
-        if n == 0:
-            for k in range(65000):
-                made.method(0x10, f"m{k // 1024}", given[k % 1024], 0, 24, bytes([177]))
-        made.write(folder)
-    for c in range(14):
-        made = ClassFile("Main" if c == 0 else f"M{c}", f"q/C{count - 1}", 0x421)
-        made.main()
-        for k in range(scaled(scale, 65000)):
-            made.declare(0x401, f"m{k // 1024}", given[k % 1024])
-        made.write(folder)
+    """finals_of_empty where the highest class has 65,000 final methods, of the same names as the 14 classes."""
+    below_finals(folder, scale, "q/", lambda n: [f"m{k // 1024}" for k in range(65000 if n == 0 else 0)], 14)
 
 
 def finals_in_many(folder, scale):
     """8 classes of 65,000 abstract methods each below a chain of 1,000 classes in their package, of which 130 have 3,800 final methods each, of other names."""
-    count, given = 1000, descriptors(1024)
-    for n in range(count):
-        made = ClassFile(f"C{n}", f"C{n - 1}" if n else "java/lang/Object", 0x421)
-        if n < 130:
-            for k in range(3800):
-                made.method(0x10, f"f{k // 1024}", given[k % 1024], 0, 24, bytes([177]))
-        made.write(folder)
-    for c in range(8):
-        made = ClassFile("Main" if c == 0 else f"M{c}", f"C{count - 1}", 0x421)
-        made.main()
-        for k in range(scaled(scale, 65000)):
-            made.declare(0x401, f"m{k // 1024}", given[k % 1024])
-        made.write(folder)
+    below_finals(folder, scale, "", lambda n: [f"f{n}n{k // 1024}" for k in range(3800 if n < 130 else 0)], 8)
 
 
 def walked_plain(folder, scale):
