@@ -39,7 +39,9 @@ pub attributes_more : {X : Type 0} (view : X → AttributeInfo) (xs : List X) (i
 attributes_more view xs i d total lt h e le =
     let seen : IsTrue (list_all attribute_fits (map view xs)) = (and_parts (nat_lt (length (map view xs)) 65536) (list_all attribute_fits (map view xs)) h).1 in
     let all : IsTrue (list_all (λ x. attribute_fits (view x)) xs) = subst (λ b. IsTrue b) (list_all-map attribute_fits view xs) seen in
-    let fits : IsTrue (quad.fits (length (view (get_or xs i d)).info)) = (and_parts (half.fits (view (get_or xs i d)).attribute_name_index) (quad.fits (length (view (get_or xs i d)).info)) (all_at (λ x. attribute_fits (view x)) xs i d lt all)).1 in
+    let fits : IsTrue (quad.fits (length (view (get_or xs i d)).info)) =
+    (and_parts (half.fits (view (get_or xs i d)).attribute_name_index) (quad.fits (length (view (get_or xs i d)).info))
+    (all_at (λ x. attribute_fits (view x)) xs i d lt all)).1 in
     let few : length (view (get_or xs i d)).info < 4294967296 = small (length (view (get_or xs i d)).info) fits in
     let next = more attribute_bytes view xs i d lt in
     (omega arith, omega arith)

@@ -198,7 +198,8 @@ indices_more pool c k m n is new updates h d =
     chosen false e = kept pool c d (λ one. let yes = ap (λ x. is_eq (compare x (key_of (holding d)))) (is ∙ ap holding one) ∙ same (holding d) in absurd cc) (index_by m d) (h d)
 
 -- the map is read by a key that holds the same
-pub found_by : (pool : List Entry) (c : Entry) (k : Key) (m : BTreeMap Key ℕ) (o : Option ℕ) → key_holding k ≡ holding c → o ≡ get_by (compare (key_holding k)) m → AreIndices pool m → IsIndexFound pool c o
+pub found_by : (pool : List Entry) (c : Entry) (k : Key) (m : BTreeMap Key ℕ) (o : Option ℕ) → key_holding k ≡ holding c → o ≡
+    get_by (compare (key_holding k)) m → AreIndices pool m → IsIndexFound pool c o
 found_by pool c k m o is e h = subst (IsIndexFound pool c) (sym (e ∙ ap (λ x. get_by (compare x) m) is)) (h c)
 
 -- ---- what fits

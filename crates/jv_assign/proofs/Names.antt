@@ -40,7 +40,8 @@ other_name world numbers name none k s at = by_test (bytes_eq s.class.name name)
     by_test true e = absurd (clash (sym (numbers k s at) ∙ (ap (number_named world) (same_name s.class.name name e) ∙ none)))
 
 -- a name that is that of no class is on no chain
-pub off_chain : (world : World) → IsNumbered world → (name : List ℕ) → number_named world name ≡ None → (k : ℕ) (from : Option (List ℕ)) → list_any (λ s. bytes_eq s.class.name name) (chain_within world k (class_if_named world from)) ≡ false
+pub off_chain : (world : World) → IsNumbered world → (name : List ℕ) → number_named world name ≡ None → (k : ℕ) (from : Option (List ℕ)) →
+    list_any (λ s. bytes_eq s.class.name name) (chain_within world k (class_if_named world from)) ≡ false
 off_chain world numbers name none zero from = refl
 off_chain world numbers name none (suc k) from = by_class (class_if_named world from) refl (λ more. off_chain world numbers name none k more)
   where
@@ -84,7 +85,8 @@ interface_there world from name to b at is yes_it_is =
     ∙ ap (λ o. is_loadable_interface world o || is_loadable_below world name (class_named world from)) (sym at))
 
 -- and one that is none
-pub interface_not : (world : World) (from name : List ℕ) (to : Loaded) (b below : Bool) → bytes_eq from name ≡ false → class_named world name ≡ Some to → b ≡ (is_loadable world to && is_interface to) → b ≡ false
+pub interface_not : (world : World) (from name : List ℕ) (to : Loaded) (b below : Bool) → bytes_eq from name ≡ false → class_named world name ≡
+    Some to → b ≡ (is_loadable world to && is_interface to) → b ≡ false
     → (bytes_eq from to.class.name ≡ false → below ≡ is_loadable_below world to.class.name (class_named world from))
     → below ≡ (is_loadable_interface world (class_named world name) || is_loadable_below world name (class_named world from))
 interface_not world from name to b below other at is not_so rest =

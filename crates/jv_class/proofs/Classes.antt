@@ -39,7 +39,8 @@ interface_there : (pool : List Entry) (o : Option (List ℕ)) (test : List ℕ �
 interface_there pool None test h = absurd cc
 interface_there pool (Some name) test h = refl
 
-super_some : (pool : List Entry) (index : ℕ) (b : Bool) → eqb index 0 ≡ b → ((index ≡ 0 → ⊥) → IsSome (class_name_at pool index)) → IsSome (cond b (Some None) (option_map Some (class_name_at pool index)))
+super_some : (pool : List Entry) (index : ℕ) (b : Bool) → eqb index 0 ≡ b → ((index ≡ 0 → ⊥) → IsSome (class_name_at pool index)) →
+    IsSome (cond b (Some None) (option_map Some (class_name_at pool index)))
 super_some pool index true e there = refl
 super_some pool index false e there = mapped_some Some (class_name_at pool index) (there (λ zero_is. absurd (clash (sym e ∙ ap (λ n. eqb n 0) zero_is))))
   where
@@ -53,7 +54,9 @@ some_class c w =
     then_some (class_name c) _ (some_there (class_name c) _ rules.itself.named) (λ name.
     then_some (super_of c) _ (super_some pool c.super_class (eqb c.super_class 0) refl (super_there pool c.super_class (class_name c) rules.itself.named)) (λ super_class.
     then_some (all_found (class_name_at pool) c.interfaces) _
-    (found_all (class_name_at pool) c.interfaces (all_also (IsClassAt pool) (λ i. IsSome (class_name_at pool i)) (λ i h. interface_there pool (class_name_at pool i) _ h) c.interfaces rules.itself.supers.interfaces)) (λ interfaces.
+    (found_all (class_name_at pool) c.interfaces
+    (all_also (IsClassAt pool) (λ i. IsSome (class_name_at pool i)) (λ i h. interface_there pool (class_name_at pool i) _ h) c.interfaces
+    rules.itself.supers.interfaces)) (λ interfaces.
     then_some (all_found (field_of pool) c.fields) _
     (found_all (field_of pool) c.fields (all_also (KeepsFieldRules pool c.access_flags) (λ f. IsSome (field_of pool f))
     (λ f h. mapped_some _ (named_at pool f.name_index f.descriptor_index) (some_there (named_at pool f.name_index f.descriptor_index) _ h)) c.fields
@@ -159,7 +162,8 @@ bind : {A B : Type 0} (o : Option A) (f : A → Option B) (y : B) → (o >>= f) 
 bind None f y e = absurd cc
 bind (Some a) f y e = (a, refl, e)
 
-parts : (c : ClassStructure) (class : Class) → class_of c ≡ Some class → (all_found (field_of c.constant_pool) c.fields ≡ Some class.fields) × (all_found (method_of c.constant_pool) c.methods ≡ Some class.methods)
+parts : (c : ClassStructure) (class : Class) → class_of c ≡ Some class → (all_found (field_of c.constant_pool) c.fields ≡ Some class.fields) ×
+    (all_found (method_of c.constant_pool) c.methods ≡ Some class.methods)
 parts c class e =
     let name = bind (class_name c) _ class e in
     let above = bind (super_of c) _ class name.2 in

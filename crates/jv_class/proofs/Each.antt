@@ -16,7 +16,8 @@ use Rattle.std.specs.declared.ops.Range.{Range}
 use denote.Param.Members.{Mut}
 
 module _ {S A B F : Type 0} {steps : S → Option A → S → Type 0} {v : A → B} {g : Mut F (A × Unit {0}) Bool} {s : S} {items : List B} {answer : Bool} (u : S) (f : F) (P : B → Type 0) where
-  pub decided : (xs : List A) × (o : Option A) × (j : F) × YieldsThen steps s xs o u × FoldsTo (λ p x q. Called g p (x, tt) true q) f xs j × MatchOption o (answer ≡ true) (λ x. (answer ≡ false) × ((h : F) × Called g j (x, tt) false h))
+  pub decided : (xs : List A) × (o : Option A) × (j : F) × YieldsThen steps s xs o u × FoldsTo (λ p x q. Called g p (x, tt) true q) f xs j ×
+      MatchOption o (answer ≡ true) (λ x. (answer ≡ false) × ((h : F) × Called g j (x, tt) false h))
       → YieldsList steps v s items
       → ((x : A) (q : F) → Called g f (x, tt) true q → (q ≡ f) × P (v x)) → ((x : A) (q : F) → Called g f (x, tt) false q → P (v x) → ⊥)
       → IsTrue answer ↔ All P items
@@ -44,7 +45,9 @@ module _ {X : Type 0} (P : X → Type 0) (xs : List X) where
       by_option (Some x) e = subst P (get_or_from_slice_get xs k x x e) (All-get_or P xs k x (slice_get_within xs k x e) all)
 
 module _ {X F : Type 0} {g : Mut F (ℕ × Unit {0}) Bool} {answer : Bool} (u : Range ℕ) (f : F) (P : X → Type 0) (xs : List X) (n : ℕ) where
-  pub decided_at : (ks : List ℕ) × (o : Option ℕ) × (j : F) × YieldsThen nat_range_steps (record { start = 0; end = n }) ks o u × FoldsTo (λ p x q. Called g p (x, tt) true q) f ks j × MatchOption o (answer ≡ true) (λ x. (answer ≡ false) × ((h : F) × Called g j (x, tt) false h))
+  pub decided_at : (ks : List ℕ) × (o : Option ℕ) × (j : F) × YieldsThen nat_range_steps (record { start = 0; end = n }) ks o u ×
+      FoldsTo (λ p x q. Called g p (x, tt) true q) f ks j × MatchOption o (answer ≡ true)
+      (λ x. (answer ≡ false) × ((h : F) × Called g j (x, tt) false h))
       → n ≡ length xs
       → ((k : ℕ) (q : F) → Called g f (k, tt) true q → (q ≡ f) × IfSome (slice_get xs k) P) → ((k : ℕ) (q : F) → Called g f (k, tt) false q → IfSome (slice_get xs k) P → ⊥)
       → IsTrue answer ↔ All P xs
@@ -52,5 +55,6 @@ module _ {X F : Type 0} {g : Mut F (ℕ × Unit {0}) Bool} {answer : Bool} (u : 
       let numbers = YieldsList-from_range 0 n (length xs) refl (omega (arith, is)) in
       let cases = cases_from_all u f answer (λ k. IfSome (slice_get xs k) P) (λ k. IfSome (slice_get xs k) P → ⊥) run numbers passed failed in (
         λ on. all_from_places P xs (All-from_all_within (λ k. IfSome (slice_get xs k) P) (range_with_len 0 (length xs)) (MatchBool-at_true _ _ on cases)),
-        λ all. true_from_All (λ k. IfSome (slice_get xs k) P) (λ k. IfSome (slice_get xs k) P → ⊥) answer (range_with_len 0 (length xs)) (λ k keeps breaks. breaks keeps) cases (λ i d lt. at_place P xs all (get_or (range_with_len 0 (length xs)) i d)),
+        λ all. true_from_All (λ k. IfSome (slice_get xs k) P) (λ k. IfSome (slice_get xs k) P → ⊥) answer (range_with_len 0 (length xs))
+            (λ k keeps breaks. breaks keeps) cases (λ i d lt. at_place P xs all (get_or (range_with_len 0 (length xs)) i d)),
       )

@@ -18,13 +18,15 @@ use Rattle.jv_class_structure.specs.Parts.{FieldSeen, MethodSeen}
 use Rattle.jv_class.specs.Rules.{field_flags_keep_rules, value_keeps_rules, KeepsRulesAsField, method_flags_keep_rules, init_keeps_rules, clinit_keeps_rules, slots_keep_rules, code_presence_keeps_rules, KeepsRulesAsMethod}
 use Rattle.jv_class.specs.Supported.{HasNoFloatingField, HasNoFloatingMethod}
 
-pub no_floating_method : (text : List ℕ) (facts : MethodFacts) → AreMethodFacts text facts → (IsTrue (not facts.floating) → HasNoFloatingMethod text) × (HasNoFloatingMethod text → IsTrue (not facts.floating))
+pub no_floating_method : (text : List ℕ) (facts : MethodFacts) → AreMethodFacts text facts →
+    (IsTrue (not facts.floating) → HasNoFloatingMethod text) × (HasNoFloatingMethod text → IsTrue (not facts.floating))
 no_floating_method text facts h = (
   (λ t type described. ap not (ap is_floating_method (one_method text type h.type described h.described) ∙ sym h.floating) ∙ t),
   (λ none. ap not h.floating ∙ none h.type h.described),
 )
 
-pub no_floating_field : (text : List ℕ) (facts : FieldFacts) → AreFieldFacts text facts → (IsTrue (not facts.floating) → HasNoFloatingField text) × (HasNoFloatingField text → IsTrue (not facts.floating))
+pub no_floating_field : (text : List ℕ) (facts : FieldFacts) → AreFieldFacts text facts → (IsTrue (not facts.floating) → HasNoFloatingField text) ×
+    (HasNoFloatingField text → IsTrue (not facts.floating))
 no_floating_field text facts h = (
   (λ t type described. ap not (ap is_floating (one_field text type h.type described h.described) ∙ sym h.floating) ∙ t),
   (λ none. ap not h.floating ∙ none h.type h.described),
@@ -54,7 +56,8 @@ field_keeps_rules pool flags f texts name facts r n h e =
 
 pub method_keeps_rules : (major flags : ℕ) (m : MethodSeen) (texts : NameAndDescriptor) (name descriptor : List ℕ) → texts.name ≡ name → texts.descriptor ≡ descriptor
     → (known : TextFacts) (facts : MethodFacts) (r : Bool) → IsTrue known.method_name → AreFacts texts.name known → AreMethodFacts texts.descriptor facts
-    → r ≡ ((method_flags_keep_rules major (has flags acc_interface) name m.access_flags && init_keeps_rules (has flags acc_interface) name facts.void && clinit_keeps_rules name descriptor m.access_flags)
+    → r ≡ ((method_flags_keep_rules major (has flags acc_interface) name m.access_flags && init_keeps_rules (has flags acc_interface) name facts.void
+    && clinit_keeps_rules name descriptor m.access_flags)
     && slots_keep_rules m.access_flags facts.slots && code_presence_keeps_rules name m.access_flags (is_some m.code))
     → (IsTrue r → KeepsRulesAsMethod major flags m.access_flags (is_some m.code) texts) × (KeepsRulesAsMethod major flags m.access_flags (is_some m.code) texts → IsTrue r)
 method_keeps_rules major flags m texts name descriptor e1 e2 known facts r named n h e =
@@ -81,7 +84,8 @@ method_keeps_rules major flags m texts name descriptor e1 e2 known facts r named
     let back : KeepsRulesAsMethod major flags m.access_flags (is_some m.code) texts → IsTrue r = λ k.
     let same : h.type ≡ k.type = one_method texts.descriptor h.type k.type h.described k.described in
     let a : IsTrue A = ap (λ x. method_flags_keep_rules major (has flags acc_interface) x m.access_flags) (sym e1) ∙ k.flags_keep_rules in
-    let b : IsTrue B = ap (init_keeps_rules (has flags acc_interface) name) (h.void ∙ ap (λ (t : MethodDescriptor). is_none t.result) same) ∙ ap (λ x. init_keeps_rules (has flags acc_interface) x (is_none k.type.result)) (sym e1) ∙ k.init in
+    let b : IsTrue B = ap (init_keeps_rules (has flags acc_interface) name) (h.void ∙ ap (λ (t : MethodDescriptor). is_none t.result) same) ∙
+    ap (λ x. init_keeps_rules (has flags acc_interface) x (is_none k.type.result)) (sym e1) ∙ k.init in
     let c : IsTrue C = ap (λ x. clinit_keeps_rules name x m.access_flags) (sym e2) ∙ ap (λ x. clinit_keeps_rules x texts.descriptor m.access_flags) (sym e1) ∙ k.clinit in
     let d : IsTrue D = ap (slots_keep_rules m.access_flags) (h.slots ∙ ap slots same) ∙ k.few_slots in
     let f : IsTrue E = ap (λ x. code_presence_keeps_rules x m.access_flags (is_some m.code)) (sym e1) ∙ k.code_there in

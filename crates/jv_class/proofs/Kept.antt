@@ -25,7 +25,8 @@ tail_at : (b : Bool) (c : Entry) (rest : List (Option Entry)) (n : ℕ) → slic
 tail_at true c rest n = refl
 tail_at false c rest n = refl
 
-found_in : (b : Bool) (c : Entry) (rest : List (Option Entry)) (n : ℕ) (d : Entry) → usable (slice_get (cond b (Some c ∷ None ∷ []) (Some c ∷ []) ++ rest) n) ≡ Some d → (c ≡ d) ⊎ ((m : ℕ) × (usable (slice_get rest m) ≡ Some d))
+found_in : (b : Bool) (c : Entry) (rest : List (Option Entry)) (n : ℕ) (d : Entry) →
+    usable (slice_get (cond b (Some c ∷ None ∷ []) (Some c ∷ []) ++ rest) n) ≡ Some d → (c ≡ d) ⊎ ((m : ℕ) × (usable (slice_get rest m) ≡ Some d))
 found_in true c rest zero d e = inl (cc)
 found_in true c rest (suc zero) d e = absurd cc
 found_in true c rest (suc (suc m)) d e = inr (m, e)
@@ -50,7 +51,8 @@ all_from_table P pool h = from_entries P pool (λ n c e. h n c (within (table_of
 pub next_one : (P : ℕ → Type 0) (k : ℕ) → ((n : ℕ) → 1 ≤ n → n < k → P n) → P k → (n : ℕ) → 1 ≤ n → n < k + 1 → P n
 next_one P k below here n one lt = ⊎_elim (λ (e : k ≡ n). subst P e here) (λ (ne : k ≢ n). below n one (omega arith)) (cases_eq k n)
 
-entry_or_more : (P : Entry → Type 0) (d c : Entry) (rest : List (Option Entry)) → P d → ((m : ℕ) → usable (slice_get rest m) ≡ Some c → P c) → (d ≡ c) ⊎ ((m : ℕ) × (usable (slice_get rest m) ≡ Some c)) → P c
+entry_or_more : (P : Entry → Type 0) (d c : Entry) (rest : List (Option Entry)) → P d → ((m : ℕ) → usable (slice_get rest m) ≡ Some c → P c) →
+    (d ≡ c) ⊎ ((m : ℕ) × (usable (slice_get rest m) ≡ Some c)) → P c
 entry_or_more P d c rest here later (inl same) = subst P same here
 entry_or_more P d c rest here later (inr more) = later more.0 more.1
 

@@ -121,7 +121,8 @@ module _ {X : Type 0} (pool : List Entry) (name descriptor : X → ℕ) where
           let same : k ≡ l = grind (arith, common_steps, nat_tests) in
           absurd (apart (same_texts pool (name x) (descriptor x) (name y) (descriptor y) l (subst (Key x) same a) b))
 
-  others_differ : (x : X) (k : ℕ) (ys : List X) (ls : List ℕ) → Key x k → IsSome (texts x) → AllZip Key ys ls → AllByRecursion (λ l. nat_eq k l ≡ false) ls → AllByRecursion (λ t. texts x ≢ t) (map texts ys)
+  others_differ : (x : X) (k : ℕ) (ys : List X) (ls : List ℕ) → Key x k → IsSome (texts x) → AllZip Key ys ls →
+      AllByRecursion (λ l. nat_eq k l ≡ false) ls → AllByRecursion (λ t. texts x ≢ t) (map texts ys)
   others_differ x k [] ls a some zip h = tt
   others_differ x k (y ∷ ys) [] a some zip h = absurd zip
   others_differ x k (y ∷ ys) (l ∷ ls) a some zip h = (differs x y k l a zip.0 some h.0, others_differ x k ys ls a some zip.1 h.1)
@@ -148,14 +149,16 @@ module _ {X : Type 0} (pool : List Entry) (name descriptor : X → ℕ) where
   keys_from_unlike (x ∷ xs) [] zip h = absurd zip
   keys_from_unlike (x ∷ xs) (k ∷ ks) zip h = (other_keys x k xs ks zip.0 zip.1 h.0, keys_from_unlike xs ks zip.1 h.1)
 
-pub zipped_next : {X : Type 0} (R : X → ℕ → Type 0) (xs : List X) (i : ℕ) (d : X) → i < length xs → (ks new : List ℕ) (k : ℕ) → new ≡ ks ++ k ∷ [] → AllZip R (take i xs) ks → R (get_or xs i d) k → AllZip R (take (i + 1) xs) new
+pub zipped_next : {X : Type 0} (R : X → ℕ → Type 0) (xs : List X) (i : ℕ) (d : X) → i < length xs → (ks new : List ℕ) (k : ℕ) → new ≡ ks ++ k ∷ [] →
+    AllZip R (take i xs) ks → R (get_or xs i d) k → AllZip R (take (i + 1) xs) new
 zipped_next {X} R xs i d lt ks new k is zip last =
     let pushed : AllZip R (take i xs ++ get_or xs i d ∷ []) (ks ++ k ∷ []) = all_zipped_more R (take i xs) ks (get_or xs i d) k zip last in
     let front : AllZip R (take (i + 1) xs) (ks ++ k ∷ []) = subst (λ (ys : List X). AllZip R ys (ks ++ k ∷ [])) (sym (take_more xs i d lt)) pushed in
     subst (λ (ls : List ℕ). AllZip R (take (i + 1) xs) ls) (sym is) front
 
 -- the next, where its place is known
-pub zipped_place : {X : Type 0} (R : X → ℕ → Type 0) (xs : List X) (i : ℕ) → i < length xs → (ks new : List ℕ) (k : ℕ) → new ≡ ks ++ k ∷ [] → AllZip R (take i xs) ks → IfSome (slice_get xs i) (λ x. R x k) → AllZip R (take (i + 1) xs) new
+pub zipped_place : {X : Type 0} (R : X → ℕ → Type 0) (xs : List X) (i : ℕ) → i < length xs → (ks new : List ℕ) (k : ℕ) → new ≡ ks ++ k ∷ [] →
+    AllZip R (take i xs) ks → IfSome (slice_get xs i) (λ x. R x k) → AllZip R (take (i + 1) xs) new
 zipped_place {X} R xs i lt ks new k is zip here =
     ⊎_elim
     (λ (at : (x : X) × (i < length xs) × (slice_get xs i ≡ Some x) × (get_or xs i x ≡ x)).
@@ -177,14 +180,18 @@ unlike_fields pool xs ks zip some b h =
 
 -- ---- the texts of members that keep their rules are there
 
-pub fields_there : (c : ClassStructure) (pool : List Entry) (xs : List Field) → pool ≡ c.constant_pool → map seen_field xs ≡ fields_of c → MembersKeepRules c → All (λ x. IsSome (shown_field_texts pool (seen_field x))) xs
+pub fields_there : (c : ClassStructure) (pool : List Entry) (xs : List Field) → pool ≡ c.constant_pool → map seen_field xs ≡ fields_of c →
+    MembersKeepRules c → All (λ x. IsSome (shown_field_texts pool (seen_field x))) xs
 fields_there c pool xs e is right =
-    let all : All (KeepsFieldShown c.constant_pool c.access_flags) (map seen_field xs) = subst (λ fs. All (KeepsFieldShown c.constant_pool c.access_flags) fs) (sym is) (members_shown c right).fields in
-    let some : All (λ f. IsSome (shown_field_texts c.constant_pool f)) (map seen_field xs) = all_there (shown_field_texts c.constant_pool) (λ f. KeepsRulesAsField c.constant_pool c.access_flags f.access_flags f.constant_value) (map seen_field xs) all in
+    let all : All (KeepsFieldShown c.constant_pool c.access_flags) (map seen_field xs) =
+    subst (λ fs. All (KeepsFieldShown c.constant_pool c.access_flags) fs) (sym is) (members_shown c right).fields in
+    let some : All (λ f. IsSome (shown_field_texts c.constant_pool f)) (map seen_field xs) = all_there (shown_field_texts c.constant_pool)
+    (λ f. KeepsRulesAsField c.constant_pool c.access_flags f.access_flags f.constant_value) (map seen_field xs) all in
     all_unseen (λ f. IsSome (shown_field_texts pool f)) seen_field xs (subst (λ p. All (λ f. IsSome (shown_field_texts p f)) (map seen_field xs)) (sym e) some)
 
 methods_there : (c : ClassStructure) → MembersKeepRules c → All (λ m. IsSome (shown_method_texts c.constant_pool m)) (methods_of c)
-methods_there c right = all_there (shown_method_texts c.constant_pool) (λ m. KeepsRulesAsMethod c.major_version c.access_flags m.access_flags (is_some m.code)) (methods_of c) (members_shown c right).methods
+methods_there c right = all_there (shown_method_texts c.constant_pool) (λ m. KeepsRulesAsMethod c.major_version c.access_flags m.access_flags
+    (is_some m.code)) (methods_of c) (members_shown c right).methods
 
 pub unlike_methods : (c : ClassStructure) (ks : List ℕ) → AllZip (IsMethodKey c.constant_pool) (methods_of c) ks → MembersKeepRules c
     → (b : Bool) → (IsTrue b → IsDistinct nat_eq ks) × (IsDistinct nat_eq ks → IsTrue b)
@@ -226,7 +233,8 @@ module _ {X : Type 0} (pool : List Entry) (name descriptor : X → ℕ) (xs : Li
   all_named = each (λ x. IsSome (named_at pool (name x) (descriptor x))) (λ x. IsSome (utf8_at pool (name x))) (λ x h. first_there (utf8_at pool (name x)) (utf8_at pool (descriptor x)) h) xs all
 
   pub all_described : All (λ x. IsSome (utf8_at pool (descriptor x))) xs
-  all_described = each (λ x. IsSome (named_at pool (name x) (descriptor x))) (λ x. IsSome (utf8_at pool (descriptor x))) (λ x h. second_there (utf8_at pool (name x)) (utf8_at pool (descriptor x)) h) xs all
+  all_described = each (λ x. IsSome (named_at pool (name x) (descriptor x))) (λ x. IsSome (utf8_at pool (descriptor x)))
+      (λ x h. second_there (utf8_at pool (name x)) (utf8_at pool (descriptor x)) h) xs all
 
 -- ---- the superclass
 
@@ -259,7 +267,9 @@ if_some_same (Some x) P Q f h = f x h
 pub field_there : (c : ClassStructure) (place : ℕ) (o : Option Field) → MembersKeepRules c → option_map seen_field o ≡ slice_get (fields_of c) place
     → IfSome o (λ f. IsSome (utf8_at c.constant_pool f.name.0)) × IfSome o (λ f. IsSome (utf8_at c.constant_pool f.descriptor.0))
 field_there c place o right e =
-    let there = texts_at seen_field c.constant_pool (shown_field_texts c.constant_pool) (λ t f. KeepsRulesAsField c.constant_pool c.access_flags f.access_flags f.constant_value t) (fields_of c) place o (members_shown c right).fields e in (
+    let there = texts_at seen_field c.constant_pool (shown_field_texts c.constant_pool)
+    (λ t f. KeepsRulesAsField c.constant_pool c.access_flags f.access_flags f.constant_value t) (fields_of c) place o
+    (members_shown c right).fields e in (
       if_some_same o _ _ (λ f h. first_there (utf8_at c.constant_pool f.name.0) (utf8_at c.constant_pool f.descriptor.0) h) there,
       if_some_same o _ _ (λ f h. second_there (utf8_at c.constant_pool f.name.0) (utf8_at c.constant_pool f.descriptor.0) h) there,
     )
@@ -267,7 +277,9 @@ field_there c place o right e =
 pub method_there : (c : ClassStructure) (place : ℕ) (o : Option Method) → MembersKeepRules c → option_map seen_method o ≡ slice_get (methods_of c) place
     → IfSome o (λ m. IsSome (utf8_at c.constant_pool m.name.0)) × IfSome o (λ m. IsSome (utf8_at c.constant_pool m.descriptor.0))
 method_there c place o right e =
-    let there = texts_at seen_method c.constant_pool (shown_method_texts c.constant_pool) (λ t m. KeepsRulesAsMethod c.major_version c.access_flags m.access_flags (is_some m.code) t) (methods_of c) place o (members_shown c right).methods e in (
+    let there = texts_at seen_method c.constant_pool (shown_method_texts c.constant_pool)
+    (λ t m. KeepsRulesAsMethod c.major_version c.access_flags m.access_flags (is_some m.code) t) (methods_of c) place o
+    (members_shown c right).methods e in (
       if_some_same o _ _ (λ m h. first_there (utf8_at c.constant_pool m.name.0) (utf8_at c.constant_pool m.descriptor.0) h) there,
       if_some_same o _ _ (λ m h. second_there (utf8_at c.constant_pool m.name.0) (utf8_at c.constant_pool m.descriptor.0) h) there,
     )

@@ -42,13 +42,16 @@ pub members_shown : (c : ClassStructure) → MembersKeepRules c → ShownKeepRul
 members_shown c right = record {
   fields = All-map (KeepsFieldShown c.constant_pool c.access_flags) (field_shown c.constant_pool) c.fields right.fields;
   methods = All-map (KeepsMethodShown c.constant_pool c.major_version c.access_flags) (method_shown c.constant_pool) c.methods
-      (all_also (KeepsMethodRules c.constant_pool c.major_version c.access_flags) (λ m. KeepsMethodShown c.constant_pool c.major_version c.access_flags (method_shown c.constant_pool m)) (method_shown_keeps c.constant_pool c.major_version c.access_flags) c.methods right.methods);
+      (all_also (KeepsMethodRules c.constant_pool c.major_version c.access_flags)
+      (λ m. KeepsMethodShown c.constant_pool c.major_version c.access_flags (method_shown c.constant_pool m))
+      (method_shown_keeps c.constant_pool c.major_version c.access_flags) c.methods right.methods);
 }
 
 pub members_keep_rules : (c : ClassStructure) → ShownKeepRules c → MembersKeepRules c
 members_keep_rules c shown = record {
   fields = all_unseen (KeepsFieldShown c.constant_pool c.access_flags) (field_shown c.constant_pool) c.fields shown.fields;
-  methods = all_also (λ m. KeepsMethodShown c.constant_pool c.major_version c.access_flags (method_shown c.constant_pool m)) (KeepsMethodRules c.constant_pool c.major_version c.access_flags) (method_keeps c.constant_pool c.major_version c.access_flags) c.methods
+  methods = all_also (λ m. KeepsMethodShown c.constant_pool c.major_version c.access_flags (method_shown c.constant_pool m))
+      (KeepsMethodRules c.constant_pool c.major_version c.access_flags) (method_keeps c.constant_pool c.major_version c.access_flags) c.methods
       (all_unseen (KeepsMethodShown c.constant_pool c.major_version c.access_flags) (method_shown c.constant_pool) c.methods shown.methods);
 }
 

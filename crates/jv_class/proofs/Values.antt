@@ -117,7 +117,8 @@ module _ (pool : List Entry) (flags : ℕ) (f : FieldSeen) (index : ℕ) (at : f
       taken (value_of_type right.type) (kind_at pool index) (ap (value_keeps_rules pool (value_of_type right.type)) (sym at) ∙ right.value_kind)
       (λ e. both_ways (is_floating right.type) (floating_type right.type e) (none.field right.type right.described))
 
-  by_texts : (n d : Option (List ℕ)) → IsSomeAnd (n >>= λ a. d >>= λ b. Some (name_and_descriptor a b)) (KeepsRulesAsField pool flags f.access_flags f.constant_value) → IsSomeAnd d HasNoFloating → is_value (kind_at pool index) ≡ true
+  by_texts : (n d : Option (List ℕ)) → IsSomeAnd (n >>= λ a. d >>= λ b. Some (name_and_descriptor a b))
+      (KeepsRulesAsField pool flags f.access_flags f.constant_value) → IsSomeAnd d HasNoFloating → is_value (kind_at pool index) ≡ true
   by_texts None d right none = absurd right
   by_texts (Some n) None right none = absurd right
   by_texts (Some n) (Some d) right none = kept_value (name_and_descriptor n d) right none
@@ -125,15 +126,19 @@ module _ (pool : List Entry) (flags : ℕ) (f : FieldSeen) (index : ℕ) (at : f
   pub value_kept : KeepsFieldShown pool flags f → IsFieldShownSupported pool f → is_value (kind_at pool index) ≡ true
   value_kept right none = by_texts (utf8_at pool f.name_index) (utf8_at pool f.descriptor_index) right none
 
-pub value_is : (c : ClassStructure) → KeepsClassRules c → IsSupported c → (place : ℕ) (f : FieldSeen) (index : ℕ) → slice_get (fields_of c) place ≡ Some f → f.constant_value ≡ Some index → is_value (kind_at c.constant_pool index) ≡ true
+pub value_is : (c : ClassStructure) → KeepsClassRules c → IsSupported c → (place : ℕ) (f : FieldSeen) (index : ℕ) → slice_get (fields_of c) place ≡
+    Some f → f.constant_value ≡ Some index → is_value (kind_at c.constant_pool index) ≡ true
 value_is c rules supported place f index there at =
     let lt = slice_get_within (fields_of c) place f there in
     let same = get_or_from_slice_get (fields_of c) place f f there in
-    let right : KeepsFieldShown c.constant_pool c.access_flags f = subst (KeepsFieldShown c.constant_pool c.access_flags) same (All-get_or (KeepsFieldShown c.constant_pool c.access_flags) (fields_of c) place f lt (members_shown c rules.members).fields) in
-    let none : IsFieldShownSupported c.constant_pool f = subst (IsFieldShownSupported c.constant_pool) same (All-get_or (IsFieldShownSupported c.constant_pool) (fields_of c) place f lt (supported_shown c supported).fields) in
+    let right : KeepsFieldShown c.constant_pool c.access_flags f = subst (KeepsFieldShown c.constant_pool c.access_flags) same
+    (All-get_or (KeepsFieldShown c.constant_pool c.access_flags) (fields_of c) place f lt (members_shown c rules.members).fields) in
+    let none : IsFieldShownSupported c.constant_pool f = subst (IsFieldShownSupported c.constant_pool) same
+    (All-get_or (IsFieldShownSupported c.constant_pool) (fields_of c) place f lt (supported_shown c supported).fields) in
     value_kept c.constant_pool c.access_flags f index at right none
 
-pub value_same : (c : ClassStructure) → KeepsClassRules c → IsSupported c → (place : ℕ) (f : Field) (index : ℕ) (o : Option Field) → option_map seen_field o ≡ slice_get (fields_of c) place → o ≡ Some f → f.constant_value ≡ Some index
+pub value_same : (c : ClassStructure) → KeepsClassRules c → IsSupported c → (place : ℕ) (f : Field) (index : ℕ) (o : Option Field) →
+    option_map seen_field o ≡ slice_get (fields_of c) place → o ≡ Some f → f.constant_value ≡ Some index
     → (r : Option ConstantValue) → IfSome r (λ v. value_number v ≡ index) → IfNone r (is_value (kind_at c.constant_pool index) ≡ false) → option_map value_number r ≡ value_of_field c place
 value_same c rules supported place f index o seen is at (Some v) same none =
     let there : slice_get (fields_of c) place ≡ Some (seen_field f) = sym seen ∙ ap (option_map seen_field) is in

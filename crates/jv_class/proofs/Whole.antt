@@ -63,12 +63,14 @@ class_header bytes c h =
 other_header : (bytes : List ℕ) (o : IsOtherVersion bytes) → header.read bytes ≡ Some (numbers o.minor o.major, o.rest)
 other_header bytes o = ap header.read o.begins ∙ header_is.again (numbers o.minor o.major) o.rest (header_fits o.minor o.major (lt-ltb o.minor 65536 o.minor_fits) (lt-ltb o.major 65536 o.major_fits))
 
-same_versions : (bytes rest after : List ℕ) (minor major other also : ℕ) → header.read bytes ≡ Some (numbers minor major, rest) → header.read bytes ≡ Some (numbers other also, after) → (minor ≡ other) × (major ≡ also) × (rest ≡ after)
+same_versions : (bytes rest after : List ℕ) (minor major other also : ℕ) → header.read bytes ≡ Some (numbers minor major, rest) → header.read bytes ≡
+    Some (numbers other also, after) → (minor ≡ other) × (major ≡ also) × (rest ≡ after)
 same_versions bytes rest after minor major other also one two =
     let same : (numbers minor major, rest) ≡ (numbers other also, after) = is_some (numbers minor major, rest) (numbers other also, after) (sym one ∙ two) in
     (ap (λ (x : Three × List ℕ). x.0.1.0) same, ap (λ (x : Three × List ℕ). x.0.1.1) same, ap (λ (x : Three × List ℕ). x.1) same)
 
-pub other_version : (bytes rest : List ℕ) (minor major : ℕ) → IsBytes bytes → header.read bytes ≡ Some (numbers minor major, rest) → (IsTrue (is_supported_version minor major) → ⊥) → IsOtherVersion bytes
+pub other_version : (bytes rest : List ℕ) (minor major : ℕ) → IsBytes bytes → header.read bytes ≡ Some (numbers minor major, rest) →
+    (IsTrue (is_supported_version minor major) → ⊥) → IsOtherVersion bytes
 other_version bytes rest minor major small found other =
     let one = header_is.takes bytes rest (numbers minor major) small found in
     let two = and_parts (half.fits minor) (half.fits major) one.1 in
@@ -80,7 +82,8 @@ no_other_version bytes rest minor major found v o =
     o.other (ap (λ n. is_supported_version n o.major) (sym same.0) ∙ ap (λ n. is_supported_version minor n) (sym same.1) ∙ v)
 
 -- the class of the bytes behind the version is that of all
-pub class_from_behind : (bytes rest : List ℕ) (minor major : ℕ) → IsBytes bytes → header.read bytes ≡ Some (numbers minor major, rest) → IsTrue (is_supported_version minor major) → (c : ClassStructure) → IsWholeBehind major rest c → IsClassFile bytes c
+pub class_from_behind : (bytes rest : List ℕ) (minor major : ℕ) → IsBytes bytes → header.read bytes ≡ Some (numbers minor major, rest) →
+    IsTrue (is_supported_version minor major) → (c : ClassStructure) → IsWholeBehind major rest c → IsClassFile bytes c
 class_from_behind bytes rest minor major small found v c w =
     let one = header_is.takes bytes rest (numbers minor major) small found in
     let b = w.behind in

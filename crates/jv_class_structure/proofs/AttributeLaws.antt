@@ -28,13 +28,15 @@ contents_fit t h = and_from _ _ h (eq-eqb (length t) (length t) refl)
 pub contents_fit-from : (t : List ℕ) → IsTrue (contents.fits t) → IsTrue (quad.fits (length t))
 contents_fit-from t h = (and_parts (quad.fits (length t)) _ h).0
 
-attribute_enters : (pool : List Entry) (a : AttributeInfo) → IsTrue (attribute_fits a && has_utf8_name pool a) → IsTrue ((half.fits a.attribute_name_index && is_utf8 pool a.attribute_name_index) && contents.fits a.info)
+attribute_enters : (pool : List Entry) (a : AttributeInfo) → IsTrue (attribute_fits a && has_utf8_name pool a) →
+    IsTrue ((half.fits a.attribute_name_index && is_utf8 pool a.attribute_name_index) && contents.fits a.info)
 attribute_enters pool a h =
     let x = and_parts (half.fits a.attribute_name_index && is_utf8 pool a.attribute_name_index) (quad.fits (length a.info))
     (fits_enter (half.fits a.attribute_name_index) (is_utf8 pool a.attribute_name_index) (quad.fits (length a.info)) h) in
     and_from _ _ x.0 (contents_fit a.info x.1)
 
-attribute_leaves : (pool : List Entry) (p : ℕ × List ℕ) → IsTrue ((half.fits p.0 && is_utf8 pool p.0) && contents.fits p.1) → IsTrue (attribute_fits (attribute_of p) && has_utf8_name pool (attribute_of p))
+attribute_leaves : (pool : List Entry) (p : ℕ × List ℕ) → IsTrue ((half.fits p.0 && is_utf8 pool p.0) && contents.fits p.1) →
+    IsTrue (attribute_fits (attribute_of p) && has_utf8_name pool (attribute_of p))
 attribute_leaves pool p h =
     let a = and_parts (half.fits p.0 && is_utf8 pool p.0) (contents.fits p.1) h in
     let b = and_parts (half.fits p.0) (is_utf8 pool p.0) a.0 in
@@ -49,12 +51,14 @@ attribute_is pool =
 -- ---- tables of named attributes
 
 -- a table of attributes that fit, all of them named
-pub named_enters : (pool : List Entry) (xs : List AttributeInfo) → IsTrue (table_fits attribute_fits xs) → IsTrue (all_named pool xs) → IsTrue (table_fits (λ a. attribute_fits a && has_utf8_name pool a) xs)
+pub named_enters : (pool : List Entry) (xs : List AttributeInfo) → IsTrue (table_fits attribute_fits xs) → IsTrue (all_named pool xs) →
+    IsTrue (table_fits (λ a. attribute_fits a && has_utf8_name pool a) xs)
 named_enters pool xs h named =
     let a = and_parts (nat_lt (length xs) 65536) (list_all attribute_fits xs) h in
     and_from _ _ a.0 (all_both attribute_fits (has_utf8_name pool) xs (and_from _ _ a.1 named))
 
-pub named_leaves : (pool : List Entry) (xs : List AttributeInfo) → IsTrue (table_fits (λ a. attribute_fits a && has_utf8_name pool a) xs) → IsTrue (table_fits attribute_fits xs) × IsTrue (all_named pool xs)
+pub named_leaves : (pool : List Entry) (xs : List AttributeInfo) → IsTrue (table_fits (λ a. attribute_fits a && has_utf8_name pool a) xs) →
+    IsTrue (table_fits attribute_fits xs) × IsTrue (all_named pool xs)
 named_leaves pool xs h =
     let a = and_parts (nat_lt (length xs) 65536) (list_all (λ x. attribute_fits x && has_utf8_name pool x) xs) h in
     let b = all_parts attribute_fits (has_utf8_name pool) xs a.1 in
@@ -72,7 +76,8 @@ values_keep_rules pool static xs =
 abbrev pub static_value_in : List Entry → Bool → List AttributeInfo → Option ℕ
 static_value_in pool static xs = cond static (sole (filter (has_attribute_name pool (codes "ConstantValue")) xs) >>= value_index) None
 
-values_enter : (pool : List Entry) (static : Bool) (xs : List AttributeInfo) → IsTrue (values_keep_rules pool static xs) → IsTrue (list_all (has_value pool static) xs) × IsTrue (at_most_one (values_in (value_of pool static) xs))
+values_enter : (pool : List Entry) (static : Bool) (xs : List AttributeInfo) → IsTrue (values_keep_rules pool static xs) →
+    IsTrue (list_all (has_value pool static) xs) × IsTrue (at_most_one (values_in (value_of pool static) xs))
 values_enter pool true xs h =
     let named = has_attribute_name pool (codes "ConstantValue") in
     let a = and_parts (at_most_one (filter named xs)) _ h in
@@ -80,7 +85,8 @@ values_enter pool true xs h =
     (own, same_number named value_index xs own ∙ a.0)
 values_enter pool false xs h = (all_true xs, ap at_most_one (none_in {V = ℕ} xs))
 
-values_leave : (pool : List Entry) (static : Bool) (xs : List AttributeInfo) → IsTrue (list_all (has_value pool static) xs) → IsTrue (at_most_one (values_in (value_of pool static) xs)) → IsTrue (values_keep_rules pool static xs)
+values_leave : (pool : List Entry) (static : Bool) (xs : List AttributeInfo) → IsTrue (list_all (has_value pool static) xs) →
+    IsTrue (at_most_one (values_in (value_of pool static) xs)) → IsTrue (values_keep_rules pool static xs)
 values_leave pool true xs own one =
     let named = has_attribute_name pool (codes "ConstantValue") in
     and_from _ _ (sym (same_number named value_index xs own) ∙ one) (sym (all_own named value_index xs) ∙ own)
@@ -92,7 +98,8 @@ field_attribute_is pool static = such_is (has_value pool static) (attribute pool
 pub field_attributes_is : (pool : List Entry) (static : Bool) → IsFormat (field_attributes pool static)
 field_attributes_is pool static = solely_is (value_of pool static) (field_attribute pool static) (field_attribute_is pool static)
 
-pub field_attributes_enter : (pool : List Entry) (static : Bool) (xs : List AttributeInfo) → IsTrue (table_fits attribute_fits xs) → IsTrue (all_named pool xs && values_keep_rules pool static xs) → IsTrue ((field_attributes pool static).fits xs)
+pub field_attributes_enter : (pool : List Entry) (static : Bool) (xs : List AttributeInfo) → IsTrue (table_fits attribute_fits xs) →
+    IsTrue (all_named pool xs && values_keep_rules pool static xs) → IsTrue ((field_attributes pool static).fits xs)
 field_attributes_enter pool static xs h right =
     let a = and_parts (all_named pool xs) (values_keep_rules pool static xs) right in
     let b = values_enter pool static xs a.1 in
@@ -114,7 +121,8 @@ field_attributes_leave pool static xs h =
     let d = named_leaves pool xs (and_from _ _ b.0 c.0) in
     record { fit = d.0; right = and_from _ _ d.1 (values_leave pool static xs c.1 a.1); own = c.1 }
 
-pub value_shown : (pool : List Entry) (static : Bool) (xs : List AttributeInfo) → IsTrue (list_all (has_value pool static) xs) → sole (values_in (value_of pool static) xs) ≡ static_value_in pool static xs
+pub value_shown : (pool : List Entry) (static : Bool) (xs : List AttributeInfo) → IsTrue (list_all (has_value pool static) xs) →
+    sole (values_in (value_of pool static) xs) ≡ static_value_in pool static xs
 value_shown pool true xs own = same_value (has_attribute_name pool (codes "ConstantValue")) value_index xs own
 value_shown pool false xs own = ap sole (none_in {V = ℕ} xs)
 
@@ -139,10 +147,12 @@ maps_number pool xs = let named = has_attribute_name pool (codes "StackMapTable"
 pub map_shown : (pool : List Entry) (xs : List AttributeInfo) → sole (values_in (stack_map_of pool) xs) ≡ option_map info_of (sole (stack_maps_in pool xs))
 map_shown pool xs = same_mapped (has_attribute_name pool (codes "StackMapTable")) info_of xs
 
-pub code_attributes_enter : (pool : List Entry) (xs : List AttributeInfo) → IsTrue (table_fits attribute_fits xs) → IsTrue (all_named pool xs) → IsTrue (at_most_one (stack_maps_in pool xs)) → IsTrue ((code_attributes pool).fits xs)
+pub code_attributes_enter : (pool : List Entry) (xs : List AttributeInfo) → IsTrue (table_fits attribute_fits xs) → IsTrue (all_named pool xs) →
+    IsTrue (at_most_one (stack_maps_in pool xs)) → IsTrue ((code_attributes pool).fits xs)
 code_attributes_enter pool xs h named one = and_from _ _ (named_enters pool xs h named) (maps_number pool xs ∙ one)
 
-pub code_attributes_leave : (pool : List Entry) (xs : List AttributeInfo) → IsTrue ((code_attributes pool).fits xs) → (IsTrue (table_fits attribute_fits xs) × IsTrue (all_named pool xs)) × IsTrue (at_most_one (stack_maps_in pool xs))
+pub code_attributes_leave : (pool : List Entry) (xs : List AttributeInfo) → IsTrue ((code_attributes pool).fits xs) →
+    (IsTrue (table_fits attribute_fits xs) × IsTrue (all_named pool xs)) × IsTrue (at_most_one (stack_maps_in pool xs))
 code_attributes_leave pool xs h =
     let a = and_parts (table_fits (λ x. attribute_fits x && has_utf8_name pool x) xs) (at_most_one (values_in (stack_map_of pool) xs)) h in
     (named_leaves pool xs a.0, sym (maps_number pool xs) ∙ a.1)

@@ -86,7 +86,8 @@ join_both : {A B S T : Type 0} (s : A → S) (t : B → T) (a : A) (o : Option (
 join_both s t a None = refl
 join_both s t a (Some b) = refl
 
-pub both_keeps : {A B S T : Type 0} (g : Format S) (s : A → S) (f : Format A) (g' : Format T) (t : B → T) (f' : Format B) → IsFormat f → Keeps g s f → Keeps g' t f' → Keeps (both g g') (each_side s t) (both f f')
+pub both_keeps : {A B S T : Type 0} (g : Format S) (s : A → S) (f : Format A) (g' : Format T) (t : B → T) (f' : Format B) → IsFormat f → Keeps g s f →
+    Keeps g' t f' → Keeps (both g g') (each_side s t) (both f f')
 both_keeps {A = A} {B = B} {S = S} {T = T} g s f g' t f' F K K' = record {
   reads = λ bytes small.
       let start : (both g g').read bytes ≡ ((f.read bytes >>= found_as s) >>= λ (a : S × List ℕ). g'.read a.1 >>= λ (b : T × List ℕ). Some ((a.0, b.0), b.1)) =
@@ -102,7 +103,8 @@ join_second : {A B S : Type 0} (s : B → A → S) (b : B) (o : Option (A × Lis
 join_second s b None = refl
 join_second s b (Some x) = refl
 
-pub paired_keeps : {A B S : Type 0} (h : Format B) (g : B → Format S) (s : B → A → S) (f : B → Format A) → IsFormat h → ((b : B) → Keeps (g b) (s b) (f b)) → Keeps (paired h g) (second_side s) (paired h f)
+pub paired_keeps : {A B S : Type 0} (h : Format B) (g : B → Format S) (s : B → A → S) (f : B → Format A) → IsFormat h →
+    ((b : B) → Keeps (g b) (s b) (f b)) → Keeps (paired h g) (second_side s) (paired h f)
 paired_keeps h g s f H each = record {
   reads = λ bytes small.
       by_found _ (h.read bytes)
@@ -112,10 +114,12 @@ paired_keeps h g s f H each = record {
       rw (some, one) (join_second s b ((f b).read rest)));
 }
 
-seen_at : {A C S T : Type 0} (s : A → S) (to : A → C) (view : S → T) (t : C → T) (a : A) (rest : List ℕ) → view (s a) ≡ t (to a) → ((found_as s (a, rest)) >>= found_as view) ≡ ((found_as to (a, rest)) >>= found_as t)
+seen_at : {A C S T : Type 0} (s : A → S) (to : A → C) (view : S → T) (t : C → T) (a : A) (rest : List ℕ) → view (s a) ≡ t (to a) →
+    ((found_as s (a, rest)) >>= found_as view) ≡ ((found_as to (a, rest)) >>= found_as t)
 seen_at {T = T} s to view t a rest e = ap (λ (v : T). Some (v, rest)) e
 
-pub shaped_keeps : {A C S T : Type 0} (g : Format S) (s : A → S) (f : Format A) (spelling : C → List ℕ) (fits : C → Bool) (to : A → C) (view : S → T) (t : C → T) → IsFormat f → ((a : A) → IsTrue (f.fits a) → view (s a) ≡ t (to a)) → Keeps g s f
+pub shaped_keeps : {A C S T : Type 0} (g : Format S) (s : A → S) (f : Format A) (spelling : C → List ℕ) (fits : C → Bool) (to : A → C) (view : S → T)
+    (t : C → T) → IsFormat f → ((a : A) → IsTrue (f.fits a) → view (s a) ≡ t (to a)) → Keeps g s f
     → Keeps (kept view g) t (shaped spelling fits to f)
 shaped_keeps {S = S} g s f spelling fits to view t F same K = record {
   reads = λ bytes small.
@@ -130,7 +134,8 @@ join_list : {A S : Type 0} (s : A → S) (a : A) (o : Option (List A × List ℕ
 join_list s a None = refl
 join_list s a (Some xs) = refl
 
-pub list_keeps : {A S : Type 0} (g : Format S) (s : A → S) (f : Format A) → IsFormat f → Keeps g s f → (n : ℕ) (bytes : List ℕ) → IsBytes bytes → list_read g n bytes ≡ (list_read f n bytes >>= found_as (map s))
+pub list_keeps : {A S : Type 0} (g : Format S) (s : A → S) (f : Format A) → IsFormat f → Keeps g s f → (n : ℕ) (bytes : List ℕ) → IsBytes bytes →
+    list_read g n bytes ≡ (list_read f n bytes >>= found_as (map s))
 list_keeps g s f F K zero bytes small = refl
 list_keeps {A = A} {S = S} g s f F K (suc n) bytes small =
     ap (λ (o : Option (S × List ℕ)). o >>= λ (x : S × List ℕ). list_read g n x.1 >>= λ (xs : List S × List ℕ). Some (x.0 ∷ xs.0, xs.1)) (K.reads bytes small)
@@ -176,10 +181,12 @@ gathered_keeps {A = A} {V = V} g value f F K (suc n) found bytes small =
     (λ none. rw none refl)
     (λ a rest some.
     let below = following f F bytes rest a small some in
-    let inner : (next : Option (Option V)) → (next >>= λ v. gathered g n v rest) ≡ (next >>= λ v. list_read f n rest >>= chosen value v) = λ next. gathered_next g value f n rest (λ v. gathered_keeps g value f F K n v rest below) next in
+    let inner : (next : Option (Option V)) → (next >>= λ v. gathered g n v rest) ≡ (next >>= λ v. list_read f n rest >>= chosen value v) =
+    λ next. gathered_next g value f n rest (λ v. gathered_keeps g value f F K n v rest below) next in
     rw some (inner (one_more found (value a)) ∙ join_chosen value found a (one_more found (value a)) (list_read f n rest) refl))
   where
-    gathered_next : {A V : Type 0} (g : Format (Option V)) (value : A → Option V) (f : Format A) (n : ℕ) (rest : List ℕ) → ((v : Option V) → gathered g n v rest ≡ (list_read f n rest >>= chosen value v)) → (next : Option (Option V))
+    gathered_next : {A V : Type 0} (g : Format (Option V)) (value : A → Option V) (f : Format A) (n : ℕ) (rest : List ℕ) →
+        ((v : Option V) → gathered g n v rest ≡ (list_read f n rest >>= chosen value v)) → (next : Option (Option V))
         → (next >>= λ v. gathered g n v rest) ≡ (next >>= λ v. list_read f n rest >>= chosen value v)
     gathered_next g value f n rest each None = refl
     gathered_next g value f n rest each (Some v) = each v
@@ -217,7 +224,8 @@ choice_of value None = refl
 choice_of {A = A} {V = V} value (Some xs) =
     ap (λ (j : Option (Option V)). j >>= with_rest xs.1) (all_joined value xs.0) ∙ by_choice (λ (items : List A). sole (values_in value items)) (at_most_one (values_in value xs.0)) xs
 
-pub gather_keeps : {A V : Type 0} (g : Format (Option V)) (value : A → Option V) (f : Format A) → IsFormat f → Keeps g value f → Keeps (gather g) (λ (items : List A). sole (values_in value items)) (solely value f)
+pub gather_keeps : {A V : Type 0} (g : Format (Option V)) (value : A → Option V) (f : Format A) → IsFormat f → Keeps g value f →
+    Keeps (gather g) (λ (items : List A). sole (values_in value items)) (solely value f)
 gather_keeps g value f F K = record {
   reads = λ bytes small.
       by_found _ (half.read bytes)

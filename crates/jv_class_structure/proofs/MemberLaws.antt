@@ -51,7 +51,8 @@ field_enters pool f h =
     let b = three_enters (half.fits f.access_flags) (half.fits f.name_index) (half.fits f.descriptor_index) (table_fits attribute_fits f.attributes) a.0 in
     and_from _ _ b.0 (field_attributes_enter pool (is_static (from_field f).0) f.attributes b.1 a.1)
 
-field_leaves : (pool : List Entry) (p : Three × List AttributeInfo) → IsTrue ((paired three (attributes_behind pool)).fits p) → IsTrue (field_fits (field_of_parts p) && field_attributes_keep_rules pool (field_of_parts p))
+field_leaves : (pool : List Entry) (p : Three × List AttributeInfo) → IsTrue ((paired three (attributes_behind pool)).fits p) →
+    IsTrue (field_fits (field_of_parts p) && field_attributes_keep_rules pool (field_of_parts p))
 field_leaves pool p h =
     let a = and_parts (three.fits p.0) ((attributes_behind pool p.0).fits p.1) h in
     let b = field_attributes_leave pool (is_static p.0) p.1 a.1 in
@@ -70,7 +71,8 @@ field_is pool =
 abbrev value_behind : List Entry → Three → List AttributeInfo → Option ℕ
 value_behind pool t xs = sole (values_in (value_of pool (is_static t)) xs)
 
-field_same : (pool : List Entry) (p : Three × List AttributeInfo) → IsTrue ((paired three (attributes_behind pool)).fits p) → field_seen_of (second_side (value_behind pool) p) ≡ field_shown pool (field_of_parts p)
+field_same : (pool : List Entry) (p : Three × List AttributeInfo) → IsTrue ((paired three (attributes_behind pool)).fits p) →
+    field_seen_of (second_side (value_behind pool) p) ≡ field_shown pool (field_of_parts p)
 field_same pool p h =
     let a = and_parts (three.fits p.0) ((attributes_behind pool p.0).fits p.1) h in
     let b = field_attributes_leave pool (is_static p.0) p.1 a.1 in
@@ -78,7 +80,8 @@ field_same pool p h =
 
 pub field_keeps : (pool : List Entry) → Keeps (field_kept pool) (field_shown pool) (field pool)
 field_keeps pool =
-    shaped_keeps (paired three (values_behind pool)) (second_side (value_behind pool)) (paired three (attributes_behind pool)) field_bytes (λ f. field_fits f && field_attributes_keep_rules pool f) field_of_parts field_seen_of (field_shown pool)
+    shaped_keeps (paired three (values_behind pool)) (second_side (value_behind pool)) (paired three (attributes_behind pool)) field_bytes
+    (λ f. field_fits f && field_attributes_keep_rules pool f) field_of_parts field_seen_of (field_shown pool)
     (paired_fields_is pool) (field_same pool)
     (paired_keeps three (values_behind pool) (value_behind pool) (attributes_behind pool) three_is (λ t. values_keep pool (is_static t)))
 
@@ -140,14 +143,16 @@ code_same pool p = ap (λ (m : Option (List ℕ)). code_seen (p.0, (p.1.0, (p.1.
 
 code_body_keeps : (pool : List Entry) → Keeps (both (both half half) (both code_text (both handlers_kept (stack_maps_kept pool)))) (code_side pool) (code_body pool)
 code_body_keeps pool =
-    both_keeps (both half half) own (both half half) (both code_text (both handlers_kept (stack_maps_kept pool))) (each_side own (each_side own (map_in pool))) (both code_text (both (table exception) (code_attributes pool)))
+    both_keeps (both half half) own (both half half) (both code_text (both handlers_kept (stack_maps_kept pool)))
+    (each_side own (each_side own (map_in pool))) (both code_text (both (table exception) (code_attributes pool)))
     (both_is half half half_is half_is) (itself (both half half))
     (both_keeps code_text own code_text (both handlers_kept (stack_maps_kept pool)) (each_side own (map_in pool)) (both (table exception) (code_attributes pool)) code_text_is (itself code_text)
     (both_keeps handlers_kept own (table exception) (stack_maps_kept pool) (map_in pool) (code_attributes pool) (table_is exception exception_is) handlers_keep (stack_maps_keep pool)))
 
 pub code_keeps : (pool : List Entry) → Keeps (code_kept pool) (code_shown pool) (code pool)
 code_keeps pool =
-    shaped_keeps (both (both half half) (both code_text (both handlers_kept (stack_maps_kept pool)))) (code_side pool) (code_body pool) code_bytes (λ c. code_fits c && code_keeps_rules pool c) code_of code_seen (code_shown pool)
+    shaped_keeps (both (both half half) (both code_text (both handlers_kept (stack_maps_kept pool)))) (code_side pool) (code_body pool) code_bytes
+    (λ c. code_fits c && code_keeps_rules pool c) code_of code_seen (code_shown pool)
     (code_body_is pool) (λ p h. code_same pool p) (code_body_keeps pool)
 
 -- ---- a method's attributes
@@ -230,14 +235,16 @@ attribute_enters pool (Other a) h =
     let f = OtherFits-from pool a h in
     and_from _ _ f.name_fits (subst (λ (b : Bool). IsTrue ((held_by pool a.attribute_name_index b).fits (inr a.info))) (sym f.other) (and_from _ _ f.fits f.utf8))
 
-code_left : (pool : List Entry) (name : ℕ) (c : CodeAttribute) (b : Bool) → is_code pool name ≡ b → IsTrue (half.fits name) → IsTrue ((held_by pool name b).fits (inl c)) → IsTrue (attribute_keeps_rules pool (Code name c))
+code_left : (pool : List Entry) (name : ℕ) (c : CodeAttribute) (b : Bool) → is_code pool name ≡ b → IsTrue (half.fits name) →
+    IsTrue ((held_by pool name b).fits (inl c)) → IsTrue (attribute_keeps_rules pool (Code name c))
 code_left pool name c true e n h =
     let a = and_parts (quad.fits (length (code_bytes c))) (code_fits c && code_keeps_rules pool c) h in
     let d = and_parts (code_fits c) (code_keeps_rules pool c) a.1 in
     and_from _ _ (and_from _ _ (and_from _ _ n a.0) d.0) (and_from _ _ e d.1)
 code_left pool name c false e n h = let no : false ≡ true = h in absurd cc
 
-other_left : (pool : List Entry) (name : ℕ) (t : List ℕ) (b : Bool) → is_code pool name ≡ b → IsTrue (half.fits name) → IsTrue ((held_by pool name b).fits (inr t)) → IsTrue (attribute_keeps_rules pool (Other (attribute_of (name, t))))
+other_left : (pool : List Entry) (name : ℕ) (t : List ℕ) (b : Bool) → is_code pool name ≡ b → IsTrue (half.fits name) →
+    IsTrue ((held_by pool name b).fits (inr t)) → IsTrue (attribute_keeps_rules pool (Other (attribute_of (name, t))))
 other_left pool name t true e n h = let no : false ≡ true = h in absurd cc
 other_left pool name t false e n h =
     let a = and_parts (contents.fits t) (is_utf8 pool name) h in
@@ -264,7 +271,8 @@ join_code : (pool : List Entry) (o : Option (CodeAttribute × List ℕ)) → ((o
 join_code pool None = refl
 join_code pool (Some c) = refl
 
-join_other : (pool : List Entry) (u : Bool) (o : Option (List ℕ × List ℕ)) → ((o >>= passed (λ (t : List ℕ). u)) >>= found_as nothing) ≡ (((o >>= found_as on_right) >>= passed (λ (t : Held). u)) >>= found_as (held_seen pool))
+join_other : (pool : List Entry) (u : Bool) (o : Option (List ℕ × List ℕ)) → ((o >>= passed (λ (t : List ℕ). u)) >>= found_as nothing) ≡
+    (((o >>= found_as on_right) >>= passed (λ (t : Held). u)) >>= found_as (held_seen pool))
 join_other pool u None = refl
 join_other pool true (Some t) = refl
 join_other pool false (Some t) = refl
@@ -289,7 +297,8 @@ attribute_same pool (name, inr t) = refl
 
 pub method_attribute_keeps : (pool : List Entry) → Keeps (method_attribute_kept pool) (code_shown_inside pool) (method_attribute pool)
 method_attribute_keeps pool =
-    shaped_keeps (paired half (held_kept pool)) (second_side (held_behind pool)) (paired half (held pool)) method_attribute_bytes (attribute_keeps_rules pool) method_attribute_of code_behind (code_shown_inside pool)
+    shaped_keeps (paired half (held_kept pool)) (second_side (held_behind pool)) (paired half (held pool)) method_attribute_bytes
+    (attribute_keeps_rules pool) method_attribute_of code_behind (code_shown_inside pool)
     (paired_held_is pool) (λ p h. attribute_same pool p)
     (paired_keeps half (held_kept pool) (held_behind pool) (held pool) half_is (λ name. held_keeps_by pool name (is_code pool name)))
 
@@ -321,7 +330,8 @@ method_enters pool m h =
     let all = all_both method_attribute_fits (method_attribute_keeps_rules pool) m.attributes (and_from _ _ c.1 d.0) in
     and_from _ _ b.0 (and_from _ _ (and_from _ _ c.0 all) (codes_number pool m.attributes ∙ d.1))
 
-method_leaves : (pool : List Entry) (p : Three × List MethodAttribute) → IsTrue ((both three (method_attributes pool)).fits p) → IsTrue (method_fits (method_of_parts p) && method_attributes_keep_rules pool (method_of_parts p))
+method_leaves : (pool : List Entry) (p : Three × List MethodAttribute) → IsTrue ((both three (method_attributes pool)).fits p) →
+    IsTrue (method_fits (method_of_parts p) && method_attributes_keep_rules pool (method_of_parts p))
 method_leaves pool p h =
     let a = and_parts (three.fits p.0) ((method_attributes pool).fits p.1) h in
     let b = and_parts (table_fits (attribute_keeps_rules pool) p.1) (at_most_one (values_in (code_shown_inside pool) p.1)) a.1 in
@@ -348,7 +358,8 @@ method_same pool p = ap (λ (c : Option CodeSeen). method_seen_of (p.0, c)) (cod
 
 pub method_keeps : (pool : List Entry) → Keeps (method_kept pool) (method_shown pool) (method pool)
 method_keeps pool =
-    shaped_keeps (both three (codes_kept pool)) (each_side own (code_among pool)) (both three (method_attributes pool)) method_bytes (λ m. method_fits m && method_attributes_keep_rules pool m) method_of_parts method_seen_of (method_shown pool)
+    shaped_keeps (both three (codes_kept pool)) (each_side own (code_among pool)) (both three (method_attributes pool)) method_bytes
+    (λ m. method_fits m && method_attributes_keep_rules pool m) method_of_parts method_seen_of (method_shown pool)
     (both_methods_is pool) (λ p h. method_same pool p)
     (both_keeps three own three (codes_kept pool) (code_among pool) (method_attributes pool) three_is (itself three)
     (gather_keeps (method_attribute_kept pool) (code_shown_inside pool) (method_attribute pool) (method_attribute_is pool) (method_attribute_keeps pool)))

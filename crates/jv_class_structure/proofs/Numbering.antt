@@ -30,7 +30,8 @@ abbrev shown_with : KeptMethod → Option CodeSeen → MethodSeen
 shown_with m code = record { access_flags = m.access_flags.0; name_index = m.name.0; descriptor_index = m.descriptor.0; code = code }
 
 -- one method more, with the number of its code
-pub one_more_kept : (old new : List PackedCode) (kept : List KeptMethod) (m : KeptMethod) (code : Option CodeSeen) → All (λ m. m.code ≤ length old) kept → IsOneMore old new → seen_codes (numbered new m.code) ≡ code
+pub one_more_kept : (old new : List PackedCode) (kept : List KeptMethod) (m : KeptMethod) (code : Option CodeSeen) → All (λ m. m.code ≤ length old)
+    kept → IsOneMore old new → seen_codes (numbered new m.code) ≡ code
     → map (seen_kept new) (kept ++ m ∷ []) ≡ map (seen_kept old) kept ++ shown_with m code ∷ []
 one_more_kept old new kept m code all more is =
     let same : map (seen_kept new) kept ≡ map (seen_kept old) kept = ap (λ (codes : List PackedCode). map (seen_kept codes) kept) more.joined ∙ stay old more.more kept all in

@@ -48,9 +48,11 @@ abbrev zero_of : {A : Type 0} → A → ℕ
 zero_of a = 0
 
 members_keeps : (pool : List Entry)
-    → Keeps (members_kept pool) (each_side (map (field_shown pool)) (each_side (map (method_shown pool)) zero_of)) (both (table (field pool)) (both (table (method pool)) (field_attributes pool false)))
+    → Keeps (members_kept pool) (each_side (map (field_shown pool)) (each_side (map (method_shown pool)) zero_of))
+    (both (table (field pool)) (both (table (method pool)) (field_attributes pool false)))
 members_keeps pool =
-    both_keeps (table (field_kept pool)) (map (field_shown pool)) (table (field pool)) (both (table (method_kept pool)) (passed_over pool)) (each_side (map (method_shown pool)) zero_of) (both (table (method pool)) (field_attributes pool false))
+    both_keeps (table (field_kept pool)) (map (field_shown pool)) (table (field pool)) (both (table (method_kept pool)) (passed_over pool))
+    (each_side (map (method_shown pool)) zero_of) (both (table (method pool)) (field_attributes pool false))
     (table_is (field pool) (field_is pool)) (table_keeps (field_kept pool) (field_shown pool) (field pool) (field_is pool) (field_keeps pool))
     (both_keeps (table (method_kept pool)) (map (method_shown pool)) (table (method pool)) (passed_over pool) zero_of (field_attributes pool false)
     (table_is (method pool) (method_is pool)) (table_keeps (method_kept pool) (method_shown pool) (method pool) (method_is pool) (method_keeps pool))
@@ -60,7 +62,8 @@ pub body_keeps : (pool : List Entry) → Keeps (body_kept pool) (body_shown pool
 body_keeps pool =
     both_keeps three own three (both (table half) (members_kept pool)) (each_side own (each_side (map (field_shown pool)) (each_side (map (method_shown pool)) zero_of)))
     (both (table half) (both (table (field pool)) (both (table (method pool)) (field_attributes pool false)))) three_is (itself three)
-    (both_keeps (table half) own (table half) (members_kept pool) (each_side (map (field_shown pool)) (each_side (map (method_shown pool)) zero_of)) (both (table (field pool)) (both (table (method pool)) (field_attributes pool false)))
+    (both_keeps (table half) own (table half) (members_kept pool) (each_side (map (field_shown pool)) (each_side (map (method_shown pool)) zero_of))
+    (both (table (field pool)) (both (table (method pool)) (field_attributes pool false)))
     (table_is half half_is) (itself (table half)) (members_keeps pool))
 
 -- ---- a structure and its body
@@ -184,13 +187,15 @@ body_again major bytes c b =
     ap (class_body pool).read (body-spelling pool c ∙ sym (append-nil ((class_body pool).spelling (body_of c)))) ∙ (class_body_is pool).again (body_of c) [] fits
 
 -- the bytes behind a pool are read as the body of the structure
-rest_again : OnePool → (major : ℕ) (front rest : List ℕ) (pool : List Entry) → IsPool front pool → (c : ClassStructure) → IsBehindVersion major (front ++ rest) c → (pool ≡ c.constant_pool) × ((class_body pool).read rest ≡ Some (body_of c, []))
+rest_again : OnePool → (major : ℕ) (front rest : List ℕ) (pool : List Entry) → IsPool front pool → (c : ClassStructure) → IsBehindVersion major
+    (front ++ rest) c → (pool ≡ c.constant_pool) × ((class_body pool).read rest ≡ Some (body_of c, []))
 rest_again law major front rest pool is c b =
     let one = law front (pool_bytes c.constant_pool) rest (body_bytes c) pool c.constant_pool b.spelled is b.pool in
     (one.0, ap (λ (p : List Entry). (class_body p).read rest) one.0 ∙ ap (class_body c.constant_pool).read one.2 ∙ body_again major (front ++ rest) c b)
 
 -- a body that was read is that of a structure
-behind : (major : ℕ) (front rest : List ℕ) (pool : List Entry) (b : Body) → IsBytes rest → IsPool front pool → (class_body pool).read rest ≡ Some (b, []) → IsBehindVersion major (front ++ rest) (structure_of major pool b)
+behind : (major : ℕ) (front rest : List ℕ) (pool : List Entry) (b : Body) → IsBytes rest → IsPool front pool → (class_body pool).read rest ≡
+    Some (b, []) → IsBehindVersion major (front ++ rest) (structure_of major pool b)
 behind major front rest pool b small is found =
     let one = (class_body_is pool).takes rest [] b small found in
     let fits = structure-from_Fits major pool b (Fits-from_body pool b one.1) in
@@ -204,7 +209,8 @@ behind major front rest pool b small is found =
     }
 
 -- what is kept of a body tells that it was read
-kept_whole : (pool : List Entry) (o : Option (Body × List ℕ)) (seen : BodySeen) → (o >>= found_as (body_shown pool)) ≡ Some (seen, []) → (o ≡ Some (body_in o, [])) × (body_shown pool (body_in o) ≡ seen)
+kept_whole : (pool : List Entry) (o : Option (Body × List ℕ)) (seen : BodySeen) → (o >>= found_as (body_shown pool)) ≡ Some (seen, []) →
+    (o ≡ Some (body_in o, [])) × (body_shown pool (body_in o) ≡ seen)
 kept_whole pool None seen e = absurd cc
 kept_whole pool (Some b) seen e =
     let same : (body_shown pool b.0, b.1) ≡ (seen, []) = is_some (body_shown pool b.0, b.1) (seen, []) e in
@@ -213,13 +219,15 @@ kept_whole pool (Some b) seen e =
 pub AreBody-from : (pool : List Entry) (bytes : List ℕ) (seen : BodySeen) → IsBytes bytes → (body_kept pool).read bytes ≡ Some (seen, []) → AreBody pool bytes seen
 AreBody-from pool bytes seen small e = sym ((body_keeps pool).reads bytes small) ∙ e
 
-pub behind_kept : (major : ℕ) (front rest : List ℕ) (pool : List Entry) (seen : BodySeen) → IsBytes rest → IsPool front pool → (body_kept pool).read rest ≡ Some (seen, []) → IsBehindVersion major (front ++ rest) (structure_in major pool rest)
+pub behind_kept : (major : ℕ) (front rest : List ℕ) (pool : List Entry) (seen : BodySeen) → IsBytes rest → IsPool front pool →
+    (body_kept pool).read rest ≡ Some (seen, []) → IsBehindVersion major (front ++ rest) (structure_in major pool rest)
 behind_kept major front rest pool seen small is e =
     let found = kept_whole pool ((class_body pool).read rest) seen (AreBody-from pool rest seen small e) in
     behind major front rest pool (body_in ((class_body pool).read rest)) small is found.0
 
 -- where no body stands behind a pool there is no structure
-pub no_body : OnePool → (major : ℕ) (front rest : List ℕ) (pool : List Entry) → IsBytes rest → IsPool front pool → ((body_kept pool).read rest >>= whole []) ≡ None → (c : ClassStructure) → IsBehindVersion major (front ++ rest) c → ⊥
+pub no_body : OnePool → (major : ℕ) (front rest : List ℕ) (pool : List Entry) → IsBytes rest → IsPool front pool →
+    ((body_kept pool).read rest >>= whole []) ≡ None → (c : ClassStructure) → IsBehindVersion major (front ++ rest) c → ⊥
 no_body law major front rest pool small is none c b =
     let again = (rest_again law major front rest pool is c b).1 in
     let seen : (body_kept pool).read rest ≡ Some (body_shown pool (body_of c), []) = (body_keeps pool).reads rest small ∙ ap (λ (o : Option (Body × List ℕ)). o >>= found_as (body_shown pool)) again in

@@ -32,7 +32,8 @@ module _ {X Y : Type 0} (look : X → Option Y) where
       ∙ ap (λ l. Some (l ++ y ∷ [])) (sym parts.4)
 
   -- a loop's step
-  pub next_found : (xs : List X) (i : ℕ) (d : X) → i < length xs → (ys new : List Y) (y : Y) → new ≡ ys ++ y ∷ [] → all_found look (take i xs) ≡ Some ys → look (get_or xs i d) ≡ Some y → all_found look (take (i + 1) xs) ≡ Some new
+  pub next_found : (xs : List X) (i : ℕ) (d : X) → i < length xs → (ys new : List Y) (y : Y) → new ≡ ys ++ y ∷ [] → all_found look (take i xs) ≡
+      Some ys → look (get_or xs i d) ≡ Some y → all_found look (take (i + 1) xs) ≡ Some new
   next_found xs i d lt ys new y is found here =
       ap (all_found look) (take_more xs i d lt) ∙ one_more_found (take i xs) ys (get_or xs i d) y found here ∙ ap (λ l. Some l) (sym is)
 
@@ -42,7 +43,8 @@ joined_by None old new h = absurd h
 joined_by (Some y) old new h = (y, refl, h)
 
 -- a loop's step by places
-pub next_joined : {X Y : Type 0} (look : X → Option Y) (xs : List X) (i : ℕ) → i < length xs → (ys new : List Y) → all_found look (take i xs) ≡ Some ys → IfSome (slice_get xs i) (λ x. IsSomeAnd (look x) (λ y. new ≡ ys ++ y ∷ []))
+pub next_joined : {X Y : Type 0} (look : X → Option Y) (xs : List X) (i : ℕ) → i < length xs → (ys new : List Y) → all_found look (take i xs) ≡
+    Some ys → IfSome (slice_get xs i) (λ x. IsSomeAnd (look x) (λ y. new ≡ ys ++ y ∷ []))
     → all_found look (take (i + 1) xs) ≡ Some new
 next_joined {X = X} look xs i lt ys new found here =
     ⊎_elim
@@ -57,7 +59,8 @@ found_of_seen look seen [] = refl
 found_of_seen look seen (x ∷ xs) = ap (λ m. look (seen x) >>= λ z. m >>= λ zs. Some (z ∷ zs)) (found_of_seen look seen xs)
 
 -- what is seen of what is found of each item
-pub seen_of_found : {X Y Z : Type 0} (look : X → Option Y) (other : X → Option Z) (seen : Y → Z) → ((x : X) → other x ≡ option_map seen (look x)) → (xs : List X) (ys : List Y) → all_found look xs ≡ Some ys
+pub seen_of_found : {X Y Z : Type 0} (look : X → Option Y) (other : X → Option Z) (seen : Y → Z) → ((x : X) → other x ≡ option_map seen (look x)) →
+    (xs : List X) (ys : List Y) → all_found look xs ≡ Some ys
     → all_found other xs ≡ Some (map seen ys)
 seen_of_found look other seen same [] ys e =
     let none : ys ≡ [] = cc in

@@ -26,7 +26,9 @@ written row to b h =
 
 pub pair_related : (rows : Rows) (from to a b : ℕ) → IsSquare rows → from < length rows → to < length rows → related (with_pair rows from to) a b ≡ (related rows a b || (nat_eq a from && nat_eq b to))
 pair_related rows from to a b square h k =
-    related_set rows from (set (get_or rows from []) to true) a b h ∙ (elim (nat_eq a from) as (λ t. nat_eq a from ≡ t → cond t (get_or (set (get_or rows from []) to true) b false) (related rows a b) ≡ (related rows a b || (t && nat_eq b to))) [
+    related_set rows from (set (get_or rows from []) to true) a b h ∙
+    (elim (nat_eq a from) as (λ t. nat_eq a from ≡ t → cond t (get_or (set (get_or rows from []) to true) b false) (related rows a b) ≡
+    (related rows a b || (t && nat_eq b to))) [
       | true ↦ λ e. written (get_or rows from []) to b (subst (λ n. to < n) (sym (square from [] h)) k) ∙ ap (λ i. related rows i b || nat_eq b to) (sym (eqb-true a from e))
       | false ↦ λ e. or_false (related rows a b)
     ] refl)

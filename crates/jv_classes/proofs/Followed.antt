@@ -63,7 +63,8 @@ pub record HasFollowed (world : World) (number : ℕ) (chain : List ℕ) (left :
   pub numbers : All (λ k. k < length world) chain
   pub followed : HoldsAtNumber world number (λ l. superclasses world l.class ≡ filter_map (slice_get world) chain ++ chain_within world left (next >>= slice_get world))
 
-pub follow_start : (world : World) (number : ℕ) (next : Option ℕ) → HoldsAtNumber world number (λ l. next ≡ superclass_number world l.class) → (l : Loaded) → slice_get world number ≡ Some l → HasFollowed world number [] (length world) next
+pub follow_start : (world : World) (number : ℕ) (next : Option ℕ) → HoldsAtNumber world number (λ l. next ≡ superclass_number world l.class) →
+    (l : Loaded) → slice_get world number ≡ Some l → HasFollowed world number [] (length world) next
 follow_start world number next is l at = record {
   below = subst (IsBelowSize (length world)) (sym (is l at)) (superclass_below world l.class.super_class);
   numbers = λ k d h. absurd (omega (arith, h));
@@ -79,7 +80,8 @@ found_more world (n ∷ chain) k s e = by_class (slice_get world n) (found_more 
     by_class None again = again
     by_class (Some x) again = ap (λ xs. x ∷ xs) again
 
-pub follow_step : (world : World) (number : ℕ) (chain : List ℕ) (left : ℕ) (k : ℕ) (next : Option ℕ) (s : Loaded) → slice_get world k ≡ Some s → k < length world → HoldsAtNumber world k (λ m. next ≡ superclass_number world m.class)
+pub follow_step : (world : World) (number : ℕ) (chain : List ℕ) (left : ℕ) (k : ℕ) (next : Option ℕ) (s : Loaded) → slice_get world k ≡ Some s →
+    k < length world → HoldsAtNumber world k (λ m. next ≡ superclass_number world m.class)
     → HasFollowed world number chain (suc left) (Some k) → HasFollowed world number (chain ++ k ∷ []) left next
 follow_step world number chain left k next s at less is h = record {
   below = subst (IsBelowSize (length world)) (sym (is s at)) (superclass_below world s.class.super_class);
@@ -100,11 +102,13 @@ nothing_left : (world : World) (left : ℕ) → chain_within world left None ≡
 nothing_left world zero = refl
 nothing_left world (suc left) = refl
 
-pub follow_end : (world : World) (number : ℕ) (chain : List ℕ) (left : ℕ) → HasFollowed world number chain left None → HoldsAtNumber world number (λ l. filter_map (slice_get world) chain ≡ superclasses world l.class)
+pub follow_end : (world : World) (number : ℕ) (chain : List ℕ) (left : ℕ) → HasFollowed world number chain left None → HoldsAtNumber world number
+    (λ l. filter_map (slice_get world) chain ≡ superclasses world l.class)
 follow_end world number chain left h = λ l at.
     sym (h.followed l at ∙ (ap (λ xs. filter_map (slice_get world) chain ++ xs) (nothing_left world left) ∙ append-nil (filter_map (slice_get world) chain)))
 
-pub follow_all : (world : World) (number : ℕ) (chain : List ℕ) (left : ℕ) (next : Option ℕ) → left ≡ 0 → HasFollowed world number chain left next → HoldsAtNumber world number (λ l. filter_map (slice_get world) chain ≡ superclasses world l.class)
+pub follow_all : (world : World) (number : ℕ) (chain : List ℕ) (left : ℕ) (next : Option ℕ) → left ≡ 0 → HasFollowed world number chain left next →
+    HoldsAtNumber world number (λ l. filter_map (slice_get world) chain ≡ superclasses world l.class)
 follow_all world number chain left next e h = λ l at.
     sym (h.followed l at ∙ (ap (λ n. filter_map (slice_get world) chain ++ chain_within world n (next >>= slice_get world)) e ∙ append-nil (filter_map (slice_get world) chain)))
 
@@ -114,7 +118,8 @@ some_class (x ∷ world) k h = (get_or (x ∷ world) k x, slice_get-get_or (x �
 
 -- ---- the superclasses of each class
 
-pub superclass_told : (world : World) (direct : List (Option ℕ)) (k : ℕ) (d : Option ℕ) → direct ≡ all_superclass_numbers world → HoldsAtNumber world k (λ l. get_or direct k d ≡ superclass_number world l.class)
+pub superclass_told : (world : World) (direct : List (Option ℕ)) (k : ℕ) (d : Option ℕ) → direct ≡ all_superclass_numbers world →
+    HoldsAtNumber world k (λ l. get_or direct k d ≡ superclass_number world l.class)
 superclass_told world direct k d e = λ l at. ap (λ numbers. get_or numbers k d) e ∙ at_map (λ m. superclass_number world m.class) world k l d at
 
 one_more : (P : ℕ → Vec ℕ → Type 0) (chains : List (Vec ℕ)) (last : Vec ℕ) → ((k : ℕ) (v : Vec ℕ) → slice_get chains k ≡ Some v → P k v) → P (length chains) last
@@ -131,12 +136,14 @@ one_more P [] last each at (suc k) v e = absurd (past k e)
 one_more P (c ∷ chains) last each at zero v e = each zero v e
 one_more P (c ∷ chains) last each at (suc k) v e = one_more (λ j. P (suc j)) chains last (λ j. each (suc j)) at k v e
 
-pub chain_more : (world : World) (count : ℕ) (chains : List (Vec ℕ)) (chain : Vec ℕ) → IsChain world count chain.items → AreChains world count chains → AreChains world (count + 1) (chains ++ chain ∷ [])
+pub chain_more : (world : World) (count : ℕ) (chains : List (Vec ℕ)) (chain : Vec ℕ) → IsChain world count chain.items →
+    AreChains world count chains → AreChains world (count + 1) (chains ++ chain ∷ [])
 chain_more world count chains chain is are = record {
   size = length-append chains (chain ∷ []) ∙ ap (λ n. n + 1) are.size;
   each = one_more (λ k v. IsChain world k v.items) chains chain are.each (subst (λ n. IsChain world n chain.items) (sym are.size) is);
 }
 
-pub chain_at : (world : World) (count : ℕ) (chains : List (Vec ℕ)) (number : ℕ) (chain : Vec ℕ) → AreChains world count chains → number < count → chain ≡ get_or chains number chain → IsChain world number chain.items
+pub chain_at : (world : World) (count : ℕ) (chains : List (Vec ℕ)) (number : ℕ) (chain : Vec ℕ) → AreChains world count chains → number < count →
+    chain ≡ get_or chains number chain → IsChain world number chain.items
 chain_at world count chains number chain are less is =
     are.each number chain (slice_get-get_or chains number chain (subst (λ n. number < n) (sym are.size) less) ∙ ap (λ v. Some v) (sym is))

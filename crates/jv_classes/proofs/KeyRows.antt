@@ -73,7 +73,8 @@ wide_row width rows slot v wide h e =
     ap length (sym (row_there rows slot v h e)) ∙ wide.wide slot [] within
 
 -- rows without a mark
-pub none_more : (rows : List (Vec ℕ)) (k width : ℕ) (row : Vec ℕ) → cells_of rows ≡ replicate k (replicate width 0) → row.items ≡ replicate width 0 → cells_of (rows ++ row ∷ []) ≡ replicate (k + 1) (replicate width 0)
+pub none_more : (rows : List (Vec ℕ)) (k width : ℕ) (row : Vec ℕ) → cells_of rows ≡ replicate k (replicate width 0) → row.items ≡ replicate width 0 →
+    cells_of (rows ++ row ∷ []) ≡ replicate (k + 1) (replicate width 0)
 none_more rows k width row e r =
     map-append cells_in rows (row ∷ []) ∙ (ap (λ xs. xs ++ row.items ∷ []) e
     ∙ (ap (λ x. replicate k (replicate width 0) ++ x ∷ []) r ∙ replicate-append-replicate k 1 (replicate width 0)))

@@ -5,7 +5,8 @@ use Rattle.jv_meaning_world.specs.of_pool.Constants.{Entry}
 use Rattle.jv_meaning_world.specs.World.{World}
 use Rattle.jv_classes.specs.Inside.Known.{IsKnown, AreKnown, text_number}
 
-pub one_more_known : (world : World) (pool : List Entry) (known : List (Option (Option ℕ))) (index : ℕ) (number : Option ℕ) → index < length known → AreKnown world pool known → number ≡ text_number world pool index
+pub one_more_known : (world : World) (pool : List Entry) (known : List (Option (Option ℕ))) (index : ℕ) (number : Option ℕ) → index < length known →
+    AreKnown world pool known → number ≡ text_number world pool index
     → AreKnown world pool (set known index (Some number))
 one_more_known world pool known index number within are is i = by_test (nat_eq i index) refl
   where

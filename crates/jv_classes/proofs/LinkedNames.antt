@@ -310,9 +310,11 @@ one_more_name seed names before ends kept room name absent slot own within =
       many = omega (arith, same, wide, many, long);
       room = omega (arith, slots, room, long);
       linked =
-          subst (λ n. AreLinkedTo seed n (texts_of (names ++ name ∷ [])) (length (names ++ name ∷ [])) (set (before ++ 0 ∷ []) (length names) (get_or ends slot 0)) (set ends slot (length names + 1))) (sym slots)
+          subst (λ n. AreLinkedTo seed n (texts_of (names ++ name ∷ [])) (length (names ++ name ∷ []))
+          (set (before ++ 0 ∷ []) (length names) (get_or ends slot 0)) (set ends slot (length names + 1))) (sym slots)
           (subst (λ n. AreLinkedTo seed (length ends) (texts_of (names ++ name ∷ [])) n (set (before ++ 0 ∷ []) (length names) (get_or ends slot 0)) (set ends slot (length names + 1))) (sym long)
-          (subst (λ (ts : List (List ℕ)). AreLinkedTo seed (length ends) ts (length names + 1) (set (before ++ 0 ∷ []) (length names) (get_or ends slot 0)) (set ends slot (length names + 1))) (sym shown) more));
+          (subst (λ (ts : List (List ℕ)). AreLinkedTo seed (length ends) ts (length names + 1)
+          (set (before ++ 0 ∷ []) (length names) (get_or ends slot 0)) (set ends slot (length names + 1))) (sym shown) more));
       apart = subst AreApart (sym shown) (apart_more (texts_of names) name.now kept.apart absent);
     }
 

@@ -35,7 +35,8 @@ module _ {X : Type 0} (name_of descriptor_of : X → List ℕ) (seed : ℕ) wher
   pub none_marked : (marks : MarkedKeys) (class : ℕ) (items : List X) → AreMarkedBelow marks class items 0
   none_marked marks class items = record { marked = λ place x h at. absurd (omega (arith, h)) }
 
-  pub one_marked : (old new : MarkedKeys) (class : ℕ) (items : List X) (many key : ℕ) (name descriptor : List ℕ) → AreMarkedBelow old class items many → AreKept old new → IsSomeAnd (slice_get items many) (λ x. name_of x ≡ name)
+  pub one_marked : (old new : MarkedKeys) (class : ℕ) (items : List X) (many key : ℕ) (name descriptor : List ℕ) → AreMarkedBelow old class items
+      many → AreKept old new → IsSomeAnd (slice_get items many) (λ x. name_of x ≡ name)
       → IsSomeAnd (slice_get items many) (λ x. descriptor_of x ≡ descriptor) → key ≡ key_of seed name descriptor → is_marked new key class ≡ true → AreMarkedBelow new class items (many + 1)
   one_marked old new class items many key name descriptor below kept named described is mark = record { marked = each }
     where

@@ -90,16 +90,19 @@ module _ (c : ClassStructure) (pool : List Entry) (same : pool ≡ c.constant_po
   fields_unlike fields shown unlike =
       subst (λ (p : List Entry). NoTwoAlike (map (field_texts p) fields)) (sym same) (unlike_also seen_field (field_shown own) fields c.fields shown (shown_field_texts own) unlike)
 
-  pub fields_kept : (fields : List Field) → map seen_field fields ≡ fields_of c → (members : List MemberSeen) → all_found (field_at pool) fields ≡ Some members → (class : Class) → class_of c ≡ Some class → members ≡ map field_seen class.fields
+  pub fields_kept : (fields : List Field) → map seen_field fields ≡ fields_of c → (members : List MemberSeen) → all_found (field_at pool) fields ≡
+      Some members → (class : Class) → class_of c ≡ Some class → members ≡ map field_seen class.fields
   fields_kept fields shown members found class e =
       found_also seen_field (field_shown own) fields c.fields shown (λ f. option_map (member_with f.access_flags) (shown_field_texts own f)) (field_of own) field_seen
       (λ f. mapped_twice field_seen _ (field_info_texts own f)) members (subst (λ (p : List Entry). all_found (field_at p) fields ≡ Some members) same found) class.fields (parts c class e).fields
 
-pub methods_kept : (c : ClassStructure) (members : List MemberSeen) → all_found (method_at c.constant_pool) (methods_of c) ≡ Some members → (class : Class) → class_of c ≡ Some class → members ≡ map method_seen class.methods
+pub methods_kept : (c : ClassStructure) (members : List MemberSeen) → all_found (method_at c.constant_pool) (methods_of c) ≡ Some members →
+    (class : Class) → class_of c ≡ Some class → members ≡ map method_seen class.methods
 methods_kept c members found class e =
     let own : List Entry = c.constant_pool in
     let as_shown = found_of_seen (method_at own) (method_shown own) c.methods in
-    let as_declared = seen_of_found (method_of own) (λ m. method_at own (method_shown own m)) method_seen (λ m. mapped_twice method_seen _ (method_info_texts own m)) c.methods class.methods (parts c class e).methods in
+    let as_declared = seen_of_found (method_of own) (λ m. method_at own (method_shown own m)) method_seen
+    (λ m. mapped_twice method_seen _ (method_info_texts own m)) c.methods class.methods (parts c class e).methods in
     let both : Some members ≡ Some (map method_seen class.methods) = sym found ∙ (sym as_shown ∙ as_declared) in
     cc
 
@@ -145,7 +148,8 @@ module _ (c : ClassStructure) (pool : List Entry) (indices : List ClassIndex) (s
   pub count_of : (class : Class) → class_of c ≡ Some class → length indices ≡ length class.interfaces
   count_of class e = sym (many_found (interface_at pool) indices class.interfaces (interfaces_found class e))
 
-  pub name_of : (class : Class) (place : ℕ) (d : ClassIndex) (name : List ℕ) → class_of c ≡ Some class → place < length indices → class_name_at pool (get_or indices place d).0 ≡ Some name → slice_get class.interfaces place ≡ Some name
+  pub name_of : (class : Class) (place : ℕ) (d : ClassIndex) (name : List ℕ) → class_of c ≡ Some class → place < length indices → class_name_at pool
+      (get_or indices place d).0 ≡ Some name → slice_get class.interfaces place ≡ Some name
   name_of class place d name e h is = found_at (interface_at pool) indices class.interfaces place d (interfaces_found class e) h ∙ is
 
   pub numbers_of_file : (world : World) (class : Class) → class_of c ≡ Some class → map (class_number world pool) indices ≡ map (number_named world) class.interfaces
@@ -157,7 +161,8 @@ many_interfaces c class e = many_found (class_name_at c.constant_pool) c.interfa
 -- ---- the whole
 
 module _ (c : ClassStructure) (kept : Kept) where
-  pub keeps : kept.major ≡ c.major_version → kept.access_flags ≡ c.access_flags → class_name c ≡ Some kept.name.now → kept.package_name.now ≡ package_of kept.name.now → super_of c ≡ Some (option_copied kept.super_name)
+  pub keeps : kept.major ≡ c.major_version → kept.access_flags ≡ c.access_flags → class_name c ≡ Some kept.name.now → kept.package_name.now ≡
+      package_of kept.name.now → super_of c ≡ Some (option_copied kept.super_name)
       → ((class : Class) → class_of c ≡ Some class → kept.fields ≡ map field_seen class.fields) → ((class : Class) → class_of c ≡ Some class → kept.methods ≡ map method_seen class.methods)
       → (class : Class) → class_of c ≡ Some class → Keeps class kept
   keeps major flags name home super_class fields methods class e =

@@ -23,7 +23,8 @@ pub rows_length : (rows : Rows) (kept : List (Vec Bool)) → rows_of kept ≡ ro
 rows_length rows kept e = sym (length-map kept row_items) ∙ ap length e
 
 -- a write in a row
-pub row_written : (rows : List (Vec Bool)) (from : ℕ) (v after : Vec Bool) (to : ℕ) → from < length rows → v ≡ get_or rows from v → after.items ≡ set v.items to true → rows_of (set rows from after) ≡ with_pair (rows_of rows) from to
+pub row_written : (rows : List (Vec Bool)) (from : ℕ) (v after : Vec Bool) (to : ℕ) → from < length rows → v ≡ get_or rows from v → after.items ≡
+    set v.items to true → rows_of (set rows from after) ≡ with_pair (rows_of rows) from to
 row_written rows from v after to h e w =
     map-set row_items rows from after ∙ ap (λ row. set (rows_of rows) from row) (w ∙ ap (λ row. set row to true) (sym (row_there rows from v h e)))
 
@@ -37,7 +38,8 @@ square_empty size k d h =
     let many : length (empty size) ≡ size = length-replicate size (replicate size false) in
     ap length (empty_row size size k d (subst (λ n. k < n) many h)) ∙ (length-replicate size false ∙ sym many)
 
-pub empty_more : (rows : List (Vec Bool)) (k size : ℕ) (row : Vec Bool) → rows_of rows ≡ replicate k (replicate size false) → row.items ≡ replicate size false → rows_of (rows ++ row ∷ []) ≡ replicate (k + 1) (replicate size false)
+pub empty_more : (rows : List (Vec Bool)) (k size : ℕ) (row : Vec Bool) → rows_of rows ≡ replicate k (replicate size false) → row.items ≡
+    replicate size false → rows_of (rows ++ row ∷ []) ≡ replicate (k + 1) (replicate size false)
 empty_more rows k size row e r =
     map-append row_items rows (row ∷ []) ∙ (ap (λ xs. xs ++ row.items ∷ []) e
     ∙ (ap (λ x. replicate k (replicate size false) ++ x ∷ []) r ∙ replicate-append-replicate k 1 (replicate size false)))
@@ -60,7 +62,8 @@ square_with_pair rows from to square h k d within =
 -- ---- a row joined
 
 -- what a write of a row does to what is related
-pub related_set : (rows : Rows) (place : ℕ) (row : List Bool) (from to : ℕ) → place < length rows → related (set rows place row) from to ≡ cond (nat_eq from place) (get_or row to false) (related rows from to)
+pub related_set : (rows : Rows) (place : ℕ) (row : List Bool) (from to : ℕ) → place < length rows → related (set rows place row) from to ≡
+    cond (nat_eq from place) (get_or row to false) (related rows from to)
 related_set rows place row from to h =
     elim (nat_eq from place) as (λ t. nat_eq from place ≡ t → related (set rows place row) from to ≡ cond t (get_or row to false) (related rows from to)) [
       | true ↦ λ e. ap (λ i. related (set rows place row) i to) (eqb-true from place e) ∙ ap (λ r. get_or r to false) (get_or-set_same rows place row [] h)
@@ -123,7 +126,8 @@ kept_step kept old i by other v after h is square size made before behind =
 -- ---- all rows of one length
 
 pub kept_square : (kept : List (Vec Bool)) → IsSquare (rows_of kept) → All (λ row. length row.items ≡ length kept) kept
-kept_square kept square k d h = ap length (sym (row_there kept k (get_or kept k d) h (get_or_default kept k d (get_or kept k d) h))) ∙ (square k [] (subst (λ n. k < n) (sym (length-map kept row_items)) h) ∙ length-map kept row_items)
+kept_square kept square k d h = ap length (sym (row_there kept k (get_or kept k d) h (get_or_default kept k d (get_or kept k d) h))) ∙
+    (square k [] (subst (λ n. k < n) (sym (length-map kept row_items)) h) ∙ length-map kept row_items)
 
 pub square_kept : (kept : List (Vec Bool)) → All (λ row. length row.items ≡ length kept) kept → IsSquare (rows_of kept)
 square_kept [] all k d h = absurd (omega (arith, h))

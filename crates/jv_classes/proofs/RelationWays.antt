@@ -125,7 +125,8 @@ closing_step old now new k other h same made = record {
         from_k to (inl t) = t
         from_k to (inr t) = t.1
 
-        cases : IsTrue (related now from by) ⊎ (IsTrue (related now from k) × IsTrue (related now k by)) → IsTrue (related now by to) ⊎ (IsTrue (related now by k) × IsTrue (related now k to)) → IsTrue (related new from to)
+        cases : IsTrue (related now from by) ⊎ (IsTrue (related now from k) × IsTrue (related now k by)) → IsTrue (related now by to) ⊎
+            (IsTrue (related now by k) × IsTrue (related now k to)) → IsTrue (related new from to)
         cases (inl t) (inl u) = by_way from to (through from by to less t u)
         cases (inl t) (inr u) = by_k from to (to_k from (through from by k less t u.0)) u.1
         cases (inr t) (inl u) = by_k from to t.0 (from_k to (through k by to less t.1 u))

@@ -20,9 +20,12 @@ before rows k a h = get_or-take k rows a [] h
 past : (rows : Rows) (k a : ℕ) → k ≤ a → get_or (take k rows) a [] ≡ []
 past rows k a h = grind (arith, common_steps, h)
 
-pub row_more : (rows : Rows) (k a b : ℕ) → (list_any (is_there b) (get_or (take k rows) a []) || (nat_eq a k && list_any (is_there b) (get_or rows k []))) ≡ list_any (is_there b) (get_or (take (k + 1) rows) a [])
+pub row_more : (rows : Rows) (k a b : ℕ) →
+    (list_any (is_there b) (get_or (take k rows) a []) || (nat_eq a k && list_any (is_there b) (get_or rows k []))) ≡ list_any (is_there b)
+    (get_or (take (k + 1) rows) a [])
 row_more rows k a b =
-    elim (nat_eq a k) as (λ t. nat_eq a k ≡ t → (list_any (is_there b) (get_or (take k rows) a []) || (t && list_any (is_there b) (get_or rows k []))) ≡ list_any (is_there b) (get_or (take (k + 1) rows) a [])) [
+    elim (nat_eq a k) as (λ t. nat_eq a k ≡ t → (list_any (is_there b) (get_or (take k rows) a []) || (t && list_any (is_there b) (get_or rows k [])))
+    ≡ list_any (is_there b) (get_or (take (k + 1) rows) a [])) [
       | true ↦ λ e. here (eqb-true a k e)
       | false ↦ λ e. or_false (list_any (is_there b) (get_or (take k rows) a [])) ∙ ap (list_any (is_there b)) (apart (eqb-false a k e))
     ] refl

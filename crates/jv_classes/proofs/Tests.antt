@@ -33,7 +33,8 @@ passes_named world test name = by_number (number_named world name) refl
 module _ (world : World) (test : Loaded → Bool) where
   pub each_named : (names : List (List ℕ)) → list_all (passes_at world test) (map (number_named world) names) ≡ list_all (λ name. passes test (class_named world name)) names
   each_named [] = refl
-  each_named (name ∷ names) = ap (λ b. b && list_all (passes_at world test) (map (number_named world) names)) (passes_named world test name) ∙ ap (λ b. passes test (class_named world name) && b) (each_named names)
+  each_named (name ∷ names) = ap (λ b. b && list_all (passes_at world test) (map (number_named world) names)) (passes_named world test name) ∙
+      ap (λ b. passes test (class_named world name) && b) (each_named names)
 
   each_listed : (names : List (List ℕ)) → list_all (passes_at world test) (each_once (map (number_named world) names)) ≡ list_all (λ name. passes test (class_named world name)) names
   each_listed names = all_once (passes_at world test) (map (number_named world) names) ∙ each_named names
@@ -51,16 +52,19 @@ kinds world class numbers None = list_all (passes_at world is_interface) numbers
 kinds world class numbers (Some name) = first_and_others (passes_at world (λ l. not (is_interface l))) (passes_at world is_interface) numbers
 
 kind_at : (world : World) (class : Class) (superclass : Option (List ℕ)) (interfaces : List (List ℕ))
-    → kinds world class (map (number_named world) (superclass_names superclass) ++ each_once (map (number_named world) interfaces)) superclass ≡ (superclass_passes world (λ l. not (is_interface l)) superclass && list_all (λ name. passes is_interface (class_named world name)) interfaces)
+    → kinds world class (map (number_named world) (superclass_names superclass) ++ each_once (map (number_named world) interfaces)) superclass ≡
+    (superclass_passes world (λ l. not (is_interface l)) superclass && list_all (λ name. passes is_interface (class_named world name)) interfaces)
 unfolding kinds
 kind_at world class None interfaces = each_listed world is_interface interfaces
 kind_at world class (Some name) interfaces =
     ap (λ b. b && list_all (passes_at world is_interface) (each_once (map (number_named world) interfaces))) (passes_named world (λ l. not (is_interface l)) name)
     ∙ ap (λ b. passes (λ l. not (is_interface l)) (class_named world name) && b) (each_listed world is_interface interfaces)
 
-pub no_superclass : (world : World) (class : Class) (numbers : List (Option ℕ)) → numbers ≡ direct_numbers world class → class.super_class ≡ None → list_all (passes_at world is_interface) numbers ≡ have_right_kind world class
+pub no_superclass : (world : World) (class : Class) (numbers : List (Option ℕ)) → numbers ≡ direct_numbers world class → class.super_class ≡ None →
+    list_all (passes_at world is_interface) numbers ≡ have_right_kind world class
 unfolding kinds
-no_superclass world class numbers e none = ap (list_all (passes_at world is_interface)) e ∙ (sym (ap (kinds world class (direct_numbers world class)) none) ∙ kind_at world class class.super_class class.interfaces)
+no_superclass world class numbers e none = ap (list_all (passes_at world is_interface)) e ∙
+    (sym (ap (kinds world class (direct_numbers world class)) none) ∙ kind_at world class class.super_class class.interfaces)
 
 pub a_superclass : (world : World) (class : Class) (numbers : List (Option ℕ)) (name : List ℕ) → numbers ≡ direct_numbers world class → class.super_class ≡ Some name
     → first_and_others (passes_at world (λ l. not (is_interface l))) (passes_at world is_interface) numbers ≡ have_right_kind world class

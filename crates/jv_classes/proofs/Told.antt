@@ -28,7 +28,8 @@ use Rattle.jv_classes.proofs.Rows.{row_there, told_at}
 pub many_rows : (world : World) (rows : List (Vec (Option ℕ))) → numbers_of rows ≡ all_direct_numbers world → length rows ≡ length world
 many_rows world rows e = sym (length-map rows row_of) ∙ (ap length e ∙ length-map world _)
 
-pub row_of_class : (world : World) (rows : List (Vec (Option ℕ))) (from : ℕ) (v : Vec (Option ℕ)) (c : Loaded) → numbers_of rows ≡ all_direct_numbers world → from < length world → v ≡ get_or rows from v → c ≡ get_or world from c
+pub row_of_class : (world : World) (rows : List (Vec (Option ℕ))) (from : ℕ) (v : Vec (Option ℕ)) (c : Loaded) → numbers_of rows ≡
+    all_direct_numbers world → from < length world → v ≡ get_or rows from v → c ≡ get_or world from c
     → v.items ≡ direct_numbers world c.class
 row_of_class world rows from v c e h is c_is =
     sym (row_there rows from v (subst (λ n. from < n) (sym (many_rows world rows e)) h) is)
@@ -146,7 +147,8 @@ to_supers world numbers a b = (there (slice_get world a) refl, back)
     one_name [] h = absurd cc
     one_name (name ∷ names) h = by_number (number_named world name) refl (λ k. one_name names k) h
       where
-        by_test : (k : ℕ) (t : Bool) → nat_eq b k ≡ t → number_named world name ≡ Some k → (IsTrue (list_any (is_there b) (map (number_named world) names)) → (n : List ℕ) × Contains names n × (number_named world n ≡ Some b))
+        by_test : (k : ℕ) (t : Bool) → nat_eq b k ≡ t → number_named world name ≡ Some k →
+            (IsTrue (list_any (is_there b) (map (number_named world) names)) → (n : List ℕ) × Contains names n × (number_named world n ≡ Some b))
             → IsTrue (t || list_any (is_there b) (map (number_named world) names)) → (n : List ℕ) × Contains (name ∷ names) n × (number_named world n ≡ Some b)
         by_test k true t e again h = (name, first name names, e ∙ ap (λ n. Some n) (sym (eqb-true b k t)))
         by_test k false t e again h = let found = again h in (found.0, later name names found.0 found.1, found.2)
@@ -181,7 +183,8 @@ to_supers world numbers a b = (there (slice_get world a) refl, back)
         right true y h = refl
         right false y h = h
 
-        by_part : (Contains names name → IsTrue (list_any (is_there b) (map (number_named world) names))) → Contains (n ∷ []) name ⊎ Contains names name → IsTrue (is_there b (number_named world n) || list_any (is_there b) (map (number_named world) names))
+        by_part : (Contains names name → IsTrue (list_any (is_there b) (map (number_named world) names))) → Contains (n ∷ []) name ⊎
+            Contains names name → IsTrue (is_there b (number_named world n) || list_any (is_there b) (map (number_named world) names))
         by_part again (inl k) =
             left (is_there b (number_named world n)) (list_any (is_there b) (map (number_named world) names))
             (subst (λ o. IsTrue (is_there b o)) (sym (ap (number_named world) (single n name k) ∙ e)) here)
@@ -198,17 +201,20 @@ class_at world from c h e = slice_get-get_or world from c h ∙ ap (λ m. Some m
 
 all_named_below : (world : World) (names : List (List ℕ)) → All (IsBelowSize (length world)) (map (number_named world) names)
 all_named_below world [] k d h = absurd (omega (arith, h))
-all_named_below world (name ∷ names) k d h = All-cons (IsBelowSize (length world)) (number_named world name) (map (number_named world) names) (named_below world name) (all_named_below world names) k d h
+all_named_below world (name ∷ names) k d h = All-cons (IsBelowSize (length world)) (number_named world name) (map (number_named world) names)
+    (named_below world name) (all_named_below world names) k d h
 
 row_below : (world : World) (class : Class) → All (IsBelowSize (length world)) (direct_numbers world class)
 row_below world class =
     let first = map (number_named world) (superclass_names class.super_class) in
     let interfaces = map (number_named world) class.interfaces in
-    All-append (IsBelowSize (length world)) first (each_once interfaces) (all_named_below world (superclass_names class.super_class)) (each_of_once (IsBelowSize (length world)) interfaces (all_named_below world class.interfaces))
+    All-append (IsBelowSize (length world)) first (each_once interfaces) (all_named_below world (superclass_names class.super_class))
+    (each_of_once (IsBelowSize (length world)) interfaces (all_named_below world class.interfaces))
 
 rows_below_of : (world : World) (ls : List Loaded) → All (All (IsBelowSize (length world))) (map (λ l. direct_numbers world l.class) ls)
 rows_below_of world [] k d h = absurd (omega (arith, h))
-rows_below_of world (l ∷ ls) k d h = All-cons (All (IsBelowSize (length world))) (direct_numbers world l.class) (map (λ m. direct_numbers world m.class) ls) (row_below world l.class) (rows_below_of world ls) k d h
+rows_below_of world (l ∷ ls) k d h = All-cons (All (IsBelowSize (length world))) (direct_numbers world l.class)
+    (map (λ m. direct_numbers world m.class) ls) (row_below world l.class) (rows_below_of world ls) k d h
 
 pub rows_below : (world : World) (rows : List (Vec (Option ℕ))) → numbers_of rows ≡ all_direct_numbers world → AreAllBelow (length rows) (numbers_of rows)
 rows_below world rows e = subst (λ n. AreAllBelow n (numbers_of rows)) (sym (many_rows world rows e)) (subst (AreAllBelow (length world)) (sym e) (rows_below_of world world))
@@ -227,7 +233,8 @@ any_in_rows world p [] (suc a) = refl
 any_in_rows world p (l ∷ ls) zero = any_in_row world p l.class
 any_in_rows world p (l ∷ ls) (suc a) = any_in_rows world p ls a
 
-pub direct_of : (world : World) → IsNumbered world → (rows : Rows) (numbers : List (List (Option ℕ))) → numbers ≡ all_direct_numbers world → ((a b : ℕ) → related rows a b ≡ list_any (is_there b) (get_or numbers a [])) → IsDirect world rows
+pub direct_of : (world : World) → IsNumbered world → (rows : Rows) (numbers : List (List (Option ℕ))) → numbers ≡ all_direct_numbers world →
+    ((a b : ℕ) → related rows a b ≡ list_any (is_there b) (get_or numbers a [])) → IsDirect world rows
 direct_of world numbered rows numbers e same a b =
     let told = same a b ∙ (ap (λ ns. list_any (is_there b) (get_or ns a [])) e ∙ any_in_rows world (is_there b) world a) in
     let both = to_supers world numbered a b in

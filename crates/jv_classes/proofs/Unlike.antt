@@ -46,7 +46,8 @@ module _ {X : Type 0} (texts : X → Option NameAndDescriptor) (flags : X → �
   among P (x ∷ xs) (suc i) d lt all = among P xs i d (omega arith) all.1
 
   -- none before it has the texts of the item at a place
-  pub is_new : (xs : List X) (i : ℕ) (d : X) → i < length xs → NoTwoAlike (map texts xs) → (members : List MemberSeen) → all_found look (take i xs) ≡ Some members → (m : MemberSeen) → look (get_or xs i d) ≡ Some m
+  pub is_new : (xs : List X) (i : ℕ) (d : X) → i < length xs → NoTwoAlike (map texts xs) → (members : List MemberSeen) → all_found look (take i xs) ≡
+      Some members → (m : MemberSeen) → look (get_or xs i d) ≡ Some m
       → list_any (declares m.name m.descriptor) members ≡ false
   is_new [] i d lt unlike members found m here = absurd (omega arith)
   is_new (x ∷ xs) zero d lt unlike members found m here =

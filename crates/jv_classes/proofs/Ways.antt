@@ -39,7 +39,8 @@ up_of_numbers world rows direct a b (by ∷ more) l to at_a at_b way =
     let rest = up_of_numbers world rows direct by b more step.to to step.to_at at_b way.1 in
     (step.to ∷ rest.0, (subst (λ (m : Loaded). Contains (supers_in world m.class) step.to) (one_class (slice_get world a) step.from l step.from_at at_a) step.above, rest.1))
 
-numbers_of_up : (world : World) (rows : Rows) → IsDirect world rows → (a b : ℕ) (ls : List Loaded) (l to : Loaded) → slice_get world a ≡ Some l → slice_get world b ≡ Some to → IsWayUp world l.class ls to
+numbers_of_up : (world : World) (rows : Rows) → IsDirect world rows → (a b : ℕ) (ls : List Loaded) (l to : Loaded) → slice_get world a ≡ Some l →
+    slice_get world b ≡ Some to → IsWayUp world l.class ls to
     → Reaches rows a b
 numbers_of_up world rows direct a b [] l to at_a at_b way = ([], (direct a b).1 (record { from = l; to = to; from_at = at_a; to_at = at_b; above = way }))
 numbers_of_up world rows direct a b (s ∷ ls) l to at_a at_b way =
@@ -48,10 +49,12 @@ numbers_of_up world rows direct a b (s ∷ ls) l to at_a at_b way =
     (place.0 ∷ rest.0, ((direct a place.0).1 (record { from = l; to = s; from_at = at_a; to_at = place.2; above = way.0 }), rest.1))
 
 -- what is reached is above
-pub reached_is_above : (world : World) (rows : Rows) → IsDirect world rows → (a b : ℕ) (l to : Loaded) → slice_get world a ≡ Some l → slice_get world b ≡ Some to → Reaches rows a b → Contains (above world l.class) to
+pub reached_is_above : (world : World) (rows : Rows) → IsDirect world rows → (a b : ℕ) (l to : Loaded) → slice_get world a ≡ Some l →
+    slice_get world b ≡ Some to → Reaches rows a b → Contains (above world l.class) to
 reached_is_above world rows direct a b l to at_a at_b way = (above_by_ways world l.class to).1 (up_of_numbers world rows direct a b way.0 l to at_a at_b way.1)
 
-pub above_is_reached : (world : World) (rows : Rows) → IsDirect world rows → (a b : ℕ) (l to : Loaded) → slice_get world a ≡ Some l → slice_get world b ≡ Some to → Contains (above world l.class) to → Reaches rows a b
+pub above_is_reached : (world : World) (rows : Rows) → IsDirect world rows → (a b : ℕ) (l to : Loaded) → slice_get world a ≡ Some l →
+    slice_get world b ≡ Some to → Contains (above world l.class) to → Reaches rows a b
 above_is_reached world rows direct a b l to at_a at_b h =
     let way = (above_by_ways world l.class to).0 h in
     numbers_of_up world rows direct a b way.0 l to at_a at_b way.1
@@ -98,7 +101,8 @@ pub one_of_any : (test : Loaded → Bool) (ls : List Loaded) → IsTrue (list_an
 one_of_any test [] h = absurd cc
 one_of_any test (x ∷ ls) h = by_test (test x) refl (λ k. one_of_any test ls k) h
   where
-    by_test : (b : Bool) → test x ≡ b → (IsTrue (list_any test ls) → (l : Loaded) × Contains ls l × IsTrue (test l)) → IsTrue (b || list_any test ls) → (l : Loaded) × Contains (x ∷ ls) l × IsTrue (test l)
+    by_test : (b : Bool) → test x ≡ b → (IsTrue (list_any test ls) → (l : Loaded) × Contains ls l × IsTrue (test l)) →
+        IsTrue (b || list_any test ls) → (l : Loaded) × Contains (x ∷ ls) l × IsTrue (test l)
     by_test true e again h = (x, first x ls, e)
     by_test false e again h = let found = again h in (found.0, later x ls found.0 found.1, found.2)
 
@@ -114,13 +118,16 @@ pub above_if : (world : World) (closed direct : Rows) → IsNumbered world → I
 above_if world closed direct numbers is_direct reach a b l to at_a at_b = equal_tests (related closed a b) (is_above world to.class.name l.class) found back
   where
     found : IsTrue (related closed a b) → IsTrue (is_above world to.class.name l.class)
-    found h = any_if (λ s. bytes_eq s.class.name to.class.name) (above world l.class) to (reached_is_above world direct is_direct a b l to at_a at_b ((reach a b).0 h)) (nat_list_eq_equiv.refl to.class.name)
+    found h = any_if (λ s. bytes_eq s.class.name to.class.name) (above world l.class) to
+        (reached_is_above world direct is_direct a b l to at_a at_b ((reach a b).0 h)) (nat_list_eq_equiv.refl to.class.name)
 
     back : IsTrue (is_above world to.class.name l.class) → IsTrue (related closed a b)
     back h =
         let one = one_of_any (λ s. bytes_eq s.class.name to.class.name) (above world l.class) h in
         let named = above_is_named world l.class one.0 one.1 in
-        let same : one.0 ≡ to = one_class (class_named world to.class.name) one.0 to (ap (class_named world) (sym (same_name one.0.class.name to.class.name one.2)) ∙ named) (number_at world to.class.name b (numbers b to at_b) ∙ at_b) in
+        let same : one.0 ≡ to = one_class (class_named world to.class.name) one.0 to
+        (ap (class_named world) (sym (same_name one.0.class.name to.class.name one.2)) ∙ named)
+        (number_at world to.class.name b (numbers b to at_b) ∙ at_b) in
         (reach a b).1 (above_is_reached world direct is_direct a b l to at_a at_b (subst (Contains (above world l.class)) same one.1))
 
 -- ---- the test for a loadable class
@@ -131,7 +138,8 @@ pub loadable_if : LoadableByAll → (world : World) (rows : Rows) → IsNumbered
 loadable_if law world rows numbers alone square size tells stand is a l at_a = (there, back)
   where
     stands_at : (k : ℕ) (s : Loaded) → slice_get world k ≡ Some s → get_or stand k false ≡ stands_itself world s
-    stands_at k s e = ap (λ bs. get_or bs k false) is ∙ (get_or-map (stands_itself world) world k s false (slice_get_within world k s e) ∙ ap (stands_itself world) (get_or_from_slice_get world k s s e))
+    stands_at k s e = ap (λ bs. get_or bs k false) is ∙ (get_or-map (stands_itself world) world k s false (slice_get_within world k s e) ∙
+        ap (stands_itself world) (get_or_from_slice_get world k s s e))
 
     there : IsTrue (is_loadable world l) → AreAllMarked rows stand a
     there h =
@@ -143,7 +151,9 @@ loadable_if law world rows numbers alone square size tells stand is a l at_a = (
               let at_to = slice_get-get_or world to l less in
               let one = one_of_any (λ m. bytes_eq m.class.name s.class.name) (above world l.class) (subst IsTrue (tells a to l s at_a at_to) t) in
               let named = above_is_named world l.class one.0 one.1 in
-              let same : one.0 ≡ s = one_class (class_named world s.class.name) one.0 s (ap (class_named world) (sym (same_name one.0.class.name s.class.name one.2)) ∙ named) (number_at world s.class.name to (numbers to s at_to) ∙ at_to) in
+              let same : one.0 ≡ s = one_class (class_named world s.class.name) one.0 s
+              (ap (class_named world) (sym (same_name one.0.class.name s.class.name one.2)) ∙ named)
+              (number_at world s.class.name to (numbers to s at_to) ∙ at_to) in
               subst IsTrue (sym (stands_at to s at_to)) (all.1 s (subst (Contains (above world l.class)) same one.1)),
         )
 

@@ -30,7 +30,8 @@ Front-nil bytes = record { is = refl; fit = refl }
 pub Front-place : (before : List Instruction) (bytes rest : List ℕ) → Front before bytes rest → length bytes ≡ size before + length rest
 Front-place before bytes rest front = ap length front.is ∙ length-append (flat_map insn_bytes before) rest
 
-pub Front-push : (before : List Instruction) (bytes rest : List ℕ) (i : Instruction) (after : List ℕ) → rest ≡ insn_bytes i ++ after → IsTrue (insn_fits (length bytes - length rest) i) → Front before bytes rest → Front (before ++ i ∷ []) bytes after
+pub Front-push : (before : List Instruction) (bytes rest : List ℕ) (i : Instruction) (after : List ℕ) → rest ≡ insn_bytes i ++ after →
+    IsTrue (insn_fits (length bytes - length rest) i) → Front before bytes rest → Front (before ++ i ∷ []) bytes after
 Front-push before bytes rest i after e h front =
     let place : length bytes - length rest ≡ 0 + size before = omega (arith, Front-place before bytes rest front) in
     let one : IsTrue (insn_fits (0 + size before) i) = rw (← place) h in
@@ -44,7 +45,15 @@ Front-push before bytes rest i after e h front =
 pub aligned : (at : ℕ) (before all : List Instruction) (rest : List ℕ) → IsTrue (all_fit at before) → IsTrue (all_fit at all) → flat_map insn_bytes before ++ rest ≡ flat_map insn_bytes all
     → (more : List Instruction) × (all ≡ before ++ more) × (rest ≡ flat_map insn_bytes more) × IsTrue (all_fit (at + size before) more)
 aligned at [] all rest p q e = (all, refl, e, subst (λ (k : ℕ). IsTrue (all_fit k all)) (omega arith) q)
-aligned at (i ∷ before) [] rest p q e = absurd (omega (arith, ap length e, some_bytes i, length-append (insn_bytes i ++ flat_map insn_bytes before) rest, length-append (insn_bytes i) (flat_map insn_bytes before)))
+aligned at (i ∷ before) [] rest p q e =
+    absurd (omega (
+      arith,
+      ap length e,
+      some_bytes i,
+      length-append (insn_bytes i ++ flat_map insn_bytes before) rest,
+      length-append (insn_bytes i)
+          (flat_map insn_bytes before),
+    ))
 aligned at (i ∷ before) (j ∷ all) rest p q e =
     let ps = and_parts _ _ p in
     let qs = and_parts _ _ q in
@@ -53,7 +62,8 @@ aligned at (i ∷ before) (j ∷ all) rest p q e =
     let place : (at + length (insn_bytes i)) + size before ≡ at + size (i ∷ before) = omega (arith, size-cons i before) in
     (next.0, ap (λ (k : Instruction). k ∷ all) (sym one.0) ∙ ap (λ (xs : List Instruction). i ∷ xs) next.1, next.2, subst (λ (k : ℕ). IsTrue (all_fit k next.0)) place next.3)
 
-pub Front-only : (before : List Instruction) (bytes rest : List ℕ) (all : List Instruction) → Front before bytes rest → IsCode bytes all → (more : List Instruction) × (all ≡ before ++ more) × (rest ≡ flat_map insn_bytes more) × IsTrue (all_fit (size before) more)
+pub Front-only : (before : List Instruction) (bytes rest : List ℕ) (all : List Instruction) → Front before bytes rest → IsCode bytes all →
+    (more : List Instruction) × (all ≡ before ++ more) × (rest ≡ flat_map insn_bytes more) × IsTrue (all_fit (size before) more)
 Front-only before bytes rest all front code =
     let a = aligned 0 before all rest front.fit code.fit (sym front.is ∙ code.spelled) in
     (a.0, a.1, a.2, subst (λ (k : ℕ). IsTrue (all_fit k a.0)) (omega arith) a.3)
@@ -62,12 +72,15 @@ pub Front-all : (before : List Instruction) (bytes rest : List ℕ) → length r
 Front-all before bytes rest e some few front =
     record { spelled = front.is ∙ ap (λ (r : List ℕ). flat_map insn_bytes before ++ r) (nil_from_length rest e) ∙ append-nil (flat_map insn_bytes before); fit = front.fit; some = some; few = few }
 
-pub none_more : (at : ℕ) (more : List Instruction) (rest : List ℕ) → 0 < length rest → ((i : Instruction) (after : List ℕ) → IsTrue (insn_fits at i) → rest ≡ insn_bytes i ++ after → ⊥) → rest ≡ flat_map insn_bytes more → IsTrue (all_fit at more) → ⊥
+pub none_more : (at : ℕ) (more : List Instruction) (rest : List ℕ) → 0 < length rest →
+    ((i : Instruction) (after : List ℕ) → IsTrue (insn_fits at i) → rest ≡ insn_bytes i ++ after → ⊥) → rest ≡ flat_map insn_bytes more →
+    IsTrue (all_fit at more) → ⊥
 none_more at [] rest lt none e fit = omega (arith, ap length e)
 none_more at (i ∷ more) rest lt none e fit = none i (flat_map insn_bytes more) (and_parts _ _ fit).0 e
 
 -- where no instruction stands at the rest, no list of instructions has the bytes
-pub Front-none : (before : List Instruction) (bytes rest : List ℕ) → 0 < length rest → ((i : Instruction) (after : List ℕ) → IsTrue (insn_fits (length bytes - length rest) i) → rest ≡ insn_bytes i ++ after → ⊥)
+pub Front-none : (before : List Instruction) (bytes rest : List ℕ) → 0 < length rest →
+    ((i : Instruction) (after : List ℕ) → IsTrue (insn_fits (length bytes - length rest) i) → rest ≡ insn_bytes i ++ after → ⊥)
     → Front before bytes rest → (all : List Instruction) → IsCode bytes all → ⊥
 Front-none before bytes rest lt none front all code =
     let place : length bytes - length rest ≡ size before = omega (arith, Front-place before bytes rest front) in

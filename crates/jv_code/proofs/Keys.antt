@@ -70,7 +70,8 @@ Searched-all pairs key count is = record {
   within = omega arith;
 }
 
-pub Searched-above : (pairs : List (ℤ × ℤ)) (key : ℤ) (low high middle : ℕ) (p : ℤ × ℤ) → IsTrue (keys_rise pairs) → slice_get pairs middle ≡ Some p → p.0 <ℤ key → Searched pairs key low high → Searched pairs key (middle + 1) high
+pub Searched-above : (pairs : List (ℤ × ℤ)) (key : ℤ) (low high middle : ℕ) (p : ℤ × ℤ) → IsTrue (keys_rise pairs) → slice_get pairs middle ≡ Some p →
+    p.0 <ℤ key → Searched pairs key low high → Searched pairs key (middle + 1) high
 Searched-above pairs key low high middle p h e less s = record {
   below = λ k q f lt. elim (cases_eq k middle) [
     | inl same ↦ let is : p ≡ q = same_pair pairs k middle p q same e f in subst (λ (r : ℤ × ℤ). r.0 <ℤ key) is less
@@ -83,7 +84,8 @@ Searched-above pairs key low high middle p h e less s = record {
     same_pair : (pairs : List (ℤ × ℤ)) (k middle : ℕ) (p q : ℤ × ℤ) → k ≡ middle → slice_get pairs middle ≡ Some p → slice_get pairs k ≡ Some q → p ≡ q
     same_pair pairs k middle p q same e f = let both : Some p ≡ Some q = sym e ∙ ap (slice_get pairs) (sym same) ∙ f in cc
 
-pub Searched-below : (pairs : List (ℤ × ℤ)) (key : ℤ) (low high middle : ℕ) (p : ℤ × ℤ) → IsTrue (keys_rise pairs) → slice_get pairs middle ≡ Some p → key <ℤ p.0 → middle < high → Searched pairs key low high → Searched pairs key low middle
+pub Searched-below : (pairs : List (ℤ × ℤ)) (key : ℤ) (low high middle : ℕ) (p : ℤ × ℤ) → IsTrue (keys_rise pairs) → slice_get pairs middle ≡ Some p →
+    key <ℤ p.0 → middle < high → Searched pairs key low high → Searched pairs key low middle
 Searched-below pairs key low high middle p h e less lt s = record {
   below = s.below;
   above = λ k q f le. elim (cases_eq k middle) [
@@ -111,7 +113,8 @@ no_less x y true e h = absurd (h (omega (arith, ints)))
 no_less x y false e h = omega (arith, ints)
 
 -- a key that is neither below nor above is the one that is looked for
-pub found_between : (pairs : List (ℤ × ℤ)) (key z : ℤ) (k : ℕ) (p : ℤ × ℤ) → z ≡ key → IsTrue (keys_rise pairs) → slice_get pairs k ≡ Some p → (p.0 <ℤ z → ⊥) → (z <ℤ p.0 → ⊥) → option_map pair_distance (slice_get pairs k) ≡ distance_for key pairs
+pub found_between : (pairs : List (ℤ × ℤ)) (key z : ℤ) (k : ℕ) (p : ℤ × ℤ) → z ≡ key → IsTrue (keys_rise pairs) → slice_get pairs k ≡ Some p →
+    (p.0 <ℤ z → ⊥) → (z <ℤ p.0 → ⊥) → option_map pair_distance (slice_get pairs k) ≡ distance_for key pairs
 found_between pairs key z k p is h e not_below not_above =
     let one = no_less p.0 z _ refl not_below in
     let two = no_less z p.0 _ refl not_above in

@@ -153,7 +153,8 @@ is_one opcode (x ∷ y ∷ bytes) h = absurd cc
 
 -- an instruction behind wide
 took_wide : {A : Type 0} (at : ℕ) (f : Format A) (to : A → Instruction) (tag opcode : ℕ) (bytes rest : List ℕ) (i : Instruction) → IsFormat f → IsBytes bytes
-    → ((a : A) → insn_bytes (to a) ≡ 196 ∷ tag ∷ f.spelling a) → ((a : A) → insn_fits at (to a) ≡ f.fits a) → eqb opcode tag ≡ true → made f to bytes ≡ Some (i, rest) → Spelled at (196 ∷ opcode ∷ bytes) rest i
+    → ((a : A) → insn_bytes (to a) ≡ 196 ∷ tag ∷ f.spelling a) → ((a : A) → insn_fits at (to a) ≡ f.fits a) → eqb opcode tag ≡ true →
+    made f to bytes ≡ Some (i, rest) → Spelled at (196 ∷ opcode ∷ bytes) rest i
 took_wide {A = A} at f to tag opcode bytes rest i F small spelled fits is e =
     let a = bind_some (f.read bytes) (found_as to) (i, rest) e in
     let one = F.takes bytes a.0.1 a.0.0 small a.1 in
@@ -161,9 +162,11 @@ took_wide {A = A} at f to tag opcode bytes rest i F small spelled fits is e =
     subst (λ (y : Instruction × List ℕ). Spelled at (196 ∷ opcode ∷ bytes) y.1 y.0) (is_some made_one (i, rest) a.2)
     (ap (λ (k : ℕ). 196 ∷ k ∷ bytes) (eqb-true opcode tag is) ∙ ap (λ (r : List ℕ). 196 ∷ tag ∷ r) one.0 ∙ ap (λ (x : List ℕ). x ++ a.0.1) (sym (spelled a.0.0)), fits a.0.0 ∙ one.1)
 
-wide_takes : (at opcode : ℕ) (s : OpcodeShape) (bytes rest : List ℕ) (i : Instruction) → IsBytes bytes → IsTrue (tells at opcode s) → wide_operands bytes s ≡ Some (i, rest) → Spelled at (196 ∷ opcode ∷ bytes) rest i
+wide_takes : (at opcode : ℕ) (s : OpcodeShape) (bytes rest : List ℕ) (i : Instruction) → IsBytes bytes → IsTrue (tells at opcode s) →
+    wide_operands bytes s ≡ Some (i, rest) → Spelled at (196 ∷ opcode ∷ bytes) rest i
 wide_takes at opcode (shape.Local u) bytes rest i small t e = took_wide at half (with_local u local.Wide) (local_opcode u) opcode bytes rest i half_is small (wide_spelled u) (wide_fits at u) t e
-wide_takes at opcode shape.Increment bytes rest i small t e = took_wide at (both half signed16) wide_increment_by 132 opcode bytes rest i (both_is half signed16 half_is signed16_is) small (λ a. refl) (λ a. refl) t e
+wide_takes at opcode shape.Increment bytes rest i small t e = took_wide at (both half signed16) wide_increment_by 132 opcode bytes rest i
+    (both_is half signed16 half_is signed16_is) small (λ a. refl) (λ a. refl) t e
 wide_takes at opcode (shape.Whole j) bytes rest i small t e = absurd cc
 wide_takes at opcode (shape.Index u) bytes rest i small t e = absurd cc
 wide_takes at opcode (shape.Branch u) bytes rest i small t e = absurd cc
@@ -186,26 +189,35 @@ wide_read_takes at (opcode ∷ bytes) rest i small e =
     let s = bind_some (shape_at opcode) (wide_operands bytes) (i, rest) e in
     wide_takes at opcode s.0 bytes rest i more (shape_tells at opcode s.0 (small 0) s.1) s.2
 
-operands_take : (at opcode : ℕ) (s : OpcodeShape) (bytes rest : List ℕ) (i : Instruction) → IsBytes bytes → IsTrue (tells at opcode s) → operands at bytes s ≡ Some (i, rest) → Spelled at (opcode ∷ bytes) rest i
+operands_take : (at opcode : ℕ) (s : OpcodeShape) (bytes rest : List ℕ) (i : Instruction) → IsBytes bytes → IsTrue (tells at opcode s) →
+    operands at bytes s ≡ Some (i, rest) → Spelled at (opcode ∷ bytes) rest i
 operands_take at opcode (shape.Whole j) bytes rest i small t e =
     let parts = and_parts _ _ t in
     let found : Instruction × List ℕ = (whole_insn j, bytes) in
     subst (λ (y : Instruction × List ℕ). Spelled at (opcode ∷ bytes) y.1 y.0) (is_some found (i, rest) e)
     (ap (λ (x : List ℕ). x ++ bytes) (sym (is_one opcode (insn_bytes (whole_insn j)) parts.0)), parts.1)
-operands_take at opcode (shape.Index u) bytes rest i small t e = took insn_bytes (insn_fits at) half (indexed u) (index_opcode u) opcode bytes rest i half_is small (index_spelled u) (index_fits at u) t e
-operands_take at opcode (shape.Local u) bytes rest i small t e = took insn_bytes (insn_fits at) byte (with_local u local.Byte) (local_opcode u) opcode bytes rest i byte_is small (local_spelled u) (local_fits at u) t e
-operands_take at opcode (shape.Branch u) bytes rest i small t e = took insn_bytes (insn_fits at) signed16 (branch_by u) (branch_opcode u) opcode bytes rest i signed16_is small (λ a. refl) (λ a. refl) t e
+operands_take at opcode (shape.Index u) bytes rest i small t e = took insn_bytes (insn_fits at) half (indexed u) (index_opcode u) opcode bytes rest i
+    half_is small (index_spelled u) (index_fits at u) t e
+operands_take at opcode (shape.Local u) bytes rest i small t e = took insn_bytes (insn_fits at) byte (with_local u local.Byte) (local_opcode u) opcode
+    bytes rest i byte_is small (local_spelled u) (local_fits at u) t e
+operands_take at opcode (shape.Branch u) bytes rest i small t e = took insn_bytes (insn_fits at) signed16 (branch_by u) (branch_opcode u) opcode bytes
+    rest i signed16_is small (λ a. refl) (λ a. refl) t e
 operands_take at opcode shape.Goto bytes rest i small t e = took insn_bytes (insn_fits at) signed16 goto_by 167 opcode bytes rest i signed16_is small (λ a. refl) (λ a. refl) t e
 operands_take at opcode shape.FarGoto bytes rest i small t e = took insn_bytes (insn_fits at) signed32 far_goto_by 200 opcode bytes rest i signed32_is small (λ a. refl) (λ a. refl) t e
 operands_take at opcode shape.ByteConstant bytes rest i small t e = took insn_bytes (insn_fits at) signed8 byte_constant 16 opcode bytes rest i signed8_is small (λ a. refl) (λ a. refl) t e
 operands_take at opcode shape.HalfConstant bytes rest i small t e = took insn_bytes (insn_fits at) signed16 half_constant 17 opcode bytes rest i signed16_is small (λ a. refl) (λ a. refl) t e
 operands_take at opcode shape.PoolByte bytes rest i small t e = took insn_bytes (insn_fits at) byte pool_byte 18 opcode bytes rest i byte_is small (λ a. refl) (λ a. refl) t e
-operands_take at opcode shape.Increment bytes rest i small t e = took insn_bytes (insn_fits at) (both byte signed8) increment_by 132 opcode bytes rest i (both_is byte signed8 byte_is signed8_is) small (λ a. refl) (λ a. refl) t e
-operands_take at opcode shape.TableSwitch bytes rest i small t e = took insn_bytes (insn_fits at) (table_switch at) table_switch_of 170 opcode bytes rest i (table_switch_is at) small (λ a. refl) (λ a. refl) t e
-operands_take at opcode shape.LookupSwitch bytes rest i small t e = took insn_bytes (insn_fits at) (lookup_switch at) lookup_switch_of 171 opcode bytes rest i (lookup_switch_is at) small (λ a. refl) (λ a. refl) t e
-operands_take at opcode shape.InvokeInterface bytes rest i small t e = took insn_bytes (insn_fits at) (both half count) invoke_interface_of 185 opcode bytes rest i (both_is half count half_is count_is) small (λ a. refl) (λ a. refl) t e
+operands_take at opcode shape.Increment bytes rest i small t e = took insn_bytes (insn_fits at) (both byte signed8) increment_by 132 opcode bytes rest
+    i (both_is byte signed8 byte_is signed8_is) small (λ a. refl) (λ a. refl) t e
+operands_take at opcode shape.TableSwitch bytes rest i small t e = took insn_bytes (insn_fits at) (table_switch at) table_switch_of 170 opcode bytes
+    rest i (table_switch_is at) small (λ a. refl) (λ a. refl) t e
+operands_take at opcode shape.LookupSwitch bytes rest i small t e = took insn_bytes (insn_fits at) (lookup_switch at) lookup_switch_of 171 opcode
+    bytes rest i (lookup_switch_is at) small (λ a. refl) (λ a. refl) t e
+operands_take at opcode shape.InvokeInterface bytes rest i small t e = took insn_bytes (insn_fits at) (both half count) invoke_interface_of 185 opcode
+    bytes rest i (both_is half count half_is count_is) small (λ a. refl) (λ a. refl) t e
 operands_take at opcode shape.NewArray bytes rest i small t e = took insn_bytes (insn_fits at) element_type new_array_of 188 opcode bytes rest i element_is small (λ a. refl) (λ a. refl) t e
-operands_take at opcode shape.NewMultiArray bytes rest i small t e = took insn_bytes (insn_fits at) (both half dimensions) new_multi_array_of 197 opcode bytes rest i (both_is half dimensions half_is dimensions_are) small (λ a. refl) (λ a. refl) t e
+operands_take at opcode shape.NewMultiArray bytes rest i small t e = took insn_bytes (insn_fits at) (both half dimensions) new_multi_array_of 197
+    opcode bytes rest i (both_is half dimensions half_is dimensions_are) small (λ a. refl) (λ a. refl) t e
 operands_take at opcode shape.Wide bytes rest i small t e = subst (λ (k : ℕ). Spelled at (k ∷ bytes) rest i) (sym (eqb-true opcode 196 t)) (wide_read_takes at bytes rest i small e)
 
 insn_takes : (at : ℕ) (bytes rest : List ℕ) (i : Instruction) → IsBytes bytes → insn_read at bytes ≡ Some (i, rest) → Spelled at bytes rest i
@@ -228,16 +240,19 @@ index_again : (at : ℕ) (u : IndexUse) (i : ℕ) (rest : List ℕ) → IsTrue (
 index_again at u i rest h = known at (index_opcode u) (shape.Index u) (half.spelling i ++ rest) (Some (indexed u i, rest)) (index_told u) (again_as half (indexed u) i rest half_is h)
 
 byte_local_again : (at : ℕ) (u : LocalUse) (n : ℕ) (rest : List ℕ) → IsTrue (byte.fits n) → insn_read at (local_opcode u ∷ (byte.spelling n ++ rest)) ≡ Some (with_local u local.Byte n, rest)
-byte_local_again at u n rest h = known at (local_opcode u) (shape.Local u) (byte.spelling n ++ rest) (Some (with_local u local.Byte n, rest)) (local_told u) (again_as byte (with_local u local.Byte) n rest byte_is h)
+byte_local_again at u n rest h = known at (local_opcode u) (shape.Local u) (byte.spelling n ++ rest) (Some (with_local u local.Byte n, rest))
+    (local_told u) (again_as byte (with_local u local.Byte) n rest byte_is h)
 
 wide_known : (at opcode : ℕ) (s : OpcodeShape) (rest : List ℕ) (y : Option (Instruction × List ℕ)) → shape_at opcode ≡ Some s → wide_operands rest s ≡ y → insn_read at (196 ∷ opcode ∷ rest) ≡ y
 wide_known at opcode s rest y is e = known at 196 shape.Wide (opcode ∷ rest) y refl (ap (λ (o : Option OpcodeShape). o >>= wide_operands rest) is ∙ e)
 
 wide_local_again : (at : ℕ) (u : LocalUse) (n : ℕ) (rest : List ℕ) → IsTrue (half.fits n) → insn_read at (196 ∷ local_opcode u ∷ (half.spelling n ++ rest)) ≡ Some (with_local u local.Wide n, rest)
-wide_local_again at u n rest h = wide_known at (local_opcode u) (shape.Local u) (half.spelling n ++ rest) (Some (with_local u local.Wide n, rest)) (local_told u) (again_as half (with_local u local.Wide) n rest half_is h)
+wide_local_again at u n rest h = wide_known at (local_opcode u) (shape.Local u) (half.spelling n ++ rest) (Some (with_local u local.Wide n, rest))
+    (local_told u) (again_as half (with_local u local.Wide) n rest half_is h)
 
 branch_again : (at : ℕ) (u : Test) (z : ℤ) (rest : List ℕ) → IsTrue (signed16.fits z) → insn_read at (branch_opcode u ∷ (signed16.spelling z ++ rest)) ≡ Some (branch_by u z, rest)
-branch_again at u z rest h = known at (branch_opcode u) (shape.Branch u) (signed16.spelling z ++ rest) (Some (branch_by u z, rest)) (branch_told u) (again_as signed16 (branch_by u) z rest signed16_is h)
+branch_again at u z rest h = known at (branch_opcode u) (shape.Branch u) (signed16.spelling z ++ rest) (Some (branch_by u z, rest)) (branch_told u)
+    (again_as signed16 (branch_by u) z rest signed16_is h)
 
 insn_again : (at : ℕ) (i : Instruction) (rest : List ℕ) → IsTrue (insn_fits at i) → insn_read at (insn_bytes i ++ rest) ≡ Some (i, rest)
 insn_again at Nop rest h = refl
@@ -270,7 +285,9 @@ insn_again at (Compute (compute.Shift kind op)) rest h = whole_again at (shift_o
 insn_again at (Compute (compute.Convert to)) rest h = whole_again at (conversion_opcode to) (whole.Compute (compute.Convert to)) rest (convert_told to)
 insn_again at (Compute compute.CompareLongs) rest h = refl
 insn_again at (Increment n z increment.Byte) rest h = again_as (both byte signed8) increment_by (n, z) rest (both_is byte signed8 byte_is signed8_is) h
-insn_again at (Increment n z increment.Wide) rest h = wide_known at 132 shape.Increment ((half.spelling n ++ signed16.spelling z) ++ rest) (Some (Increment n z increment.Wide, rest)) refl (again_as (both half signed16) wide_increment_by (n, z) rest (both_is half signed16 half_is signed16_is) h)
+insn_again at (Increment n z increment.Wide) rest h = wide_known at 132 shape.Increment ((half.spelling n ++ signed16.spelling z) ++ rest)
+    (Some (Increment n z increment.Wide, rest)) refl
+    (again_as (both half signed16) wide_increment_by (n, z) rest (both_is half signed16 half_is signed16_is) h)
 insn_again at (Branch test z) rest h = branch_again at test z rest h
 insn_again at (Goto z jump.Half) rest h = again_as signed16 goto_by z rest signed16_is h
 insn_again at (Goto z jump.Quad) rest h = again_as signed32 far_goto_by z rest signed32_is h

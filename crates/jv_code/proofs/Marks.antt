@@ -52,7 +52,8 @@ below_this bytes pc k i at other lt s =
       | inr past ↦ absurd (omega (arith, lt, other, past, StartsApart-holds bytes pc k i s.0 at s.1 (omega (arith, other, past))))
     ]
 
-pub Marked-more : (bytes : List ℕ) (table : List Bool) (pc next : ℕ) (i : Instruction) → IsAt bytes pc i → next ≡ pc + length (insn_bytes i) → IsStartOrEnd bytes next → pc < length table → Marked bytes table pc
+pub Marked-more : (bytes : List ℕ) (table : List Bool) (pc next : ℕ) (i : Instruction) → IsAt bytes pc i → next ≡ pc + length (insn_bytes i) →
+    IsStartOrEnd bytes next → pc < length table → Marked bytes table pc
     → Marked bytes (set table pc true) next
 Marked-more bytes table pc next i at is goes_on lt m = record {
   goes_on = goes_on;

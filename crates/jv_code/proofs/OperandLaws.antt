@@ -53,7 +53,8 @@ size_right opcode s lt e =
     let one = one_below 256 opcode (λ o. right_size o (shape_at o)) all lt in
     eqb-true _ _ (subst (λ (o : Option OpcodeShape). IsTrue (right_size opcode o)) e one)
 
-room : {A : Type 0} (f : Format A) (to : A → Instruction) (n : ℕ) (bytes : List ℕ) (x : Instruction × List ℕ) → IsFormat f → ((a : A) → length (f.spelling a) ≡ n) → IsBytes bytes → made f to bytes ≡ Some x → n ≤ length bytes
+room : {A : Type 0} (f : Format A) (to : A → Instruction) (n : ℕ) (bytes : List ℕ) (x : Instruction × List ℕ) → IsFormat f →
+    ((a : A) → length (f.spelling a) ≡ n) → IsBytes bytes → made f to bytes ≡ Some x → n ≤ length bytes
 room f to n bytes x F long small e =
     let a = bind_some (f.read bytes) (found_as to) x e in
     let spelled = (F.takes bytes a.0.1 a.0.0 small a.1).0 in
@@ -107,14 +108,16 @@ bytes_behind [] (suc at) small = small
 bytes_behind (x ∷ bytes) (suc at) small = bytes_behind bytes at (λ i. small (suc i))
 
 -- it stands there
-pub read_stands : {A : Type 0} (f : Format A) (bytes rest after : List ℕ) (at : ℕ) (x : A) → IsFormat f → IsBytes bytes → drop at bytes ≡ rest → f.read rest ≡ Some (x, after) → HasBytes bytes at (f.spelling x)
+pub read_stands : {A : Type 0} (f : Format A) (bytes rest after : List ℕ) (at : ℕ) (x : A) → IsFormat f → IsBytes bytes → drop at bytes ≡ rest →
+    f.read rest ≡ Some (x, after) → HasBytes bytes at (f.spelling x)
 read_stands f bytes rest after at x F small is e = (after, is ∙ (F.takes rest after x (subst IsBytes is (bytes_behind bytes at small)) e).0)
 
 pub byte_there : (bytes rest : List ℕ) (pc : ℕ) → IsStart bytes pc → drop pc bytes ≡ rest → byte.read rest ≡ None → ⊥
 byte_there bytes [] pc s is e = omega (arith, ap length is, length-drop pc bytes, has_room bytes pc s)
 byte_there bytes (x ∷ rest) pc s is e = absurd cc
 
-pub operands_there : (bytes rest after : List ℕ) (pc opcode : ℕ) → IsStart bytes pc → IsBytes bytes → drop pc bytes ≡ rest → byte.read rest ≡ Some (opcode, after) → (pc + 1) + least_operands opcode ≤ length bytes
+pub operands_there : (bytes rest after : List ℕ) (pc opcode : ℕ) → IsStart bytes pc → IsBytes bytes → drop pc bytes ≡ rest → byte.read rest ≡
+    Some (opcode, after) → (pc + 1) + least_operands opcode ≤ length bytes
 operands_there bytes rest after pc opcode s small is e =
     let front : IsBytes rest = subst IsBytes is (bytes_behind bytes pc small) in
     let spelled : rest ≡ opcode ∷ after = (byte_is.takes rest after opcode front e).0 in

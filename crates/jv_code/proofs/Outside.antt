@@ -40,10 +40,21 @@ within first last opcode few h =
     omega (arith, leb-true opcode last (and_parts (leb first opcode) (leb opcode last) h).1, leb-true last 255 few)
 
 moves_below : (opcode : ℕ) → Below opcode (moves_floats opcode)
-moves_below opcode = either _ _ (within 11 15 opcode refl) (either _ _ (within 23 24 opcode refl) (either _ _ (within 34 41 opcode refl) (either _ _ (within 48 49 opcode refl) (either _ _ (within 56 57 opcode refl) (either _ _ (within 67 74 opcode refl) (within 81 82 opcode refl))))))
+moves_below opcode = either _ _ (within 11 15 opcode refl)
+    (either _ _ (within 23 24 opcode refl)
+    (either _ _ (within 34 41 opcode refl)
+    (either _ _ (within 48 49 opcode refl)
+    (either _ _ (within 56 57 opcode refl) (either _ _ (within 67 74 opcode refl) (within 81 82 opcode refl))))))
 
 computes_below : (opcode : ℕ) → Below opcode (computes_floats opcode)
-computes_below opcode = either _ _ (within 98 99 opcode refl) (either _ _ (within 102 103 opcode refl) (either _ _ (within 106 107 opcode refl) (either _ _ (within 110 111 opcode refl) (either _ _ (within 114 115 opcode refl) (either _ _ (within 118 119 opcode refl) (either _ _ (within 134 135 opcode refl) (either _ _ (within 137 144 opcode refl) (either _ _ (within 149 152 opcode refl) (within 174 175 opcode refl)))))))))
+computes_below opcode = either _ _ (within 98 99 opcode refl)
+    (either _ _ (within 102 103 opcode refl)
+    (either _ _ (within 106 107 opcode refl)
+    (either _ _ (within 110 111 opcode refl)
+    (either _ _ (within 114 115 opcode refl)
+    (either _ _ (within 118 119 opcode refl)
+    (either _ _ (within 134 135 opcode refl)
+    (either _ _ (within 137 144 opcode refl) (either _ _ (within 149 152 opcode refl) (within 174 175 opcode refl)))))))))
 
 unsupported_below : (opcode : ℕ) → Below opcode (is_unsupported opcode)
 unsupported_below opcode =
@@ -108,7 +119,8 @@ outside at i bytes rest fits e h =
 abbrev GoesOn : ℕ → List Instruction → List Instruction → List ℕ → List ℕ → Type 0
 GoesOn at xs ys r s = (more : List Instruction) × (r ≡ flat_map insn_bytes more ++ s) × IsTrue (all_fit (at + size xs) more)
 
-two_fronts : (at : ℕ) (xs ys : List Instruction) (r s : List ℕ) → IsTrue (all_fit at xs) → IsTrue (all_fit at ys) → flat_map insn_bytes xs ++ r ≡ flat_map insn_bytes ys ++ s → GoesOn at xs ys r s ⊎ GoesOn at ys xs s r
+two_fronts : (at : ℕ) (xs ys : List Instruction) (r s : List ℕ) → IsTrue (all_fit at xs) → IsTrue (all_fit at ys) → flat_map insn_bytes xs ++ r ≡
+    flat_map insn_bytes ys ++ s → GoesOn at xs ys r s ⊎ GoesOn at ys xs s r
 two_fronts at [] ys r s p q e = inl (ys, e, subst (λ (k : ℕ). IsTrue (all_fit k ys)) (omega arith) q)
 two_fronts at (x ∷ xs) [] r s p q e = inr (x ∷ xs, sym e, subst (λ (k : ℕ). IsTrue (all_fit k (x ∷ xs))) (omega arith) p)
 two_fronts at (x ∷ xs) (y ∷ ys) r s p q e =
@@ -125,7 +137,8 @@ two_fronts at (x ∷ xs) (y ∷ ys) r s p q e =
     ]
 
 -- a list at the front ends where no instruction stands
-same_end : (at : ℕ) (more : List Instruction) (r s : List ℕ) → ((i : Instruction) (after : List ℕ) → IsTrue (insn_fits at i) → r ≡ insn_bytes i ++ after → ⊥) → r ≡ flat_map insn_bytes more ++ s → IsTrue (all_fit at more) → r ≡ s
+same_end : (at : ℕ) (more : List Instruction) (r s : List ℕ) → ((i : Instruction) (after : List ℕ) → IsTrue (insn_fits at i) → r ≡ insn_bytes i ++
+    after → ⊥) → r ≡ flat_map insn_bytes more ++ s → IsTrue (all_fit at more) → r ≡ s
 same_end at [] r s none e fit = e
 same_end at (i ∷ more) r s none e fit = absurd (none i (flat_map insn_bytes more ++ s) (and_parts _ _ fit).0 (e ∙ append_assoc (insn_bytes i) (flat_map insn_bytes more) s))
 

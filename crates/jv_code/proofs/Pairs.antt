@@ -42,7 +42,8 @@ pub no_pair_past : (bytes : List ℕ) (place : ℕ) → length bytes / 8 ≤ pla
 no_pair_past bytes place le = slice_get_past (pairs_in bytes) place (omega (arith, pairs_count bytes))
 
 -- the distances behind the default one are those of the pairs
-pub distance_behind_default : (default : ℤ) (pairs : List (ℤ × ℤ)) (place : ℕ) → place ≢ 0 → slice_get (default ∷ map pair_distance pairs) place ≡ option_map pair_distance (slice_get pairs (place - 1))
+pub distance_behind_default : (default : ℤ) (pairs : List (ℤ × ℤ)) (place : ℕ) → place ≢ 0 → slice_get (default ∷ map pair_distance pairs) place ≡
+    option_map pair_distance (slice_get pairs (place - 1))
 distance_behind_default default pairs zero h = absurd (h refl)
 distance_behind_default default pairs (suc place) h =
     let back : place ≡ suc place - 1 = omega arith in

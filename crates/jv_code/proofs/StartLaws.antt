@@ -65,7 +65,8 @@ pub record Search (before : List Instruction) (bytes rest : List ℕ) (pc : ℕ)
   pub below : StartsBelow before pc
 
 -- an instruction at pc is the first of the rest
-pub start_is_next : (before : List Instruction) (bytes rest : List ℕ) (pc : ℕ) (i : Instruction) → pc ≤ size before → Search before bytes rest pc → IsAt bytes pc i → (pc ≡ size before) × (1 ≤ length rest)
+pub start_is_next : (before : List Instruction) (bytes rest : List ℕ) (pc : ℕ) (i : Instruction) → pc ≤ size before → Search before bytes rest pc →
+    IsAt bytes pc i → (pc ≡ size before) × (1 ≤ length rest)
 start_is_next before bytes rest pc i le s at =
     let a = Front-only before bytes rest (at.before ++ i ∷ at.after) s.front at.code in
     elim (two_cuts before a.0 at.before at.after i (sym a.1)) [
@@ -76,7 +77,8 @@ start_is_next before bytes rest pc i le s at =
       )
     ]
 
-first_more : (all before more : List Instruction) (bytes rest : List ℕ) (pc : ℕ) → IsCode bytes all → pc ≡ size before → 1 ≤ length rest → all ≡ before ++ more → rest ≡ flat_map insn_bytes more → (i : Instruction) × IsAt bytes pc i
+first_more : (all before more : List Instruction) (bytes rest : List ℕ) (pc : ℕ) → IsCode bytes all → pc ≡ size before → 1 ≤ length rest → all ≡
+    before ++ more → rest ≡ flat_map insn_bytes more → (i : Instruction) × IsAt bytes pc i
 first_more all before [] bytes rest pc code place lt e is = absurd (omega (arith, ap length is, lt))
 first_more all before (i ∷ more) bytes rest pc code place lt e is = (i, record { before = before; after = more; code = rw (← e) code; place = place })
 
@@ -101,7 +103,8 @@ is_at bytes pc i j after at e fits =
     let same = one_form (insn pc) (insn_is pc) i j (flat_map insn_bytes at.after) after rest.1 fits (sym rest.0 ∙ e) in
     subst (λ (k : Instruction). IsAt bytes pc k) same.0 at
 
-pub next_is_start : (all before : List Instruction) (bytes rest : List ℕ) (pc : ℕ) → IsCode bytes all → pc ≡ size before → 1 ≤ length rest → Front before bytes rest → (i : Instruction) × IsAt bytes pc i
+pub next_is_start : (all before : List Instruction) (bytes rest : List ℕ) (pc : ℕ) → IsCode bytes all → pc ≡ size before → 1 ≤ length rest →
+    Front before bytes rest → (i : Instruction) × IsAt bytes pc i
 next_is_start all before bytes rest pc code place lt front =
     let a = Front-only before bytes rest all front code in
     first_more all before a.0 bytes rest pc code place lt a.1 a.2
@@ -110,7 +113,8 @@ pub moved : (a b : List ℕ) (pc : ℕ) (i : Instruction) → a ≡ b → IsAt b
 moved a b pc i e at = subst (λ (v : List ℕ). IsAt v pc i) (sym e) at
 
 -- where no instruction stands at the rest, none starts at pc
-pub search_fails : (before : List Instruction) (bytes rest : List ℕ) (pc : ℕ) (i : Instruction) → ((j : Instruction) (after : List ℕ) → IsTrue (insn_fits (length bytes - length rest) j) → rest ≡ insn_bytes j ++ after → ⊥)
+pub search_fails : (before : List Instruction) (bytes rest : List ℕ) (pc : ℕ) (i : Instruction) →
+    ((j : Instruction) (after : List ℕ) → IsTrue (insn_fits (length bytes - length rest) j) → rest ≡ insn_bytes j ++ after → ⊥)
     → Search before bytes rest pc → IsAt bytes pc i → ⊥
 search_fails before bytes rest pc i none s at =
     let place : length bytes - length rest ≡ size before = omega (arith, Front-place before bytes rest s.front) in
@@ -231,7 +235,8 @@ known_none bytes rest pc i at e none = let there = known_there bytes rest pc i a
 abbrev ReadThere : List ℕ → ℕ → Instruction → List ℕ → Type 0
 ReadThere bytes pc j after = IsAt bytes pc j × (drop pc bytes ≡ insn_bytes j ++ after)
 
-pub known_is : (bytes rest : List ℕ) (pc : ℕ) (i j : Instruction) (after : List ℕ) → IsAt bytes pc i → drop pc bytes ≡ rest → known_insn_read pc rest ≡ Some (j, after) → IsAt bytes pc j × (drop pc bytes ≡ insn_bytes j ++ after)
+pub known_is : (bytes rest : List ℕ) (pc : ℕ) (i j : Instruction) (after : List ℕ) → IsAt bytes pc i → drop pc bytes ≡ rest →
+    known_insn_read pc rest ≡ Some (j, after) → IsAt bytes pc j × (drop pc bytes ≡ insn_bytes j ++ after)
 known_is bytes rest pc i j after at e read =
     let first : Instruction × List ℕ = (i, flat_map insn_bytes at.after) in
     let same : first ≡ (j, after) = is_some first (j, after) (sym (known_there bytes rest pc i at e) ∙ read) in

@@ -108,7 +108,8 @@ case_again to f F x rest None back h = absurd cc
 case_again {A = A} to f F x rest (Some a) back h =
     ap (λ (o : Option (A × List ℕ)). o >>= found_as to) (F.again a rest h) ∙ ap (λ c. Some (c, rest)) (back a refl)
 
-pub case_is : {A C : Type 0} (to : A → C) (from : C → Option A) (f : Format A) → ((a : A) → IsTrue (f.fits a) → from (to a) ≡ Some a) → ((c : C) (a : A) → from c ≡ Some a → to a ≡ c) → IsFormat f → IsFormat (case_of to from f)
+pub case_is : {A C : Type 0} (to : A → C) (from : C → Option A) (f : Format A) → ((a : A) → IsTrue (f.fits a) → from (to a) ≡ Some a) →
+    ((c : C) (a : A) → from c ≡ Some a → to a ≡ c) → IsFormat f → IsFormat (case_of to from f)
 case_is {A = A} {C = C} to from f there back F = record {
   takes = λ bytes rest x fits e.
       let a = bind_some (f.read bytes) (found_as to) (x, rest) e in
@@ -173,7 +174,8 @@ abbrev pub Took : {C : Type 0} → (C → List ℕ) → (C → Bool) → ℕ →
 Took spelling fits first bytes rest c = (first ∷ bytes ≡ spelling c ++ rest) × IsTrue (fits c)
 
 pub took : {A C : Type 0} (spelling : C → List ℕ) (fits : C → Bool) (f : Format A) (to : A → C) (tag first : ℕ) (bytes rest : List ℕ) (c : C) → IsFormat f → IsBytes bytes
-    → ((a : A) → spelling (to a) ≡ tag ∷ f.spelling a) → ((a : A) → fits (to a) ≡ f.fits a) → eqb first tag ≡ true → (f.read bytes >>= found_as to) ≡ Some (c, rest) → Took spelling fits first bytes rest c
+    → ((a : A) → spelling (to a) ≡ tag ∷ f.spelling a) → ((a : A) → fits (to a) ≡ f.fits a) → eqb first tag ≡ true → (f.read bytes >>= found_as to) ≡
+    Some (c, rest) → Took spelling fits first bytes rest c
 took {A = A} {C = C} spelling fits f to tag first bytes rest c F small spelled fit is e =
     let a = bind_some (f.read bytes) (found_as to) (c, rest) e in
     let one = F.takes bytes a.0.1 a.0.0 small a.1 in
@@ -212,7 +214,8 @@ ends {A = A} f before count i bytes total lt h so_far =
     let none : with_front before (list_read f (count - i) bytes) ≡ None = rw (k, h) refl in
     sym so_far ∙ none
 
-pub after_is : {A B : Type 0} (h : Format B) (key : A → B) (g : B → Format A) → IsFormat h → ((b : B) → IsFormat (g b)) → ((b : B) (a : A) → IsTrue ((g b).fits a) → key a ≡ b) → IsFormat (after h key g)
+pub after_is : {A B : Type 0} (h : Format B) (key : A → B) (g : B → Format A) → IsFormat h → ((b : B) → IsFormat (g b)) →
+    ((b : B) (a : A) → IsTrue ((g b).fits a) → key a ≡ b) → IsFormat (after h key g)
 after_is {A = A} {B = B} h key g H each own = record {
   takes = λ bytes rest x fits e.
       let b = bind_some (h.read bytes) (then_read g) (x, rest) e in

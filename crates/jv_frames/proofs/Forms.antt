@@ -57,11 +57,13 @@ short_take tag bytes rest c lt small e =
     by_test _ _ _ _ e (λ t r. same_take tag bytes rest c t r) (λ f0 e.
     by_test _ _ _ _ e (λ t r. took_as item (same_item (tag - 64)) tag bytes rest c item_is small (same_item_own tag (ltb-false _ _ f0) (ltb-true _ _ t)) r) (λ f1 e.
     by_test _ _ _ _ e (λ t r. not_none c rest r) (λ f2 e.
-    by_test _ _ _ _ e (λ t r. took_as (both half item) same_item_extended tag bytes rest c (both_is half item half_is item_is) small (λ p h. (ap (λ (k : ℕ). k ∷ (both half item).spelling p) (sym (eqb-true _ _ t)), h)) r) (λ f3 e.
+    by_test _ _ _ _ e (λ t r. took_as (both half item) same_item_extended tag bytes rest c (both_is half item half_is item_is) small
+    (λ p h. (ap (λ (k : ℕ). k ∷ (both half item).spelling p) (sym (eqb-true _ _ t)), h)) r) (λ f3 e.
     by_test _ _ _ _ e (λ t r. took_as half (chop (251 - tag)) tag bytes rest c half_is small (chop_own tag (above tag (ltb-false _ _ f2) f3) (ltb-true _ _ t)) r) (λ f4 e.
     took_as half same_extended tag bytes rest c half_is small (λ d h. (ap (λ (k : ℕ). k ∷ half.spelling d) (omega (arith, ltb-false _ _ f4)), h)) e)))))
 
-append_own : (tag : ℕ) → 252 ≤ tag → tag < 255 → (p : ℕ × List Item) → IsTrue ((both half (so_many_items (tag - 251))).fits p) → (form_bytes (append p) ≡ tag ∷ (both half (so_many_items (tag - 251))).spelling p) × IsTrue (form_fits (append p))
+append_own : (tag : ℕ) → 252 ≤ tag → tag < 255 → (p : ℕ × List Item) → IsTrue ((both half (so_many_items (tag - 251))).fits p) →
+    (form_bytes (append p) ≡ tag ∷ (both half (so_many_items (tag - 251))).spelling p) × IsTrue (form_fits (append p))
 append_own tag le lt p h =
     let one = and_parts _ _ h in
     let two = and_parts _ _ one.1 in
@@ -74,7 +76,8 @@ counted_fits_from l h =
     let q = and_parts (eqb (length l) (length l)) (list_all item_fits l) p.1 in
     and_from (half.fits (length l)) (list_all item_fits l) p.0 q.1
 
-full_own : (tag : ℕ) → tag ≡ 255 → (p : ℕ × (List Item × List Item)) → IsTrue ((both half (both counted_items counted_items)).fits p) → (form_bytes (full p) ≡ tag ∷ (both half (both counted_items counted_items)).spelling p) × IsTrue (form_fits (full p))
+full_own : (tag : ℕ) → tag ≡ 255 → (p : ℕ × (List Item × List Item)) → IsTrue ((both half (both counted_items counted_items)).fits p) →
+    (form_bytes (full p) ≡ tag ∷ (both half (both counted_items counted_items)).spelling p) × IsTrue (form_fits (full p))
 full_own tag is p h =
     let one = and_parts _ _ h in
     let two = and_parts _ _ one.1 in
@@ -83,8 +86,12 @@ full_own tag is p h =
 form_take : (tag : ℕ) (bytes rest : List ℕ) (c : MapForm) → tag < 256 → IsBytes bytes → form_contents tag bytes ≡ Some (c, rest) → Took form_bytes form_fits tag bytes rest c
 form_take tag bytes rest c lt small e =
     by_test _ _ _ _ e (λ t r. short_take tag bytes rest c (ltb-true _ _ t) small r) (λ f0 e.
-    by_test _ _ _ _ e (λ t r. took_as (both half (so_many_items (tag - 251))) append tag bytes rest c (both_is half (so_many_items (tag - 251)) half_is (items_are (tag - 251))) small (append_own tag (ltb-false _ _ f0) (ltb-true _ _ t)) r) (λ f1 e.
-    took_as (both half (both counted_items counted_items)) full tag bytes rest c (both_is half (both counted_items counted_items) half_is (both_is counted_items counted_items counted_is counted_is)) small (full_own tag (omega (arith, ltb-false _ _ f1))) e))
+    by_test _ _ _ _ e (λ t r. took_as (both half (so_many_items (tag - 251))) append tag bytes rest c
+    (both_is half (so_many_items (tag - 251)) half_is (items_are (tag - 251))) small (append_own tag (ltb-false _ _ f0) (ltb-true _ _ t)) r)
+    (λ f1 e.
+    took_as (both half (both counted_items counted_items)) full tag bytes rest c
+    (both_is half (both counted_items counted_items) half_is (both_is counted_items counted_items counted_is counted_is)) small
+    (full_own tag (omega (arith, ltb-false _ _ f1))) e))
 
 form_takes : (bytes rest : List ℕ) (c : MapForm) → IsBytes bytes → form_read bytes ≡ Some (c, rest) → (bytes ≡ form_bytes c ++ rest) × IsTrue (form_fits c)
 form_takes [] rest c small e = absurd cc
@@ -129,7 +136,8 @@ chop_again n d rest one three h =
     stop _ _ _ _ (lt-ltb (251 - n) 251 (omega arith))
     (ap (λ (k : ℕ). half.read (half.spelling d ++ rest) >>= found_as (chop k)) (omega arith) ∙ again_as half (chop n) d rest half_is h))))))
 
-append_again : (d : ℕ) (l : List Item) (rest : List ℕ) → IsTrue (form_fits (Append d l)) → form_contents (251 + length l) ((half.spelling d ++ (so_many_items (length l)).spelling l) ++ rest) ≡ found (Append d l) rest
+append_again : (d : ℕ) (l : List Item) (rest : List ℕ) → IsTrue (form_fits (Append d l)) → form_contents (251 + length l)
+    ((half.spelling d ++ (so_many_items (length l)).spelling l) ++ rest) ≡ found (Append d l) rest
 append_again d l rest h =
     let one = and_parts _ _ h in
     let few = and_parts _ _ one.0 in
@@ -140,18 +148,22 @@ append_again d l rest h =
     skip _ _ _ _ (le-ltb (251 + length l) 252 (omega arith)) (
     stop _ _ _ _ (lt-ltb (251 + length l) 255 (omega arith))
     (ap (λ (k : ℕ). (both half (so_many_items k)).read bytes >>= found_as append) (omega arith)
-    ∙ again_as (both half (so_many_items (length l))) append (d, l) rest (both_is half (so_many_items (length l)) half_is (items_are (length l))) (and_from _ _ two.0 (and_from _ _ (eq-eqb (length l) (length l) refl) two.1))))
+    ∙ again_as (both half (so_many_items (length l))) append (d, l) rest (both_is half (so_many_items (length l)) half_is (items_are (length l)))
+    (and_from _ _ two.0 (and_from _ _ (eq-eqb (length l) (length l) refl) two.1))))
 
 counted_fits_as : (l : List Item) → IsTrue (counted_fits l) → IsTrue (counted_items.fits l)
 counted_fits_as l h =
     let p = and_parts (half.fits (length l)) (list_all item_fits l) h in
     and_from (half.fits (length l)) ((so_many_items (length l)).fits l) p.0 (and_from _ _ (eq-eqb (length l) (length l) refl) p.1)
 
-full_again : (d : ℕ) (l s : List Item) (rest : List ℕ) → IsTrue (form_fits (Full d l s)) → form_contents 255 ((both half (both counted_items counted_items)).spelling (d, (l, s)) ++ rest) ≡ found (Full d l s) rest
+full_again : (d : ℕ) (l s : List Item) (rest : List ℕ) → IsTrue (form_fits (Full d l s)) → form_contents 255
+    ((both half (both counted_items counted_items)).spelling (d, (l, s)) ++ rest) ≡ found (Full d l s) rest
 full_again d l s rest h =
     let one = and_parts _ _ h in
     let two = and_parts _ _ one.1 in
-    again_as (both half (both counted_items counted_items)) full (d, (l, s)) rest (both_is half (both counted_items counted_items) half_is (both_is counted_items counted_items counted_is counted_is)) (and_from _ _ one.0 (and_from _ _ (counted_fits_as l two.0) (counted_fits_as s two.1)))
+    again_as (both half (both counted_items counted_items)) full (d, (l, s)) rest
+    (both_is half (both counted_items counted_items) half_is (both_is counted_items counted_items counted_is counted_is))
+    (and_from _ _ one.0 (and_from _ _ (counted_fits_as l two.0) (counted_fits_as s two.1)))
 
 form_again : (c : MapForm) (rest : List ℕ) → IsTrue (form_fits c) → form_read (form_bytes c ++ rest) ≡ Some (c, rest)
 form_again (Same d) rest h = same_again d rest (ltb-true _ _ h)

@@ -13,7 +13,8 @@ abbrev found : Item → List ℕ → Option (Item × List ℕ)
 found i bytes = Some (i, bytes)
 
 -- an item that is a tag alone
-tag_alone : (i : Item) (tag first : ℕ) (bytes rest : List ℕ) (c : Item) → item_bytes i ≡ tag ∷ [] → IsTrue (item_fits i) → eqb first tag ≡ true → found i bytes ≡ Some (c, rest) → Took item_bytes item_fits first bytes rest c
+tag_alone : (i : Item) (tag first : ℕ) (bytes rest : List ℕ) (c : Item) → item_bytes i ≡ tag ∷ [] → IsTrue (item_fits i) → eqb first tag ≡ true →
+    found i bytes ≡ Some (c, rest) → Took item_bytes item_fits first bytes rest c
 tag_alone i tag first bytes rest c spelled fits is e =
     subst (λ (y : Item × List ℕ). Took item_bytes item_fits first bytes y.1 y.0) (is_some (i, bytes) (c, rest) e)
     (ap (λ (k : ℕ). k ∷ bytes) (eqb-true first tag is) ∙ ap (λ (x : List ℕ). x ++ bytes) (sym spelled), fits)

@@ -55,7 +55,8 @@ initial_known pool widths (suc n) le =
     let lt : n < length widths = omega arith in
     all_cons (IsKnown pool widths) (entries.Initial n) (initial_down n) lt (initial_known pool widths n (omega arith))
 
-laid_known : (pool : List Entry) (widths : List Width) (below : List FrameEntry) (list : List Item) (out : List FrameEntry) → AreKnown pool widths below → laid (entry_of pool) below list ≡ Some out → AreKnown pool widths out
+laid_known : (pool : List Entry) (widths : List Width) (below : List FrameEntry) (list : List Item) (out : List FrameEntry) →
+    AreKnown pool widths below → laid (entry_of pool) below list ≡ Some out → AreKnown pool widths out
 laid_known pool widths below [] out h is = subst (λ (l : List FrameEntry). All (IsKnown pool widths) l) (is_some below out is) h
 laid_known pool widths below (i ∷ more) out h is =
     let e = bind_some (entry_of pool i) (λ e. laid (entry_of pool) (e ∷ below) more) out is in
@@ -69,7 +70,8 @@ chopped_known pool widths (suc n) (e ∷ list) out h is = chopped_known pool wid
 same_known : (pool : List Entry) (widths : List Width) (list out : List FrameEntry) → AreKnown pool widths list → Some list ≡ Some out → AreKnown pool widths out
 same_known pool widths list out h is = subst (λ (l : List FrameEntry). All (IsKnown pool widths) l) (is_some list out is) h
 
-locals_known : (pool : List Entry) (widths : List Width) (before : List FrameEntry) (form : MapForm) (out : List FrameEntry) → AreKnown pool widths before → locals_behind (entry_of pool) before form ≡ Some out → AreKnown pool widths out
+locals_known : (pool : List Entry) (widths : List Width) (before : List FrameEntry) (form : MapForm) (out : List FrameEntry) →
+    AreKnown pool widths before → locals_behind (entry_of pool) before form ≡ Some out → AreKnown pool widths out
 locals_known pool widths before (Same delta) out h is = same_known pool widths before out h is
 locals_known pool widths before (SameItem delta item) out h is = same_known pool widths before out h is
 locals_known pool widths before (SameItemExtended delta item) out h is = same_known pool widths before out h is

@@ -97,7 +97,8 @@ read_of widths f = record { offset = f.offset; locals = f.locals; local_words = 
 abbrev pub grown : List Width → List ReadFrame → MapFrame FrameEntry → Built
 grown widths frames f = table_of widths (frames ++ read_of widths f ∷ []) (f.offset + 1) f.locals []
 
-done_by : (limits : Limits) (delta : ℕ) (widths : List Width) (frames : List ReadFrame) (base : ℕ) (locals stack : List FrameEntry) (b : Bool) → fits_in limits widths (map_frame (base + delta) locals stack) ≡ b
+done_by : (limits : Limits) (delta : ℕ) (widths : List Width) (frames : List ReadFrame) (base : ℕ) (locals stack : List FrameEntry) (b : Bool) →
+    fits_in limits widths (map_frame (base + delta) locals stack) ≡ b
     → finished limits delta (table_of widths frames base locals stack) ≡ option_map (grown widths frames) (frame_if (fits_in limits widths) (map_frame (base + delta) locals stack))
 done_by limits delta widths frames base locals stack true e = rw e refl
 done_by limits delta widths frames base locals stack false e = rw e refl
@@ -188,9 +189,27 @@ form_keeps pool b (Full delta list stack) t is =
     let a = bind_some (laid_items pool b list) (stack_laid pool stack) t is in
     items_keep pool (settled a.0) stack t a.2 ∙ items_keep pool b list a.0 a.1
 
-finish_by : (limits : Limits) (delta : ℕ) (b t : Built) (c : Bool) → (if c then Some (record { widths = b.widths; frames = b.frames ++ record { offset = b.base + delta; locals = b.locals; local_words = words_in b.widths b.locals; stack = b.pile } ∷ []; base = b.base + delta + 1; locals = b.locals; pile = [] }) else None) ≡ Some t
+finish_by : (limits : Limits) (delta : ℕ) (b t : Built) (c : Bool) →
+    (if c then Some (record {
+      widths = b.widths;
+      frames = b.frames ++ record {
+        offset = b.base + delta;
+        locals = b.locals;
+        local_words =
+            words_in b.widths b.locals;
+        stack = b.pile;
+      } ∷ [];
+      base = b.base + delta + 1;
+      locals = b.locals;
+      pile = [];
+    }) else None) ≡ Some t
     → length t.frames ≡ length b.frames + 1
-finish_by limits delta b t true is = ap (λ (t : Built). length t.frames) (sym (is_some _ t is)) ∙ omega (arith, length-append b.frames (record { offset = b.base + delta; locals = b.locals; local_words = words_in b.widths b.locals; stack = b.pile } ∷ []))
+finish_by limits delta b t true is = ap (λ (t : Built). length t.frames) (sym (is_some _ t is)) ∙
+    omega (
+      arith,
+      length-append b.frames
+          (record { offset = b.base + delta; locals = b.locals; local_words = words_in b.widths b.locals; stack = b.pile } ∷ []),
+    )
 finish_by limits delta b t false is = absurd cc
 
 pub done_counts : (pool : List Entry) (limits : Limits) (b t : Built) (form : MapForm) → form_done pool limits b form ≡ Some t → length t.frames ≡ length b.frames + 1

@@ -25,7 +25,8 @@ use Rattle.jv_frames.proofs.Made.{read_of, frames_in, joined_to, all_as}
 
 -- ---- one frame list
 
-the_table : (pool : List Entry) (limits : Limits) (initial : List FrameType) (bytes : List ℕ) (frames : List PlacedFrame) → (h : Maps pool limits initial bytes frames) → whole_table bytes ≡ Some h.forms
+the_table : (pool : List Entry) (limits : Limits) (initial : List FrameType) (bytes : List ℕ) (frames : List PlacedFrame) →
+    (h : Maps pool limits initial bytes frames) → whole_table bytes ≡ Some h.forms
 the_table pool limits initial bytes frames h = table_again bytes h.forms (record { spelled = h.spelled; counted = h.counted; fit = h.fit })
 
 pub OneMaps-holds : OneMaps
@@ -73,7 +74,8 @@ record Read (pool : List Entry) (limits : Limits) (widths : List Width) (bytes :
   made : entry_frames pool limits widths forms ≡ Some entries
   kept : frames ≡ map (read_of widths) entries
 
-has_read : (pool : List Entry) (limits : Limits) (widths : List Width) (bytes : List ℕ) (b : Built) → IsBytes bytes → table_read pool limits (started widths) bytes ≡ Some b → Read pool limits widths bytes b.frames
+has_read : (pool : List Entry) (limits : Limits) (widths : List Width) (bytes : List ℕ) (b : Built) → IsBytes bytes → table_read pool limits
+    (started widths) bytes ≡ Some b → Read pool limits widths bytes b.frames
 has_read pool limits widths bytes b small e =
     let a = bind_some (whole_table bytes) (all_steps (form_done pool limits) (started widths)) b (sym (read_as pool limits (started widths) bytes) ∙ e) in
     let all = all_as pool limits widths [] 0 (initial_down (length widths)) a.0 in
@@ -92,7 +94,8 @@ placed_frames : (pool : List Entry) (types : List FrameType) (max_locals : ℕ) 
 placed_frames pool types max_locals widths [] = refl
 placed_frames pool types max_locals widths (f ∷ fs) = ap (λ (l : List PlacedFrame). placed_frame max_locals (mapped (entry_type pool types) f) ∷ l) (placed_frames pool types max_locals widths fs)
 
-pub maps_read : (pool : List Entry) (limits : Limits) (widths : List Width) (types : List FrameType) (bytes : List ℕ) (b : Built) → TypesAgree → NameClasses pool → IsBytes bytes → HaveWidths types widths
+pub maps_read : (pool : List Entry) (limits : Limits) (widths : List Width) (types : List FrameType) (bytes : List ℕ) (b : Built) → TypesAgree →
+    NameClasses pool → IsBytes bytes → HaveWidths types widths
     → table_read pool limits (started widths) bytes ≡ Some b → Maps pool limits types bytes (frames_placed pool types limits.max_locals b.frames)
 maps_read pool limits widths types bytes b law names small h e =
     let r = has_read pool limits widths bytes b small e in
@@ -106,13 +109,15 @@ maps_read pool limits widths types bytes b law names small h e =
       expand = ap (frames_placed pool types limits.max_locals) r.kept ∙ placed_frames pool types limits.max_locals widths r.entries;
     }
 
-pub words_read : (pool : List Entry) (limits : Limits) (widths : List Width) (bytes : List ℕ) (b : Built) → IsBytes bytes → table_read pool limits (started widths) bytes ≡ Some b → All (HasItsWords widths) b.frames
+pub words_read : (pool : List Entry) (limits : Limits) (widths : List Width) (bytes : List ℕ) (b : Built) → IsBytes bytes → table_read pool limits
+    (started widths) bytes ≡ Some b → All (HasItsWords widths) b.frames
 words_read pool limits widths bytes b small e =
     let r = has_read pool limits widths bytes b small e in
     let all : All (HasItsWords widths) (map (read_of widths) r.entries) = All-map (HasItsWords widths) (read_of widths) r.entries (λ k d lt. refl) in
     rw r.kept all
 
-pub known_read : (pool : List Entry) (limits : Limits) (widths : List Width) (bytes : List ℕ) (b : Built) → IsBytes bytes → table_read pool limits (started widths) bytes ≡ Some b → All (HoldsKnown pool widths) b.frames
+pub known_read : (pool : List Entry) (limits : Limits) (widths : List Width) (bytes : List ℕ) (b : Built) → IsBytes bytes → table_read pool limits
+    (started widths) bytes ≡ Some b → All (HoldsKnown pool widths) b.frames
 known_read pool limits widths bytes b small e =
     let r = has_read pool limits widths bytes b small e in
     let known = frames_known pool widths (fits_in limits widths) 0 (initial_down (length widths)) r.forms r.entries (initial_known pool widths (length widths) (omega arith)) r.made in

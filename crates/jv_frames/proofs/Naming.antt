@@ -10,7 +10,8 @@ use Rattle.jv_frames.specs.Bytes.{MapForm}
 use Rattle.jv_frames.specs.Frames.{MapFrame, map_frame, laid, chopped, locals_behind, stack_in, delta_of, frame_behind, frame_if, frames_behind}
 
 -- a step from what stands for a value
-pub named_bind : {A B C D : Type 0} (f : A → B) (g : C → D) (o : Option A) (F : B → Option D) (G : A → Option C) → ((a : A) → F (f a) ≡ option_map g (G a)) → (option_map f o >>= F) ≡ option_map g (o >>= G)
+pub named_bind : {A B C D : Type 0} (f : A → B) (g : C → D) (o : Option A) (F : B → Option D) (G : A → Option C) →
+    ((a : A) → F (f a) ≡ option_map g (G a)) → (option_map f o >>= F) ≡ option_map g (o >>= G)
 named_bind f g None F G h = refl
 named_bind f g (Some a) F G h = h a
 

@@ -43,7 +43,8 @@ below_new from (first ∷ far) node h =
 with_kept : (far : List FarNode) (node : FarNode) (number : ℕ) (packed : PackedNode) → number < node.number → node_with (far ++ node ∷ []) number packed ≡ node_with far number packed
 with_kept far node number packed lt = rw (below_kept far node number lt) refl
 
-nodes_kept : (far : List FarNode) (node : FarNode) (number : ℕ) (nodes : List PackedNode) → number + length nodes ≤ node.number → nodes_from (far ++ node ∷ []) number nodes ≡ nodes_from far number nodes
+nodes_kept : (far : List FarNode) (node : FarNode) (number : ℕ) (nodes : List PackedNode) → number + length nodes ≤ node.number →
+    nodes_from (far ++ node ∷ []) number nodes ≡ nodes_from far number nodes
 nodes_kept far node number [] le = refl
 nodes_kept far node number (first ∷ nodes) le =
     let one : node_with (far ++ node ∷ []) number first ≡ node_with far number first = with_kept far node number first (omega arith) in
@@ -64,7 +65,8 @@ pub as_many : (far : List FarNode) (number : ℕ) (nodes : List PackedNode) → 
 as_many far number [] = refl
 as_many far number (first ∷ nodes) = omega (arith, as_many far (number + 1) nodes)
 
-node_there : (far : List FarNode) (number : ℕ) (nodes : List PackedNode) (i : ℕ) (d : Node) (p : PackedNode) → i < length nodes → get_or (nodes_from far number nodes) i d ≡ node_with far (number + i) (get_or nodes i p)
+node_there : (far : List FarNode) (number : ℕ) (nodes : List PackedNode) (i : ℕ) (d : Node) (p : PackedNode) → i < length nodes →
+    get_or (nodes_from far number nodes) i d ≡ node_with far (number + i) (get_or nodes i p)
 node_there far number [] i d p lt = absurd (omega arith)
 node_there far number (first ∷ nodes) zero d p lt = ap (λ (n : ℕ). node_with far n first) (omega arith)
 node_there far number (first ∷ nodes) (suc i) d p lt =
@@ -87,7 +89,8 @@ none_at (first ∷ far) number h = further first far number (h 0 first (omega ar
 pub record IsBelow (far : List FarNode) (number : ℕ) (r : Result ℕ ℕ) : Type 0 where
   pub found : MatchResult r (λ at. (d : FarNode) → below_in far number ≡ (get_or far at d).below) (λ at. below_in far number ≡ 0)
 
-pub below_found : (base : ℕ) (far : List FarNode) (number : ℕ) → RiseBy number_of 0 far base → (r : Result ℕ ℕ) → IsSearchInRange r (length far) → IsBinarySearchResult (λ f. nat_cmp f.number number) far r
+pub below_found : (base : ℕ) (far : List FarNode) (number : ℕ) → RiseBy number_of 0 far base → (r : Result ℕ ℕ) → IsSearchInRange r (length far) →
+    IsBinarySearchResult (λ f. nat_cmp f.number number) far r
     → IsBelow far number r
 below_found base far number h (Ok at) lt equal =
     let all = sought number_of base far number h (Ok at) lt equal in record {
@@ -117,11 +120,13 @@ one_more far nodes before cs entry below is laid view lt rising = record {
   chains = ap chains_of is ∙ push_on ([] ∷ []) before (made entry below) ∙ ap (λ (l : List (List FrameEntry)). l ++ chain_more l (made entry below) ∷ []) view;
 }
 
-node_is : (far : List FarNode) (number : ℕ) (packed : PackedNode) (entry : FrameEntry) (below : ℕ) → entry_with (packed.head / 4096) packed.operand ≡ entry → below_by far number (packed.head % 4096) ≡ below
+node_is : (far : List FarNode) (number : ℕ) (packed : PackedNode) (entry : FrameEntry) (below : ℕ) → entry_with (packed.head / 4096) packed.operand ≡
+    entry → below_by far number (packed.head % 4096) ≡ below
     → node_with far number packed ≡ made entry below
 node_is far number packed entry below entry_is below_is = ap (λ (e : FrameEntry). made e (below_by far number (packed.head % 4096))) entry_is ∙ ap (made entry) below_is
 
-near_more : (far : List FarNode) (nodes : List PackedNode) (packed : PackedNode) (cs : List (List FrameEntry)) (entry : FrameEntry) (below : ℕ) → ArePacked far nodes → chains_of (nodes_in far nodes) ≡ cs
+near_more : (far : List FarNode) (nodes : List PackedNode) (packed : PackedNode) (cs : List (List FrameEntry)) (entry : FrameEntry) (below : ℕ) →
+    ArePacked far nodes → chains_of (nodes_in far nodes) ≡ cs
     → below < length cs → entry_with (packed.head / 4096) packed.operand ≡ entry → below_by far (length cs) (packed.head % 4096) ≡ below → IsPushed far (nodes ++ packed ∷ []) cs entry below
 near_more far nodes packed cs entry below h view lt entry_is below_is =
     let count : length cs ≡ 1 + length nodes = count_is far nodes cs view in
@@ -132,14 +137,16 @@ near_more far nodes packed cs entry below h view lt entry_is below_is =
     h.laid view (omega (arith, lt, count, as_many far 1 nodes))
     (rise_up number_of 0 (length nodes + 1) (length (nodes ++ packed ∷ []) + 1) far h.rising (omega (arith, longer)))
 
-pub pushed_near : (far : List FarNode) (nodes all_nodes : List PackedNode) (packed : PackedNode) (cs : List (List FrameEntry)) (entry : FrameEntry) (number below distance : ℕ) → ArePacked far nodes → chains_of (nodes_in far nodes) ≡ cs
+pub pushed_near : (far : List FarNode) (nodes all_nodes : List PackedNode) (packed : PackedNode) (cs : List (List FrameEntry)) (entry : FrameEntry)
+    (number below distance : ℕ) → ArePacked far nodes → chains_of (nodes_in far nodes) ≡ cs
     → below < length cs → number ≡ length cs → below_by far number distance ≡ below → entry_with (packed.head / 4096) packed.operand ≡ entry → packed.head % 4096 ≡ distance
     → all_nodes ≡ nodes ++ packed ∷ [] → IsPushed far all_nodes cs entry below
 pushed_near far nodes all_nodes packed cs entry number below distance h view lt number_is below_is entry_is distance_is is =
     let here : below_by far (length cs) (packed.head % 4096) ≡ below = ap (below_by far (length cs)) distance_is ∙ ap (λ (n : ℕ). below_by far n distance) (sym number_is) ∙ below_is in
     subst (λ (l : List PackedNode). IsPushed far l cs entry below) (sym is) (near_more far nodes packed cs entry below h view lt entry_is here)
 
-far_more : (far : List FarNode) (nodes : List PackedNode) (node : FarNode) (packed : PackedNode) (cs : List (List FrameEntry)) (entry : FrameEntry) → ArePacked far nodes → chains_of (nodes_in far nodes) ≡ cs
+far_more : (far : List FarNode) (nodes : List PackedNode) (node : FarNode) (packed : PackedNode) (cs : List (List FrameEntry)) (entry : FrameEntry) →
+    ArePacked far nodes → chains_of (nodes_in far nodes) ≡ cs
     → node.number ≡ length cs → node.below < node.number → entry_with (packed.head / 4096) packed.operand ≡ entry → packed.head % 4096 ≡ 0
     → IsPushed (far ++ node ∷ []) (nodes ++ packed ∷ []) cs entry node.below
 far_more far nodes node packed cs entry h view number lt entry_is distance =
@@ -156,7 +163,8 @@ far_more far nodes node packed cs entry h view number lt entry_is distance =
     h.laid view (omega (arith, lt, number, count, as_many far 1 nodes))
     (rise_up number_of 0 (node.number + 1) (length (nodes ++ packed ∷ []) + 1) all (rise_more number_of 0 node.number far node rising (omega arith)) (omega (arith, longer, number, count)))
 
-pub pushed_far : (far reserved all_far : List FarNode) (nodes all_nodes : List PackedNode) (node : FarNode) (packed : PackedNode) (cs : List (List FrameEntry)) (entry : FrameEntry) → ArePacked far nodes
+pub pushed_far : (far reserved all_far : List FarNode) (nodes all_nodes : List PackedNode) (node : FarNode) (packed : PackedNode)
+    (cs : List (List FrameEntry)) (entry : FrameEntry) → ArePacked far nodes
     → chains_of (nodes_in far nodes) ≡ cs → node.number ≡ length cs → node.below < node.number → entry_with (packed.head / 4096) packed.operand ≡ entry → packed.head % 4096 ≡ 0
     → reserved ≡ far → all_far ≡ reserved ++ node ∷ [] → all_nodes ≡ nodes ++ packed ∷ [] → IsPushed all_far all_nodes cs entry node.below
 pushed_far far reserved all_far nodes all_nodes node packed cs entry h view number lt entry_is distance reserved_is far_is is =
@@ -165,7 +173,8 @@ pushed_far far reserved all_far nodes all_nodes node packed cs entry h view numb
 
 -- ---- what the node with a number is
 
-at_number : (far : List FarNode) (nodes : List PackedNode) (all : List (List FrameEntry)) (top : ℕ) (packed : PackedNode) → ArePacked far nodes → chains_of (nodes_in far nodes) ≡ all → 1 ≤ top → top - 1 < length nodes
+at_number : (far : List FarNode) (nodes : List PackedNode) (all : List (List FrameEntry)) (top : ℕ) (packed : PackedNode) → ArePacked far nodes →
+    chains_of (nodes_in far nodes) ≡ all → 1 ≤ top → top - 1 < length nodes
     → packed ≡ get_or nodes (top - 1) packed → StandsOn all top (node_with far top packed)
 at_number far nodes all top packed h view low lt is =
     let number : 1 + (top - 1) ≡ top = omega arith in

@@ -48,7 +48,8 @@ pile_kept widths cs c p h = record {
   few = omega (arith, h.few, length-append cs (c ∷ []));
 }
 
-pile_more : (widths : List Width) (cs : Chains) (e : FrameEntry) (p : Pile) → IsPile widths cs p → IsPile widths (cs ++ (e ∷ chain cs p.top) ∷ []) (record { top = length cs; words = p.words + entry_words widths e })
+pile_more : (widths : List Width) (cs : Chains) (e : FrameEntry) (p : Pile) → IsPile widths cs p → IsPile widths (cs ++ (e ∷ chain cs p.top) ∷ [])
+    (record { top = length cs; words = p.words + entry_words widths e })
 pile_more widths cs e p h = record {
   there = omega (arith, length-append cs ((e ∷ chain cs p.top) ∷ []));
   counted = omega (arith, h.counted, sum_by-cons (entry_words widths) e (chain cs p.top)) ∙ ap (words_in widths) (sym (chain_new cs (e ∷ chain cs p.top)));
@@ -107,7 +108,8 @@ pub built_shared : (widths : List Width) (cs : Chains) (frames : List KeptFrame)
 built_shared widths cs frames base locals pile top e is = ap (λ (p : List FrameEntry). with_pile p (built widths cs frames base locals pile)) is
 
 -- the locals take the words of others
-pub holds_chopped : (widths : List Width) (cs : Chains) (frames : List KeptFrame) (base : ℕ) (locals pile other : Pile) → Holds widths cs frames base locals pile → IsPile widths cs other → Holds widths cs frames base other pile
+pub holds_chopped : (widths : List Width) (cs : Chains) (frames : List KeptFrame) (base : ℕ) (locals pile other : Pile) → Holds widths cs frames base
+    locals pile → IsPile widths cs other → Holds widths cs frames base other pile
 holds_chopped widths cs frames base locals pile other h new = record { bottom = h.bottom; kept = h.kept; rising = h.rising; low = h.low; settled = new; laid = h.laid }
 
 abbrev pub none : Pile
@@ -131,7 +133,8 @@ built_settled widths cs frames base locals pile h = ap (λ (p : List FrameEntry)
 abbrev pub kept_frame : ℕ → Pile → Pile → KeptFrame
 kept_frame offset locals pile = record { offset = offset; locals = locals.top; stack = pile.top; local_words = locals.words }
 
-pub holds_joined : (widths : List Width) (cs : Chains) (frames : List KeptFrame) (base : ℕ) (locals pile : Pile) (offset : ℕ) → Holds widths cs frames base locals pile → base ≤ offset → offset ≤ base + 65535
+pub holds_joined : (widths : List Width) (cs : Chains) (frames : List KeptFrame) (base : ℕ) (locals pile : Pile) (offset : ℕ) →
+    Holds widths cs frames base locals pile → base ≤ offset → offset ≤ base + 65535
     → Holds widths cs (frames ++ kept_frame offset locals pile ∷ []) (offset + 1) locals none
 holds_joined widths cs frames base locals pile offset h low high = record {
   bottom = h.bottom;

@@ -21,7 +21,8 @@ offset_at cs [] i d lt = absurd (omega arith)
 offset_at cs (f ∷ fs) zero d lt = refl
 offset_at cs (f ∷ fs) (suc i) d lt = offset_at cs fs i d (omega arith)
 
-pub locals_at : (cs : List (List FrameEntry)) (fs : List KeptFrame) (i : ℕ) (d : KeptFrame) → i < length fs → option_map locals_in (slice_get (map (frame_in cs) fs) i) ≡ Some (chain cs (get_or fs i d).locals)
+pub locals_at : (cs : List (List FrameEntry)) (fs : List KeptFrame) (i : ℕ) (d : KeptFrame) → i < length fs → option_map locals_in
+    (slice_get (map (frame_in cs) fs) i) ≡ Some (chain cs (get_or fs i d).locals)
 locals_at cs [] i d lt = absurd (omega arith)
 locals_at cs (f ∷ fs) zero d lt = refl
 locals_at cs (f ∷ fs) (suc i) d lt = locals_at cs fs i d (omega arith)

@@ -107,7 +107,13 @@ entry_width pool initial widths h (entries.Initial place) = place_width initial 
 words_typed : (pool : List Entry) (initial : List FrameType) (widths : List Width) → HaveWidths initial widths → (es : List FrameEntry) → words (map (entry_type pool initial) es) ≡ words_in widths es
 words_typed pool initial widths h [] = refl
 words_typed pool initial widths h (e ∷ es) =
-    omega (arith, sum_by-cons width (entry_type pool initial e) (map (entry_type pool initial) es), sum_by-cons (entry_words widths) e es, entry_width pool initial widths h e, words_typed pool initial widths h es)
+    omega (
+      arith,
+      sum_by-cons width (entry_type pool initial e) (map (entry_type pool initial) es),
+      sum_by-cons (entry_words widths) e es,
+      entry_width pool initial widths h e,
+      words_typed pool initial widths h es,
+    )
 
 -- a frame of entries is within the limits
 abbrev pub fits_in : Limits → List Width → MapFrame FrameEntry → Bool

@@ -85,7 +85,8 @@ last_start ss rest ws p e f =
     ∙ fill_grows rest (take p ws) (drop p ws) p front.0 (omega (arith, front.1, length-take p ws))) in
     omega (arith, ap greatest whole, greatest-append (cut rest (take p ws)) (p + 1) (drop p ws), fill_greatest rest (take p ws) p front.0)
 
-pub ends : (ss rest ws : List ℕ) (o : Option ℕ) (a i : ℕ) → ss ≡ rest ++ option_to_list o → (0 < length ss → IsSome o) → fill ss (length ws) ≡ true → a ≡ greatest (cut ss ws) → i < length (words_at (cut ss ws) a) → Ends ss rest ws a
+pub ends : (ss rest ws : List ℕ) (o : Option ℕ) (a i : ℕ) → ss ≡ rest ++ option_to_list o → (0 < length ss → IsSome o) → fill ss (length ws) ≡ true →
+    a ≡ greatest (cut ss ws) → i < length (words_at (cut ss ws) a) → Ends ss rest ws a
 ends [] rest ws o a i e some f g h = absurd (omega (arith, h))
 ends (s ∷ ss) rest ws None a i e some f g h = let there : false ≡ true = some (omega arith) in absurd (true≢false (sym there))
 ends (s ∷ ss) rest ws (Some p) a i e some f g h =

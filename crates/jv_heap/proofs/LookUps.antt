@@ -45,7 +45,8 @@ either_way false xs = refl
 pub words_at-written : (c : List (ℕ × List ℕ)) (a i w q : ℕ) → words_at (written c a i w) q ≡ cond (nat_eq a q) (set (words_at c a) i w) (words_at c q)
 words_at-written [] a i w q = either_way (nat_eq a q) []
 words_at-written (b ∷ c) a i w q =
-    elim (nat_eq b.0 a) as (λ t. nat_eq b.0 a ≡ t → words_at (cond t ((b.0, set b.1 i w) ∷ c) (b ∷ written c a i w)) q ≡ cond (nat_eq a q) (set (cond t b.1 (words_at c a)) i w) (cond (nat_eq b.0 q) b.1 (words_at c q))) [
+    elim (nat_eq b.0 a) as (λ t. nat_eq b.0 a ≡ t → words_at (cond t ((b.0, set b.1 i w) ∷ c) (b ∷ written c a i w)) q ≡ cond (nat_eq a q)
+    (set (cond t b.1 (words_at c a)) i w) (cond (nat_eq b.0 q) b.1 (words_at c q))) [
       | true ↦ λ e.
           let same : nat_eq b.0 q ≡ nat_eq a q = ap (λ n. nat_eq n q) (eqb-true b.0 a e) in
           rw same (elim (nat_eq a q) as (λ t. cond t (set b.1 i w) (words_at c q) ≡ cond t (set b.1 i w) (cond t b.1 (words_at c q))) [ true ↦ refl | false ↦ refl ])

@@ -48,7 +48,8 @@ module _ {X : Type 0} (f : X → List ℕ) where
   pub read_row : (xs : List X) (a : ℕ) (v : X) → 0 < a → a - 1 < length xs → v ≡ get_or xs (a - 1) v → words_at (numbered 0 (map f xs)) a ≡ f v
   read_row xs a v p h e = words_at-numbered 0 (map f xs) a (a - 1) (omega (arith, p)) (omega (arith, h, length-map xs f)) ∙ (get_or-map f xs (a - 1) v [] h ∙ ap f (sym e))
 
-  pub write_row : (xs : List X) (a i w : ℕ) (v after : X) → 0 < a → a - 1 < length xs → v ≡ get_or xs (a - 1) v → f after ≡ set (f v) i w → numbered 0 (map f (set xs (a - 1) after)) ≡ written (numbered 0 (map f xs)) a i w
+  pub write_row : (xs : List X) (a i w : ℕ) (v after : X) → 0 < a → a - 1 < length xs → v ≡ get_or xs (a - 1) v → f after ≡ set (f v) i w →
+      numbered 0 (map f (set xs (a - 1) after)) ≡ written (numbered 0 (map f xs)) a i w
   write_row xs a i w v after p h e n =
       let same : get_or (map f xs) (a - 1) [] ≡ f v = get_or-map f xs (a - 1) v [] h ∙ ap f (sym e) in
       ap (numbered 0) (map-set f xs (a - 1) after ∙ ap (λ b. set (map f xs) (a - 1) b) (n ∙ ap (λ b. set b i w) (sym same)))
@@ -62,7 +63,8 @@ module _ {X : Type 0} (f : X → List ℕ) where
   pub greatest_row : (xs : List X) → greatest (numbered 0 (map f xs)) < length xs + 1
   greatest_row xs = omega (arith, greatest-numbered 0 (map f xs), length-map xs f)
 
-  pub last_row : (xs rest : List X) (o : Option X) (a : ℕ) → xs ≡ rest ++ option_to_list o → IsSome o → a ≡ greatest (numbered 0 (map f xs)) → IsNewest (numbered 0 (map f xs)) (numbered 0 (map f rest)) (length rest + 1) (words_at (numbered 0 (map f xs)) a) a
+  pub last_row : (xs rest : List X) (o : Option X) (a : ℕ) → xs ≡ rest ++ option_to_list o → IsSome o → a ≡ greatest (numbered 0 (map f xs)) →
+      IsNewest (numbered 0 (map f xs)) (numbered 0 (map f rest)) (length rest + 1) (words_at (numbered 0 (map f xs)) a) a
   last_row xs rest None a e s g = absurd (true≢false (sym s))
   last_row xs rest (Some v) a e s g =
       let newest : IsNewest (numbered 0 (map f xs)) (numbered 0 (map f rest)) (length rest + 1) (f v) a =

@@ -67,7 +67,8 @@ module _ {X : Type 0} (f : X → ℕ × List ℕ) where
       let inside : k < length xs = omega (arith, h) in
       rw other (read_block (f x).0 xs k v (right_of _ _ m) inside e)
 
-  pub write_block : (n : ℕ) (xs : List X) (k : ℕ) (v after : X) (i w : ℕ) → mounting n (map f xs) ≡ true → k < length xs → v ≡ get_or xs k v → f after ≡ ((f v).0, set (f v).1 i w) → written (map f xs) (f v).0 i w ≡ map f (set xs k after)
+  pub write_block : (n : ℕ) (xs : List X) (k : ℕ) (v after : X) (i w : ℕ) → mounting n (map f xs) ≡ true → k < length xs → v ≡ get_or xs k v →
+      f after ≡ ((f v).0, set (f v).1 i w) → written (map f xs) (f v).0 i w ≡ map f (set xs k after)
   write_block n [] k v after i w m h e g = absurd (omega (arith, h))
   write_block n (x ∷ xs) zero v after i w m h e g =
       let same : (f x).0 ≡ (f v).0 = ap (λ y. (f y).0) (sym e) in

@@ -105,7 +105,8 @@ module _ (by_verdicts : JudgedByVerdicts) (one : OneContent) (never : NeverFault
                 (sym frames_are) s.stands.frames;
             control = subst (λ c. Rattle.jv_interp_frames.specs.ControlStands.ControlStands judged.program.world first.0.control c) (sym control_is) s.stands.control;
             memory =
-                subst (λ h. Rattle.jv_interp_memory.specs.HeldInWords.MemoryStands judged.program.world guest.texts.names first.0.memory (started.held.out_of_memory ∷ started.held.arguments ∷ s.more) h after)
+                subst (λ h. Rattle.jv_interp_memory.specs.HeldInWords.MemoryStands judged.program.world guest.texts.names first.0.memory
+                (started.held.out_of_memory ∷ started.held.arguments ∷ s.more) h after)
                 (sym held_is) s.stands.memory;
           };
           steps_are = steps_are;

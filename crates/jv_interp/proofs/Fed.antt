@@ -55,7 +55,9 @@ input_changed before after same held_is g b feeds later n addresses blocks input
         control = subst (λ (x : Guest). Rattle.jv_interp_frames.specs.ControlStands.ControlStands h.judged.program.world h.state.control x.control) (sym same) h.stands.control;
         memory = record {
           objects = m.objects;
-          statics = subst (λ (x : Held). Rattle.jv_interp_memory.specs.ObjectsInBlocks.AreFields addresses (Rattle.jv_interp_memory.specs.HeldInWords.static_fields h.judged.program.world) h.state.memory.statics x.statics.items) (sym held_is) m.statics;
+          statics = subst (λ (x : Held). Rattle.jv_interp_memory.specs.ObjectsInBlocks.AreFields addresses
+              (Rattle.jv_interp_memory.specs.HeldInWords.static_fields h.judged.program.world) h.state.memory.statics x.statics.items) (sym held_is)
+              m.statics;
           literals =
               subst (λ names. Rattle.jv_interp_memory.specs.HeldInWords.AreLiterals names addresses h.state.memory.literals after.held.literals.items) (sym (ap (λ (x : Guest). x.texts.names) same))
               (subst (λ (x : Held). Rattle.jv_interp_memory.specs.HeldInWords.AreLiterals before.texts.names addresses h.state.memory.literals x.literals.items) (sym held_is) m.literals);

@@ -48,7 +48,8 @@ threw class e = cc
 no_main : NoMain ≡ Running → ⊥
 no_main e = cc
 
-module _ (never : NeverFaults) (objects : ObjectsAreLoadable) (initializations : InitializationsAreLoadable) (on : AloneStepsOn) (g : GuestFiles) (b : Budget) (feeds : List Feed) (n : ℕ) (addresses : List ℕ) (guest : Guest) (blocks : Blocks)
+module _ (never : NeverFaults) (objects : ObjectsAreLoadable) (initializations : InitializationsAreLoadable) (on : AloneStepsOn) (g : GuestFiles)
+    (b : Budget) (feeds : List Feed) (n : ℕ) (addresses : List ℕ) (guest : Guest) (blocks : Blocks)
     (h : GuestStands g b feeds n addresses guest blocks) where
   abbrev pub program : Program
   program = h.judged.program

@@ -32,7 +32,14 @@ shows g b feeds n addresses guest blocks h o verdicts steps output throws last e
         o.verdicts ≡ h.judged.verdicts → o.steps ≡ n → o.output ≡ h.state.memory.output → o.throws ≡ h.state.control.throws
         → o.last ≡ h.state.control.last → o.end ≡ h.state.control.end → o ≡ observation h.judged.verdicts n h.state
     all v s w t l e =
-        ap (λ (x : List Verdict). record o { verdicts = x }) v ∙ ap (λ (x : ℕ). record (observation h.judged.verdicts o.steps h.state) { output = o.output; throws = o.throws; last = o.last; end = o.end; steps = x }) s
+        ap (λ (x : List Verdict). record o { verdicts = x }) v ∙
+        ap (λ (x : ℕ). record (observation h.judged.verdicts o.steps h.state) {
+          output = o.output;
+          throws = o.throws;
+          last = o.last;
+          end = o.end;
+          steps = x;
+        }) s
         ∙ ap (λ (x : List ℕ). record (observation h.judged.verdicts n h.state) { output = x; throws = o.throws; last = o.last; end = o.end }) w
         ∙ ap (λ (x : ℕ). record (observation h.judged.verdicts n h.state) { throws = x; last = o.last; end = o.end }) t
         ∙ ap (λ (x : Option (List ℕ)). record (observation h.judged.verdicts n h.state) { last = x; end = o.end }) l

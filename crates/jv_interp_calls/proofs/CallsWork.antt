@@ -324,7 +324,8 @@ module _ (how : Use) (index next : ℕ) (k : Known) (here : Place) (texts : List
       unless_error c (select (world_at c) (site_at c) Invokespecial f.target None) (λ t.
       Ok (c.memory, Constructs t.declared r.id i on.arguments on.rest))) done instance.2 in
       let itself : select (world_at c) (site_at c) Invokespecial f.target None ≡ Ok (target f.target.named f.target.declared) =
-      ap (λ (b : Bool). (if b then Ok f.target.declared else select_from (world_at c) f.target.declared.method (special_start (world_at c) (site_at c).by f.target.named)) >>== (λ d. Ok (target f.target.named d))) init in
+      ap (λ (b : Bool). (if b then Ok f.target.declared else select_from (world_at c) f.target.declared.method
+      (special_start (world_at c) (site_at c).by f.target.named)) >>== (λ d. Ok (target f.target.named d))) init in
       constructed (λ c. call c (seen_use how) index) texts next here c addresses done below h.executes f.target.declared r.id same.0 on.arguments on.rest number
       using_it.argument_words
       (done_same (c.memory, Constructs f.target.declared r.id same.0 on.arguments on.rest) done

@@ -174,7 +174,8 @@ module _ (word width next : ℕ) (here : Place) (texts : List (List ℕ)) (c : C
 
   pub got_long :
       (g : Gets) (at : Registers) → width ≡ 2 → at.pc ≡ next → at.top ≡ here.at.top + 1 → here.at.top < length here.words
-      → Did texts (place at (set (set here.words (here.at.top - 1) (get_or (words_at here.blocks top_word) (word + 1) 0)) here.at.top (get_or (words_at here.blocks top_word) (word + 2) 0)) here.held here.blocks) effects.Goes c addresses done below
+      → Did texts (place at (set (set here.words (here.at.top - 1) (get_or (words_at here.blocks top_word) (word + 1) 0)) here.at.top
+      (get_or (words_at here.blocks top_word) (word + 2) 0)) here.held here.blocks) effects.Goes c addresses done below
   got_long g at two pc_is top_is room =
       let own = two_own g.field.own (own_length addresses g.value g.field.own g.field.stands ∙ g.field.width ∙ h.width_is ∙ two) in
       let first = own.0 in
@@ -199,7 +200,9 @@ module _ (word width next : ℕ) (here : Place) (texts : List (List ℕ)) (c : C
       let used =
       subst (λ (n : ℕ). in_use (set (set here.words (here.at.top - 1) first) n second) at.top ≡ second ∷ first ∷ in_use here.words (here.at.top - 1)) up
       (subst (λ (n : ℕ). in_use (set (set here.words (here.at.top - 1) first) (here.at.top - 1 + 1) second) n ≡ second ∷ first ∷ in_use here.words (here.at.top - 1)) up_two used_two) in
-      subst (λ (x : ℕ). Did texts (place at (set (set here.words (here.at.top - 1) x) here.at.top (get_or (words_at here.blocks top_word) (word + 2) 0)) here.held here.blocks) effects.Goes c addresses done below) (sym first_is)
+      subst (λ (x : ℕ). Did texts
+      (place at (set (set here.words (here.at.top - 1) x) here.at.top (get_or (words_at here.blocks top_word) (word + 2) 0)) here.held
+      here.blocks) effects.Goes c addresses done below) (sym first_is)
       (subst (λ (x : ℕ). Did texts (place at (set (set here.words (here.at.top - 1) first) here.at.top x) here.held here.blocks) effects.Goes c addresses done below) (sym second_is)
       (went g at (set (set here.words (here.at.top - 1) first) here.at.top second) pc_is
       (subst (λ (u : List ℕ). IsOnTop addresses g.value u (in_use here.words (here.at.top - 1))) (sym used)

@@ -147,7 +147,8 @@ written_back new old len same len_is =
 pub one_unknown : (texts : List (List ℕ)) (pool : List Entry) (entries : List (Option (ℕ × ℕ))) → All (IsKnown texts pool) entries → All (IsKnown texts pool) (entries ++ None ∷ [])
 one_unknown texts pool entries h k d less = by_end (at_end entries None (get_or (entries ++ None ∷ []) k d) k (slice_get-get_or (entries ++ None ∷ []) k d less))
   where
-    by_end : (slice_get entries k ≡ Some (get_or (entries ++ None ∷ []) k d)) ⊎ ((k ≡ length entries) × (None ≡ get_or (entries ++ None ∷ []) k d)) → IsKnown texts pool (get_or (entries ++ None ∷ []) k d)
+    by_end : (slice_get entries k ≡ Some (get_or (entries ++ None ∷ []) k d)) ⊎ ((k ≡ length entries) × (None ≡ get_or (entries ++ None ∷ []) k d)) →
+        IsKnown texts pool (get_or (entries ++ None ∷ []) k d)
     by_end (inl at) =
         subst (IsKnown texts pool) (get_or_from_slice_get entries k (get_or (entries ++ None ∷ []) k d) d at)
         (h k d (slice_get_within entries k (get_or (entries ++ None ∷ []) k d) at))

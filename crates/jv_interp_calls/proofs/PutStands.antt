@@ -55,7 +55,8 @@ long_stays type (Reference id) e = absurd cc
 long_stays type Half e = absurd cc
 long_stays type Unset e = absurd cc
 
-module _ (word slots : ℕ) (how : Narrowing) (next : ℕ) (here : Place) (texts : List (List ℕ)) (c : Context) (reference : MemberReference) (d : DeclaredField) (addresses : List ℕ) (done : Memory × Effect) (below : List ℕ)
+module _ (word slots : ℕ) (how : Narrowing) (next : ℕ) (here : Place) (texts : List (List ℕ)) (c : Context) (reference : MemberReference)
+    (d : DeclaredField) (addresses : List ℕ) (done : Memory × Effect) (below : List ℕ)
     (h : PuttingField word slots how next here texts c reference d addresses done below) where
   pub p : Puts c reference d done
   p = puts c reference d done h.executes.does
@@ -266,7 +267,8 @@ module _ (word slots : ℕ) (how : Narrowing) (next : ℕ) (here : Place) (texts
   pub put_long :
       (two : slots ≡ 2) (at : Registers) (after : Blocks) → IsIn addresses (narrowed p.type p.value) (get_or here.words (here.at.top - 2) 0 ∷ get_or here.words (here.at.top - 1) 0 ∷ [])
       → (i : PutsIn 2 (two_under two).under) → at.pc ≡ next → at.top ≡ here.at.top - 3
-      → after ≡ written (written here.blocks (get_or here.words (here.at.top - 3) 0) (word + 1) (get_or here.words (here.at.top - 2) 0)) (get_or here.words (here.at.top - 3) 0) (word + 2) (get_or here.words (here.at.top - 1) 0)
+      → after ≡ written (written here.blocks (get_or here.words (here.at.top - 3) 0) (word + 1) (get_or here.words (here.at.top - 2) 0))
+      (get_or here.words (here.at.top - 3) 0) (word + 2) (get_or here.words (here.at.top - 1) 0)
       → DidIn here.blocks texts (place at here.words here.held after) effects.Goes c addresses done below
   put_long two at after value_in i pc_is top_is after_is =
       let u = two_under two in

@@ -161,7 +161,8 @@ few_slots (byte ∷ rest) type e = by_first (byte == 40) e
         subst (λ (x : MethodDescriptor). slots x ≤ 255) (some_type m type e)
         (within (slots m) (and_parts (list_all is_field_type m.parameters) (nat_le (slots m) 255) is).1)
 
-    by_result : (parameters : List (FieldTypeOf (List ℕ))) (o : Option (Option (FieldTypeOf (List ℕ)))) → option_and_then method_alone (option_map (method_with parameters) o) ≡ Some type → slots type ≤ 255
+    by_result : (parameters : List (FieldTypeOf (List ℕ))) (o : Option (Option (FieldTypeOf (List ℕ)))) → option_and_then method_alone
+        (option_map (method_with parameters) o) ≡ Some type → slots type ≤ 255
     by_result parameters None e = absurd cc
     by_result parameters (Some r) e =
         by_fit (method_with parameters r) (list_all is_field_type parameters && nat_le (slots (method_with parameters r)) 255) refl e

@@ -211,7 +211,8 @@ module _ (index next : ℕ) (k : Known) (here : Place) (texts : List (List ℕ))
       (frame_pushed addresses c.frame.locals (Int (cast_signed w32 number)) i.rest (in_use words at.top) (in_use here.words (here.at.top - 1)) below
       t.lower (number, used, refl))
 
-  pub null_answers : (at : Registers) → get_or here.words (here.at.top - 1) 0 ≡ 0 → at.pc ≡ next → at.top ≡ here.at.top → Did texts (place at here.words here.held here.blocks) effects.Goes c addresses done below
+  pub null_answers : (at : Registers) → get_or here.words (here.at.top - 1) 0 ≡ 0 → at.pc ≡ next → at.top ≡ here.at.top →
+      Did texts (place at here.words here.held here.blocks) effects.Goes c addresses done below
   null_answers at zero_is pc_is top_is =
       answers 0 at here.words
       (done_same (c.memory, Goes c.next c.frame.locals (Int (pos 0) ∷ i.rest)) done
@@ -258,7 +259,8 @@ module _ (index next : ℕ) (k : Known) (here : Place) (texts : List (List ℕ))
       went_on (asks cast_step index) texts next here c addresses done below h.executes at here.words c.frame.stack is pc_is
       (subst (λ (l : List ℕ). FrameStands addresses c.frame.locals c.frame.stack l below) (sym (ap (in_use here.words) top_is)) h.executes.frame)
 
-  pub null_stays : (at : Registers) → get_or here.words (here.at.top - 1) 0 ≡ 0 → at.pc ≡ next → at.top ≡ here.at.top → Did texts (place at here.words here.held here.blocks) effects.Goes c addresses done below
+  pub null_stays : (at : Registers) → get_or here.words (here.at.top - 1) 0 ≡ 0 → at.pc ≡ next → at.top ≡ here.at.top →
+      Did texts (place at here.words here.held here.blocks) effects.Goes c addresses done below
   null_stays at zero_is pc_is top_is =
       stays at
       (done_same (c.memory, Goes c.next c.frame.locals c.frame.stack) done

@@ -49,12 +49,14 @@ stays_behind before (x ∷ xs) other h low =
     ∙ others_stay before x.0 x.1 other h.0 low
 
 -- a block between others
-pub own_words : (before : Blocks) (address : ℕ) (words : List ℕ) (xs : Blocks) → greatest before < address → EachAbove (before ++ (address, words) ∷ []) xs → words_at ((before ++ (address, words) ∷ []) ++ xs) address ≡ words
+pub own_words : (before : Blocks) (address : ℕ) (words : List ℕ) (xs : Blocks) → greatest before < address →
+    EachAbove (before ++ (address, words) ∷ []) xs → words_at ((before ++ (address, words) ∷ []) ++ xs) address ≡ words
 own_words before address words xs above h =
     let up = greatest-append_above before address words above in
     stays_behind (before ++ (address, words) ∷ []) xs address h (omega (arith, up)) ∙ words_at-append before address words above
 
-pub own_written : (before : Blocks) (address : ℕ) (words : List ℕ) (xs : Blocks) (place word : ℕ) → greatest before < address → written (before ++ (address, words) ∷ xs) address place word ≡ before ++ (address, set words place word) ∷ xs
+pub own_written : (before : Blocks) (address : ℕ) (words : List ℕ) (xs : Blocks) (place word : ℕ) → greatest before < address →
+    written (before ++ (address, words) ∷ xs) address place word ≡ before ++ (address, set words place word) ∷ xs
 own_written [] address words xs place word h = rw (eq-eqb address address refl) refl
 own_written (b ∷ before) address words xs place word h =
     rw (below b.0 (greatest before) address h)
@@ -83,7 +85,8 @@ pub record StandUnder (world : World) (all : List ℕ) (objects : List Object) (
       (id address : ℕ) (object : Object) → slice_get addresses id ≡ Some address → slice_get objects id ≡ Some object
       → ObjectStands world all object (words_at blocks address)
 
-pub under_more : (world : World) (more : List ℕ) (objects : List Object) (addresses : List ℕ) (blocks : Blocks) → ObjectsStand world objects addresses blocks → StandUnder world (addresses ++ more) objects addresses blocks
+pub under_more : (world : World) (more : List ℕ) (objects : List Object) (addresses : List ℕ) (blocks : Blocks) → ObjectsStand world objects addresses
+    blocks → StandUnder world (addresses ++ more) objects addresses blocks
 under_more world more objects addresses blocks h = record {
   count = h.count;
   are = h.are;

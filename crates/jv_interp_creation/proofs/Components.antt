@@ -30,7 +30,8 @@ use Rattle.jv_interp_memory.proofs.Raised.{raised, went_on}
 use Rattle.jv_interp_creation.specs.Loads.{Loading}
 use Rattle.jv_interp_creation.proofs.Loaded.{done_same, TakesBoth, takes_both, load_of, index_within, index_outside}
 
-module _ (slots next : ℕ) (here : Place) (texts : List (List ℕ)) (c : Context) (test : FieldTypeOf (List ℕ) → Rattle.std.specs.Prelude.Bool) (addresses : List ℕ) (done : Memory × Effect) (below : List ℕ)
+module _ (slots next : ℕ) (here : Place) (texts : List (List ℕ)) (c : Context) (test : FieldTypeOf (List ℕ) → Rattle.std.specs.Prelude.Bool)
+    (addresses : List ℕ) (done : Memory × Effect) (below : List ℕ)
     (h : Loading slots next here texts c test addresses done below) where
   pub t : TakesBoth c test done
   t = takes_both c test done h.executes.does
@@ -215,7 +216,9 @@ module _ (slots next : ℕ) (here : Place) (texts : List (List ℕ)) (c : Contex
 
   pub got_long :
       (i : Inside) (k : Component i) (at : Registers) → slots ≡ 2 → at.pc ≡ next → at.top ≡ here.at.top
-      → Did texts (place at (set (set here.words (here.at.top - 2) (get_or (words_at here.blocks array_word) (index_word * 2 + 2) 0)) (here.at.top - 1) (get_or (words_at here.blocks array_word) (index_word * 2 + 3) 0)) here.held here.blocks) effects.Goes c addresses done below
+      → Did texts (place at (set (set here.words (here.at.top - 2) (get_or (words_at here.blocks array_word) (index_word * 2 + 2) 0))
+      (here.at.top - 1) (get_or (words_at here.blocks array_word) (index_word * 2 + 3) 0)) here.held here.blocks) effects.Goes c addresses done
+      below
   got_long i k at two_slots pc_is top_is =
       let own = two_own k.among.at.own (own_length addresses k.value k.among.at.own k.among.at.stands ∙ k.among.kind ∙ i.width_is ∙ two_slots) in
       let low = own.0 in
@@ -241,7 +244,9 @@ module _ (slots next : ℕ) (here : Place) (texts : List (List ℕ)) (c : Contex
       let used =
       subst (λ (n : ℕ). in_use (set (set here.words (here.at.top - 2) low) n high) at.top ≡ high ∷ low ∷ in_use here.words (here.at.top - 2)) up
       (subst (λ (n : ℕ). in_use (set (set here.words (here.at.top - 2) low) (here.at.top - 2 + 1) high) n ≡ high ∷ low ∷ in_use here.words (here.at.top - 2)) up_two used_two) in
-      subst (λ (x : ℕ). Did texts (place at (set (set here.words (here.at.top - 2) x) (here.at.top - 1) (get_or (words_at here.blocks array_word) (index_word * 2 + 3) 0)) here.held here.blocks) effects.Goes c addresses done below) (sym low_is)
+      subst (λ (x : ℕ). Did texts
+      (place at (set (set here.words (here.at.top - 2) x) (here.at.top - 1) (get_or (words_at here.blocks array_word) (index_word * 2 + 3) 0))
+      here.held here.blocks) effects.Goes c addresses done below) (sym low_is)
       (subst (λ (x : ℕ). Did texts (place at (set (set here.words (here.at.top - 2) low) (here.at.top - 1) x) here.held here.blocks) effects.Goes c addresses done below) (sym high_is)
       (went i k at (set (set here.words (here.at.top - 2) low) (here.at.top - 1) high) pc_is
       (subst (λ (u : List ℕ). IsOnTop addresses k.value u (in_use here.words (here.at.top - 2))) (sym used)

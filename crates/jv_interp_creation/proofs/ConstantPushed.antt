@@ -144,7 +144,8 @@ module _ (number : ℕ) (text : List ℕ) (next : ℕ) (here : Place) (texts : L
       done_same (g.memory, Goes c.next c.frame.locals (Reference g.object ∷ c.frame.stack)) done
       (sym (ap (λ (o : Option (Memory × ℕ)). push_value c (string_loaded o)) g.is) ∙ loads.does)
 
-  pub string_room : (held : Held) (after : Blocks) (address : ℕ) → LiteralGiven c.program.world texts addresses here.held here.blocks loads.made held after (Some address) → HasRoom c below (length here.words) done → here.at.top < length here.words
+  pub string_room : (held : Held) (after : Blocks) (address : ℕ) → LiteralGiven c.program.world texts addresses here.held here.blocks loads.made held
+      after (Some address) → HasRoom c below (length here.words) done → here.at.top < length here.words
   string_room held after address l room =
       let g = given_some held after address l in
       let fits =

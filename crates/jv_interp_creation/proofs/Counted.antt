@@ -123,7 +123,9 @@ module _ (word slots next : ℕ) (here : Place) (texts : List (List ℕ)) (c : C
   does : count ≤ 2147483647 → push_arrays c components (count ∷ []) t.rest (paid cost c.memory) ≡ Ok done
   does small = sym (ap (λ (n : ℤ). make_array c components n t.rest) (count_is ∙ small_count count small)) ∙ t.does
 
-  pub lacking : (cells : ℕ) (after : Blocks) → count ≤ 2147483647 → IsLacking (2 + count * slots) here.held.cells cells here.blocks after → DidIn here.blocks texts (place here.at here.words (record here.held { cells = cells }) after) (effects.Throws here.held.out_of_memory) c addresses done below
+  pub lacking : (cells : ℕ) (after : Blocks) → count ≤ 2147483647 → IsLacking (2 + count * slots) here.held.cells cells here.blocks after →
+      DidIn here.blocks texts (place here.at here.words (record here.held { cells = cells }) after) (effects.Throws here.held.out_of_memory) c
+      addresses done below
   lacking cells after small lacks =
       let fewer : c.memory.cells < cost = let a = h.executes.memory.cells in let b = lacks.lacks in let e = cost_is in omega (arith, a, b, e) in
       lacks_in (array_of components) texts next here c addresses done below h.executes cells after
@@ -139,8 +141,14 @@ module _ (word slots next : ℕ) (here : Place) (texts : List (List ℕ)) (c : C
   made cells after address at small new pc_is top_is =
       let enough : cost ≤ c.memory.cells = let a = h.executes.memory.cells in let b = new.paid in let e = cost_is in omega (arith, a, b, e) in
       let left : cells + cost ≡ here.held.cells = let b = new.paid in let e = cost_is in omega (arith, b, e) in
-      let is : done ≡ (record c.memory { objects = c.memory.objects ++ new_array components count ∷ []; cells = c.memory.cells - cost }, Goes c.next c.frame.locals (Reference (next_object c.memory) ∷ t.rest)) =
-      done_same (record c.memory { objects = c.memory.objects ++ new_array components count ∷ []; cells = c.memory.cells - cost }, Goes c.next c.frame.locals (Reference (next_object c.memory) ∷ t.rest)) done
+      let is : done ≡ (
+        record c.memory { objects = c.memory.objects ++ new_array components count ∷ []; cells = c.memory.cells - cost },
+        Goes c.next c.frame.locals (Reference (next_object c.memory) ∷ t.rest),
+      ) =
+      done_same (
+        record c.memory { objects = c.memory.objects ++ new_array components count ∷ []; cells = c.memory.cells - cost },
+        Goes c.next c.frame.locals (Reference (next_object c.memory) ∷ t.rest),
+      ) done
       (sym (ap (push_arrays c components (count ∷ []) t.rest) (paid_left cost c.memory enough)) ∙ does small) in
       let joins : Joins (word ∷ count ∷ replicate (count * width (value_type components)) 0) here.blocks after address =
       subst (λ (n : ℕ). Joins (word ∷ count ∷ replicate (count * n) 0) here.blocks after address) (sym h.slots_are) new.joins in
@@ -168,7 +176,8 @@ same_part c element = by_top (taken_as c.memory.objects types.Int c.frame.stack)
   where
     by_top :
         (o : OrFault (Value × List Value))
-        → (◌>>=◌ {A = Value × List Value} {B = List Value × List Value} o (λ t. Ok (t.0 ∷ [], t.1)) >>= λ operands. one operands.0 >>= as_int >>= λ count. make_array c (base_components (base_of element)) count operands.1)
+        → (◌>>=◌ {A = Value × List Value} {B = List Value × List Value} o (λ t. Ok (t.0 ∷ [], t.1)) >>= λ operands. one operands.0 >>= as_int >>=
+        λ count. make_array c (base_components (base_of element)) count operands.1)
         ≡ (o >>= λ t. as_int t.0 >>= λ count. make_array c (base_components (base_of element)) count t.1)
     by_top (Ok taken) = refl
     by_top (Err fault) = refl

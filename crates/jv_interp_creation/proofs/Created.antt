@@ -33,17 +33,25 @@ module _ (class size next : ℕ) (here : Place) (texts : List (List ℕ)) (c : C
   cost_is : cost ≡ 1 + size
   cost_is = ap (λ (n : ℕ). 1 + n) h.size_is
 
-  pub lacking : (cells : ℕ) (after : Blocks) → IsLacking (1 + size) here.held.cells cells here.blocks after → DidIn here.blocks texts (place here.at here.words (record here.held { cells = cells }) after) (effects.Throws here.held.out_of_memory) c addresses done below
+  pub lacking : (cells : ℕ) (after : Blocks) → IsLacking (1 + size) here.held.cells cells here.blocks after → DidIn here.blocks texts
+      (place here.at here.words (record here.held { cells = cells }) after) (effects.Throws here.held.out_of_memory) c addresses done below
   lacking cells after lacks =
       let fewer : c.memory.cells < cost = let a = h.executes.memory.cells in let b = lacks.lacks in let e = cost_is in omega (arith, a, b, e) in
       lacks_in (object_of l) texts next here c addresses done below h.executes cells after
       (done_same (c.memory, Throws out_of_memory) done (sym (ap (push_object c l) (paid_lacks cost c.memory fewer)) ∙ h.executes.does))
       lacks.same_cells lacks.same
 
-  goes : 1 + size ≤ here.held.cells → done ≡ (record c.memory { objects = c.memory.objects ++ new_object c.program.world l ∷ []; cells = c.memory.cells - cost }, Goes c.next c.frame.locals (Reference (next_object c.memory) ∷ c.frame.stack))
+  goes : 1 + size ≤ here.held.cells → done ≡ (
+    record c.memory { objects = c.memory.objects ++ new_object c.program.world l ∷ []; cells = c.memory.cells - cost },
+    Goes c.next c.frame.locals
+        (Reference (next_object c.memory) ∷ c.frame.stack),
+  )
   goes enough =
       let left : cost ≤ c.memory.cells = let a = h.executes.memory.cells in let e = cost_is in omega (arith, a, e, enough) in
-      done_same (record c.memory { objects = c.memory.objects ++ new_object c.program.world l ∷ []; cells = c.memory.cells - cost }, Goes c.next c.frame.locals (Reference (next_object c.memory) ∷ c.frame.stack)) done
+      done_same (
+        record c.memory { objects = c.memory.objects ++ new_object c.program.world l ∷ []; cells = c.memory.cells - cost },
+        Goes c.next c.frame.locals (Reference (next_object c.memory) ∷ c.frame.stack),
+      ) done
       (sym (ap (push_object c l) (paid_left cost c.memory left)) ∙ h.executes.does)
 
   -- there is room for the reference

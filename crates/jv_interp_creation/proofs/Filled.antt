@@ -76,7 +76,8 @@ module _ (units : List ℕ) (first second : ℕ) (earlier : Blocks) (rest : List
       let all = ap length p.are in
       omega (arith, few, e, all, length-append p.front p.left)
 
-  pub next : (unit : ℕ) (behind : List ℕ) (after : Blocks) → BeginsWithUnit rest unit behind → after ≡ written now address place unit → Partly units first second earlier behind (place + 1) address after
+  pub next : (unit : ℕ) (behind : List ℕ) (after : Blocks) → BeginsWithUnit rest unit behind → after ≡ written now address place unit →
+      Partly units first second earlier behind (place + 1) address after
   next unit behind after b e =
       let parts = and_parts (is_unit l.unit) (list_all is_unit l.more) l.spells.fit in
       let one =

@@ -59,7 +59,8 @@ chars_stand addresses (unit ∷ units) h =
 
 -- ---- a String that has its chars
 
-pub fields_with : (world : World) (l : Loaded) (h : HoldsChars world l) (constructed : Bool) (chars : ℕ) → with_value string_value (Reference chars) (new_instance world constructed l).fields ≡ (key_of h.field, Reference chars) ∷ []
+pub fields_with : (world : World) (l : Loaded) (h : HoldsChars world l) (constructed : Bool) (chars : ℕ) → with_value string_value (Reference chars)
+    (new_instance world constructed l).fields ≡ (key_of h.field, Reference chars) ∷ []
 fields_with world l h constructed chars =
     let known : same_key string_value (key_of h.field) ≡ true =
     subst (λ (k : FieldKey). same_key string_value k ≡ true) (sym h.key) same_value in

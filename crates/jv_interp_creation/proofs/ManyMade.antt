@@ -207,7 +207,10 @@ module _ (word slots dimensions next : ℕ) (here : Place) (texts : List (List �
         let objects = arrays_made components known number in
         let enough : cost ≤ c.memory.cells = let m = h.executes.memory.cells in let b = new.paid in let s = same_cost in omega (arith, m, b, s) in
         let left : cells + cost ≡ here.held.cells = let b = new.paid in let s = same_cost in omega (arith, b, s) in
-        let done_is : done ≡ (record c.memory { objects = c.memory.objects ++ arrays_made components known number; cells = c.memory.cells - cost }, Goes c.next c.frame.locals (Reference number ∷ t.rest)) =
+        let done_is : done ≡ (
+          record c.memory { objects = c.memory.objects ++ arrays_made components known number; cells = c.memory.cells - cost },
+          Goes c.next c.frame.locals (Reference number ∷ t.rest),
+        ) =
         done_same (record c.memory { objects = c.memory.objects ++ arrays_made components known number; cells = c.memory.cells - cost }, Goes c.next c.frame.locals (Reference number ∷ t.rest)) done
         (sym (ap (push_arrays c components known t.rest) (paid_left cost c.memory enough)) ∙ does) in
         let placed : PlacedAt c.program.world all number j.blocks =

@@ -22,14 +22,17 @@ spelling unit text rest e = by_tests (nat_lt 0 unit && nat_lt unit 128) refl (na
     by_tests : (a : Bool) → (nat_lt 0 unit && nat_lt unit 128) ≡ a → (b : Bool) → nat_lt unit 2048 ≡ b → Spelling unit text rest
     by_tests true s b t =
         One (ltb-true unit 128 (and_parts (nat_lt 0 unit) (nat_lt unit 128) s).1)
-        (e ∙ ap (λ (k : Bool). (if k then unit ∷ [] else if nat_lt unit 2048 then (192 + unit / 64) ∷ (128 + unit % 64) ∷ [] else (224 + unit / 4096) ∷ (128 + unit / 64 % 64) ∷ (128 + unit % 64) ∷ []) ++ rest) s)
+        (e ∙ ap (λ (k : Bool). (if k then unit ∷ [] else if nat_lt unit 2048 then (192 + unit / 64) ∷ (128 + unit % 64) ∷
+        [] else (224 + unit / 4096) ∷ (128 + unit / 64 % 64) ∷ (128 + unit % 64) ∷ []) ++ rest) s)
     by_tests false s true t =
         Two (ltb-true unit 2048 t)
-        (e ∙ ap (λ (k : Bool). (if k then unit ∷ [] else if nat_lt unit 2048 then (192 + unit / 64) ∷ (128 + unit % 64) ∷ [] else (224 + unit / 4096) ∷ (128 + unit / 64 % 64) ∷ (128 + unit % 64) ∷ []) ++ rest) s
+        (e ∙ ap (λ (k : Bool). (if k then unit ∷ [] else if nat_lt unit 2048 then (192 + unit / 64) ∷ (128 + unit % 64) ∷
+        [] else (224 + unit / 4096) ∷ (128 + unit / 64 % 64) ∷ (128 + unit % 64) ∷ []) ++ rest) s
         ∙ ap (λ (k : Bool). (if k then (192 + unit / 64) ∷ (128 + unit % 64) ∷ [] else (224 + unit / 4096) ∷ (128 + unit / 64 % 64) ∷ (128 + unit % 64) ∷ []) ++ rest) t)
     by_tests false s false t =
         Three
-        (e ∙ ap (λ (k : Bool). (if k then unit ∷ [] else if nat_lt unit 2048 then (192 + unit / 64) ∷ (128 + unit % 64) ∷ [] else (224 + unit / 4096) ∷ (128 + unit / 64 % 64) ∷ (128 + unit % 64) ∷ []) ++ rest) s
+        (e ∙ ap (λ (k : Bool). (if k then unit ∷ [] else if nat_lt unit 2048 then (192 + unit / 64) ∷ (128 + unit % 64) ∷
+        [] else (224 + unit / 4096) ∷ (128 + unit / 64 % 64) ∷ (128 + unit % 64) ∷ []) ++ rest) s
         ∙ ap (λ (k : Bool). (if k then (192 + unit / 64) ∷ (128 + unit % 64) ∷ [] else (224 + unit / 4096) ∷ (128 + unit / 64 % 64) ∷ (128 + unit % 64) ∷ []) ++ rest) t)
 
 -- ---- their count: of the bytes of a unit the first one alone begins it

@@ -409,7 +409,9 @@ module _ (slots next : ℕ) (here : Place) (texts : List (List ℕ)) (c : Contex
 
     -- ---- how the array narrows
 
-    pub value_stored : (i : Inside) (how : Narrowing) (stored : ℕ) → slots ≡ 1 → Narrows how (get_or here.words (here.at.top - 1) 0) stored → NarrowsBy how kind c.program.world (get_or (words_at here.blocks address) 0 0) → value_words_are ≡ get_or here.words (here.at.top - 1) 0 ∷ [] → IsIn addresses (new_value i) (stored ∷ [])
+    pub value_stored : (i : Inside) (how : Narrowing) (stored : ℕ) → slots ≡ 1 → Narrows how (get_or here.words (here.at.top - 1) 0) stored →
+        NarrowsBy how kind c.program.world (get_or (words_at here.blocks address) 0 0) → value_words_are ≡ get_or here.words (here.at.top - 1) 0 ∷
+        [] → IsIn addresses (new_value i) (stored ∷ [])
     value_stored i how stored one narrows by same =
         let word_is : get_or (words_at here.blocks address) 0 0 ≡ i.stands.word = ap (λ (l : List ℕ). get_or l 0 0) i.stands.words_are in
         let type = subst (λ (w : ℕ). IsArrayWord c.program.world i.of.components w) (sym word_is) i.stands.type in

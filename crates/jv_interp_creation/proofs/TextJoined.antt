@@ -30,7 +30,8 @@ chars_words count n e =
     let same : count * 1 ≡ n = omega (arith, e) in
     ap (λ (k : ℕ). replicate {A = ℕ} k 0) same
 
-pub can_fill : (text : List ℕ) (count : ℕ) (before after : Blocks) (address : ℕ) → IsText text → HasUnits text count → Joins (2147483649 ∷ count ∷ replicate (count * 1) 0) before after address → CanFill text after address
+pub can_fill : (text : List ℕ) (count : ℕ) (before after : Blocks) (address : ℕ) → IsText text → HasUnits text count →
+    Joins (2147483649 ∷ count ∷ replicate (count * 1) 0) before after address → CanFill text after address
 can_fill text count before after address is has j = record {
   units = is.0;
   spells = is.1;
@@ -41,13 +42,16 @@ can_fill text count before after address is has j = record {
       subst (λ (w : List ℕ). Joins (2147483649 ∷ count ∷ w) before after address) (chars_words count (length is.0) (has is.0 is.1)) j;
 }
 
-pub string_words : (words : List ℕ) (before between filled : Blocks) (string chars : ℕ) → Joins (3 ∷ 0 ∷ []) before between string → Joins words between filled chars → words_at filled string ≡ 3 ∷ 0 ∷ []
+pub string_words : (words : List ℕ) (before between filled : Blocks) (string chars : ℕ) → Joins (3 ∷ 0 ∷ []) before between string →
+    Joins words between filled chars → words_at filled string ≡ 3 ∷ 0 ∷ []
 string_words words before between filled string chars s j =
     let low : string ≤ greatest between = let e = newest_address (3 ∷ 0 ∷ []) before between string s in omega (arith, e) in
     stays_below words between filled chars string j low ∙ joined_words (3 ∷ 0 ∷ []) before between string s
 
 -- after it was filled
-pub filled_joins : (text units : List ℕ) (count : ℕ) (between joined filled : Blocks) (chars : ℕ) → Spells units text → HasUnits text count → Joins (2147483649 ∷ count ∷ replicate (count * 1) 0) between joined chars → Fills text joined filled chars → Joins (2147483649 ∷ count ∷ units) between filled chars
+pub filled_joins : (text units : List ℕ) (count : ℕ) (between joined filled : Blocks) (chars : ℕ) → Spells units text → HasUnits text count →
+    Joins (2147483649 ∷ count ∷ replicate (count * 1) 0) between joined chars → Fills text joined filled chars → Joins (2147483649 ∷ count ∷ units)
+    between filled chars
 filled_joins text units count between joined filled chars s has j fills =
     fills units 2147483649 count between s
     (subst (λ (w : List ℕ). Joins (2147483649 ∷ count ∷ w) between joined chars) (chars_words count (length units) (has units s)) j)

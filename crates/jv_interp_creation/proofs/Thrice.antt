@@ -84,7 +84,8 @@ pub takes_three : (c : Context) (kind : NumberElement) (done : Memory × Effect)
 takes_three c kind done e =
     let top =
     bound_gave (taken_as c.memory.objects (element_number kind) c.frame.stack)
-    (λ (t : Value × List Value). taken_as c.memory.objects types.Int t.1 >>= λ second. as_int second.0 >>= λ index. taken_reference c.memory.objects second.1 >>= λ under. store_number c kind index t.0 under.0 under.1) done e in
+    (λ (t : Value × List Value). taken_as c.memory.objects types.Int t.1 >>= λ second. as_int second.0 >>= λ index. taken_reference c.memory.objects
+    second.1 >>= λ under. store_number c kind index t.0 under.0 under.1) done e in
     let second =
     bound_gave (taken_as c.memory.objects types.Int top.0.1)
     (λ (t : Value × List Value). as_int t.0 >>= λ index. taken_reference c.memory.objects t.1 >>= λ under. store_number c kind index top.0.0 under.0 under.1) done top.2 in

@@ -51,9 +51,12 @@ module _ (part : Context → Outcome) (texts : List (List ℕ)) (next : ℕ) (he
       (cells : ℕ) (after : Blocks) → done ≡ (c.memory, Throws out_of_memory) → cells ≡ here.held.cells → after ≡ here.blocks
       → DidIn here.blocks texts (place here.at here.words (record here.held { cells = cells }) after) (effects.Throws here.held.out_of_memory) c addresses done below
   lacks_in cells after is same_cells same =
-      subst (λ (x : Memory × Effect). DidIn here.blocks texts (place here.at here.words (record here.held { cells = cells }) after) (effects.Throws here.held.out_of_memory) c addresses x below) (sym is)
-      (subst (λ (b : Blocks). DidIn here.blocks texts (place here.at here.words (record here.held { cells = cells }) b) (effects.Throws here.held.out_of_memory) c addresses (c.memory, Throws out_of_memory) below) (sym same)
-      (subst (λ (n : ℕ). DidIn here.blocks texts (place here.at here.words (record here.held { cells = n }) here.blocks) (effects.Throws here.held.out_of_memory) c addresses (c.memory, Throws out_of_memory) below) (sym same_cells)
+      subst (λ (x : Memory × Effect). DidIn here.blocks texts (place here.at here.words (record here.held { cells = cells }) after)
+      (effects.Throws here.held.out_of_memory) c addresses x below) (sym is)
+      (subst (λ (b : Blocks). DidIn here.blocks texts (place here.at here.words (record here.held { cells = cells }) b)
+      (effects.Throws here.held.out_of_memory) c addresses (c.memory, Throws out_of_memory) below) (sym same)
+      (subst (λ (n : ℕ). DidIn here.blocks texts (place here.at here.words (record here.held { cells = n }) here.blocks)
+      (effects.Throws here.held.out_of_memory) c addresses (c.memory, Throws out_of_memory) below) (sym same_cells)
       (record {
         did = record {
           more = [];

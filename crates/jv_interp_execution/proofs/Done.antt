@@ -80,7 +80,8 @@ arithmetic_done insn next at words throws numbers texts held blocks c addresses 
 
 -- ---- returns
 
-module _ (insn : Instruction) (texts : List (List ℕ)) (next : ℕ) (at : Registers) (words : List ℕ) (held : Held) (blocks : Blocks) (c : Context) (addresses : List ℕ) (done : Memory × Effect) (below : List ℕ)
+module _ (insn : Instruction) (texts : List (List ℕ)) (next : ℕ) (at : Registers) (words : List ℕ) (held : Held) (blocks : Blocks) (c : Context)
+    (addresses : List ℕ) (done : Memory × Effect) (below : List ℕ)
     (h : ExecutesInsn insn texts next (place at words held blocks) c addresses done below) where
   left :
       (result : List Value) (count : ℕ) (above : List ℕ) → done ≡ (c.memory, Leaves result) → count ≡ words_of_values result

@@ -41,7 +41,8 @@ use Rattle.jv_interp_frames.proofs.GivenEffects.{goes_given, leaves_given}
 
 -- ---- what stands whatever the effect is
 
-module _ (world : World) (at : Registers) (effect : Effect) (program : Program) (texts : List (List ℕ)) (s t : State) (addresses : List ℕ) (frames : Frames) (control : Control) (held : Held) (blocks : Blocks)
+module _ (world : World) (at : Registers) (effect : Effect) (program : Program) (texts : List (List ℕ)) (s t : State) (addresses : List ℕ)
+    (frames : Frames) (control : Control) (held : Held) (blocks : Blocks)
     (h : Acting world at effect program texts s t addresses (kept frames control held blocks)) where
   -- its frame, with other local variables and another stack
   abbrev pub now : ℕ → List Value → List Value → MethodFrame
@@ -143,7 +144,8 @@ module _ (world : World) (at : Registers) (program : Program) (texts : List (Lis
 
 -- ---- it returns
 
-module _ (world : World) (at : Registers) (words : ℕ) (program : Program) (texts : List (List ℕ)) (s t : State) (addresses : List ℕ) (frames : Frames) (control : Control) (held : Held) (blocks : Blocks)
+module _ (world : World) (at : Registers) (words : ℕ) (program : Program) (texts : List (List ℕ)) (s t : State) (addresses : List ℕ) (frames : Frames)
+    (control : Control) (held : Held) (blocks : Blocks)
     (h : Acting world at (effects.Leaves words) program texts s t addresses (kept frames control held blocks)) (methods : Methods) (are : AreMethods world methods) where
   pub record Returns : Type 0 where
     pub result : List Value

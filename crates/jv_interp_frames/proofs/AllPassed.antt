@@ -83,7 +83,8 @@ module _ (program : Program) (addresses : List ℕ) (frame : MethodFrame) (below
       same_frame a b e = let is : a ≡ b = cc in sym is
 
   -- the local variables' words end there
-  pub locals_end : (in_use kept.words.items (own.base + frame.method.code.max_locals) ≡ reverse here.stands.words.words ++ here.under) × (own.base + frame.method.code.max_locals + 4 ≤ length kept.words.items)
+  pub locals_end : (in_use kept.words.items (own.base + frame.method.code.max_locals) ≡ reverse here.stands.words.words ++ here.under) ×
+      (own.base + frame.method.code.max_locals + 4 ≤ length kept.words.items)
   locals_end =
       let s = here.stands in
       let top = stack_above addresses frame.stack (in_use kept.words.items kept.top) (reverse s.words.words ++ here.under) s.words.stack_stands in
@@ -115,7 +116,9 @@ module _ (program : Program) (addresses : List ℕ) (frame : MethodFrame) (below
       let record_kept : MethodRecord = record { method = own.method; pc = pc; base = own.base } in
       let used : in_use after.words.items after.top ≡ address ∷ (reverse s.words.words ++ here.under) =
       words_are ∙ ap (λ (l : List ℕ). address ∷ l) end.0 in
-      let method : MethodStands program addresses (record frame { offset = pc; stack = Rattle.jv_meaning_machine.specs.Values.Value.Reference object ∷ [] }) record_kept (in_use after.words.items after.top) here.under =
+      let method : MethodStands program addresses
+      (record frame { offset = pc; stack = Rattle.jv_meaning_machine.specs.Values.Value.Reference object ∷ [] }) record_kept
+      (in_use after.words.items after.top) here.under =
       record {
         declared = s.declared;
         has_number = s.has_number;

@@ -59,7 +59,8 @@ module _ (program : Program) (s : State) (l : Loaded) where
     | Untouched ↦ by_verdict (is_verified program l)
   ]
 
-module _ (world : World) (class : ℕ) (verified : List Bool) (program : Program) (texts : List (List ℕ)) (s t : State) (addresses : List ℕ) (frames : Frames) (control : Control) (held : Held) (blocks : Blocks)
+module _ (world : World) (class : ℕ) (verified : List Bool) (program : Program) (texts : List (List ℕ)) (s t : State) (addresses : List ℕ)
+    (frames : Frames) (control : Control) (held : Held) (blocks : Blocks)
     (h : Moves world (Beginning class verified) program texts s t addresses (kept frames control held blocks)) where
   abbrev state_now : StateOfNames
   state_now = class_state s.control.states h.does.l
@@ -74,7 +75,8 @@ module _ (world : World) (class : ℕ) (verified : List Bool) (program : Program
   pub is_state : (k : ClassState) → slice_get control.states.items class ≡ Some k → kept_state state_now ≡ k
   is_state k e = same_some (kept_state state_now) k (sym kept_now ∙ e)
 
-  pub nothing_done : (n : StateOfNames) → state_now ≡ n → by_state program s h.does.l n ≡ Ok (state_of s.memory s.frames s.control) → Reaches program texts t addresses (kept frames control held blocks) (kept frames control held blocks)
+  pub nothing_done : (n : StateOfNames) → state_now ≡ n → by_state program s h.does.l n ≡ Ok (state_of s.memory s.frames s.control) →
+      Reaches program texts t addresses (kept frames control held blocks) (kept frames control held blocks)
   nothing_done n e same =
       let is = same_state (state_of s.memory s.frames s.control) t (sym same ∙ ap (by_state program s h.does.l) (sym e) ∙ does) in
       subst (λ (t : State). Reaches program texts t addresses (kept frames control held blocks) (kept frames control held blocks)) is

@@ -78,7 +78,8 @@ module _ (world : World) (addresses : List ℕ) (frame : MethodFrame) (memory : 
 
 -- ---- a method that is entered, `<init>` or not
 
-pub record EntersNow (program : Program) (addresses : List ℕ) (frame : MethodFrame) (others : List Frame) (control : ControlOfNames) (memory : Memory) (t : State) (number words : ℕ) (at : Registers) (used below : List ℕ) : Type 0 where
+pub record EntersNow (program : Program) (addresses : List ℕ) (frame : MethodFrame) (others : List Frame) (control : ControlOfNames) (memory : Memory)
+    (t : State) (number words : ℕ) (at : Registers) (used below : List ℕ) : Type 0 where
   pub d : Declared
   pub receiver : Option ℕ
   pub arguments : List Value

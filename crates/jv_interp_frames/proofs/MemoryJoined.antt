@@ -106,7 +106,9 @@ module _ (world : World) (texts : List (List ℕ)) (memory : Memory) (addresses 
   made_of l None number is size made =
       let lacks : nat_le (object_cells world l) memory.cells ≡ false = let c = h.cells in let m = made.0 in grind (arith, common_steps) in
       let back = kept_same (sym made.1) in
-      subst (λ (b : Bool). ExceptionStands world texts (exception_made world l memory (if b then Some (record memory { cells = memory.cells - object_cells world l }) else None)) addresses held.out_of_memory before after blocks)
+      subst (λ (b : Bool). ExceptionStands world texts
+      (exception_made world l memory (if b then Some (record memory { cells = memory.cells - object_cells world l }) else None)) addresses
+      held.out_of_memory before after blocks)
       (sym lacks)
       (record {
         more = [];
@@ -122,11 +124,14 @@ module _ (world : World) (texts : List (List ℕ)) (memory : Memory) (addresses 
       let cells : memory.cells - object_cells world l ≡ after.cells = let c = h.cells in let m = made.0 in omega (arith, c, m, size) in
       let objects = instance_joined world memory.objects addresses before blocks true l class address words h.objects number is few size made.1 in
       let there : length addresses ≡ length memory.objects = h.objects.count in
-      subst (λ (b : Bool). ExceptionStands world texts (exception_made world l memory (if b then Some (record memory { cells = memory.cells - object_cells world l }) else None)) addresses address before after blocks)
+      subst (λ (b : Bool). ExceptionStands world texts
+      (exception_made world l memory (if b then Some (record memory { cells = memory.cells - object_cells world l }) else None)) addresses address
+      before after blocks)
       (sym fits)
       (record {
         more = address ∷ [];
-        memory = memory_joined world texts memory addresses (address ∷ []) held after before blocks (memory.objects ++ made_object world l ∷ []) (memory.cells - object_cells world l) h objects same cells;
+        memory = memory_joined world texts memory addresses (address ∷ []) held after before blocks (memory.objects ++ made_object world l ∷ [])
+            (memory.cells - object_cells world l) h objects same cells;
         object = subst (λ (n : ℕ). slice_get (addresses ++ address ∷ []) n ≡ Some address) there (newest addresses address);
         grows = grows_joined addresses (class ∷ replicate words 0) before blocks address made.1;
       })

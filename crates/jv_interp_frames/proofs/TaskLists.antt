@@ -74,7 +74,8 @@ module _ (l : Loaded) where
         low = omega (arith, is);
         at = ap (slice_get (f ∷ more)) none;
         initial = e;
-        task = subst (λ (o : Option InitialValue). slice_get (cons_option (option_map (SetsField (field_by l f)) o) (filter_map (setting l) more)) 0 ≡ Some (SetsField (field_by l f) constant)) (sym e) refl;
+        task = subst (λ (o : Option InitialValue). slice_get (cons_option (option_map (SetsField (field_by l f)) o) (filter_map (setting l) more)) 0 ≡
+            Some (SetsField (field_by l f) constant)) (sym e) refl;
       }
     where
       same : (a b : ℕ) → Some a ≡ Some b → a ≡ b

@@ -35,7 +35,9 @@ use Rattle.jv_interp_frames.proofs.Acts.{now, method_now, suspending}
 
 -- ---- it waits, and this is done above it
 
-pub record Waits (verified : List Bool) (world : World) (at : Registers) (effect : Effect) (program : Program) (texts : List (List ℕ)) (s t : State) (addresses : List ℕ) (frames : Frames) (control : Control) (held : Held) (blocks : Blocks) (h : Acting world at effect program texts s t addresses (kept frames control held blocks)) : Type 0 where
+pub record Waits (verified : List Bool) (world : World) (at : Registers) (effect : Effect) (program : Program) (texts : List (List ℕ)) (s t : State)
+    (addresses : List ℕ) (frames : Frames) (control : Control) (held : Held) (blocks : Blocks)
+    (h : Acting world at effect program texts s t addresses (kept frames control held blocks)) : Type 0 where
   pub frame : MethodFrame
   pub within : IsWithin effect at.top
   pub suspending : Suspending at (top_without effect at.top) frames program addresses frame h.others s.control.words
@@ -45,7 +47,8 @@ pub record Waits (verified : List Bool) (world : World) (at : Registers) (effect
 
 -- ---- where the frame is as it was
 
-module _ (verified : List Bool) (world : World) (at : Registers) (effect : Effect) (program : Program) (texts : List (List ℕ)) (s t : State) (addresses : List ℕ) (frames : Frames) (control : Control) (held : Held) (blocks : Blocks)
+module _ (verified : List Bool) (world : World) (at : Registers) (effect : Effect) (program : Program) (texts : List (List ℕ)) (s t : State)
+    (addresses : List ℕ) (frames : Frames) (control : Control) (held : Held) (blocks : Blocks)
     (h : Acting world at effect program texts s t addresses (kept frames control held blocks)) where
   stays_waiting : Stays addresses h.frame at (in_use frames.words.items at.top) h.below → Suspending at at.top frames program addresses h.frame h.others s.control.words
   stays_waiting stays =
@@ -58,7 +61,8 @@ module _ (verified : List Bool) (world : World) (at : Registers) (effect : Effec
 
 -- ---- where a method is entered
 
-module _ (world : World) (at : Registers) (number words : ℕ) (program : Program) (texts : List (List ℕ)) (s t : State) (addresses : List ℕ) (frames : Frames) (control : Control) (held : Held) (blocks : Blocks)
+module _ (world : World) (at : Registers) (number words : ℕ) (program : Program) (texts : List (List ℕ)) (s t : State) (addresses : List ℕ)
+    (frames : Frames) (control : Control) (held : Held) (blocks : Blocks)
     (h : Acting world at (effects.Enters number words) program texts s t addresses (kept frames control held blocks)) where
   abbrev ws : List ℕ
   ws = frames.words.items
@@ -198,7 +202,8 @@ moves verified world at effect program texts s t addresses frames control held b
 
 -- ---- behind the suspension in code
 
-module _ (verified : List Bool) (world : World) (at : Registers) (effect : Effect) (program : Program) (texts : List (List ℕ)) (s t : State) (addresses : List ℕ) (frames : Frames) (control : Control) (held : Held) (blocks : Blocks)
+module _ (verified : List Bool) (world : World) (at : Registers) (effect : Effect) (program : Program) (texts : List (List ℕ)) (s t : State)
+    (addresses : List ℕ) (frames : Frames) (control : Control) (held : Held) (blocks : Blocks)
     (h : Acting world at effect program texts s t addresses (kept frames control held blocks)) (are : AreVerified program verified) (above : IsAbove effect) (top : ℕ)
     (top_is : top ≡ top_without effect at.top) where
   abbrev waiting : Waits verified world at effect program texts s t addresses frames control held blocks h
@@ -224,4 +229,5 @@ module _ (verified : List Bool) (world : World) (at : Registers) (effect : Effec
   then_moves after suspends same =
       moves verified world at effect program texts s t addresses frames control held blocks h waiting after
       (same ∙ ap (λ (n : ℕ). record frames { records = after.records; top = n }) top_is)
-      (suspends program addresses waiting.frame h.others s.control.words (subst (λ (n : ℕ). Suspending at n frames program addresses waiting.frame h.others s.control.words) (sym top_is) waiting.suspending))
+      (suspends program addresses waiting.frame h.others s.control.words
+      (subst (λ (n : ℕ). Suspending at n frames program addresses waiting.frame h.others s.control.words) (sym top_is) waiting.suspending))

@@ -51,7 +51,8 @@ use Rattle.jv_interp_runs.specs.Stepping.{StepsIn, SteppedTo}
 use Rattle.jv_interp_runs.specs.Inside.Decoding.{record_at, CanDecode, IsDecoded, StandsNext}
 use Rattle.jv_interp_runs.proofs.Fewer.{cells_fall}
 
-module _ (world : World) (verified : List Bool) (at : Registers) (program : Program) (texts : List (List ℕ)) (s t : State) (addresses : List ℕ) (frames : Frames) (control : Control) (held : Held) (blocks : Blocks)
+module _ (world : World) (verified : List Bool) (at : Registers) (program : Program) (texts : List (List ℕ)) (s t : State) (addresses : List ℕ)
+    (frames : Frames) (control : Control) (held : Held) (blocks : Blocks)
     (h : StepsIn world verified at program texts s t addresses (kept frames control held blocks)) where
   abbrev pub frame : MethodFrame
   frame = h.runs.running.frame

@@ -26,7 +26,8 @@ use Rattle.jv_interp_runs.proofs.Executed.{nexts_at}
 same_instruction : (o : Option Instruction) (a b : Instruction) → o ≡ Some a → o ≡ Some b → a ≡ b
 same_instruction o a b e f = cc
 
-module _ (world : World) (verified : List Bool) (at : Registers) (program : Program) (texts : List (List ℕ)) (s t : State) (addresses : List ℕ) (frames : Frames) (control : Control) (held : Held) (blocks : Blocks)
+module _ (world : World) (verified : List Bool) (at : Registers) (program : Program) (texts : List (List ℕ)) (s t : State) (addresses : List ℕ)
+    (frames : Frames) (control : Control) (held : Held) (blocks : Blocks)
     (h : StepsIn world verified at program texts s t addresses (kept frames control held blocks)) where
   abbrev steps_from : StepsFrom program s t addresses frames.records.items at frames.words.items
   steps_from = record { running = h.runs.running; apart = h.runs.memory.objects.are; finds = h.guest.finds; goes = h.takes.does }

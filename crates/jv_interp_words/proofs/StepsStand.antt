@@ -139,7 +139,8 @@ effect_fits c program frame below control t under size (memory, Begins l) e room
 
 -- ---- from a state to its current frame
 
-pub record WorksFrom (insn : Instruction) (next : ℕ) (program : Program) (s t : State) (addresses : List ℕ) (at : Registers) (words : List ℕ) (frame : MethodFrame) (others : List Frame) (below : List ℕ) : Type 0 where
+pub record WorksFrom (insn : Instruction) (next : ℕ) (program : Program) (s t : State) (addresses : List ℕ) (at : Registers) (words : List ℕ)
+    (frame : MethodFrame) (others : List Frame) (below : List ℕ) : Type 0 where
   pub acts : Acts program s t frame others insn
   pub works : Works insn next at words (context program s.memory s.control frame insn) addresses acts.done below
   pub room : HasRoom (context program s.memory s.control frame insn) below (length words) acts.done

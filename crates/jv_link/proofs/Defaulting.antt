@@ -51,17 +51,20 @@ one_number size n h (suc k) d less = absurd (omega (arith, less))
 
 -- ---- methods
 
-pub method_there : (world : World) (place : Place) (l : Loaded) (d : Declared) → slice_get world place.class ≡ Some l → method_at world place ≡ Some d → slice_get l.class.methods place.member ≡ Some d.method
+pub method_there : (world : World) (place : Place) (l : Loaded) (d : Declared) → slice_get world place.class ≡ Some l → method_at world place ≡
+    Some d → slice_get l.class.methods place.member ≡ Some d.method
 method_there world place l d at e = by_method (slice_get l.class.methods place.member) (sym (ap (λ o. o >>= method_of place.member) at) ∙ e)
   where
     by_method : (o : Option Method) → option_map (declared_by l) o ≡ Some d → o ≡ Some d.method
     by_method None e = absurd cc
     by_method (Some m) e = ap (λ o. option_map (λ (x : Declared). x.method) o) e
 
-pub has_default : (l : Loaded) (i : ℕ) (m : Method) → slice_get l.class.methods i ≡ Some m → is_default m ≡ true → list_any is_default (drop i l.class.methods) ≡ declares_default l → true ≡ declares_default l
+pub has_default : (l : Loaded) (i : ℕ) (m : Method) → slice_get l.class.methods i ≡ Some m → is_default m ≡ true → list_any is_default
+    (drop i l.class.methods) ≡ declares_default l → true ≡ declares_default l
 has_default l i m at is left = sym (ap (list_any is_default) (opened_at l.class.methods i m at) ∙ ap (λ b. b || list_any is_default (drop (i + 1) l.class.methods)) is) ∙ left
 
-pub no_default : (l : Loaded) (i : ℕ) (m : Method) → slice_get l.class.methods i ≡ Some m → is_default m ≡ false → list_any is_default (drop i l.class.methods) ≡ declares_default l → list_any is_default (drop (i + 1) l.class.methods) ≡ declares_default l
+pub no_default : (l : Loaded) (i : ℕ) (m : Method) → slice_get l.class.methods i ≡ Some m → is_default m ≡ false → list_any is_default
+    (drop i l.class.methods) ≡ declares_default l → list_any is_default (drop (i + 1) l.class.methods) ≡ declares_default l
 no_default l i m at is left = sym (ap (list_any is_default) (opened_at l.class.methods i m at) ∙ ap (λ b. b || list_any is_default (drop (i + 1) l.class.methods)) is) ∙ left
 
 past_all : {X : Type 0} → (test : X → Bool) (xs : List X) (i : ℕ) → length xs ≤ i → list_any test (drop i xs) ≡ false
@@ -76,7 +79,8 @@ none_default l i h left = sym (past_all is_default l.class.methods i h) ∙ left
 -- ---- interfaces
 
 abbrev pub IsDefaultLeft : World → List ℕ → List ℕ → ℕ → List ℕ → Type 0
-IsDefaultLeft world before interfaces place order = (classes_at world order ++ with_default (classes_at world (drop place interfaces))) ≡ (classes_at world before ++ with_default (classes_at world interfaces))
+IsDefaultLeft world before interfaces place order = (classes_at world order ++ with_default (classes_at world (drop place interfaces))) ≡
+    (classes_at world before ++ with_default (classes_at world interfaces))
 
 with_one : (c : Loaded) (ls : List Loaded) → with_default (c ∷ ls) ≡ with_default (c ∷ []) ++ with_default ls
 with_one c ls = by_test (declares_default c)
@@ -86,7 +90,8 @@ with_one c ls = by_test (declares_default c)
     by_test false = refl
 
 pub default_more : (world : World) (before interfaces order more : List ℕ) (place k : ℕ) → place < length interfaces → get_or interfaces place 0 ≡ k → k < length world
-    → HoldsAtNumber world k (λ l. classes_at world more ≡ classes_at world order ++ with_default (l ∷ [])) → IsDefaultLeft world before interfaces place order → IsDefaultLeft world before interfaces (place + 1) more
+    → HoldsAtNumber world k (λ l. classes_at world more ≡ classes_at world order ++ with_default (l ∷ [])) → IsDefaultLeft world before interfaces
+    place order → IsDefaultLeft world before interfaces (place + 1) more
 default_more world before interfaces order more place k h e less is left =
     let class = some_class world k less in
     let rest = classes_at world (drop (place + 1) interfaces) in
@@ -95,11 +100,13 @@ default_more world before interfaces order more place k h e less is left =
     ∙ (ap (λ ls. classes_at world order ++ ls) (sym (with_one class.0 rest))
     ∙ (ap (λ ls. classes_at world order ++ with_default ls) (sym (one_class_more world interfaces place k class.0 h e class.1)) ∙ left)))
 
-pub default_end : (world : World) (before interfaces order : List ℕ) (place : ℕ) → length interfaces ≡ place → IsDefaultLeft world before interfaces place order → classes_at world order ≡ classes_at world before ++ with_default (classes_at world interfaces)
+pub default_end : (world : World) (before interfaces order : List ℕ) (place : ℕ) → length interfaces ≡ place → IsDefaultLeft world before interfaces
+    place order → classes_at world order ≡ classes_at world before ++ with_default (classes_at world interfaces)
 default_end world before interfaces order place e left =
     sym (append-nil (classes_at world order)) ∙ (ap (λ ls. classes_at world order ++ with_default ls) (sym (no_class_left world interfaces place e)) ∙ left)
 
-pub added_default : (world : World) (order : List ℕ) (k : ℕ) (l : Loaded) → slice_get world k ≡ Some l → declares_default l ≡ true → classes_at world (order ++ k ∷ []) ≡ classes_at world order ++ with_default (l ∷ [])
+pub added_default : (world : World) (order : List ℕ) (k : ℕ) (l : Loaded) → slice_get world k ≡ Some l → declares_default l ≡ true →
+    classes_at world (order ++ k ∷ []) ≡ classes_at world order ++ with_default (l ∷ [])
 added_default world order k l at is = one_behind world k l order at ∙ ap (λ b. classes_at world order ++ (if b then l ∷ [] else [])) (sym is)
 
 pub left_out : (world : World) (order : List ℕ) (l : Loaded) → declares_default l ≡ false → classes_at world order ≡ classes_at world order ++ with_default (l ∷ [])

@@ -32,7 +32,8 @@ nothing_more world layout ds laid = subst (IsLaid world layout) (sym (append-nil
 one_width : (d : DeclaredField) → sum_by field_words (d ∷ []) ≡ field_words d
 one_width d = let all = sum_by-cons field_words d [] in omega (arith, all)
 
-behind_all : (world : World) (old new : Layout) (place : Place) (d : DeclaredField) (ds : List DeclaredField) (wide : Bool) → field_at world place ≡ Some d → new.fields.items ≡ old.fields.items ++ placed_field place old.words ∷ []
+behind_all : (world : World) (old new : Layout) (place : Place) (d : DeclaredField) (ds : List DeclaredField) (wide : Bool) → field_at world place ≡
+    Some d → new.fields.items ≡ old.fields.items ++ placed_field place old.words ∷ []
     → new.words ≡ old.words + (if wide then 2 else 1) → wide ≡ bytes_eq d.field.descriptor (codes "J") → IsLaid world old ds → IsLaid world new (ds ++ d ∷ [])
 behind_all world old new place d ds wide at fields words is laid = record {
   fields_placed =
@@ -49,21 +50,26 @@ behind_all world old new place d ds wide at fields words is laid = record {
     start : old.words ≡ 0 + sum_by field_words ds
     start = let same = laid.words in omega (arith, same)
 
-pub laid_more : (world : World) (old new : Layout) (place : Place) (d : DeclaredField) (ds : List DeclaredField) (wide : Bool) (flags : ℕ) → field_at world place ≡ Some d → new.fields.items ≡ old.fields.items ++ placed_field place old.words ∷ []
-    → new.words ≡ old.words + (if wide then 2 else 1) → wide ≡ bytes_eq d.field.descriptor (codes "J") → flags ≡ d.field.access_flags → bit_and flags 8 ≡ 0 → IsLaid world old ds → IsLaid world new (ds ++ own_field d)
+pub laid_more : (world : World) (old new : Layout) (place : Place) (d : DeclaredField) (ds : List DeclaredField) (wide : Bool) (flags : ℕ) →
+    field_at world place ≡ Some d → new.fields.items ≡ old.fields.items ++ placed_field place old.words ∷ []
+    → new.words ≡ old.words + (if wide then 2 else 1) → wide ≡ bytes_eq d.field.descriptor (codes "J") → flags ≡ d.field.access_flags →
+    bit_and flags 8 ≡ 0 → IsLaid world old ds → IsLaid world new (ds ++ own_field d)
 laid_more world old new place d ds wide flags at fields words is same none laid =
-    subst (λ b. IsLaid world new (ds ++ (if b then [] else d ∷ []))) (ap (λ n. not (n == 0)) (sym none) ∙ ap (λ n. not (bit_and n 8 == 0)) same) (behind_all world old new place d ds wide at fields words is laid)
+    subst (λ b. IsLaid world new (ds ++ (if b then [] else d ∷ []))) (ap (λ n. not (n == 0)) (sym none) ∙ ap (λ n. not (bit_and n 8 == 0)) same)
+    (behind_all world old new place d ds wide at fields words is laid)
 
 -- ---- all fields of a class
 
 pub record LaysOn (world : World) (class : ℕ) (first : Layout) (member : ℕ) (layout : Layout) : Type 0 where
   pub bound : layout.words ≤ 2 * vec_len layout.fields
-  pub laid : HoldsAtNumber world class (λ l. (ds : List DeclaredField) → IsLaid world first ds → IsLaid world layout (ds ++ map (field_by l) (filter (λ f. not (is_static_field f)) (take member l.class.fields))))
+  pub laid : HoldsAtNumber world class (λ l. (ds : List DeclaredField) → IsLaid world first ds → IsLaid world layout
+      (ds ++ map (field_by l) (filter (λ f. not (is_static_field f)) (take member l.class.fields))))
 
 abbrev instance : Field → Bool
 instance f = not (is_static_field f)
 
-one_more : (l : Loaded) (i : ℕ) (f : Field) → slice_get l.class.fields i ≡ Some f → map (field_by l) (filter instance (take (i + 1) l.class.fields)) ≡ map (field_by l) (filter instance (take i l.class.fields)) ++ own_field (field_by l f)
+one_more : (l : Loaded) (i : ℕ) (f : Field) → slice_get l.class.fields i ≡ Some f → map (field_by l) (filter instance (take (i + 1) l.class.fields)) ≡
+    map (field_by l) (filter instance (take i l.class.fields)) ++ own_field (field_by l f)
 one_more l i f at =
     ap (λ fs. map (field_by l) (filter instance fs)) (take_more l.class.fields i f at)
     ∙ (ap (map (field_by l)) (filter-append instance (take i l.class.fields) (f ∷ []))
@@ -86,7 +92,8 @@ lays_on world class first layout later member within bound more on = record {
   bound = bound;
   laid = λ l at ds laid.
       let f = some_item l.class.fields member (within l at) in
-      subst (IsLaid world later) (append_assoc ds (map (field_by l) (filter instance (take member l.class.fields))) (own_field (field_by l f.0)) ∙ ap (λ es. ds ++ es) (sym (one_more l member f.0 f.1)))
+      subst (IsLaid world later) (append_assoc ds (map (field_by l) (filter instance (take member l.class.fields))) (own_field (field_by l f.0)) ∙
+      ap (λ es. ds ++ es) (sym (one_more l member f.0 f.1)))
       (more (field_by l f.0) (ds ++ map (field_by l) (filter instance (take member l.class.fields))) (ap (λ o. o >>= field_in member) at ∙ ap (option_map (field_by l)) f.1) (on.laid l at ds laid));
 }
 
@@ -113,7 +120,8 @@ pub record LaysUp (world : World) (numbers : List ℕ) (step : ℕ) (layout : La
 pub ups_start : (world : World) (numbers : List ℕ) (layout : Layout) → layout.words ≡ 0 → layout.fields.items ≡ [] → LaysUp world numbers 0 layout
 ups_start world numbers layout words fields = record {
   bound = omega (arith, words);
-  laid = subst (λ ns. IsLaid world layout (flat_map own_fields (reverse (classes_at world ns)))) (sym (none_left numbers (length numbers - 0) size)) (record { fields_placed = ap (map (placed_at world)) fields; words = words });
+  laid = subst (λ ns. IsLaid world layout (flat_map own_fields (reverse (classes_at world ns)))) (sym (none_left numbers (length numbers - 0) size))
+      (record { fields_placed = ap (map (placed_at world)) fields; words = words });
 }
   where
     size : length numbers ≤ length numbers - 0
@@ -125,7 +133,8 @@ ups_start world numbers layout words fields = record {
     none_left (k ∷ ns) zero h = absurd (omega (arith, h))
     none_left (k ∷ ns) (suc n) h = let less : length ns ≤ n = omega (arith, h) in none_left ns n less
 
-ups_more : (world : World) (numbers : List ℕ) (step k : ℕ) (layout later : Layout) (c : Loaded) → step < length numbers → get_or numbers (length numbers - 1 - step) 0 ≡ k → slice_get world k ≡ Some c → later.words ≤ 2 * vec_len later.fields
+ups_more : (world : World) (numbers : List ℕ) (step k : ℕ) (layout later : Layout) (c : Loaded) → step < length numbers →
+    get_or numbers (length numbers - 1 - step) 0 ≡ k → slice_get world k ≡ Some c → later.words ≤ 2 * vec_len later.fields
     → ((ds : List DeclaredField) → IsLaid world layout ds → IsLaid world later (ds ++ own_fields c)) → LaysUp world numbers step layout → LaysUp world numbers (step + 1) later
 ups_more world numbers step k layout later c h e at bound more on = record {
   bound = bound;
@@ -158,8 +167,10 @@ ups_more world numbers step k layout later c h e at bound more on = record {
         ∙ (sym (flat_map-append own_fields (reverse rest) (c ∷ []))
         ∙ (ap (flat_map own_fields) (sym (reverse-append (c ∷ []) rest)) ∙ ap (λ ls. flat_map own_fields (reverse ls)) (sym opened)))
 
-pub ups_on : (world : World) (numbers : List ℕ) (step k : ℕ) (layout later : Layout) → step < length numbers → get_or numbers (length numbers - 1 - step) 0 ≡ k → AreNumbers world numbers → later.words ≤ 2 * vec_len later.fields
-    → HoldsAtNumber world k (λ c. (ds : List DeclaredField) → IsLaid world layout ds → IsLaid world later (ds ++ own_fields c)) → LaysUp world numbers step layout → LaysUp world numbers (step + 1) later
+pub ups_on : (world : World) (numbers : List ℕ) (step k : ℕ) (layout later : Layout) → step < length numbers →
+    get_or numbers (length numbers - 1 - step) 0 ≡ k → AreNumbers world numbers → later.words ≤ 2 * vec_len later.fields
+    → HoldsAtNumber world k (λ c. (ds : List DeclaredField) → IsLaid world layout ds → IsLaid world later (ds ++ own_fields c)) →
+    LaysUp world numbers step layout → LaysUp world numbers (step + 1) later
 ups_on world numbers step k layout later h e all bound more on =
     let class = some_class world k within in
     ups_more world numbers step k layout later class.0 h e class.1 bound (more class.0 class.1) on

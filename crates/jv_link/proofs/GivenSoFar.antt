@@ -17,15 +17,18 @@ use Rattle.jv_meaning_typing.specs.InitializationOrder.{interfaces_in, given_wit
 -- the loop over the interfaces: what was given with the rest is what all lead to
 pub record GivesOn (world : World) (steps : ℕ) (first : NumbersBelow) (interfaces : List (Option ℕ)) (place : ℕ) (given : NumbersBelow) : Type 0 where
   pub numbers : AreNumbersOf world given
-  pub rest : fold (given_within world steps) (classes_at world given.numbers) (those_at world (drop place interfaces)) ≡ fold (given_within world steps) (classes_at world first.numbers) (those_at world interfaces)
+  pub rest : fold (given_within world steps) (classes_at world given.numbers) (those_at world (drop place interfaces)) ≡
+      fold (given_within world steps) (classes_at world first.numbers) (those_at world interfaces)
 
-pub gives_without : (world : World) (steps : ℕ) (first given later : NumbersBelow) (interfaces : List (Option ℕ)) (place : ℕ) → place < length interfaces → get_or interfaces place None ≡ None → later ≡ given
+pub gives_without : (world : World) (steps : ℕ) (first given later : NumbersBelow) (interfaces : List (Option ℕ)) (place : ℕ) →
+    place < length interfaces → get_or interfaces place None ≡ None → later ≡ given
     → GivesOn world steps first interfaces place given → GivesOn world steps first interfaces (place + 1) later
 gives_without world steps first given later interfaces place h e same on =
     subst (GivesOn world steps first interfaces (place + 1)) (sym same)
     (record { numbers = on.numbers; rest = without world (given_within world steps) interfaces place (classes_at world given.numbers) h e ∙ on.rest })
 
-pub gives_with : (world : World) (steps : ℕ) (first given later : NumbersBelow) (interfaces : List (Option ℕ)) (place k : ℕ) → place < length interfaces → get_or interfaces place None ≡ Some k → k < length world
+pub gives_with : (world : World) (steps : ℕ) (first given later : NumbersBelow) (interfaces : List (Option ℕ)) (place k : ℕ) →
+    place < length interfaces → get_or interfaces place None ≡ Some k → k < length world
     → HoldsAtNumber world k (λ s. classes_at world later.numbers ≡ given_within world steps (classes_at world given.numbers) s) → AreNumbersOf world later
     → GivesOn world steps first interfaces place given → GivesOn world steps first interfaces (place + 1) later
 gives_with world steps first given later interfaces place k h e less found are on = record {
@@ -74,7 +77,8 @@ module _ (world : World) where
   given_once k = over_once world (given_within world k) (HasGiven k) (given_after k) (given_still k) (passed_over k)
 
 -- all were given
-pub all_given : (world : World) (steps : ℕ) (first given : NumbersBelow) (interfaces : List (Option ℕ)) (place : ℕ) (l : Loaded) → interfaces ≡ interface_numbers world l.class → length interfaces ≡ place
+pub all_given : (world : World) (steps : ℕ) (first given : NumbersBelow) (interfaces : List (Option ℕ)) (place : ℕ) (l : Loaded) → interfaces ≡
+    interface_numbers world l.class → length interfaces ≡ place
     → GivesOn world steps first interfaces place given → classes_at world given.numbers ≡ fold (given_within world steps) (classes_at world first.numbers) (interfaces_in world l.class)
 all_given world steps first given interfaces place l e size on =
     sym (none_left world (given_within world steps) interfaces place (classes_at world given.numbers) size) ∙ (on.rest
@@ -89,7 +93,8 @@ given_before world (suc k) b l e = sym (ap (λ t. cond t b (fold (given_within w
 pub none_given : (world : World) (steps : ℕ) (b : List Loaded) (l : Loaded) → steps ≡ 0 → b ≡ given_within world steps b l
 none_given world steps b l e = sym (ap (λ n. given_within world n b l) e)
 
-pub given_now : (world : World) (steps d : ℕ) (first given last : NumbersBelow) (interfaces : List (Option ℕ)) (place number : ℕ) (l : Loaded) → suc d ≡ steps → slice_get world number ≡ Some l → is_among (classes_at world first.numbers) l ≡ false
+pub given_now : (world : World) (steps d : ℕ) (first given last : NumbersBelow) (interfaces : List (Option ℕ)) (place number : ℕ) (l : Loaded) →
+    suc d ≡ steps → slice_get world number ≡ Some l → is_among (classes_at world first.numbers) l ≡ false
     → interfaces ≡ interface_numbers world l.class → length interfaces ≡ place → GivesOn world d first interfaces place given → last ≡ numbers_below given.size (given.numbers ++ number ∷ [])
     → classes_at world last.numbers ≡ given_within world steps (classes_at world first.numbers) l
 given_now world steps d first given last interfaces place number l depth at fresh e size on added =

@@ -21,7 +21,8 @@ fault_by circular supers kind names =
     if circular then Some Circular else if not supers then Some NoSuper else if not kind then Some WrongKind else if not names then Some NoAccess
     else None
 
-without_finals : (circular supers kind names final : Bool) → option_and_then loading_error (fault_by circular supers kind names) ≡ option_and_then loading_error (verdict_by circular supers kind names final)
+without_finals : (circular supers kind names final : Bool) → option_and_then loading_error (fault_by circular supers kind names) ≡
+    option_and_then loading_error (verdict_by circular supers kind names final)
 without_finals true supers kind names final = refl
 without_finals false false kind names final = refl
 without_finals false true false names final = refl
@@ -36,7 +37,8 @@ module _ (world : World) where
   passes_more p q more None h = absurd cc
   passes_more p q more (Some s) h = more s h
 
-  all_more : (p q : Loaded → Bool) → ((s : Loaded) → IsTrue (p s) → IsTrue (q s)) → (names : List (List ℕ)) → IsTrue (list_all (λ n. passes p (class_named world n)) names) → IsTrue (list_all (λ n. passes q (class_named world n)) names)
+  all_more : (p q : Loaded → Bool) → ((s : Loaded) → IsTrue (p s) → IsTrue (q s)) → (names : List (List ℕ)) →
+      IsTrue (list_all (λ n. passes p (class_named world n)) names) → IsTrue (list_all (λ n. passes q (class_named world n)) names)
   all_more p q more [] h = refl
   all_more p q more (n ∷ names) h =
       let parts = and_parts (passes p (class_named world n)) (list_all (λ m. passes p (class_named world m)) names) h in
@@ -94,7 +96,8 @@ module _ (world : World) where
       by_loader : (b : Bool) → l.by_system ≡ b → None ≡ error_of_class world l
       by_loader true e = ap (by_verdict l) (sym e)
       by_loader false e =
-          sym (right (is_circular world l.class) (each_super world (is_loadable world) l.class) (have_right_kind world l.class) (can_name_supers world l) (has_final_super world l.class || breaks_final l [] (superclasses world l.class)) (stands e))
+          sym (right (is_circular world l.class) (each_super world (is_loadable world) l.class) (have_right_kind world l.class)
+          (can_name_supers world l) (has_final_super world l.class || breaks_final l [] (superclasses world l.class)) (stands e))
           ∙ ap (by_verdict l) (sym e)
 
   system_is_loadable : (k : ℕ) (l : Loaded) → l.by_system ≡ true → is_loadable_within world k l ≡ true
@@ -111,5 +114,6 @@ module _ (world : World) where
       by_loader : (b : Bool) → l.by_system ≡ b → option_and_then loading_error (fault_of_supers world l) ≡ error_of_class world l
       by_loader true e = absurd (clash (is_loadable world l) (system_is_loadable (length world) l e) h)
       by_loader false e =
-          without_finals (is_circular world l.class) (each_super world (is_loadable world) l.class) (have_right_kind world l.class) (can_name_supers world l) (has_final_super world l.class || breaks_final l [] (superclasses world l.class))
+          without_finals (is_circular world l.class) (each_super world (is_loadable world) l.class) (have_right_kind world l.class)
+          (can_name_supers world l) (has_final_super world l.class || breaks_final l [] (superclasses world l.class))
           ∙ ap (by_verdict l) (sym e)

@@ -38,7 +38,9 @@ no_class index h = absurd (unlike (subst (λ o. IsSome (class_name_in [] o)) (no
 
 pub no_method : (index : ℕ) → IsSome (method_operand_in [] index) → ⊥
 no_method index h =
-    absurd (unlike (subst (λ o. IsSome (option_or (option_map (through Methodref) (method_reference_in [] o)) (option_map (through InterfaceMethodref) (interface_method_reference_in [] o)))) (no_entry index) h))
+    absurd (unlike (subst
+    (λ o. IsSome (option_or (option_map (through Methodref) (method_reference_in [] o))
+    (option_map (through InterfaceMethodref) (interface_method_reference_in [] o)))) (no_entry index) h))
   where
     unlike : IsSome (option_or (option_map (through Methodref) (method_reference_in [] None)) (option_map (through InterfaceMethodref) (interface_method_reference_in [] None))) → ⊥
     unlike g = cc
@@ -52,7 +54,8 @@ no_type agree text none = by_type (field_type_of text) refl
     by_type (Some t) e = absurd (none t ((agree.field text t).1 e))
 
 -- an array stands for java/lang/Object
-pub array_means : (world : World) (found : ClassRef) (t : FieldTypeOf (Bor (List ℕ))) (r : ResolvedClass) → found ≡ refs.Array t → class_ref_at world found ≡ Some r → class_named world (codes "java/lang/Object") ≡ member_class world r
+pub array_means : (world : World) (found : ClassRef) (t : FieldTypeOf (Bor (List ℕ))) (r : ResolvedClass) → found ≡ refs.Array t →
+    class_ref_at world found ≡ Some r → class_named world (codes "java/lang/Object") ≡ member_class world r
 array_means world found t r is e = ap (member_class world) (same (sym (ap (class_ref_at world) is) ∙ e))
   where
     same : Some (ArrayOf (seen_field_type t)) ≡ Some r → ArrayOf (seen_field_type t) ≡ r

@@ -98,7 +98,8 @@ module _ (ways : AboveByWays) (above_above : AboveIsTransitive) (world : World) 
   up_from (suc j) l few straight =
       made_up l straight (by_super (λ s g t. up_from j s g t) (superclass_in world l.class) refl (subst (λ ls. length ls ≤ suc j) (goes_up l straight) few))
     where
-      by_super : ((s : Loaded) → length (superclasses world s.class) ≤ j → IsStraight world s → IsUp world (s ∷ superclasses world s.class)) → (o : Option Loaded) → superclass_in world l.class ≡ o → length (upward_of world o) ≤ suc j → IsUp world (upward_of world o)
+      by_super : ((s : Loaded) → length (superclasses world s.class) ≤ j → IsStraight world s → IsUp world (s ∷ superclasses world s.class)) →
+          (o : Option Loaded) → superclass_in world l.class ≡ o → length (upward_of world o) ≤ suc j → IsUp world (upward_of world o)
       by_super again None e h = tt
       by_super again (Some s) e h =
           let less : length (superclasses world s.class) ≤ j = omega (arith, h) in
@@ -143,7 +144,9 @@ module _ (world : World) (e : Declared) where
 
   -- ---- what opens
 
-  opens_or_not : (private near open_d open_e : Bool) (d : Declared) → is_opening (if private then Nothing else if near && open_d then Opens d else if near || open_e then Sure d else Far d) ≡ (not private && (open_d && near))
+  opens_or_not : (private near open_d open_e : Bool) (d : Declared) →
+      is_opening (if private then Nothing else if near && open_d then Opens d else if near || open_e then Sure d else Far d) ≡
+      (not private && (open_d && near))
   opens_or_not true near open_d open_e d = refl
   opens_or_not false true true open_e d = refl
   opens_or_not false true false open_e d = refl
@@ -155,7 +158,8 @@ module _ (world : World) (e : Declared) where
   opening_in : (l : Loaded) (b : Bool) → below l ≡ b → (o : Option Declared) → is_opening (met_in world e l o) ≡ (b && opened_by e o)
   opening_in l true f None = refl
   opening_in l false f None = refl
-  opening_in l true f (Some d) = ap (λ t. is_opening (if t then met_below e d else if same_class e.by l then Sure d else Nothing)) f ∙ opens_or_not (is_private d) (is_near e d) (is_open d) (is_open e) d
+  opening_in l true f (Some d) = ap (λ t. is_opening (if t then met_below e d else if same_class e.by l then Sure d else Nothing)) f ∙
+      opens_or_not (is_private d) (is_near e d) (is_open d) (is_open e) d
   opening_in l false f (Some d) = ap (λ t. is_opening (if t then met_below e d else if same_class e.by l then Sure d else Nothing)) f ∙ beside (same_class e.by l)
     where
       beside : (b : Bool) → is_opening (if b then Sure d else Nothing) ≡ false
@@ -200,7 +204,8 @@ module _ (world : World) (e : Declared) where
         ∙ (ap (λ n. bytes_eq n e.method.descriptor) names.1 ∙ nat_list_eq_equiv.refl e.method.descriptor))))
 
     -- what the class has overrides the called one where it joins those found above it
-    has_it : (c : Loaded) (rest : List Loaded) (d : Declared) → superclasses world c.class ≡ rest → IsFresh c.class.name rest → IsAlike c e.method d → alike_in c e.method ≡ Some d → same_class e.by c ≡ false → (b : Bool) → below c ≡ b
+    has_it : (c : Loaded) (rest : List Loaded) (d : Declared) → superclasses world c.class ≡ rest → IsFresh c.class.name rest → IsAlike c e.method d →
+        alike_in c e.method ≡ Some d → same_class e.by c ≡ false → (b : Bool) → below c ≡ b
         → has_overriding world c e ≡ (b && (not (is_private d) && ((is_open e || list_any (opened_in e e.method) (filter below rest)) || is_near e d)))
     has_it c rest d chain once is at other b f =
         ap (λ ls. list_any (λ o. same_class o.by c) (overriding (e ∷ []) e.method (reverse (filter below (c ∷ ls))))) chain
@@ -293,9 +298,11 @@ module _ (world : World) (e : Declared) where
       by_alike None = refl
       by_alike (Some d) =
           ap (λ b. if is_instance d.method && b && bytes_eq d.method.name e.method.name && bytes_eq d.method.descriptor e.method.descriptor && has_overriding world d.by e then Some d else None) unable
-          ∙ ap (λ b. if b && bytes_eq d.method.name e.method.name && bytes_eq d.method.descriptor e.method.descriptor && has_overriding world d.by e then Some d else None) (never (is_instance d.method))
+          ∙ ap (λ b. if b && bytes_eq d.method.name e.method.name && bytes_eq d.method.descriptor e.method.descriptor && has_overriding world d.by e
+          then Some d else None) (never (is_instance d.method))
 
-pub run_is : OverridingUpward → AboveByWays → AboveIsTransitive → (world : World) (e : Declared) (l : Loaded) → is_instance e.method ≡ true → IsStraight world l → run_of (met_upward world e (Some l)) ≡ first_overriding world e l
+pub run_is : OverridingUpward → AboveByWays → AboveIsTransitive → (world : World) (e : Declared) (l : Loaded) → is_instance e.method ≡ true →
+    IsStraight world l → run_of (met_upward world e (Some l)) ≡ first_overriding world e l
 run_is upward ways above_above world e l able straight = sym (first_is world e upward able (upward_of world (Some l)) (is_up ways above_above world l straight))
 
 pub none_runs : (world : World) (e : Declared) (l : Loaded) → is_instance e.method ≡ false → None ≡ first_overriding world e l

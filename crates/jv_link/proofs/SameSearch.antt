@@ -17,11 +17,13 @@ turned : (b : Bool) → not b ≡ true → b ≡ false
 turned true h = absurd cc
 turned false h = refl
 
-same_search : (world : World) (named : Loaded) (of_interface : Bool) (reference : MemberReference) → names_its_kind (constant_of of_interface) named ≡ true → looked_up world named reference ≡ found_method world (constant_of of_interface) named reference
+same_search : (world : World) (named : Loaded) (of_interface : Bool) (reference : MemberReference) → names_its_kind (constant_of of_interface) named ≡
+    true → looked_up world named reference ≡ found_method world (constant_of of_interface) named reference
 same_search world named true reference h =
     ap (λ b. ok_or (if b then lookup_interface_method world named reference.name reference.descriptor else lookup_class_method world named reference.name reference.descriptor) NoSuchMethodError) h
 same_search world named false reference h =
-    ap (λ b. ok_or (if b then lookup_interface_method world named reference.name reference.descriptor else lookup_class_method world named reference.name reference.descriptor) NoSuchMethodError) (turned (is_interface named) h)
+    ap (λ b. ok_or (if b then lookup_interface_method world named reference.name reference.descriptor else lookup_class_method world named
+    reference.name reference.descriptor) NoSuchMethodError) (turned (is_interface named) h)
 
 pub by_kind : (world : World) (current named : Loaded) (of_interface : Bool) (reference : MemberReference) → names_its_kind (constant_of of_interface) named ≡ true
     → Some (looked_up world named reference >>= accessible_method world current named) ≡ Some (method_from world current (through (constant_of of_interface) reference) named)

@@ -13,7 +13,8 @@ answered None a e = absurd cc
 answered (Some b) a e = (b, refl, sym (same_some e))
 
 -- it goes on with what was found
-pub goes_on : {B C : Type 0} → (o : Option B) (a : OrError B) (next : OrError B → OrError C) (r : Option (OrError C)) → option_map answer o ≡ Some a → ((b : B) → o ≡ Some b → r ≡ Some (next (Ok b))) → r ≡ Some (next a)
+pub goes_on : {B C : Type 0} → (o : Option B) (a : OrError B) (next : OrError B → OrError C) (r : Option (OrError C)) → option_map answer o ≡ Some a →
+    ((b : B) → o ≡ Some b → r ≡ Some (next (Ok b))) → r ≡ Some (next a)
 goes_on o a next r e more =
     let found = answered o a e in
     more found.0 found.1 ∙ ap (λ x. Some (next x)) (sym found.2)

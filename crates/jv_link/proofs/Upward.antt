@@ -46,7 +46,8 @@ behind_more w sure Nothing more h = ap (λ o. run_behind w o more) (with_none su
     with_none (Some d) = refl
 behind_more w sure (Far d) more h = by_any (list_any is_opening more) sure
   where
-    by_any : (b : Bool) (o : Option Declared) → (if b then Some w else else_option o (else_option (if b then Some d else None) (run_of more))) ≡ (if b then Some w else else_option (else_option o None) (run_of more))
+    by_any : (b : Bool) (o : Option Declared) → (if b then Some w else else_option o (else_option (if b then Some d else None) (run_of more))) ≡
+        (if b then Some w else else_option (else_option o None) (run_of more))
     by_any true o = refl
     by_any false None = refl
     by_any false (Some x) = refl
@@ -69,13 +70,16 @@ module _ (ways : AboveByWays) (above_above : AboveIsTransitive) (world : World) 
   pub next_up : (k : ℕ) (c : Loaded) (next : Option ℕ) → slice_get world k ≡ Some c → HoldsAtNumber world k (λ l. next ≡ superclass_number world l.class) → IsStraightAt world (Some k)
       → upward_of world (numbered world (Some k)) ≡ c ∷ upward_of world (numbered world next)
   next_up k c next at is straight =
-      ap (upward_of world) at ∙ ap (λ ls. c ∷ ls) (goes_up ways above_above world c (straight c at) ∙ ap (upward_of world) (sym (ap (λ n. n >>= slice_get world) (is c at) ∙ at_superclass world c.class)))
+      ap (upward_of world) at ∙ ap (λ ls. c ∷ ls) (goes_up ways above_above world c (straight c at) ∙ ap (upward_of world)
+      (sym (ap (λ n. n >>= slice_get world) (is c at) ∙ at_superclass world c.class)))
 
-  pub next_straight : (k : ℕ) (c : Loaded) (next : Option ℕ) → slice_get world k ≡ Some c → HoldsAtNumber world k (λ l. next ≡ superclass_number world l.class) → IsStraightAt world (Some k) → IsStraightAt world next
+  pub next_straight : (k : ℕ) (c : Loaded) (next : Option ℕ) → slice_get world k ≡ Some c → HoldsAtNumber world k
+      (λ l. next ≡ superclass_number world l.class) → IsStraightAt world (Some k) → IsStraightAt world next
   next_straight k c next at is straight = λ s e.
       super_is_straight ways above_above world c s (straight c at) (sym (ap (λ n. n >>= slice_get world) (is c at) ∙ at_superclass world c.class) ∙ e)
 
-pub next_below : (world : World) (k : ℕ) (c : Loaded) (next : Option ℕ) → slice_get world k ≡ Some c → HoldsAtNumber world k (λ l. next ≡ superclass_number world l.class) → IsBelowSize (length world) next
+pub next_below : (world : World) (k : ℕ) (c : Loaded) (next : Option ℕ) → slice_get world k ≡ Some c → HoldsAtNumber world k
+    (λ l. next ≡ superclass_number world l.class) → IsBelowSize (length world) next
 next_below world k c next at is = subst (IsBelowSize (length world)) (sym (is c at)) (superclass_below world c.class.super_class)
 
 -- ---- loops
@@ -98,7 +102,8 @@ pub record Waits (world : World) (called waits : Place) (first next : Option ℕ
 
 module _ (ways : AboveByWays) (above_above : AboveIsTransitive) (world : World) where
   -- what is met from a class on
-  met_from : (e : Declared) (k : ℕ) (c : Loaded) → slice_get world k ≡ Some c → IsStraightAt world (Some k) → met_upward world e (numbered world (Some k)) ≡ meets world e c ∷ met_upward world e (superclass_in world c.class)
+  met_from : (e : Declared) (k : ℕ) (c : Loaded) → slice_get world k ≡ Some c → IsStraightAt world (Some k) → met_upward world e
+      (numbered world (Some k)) ≡ meets world e c ∷ met_upward world e (superclass_in world c.class)
   met_from e k c at straight = ap (met_upward world e) at ∙ ap (λ ls. meets world e c ∷ map (meets world e) ls) (goes_up ways above_above world c (straight c at))
 
   met_next : (e : Declared) (k : ℕ) (c : Loaded) (next : Option ℕ) → slice_get world k ≡ Some c → HoldsAtNumber world k (λ l. next ≡ superclass_number world l.class) → IsStraightAt world (Some k)
@@ -112,15 +117,18 @@ module _ (ways : AboveByWays) (above_above : AboveIsTransitive) (world : World) 
       let size = ap length (next_up ways above_above world k class.0 next class.1 is straight) in
       omega (arith, size)
 
-  pub waits_opened : (called waits : Place) (first : Option ℕ) (k : ℕ) (sure : Option Place) (c : Loaded) (e w : Declared) → slice_get world k ≡ Some c → method_at world called ≡ Some e → method_at world waits ≡ Some w
+  pub waits_opened : (called waits : Place) (first : Option ℕ) (k : ℕ) (sure : Option Place) (c : Loaded) (e w : Declared) → slice_get world k ≡
+      Some c → method_at world called ≡ Some e → method_at world waits ≡ Some w
       → is_opening (meets world e c) ≡ true → Waits world called waits first (Some k) sure → method_at world waits ≡ run_behind w None (met_upward world e (numbered world first))
   waits_opened called waits first k sure c e w at at_e at_w opens h =
       at_w ∙ (opened_behind w (option_and_then (method_at world) sure) (meets world e c) (met_upward world e (superclass_in world c.class)) opens
       ∙ (ap (run_behind w (option_and_then (method_at world) sure)) (sym (met_from e k c at h.straight)) ∙ h.rest e w at_e at_w))
 
-  pub waits_on : (called waits : Place) (first : Option ℕ) (k : ℕ) (sure : Option Place) (next : Option ℕ) (more : Option Place) → k < length world → HoldsAtNumber world k (λ l. next ≡ superclass_number world l.class)
+  pub waits_on : (called waits : Place) (first : Option ℕ) (k : ℕ) (sure : Option Place) (next : Option ℕ) (more : Option Place) → k < length world →
+      HoldsAtNumber world k (λ l. next ≡ superclass_number world l.class)
       → IfSome more (IsMethodPlace world)
-      → HoldsAtNumber world k (λ c. (e : Declared) → method_at world called ≡ Some e → (is_opening (meets world e c) ≡ false) × (option_and_then (method_at world) more ≡ sure_behind (option_and_then (method_at world) sure) (meets world e c)))
+      → HoldsAtNumber world k (λ c. (e : Declared) → method_at world called ≡ Some e → (is_opening (meets world e c) ≡ false) ×
+      (option_and_then (method_at world) more ≡ sure_behind (option_and_then (method_at world) sure) (meets world e c)))
       → Waits world called waits first (Some k) sure → Waits world called waits first next more
   waits_on called waits first k sure next more less is stands goes h =
       let class = some_class world k less in
@@ -149,19 +157,23 @@ module _ (ways : AboveByWays) (above_above : AboveIsTransitive) (world : World) 
       }
 
   -- one that is run whatever is further up
-  pub climbs_sure : (from : ℕ) (called : Place) (k : ℕ) (c : Loaded) (e d : Declared) → slice_get world k ≡ Some c → method_at world called ≡ Some e → (meets world e c ≡ Sure d) → Climbs world from called (Some k)
+  pub climbs_sure : (from : ℕ) (called : Place) (k : ℕ) (c : Loaded) (e d : Declared) → slice_get world k ≡ Some c → method_at world called ≡ Some e →
+      (meets world e c ≡ Sure d) → Climbs world from called (Some k)
       → HoldsAtNumber world from (λ l. Some d ≡ run_of (met_upward world e (Some l)))
   climbs_sure from called k c e d at at_e met h = λ l at_l.
       ap (λ m. run_of (m ∷ met_upward world e (superclass_in world c.class))) (sym met) ∙ (ap run_of (sym (met_from e k c at h.straight)) ∙ h.rest l at_l e at_e)
 
-  pub climbs_open : (from : ℕ) (called : Place) (k : ℕ) (c : Loaded) (e d : Declared) → slice_get world k ≡ Some c → method_at world called ≡ Some e → (meets world e c ≡ Opens d) → Climbs world from called (Some k)
+  pub climbs_open : (from : ℕ) (called : Place) (k : ℕ) (c : Loaded) (e d : Declared) → slice_get world k ≡ Some c → method_at world called ≡ Some e →
+      (meets world e c ≡ Opens d) → Climbs world from called (Some k)
       → HoldsAtNumber world from (λ l. Some d ≡ run_of (met_upward world e (Some l)))
   climbs_open from called k c e d at at_e met h = λ l at_l.
       ap (λ m. run_of (m ∷ met_upward world e (superclass_in world c.class))) (sym met) ∙ (ap run_of (sym (met_from e k c at h.straight)) ∙ h.rest l at_l e at_e)
 
   -- one that waits for another further up
-  pub climbs_far : (from : ℕ) (called : Place) (k : ℕ) (c : Loaded) (next : Option ℕ) (e d : Declared) → slice_get world k ≡ Some c → HoldsAtNumber world k (λ l. next ≡ superclass_number world l.class) → method_at world called ≡ Some e
-      → (meets world e c ≡ Far d) → Climbs world from called (Some k) → HoldsAtNumber world from (λ l. run_behind d None (met_upward world e (numbered world next)) ≡ run_of (met_upward world e (Some l)))
+  pub climbs_far : (from : ℕ) (called : Place) (k : ℕ) (c : Loaded) (next : Option ℕ) (e d : Declared) → slice_get world k ≡ Some c →
+      HoldsAtNumber world k (λ l. next ≡ superclass_number world l.class) → method_at world called ≡ Some e
+      → (meets world e c ≡ Far d) → Climbs world from called (Some k) → HoldsAtNumber world from
+      (λ l. run_behind d None (met_upward world e (numbered world next)) ≡ run_of (met_upward world e (Some l)))
   climbs_far from called k c next e d at is at_e met h = λ l at_l.
       sym (run_far d (met_upward world e (numbered world next)))
       ∙ (ap (λ m. run_of (m ∷ met_upward world e (numbered world next))) (sym met) ∙ (ap run_of (sym (met_next e k c next at is h.straight)) ∙ h.rest l at_l e at_e))
@@ -169,7 +181,8 @@ module _ (ways : AboveByWays) (above_above : AboveIsTransitive) (world : World) 
 pub waits_start : (world : World) (called waits : Place) (first : Option ℕ) → IsBelowSize (length world) first → IsStraightAt world first → Waits world called waits first first None
 waits_start world called waits first below straight = record { below = below; straight = straight; place = tt; rest = λ e w at_e at_w. refl }
 
-pub waits_end : (world : World) (called waits : Place) (first : Option ℕ) (sure : Option Place) (e w : Declared) → method_at world called ≡ Some e → method_at world waits ≡ Some w → Waits world called waits first None sure
+pub waits_end : (world : World) (called waits : Place) (first : Option ℕ) (sure : Option Place) (e w : Declared) → method_at world called ≡ Some e →
+    method_at world waits ≡ Some w → Waits world called waits first None sure
     → option_and_then (method_at world) sure ≡ run_behind w None (met_upward world e (numbered world first))
 waits_end world called waits first sure e w at_e at_w h = behind_end w (option_and_then (method_at world) sure) ∙ h.rest e w at_e at_w
 

@@ -74,7 +74,8 @@ map_at f (y ∷ xs) zero x e = ap (λ z. Some (f z)) (same_some e)
 map_at f (y ∷ xs) (suc k) x e = map_at f xs k x e
 
 -- what a file shows of a method
-pub shown : (c : ClassStructure) (class : Class) → class_of c ≡ Some class → (k : ℕ) (m : Method) → slice_get class.methods k ≡ Some m → (seen : MethodSeen) × (slice_get (methods_of c) k ≡ Some seen) × (seen.code ≡ m.code)
+pub shown : (c : ClassStructure) (class : Class) → class_of c ≡ Some class → (k : ℕ) (m : Method) → slice_get class.methods k ≡ Some m →
+    (seen : MethodSeen) × (slice_get (methods_of c) k ≡ Some seen) × (seen.code ≡ m.code)
 shown c class e k m at =
     let info = all_found_at (method_of c.constant_pool) c.methods class.methods m (methods_found c class e) k at in
     (method_shown c.constant_pool info.0, map_at (method_shown c.constant_pool) c.methods k info.0 info.1, code_of_method c.constant_pool info.0 m info.2)
@@ -115,7 +116,8 @@ module _ (world : World) where
       by_class None class e = absurd cc
       by_class (Some l) class e = by_method l class (slice_get l.class.methods place.member) refl e
 
-  pub body_found : (rows : List ClassBodies) (place : Place) (d : Declared) (row : ClassBodies) (result : Option Body) → AreBodies world (length world) rows → method_at world place ≡ Some d → place.class < length rows
+  pub body_found : (rows : List ClassBodies) (place : Place) (d : Declared) (row : ClassBodies) (result : Option Body) →
+      AreBodies world (length world) rows → method_at world place ≡ Some d → place.class < length rows
       → ((body : Option Body) → slice_get (get_or rows place.class row).bodies.items place.member ≡ Some body → result ≡ body) → IsBody d.method result
   body_found rows place d row result are at h clause =
       let p = parts place d at in

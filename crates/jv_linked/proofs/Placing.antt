@@ -69,7 +69,8 @@ module _ (l : Loaded) where
       clash : true ≡ false → ⊥
       clash e = cc
   instance_on g f fs ends w false is none more zero at word =
-      subst (λ p. Contains (placed_from ends.object (map (field_by l) (g ∷ filter instance fs))) p) (ap (λ x. laid_at (field_by l x) ends.object) (same_some at) ∙ ap (laid_at (field_by l f)) (same_some word))
+      subst (λ p. Contains (placed_from ends.object (map (field_by l) (g ∷ filter instance fs))) p)
+      (ap (λ x. laid_at (field_by l x) ends.object) (same_some at) ∙ ap (laid_at (field_by l f)) (same_some word))
       (first_one (placed_from (ends.object + field_words (field_by l g)) (map (field_by l) (filter instance fs))) (laid_at (field_by l g) ends.object))
   instance_on g f fs ends w true is none more (suc k) at word = more (behind_by true g ends) k at word
   instance_on g f fs ends w false is none more (suc k) at word =
@@ -92,7 +93,8 @@ module _ (l : Loaded) where
       clash : false ≡ true → ⊥
       clash e = cc
   static_on g f fs ends w true is static more zero at word =
-      subst (λ p. Contains (placed_from ends.statics (map (field_by l) (g ∷ filter is_static_field fs))) p) (ap (λ x. laid_at (field_by l x) ends.statics) (same_some at) ∙ ap (laid_at (field_by l f)) (same_some word))
+      subst (λ p. Contains (placed_from ends.statics (map (field_by l) (g ∷ filter is_static_field fs))) p)
+      (ap (λ x. laid_at (field_by l x) ends.statics) (same_some at) ∙ ap (laid_at (field_by l f)) (same_some word))
       (first_one (placed_from (ends.statics + field_words (field_by l g)) (map (field_by l) (filter is_static_field fs))) (laid_at (field_by l g) ends.statics))
   static_on g f fs ends w false is static more (suc k) at word = more (behind_by false g ends) k at word
   static_on g f fs ends w true is static more (suc k) at word =
@@ -140,7 +142,10 @@ up_to [] = refl
 up_to (l ∷ ls) =
     let own = object_end l l.class.fields no_words in
     let first = sum_by-cons own_words l ls in
-    let split = ap (λ ks. sum_by field_words (flat_map own_fields ks)) (reverse-append (l ∷ []) ls) ∙ (ap (sum_by field_words) (flat_map-append own_fields (reverse ls) (l ∷ [])) ∙ (sum_by-append field_words (flat_map own_fields (reverse ls)) (flat_map own_fields (l ∷ [])) ∙ ap (λ ds. sum_by field_words (flat_map own_fields (reverse ls)) + sum_by field_words ds) (append-nil (own_fields l)))) in
+    let split = ap (λ ks. sum_by field_words (flat_map own_fields ks)) (reverse-append (l ∷ []) ls) ∙
+    (ap (sum_by field_words) (flat_map-append own_fields (reverse ls) (l ∷ [])) ∙
+    (sum_by-append field_words (flat_map own_fields (reverse ls)) (flat_map own_fields (l ∷ [])) ∙
+    ap (λ ds. sum_by field_words (flat_map own_fields (reverse ls)) + sum_by field_words ds) (append-nil (own_fields l)))) in
     omega (arith, up_to ls, own, first, split)
 
 module _ (world : World) where
@@ -172,7 +177,8 @@ module _ (world : World) where
     pub fields : words.1 ≡ words_from (first_ends world first l) l.class.fields
     pub within : (p : Placed) → Contains (placed_from first (own_static_fields l)) p → Contains (placed_from statics (flat_map own_static_fields ls)) p
 
-  pub class_stands : (ls : List Loaded) (statics k : ℕ) (l : Loaded) (words : ℕ × List ℕ) → slice_get ls k ≡ Some l → slice_get (all_words world statics ls) k ≡ Some words → ClassStands ls statics l words
+  pub class_stands : (ls : List Loaded) (statics k : ℕ) (l : Loaded) (words : ℕ × List ℕ) → slice_get ls k ≡ Some l →
+      slice_get (all_words world statics ls) k ≡ Some words → ClassStands ls statics l words
   class_stands [] statics zero l words at here = absurd cc
   class_stands [] statics (suc k) l words at here = absurd cc
   class_stands (m ∷ ls) statics zero l words at here = subst (λ x. ClassStands (m ∷ ls) statics x words) (same_some at) (record {

@@ -17,7 +17,8 @@ module _ (P : FileContent → Type 0) where
   has_class found c class h e f = subst (λ o. IsSomeAnd (option_map Holds o) P) f (subst (λ g. IsSomeAnd (content_of g) P) e h)
 
 -- what a file holds is known
-pub known : OneContent → (bytes : List ℕ) (found : Content ClassStructure) (class : Class) → IsSomeAnd (content_of found) (IsContent bytes) → IsContent bytes (Holds class) → content_of found ≡ Some (Holds class)
+pub known : OneContent → (bytes : List ℕ) (found : Content ClassStructure) (class : Class) → IsSomeAnd (content_of found) (IsContent bytes) →
+    IsContent bytes (Holds class) → content_of found ≡ Some (Holds class)
 known law bytes found class h k = by_content (content_of found) h
   where
     by_content : (o : Option FileContent) → IsSomeAnd o (IsContent bytes) → o ≡ Some (Holds class)

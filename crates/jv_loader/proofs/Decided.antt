@@ -167,14 +167,16 @@ method_keeps_rules major class_flags m texts =
 abbrev pub method_keeps : List Entry → ℕ → ℕ → MethodInfo → Bool
 method_keeps pool major class_flags m = passes (method_keeps_rules major class_flags m) (named_at pool m.name_index m.descriptor_index)
 
-field_is_kept : TypesAgree → (pool : List Entry) (class_flags : ℕ) (f : FieldInfo) (texts : NameAndDescriptor) → IsTrue (field_keeps_rules pool class_flags f texts) → KeepsRulesAsField pool class_flags f.access_flags (static_value pool f) texts
+field_is_kept : TypesAgree → (pool : List Entry) (class_flags : ℕ) (f : FieldInfo) (texts : NameAndDescriptor) →
+    IsTrue (field_keeps_rules pool class_flags f texts) → KeepsRulesAsField pool class_flags f.access_flags (static_value pool f) texts
 field_is_kept agree pool class_flags f texts h =
     let parts = and_parts _ _ h in
     let rest = and_parts _ _ parts.1 in
     let type = found _ (field_type_of texts.descriptor) rest.1 in
     record { named = parts.0; type = type.value; described = (agree.field texts.descriptor type.value).1 type.is; flags_keep_rules = rest.0; value_kind = type.passes }
 
-method_is_kept : TypesAgree → (major class_flags : ℕ) (m : MethodInfo) (texts : NameAndDescriptor) → IsTrue (method_keeps_rules major class_flags m texts) → KeepsRulesAsMethod major class_flags m.access_flags (has_code m) texts
+method_is_kept : TypesAgree → (major class_flags : ℕ) (m : MethodInfo) (texts : NameAndDescriptor) →
+    IsTrue (method_keeps_rules major class_flags m texts) → KeepsRulesAsMethod major class_flags m.access_flags (has_code m) texts
 method_is_kept agree major class_flags m texts h =
     let parts = and_parts _ _ h in
     let rest = and_parts _ _ parts.1 in
@@ -248,12 +250,17 @@ class_rules_kept agree c h k =
     record {
       itself = record {
         flags = flags.0;
-        named = passed (name_keeps_rules c.constant_pool c.super_class) _ (λ text t. let two = and_parts _ _ t in record { no_array = two.0; superclass = two.1 }) (class_name_at c.constant_pool c.this_class) name.0;
+        named = passed (name_keeps_rules c.constant_pool c.super_class) _
+            (λ text t. let two = and_parts _ _ t in record { no_array = two.0; superclass = two.1 }) (class_name_at c.constant_pool c.this_class)
+            name.0;
         supers = record { interface_super = supers.0; interfaces = each (is_class_at c.constant_pool) _ (λ index t. t) c.interfaces supers.1 };
       };
       members = record {
-        fields = each (field_keeps c.constant_pool c.access_flags) _ (λ f t. passed (field_keeps_rules c.constant_pool c.access_flags f) _ (field_is_kept agree c.constant_pool c.access_flags f) (named_at c.constant_pool f.name_index f.descriptor_index) t) c.fields right.0;
-        methods = each (method_keeps c.constant_pool c.major_version c.access_flags) _ (λ m t. passed (method_keeps_rules c.major_version c.access_flags m) _ (method_is_kept agree c.major_version c.access_flags m) (named_at c.constant_pool m.name_index m.descriptor_index) t) c.methods right.1;
+        fields = each (field_keeps c.constant_pool c.access_flags) _ (λ f t. passed (field_keeps_rules c.constant_pool c.access_flags f) _
+            (field_is_kept agree c.constant_pool c.access_flags f) (named_at c.constant_pool f.name_index f.descriptor_index) t) c.fields right.0;
+        methods = each (method_keeps c.constant_pool c.major_version c.access_flags) _
+            (λ m t. passed (method_keeps_rules c.major_version c.access_flags m) _ (method_is_kept agree c.major_version c.access_flags m)
+            (named_at c.constant_pool m.name_index m.descriptor_index) t) c.methods right.1;
       };
       unlike = record { fields = no_two _ apart.0; methods = no_two _ apart.1 };
     }
@@ -332,7 +339,8 @@ abbrev pub method_supported : List Entry → MethodInfo → Bool
 method_supported pool m =
     passes no_floating (utf8_at pool m.descriptor_index) && passes (λ name. is_supported_method name m.access_flags) (utf8_at pool m.name_index)
 
-method_is_supported : TypesAgree → (pool : List Entry) (m : MethodInfo) → IsTrue (method_supported pool m) → IsSupportedType pool m.descriptor_index × AreSupportedFlags pool m.name_index m.access_flags
+method_is_supported : TypesAgree → (pool : List Entry) (m : MethodInfo) → IsTrue (method_supported pool m) → IsSupportedType pool m.descriptor_index ×
+    AreSupportedFlags pool m.name_index m.access_flags
 method_is_supported agree pool m h =
     let parts = and_parts _ _ h in (
       passed no_floating _ (nothing_floats agree) (utf8_at pool m.descriptor_index) parts.0,

@@ -76,7 +76,8 @@ system_name_is_new k c e = unnamed true (take k classes_with_files) c.name (new_
 
 -- ---- a file and what it holds
 
-pub content_at : (bytes : List (List ℕ)) (contents : List FileContent) (k : ℕ) (b : List ℕ) → AreContents bytes contents → slice_get bytes k ≡ Some b → (f : FileContent) × (slice_get contents k ≡ Some f) × IsContent b f
+pub content_at : (bytes : List (List ℕ)) (contents : List FileContent) (k : ℕ) (b : List ℕ) → AreContents bytes contents → slice_get bytes k ≡
+    Some b → (f : FileContent) × (slice_get contents k ≡ Some f) × IsContent b f
 content_at [] contents k b h e = absurd (past k e)
   where
     past : (j : ℕ) → slice_get [] j ≡ Some b → ⊥
@@ -89,7 +90,8 @@ content_at (x ∷ bytes) (f ∷ contents) zero b h e = (f, refl, subst (λ y. Is
     same e = cc
 content_at (x ∷ bytes) (f ∷ contents) (suc k) b h e = content_at bytes contents k b h.1 e
 
-pub class_at : (k : ℕ) (b : List ℕ) (bytes : List (List ℕ)) → AreContents bytes system_contents → slice_get bytes k ≡ Some b → (c : Class) × (slice_get classes_with_files k ≡ Some c) × IsContent b (Holds c)
+pub class_at : (k : ℕ) (b : List ℕ) (bytes : List (List ℕ)) → AreContents bytes system_contents → slice_get bytes k ≡ Some b → (c : Class) ×
+    (slice_get classes_with_files k ≡ Some c) × IsContent b (Holds c)
 class_at k b bytes h e = let at = content_at bytes system_contents k b h e in of_mapped classes_with_files k at.0 at.1 at.2
   where
     of_mapped : (cs : List Class) (k : ℕ) (f : FileContent) → slice_get (map Holds cs) k ≡ Some f → IsContent b f → (c : Class) × (slice_get cs k ≡ Some c) × IsContent b (Holds c)
@@ -103,7 +105,8 @@ class_at k b bytes h e = let at = content_at bytes system_contents k b h e in of
 
 -- ---- the list
 
-pub system_more : (k : ℕ) (c : Class) → slice_get classes_with_files k ≡ Some c → map (loaded true) (take (k + 1) classes_with_files) ≡ map (loaded true) (take k classes_with_files) ++ loaded true c ∷ []
+pub system_more : (k : ℕ) (c : Class) → slice_get classes_with_files k ≡ Some c → map (loaded true) (take (k + 1) classes_with_files) ≡
+    map (loaded true) (take k classes_with_files) ++ loaded true c ∷ []
 system_more k c e = ap (map (loaded true)) (take_more classes_with_files k c e) ∙ map-append (loaded true) (take k classes_with_files) (c ∷ [])
 
 pub all_files : (k : ℕ) → length system_bytes ≤ k → map (loaded true) (take k classes_with_files) ≡ map (loaded true) classes_with_files
@@ -142,7 +145,8 @@ module _ {X : Type 0} where
 names_known : Class → Bool
 names_known c = list_all (has_class system_classes) (super_names c)
 
-named_in_system : (classes : List Class) (guests : List Loaded) (name : List ℕ) (s : Loaded) → IsTrue (has_class classes name) → class_named (map (loaded true) classes ++ guests) name ≡ Some s → IsTrue s.by_system
+named_in_system : (classes : List Class) (guests : List Loaded) (name : List ℕ) (s : Loaded) → IsTrue (has_class classes name) →
+    class_named (map (loaded true) classes ++ guests) name ≡ Some s → IsTrue s.by_system
 named_in_system [] guests name s h e = absurd cc
 named_in_system (c ∷ classes) guests name s h e = by_test (bytes_eq c.name name) (λ k f. named_in_system classes guests name s k f) h e
   where
@@ -154,7 +158,8 @@ named_in_system (c ∷ classes) guests name s h e = by_test (bytes_eq c.name nam
     by_test true again h e = subst (λ (l : Loaded). IsTrue l.by_system) (same e) refl
     by_test false again h e = again h e
 
-pub of_system : (guests : List Class) (l : Loaded) → Contains (map (loaded true) system_classes ++ map (loaded false) guests) l → IsTrue l.by_system → (c : Class) × Contains system_classes c × (loaded true c ≡ l)
+pub of_system : (guests : List Class) (l : Loaded) → Contains (map (loaded true) system_classes ++ map (loaded false) guests) l → IsTrue l.by_system →
+    (c : Class) × Contains system_classes c × (loaded true c ≡ l)
 of_system guests l h t = by_part (Contains-append_cases (map (loaded true) system_classes) (map (loaded false) guests) l h)
   where
     unlike : IsTrue false → ⊥

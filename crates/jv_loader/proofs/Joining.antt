@@ -86,7 +86,8 @@ file_joins classes (Holds class) = by_reserved (is_reserved class.name) refl
     by_taken false = more_guests classes class
 
     by_reserved : (r : Bool) → is_reserved class.name ≡ r
-        → cond (r || is_some (number_named (guests classes) class.name)) (guests classes) (guests classes ++ loaded false class ∷ []) ≡ guests (cond (r || has_class classes class.name) classes (classes ++ class ∷ []))
+        → cond (r || is_some (number_named (guests classes) class.name)) (guests classes) (guests classes ++ loaded false class ∷ []) ≡
+        guests (cond (r || has_class classes class.name) classes (classes ++ class ∷ []))
     by_reserved true e = refl
     by_reserved false e = ap (λ b. cond b (guests classes) (guests classes ++ loaded false class ∷ [])) (taken classes class.name e) ∙ by_taken (has_class classes class.name)
 
@@ -149,7 +150,9 @@ one_verdict earlier (Holds class) all grows = by_reserved (is_reserved class.nam
     by_taken false grows =
         ap (option_and_then (verdict_of_class all)) (ap (λ w. slice_get w (length (guests (classes_in earlier)))) grows.1 ∙ at_end (guests (classes_in earlier)) (loaded false class) grows.0)
 
-    by_reserved : (r : Bool) → is_reserved class.name ≡ r → Grows (cond (r || is_some (number_named (guests (classes_in earlier)) class.name)) (guests (classes_in earlier)) (guests (classes_in earlier) ++ loaded false class ∷ [])) all
+    by_reserved : (r : Bool) → is_reserved class.name ≡ r →
+        Grows (cond (r || is_some (number_named (guests (classes_in earlier)) class.name)) (guests (classes_in earlier))
+        (guests (classes_in earlier) ++ loaded false class ∷ [])) all
         → verdict_of_entry all (cond r (Err Reserved) (cond (is_some (number_named (guests (classes_in earlier)) class.name)) (Err Duplicate) (Ok (length (guests (classes_in earlier))))))
         ≡ cond r (Some Reserved) (cond (has_class (classes_in earlier) class.name) (Some Duplicate) (verdict_of_class all (loaded false class)))
     by_reserved true e grows = refl
@@ -199,7 +202,9 @@ verdict_is files k h = by_file (slice_get files k) refl
     there [] j less e = absurd (omega (arith, less))
     there (x ∷ fs) j less e = clash (sym (slice_get-get_or (x ∷ fs) j x less) ∙ e)
 
-    by_file : (o : Option FileContent) → slice_get files k ≡ o → slice_get (map (verdict_of_entry (world_of system_classes files)) (entries_from system_world files)) k ≡ Some (load_verdict system_classes files k)
+    by_file : (o : Option FileContent) → slice_get files k ≡ o →
+        slice_get (map (verdict_of_entry (world_of system_classes files)) (entries_from system_world files)) k ≡
+        Some (load_verdict system_classes files k)
     by_file None e = absurd (there files k h e)
     by_file (Some file) e =
         ap (λ w. slice_get (map (verdict_of_entry (world_of system_classes files)) (entries_from w files)) k) (sym no_guests)
@@ -234,7 +239,8 @@ pub all_places : (world all : World) (files : List FileContent) → Grows (with_
 all_places world all [] grows k d h = absurd (omega (arith, h))
 all_places world all (file ∷ files) grows k d h =
     let now = with_file world file in
-    All-cons (IsPlace all) (entry_of world file) (entries_from now files) (one_place world all file (grows_on now (with_files now files) all (files_grow now files) grows)) (all_places now all files grows) k d h
+    All-cons (IsPlace all) (entry_of world file) (entries_from now files)
+    (one_place world all file (grows_on now (with_files now files) all (files_grow now files) grows)) (all_places now all files grows) k d h
 
 pub grown : (world : World) → Grows world world
 grown world = stays world

@@ -39,7 +39,8 @@ put_more files b before now after entries entry put one = record {
 pub texts_more : (files : List (Bor (List ℕ))) (k : ℕ) (d : Bor (List ℕ)) → k < length files → texts_of (take (k + 1) files) ≡ texts_of (take k files) ++ (get_or files k d).now ∷ []
 texts_more files k d h = ap texts_of (take_more files k (get_or files k d) (slice_get-get_or files k d h)) ∙ map-append text_of (take k files) (get_or files k d ∷ [])
 
-pub put_next : (files : List (Bor (List ℕ))) (k : ℕ) (d : Bor (List ℕ)) (before now after : World) (entries more : List (Result ℕ LoadVerdict)) (entry : Result ℕ LoadVerdict) → k < length files → ArePut (texts_of (take k files)) before now entries
+pub put_next : (files : List (Bor (List ℕ))) (k : ℕ) (d : Bor (List ℕ)) (before now after : World) (entries more : List (Result ℕ LoadVerdict))
+    (entry : Result ℕ LoadVerdict) → k < length files → ArePut (texts_of (take k files)) before now entries
     → (content : FileContent) × IsContent (get_or files k d).now content × (after ≡ with_file now content) × (entry ≡ entry_of now content)
     → more ≡ entries ++ entry ∷ []
     → ArePut (texts_of (take (k + 1) files)) before after more

@@ -7,7 +7,8 @@ use Rattle.std.proofs.Math.Seq.{get_or-append_seam}
 use Rattle.jv_meaning_world.specs.World.{World}
 use Rattle.jv_loader.specs.Inside.Searches.{IsSearch, AreSearches, numbers_in, lists_of}
 
-pub one_more : (world : World) (lists new : List (Vec ℕ)) (v : Vec ℕ) (n : ℕ) → new ≡ lists ++ v ∷ [] → length lists ≡ n → ((k : ℕ) → k < n → IsSearch world k (get_or (lists_of lists) k [])) → IsSearch world n v.items
+pub one_more : (world : World) (lists new : List (Vec ℕ)) (v : Vec ℕ) (n : ℕ) → new ≡ lists ++ v ∷ [] → length lists ≡ n →
+    ((k : ℕ) → k < n → IsSearch world k (get_or (lists_of lists) k [])) → IsSearch world n v.items
     → (length new ≡ n + 1) × ((k : ℕ) → k < n + 1 → IsSearch world k (get_or (lists_of new) k []))
 one_more world lists new v n made many each last = (
   ap length made ∙ (length-append lists (v ∷ []) ∙ ap (λ m. m + 1) many),
@@ -29,13 +30,17 @@ one_more world lists new v n made many each last = (
           let past : n ≤ k = ltb-false k n e in
           let same : k ≡ n = omega (arith, past, less) in
           let place : length (lists_of lists) ≡ k = as_many ∙ sym same in
-          subst (IsSearch world k) (sym (ap (λ ls. get_or ls k []) whole ∙ (ap (get_or_at (lists_of lists ++ v.items ∷ [])) (sym place) ∙ get_or-append_seam (lists_of lists) v.items [] []))) (subst (λ m. IsSearch world m v.items) (sym same) last)
+          subst (IsSearch world k)
+          (sym (ap (λ ls. get_or ls k []) whole ∙
+          (ap (get_or_at (lists_of lists ++ v.items ∷ [])) (sym place) ∙ get_or-append_seam (lists_of lists) v.items [] [])))
+          (subst (λ m. IsSearch world m v.items) (sym same) last)
     ] refl
       where
         get_or_at : List (List ℕ) → ℕ → List ℕ
         get_or_at ls m = get_or ls m []
 
-pub all_of : (world : World) (lists : List (Vec ℕ)) (n : ℕ) → length world ≤ n → n ≤ length world → length lists ≡ n → ((k : ℕ) → k < n → IsSearch world k (get_or (lists_of lists) k [])) → AreSearches world (lists_of lists)
+pub all_of : (world : World) (lists : List (Vec ℕ)) (n : ℕ) → length world ≤ n → n ≤ length world → length lists ≡ n →
+    ((k : ℕ) → k < n → IsSearch world k (get_or (lists_of lists) k [])) → AreSearches world (lists_of lists)
 all_of world lists n h k many each =
     let same : n ≡ length world = omega (arith, h, k) in
     record {

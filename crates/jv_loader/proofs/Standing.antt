@@ -78,8 +78,13 @@ object_stands laws =
 
 string_stands : Laws → Stands string.string_file string.string
 string_stands laws =
-    stands laws string.string_file string.string refl refl
-    (within_profile laws string.length_body.code refl, (within_profile laws string.char_at_body.code refl, (within_profile laws string.hash_code_body.code refl, (within_profile laws string.equals_body.code refl, tt))))
+    stands laws string.string_file string.string refl refl (
+      within_profile laws string.length_body.code refl,
+      (
+        within_profile laws string.char_at_body.code refl,
+        (within_profile laws string.hash_code_body.code refl, (within_profile laws string.equals_body.code refl, tt)),
+      ),
+    )
 
 throwable_stands : Laws → Stands throwable.throwable_file throwable.throwable
 throwable_stands laws =

@@ -25,7 +25,8 @@ found_has name_of (x ∷ world) name s e = by_test (bytes_eq (name_of x) name) r
     same : Some x ≡ Some s → x ≡ s
     same e = cc
 
-    by_test : (b : Bool) → bytes_eq (name_of x) name ≡ b → (find (λ l. bytes_eq (name_of l) name) world ≡ Some s → name_of s ≡ name) → (if b then Some x else find (λ l. bytes_eq (name_of l) name) world) ≡ Some s → name_of s ≡ name
+    by_test : (b : Bool) → bytes_eq (name_of x) name ≡ b → (find (λ l. bytes_eq (name_of l) name) world ≡ Some s → name_of s ≡ name) →
+        (if b then Some x else find (λ l. bytes_eq (name_of l) name) world) ≡ Some s → name_of s ≡ name
     by_test true t again e = ap name_of (sym (same e)) ∙ same_name (name_of x) name t
     by_test false t again e = again e
 
@@ -33,7 +34,8 @@ passes_one : (test : Loaded → Bool) (ls : List Loaded) → IsTrue (list_any te
 passes_one test [] h = absurd cc
 passes_one test (x ∷ ls) h = by_test (test x) refl (λ k. passes_one test ls k) h
   where
-    by_test : (b : Bool) → test x ≡ b → (IsTrue (list_any test ls) → (l : Loaded) × Contains ls l × IsTrue (test l)) → IsTrue (b || list_any test ls) → (l : Loaded) × Contains (x ∷ ls) l × IsTrue (test l)
+    by_test : (b : Bool) → test x ≡ b → (IsTrue (list_any test ls) → (l : Loaded) × Contains ls l × IsTrue (test l)) →
+        IsTrue (b || list_any test ls) → (l : Loaded) × Contains (x ∷ ls) l × IsTrue (test l)
     by_test true t again h = (x, first x ls, t)
     by_test false t again h = let found = again h in (found.0, later x ls found.0 found.1, found.2)
 
@@ -67,7 +69,8 @@ module _ (files : List FileContent) where
       let known = of_system (classes_in files) l h t in
       let found = found_super world l.class s k in
       let lower = each_passes below_it system_classes known.0 all_below known.1 in
-      let here = each_passes (λ name. nat_lt (rank name) (rank known.0.name)) (super_names known.0) found.0 lower (subst (λ (m : Loaded). Contains (super_names m.class) found.0) (sym known.2) found.1) in
+      let here = each_passes (λ name. nat_lt (rank name) (rank known.0.name)) (super_names known.0) found.0 lower
+      (subst (λ (m : Loaded). Contains (super_names m.class) found.0) (sym known.2) found.1) in
       subst (λ n. n < rank l.class.name) (ap rank (sym (is_named found.0 found.2)))
       (subst (λ (m : Loaded). rank found.0 < rank m.class.name) known.2 (ltb-true (rank found.0) (rank known.0.name) here))
     where
@@ -101,7 +104,10 @@ module _ (files : List FileContent) where
     where
       by_loader : (b : Bool) → l.by_system ≡ b → IsFalse (is_circular world l.class)
       by_loader true e = system_is_straight ways l h e
-      by_loader false e = not_so (is_circular world l.class) (first_of (is_circular world l.class) (each_super world (λ s. true) l.class) (have_right_kind world l.class) (can_name_supers world l) (subst (λ b. IsTrue (b || (not (is_circular world l.class) && each_super world (λ s. true) l.class && have_right_kind world l.class && can_name_supers world l))) e t))
+      by_loader false e = not_so (is_circular world l.class) (first_of (is_circular world l.class) (each_super world (λ s. true) l.class)
+          (have_right_kind world l.class) (can_name_supers world l)
+          (subst (λ b. IsTrue (b || (not (is_circular world l.class) && each_super world (λ s. true) l.class && have_right_kind world l.class &&
+          can_name_supers world l))) e t))
         where
           not_so : (b : Bool) → IsTrue (not b) → IsFalse b
           not_so true h = absurd cc

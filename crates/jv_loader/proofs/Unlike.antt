@@ -16,11 +16,13 @@ use Rattle.jv_classes.proofs.Ways.{any_if}
 use Rattle.jv_lookups.specs.Finals.{have_other_names, AreUnlike}
 use Rattle.jv_meaning_world.specs.Numbers.{classes_at}
 
-super_there : (world : World) (interfaces : List (List ℕ)) (name : Option (List ℕ)) (t : Loaded) → class_if_named world name ≡ Some t → Contains (filter_map (class_named world) (superclass_names name ++ interfaces)) t
+super_there : (world : World) (interfaces : List (List ℕ)) (name : Option (List ℕ)) (t : Loaded) → class_if_named world name ≡ Some t →
+    Contains (filter_map (class_named world) (superclass_names name ++ interfaces)) t
 super_there world interfaces None t e = absurd cc
 super_there world interfaces (Some name) t e = named_super world (name ∷ interfaces) name t (first name interfaces) e
 
-way_of_chain : (world : World) (k : ℕ) (class : Class) (o : Option Loaded) (s : Loaded) → superclass_in world class ≡ o → Contains (chain_within world k o) s → (ls : List Loaded) × IsWayUp world class ls s
+way_of_chain : (world : World) (k : ℕ) (class : Class) (o : Option Loaded) (s : Loaded) → superclass_in world class ≡ o →
+    Contains (chain_within world k o) s → (ls : List Loaded) × IsWayUp world class ls s
 way_of_chain world zero class o s e h = absurd (none s h)
 way_of_chain world (suc k) class None s e h = absurd (none s h)
 way_of_chain world (suc k) class (Some t) s e h =
@@ -29,7 +31,8 @@ way_of_chain world (suc k) class (Some t) s e h =
     here : Contains (supers_in world class) t
     here = super_there world class.interfaces class.super_class t e
 
-    by_part : (Contains (chain_within world k (superclass_in world t.class)) s → (ls : List Loaded) × IsWayUp world t.class ls s) → Contains (t ∷ []) s ⊎ Contains (chain_within world k (superclass_in world t.class)) s → (ls : List Loaded) × IsWayUp world class ls s
+    by_part : (Contains (chain_within world k (superclass_in world t.class)) s → (ls : List Loaded) × IsWayUp world t.class ls s) →
+        Contains (t ∷ []) s ⊎ Contains (chain_within world k (superclass_in world t.class)) s → (ls : List Loaded) × IsWayUp world class ls s
     by_part again (inl m) = ([], subst (Contains (supers_in world class)) (single t s m) here)
     by_part again (inr m) = let rest = again m in (t ∷ rest.0, (here, rest.1))
 
@@ -38,7 +41,8 @@ superclass_above world class s h = (above_by_ways world class s).1 (way_of_chain
 
 all_other : (l : Loaded) (ls : List Loaded) → ((s : Loaded) → Contains ls s → bytes_eq s.class.name l.class.name ≡ false) → IsTrue (have_other_names l ls)
 all_other l [] h = refl
-all_other l (s ∷ ls) h = and_from (not (bytes_eq s.class.name l.class.name)) (have_other_names l ls) (turned (bytes_eq s.class.name l.class.name) (h s (first s ls))) (all_other l ls (λ t k. h t (later s ls t k)))
+all_other l (s ∷ ls) h = and_from (not (bytes_eq s.class.name l.class.name)) (have_other_names l ls)
+    (turned (bytes_eq s.class.name l.class.name) (h s (first s ls))) (all_other l ls (λ t k. h t (later s ls t k)))
   where
     turned : (b : Bool) → b ≡ false → IsTrue (not b)
     turned true e = absurd cc
@@ -57,7 +61,8 @@ other_names world l e = all_other l (superclasses world l.class) (λ s h. by_tes
     by_test s h false t = refl
     by_test s h true t = absurd (clash (any_if (λ m. bytes_eq m.class.name l.class.name) (above world l.class) s (superclass_above world l.class s h) t))
 
-pub are_unlike : (world : World) (number : ℕ) (l : Loaded) (chain : List ℕ) → slice_get world number ≡ Some l → is_circular world l.class ≡ false → filter_map (slice_get world) chain ≡ superclasses world l.class → AreUnlike world number chain
+pub are_unlike : (world : World) (number : ℕ) (l : Loaded) (chain : List ℕ) → slice_get world number ≡ Some l → is_circular world l.class ≡ false →
+    filter_map (slice_get world) chain ≡ superclasses world l.class → AreUnlike world number chain
 are_unlike world number l chain at e same =
     subst (λ o. IsTrue (passes (λ m. have_other_names m (classes_at world chain)) o)) (sym at)
     (subst (λ ls. IsTrue (have_other_names l ls)) (sym same) (other_names world l e))

@@ -33,7 +33,8 @@ all_first size n numbers h = h 0 n (omega arith)
 all_rest : (size n : ℕ) (numbers : List ℕ) → All (λ j. j < size) (n ∷ numbers) → All (λ j. j < size) numbers
 all_rest size n numbers h = λ k d less. h (suc k) d (omega (arith, less))
 
-pub among : (world : World) → IsNumbered world → (k : ℕ) (l : Loaded) (numbers : List ℕ) → slice_get world k ≡ Some l → AreNumbers world numbers → list_any (nat_eq k) numbers ≡ is_among (classes_at world numbers) l
+pub among : (world : World) → IsNumbered world → (k : ℕ) (l : Loaded) (numbers : List ℕ) → slice_get world k ≡ Some l → AreNumbers world numbers →
+    list_any (nat_eq k) numbers ≡ is_among (classes_at world numbers) l
 among world numbered k l [] at h = refl
 among world numbered k l (n ∷ numbers) at h =
     let class = some_class world n (all_first (length world) n numbers h) in

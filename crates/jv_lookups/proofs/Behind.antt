@@ -52,7 +52,8 @@ no_items : (xs : List ℕ) → length xs ≡ 0 → xs ≡ []
 no_items [] e = refl
 no_items (x ∷ xs) e = absurd (omega (arith, e))
 
-none_declared : (classes : List Loaded) (finals : List Bool) (behind : List ℕ) → finals ≡ map declares_final classes → AreNumbers classes behind → All (λ number. get_or finals number false ≡ false) behind
+none_declared : (classes : List Loaded) (finals : List Bool) (behind : List ℕ) → finals ≡ map declares_final classes → AreNumbers classes behind →
+    All (λ number. get_or finals number false ≡ false) behind
     → declare_none (classes_at classes behind) ≡ true
 none_declared classes finals [] e numbers none = refl
 none_declared classes finals (n ∷ behind) e numbers none =
@@ -69,7 +70,8 @@ none_declared classes finals (n ∷ behind) e numbers none =
         in
         ap (λ o. declare_none (cons_option o (classes_at classes behind))) found.1 ∙ (ap (λ b. not b && declare_none (classes_at classes behind)) unsaid ∙ rest)
 
-module _ (classes : List Loaded) (finals : List Bool) (of : ℕ) (chain front : List ℕ) (numbers : AreNumbers classes chain) (are : finals ≡ map declares_final classes) (upto : IsUpToMarked finals chain front) where
+module _ (classes : List Loaded) (finals : List Bool) (of : ℕ) (chain front : List ℕ) (numbers : AreNumbers classes chain)
+    (are : finals ≡ map declares_final classes) (upto : IsUpToMarked finals chain front) where
   front_and_rest : classes_at classes chain ≡ classes_at classes front ++ classes_at classes (drop upto.many chain)
   front_and_rest =
       ap (classes_at classes) (sym (take-append-drop upto.many chain))

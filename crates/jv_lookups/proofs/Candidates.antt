@@ -39,15 +39,19 @@ and_false true = refl
 and_false false = refl
 
 module _ (world : World) (name descriptor : List ℕ) (l by : Loaded) where
-  any_below : (cs : List Loaded) → list_any (λ (other : Declared). is_other_above world by other.by) (filter_map (candidate_in name descriptor l) cs) ≡ list_any (below_in world name descriptor l by) cs
+  any_below : (cs : List Loaded) → list_any (λ (other : Declared). is_other_above world by other.by)
+      (filter_map (candidate_in name descriptor l) cs) ≡ list_any (below_in world name descriptor l by) cs
   any_below [] = refl
   any_below (c ∷ cs) = by_candidate (any_below cs) (candidate_in name descriptor l c) refl
     where
-      by_candidate : list_any (λ (other : Declared). is_other_above world by other.by) (filter_map (candidate_in name descriptor l) cs) ≡ list_any (below_in world name descriptor l by) cs → (o : Option Declared) → candidate_in name descriptor l c ≡ o
-          → list_any (λ (other : Declared). is_other_above world by other.by) (cons_option o (filter_map (candidate_in name descriptor l) cs)) ≡ ((is_other_above world by c && is_some o) || list_any (below_in world name descriptor l by) cs)
+      by_candidate : list_any (λ (other : Declared). is_other_above world by other.by) (filter_map (candidate_in name descriptor l) cs) ≡
+          list_any (below_in world name descriptor l by) cs → (o : Option Declared) → candidate_in name descriptor l c ≡ o
+          → list_any (λ (other : Declared). is_other_above world by other.by) (cons_option o (filter_map (candidate_in name descriptor l) cs)) ≡
+          ((is_other_above world by c && is_some o) || list_any (below_in world name descriptor l by) cs)
       by_candidate again None e = again ∙ sym (ap (λ b. b || list_any (below_in world name descriptor l by) cs) (and_false (is_other_above world by c)))
       by_candidate again (Some d) e =
-          ap (λ (m : Loaded). is_other_above world by m || list_any (λ (other : Declared). is_other_above world by other.by) (filter_map (candidate_in name descriptor l) cs)) (candidate_by name descriptor l c d e)
+          ap (λ (m : Loaded). is_other_above world by m || list_any (λ (other : Declared). is_other_above world by other.by)
+          (filter_map (candidate_in name descriptor l) cs)) (candidate_by name descriptor l c d e)
           ∙ (ap (λ b. is_other_above world by c || b) again ∙ ap (λ b. b || list_any (below_in world name descriptor l by) cs) (and_true (is_other_above world by c)))
 
   pub below_same : (d : Declared) (cs : List Loaded) → d.by ≡ by → list_any (is_below world d) (filter_map (candidate_in name descriptor l) cs) ≡ list_any (below_in world name descriptor l by) cs
@@ -68,11 +72,14 @@ passing_same : (test : Declared → Bool) (look : Loaded → Option Declared) (c
 passing_same test look [] = refl
 passing_same test look (c ∷ cs) = by_look (passing_same test look cs) (look c)
   where
-    by_test : filter test (filter_map look cs) ≡ filter_map (λ c. method_if test (look c)) cs → (d : Declared) (t : Bool) → cond t (d ∷ filter test (filter_map look cs)) (filter test (filter_map look cs)) ≡ cons_option (cond t (Some d) None) (filter_map (λ c. method_if test (look c)) cs)
+    by_test : filter test (filter_map look cs) ≡ filter_map (λ c. method_if test (look c)) cs → (d : Declared) (t : Bool) →
+        cond t (d ∷ filter test (filter_map look cs)) (filter test (filter_map look cs)) ≡ cons_option (cond t (Some d) None)
+        (filter_map (λ c. method_if test (look c)) cs)
     by_test again d true = ap (λ ds. d ∷ ds) again
     by_test again d false = again
 
-    by_look : filter test (filter_map look cs) ≡ filter_map (λ c. method_if test (look c)) cs → (o : Option Declared) → filter test (cons_option o (filter_map look cs)) ≡ cons_option (method_if test o) (filter_map (λ c. method_if test (look c)) cs)
+    by_look : filter test (filter_map look cs) ≡ filter_map (λ c. method_if test (look c)) cs → (o : Option Declared) →
+        filter test (cons_option o (filter_map look cs)) ≡ cons_option (method_if test o) (filter_map (λ c. method_if test (look c)) cs)
     by_look again None = again
     by_look again (Some d) = by_test again d (test d)
 
@@ -80,7 +87,9 @@ only_where : (test : Loaded → Bool) (look : Loaded → Option Declared) (cs : 
 only_where test look [] = refl
 only_where test look (c ∷ cs) = by_test (only_where test look cs) (test c)
   where
-    by_test : filter_map look (filter test cs) ≡ filter_map (λ c. cond (test c) (look c) None) cs → (t : Bool) → filter_map look (cond t (c ∷ filter test cs) (filter test cs)) ≡ cons_option (cond t (look c) None) (filter_map (λ c. cond (test c) (look c) None) cs)
+    by_test : filter_map look (filter test cs) ≡ filter_map (λ c. cond (test c) (look c) None) cs → (t : Bool) →
+        filter_map look (cond t (c ∷ filter test cs) (filter test cs)) ≡ cons_option (cond t (look c) None)
+        (filter_map (λ c. cond (test c) (look c) None) cs)
     by_test again true = ap (cons_option (look c)) again
     by_test again false = again
 
@@ -88,16 +97,19 @@ both_tests : {A : Type 0} → (p q : A → Bool) (xs : List A) → filter p (fil
 both_tests p q [] = refl
 both_tests p q (x ∷ xs) = by_tests (both_tests p q xs) (p x) (q x) refl
   where
-    by_tests : filter p (filter q xs) ≡ filter (λ x. p x && q x) xs → (s t : Bool) → p x ≡ s → filter p (cond t (x ∷ filter q xs) (filter q xs)) ≡ cond (s && t) (x ∷ filter (λ x. p x && q x) xs) (filter (λ x. p x && q x) xs)
+    by_tests : filter p (filter q xs) ≡ filter (λ x. p x && q x) xs → (s t : Bool) → p x ≡ s → filter p (cond t (x ∷ filter q xs) (filter q xs)) ≡
+        cond (s && t) (x ∷ filter (λ x. p x && q x) xs) (filter (λ x. p x && q x) xs)
     by_tests again true true e = ap (λ s. cond s (x ∷ filter p (filter q xs)) (filter p (filter q xs))) e ∙ ap (λ ys. x ∷ ys) again
     by_tests again true false e = again
     by_tests again false true e = ap (λ s. cond s (x ∷ filter p (filter q xs)) (filter p (filter q xs))) e ∙ again
     by_tests again false false e = again
 
-pub candidates_same : (world : World) (searched : List ℕ) (name descriptor : List ℕ) (l : Loaded) → classes_at world searched ≡ searched_from world l → candidates world l name descriptor ≡ candidates_at world searched name descriptor l
+pub candidates_same : (world : World) (searched : List ℕ) (name descriptor : List ℕ) (l : Loaded) → classes_at world searched ≡
+    searched_from world l → candidates world l name descriptor ≡ candidates_at world searched name descriptor l
 candidates_same world searched name descriptor l e =
     ap (λ cs. filter is_inheritable (filter_map (method_in name descriptor) (filter (without_itself l) cs))) (sym e)
-    ∙ (ap (filter is_inheritable) (only_where (without_itself l) (method_in name descriptor) (classes_at world searched)) ∙ (passing_same is_inheritable _ (classes_at world searched) ∙ inside (classes_at world searched)))
+    ∙ (ap (filter is_inheritable) (only_where (without_itself l) (method_in name descriptor) (classes_at world searched)) ∙
+    (passing_same is_inheritable _ (classes_at world searched) ∙ inside (classes_at world searched)))
   where
     inner : (o : Option Declared) (t : Bool) → method_if is_inheritable (cond t o None) ≡ cond t (method_if is_inheritable o) None
     inner o true = refl
@@ -106,7 +118,8 @@ candidates_same world searched name descriptor l e =
     inside : (cs : List Loaded) → filter_map (λ c. method_if is_inheritable (cond (without_itself l c) (method_in name descriptor c) None)) cs ≡ filter_map (candidate_in name descriptor l) cs
     inside [] = refl
     inside (c ∷ cs) =
-        ap (λ o. cons_option o (filter_map (λ c. method_if is_inheritable (cond (without_itself l c) (method_in name descriptor c) None)) cs)) (inner (method_in name descriptor c) (without_itself l c))
+        ap (λ o. cons_option o (filter_map (λ c. method_if is_inheritable (cond (without_itself l c) (method_in name descriptor c) None)) cs))
+        (inner (method_in name descriptor c) (without_itself l c))
         ∙ ap (cons_option (candidate_in name descriptor l c)) (inside cs)
 
 -- what is specific
@@ -137,7 +150,8 @@ none_specific world searched name descriptor l c e = by_candidate (candidate_in 
         (below_same world name descriptor l c d (classes_at world searched) (candidate_by name descriptor l c d f) ∙ e)))
 
 pub specific_same : (world : World) (searched : List ℕ) (name descriptor : List ℕ) (l : Loaded)
-    → filter is_concrete (maximally_specific world (candidates_at world searched name descriptor l)) ≡ filter_map (specific_in world (candidates_at world searched name descriptor l) name descriptor l) (classes_at world searched)
+    → filter is_concrete (maximally_specific world (candidates_at world searched name descriptor l)) ≡
+    filter_map (specific_in world (candidates_at world searched name descriptor l) name descriptor l) (classes_at world searched)
 specific_same world searched name descriptor l =
     let all = candidates_at world searched name descriptor l in
     both_tests is_concrete (λ d. not (list_any (is_below world d) all)) all ∙ passing_same (is_specific world all) (candidate_in name descriptor l) (classes_at world searched)
@@ -148,7 +162,8 @@ pub method_found : (world : World) (searched : List ℕ) (name descriptor : List
     → else_option o p ≡ superinterface_method world l name descriptor
 method_found world searched name descriptor l o p e f g =
     ap (λ x. else_option x p) (f ∙ ap only (sym (specific_same world searched name descriptor l)))
-    ∙ (ap (else_option (only (filter is_concrete (maximally_specific world (candidates_at world searched name descriptor l))))) (g ∙ sym (first_same (candidate_in name descriptor l) (classes_at world searched)))
+    ∙ (ap (else_option (only (filter is_concrete (maximally_specific world (candidates_at world searched name descriptor l)))))
+    (g ∙ sym (first_same (candidate_in name descriptor l) (classes_at world searched)))
     ∙ ap (λ all. else_option (only (filter is_concrete (maximally_specific world all))) (first_found itself all)) (sym (candidates_same world searched name descriptor l e)))
 
 pub some_first : (o p : Option Declared) (d : Declared) → o ≡ Some d → o ≡ else_option o p

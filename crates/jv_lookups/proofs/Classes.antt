@@ -16,10 +16,12 @@ same_class world classes number found l e f at = f ∙ (ap (λ w. get_or w numbe
 pub no_superclass : (world : World) (class : Class) (numbers : List (Option ℕ)) → numbers ≡ direct_numbers world class → class.super_class ≡ None → numbers ≡ interface_numbers world class
 no_superclass world class numbers e none = e ∙ ap (λ s. map (number_named world) (superclass_names s) ++ interface_numbers world class) none
 
-a_superclass : (world : World) (class : Class) (numbers : List (Option ℕ)) (name : List ℕ) → numbers ≡ direct_numbers world class → class.super_class ≡ Some name → numbers ≡ number_named world name ∷ interface_numbers world class
+a_superclass : (world : World) (class : Class) (numbers : List (Option ℕ)) (name : List ℕ) → numbers ≡ direct_numbers world class →
+    class.super_class ≡ Some name → numbers ≡ number_named world name ∷ interface_numbers world class
 a_superclass world class numbers name e some = e ∙ ap (λ s. map (number_named world) (superclass_names s) ++ interface_numbers world class) some
 
-pub behind_superclass : (world : World) (class : Class) (numbers : List (Option ℕ)) (name : List ℕ) → numbers ≡ direct_numbers world class → class.super_class ≡ Some name → take (length numbers - 1) (drop 1 numbers) ≡ interface_numbers world class
+pub behind_superclass : (world : World) (class : Class) (numbers : List (Option ℕ)) (name : List ℕ) → numbers ≡ direct_numbers world class →
+    class.super_class ≡ Some name → take (length numbers - 1) (drop 1 numbers) ≡ interface_numbers world class
 behind_superclass world class numbers name e some =
     let rest = interface_numbers world class in
     let few : length rest < length (number_named world name ∷ rest) = omega arith in

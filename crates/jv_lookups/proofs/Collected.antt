@@ -38,13 +38,16 @@ module _ (world : World) (look : Loaded → Option Declared) (searched : List �
       ap (λ p. before found ++ cons_option p (filter_map look (classes_at world (drop (i + 1) searched)))) (sym is)
       ∙ (ap (λ cs. before found ++ filter_map look cs) (sym (one_class_more world searched i k c h e at)) ∙ left)
 
-  pub none_more : (i k : ℕ) (c : Loaded) (found : Option Declared) → i < length searched → get_or searched i 0 ≡ k → slice_get world k ≡ Some c → look c ≡ None → AreLeft world look searched i found → AreLeft world look searched (i + 1) found
+  pub none_more : (i k : ℕ) (c : Loaded) (found : Option Declared) → i < length searched → get_or searched i 0 ≡ k → slice_get world k ≡ Some c →
+      look c ≡ None → AreLeft world look searched i found → AreLeft world look searched (i + 1) found
   none_more i k c found h e at is left = opened i k c None found h e at is left
 
-  pub first_one : (i k : ℕ) (c : Loaded) (d : Declared) → i < length searched → get_or searched i 0 ≡ k → slice_get world k ≡ Some c → look c ≡ Some d → AreLeft world look searched i None → AreLeft world look searched (i + 1) (Some d)
+  pub first_one : (i k : ℕ) (c : Loaded) (d : Declared) → i < length searched → get_or searched i 0 ≡ k → slice_get world k ≡ Some c → look c ≡
+      Some d → AreLeft world look searched i None → AreLeft world look searched (i + 1) (Some d)
   first_one i k c d h e at is left = opened i k c (Some d) None h e at is left
 
-  pub two : (i k : ℕ) (c : Loaded) (b d : Declared) → i < length searched → get_or searched i 0 ≡ k → slice_get world k ≡ Some c → look c ≡ Some d → AreLeft world look searched i (Some b) → AreSeveral (filter_map look (classes_at world searched))
+  pub two : (i k : ℕ) (c : Loaded) (b d : Declared) → i < length searched → get_or searched i 0 ≡ k → slice_get world k ≡ Some c → look c ≡ Some d →
+      AreLeft world look searched i (Some b) → AreSeveral (filter_map look (classes_at world searched))
   two i k c b d h e at is left = record {
     one = b;
     other = d;
@@ -67,7 +70,8 @@ module _ (world : World) (from : ℕ) (searched name descriptor : List ℕ) (i k
     left = λ l at_l. none_more world (specific_at world searched name descriptor l) searched i k c (option_and_then (method_at world) found) h e at (sym (none l at_l)) (on.left l at_l);
   }
 
-  pub leaves_one : (place : Place) → i < length searched → get_or searched i 0 ≡ k → slice_get world k ≡ Some c → HoldsAtNumber world from (λ l. method_at world place ≡ specific_at world searched name descriptor l c) → IsMethodPlace world place → is_some found ≡ false
+  pub leaves_one : (place : Place) → i < length searched → get_or searched i 0 ≡ k → slice_get world k ≡ Some c → HoldsAtNumber world from
+      (λ l. method_at world place ≡ specific_at world searched name descriptor l c) → IsMethodPlace world place → is_some found ≡ false
       → LeavesSpecifics world from searched name descriptor i found → LeavesSpecifics world from searched name descriptor (i + 1) (Some place)
   leaves_one place h e at some stands empty on = record {
     stands = stands;

@@ -39,7 +39,8 @@ module _ (test : Method → Bool) (seed column : ℕ) where
   pub no_method : (marks : MarkedKeys) → AreMarkedMore test seed marks column [] marks
   no_method marks = record { marked = λ k h. absurd cc; kept = all_kept marks }
 
-  methods_more : (old mid new : MarkedKeys) (methods more : List Method) → AreMarkedMore test seed old column methods mid → AreMarkedMore test seed mid column more new → AreMarkedMore test seed old column (methods ++ more) new
+  methods_more : (old mid new : MarkedKeys) (methods more : List Method) → AreMarkedMore test seed old column methods mid →
+      AreMarkedMore test seed mid column more new → AreMarkedMore test seed old column (methods ++ more) new
   methods_more old mid new methods more one two = record {
     marked = λ k h. by_part k (or_cases (list_any (has_key test seed k) methods) (list_any (has_key test seed k) more) (sym (list_any-append (has_key test seed k) methods more) ∙ h));
     kept = kept_on old mid new one.kept two.kept;
@@ -94,7 +95,8 @@ module _ (test : Method → Bool) (seed column : ℕ) where
           of_option None e h = absurd h
           of_option (Some m) e h = (m, e, h)
 
-  pub all_methods : (old new : MarkedKeys) (methods : List Method) (place : ℕ) → length methods ≤ place → AreMarkedMore test seed old column (take place methods) new → AreMarkedMore test seed old column methods new
+  pub all_methods : (old new : MarkedKeys) (methods : List Method) (place : ℕ) → length methods ≤ place → AreMarkedMore test seed old column
+      (take place methods) new → AreMarkedMore test seed old column methods new
   all_methods old new methods place past marked = subst (λ ms. AreMarkedMore test seed old column ms new) (take_all place methods past) marked
 
 -- ---- what a member shows
@@ -134,7 +136,8 @@ module _ (test : Method → Bool) (seed : ℕ) (classes : List Loaded) (column :
 
 -- ---- a method that is overridden has its key marked
 
-declares_alike : (test : Method → Bool) (seed : ℕ) (s : Loaded) (m e : Method) → method_named s.class m.name m.descriptor ≡ Some e → test e ≡ true → list_any (has_key test seed (key_of seed m.name m.descriptor)) s.class.methods ≡ true
+declares_alike : (test : Method → Bool) (seed : ℕ) (s : Loaded) (m e : Method) → method_named s.class m.name m.descriptor ≡ Some e → test e ≡ true →
+    list_any (has_key test seed (key_of seed m.name m.descriptor)) s.class.methods ≡ true
 declares_alike test seed s m e is passes =
     let p = λ (k : Method). bytes_eq k.name m.name && bytes_eq k.descriptor m.descriptor in
     let at = found_item p s.class.methods e is in
@@ -188,13 +191,15 @@ fails_if true b h e = absurd (let t = h refl in cc)
 fails_if false b h e = refl
 
 -- the row of its key
-pub row_tells : (keys : FinalKeys) (member : Member) (name descriptor : List ℕ) (key : Key) (row : List Bool) → name ≡ member.name.now → descriptor ≡ member.descriptor.now → key ≡ key_of keys.seed name descriptor
+pub row_tells : (keys : FinalKeys) (member : Member) (name descriptor : List ℕ) (key : Key) (row : List Bool) → name ≡ member.name.now → descriptor ≡
+    member.descriptor.now → key ≡ key_of keys.seed name descriptor
     → length row ≡ keys.marks.width → ((class : ℕ) → get_or row class false ≡ is_marked keys.marks key class)
     → (classes : List Loaded) → TellsFinals classes keys → TellsFinalsOf classes row (as_method member)
 row_tells keys member name descriptor key row same also at many marks classes tells = record {
   size = many ∙ tells.width;
   none = λ place s found there unmarked. fails_if (overrides_final found (alike_in s (as_method member))) (get_or row place false)
-      (λ h. marked place (tells.finals place s (key_of keys.seed member.name.now member.descriptor.now) (slice_get_within classes place s there) there (declares_overridden keys.seed s (as_method member) found h))) unmarked;
+      (λ h. marked place (tells.finals place s (key_of keys.seed member.name.now member.descriptor.now) (slice_get_within classes place s there) there
+      (declares_overridden keys.seed s (as_method member) found h))) unmarked;
   closed = λ place s there unmarked. fails_if (is_alike_overridden_if false (flags_alike s (as_method member))) (get_or row (length classes + place) false)
       (λ h. marked (length classes + place)
       (tells.opens place s (key_of keys.seed member.name.now member.descriptor.now) (slice_get_within classes place s there) there (declares_open keys.seed s (as_method member) h))) unmarked;

@@ -44,7 +44,8 @@ breaks_same l chain member m h =
 
 -- ---- one method after another
 
-module _ (test : Method → Bool) (methods : List Method) (place : ℕ) (member : Member) (same : (m : Method) → IsMethod member m → test m ≡ test (as_method member)) (there : IsSomeAnd (slice_get methods place) (IsMethod member)) where
+module _ (test : Method → Bool) (methods : List Method) (place : ℕ) (member : Member) (same : (m : Method) → IsMethod member m → test m ≡
+    test (as_method member)) (there : IsSomeAnd (slice_get methods place) (IsMethod member)) where
   the_method : (m : Method) × (slice_get methods place ≡ Some m) × IsMethod member m
   the_method = of_option (slice_get methods place) refl there
     where
@@ -90,17 +91,20 @@ module _ (classes : List Loaded) (of : ℕ) (l : Loaded) (others : List Loaded) 
   by_its : (test : Loaded → Bool) → passes test (slice_get classes of) ≡ test l
   by_its test = passes_there test classes of l here is
 
-  pub some_breaks : (place : ℕ) (member : Member) → IsSomeAnd (slice_get l.class.methods place) (IsMethod member) → true ≡ passes (λ k. breaks_final_by k others (as_method member)) (slice_get classes of)
+  pub some_breaks : (place : ℕ) (member : Member) → IsSomeAnd (slice_get l.class.methods place) (IsMethod member) → true ≡
+      passes (λ k. breaks_final_by k others (as_method member)) (slice_get classes of)
       → true ≡ passes (λ k. list_any (breaks_final_by k others) k.class.methods) (slice_get classes of)
   some_breaks place member there h =
       one_passes (breaks_final_by l others) l.class.methods place member (breaks_same l others member) there (sym (h ∙ by_its (λ k. breaks_final_by k others (as_method member))))
       ∙ sym (by_its (λ k. list_any (breaks_final_by k others) k.class.methods))
 
-  pub none_breaks : (place : ℕ) (member : Member) → IsSomeAnd (slice_get l.class.methods place) (IsMethod member) → false ≡ passes (λ k. breaks_final_by k others (as_method member)) (slice_get classes of)
+  pub none_breaks : (place : ℕ) (member : Member) → IsSomeAnd (slice_get l.class.methods place) (IsMethod member) → false ≡
+      passes (λ k. breaks_final_by k others (as_method member)) (slice_get classes of)
       → list_any (breaks_final_by l others) (take place l.class.methods) ≡ false → list_any (breaks_final_by l others) (take (place + 1) l.class.methods) ≡ false
   none_breaks place member there h before =
       one_more_fails (breaks_final_by l others) l.class.methods place member (breaks_same l others member) there before (sym (h ∙ by_its (λ k. breaks_final_by k others (as_method member))))
 
-  pub none_breaks_of_all : (place : ℕ) → length l.class.methods ≤ place → list_any (breaks_final_by l others) (take place l.class.methods) ≡ false → false ≡ passes (λ k. list_any (breaks_final_by k others) k.class.methods) (slice_get classes of)
+  pub none_breaks_of_all : (place : ℕ) → length l.class.methods ≤ place → list_any (breaks_final_by l others) (take place l.class.methods) ≡ false →
+      false ≡ passes (λ k. list_any (breaks_final_by k others) k.class.methods) (slice_get classes of)
   none_breaks_of_all place past none =
       sym none ∙ (ap (list_any (breaks_final_by l others)) (take_all place l.class.methods past) ∙ sym (by_its (λ k. list_any (breaks_final_by k others) k.class.methods)))

@@ -51,7 +51,8 @@ step_final found s m = by_method (method_named s.class m.name m.descriptor)
 
 -- ---- marks
 
-pub number_within : (classes : List Loaded) (packages : List ℕ) (marks : List Bool) (place : ℕ) → AreNumbered classes packages → 2 * length classes ≤ length marks → place < length classes → get_or packages place 0 < length marks
+pub number_within : (classes : List Loaded) (packages : List ℕ) (marks : List Bool) (place : ℕ) → AreNumbered classes packages →
+    2 * length classes ≤ length marks → place < length classes → get_or packages place 0 < length marks
 number_within classes packages marks place numbered room h =
     let many : length packages ≡ length classes = numbered.one_each in
     let less : get_or packages place 0 < 2 * length classes = numbered.below place 0 (omega (arith, many, h)) in
@@ -62,11 +63,13 @@ abbrev pub ArePackagesMarked : List Loaded → List ℕ → List Bool → List �
 ArePackagesMarked classes packages row rest marks found =
     (place : ℕ) (l : Loaded) → slice_get classes place ≡ Some l → is_wanted packages row rest (get_or packages place 0) ≡ true → get_or marks (get_or packages place 0) false ≡ have_package found l
 
-own_package : (classes : List Loaded) (packages : List ℕ) (place k : ℕ) (s l : Loaded) → AreNumbered classes packages → slice_get classes place ≡ Some s → slice_get classes k ≡ Some l → (b : Bool) → nat_eq (get_or packages place 0) (get_or packages k 0) ≡ b
+own_package : (classes : List Loaded) (packages : List ℕ) (place k : ℕ) (s l : Loaded) → AreNumbered classes packages → slice_get classes place ≡
+    Some s → slice_get classes k ≡ Some l → (b : Bool) → nat_eq (get_or packages place 0) (get_or packages k 0) ≡ b
     → same_package s l ≡ b
 own_package classes packages place k s l numbered at e b is = sym (numbered.same place k s l at e) ∙ is
 
-first_marked : (classes : List Loaded) (packages : List ℕ) (row : List Bool) (rest : List ℕ) (n of : ℕ) (l : Loaded) → AreNumbered classes packages → get_or packages of 0 < n → slice_get classes of ≡ Some l
+first_marked : (classes : List Loaded) (packages : List ℕ) (row : List Bool) (rest : List ℕ) (n of : ℕ) (l : Loaded) → AreNumbered classes packages →
+    get_or packages of 0 < n → slice_get classes of ≡ Some l
     → ArePackagesMarked classes packages row rest (set (replicate n false) (get_or packages of 0) true) (l ∷ [])
 first_marked classes packages row rest n of l numbered within at k j e w =
     by_test (nat_eq (get_or packages of 0) (get_or packages k 0)) refl ∙ ap (λ b. b || false) (numbered.same of k l j at e)
@@ -76,7 +79,8 @@ first_marked classes packages row rest n of l numbered within at k j e w =
     unmarked (suc n) zero = refl
     unmarked (suc n) (suc k) = unmarked n k
 
-    by_test : (b : Bool) → nat_eq (get_or packages of 0) (get_or packages k 0) ≡ b → get_or (set (replicate n false) (get_or packages of 0) true) (get_or packages k 0) false ≡ (nat_eq (get_or packages of 0) (get_or packages k 0) || false)
+    by_test : (b : Bool) → nat_eq (get_or packages of 0) (get_or packages k 0) ≡ b → get_or (set (replicate n false) (get_or packages of 0) true)
+        (get_or packages k 0) false ≡ (nat_eq (get_or packages of 0) (get_or packages k 0) || false)
     by_test true t =
         ap (λ q. get_or (set (replicate n false) (get_or packages of 0) true) q false) (sym (eqb-true (get_or packages of 0) (get_or packages k 0) t))
         ∙ (get_or-set_same (replicate n false) (get_or packages of 0) true false (subst (λ q. get_or packages of 0 < q) (sym (length-replicate n false)) within) ∙ ap (λ b. b || false) (sym t))
@@ -92,7 +96,8 @@ pub record IsWalked (classes : List Loaded) (packages : List ℕ) (row marks : L
   pub marked : ArePackagesMarked classes packages row rest marks found
   pub same : overrides_final_above m found (classes_at classes rest) ≡ whole
 
-pub way_begins : (classes : List Loaded) (packages : List ℕ) (row cleared marks : List Bool) (k n : ℕ) (m : Method) (chain : List ℕ) (of : ℕ) → AreNumbered classes packages → 2 * length classes ≤ n → of < length classes
+pub way_begins : (classes : List Loaded) (packages : List ℕ) (row cleared marks : List Bool) (k n : ℕ) (m : Method) (chain : List ℕ) (of : ℕ) →
+    AreNumbered classes packages → 2 * length classes ≤ n → of < length classes
     → k ≡ n → cleared ≡ replicate k false → marks ≡ set cleared (get_or packages of 0) true
     → IsWalked classes packages row marks m chain (passes (λ c. overrides_final_above m (c ∷ []) (classes_at classes chain)) (slice_get classes of)) × (length marks ≡ n)
 way_begins classes packages row cleared marks k n m chain of numbered room here many unmarked marked =
@@ -145,7 +150,8 @@ module _ (classes : List Loaded) (packages : List ℕ) (row marks : List Bool) (
   not_found None h = refl
   not_found (Some f) h = ap (λ b. b && not (has f acc_private)) h
 
-  module _ (asked after : List Bool) (within : number < length marks) (asks : is_any_marked row (length classes) n ≡ true → is_wanted packages row (n ∷ rest) number ≡ true → get_or asked n false ≡ true) where
+  module _ (asked after : List Bool) (within : number < length marks) (asks : is_any_marked row (length classes) n ≡ true → is_wanted packages row
+      (n ∷ rest) number ≡ true → get_or asked n false ≡ true) where
     abbrev pub may : Bool → Bool
     may found = get_or row (cond found n (length classes + n)) false
 
@@ -222,7 +228,8 @@ module _ (classes : List Loaded) (packages : List ℕ) (row marks : List Bool) (
           passed_over a (is_found_if false flags)
           ∙ (here d ∙ ap (λ b. have_package (cond b (s ∷ walked.found) walked.found) l) (sym (not_found flags (tells.closed n s at m))))
 
-      marked_at : after ≡ cond looked (cond (is_found_if (get_or marks number false) flags) (set marks number true) marks) marks → get_or after q false ≡ have_package (with_overridden walked.found (alike_in s m)) l
+      marked_at : after ≡ cond looked (cond (is_found_if (get_or marks number false) flags) (set marks number true) marks) marks →
+          get_or after q false ≡ have_package (with_overridden walked.found (alike_in s m)) l
       marked_at made = by_place (nat_eq number q) refl
         where
           of_own : nat_eq number q ≡ true → get_or after q false ≡ have_package (with_overridden walked.found (alike_in s m)) l
@@ -242,7 +249,8 @@ module _ (classes : List Loaded) (packages : List ℕ) (row marks : List Bool) (
               ∙ (its ∙ sym (ap (λ f. have_package f l) (step_found walked.found s m) ∙ apart d (is_found_if (have_package walked.found s) flags))))
 
     -- where no final method is overridden, the way goes on
-    way_goes_on : false ≡ (looked && is_final_overridden_if (get_or marks number false) flags) → after ≡ cond looked (cond (is_found_if (get_or marks number false) flags) (set marks number true) marks) marks
+    way_goes_on : false ≡ (looked && is_final_overridden_if (get_or marks number false) flags) → after ≡
+        cond looked (cond (is_found_if (get_or marks number false) flags) (set marks number true) marks) marks
         → IsWalked classes packages row after m rest whole
     way_goes_on kept made = record {
       found = with_overridden walked.found (alike_in s m);
@@ -253,14 +261,17 @@ module _ (classes : List Loaded) (packages : List ℕ) (row marks : List Bool) (
 
 -- ---- the same by a place of the chain
 
-class_there : (classes : List Loaded) (chain : List ℕ) (i : ℕ) (s : Loaded) → AreNumbers classes chain → i < length chain → s ≡ get_or classes (get_or chain i 0) s → slice_get classes (get_or chain i 0) ≡ Some s
+class_there : (classes : List Loaded) (chain : List ℕ) (i : ℕ) (s : Loaded) → AreNumbers classes chain → i < length chain → s ≡
+    get_or classes (get_or chain i 0) s → slice_get classes (get_or chain i 0) ≡ Some s
 class_there classes chain i s numbers h e = slice_get_read classes (length classes) (get_or chain i 0) s refl (numbers i 0 h) e
 
 next_place : (chain : List ℕ) (i : ℕ) → i < length chain → drop i chain ≡ get_or chain i 0 ∷ drop (i + 1) chain
 next_place chain i h = drop-cons chain i 0 h ∙ ap (λ k. get_or chain i 0 ∷ drop k chain) (sym (add-one i))
 
-module _ (classes : List Loaded) (packages : List ℕ) (row marks : List Bool) (m : Method) (chain : List ℕ) (i : ℕ) (s : Loaded) (whole : Bool) (numbers : AreNumbers classes chain) (h : i < length chain)
-    (e : s ≡ get_or classes (get_or chain i 0) s) (numbered : AreNumbered classes packages) (tells : TellsFinalsOf classes row m) (walked : IsWalked classes packages row marks m (drop i chain) whole) where
+module _ (classes : List Loaded) (packages : List ℕ) (row marks : List Bool) (m : Method) (chain : List ℕ) (i : ℕ) (s : Loaded) (whole : Bool)
+    (numbers : AreNumbers classes chain) (h : i < length chain)
+    (e : s ≡ get_or classes (get_or chain i 0) s) (numbered : AreNumbered classes packages) (tells : TellsFinalsOf classes row m)
+    (walked : IsWalked classes packages row marks m (drop i chain) whole) where
   abbrev pub there_package : ℕ
   there_package = get_or packages (get_or chain i 0) 0
 
@@ -311,11 +322,14 @@ pub same_many : (after marks : List Bool) (b : Bool) (k : ℕ) → after ≡ con
 same_many after marks true k e = ap length e ∙ length-set marks k true
 same_many after marks false k e = ap length e
 
-asked_still : (packages : List ℕ) (row : List Bool) (many : ℕ) (asked after : List Bool) → ((k : ℕ) → get_or asked k false ≡ true → get_or after k false ≡ true) → (chain : List ℕ) → AreAsked packages row many asked chain → AreAsked packages row many after chain
+asked_still : (packages : List ℕ) (row : List Bool) (many : ℕ) (asked after : List Bool) →
+    ((k : ℕ) → get_or asked k false ≡ true → get_or after k false ≡ true) → (chain : List ℕ) → AreAsked packages row many asked chain →
+    AreAsked packages row many after chain
 asked_still packages row many asked after still [] are = tt
 asked_still packages row many asked after still (n ∷ chain) are = (λ any w. still n (are.0 any w), asked_still packages row many asked after still chain are.1)
 
-pub none_asked : (packages : List ℕ) (row : List Bool) (many : ℕ) (asked marks : List Bool) (chain : List ℕ) (i : ℕ) → length chain ≤ i → AreAsked packages row many asked (drop i chain) × AreWantedMarked packages row (drop i chain) marks
+pub none_asked : (packages : List ℕ) (row : List Bool) (many : ℕ) (asked marks : List Bool) (chain : List ℕ) (i : ℕ) → length chain ≤ i →
+    AreAsked packages row many asked (drop i chain) × AreWantedMarked packages row (drop i chain) marks
 none_asked packages row many asked marks chain i past =
     subst (λ rest. AreAsked packages row many asked rest × AreWantedMarked packages row rest marks) (sym (drop_all i chain past)) (tt, λ number w. absurd cc)
 
@@ -334,7 +348,8 @@ module _ (packages : List ℕ) (row : List Bool) (many : ℕ) (asked marks asked
       place = get_or chain i 0
 
       wanted_on : AreWantedMarked packages row (place ∷ drop j chain) marks_on
-      wanted_on number w = ap (λ ms. get_or ms number false) marks_made ∙ by_first (or_cases (get_or row place false && nat_eq (get_or packages place 0) number) (is_wanted packages row (drop j chain) number) w)
+      wanted_on number w = ap (λ ms. get_or ms number false) marks_made ∙
+          by_first (or_cases (get_or row place false && nat_eq (get_or packages place 0) number) (is_wanted packages row (drop j chain) number) w)
         where
           set_now : (b : Bool) → b ≡ true → get_or (cond b (set marks (get_or packages place 0) true) marks) (get_or packages place 0) false ≡ true
           set_now true e = get_or-set_same marks (get_or packages place 0) true false room
@@ -350,7 +365,9 @@ module _ (packages : List ℕ) (row : List Bool) (many : ℕ) (asked marks asked
 
       asks : is_any_marked row many place ≡ true → get_or marks_on (get_or packages place 0) false ≡ true → get_or asked_on place false ≡ true
       asks any h =
-          ap (λ a. get_or a place false) (asked_made ∙ (ap (λ b. cond (b && get_or marks_on (get_or packages place 0) false) (set asked place true) asked) any ∙ ap (λ b. cond b (set asked place true) asked) h))
+          ap (λ a. get_or a place false)
+          (asked_made ∙ (ap (λ b. cond (b && get_or marks_on (get_or packages place 0) false) (set asked place true) asked) any ∙
+          ap (λ b. cond b (set asked place true) asked) h))
           ∙ get_or-set_same asked place true false space
 
       still : (k : ℕ) → get_or asked k false ≡ true → get_or asked_on k false ≡ true
@@ -363,7 +380,8 @@ pub unmarked_overrides_none : (classes : List Loaded) (row : List Bool) (m : Met
 unmarked_overrides_none classes row m place tells h s found at = tells.none place s found at h
 
 -- the class declares no final method with the name and descriptor
-pub none_final_overrides_none : (classes : List Loaded) (m : Method) (place : ℕ) (l : Loaded) → place < length classes → l ≡ get_or classes place l → declares_final_alike l m ≡ false → OverridesNoFinal classes m place
+pub none_final_overrides_none : (classes : List Loaded) (m : Method) (place : ℕ) (l : Loaded) → place < length classes → l ≡ get_or classes place l →
+    declares_final_alike l m ≡ false → OverridesNoFinal classes m place
 none_final_overrides_none classes m place l within is h s found at =
     step_final found s m ∙ by_flags (flags_alike s m) (subst (λ k. declares_final_alike k m ≡ false) (of_some l s (sym (slice_get_read classes (length classes) place l refl within is) ∙ at)) h)
   where
@@ -375,7 +393,8 @@ none_final_overrides_none classes m place l within is h s found at =
     by_flags (Some flags) h = ap (λ b. b && is_overridden_if (have_package found s) flags) h
 
 -- one more place from the end: no class is marked before it, and none declares a final method behind it
-pub none_behind_more : (classes : List Loaded) (row : List Bool) (m : Method) (chain : List ℕ) (end last before : ℕ) (l : Loaded) → TellsFinalsOf classes row m → AreNumbers classes chain → last + 1 ≡ end → end ≤ length chain
+pub none_behind_more : (classes : List Loaded) (row : List Bool) (m : Method) (chain : List ℕ) (end last before : ℕ) (l : Loaded) →
+    TellsFinalsOf classes row m → AreNumbers classes chain → last + 1 ≡ end → end ≤ length chain
     → ((k : ℕ) → end ≤ k → k < length chain → OverridesNoFinal classes m (get_or chain k 0)) → l ≡ get_or classes (get_or chain last 0) l → false ≡ declares_final_alike l m
     → AreUnmarked row chain before last → (k : ℕ) → before ≤ k → k < length chain → OverridesNoFinal classes m (get_or chain k 0)
 none_behind_more classes row m chain end last before l tells numbers next within none is kept unmarked k from less = by_place (cases_order k last)

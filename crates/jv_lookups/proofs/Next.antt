@@ -46,23 +46,29 @@ each_below world class =
 -- the loop over the interfaces: what has been begun with the rest is what all lead to
 pub record GoesOn (world : World) (deeper : ℕ) (first : NumbersBelow) (interfaces : List (Option ℕ)) (place : ℕ) (begun : NumbersBelow) : Type 0 where
   pub numbers : AreNumbersOf world begun
-  pub rest : fold (searched_within world deeper) (classes_at world begun.numbers) (those_at world (drop place interfaces)) ≡ fold (searched_within world deeper) (classes_at world first.numbers) (those_at world interfaces)
+  pub rest : fold (searched_within world deeper) (classes_at world begun.numbers) (those_at world (drop place interfaces)) ≡
+      fold (searched_within world deeper) (classes_at world first.numbers) (those_at world interfaces)
 
 module _ (world : World) (f : List Loaded → Loaded → List Loaded) where
-  one_without : (numbers : List (Option ℕ)) (i : ℕ) (b : List Loaded) → i < length numbers → get_or numbers i None ≡ None → fold f b (those_at world (drop (suc i) numbers)) ≡ fold f b (those_at world (drop i numbers))
+  one_without : (numbers : List (Option ℕ)) (i : ℕ) (b : List Loaded) → i < length numbers → get_or numbers i None ≡ None →
+      fold f b (those_at world (drop (suc i) numbers)) ≡ fold f b (those_at world (drop i numbers))
   one_without [] i b h e = absurd (omega (arith, h))
   one_without (n ∷ numbers) zero b h e = ap (λ (o : Option ℕ). fold f b (cons_option (o >>= slice_get world) (those_at world numbers))) (sym e)
   one_without (n ∷ numbers) (suc i) b h e = let less : i < length numbers = omega (arith, h) in one_without numbers i b less e
 
-  pub without : (numbers : List (Option ℕ)) (i : ℕ) (b : List Loaded) → i < length numbers → get_or numbers i None ≡ None → fold f b (those_at world (drop (i + 1) numbers)) ≡ fold f b (those_at world (drop i numbers))
+  pub without : (numbers : List (Option ℕ)) (i : ℕ) (b : List Loaded) → i < length numbers → get_or numbers i None ≡ None →
+      fold f b (those_at world (drop (i + 1) numbers)) ≡ fold f b (those_at world (drop i numbers))
   without numbers i b h e = ap (λ n. fold f b (those_at world (drop n numbers))) (add-one i) ∙ one_without numbers i b h e
 
-  one_with : (numbers : List (Option ℕ)) (i : ℕ) (b : List Loaded) (k : ℕ) (s : Loaded) → i < length numbers → get_or numbers i None ≡ Some k → slice_get world k ≡ Some s → fold f (f b s) (those_at world (drop (suc i) numbers)) ≡ fold f b (those_at world (drop i numbers))
+  one_with : (numbers : List (Option ℕ)) (i : ℕ) (b : List Loaded) (k : ℕ) (s : Loaded) → i < length numbers → get_or numbers i None ≡ Some k →
+      slice_get world k ≡ Some s → fold f (f b s) (those_at world (drop (suc i) numbers)) ≡ fold f b (those_at world (drop i numbers))
   one_with [] i b k s h e at = absurd (omega (arith, h))
-  one_with (n ∷ numbers) zero b k s h e at = sym (ap (λ (o : Option ℕ). fold f b (cons_option (o >>= slice_get world) (those_at world numbers))) e ∙ ap (λ o. fold f b (cons_option o (those_at world numbers))) at)
+  one_with (n ∷ numbers) zero b k s h e at = sym (ap (λ (o : Option ℕ). fold f b (cons_option (o >>= slice_get world) (those_at world numbers))) e ∙
+      ap (λ o. fold f b (cons_option o (those_at world numbers))) at)
   one_with (n ∷ numbers) (suc i) b k s h e at = let less : i < length numbers = omega (arith, h) in one_with numbers i b k s less e at
 
-  pub with : (numbers : List (Option ℕ)) (i : ℕ) (b : List Loaded) (k : ℕ) (s : Loaded) → i < length numbers → get_or numbers i None ≡ Some k → slice_get world k ≡ Some s → fold f (f b s) (those_at world (drop (i + 1) numbers)) ≡ fold f b (those_at world (drop i numbers))
+  pub with : (numbers : List (Option ℕ)) (i : ℕ) (b : List Loaded) (k : ℕ) (s : Loaded) → i < length numbers → get_or numbers i None ≡ Some k →
+      slice_get world k ≡ Some s → fold f (f b s) (those_at world (drop (i + 1) numbers)) ≡ fold f b (those_at world (drop i numbers))
   with numbers i b k s h e at = ap (λ n. fold f (f b s) (those_at world (drop n numbers))) (add-one i) ∙ one_with numbers i b k s h e at
 
   pub none_left : (numbers : List (Option ℕ)) (i : ℕ) (b : List Loaded) → length numbers ≡ i → fold f b (those_at world (drop i numbers)) ≡ b
@@ -80,7 +86,8 @@ no_deeper world b (l ∷ ls) = no_deeper world b ls
 pub begun_before : (world : World) (deeper : ℕ) (b : List Loaded) (l : Loaded) → is_among b l ≡ true → searched_within world (suc deeper) b l ≡ b
 begun_before world deeper b l e = ap (λ t. cond t b (fold (searched_within world deeper) (b ++ l ∷ []) (next_in world l.class))) e
 
-pub begun_now : (world : World) (deeper : ℕ) (b : List Loaded) (l : Loaded) → is_among b l ≡ false → searched_within world (suc deeper) b l ≡ fold (searched_within world deeper) (b ++ l ∷ []) (next_in world l.class)
+pub begun_now : (world : World) (deeper : ℕ) (b : List Loaded) (l : Loaded) → is_among b l ≡ false → searched_within world (suc deeper) b l ≡
+    fold (searched_within world deeper) (b ++ l ∷ []) (next_in world l.class)
 begun_now world deeper b l e = ap (λ t. cond t b (fold (searched_within world deeper) (b ++ l ∷ []) (next_in world l.class))) e
 
 superclass_of_names : (world : World) (name : Option (List ℕ)) → filter_map (class_named world) (superclass_names name) ≡ cons_option (class_if_named world name) []
@@ -97,7 +104,8 @@ by_parts world f b class interfaces superclass once e h =
     ∙ (fold-append f b (filter_map (class_named world) class.interfaces) (filter_map (class_named world) (superclass_names class.super_class))
     ∙ (ap (λ c. fold f c (filter_map (class_named world) (superclass_names class.super_class)))
     (ap (fold f b) (sym (those_named world class.interfaces)) ∙ (sym once ∙ ap (λ ns. fold f b (those_at world ns)) (sym e)))
-    ∙ ap (fold f (fold f b (those_at world interfaces))) (superclass_of_names world class.super_class ∙ ap (λ o. cons_option o []) (sym (ap (λ n. n >>= slice_get world) h ∙ at_superclass world class)))))
+    ∙ ap (fold f (fold f b (those_at world interfaces))) (superclass_of_names world class.super_class ∙ ap (λ o. cons_option o [])
+    (sym (ap (λ n. n >>= slice_get world) h ∙ at_superclass world class)))))
 
 -- ---- steps of a search
 
@@ -110,16 +118,19 @@ next_below world class numbers i k e h = below_of (length world) (get_or (interf
 pub super_below : (world : World) (class : Class) (number : Option ℕ) (k : ℕ) → number ≡ superclass_number world class → number ≡ Some k → k < length world
 super_below world class number k e h = below_of (length world) (superclass_number world class) k (sym e ∙ h) (superclass_below world class.super_class)
 
-pub added_class : (world : World) (first begun : NumbersBelow) (k : ℕ) (l : Loaded) → begun ≡ numbers_below first.size (first.numbers ++ k ∷ []) → slice_get world k ≡ Some l → classes_at world begun.numbers ≡ classes_at world first.numbers ++ l ∷ []
+pub added_class : (world : World) (first begun : NumbersBelow) (k : ℕ) (l : Loaded) → begun ≡ numbers_below first.size (first.numbers ++ k ∷ []) →
+    slice_get world k ≡ Some l → classes_at world begun.numbers ≡ classes_at world first.numbers ++ l ∷ []
 added_class world first begun k l e at = ap (λ (b : NumbersBelow). classes_at world b.numbers) e ∙ one_behind world k l first.numbers at
 
-pub step_without : (world : World) (deeper : ℕ) (first begun later : NumbersBelow) (interfaces : List (Option ℕ)) (place : ℕ) → place < length interfaces → get_or interfaces place None ≡ None → later ≡ begun
+pub step_without : (world : World) (deeper : ℕ) (first begun later : NumbersBelow) (interfaces : List (Option ℕ)) (place : ℕ) →
+    place < length interfaces → get_or interfaces place None ≡ None → later ≡ begun
     → GoesOn world deeper first interfaces place begun → GoesOn world deeper first interfaces (place + 1) later
 step_without world deeper first begun later interfaces place h e same on =
     subst (GoesOn world deeper first interfaces (place + 1)) (sym same)
     (record { numbers = on.numbers; rest = without world (searched_within world deeper) interfaces place (classes_at world begun.numbers) h e ∙ on.rest })
 
-pub step_with : (world : World) (deeper d : ℕ) (first begun later : NumbersBelow) (interfaces : List (Option ℕ)) (place k : ℕ) → suc d ≡ deeper → place < length interfaces → get_or interfaces place None ≡ Some k → k < length world
+pub step_with : (world : World) (deeper d : ℕ) (first begun later : NumbersBelow) (interfaces : List (Option ℕ)) (place k : ℕ) → suc d ≡ deeper →
+    place < length interfaces → get_or interfaces place None ≡ Some k → k < length world
     → HoldsAtNumber world k (λ s. classes_at world later.numbers ≡ searched_within world (suc d) (classes_at world begun.numbers) s) → AreNumbersOf world later
     → GoesOn world deeper first interfaces place begun → GoesOn world deeper first interfaces (place + 1) later
 step_with world deeper d first begun later interfaces place k depth h e less found are on = record {
@@ -154,7 +165,8 @@ pub finish : (world : World) (deeper : ℕ) (first begun later end : NumbersBelo
 finish world deeper first begun later end number place l interfaces superclass at fresh added e h size on ends =
     let f = searched_within world deeper in
     ends ∙ (ap (λ b. fold f b (cons_option (superclass >>= slice_get world) [])) (sym (none_left world f interfaces place (classes_at world later.numbers) size) ∙ on.rest)
-    ∙ (sym (by_parts world f (classes_at world begun.numbers) l.class interfaces superclass (searched_once world deeper (classes_at world begun.numbers) (map (number_named world) l.class.interfaces)) e h)
+    ∙ (sym (by_parts world f (classes_at world begun.numbers) l.class interfaces superclass
+    (searched_once world deeper (classes_at world begun.numbers) (map (number_named world) l.class.interfaces)) e h)
     ∙ (ap (λ b. fold f b (next_in world l.class)) (added_class world first begun number l added at)
     ∙ sym (begun_now world deeper (classes_at world first.numbers) l fresh))))
 

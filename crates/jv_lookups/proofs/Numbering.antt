@@ -29,7 +29,8 @@ nothing_new names text place first = sym (ap (λ b. cond b names (names ++ text 
 not_there : (names : List (List ℕ)) (text : List ℕ) → position (bytes_eq text) names ≡ None → (k : ℕ) → k < length names → bytes_eq text (get_or names k []) ≡ false
 not_there names text e k less = by_test (nat_lt (position_or_len (bytes_eq text) names) (length names)) refl e
   where
-    by_test : (b : Bool) → nat_lt (position_or_len (bytes_eq text) names) (length names) ≡ b → cond b (Some (position_or_len (bytes_eq text) names)) None ≡ None → bytes_eq text (get_or names k []) ≡ false
+    by_test : (b : Bool) → nat_lt (position_or_len (bytes_eq text) names) (length names) ≡ b → cond b (Some (position_or_len (bytes_eq text) names))
+        None ≡ None → bytes_eq text (get_or names k []) ≡ false
     by_test true t e = absurd cc
     by_test false t e =
         let past : length names ≤ position_or_len (bytes_eq text) names = ltb-false (position_or_len (bytes_eq text) names) (length names) t in
@@ -83,13 +84,15 @@ theirs_kept names new (l ∷ classes) (n ∷ numbers) h =
       theirs_kept names new classes numbers h.1,
     )
 
-theirs_more : (names : List (List ℕ)) (classes : List Loaded) (numbers : List ℕ) (l : Loaded) (n : ℕ) → AreTheirs names classes numbers → IsNumber names l n → AreTheirs names (classes ++ l ∷ []) (numbers ++ n ∷ [])
+theirs_more : (names : List (List ℕ)) (classes : List Loaded) (numbers : List ℕ) (l : Loaded) (n : ℕ) → AreTheirs names classes numbers →
+    IsNumber names l n → AreTheirs names (classes ++ l ∷ []) (numbers ++ n ∷ [])
 theirs_more names [] [] l n h k = (k, tt)
 theirs_more names [] (m ∷ numbers) l n h k = absurd h
 theirs_more names (c ∷ classes) [] l n h k = absurd h
 theirs_more names (c ∷ classes) (m ∷ numbers) l n h k = (h.0, theirs_more names classes numbers l n h.1 k)
 
-pub numbered_more : (names : List (List ℕ)) (classes : List Loaded) (i : ℕ) (l : Loaded) (numbers : List ℕ) (place n : ℕ) → AreTheirs names (take i classes) numbers → i < length classes → l ≡ get_or classes i l
+pub numbered_more : (names : List (List ℕ)) (classes : List Loaded) (i : ℕ) (l : Loaded) (numbers : List ℕ) (place n : ℕ) →
+    AreTheirs names (take i classes) numbers → i < length classes → l ≡ get_or classes i l
     → IsFirstAt (with_name names (package_of l.class.name)) (package_of l.class.name) place → n ≡ number_at place l.by_system
     → AreTheirs (with_name names (package_of l.class.name)) (take (i + 1) classes) (numbers ++ n ∷ [])
 numbered_more names classes i l numbers place n h less at first e =
@@ -113,14 +116,16 @@ as_many names (l ∷ classes) (n ∷ numbers) h = ap suc (as_many names classes 
 
 -- ---- all numbers
 
-number_of_some : (names : List (List ℕ)) (classes : List Loaded) (numbers : List ℕ) (k d : ℕ) → AreTheirs names classes numbers → k < length numbers → (l : Loaded) × IsNumber names l (get_or numbers k d)
+number_of_some : (names : List (List ℕ)) (classes : List Loaded) (numbers : List ℕ) (k d : ℕ) → AreTheirs names classes numbers → k < length numbers →
+    (l : Loaded) × IsNumber names l (get_or numbers k d)
 number_of_some names [] [] k d h less = absurd (omega (arith, less))
 number_of_some names [] (n ∷ numbers) k d h less = absurd h
 number_of_some names (l ∷ classes) [] k d h less = absurd h
 number_of_some names (l ∷ classes) (n ∷ numbers) zero d h less = (l, h.0)
 number_of_some names (l ∷ classes) (n ∷ numbers) (suc k) d h less = number_of_some names classes numbers k d h.1 (omega (arith, less))
 
-number_of_class : (names : List (List ℕ)) (classes : List Loaded) (numbers : List ℕ) (k : ℕ) (l : Loaded) → AreTheirs names classes numbers → slice_get classes k ≡ Some l → IsNumber names l (get_or numbers k 0)
+number_of_class : (names : List (List ℕ)) (classes : List Loaded) (numbers : List ℕ) (k : ℕ) (l : Loaded) → AreTheirs names classes numbers →
+    slice_get classes k ≡ Some l → IsNumber names l (get_or numbers k 0)
 number_of_class names [] numbers k l h e = absurd cc
 number_of_class names (c ∷ classes) [] k l h e = absurd h
 number_of_class names (c ∷ classes) (n ∷ numbers) zero l h e = let same : c ≡ l = cc in subst (λ x. IsNumber names x n) same h.0

@@ -34,7 +34,8 @@ module _ (world : World) (f : List Loaded → Loaded → List Loaded) (Has : Lis
       one None again = again b
       one (Some m) again = again (f b m)
 
-      by_test : (t : Bool) → is_same n x ≡ t → (t || list_any (is_same n) done) ≡ true → ((c : List Loaded) → list_any (is_same n) done ≡ true → Has (fold f c rest) l) → Has (fold f b (cons_option (x >>= slice_get world) rest)) l
+      by_test : (t : Bool) → is_same n x ≡ t → (t || list_any (is_same n) done) ≡ true →
+          ((c : List Loaded) → list_any (is_same n) done ≡ true → Has (fold f c rest) l) → Has (fold f b (cons_option (x >>= slice_get world) rest)) l
       by_test true t e again =
           let here : (x >>= slice_get world) ≡ Some l = ap (λ (o : Option ℕ). o >>= slice_get world) (sym (same_is n x t)) ∙ at in
           subst (λ o. Has (fold f b (cons_option o rest)) l) (sym here) (stays_all (f b l) rest l (after b l))
@@ -81,7 +82,8 @@ among_last b l =
     or_true true = refl
     or_true false = refl
 
-pub kept_by_all : (f : List Loaded → Loaded → List Loaded) → ((b : List Loaded) (m l : Loaded) → is_among b l ≡ true → is_among (f b m) l ≡ true) → (b ms : List Loaded) (l : Loaded) → is_among b l ≡ true → is_among (fold f b ms) l ≡ true
+pub kept_by_all : (f : List Loaded → Loaded → List Loaded) → ((b : List Loaded) (m l : Loaded) → is_among b l ≡ true → is_among (f b m) l ≡ true) →
+    (b ms : List Loaded) (l : Loaded) → is_among b l ≡ true → is_among (fold f b ms) l ≡ true
 kept_by_all f one b [] l e = e
 kept_by_all f one b (m ∷ ms) l e = kept_by_all f one (f b m) ms l (one b m l e)
 
@@ -118,5 +120,6 @@ module _ (world : World) where
   passed_over zero b l h = refl
   passed_over (suc k) b l h = ap (λ t. cond t b (fold (searched_within world k) (b ++ l ∷ []) (next_in world l.class))) h
 
-  pub searched_once : (k : ℕ) (b : List Loaded) (numbers : List (Option ℕ)) → fold (searched_within world k) b (those_at world (each_once numbers)) ≡ fold (searched_within world k) b (those_at world numbers)
+  pub searched_once : (k : ℕ) (b : List Loaded) (numbers : List (Option ℕ)) → fold (searched_within world k) b (those_at world (each_once numbers)) ≡
+      fold (searched_within world k) b (those_at world numbers)
   searched_once k = over_once world (searched_within world k) (HasBegun k) (begun_after k) (begun_still k) (passed_over k)

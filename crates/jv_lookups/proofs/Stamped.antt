@@ -32,6 +32,7 @@ marked_more stamp stamps after old number e w =
     ap (marked_by stamp) w
     ∙ (map-set (λ s. nat_eq s stamp) stamps number stamp ∙ (ap (λ b. set (marked_by stamp stamps) number b) (eq-eqb stamp stamp refl) ∙ ap (λ bs. set bs number true) e))
 
-pub none_marked_again : (n : ℕ) (stamp : ℕ) (stamps after : List ℕ) (old : List Bool) → after ≡ replicate n 0 → length stamps ≡ n → marked_by stamp stamps ≡ old → marked_by 1 after ≡ replicate (length old) false
+pub none_marked_again : (n : ℕ) (stamp : ℕ) (stamps after : List ℕ) (old : List Bool) → after ≡ replicate n 0 → length stamps ≡ n →
+    marked_by stamp stamps ≡ old → marked_by 1 after ≡ replicate (length old) false
 none_marked_again n stamp stamps after old e many was =
     none_marked_anew n after e ∙ ap (λ k. replicate k false) (sym many ∙ (sym (length-map stamps (λ s. nat_eq s stamp)) ∙ ap length was))

@@ -16,7 +16,8 @@ kept test o d e t = sym (ap (method_if test) e ∙ ap (λ b. cond b (Some d) Non
 pub dropped : (test : Declared → Bool) (o : Option Declared) (d : Declared) → o ≡ Some d → test d ≡ false → None ≡ method_if test o
 dropped test o d e t = sym (ap (method_if test) e ∙ ap (λ b. cond b (Some d) None) t)
 
-pub candidate_by_method : (name descriptor : List ℕ) (l c : Loaded) (o : Option Declared) → without_itself l c ≡ true → o ≡ method_if is_inheritable (method_in name descriptor c) → o ≡ candidate_in name descriptor l c
+pub candidate_by_method : (name descriptor : List ℕ) (l c : Loaded) (o : Option Declared) → without_itself l c ≡ true → o ≡ method_if is_inheritable
+    (method_in name descriptor c) → o ≡ candidate_in name descriptor l c
 candidate_by_method name descriptor l c o is e = e ∙ sym (ap (λ b. cond b (method_if is_inheritable (method_in name descriptor c)) None) is)
 
 -- there is none where the class declares no such method, or is no superinterface

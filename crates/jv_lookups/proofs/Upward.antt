@@ -96,7 +96,8 @@ declares P l m d e h = by_test (is_instance m) e
     by_test true e = let same : declared_by l m ≡ d = cc in subst (λ (o : Declared). P o.by) same h
     by_test false e = absurd cc
 
-one_more_other : (l s : Loaded) (m : Method) (above : List Declared) → bytes_eq s.class.name l.class.name ≡ false → list_any (is_by l) above ≡ false → list_any (is_by l) (with_declared above (alike_in s m)) ≡ false
+one_more_other : (l s : Loaded) (m : Method) (above : List Declared) → bytes_eq s.class.name l.class.name ≡ false → list_any (is_by l) above ≡ false →
+    list_any (is_by l) (with_declared above (alike_in s m)) ≡ false
 one_more_other l s m above other none = by_found (method_named s.class m.name m.descriptor)
   where
     by_declared : (o : Option Declared) → ((d : Declared) → o ≡ Some d → is_by l d ≡ false) → list_any (is_by l) (with_declared above o) ≡ false
@@ -111,7 +112,8 @@ one_more_other l s m above other none = by_found (method_named s.class m.name m.
     by_found None = none
     by_found (Some n) = by_declared (declared_if s (Some n)) (λ d e. declares (λ c. bytes_eq c.class.name l.class.name ≡ false) s n d e other)
 
-others_alone : (l : Loaded) (m : Method) (above : List Declared) (passed : List Loaded) → have_other_names l passed ≡ true → list_any (is_by l) above ≡ false → list_any (is_by l) (overriding above m passed) ≡ false
+others_alone : (l : Loaded) (m : Method) (above : List Declared) (passed : List Loaded) → have_other_names l passed ≡ true →
+    list_any (is_by l) above ≡ false → list_any (is_by l) (overriding above m passed) ≡ false
 others_alone l m above [] others none = none
 others_alone l m above (s ∷ passed) others none =
     let parts = and_parts (not (bytes_eq s.class.name l.class.name)) (have_other_names l passed) others in
@@ -176,7 +178,8 @@ alike_found l m d e = by_found (method_named l.class m.name m.descriptor) refl e
     by_found None f e = absurd cc
     by_found (Some n) f e = by_test (is_instance n) refl e (found_named l.class m.name m.descriptor n f)
       where
-        by_test : (b : Bool) → is_instance n ≡ b → cond b (Some (declared_by l n)) None ≡ Some d → (place : ℕ) × (slice_get l.class.methods place ≡ Some n) × (n.name ≡ m.name) × (n.descriptor ≡ m.descriptor)
+        by_test : (b : Bool) → is_instance n ≡ b → cond b (Some (declared_by l n)) None ≡ Some d → (place : ℕ) ×
+            (slice_get l.class.methods place ≡ Some n) × (n.name ≡ m.name) × (n.descriptor ≡ m.descriptor)
             → (n : Method) × (place : ℕ) × (d ≡ declared_by l n) × (slice_get l.class.methods place ≡ Some n) × (n.name ≡ m.name) × (n.descriptor ≡ m.descriptor) × (is_instance n ≡ true)
         by_test true t e found = let same : d ≡ declared_by l n = cc in (n, found.0, same, found.1, found.2, found.3, t)
         by_test false t e found = absurd cc
@@ -196,7 +199,8 @@ breaks_final_of_same l passed s own theirs others other = both_ways (breaks_fina
         → alike_in s m ≡ Some (declared_by s m) → list_any (overrides_itself (declared_by l n)) (overriding (declared_by s m ∷ []) m passed) ≡ true
         → list_any (breaks_at l passed s) l.class.methods ≡ true
     up_from m n place instance there same also final itself h =
-        let parts = and_parts (not (has n.access_flags acc_private)) (is_overridden (found_past l m passed) (declared_by s m) || false) (sym (overridden_past l n m (declared_by s m ∷ []) passed) ∙ h) in
+        let parts = and_parts (not (has n.access_flags acc_private)) (is_overridden (found_past l m passed) (declared_by s m) || false)
+        (sym (overridden_past l n m (declared_by s m ∷ []) passed) ∙ h) in
         let overridden : is_overridden (found_past l n passed) (declared_by s m) ≡ true =
         ap (λ found. is_overridden found (declared_by s m)) (found_same l n m same also passed) ∙ (sym (or_none (is_overridden (found_past l m passed) (declared_by s m))) ∙ parts.1)
         in
@@ -223,7 +227,8 @@ breaks_final_of_same l passed s own theirs others other = both_ways (breaks_fina
             up_from m own_method.0 own_method.1 own_method.6 own_method.3 own_method.4 own_method.5 final itself
             (subst (λ b. list_any (overrides_itself b) (overriding (declared_by s m ∷ []) m passed) ≡ true) own_method.2 h)
 
-    down_from : (m n : Method) (place place' : ℕ) → slice_get s.class.methods place ≡ Some m → is_instance m ≡ true → slice_get l.class.methods place' ≡ Some n → m.name ≡ n.name → m.descriptor ≡ n.descriptor
+    down_from : (m n : Method) (place place' : ℕ) → slice_get s.class.methods place ≡ Some m → is_instance m ≡ true →
+        slice_get l.class.methods place' ≡ Some n → m.name ≡ n.name → m.descriptor ≡ n.descriptor
         → can_override n ≡ true → overrides_final (found_past l n passed) (Some (declared_by s m)) ≡ true → list_any Down s.class.methods ≡ true
     down_from m n place place' there instance own_there same also can h =
         let flags = and_parts (is_instance n) (not (has n.access_flags acc_private)) can in
@@ -246,7 +251,8 @@ breaks_final_of_same l passed s own theirs others other = both_ways (breaks_fina
         let parts = and_parts (can_override n) (overrides_final (found_past l n passed) (alike_in s n)) found.3 in
         by_their (alike_in s n) n found.0 refl found.2 parts.0 parts.1
       where
-        by_their : (o : Option Declared) (n : Method) (place : ℕ) → alike_in s n ≡ o → slice_get l.class.methods place ≡ Some n → can_override n ≡ true → overrides_final (found_past l n passed) o ≡ true
+        by_their : (o : Option Declared) (n : Method) (place : ℕ) → alike_in s n ≡ o → slice_get l.class.methods place ≡ Some n → can_override n ≡
+            true → overrides_final (found_past l n passed) o ≡ true
             → list_any Down s.class.methods ≡ true
         by_their None n place e there can h = absurd cc
         by_their (Some d) n place e there can h =
@@ -275,5 +281,6 @@ breaks_from l own passed (s ∷ chain) named before others =
     (λ m. shared (can_override m) (overrides_final (found_past l m passed) (alike_in s m)) (overrides_final_above m (found_past l m (s ∷ passed)) chain)) l.class.methods))
 
 -- a class breaks a final method exactly where one of its methods overrides a final one on the way up
-pub breaks_final_same : (l : Loaded) (chain : List Loaded) → EachIsNamed l.class → AreNamed chain → have_other_names l chain ≡ true → breaks_final l [] chain ≡ list_any (breaks_final_by l chain) l.class.methods
+pub breaks_final_same : (l : Loaded) (chain : List Loaded) → EachIsNamed l.class → AreNamed chain → have_other_names l chain ≡ true →
+    breaks_final l [] chain ≡ list_any (breaks_final_by l chain) l.class.methods
 breaks_final_same l chain own named others = breaks_from l own [] chain named refl others

@@ -92,7 +92,8 @@ by_one m e passed o d (inr there) h =
 by_any : (m : Method) (e : Declared) (passed : List Loaded) (found : List Declared) (d : Declared) → AllFound m e passed found → IsTrue (list_any (overrides_itself d) found) → Overrides m e passed d
 by_any m e passed found d all h = let one = one_passes (overrides_itself d) found h in by_one m e passed one.0 d (all one.0 one.1) one.2
 
-one_class_more : (m : Method) (e : Declared) (passed : List Loaded) (found : List Declared) (l : Loaded) → AllFound m e passed found → AllFound m e (passed ++ l ∷ []) (with_declared found (alike_in l m))
+one_class_more : (m : Method) (e : Declared) (passed : List Loaded) (found : List Declared) (l : Loaded) → AllFound m e passed found →
+    AllFound m e (passed ++ l ∷ []) (with_declared found (alike_in l m))
 one_class_more m e passed found l all = by_declared (alike_in l m) refl
   where
     longer : (o : Declared) → IsFound m e passed o → IsFound m e (passed ++ l ∷ []) o
@@ -128,8 +129,11 @@ rule_of_found m e between d h = by_any m e between (overriding (e ∷ []) m betw
 next_found : (e : Declared) (m : Method) (between : List Loaded) (l : Loaded) → IsNextFound e m between l
 next_found e m between l = record {
   none = λ a. in_parts (e ∷ []) m between (l ∷ []) ∙ ap (with_declared (overriding (e ∷ []) m between)) a;
-  joins = λ d a over. in_parts (e ∷ []) m between (l ∷ []) ∙ ap (with_declared (overriding (e ∷ []) m between)) a ∙ ap (λ b. if b then (overriding (e ∷ []) m between) ++ d ∷ [] else (overriding (e ∷ []) m between)) (found_by_rule m e between d over);
-  stays_out = λ d a out. in_parts (e ∷ []) m between (l ∷ []) ∙ ap (with_declared (overriding (e ∷ []) m between)) a ∙ ap (λ b. if b then (overriding (e ∷ []) m between) ++ d ∷ [] else (overriding (e ∷ []) m between)) (by_test (list_any (overrides_itself d) (overriding (e ∷ []) m between)) (λ h. absurd (out (rule_of_found m e between d h))));
+  joins = λ d a over. in_parts (e ∷ []) m between (l ∷ []) ∙ ap (with_declared (overriding (e ∷ []) m between)) a ∙
+      ap (λ b. if b then (overriding (e ∷ []) m between) ++ d ∷ [] else (overriding (e ∷ []) m between)) (found_by_rule m e between d over);
+  stays_out = λ d a out. in_parts (e ∷ []) m between (l ∷ []) ∙ ap (with_declared (overriding (e ∷ []) m between)) a ∙
+      ap (λ b. if b then (overriding (e ∷ []) m between) ++ d ∷ [] else (overriding (e ∷ []) m between))
+      (by_test (list_any (overrides_itself d) (overriding (e ∷ []) m between)) (λ h. absurd (out (rule_of_found m e between d h))));
 }
   where
     by_test : (b : Bool) → (IsTrue b → IsFalse b) → b ≡ false

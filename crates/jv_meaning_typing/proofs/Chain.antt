@@ -65,7 +65,8 @@ all_in_world : (world : World) (ls : List Loaded) → AllOf (IsNamedIn world) ls
 all_in_world world [] all q h = absurd cc
 all_in_world world (l ∷ ls) all q h = by_test (bytes_eq q l.class.name) refl (λ k. all_in_world world ls (λ c j. all c (later l ls c j)) q k) h
   where
-    by_test : (b : Bool) → bytes_eq q l.class.name ≡ b → (is_member bytes_eq (names_of ls) q ≡ true → is_member bytes_eq (names_of world) q ≡ true) → (b || is_member bytes_eq (names_of ls) q) ≡ true → is_member bytes_eq (names_of world) q ≡ true
+    by_test : (b : Bool) → bytes_eq q l.class.name ≡ b → (is_member bytes_eq (names_of ls) q ≡ true → is_member bytes_eq (names_of world) q ≡ true) →
+        (b || is_member bytes_eq (names_of ls) q) ≡ true → is_member bytes_eq (names_of world) q ≡ true
     by_test true t again h = subst (λ name. is_member bytes_eq (names_of world) name ≡ true) (sym (same_text q l.class.name t)) (named_is_member world l.class.name l (all l (first l ls)))
     by_test false t again h = again h
 
@@ -87,7 +88,9 @@ ends world (suc k) (Some l) h =
 chain_is_named : (world : World) (k : ℕ) (o : Option Loaded) → ((s : Loaded) → o ≡ Some s → IsNamedIn world s) → AllOf (IsNamedIn world) (chain_within world k o)
 chain_is_named world zero o here c h = absurd (none c h)
 chain_is_named world (suc k) None here c h = absurd (none c h)
-chain_is_named world (suc k) (Some l) here c h = by_part (λ j. chain_is_named world k (superclass_in world l.class) (λ s e. superclass_is_named world l.class s e) c j) (split l (chain_within world k (superclass_in world l.class)) c h)
+chain_is_named world (suc k) (Some l) here c h =
+    by_part (λ j. chain_is_named world k (superclass_in world l.class) (λ s e. superclass_is_named world l.class s e) c j)
+    (split l (chain_within world k (superclass_in world l.class)) c h)
   where
     by_part : (Contains (chain_within world k (superclass_in world l.class)) c → IsNamedIn world c) → (l ≡ c) ⊎ Contains (chain_within world k (superclass_in world l.class)) c → IsNamedIn world c
     by_part again (inl e) = subst (IsNamedIn world) e (here l refl)
@@ -117,7 +120,8 @@ module _ (ways : AboveByWays) (above_above : AboveIsTransitive) (world : World) 
       by_test : (b : Bool) → bytes_eq l.class.name s.class.name ≡ b → bytes_eq l.class.name s.class.name ≡ false
       by_test false e = e
       by_test true e =
-          absurd (clash (is_circular world l.class) (in_any (λ x. bytes_eq x.class.name l.class.name) (above world l.class) s (all s (first s ls)) (nat_list_eq_equiv.symm s.class.name l.class.name ∙ e)) straight)
+          absurd (clash (is_circular world l.class) (in_any (λ x. bytes_eq x.class.name l.class.name) (above world l.class) s (all s (first s ls))
+          (nat_list_eq_equiv.symm s.class.name l.class.name ∙ e)) straight)
 
   chain_once : (k : ℕ) (o : Option Loaded) → AllOf NoCircle (chain_within world k o) → NoTwo (chain_within world k o)
   chain_once zero o straight = tt
@@ -128,9 +132,14 @@ module _ (ways : AboveByWays) (above_above : AboveIsTransitive) (world : World) 
   )
 
   -- the direct superclass, and then its own
-  pub chain_goes_on : (l s : Loaded) → ((c : Loaded) → Contains (above world l.class) c → NoCircle c) → superclass_in world l.class ≡ Some s → superclasses world l.class ≡ s ∷ superclasses world s.class
+  pub chain_goes_on : (l s : Loaded) → ((c : Loaded) → Contains (above world l.class) c → NoCircle c) → superclass_in world l.class ≡ Some s →
+      superclasses world l.class ≡ s ∷ superclasses world s.class
   chain_goes_on l s straight e =
-      by_size (length world) (few world (chain_within world (suc (length world)) (Some s)) (chain_once (suc (length world)) (Some s) (λ c h. straight c (subst (λ o. (d : Loaded) → Contains (chain_within world (suc (length world)) o) d → Contains (above world l.class) d) e (chain_is_above (suc (length world)) l.class) c h)))
+      by_size (length world)
+      (few world (chain_within world (suc (length world)) (Some s))
+      (chain_once (suc (length world)) (Some s)
+      (λ c h. straight c (subst (λ o. (d : Loaded) → Contains (chain_within world (suc (length world)) o) d → Contains (above world l.class) d) e
+      (chain_is_above (suc (length world)) l.class) c h)))
       (chain_is_named world (suc (length world)) (Some s) (λ x f. superclass_is_named world l.class x (e ∙ f))))
     where
       by_size : (n : ℕ) → length (chain_within world (suc n) (Some s)) ≤ n → chain_within world n (superclass_in world l.class) ≡ s ∷ chain_within world n (superclass_in world s.class)

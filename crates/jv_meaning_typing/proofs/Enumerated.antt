@@ -116,7 +116,8 @@ one_given world given l right named new direct = record {
 
 -- ---- ways by superinterfaces
 
-further : (world : World) (class : Class) (between : List Loaded) (by s : Loaded) → IsInterfaceWay world class between by → Contains (interfaces_in world by.class) s → IsInterfaceWay world class (between ++ by ∷ []) s
+further : (world : World) (class : Class) (between : List Loaded) (by s : Loaded) → IsInterfaceWay world class between by →
+    Contains (interfaces_in world by.class) s → IsInterfaceWay world class (between ++ by ∷ []) s
 further world class [] by s h k = (h, k)
 further world class (x ∷ more) by s h k = (h.0, further world x.class more by s h.1 k)
 
@@ -151,7 +152,8 @@ module _ (ways : AboveByWays) (above_above : AboveIsTransitive) (world : World) 
   fresh_above s (c ∷ ls) each = (other_name c s (each c (first c ls)).0 (each c (first c ls)).1, fresh_above s ls (λ x h. each x (later c ls x h)))
 
   -- on a way up no class is met twice
-  shallow : (k : ℕ) (met : List Loaded) (l : Loaded) → NoTwo (l ∷ met) → AllOf (IsNamedIn world) (l ∷ met) → Straight world l → ((c : Loaded) → Contains met c → NoCircle world c × Contains (above world c.class) l)
+  shallow : (k : ℕ) (met : List Loaded) (l : Loaded) → NoTwo (l ∷ met) → AllOf (IsNamedIn world) (l ∷ met) → Straight world l →
+      ((c : Loaded) → Contains met c → NoCircle world c × Contains (above world c.class) l)
       → length world ≤ k + length met → Shallow world k l
   shallow zero met l once named straight below bound = absurd (omega (arith, few world (l ∷ met) once named, bound))
   shallow (suc k) met l once named straight below bound = λ s h.
@@ -239,13 +241,15 @@ module _ (ways : AboveByWays) (above_above : AboveIsTransitive) (world : World) 
         each : (s : Loaded) → Contains (interfaces_in world l.class) s → IsNamedIn world s × Shallow world (length world) s × Straight world s
         each s h = (
           interface_is_named world l.class s h,
-          shallow (length world) [] s (tt, tt) (λ c j. subst (IsNamedIn world) (single s c j) (interface_is_named world l.class s h)) (straight_above l s straight h) (λ c j. absurd (none c j)) (omega arith),
+          shallow (length world) [] s (tt, tt) (λ c j. subst (IsNamedIn world) (single s c j) (interface_is_named world l.class s h))
+              (straight_above l s straight h) (λ c j. absurd (none c j)) (omega arith),
           straight_above l s straight h,
         )
 
     sound : AllOf (IsOwnSuperinterface world l) (enumerated world l.class)
     sound =
-        of_fold (IsOwnSuperinterface world l) (given_within world (length world)) (of_given world (IsOwnSuperinterface world l) (λ by s way h. (way.0 ++ by ∷ [], further world l.class way.0 by s way.1 h)) (length world))
+        of_fold (IsOwnSuperinterface world l) (given_within world (length world))
+        (of_given world (IsOwnSuperinterface world l) (λ by s way h. (way.0 ++ by ∷ [], further world l.class way.0 by s way.1 h)) (length world))
         [] (interfaces_in world l.class) (λ c h. absurd (none c h)) (λ s h. ([], h))
 
     complete : (s : Loaded) → IsOwnSuperinterface world l s → Contains (enumerated world l.class) s
@@ -256,7 +260,8 @@ module _ (ways : AboveByWays) (above_above : AboveIsTransitive) (world : World) 
 
     next : (before : List Loaded) (c : Loaded) → Follows world before c → IsTrue (declares_default c) → IsNext world (filter declares_default before) c
     next before c follows t = record {
-      once = none_passes (λ b. bytes_eq b.class.name c.class.name) (filter declares_default before) (λ x h. each_fails (λ b. bytes_eq b.class.name c.class.name) before follows.0 x (in_filter declares_default before x h).0);
+      once = none_passes (λ b. bytes_eq b.class.name c.class.name) (filter declares_default before)
+          (λ x h. each_fails (λ b. bytes_eq b.class.name c.class.name) before follows.0 x (in_filter declares_default before x h).0);
       behind = λ s h. into_filter declares_default before s (follows.1 s h.0) h.1;
     }
 
@@ -273,7 +278,10 @@ module _ (ways : AboveByWays) (above_above : AboveIsTransitive) (world : World) 
       interfaces = with_default;
       parts =
           ap (λ b. if b then [] else filter_map (class_named world) (superclass_names l.class.super_class) ++ with_default) class ∙ superclass_first l.class.super_class with_default;
-      those = λ s. (λ h. let parts = in_filter declares_default (enumerated world l.class) s h in (sound s parts.0, parts.1), λ h. into_filter declares_default (enumerated world l.class) s (complete s h.0) h.1);
+      those = λ s. (
+        λ h. let parts = in_filter declares_default (enumerated world l.class) s h in (sound s parts.0, parts.1),
+        λ h. into_filter declares_default (enumerated world l.class) s (complete s h.0) h.1,
+      );
       one_by_one = those_that_pass (Follows world) (IsNext world) declares_default next [] (enumerated world l.class) done.0.0.each;
     }
 

@@ -140,7 +140,8 @@ of_field world site how reference =
     next (resolved_field world site.by reference >>= (λ d. provided (has_field_kind how d.field) IncompatibleClassChangeError d)) (λ d. provided (can_use_final how site d) IllegalAccessError d)
     (next (resolved_field world site.by reference) (λ d. provided (has_field_kind how d.field) IncompatibleClassChangeError d)
     (next (resolve_text world site.by reference.class >>= (λ c. ok_or (member_class world c) NoSuchFieldError)) (field_from world site.by reference)
-    (next (resolve_text world site.by reference.class) (λ c. ok_or (member_class world c) NoSuchFieldError) (of_text world site.by reference.class) (λ c. sought (member_class world c) NoSuchFieldError no_field))
+    (next (resolve_text world site.by reference.class) (λ c. ok_or (member_class world c) NoSuchFieldError) (of_text world site.by reference.class)
+    (λ c. sought (member_class world c) NoSuchFieldError no_field))
     from_named)
     (λ d. asked (has_field_kind how d.field) IncompatibleClassChangeError d no_change))
     (λ d. asked (can_use_final how site d) IllegalAccessError d no_access)
@@ -156,7 +157,8 @@ of_method world site how reference =
     next (resolved_method world site.by reference >>= (λ t. provided (is_own_init how t) NoSuchMethodError t)) (λ t. provided (has_method_kind how t.declared.method) IncompatibleClassChangeError t)
     (next (resolved_method world site.by reference) (λ t. provided (is_own_init how t) NoSuchMethodError t)
     (next (resolve_text world site.by reference.member.class >>= (λ c. ok_or (member_class world c) NoSuchMethodError)) (method_from world site.by reference)
-    (next (resolve_text world site.by reference.member.class) (λ c. ok_or (member_class world c) NoSuchMethodError) (of_text world site.by reference.member.class) (λ c. sought (member_class world c) NoSuchMethodError no_method))
+    (next (resolve_text world site.by reference.member.class) (λ c. ok_or (member_class world c) NoSuchMethodError)
+    (of_text world site.by reference.member.class) (λ c. sought (member_class world c) NoSuchMethodError no_method))
     from_named)
     (λ t. asked (is_own_init how t) NoSuchMethodError t no_method))
     (λ t. asked (has_method_kind how t.declared.method) IncompatibleClassChangeError t no_change)
@@ -167,7 +169,9 @@ of_method world site how reference =
 
     from_named : (named : Loaded) → method_from world site.by reference named ≢ Err VerifyError
     from_named named =
-        next (provided (names_its_kind reference.constant named) IncompatibleClassChangeError named >>= (λ named. found_method world reference.constant named reference.member)) (λ d. provided (can_access world site.by named d.by d.method.access_flags) IllegalAccessError (target named d))
+        next (provided (names_its_kind reference.constant named) IncompatibleClassChangeError named >>=
+        (λ named. found_method world reference.constant named reference.member))
+        (λ d. provided (can_access world site.by named d.by d.method.access_flags) IllegalAccessError (target named d))
         (next (provided (names_its_kind reference.constant named) IncompatibleClassChangeError named) (λ named. found_method world reference.constant named reference.member)
         (asked (names_its_kind reference.constant named) IncompatibleClassChangeError named no_change) (λ named. by_constant reference.constant named))
         (λ d. asked (can_access world site.by named d.by d.method.access_flags) IllegalAccessError (target named d) no_access)
@@ -205,10 +209,12 @@ module _ (world : World) where
       by_name false = of_found (special_start world current t.named) t.declared.method (special_first world t.declared.method (special_start world current t.named))
 
   of_selected : (site : Site) (how : Use) (t : MethodTarget) (object : Option Loaded) → selected world site how t object ≢ Err VerifyError
-  of_selected site Invokevirtual t object = next (object_class world object) (select_virtual world t.declared) (of_object object) (λ l. of_found l t.declared.method (first_overriding world t.declared l))
+  of_selected site Invokevirtual t object = next (object_class world object) (select_virtual world t.declared) (of_object object)
+      (λ l. of_found l t.declared.method (first_overriding world t.declared l))
   of_selected site Invokeinterface t object =
       next (provided (implements world object t.named) IncompatibleClassChangeError object >>= object_class world) (select_interface world t.declared.method)
-      (next (provided (implements world object t.named) IncompatibleClassChangeError object) (object_class world) (asked (implements world object t.named) IncompatibleClassChangeError object no_change) of_object)
+      (next (provided (implements world object t.named) IncompatibleClassChangeError object) (object_class world)
+      (asked (implements world object t.named) IncompatibleClassChangeError object no_change) of_object)
       (λ l. of_public l t.declared.method (first_alike world t.declared.method l))
   of_selected site Invokespecial t object = of_special site.by t
   of_selected site _ t object = ok t.declared (Ok t.declared) refl
@@ -218,5 +224,6 @@ never_verify_error = record {
   class = of_use;
   field = of_field;
   method = of_method;
-  selected = λ world site how t object. next (selected world site how t object) (λ d. Ok (target t.named d)) (of_selected world site how t object) (λ d. ok (target t.named d) (Ok (target t.named d)) refl);
+  selected = λ world site how t object. next (selected world site how t object) (λ d. Ok (target t.named d)) (of_selected world site how t object)
+      (λ d. ok (target t.named d) (Ok (target t.named d)) refl);
 }

@@ -103,7 +103,8 @@ module _ (ways : AboveByWays) (above_above : AboveIsTransitive) (world : World) 
   all_above zero o (p ∷ pre) s post e = absurd cc
   all_above (suc k) None [] s post e = absurd cc
   all_above (suc k) None (p ∷ pre) s post e = absurd cc
-  all_above (suc k) (Some l) [] s post e = λ y h. subst (λ (c : Loaded). Contains (above world c.class) y) same (chain_is_above ways above_above world k l.class y (subst (λ ls. Contains ls y) (sym rest) h))
+  all_above (suc k) (Some l) [] s post e = λ y h. subst (λ (c : Loaded). Contains (above world c.class) y) same
+      (chain_is_above ways above_above world k l.class y (subst (λ ls. Contains ls y) (sym rest) h))
     where
       same : l ≡ s
       same = cc
@@ -124,7 +125,9 @@ module _ (ways : AboveByWays) (above_above : AboveIsTransitive) (world : World) 
   longer (suc k) None x h = absurd (none x h)
   longer (suc k) (Some l) x h = by_part (split l (chain_within world k (superclass_in world l.class)) x h) (λ j. longer k (superclass_in world l.class) x j)
     where
-      by_part : (l ≡ x) ⊎ Contains (chain_within world k (superclass_in world l.class)) x → (Contains (chain_within world k (superclass_in world l.class)) x → Contains (chain_within world (suc k) (superclass_in world l.class)) x) → Contains (l ∷ chain_within world (suc k) (superclass_in world l.class)) x
+      by_part : (l ≡ x) ⊎ Contains (chain_within world k (superclass_in world l.class)) x →
+          (Contains (chain_within world k (superclass_in world l.class)) x → Contains (chain_within world (suc k) (superclass_in world l.class)) x) →
+          Contains (l ∷ chain_within world (suc k) (superclass_in world l.class)) x
       by_part (inl e) again = subst (Contains (l ∷ chain_within world (suc k) (superclass_in world l.class))) e (first l (chain_within world (suc k) (superclass_in world l.class)))
       by_part (inr j) again = later l (chain_within world (suc k) (superclass_in world l.class)) x (again j)
 
@@ -134,7 +137,8 @@ module _ (ways : AboveByWays) (above_above : AboveIsTransitive) (world : World) 
   longer_line k c x (inr (inr h)) = inr (inr (longer k (superclass_in world x.class) c h))
 
   -- of a class and its chain
-  from_first : (k : ℕ) (l c x : Loaded) → ((d y : Loaded) → Contains (chain_within world k (superclass_in world l.class)) d → Contains (chain_within world k (superclass_in world l.class)) y → InLine k d y)
+  from_first : (k : ℕ) (l c x : Loaded) → ((d y : Loaded) → Contains (chain_within world k (superclass_in world l.class)) d →
+      Contains (chain_within world k (superclass_in world l.class)) y → InLine k d y)
       → (l ≡ c) ⊎ Contains (chain_within world k (superclass_in world l.class)) c → (l ≡ x) ⊎ Contains (chain_within world k (superclass_in world l.class)) x → InLine k c x
   from_first k l c x rest (inl e) (inl f) = inl (sym e ∙ f)
   from_first k l c x rest (inl e) (inr j) = inr (inl (subst (λ (d : Loaded). Contains (chain_within world k (superclass_in world d.class)) x) e j))
@@ -166,7 +170,9 @@ module _ (ways : AboveByWays) (above_above : AboveIsTransitive) (world : World) 
       named [] t = absurd cc
       named (l ∷ ls) t = by_first (bytes_eq l.class.name e.class.name) refl t (λ k. named ls k)
         where
-          by_first : (b : Bool) → bytes_eq l.class.name e.class.name ≡ b → IsTrue (b || list_any (λ s. bytes_eq s.class.name e.class.name) ls) → (IsTrue (list_any (λ s. bytes_eq s.class.name e.class.name) ls) → (z : Loaded) × Contains ls z × IsTrue (bytes_eq z.class.name e.class.name)) → (z : Loaded) × Contains (l ∷ ls) z × IsTrue (bytes_eq z.class.name e.class.name)
+          by_first : (b : Bool) → bytes_eq l.class.name e.class.name ≡ b → IsTrue (b || list_any (λ s. bytes_eq s.class.name e.class.name) ls) →
+              (IsTrue (list_any (λ s. bytes_eq s.class.name e.class.name) ls) → (z : Loaded) × Contains ls z ×
+              IsTrue (bytes_eq z.class.name e.class.name)) → (z : Loaded) × Contains (l ∷ ls) z × IsTrue (bytes_eq z.class.name e.class.name)
           by_first true f t again = (l, first l ls, f)
           by_first false f t again = let found = again t in (found.0, later l ls found.0 found.1, found.2)
 
@@ -184,7 +190,9 @@ module _ (ways : AboveByWays) (above_above : AboveIsTransitive) (world : World) 
 
   -- the classes below it, of a class above it, and of one below it
   none_below : (e c : Loaded) → Straight e → Contains (above world e.class) c → classes_below world c e ≡ []
-  none_below e c straight h = ap reverse (filter_none (λ x. is_above world e.class.name x.class) (upward world c) (λ x j. not_below e x straight (by_part x (split c (superclasses world c.class) x j))))
+  none_below e c straight h =
+      ap reverse (filter_none (λ x. is_above world e.class.name x.class) (upward world c)
+      (λ x j. not_below e x straight (by_part x (split c (superclasses world c.class) x j))))
     where
       by_part : (x : Loaded) → (c ≡ x) ⊎ Contains (superclasses world c.class) x → Contains (above world e.class) x
       by_part x (inl f) = subst (Contains (above world e.class)) f h
@@ -219,7 +227,8 @@ module _ (ways : AboveByWays) (above_above : AboveIsTransitive) (world : World) 
 
   module _ (e : Declared) (is_final : IsTrue (is_final_instance e.method)) (straight : Straight e.by) (stands : Contains e.by.class.methods e.method) where
     -- no class below overrides it
-    not_overridden : (c : Loaded) → IsFalse (breaks_final c [] (superclasses world c.class)) → Contains (superclasses world c.class) e.by → IsFalse (list_any (λ o. bytes_eq o.by.class.name c.class.name) (overriding (e ∷ []) e.method (classes_below world c e.by)))
+    not_overridden : (c : Loaded) → IsFalse (breaks_final c [] (superclasses world c.class)) → Contains (superclasses world c.class) e.by →
+        IsFalse (list_any (λ o. bytes_eq o.by.class.name c.class.name) (overriding (e ∷ []) e.method (classes_below world c e.by)))
     not_overridden c keeps h =
         subst (λ ls. IsFalse (list_any (λ o. bytes_eq o.by.class.name c.class.name) (overriding (e ∷ []) e.method ls))) (sym (some_below e.by c parts.0 parts.1 straight parts.2))
         (by_final (is_final_instance e.method) is_final (never_any (λ m. is_final_instance m && overrides_in c (reverse parts.0) (declared_by e.by m)) e.by.class.methods e.method stands of_class))
@@ -248,7 +257,8 @@ module _ (ways : AboveByWays) (above_above : AboveIsTransitive) (world : World) 
         by_line (inr (inl j)) = absurd (clash (class_has world d e o) (not_overridden d.by (keeps d.by h) j))
         by_line (inr (inr j)) =
             sym (same_text e.by.class.name d.by.class.name (or_false (same_class e.by d.by)
-            (subst (λ ls. IsTrue (list_any (λ x. same_class x.by d.by) (overriding (e ∷ []) e.method ls))) (none_below e.by d.by straight (superclass_is_above ways above_above world e.by.class d.by j)) (class_has world d e o))))
+            (subst (λ ls. IsTrue (list_any (λ x. same_class x.by d.by) (overriding (e ∷ []) e.method ls)))
+            (none_below e.by d.by straight (superclass_is_above ways above_above world e.by.class d.by j)) (class_has world d e o))))
 
 pub final_is_run : AboveByWays → AboveIsTransitive → FinalIsRun
 final_is_run ways above_above world site t l is final straight keeps =

@@ -34,7 +34,8 @@ module _ {X : Type 0} where
       by_part e again (inl here) = (subst (Contains (x ∷ xs)) here (first x xs), subst (λ z. IsTrue (test z)) here e)
       by_part e again (inr there) = let parts = again there in (later x xs y parts.0, parts.1)
 
-      by_test : (b : Bool) → test x ≡ b → (Contains (filter test xs) y → Contains xs y × IsTrue (test y)) → Contains (cond b (x ∷ filter test xs) (filter test xs)) y → Contains (x ∷ xs) y × IsTrue (test y)
+      by_test : (b : Bool) → test x ≡ b → (Contains (filter test xs) y → Contains xs y × IsTrue (test y)) →
+          Contains (cond b (x ∷ filter test xs) (filter test xs)) y → Contains (x ∷ xs) y × IsTrue (test y)
       by_test true e again h = by_part e again (split x (filter test xs) y h)
       by_test false e again h = let parts = again h in (later x xs y parts.0, parts.1)
 
@@ -82,11 +83,13 @@ module _ {X Y : Type 0} (look : X → Option Y) where
       further : (z : X) × Contains xs z × (look z ≡ Some y) → (z : X) × Contains (x ∷ xs) z × (look z ≡ Some y)
       further found = (found.0, later x xs found.0 found.1, found.2)
 
-      by_part : (Contains (filter_map look xs) y → (z : X) × Contains xs z × (look z ≡ Some y)) → (w : Y) → look x ≡ Some w → (w ≡ y) ⊎ Contains (filter_map look xs) y → (z : X) × Contains (x ∷ xs) z × (look z ≡ Some y)
+      by_part : (Contains (filter_map look xs) y → (z : X) × Contains xs z × (look z ≡ Some y)) → (w : Y) → look x ≡ Some w → (w ≡ y) ⊎
+          Contains (filter_map look xs) y → (z : X) × Contains (x ∷ xs) z × (look z ≡ Some y)
       by_part again w e (inl here) = (x, first x xs, e ∙ ap (λ v. Some v) here)
       by_part again w e (inr there) = further (again there)
 
-      by_look : (Contains (filter_map look xs) y → (z : X) × Contains xs z × (look z ≡ Some y)) → (o : Option Y) → look x ≡ o → Contains (cons_option o (filter_map look xs)) y → (z : X) × Contains (x ∷ xs) z × (look z ≡ Some y)
+      by_look : (Contains (filter_map look xs) y → (z : X) × Contains xs z × (look z ≡ Some y)) → (o : Option Y) → look x ≡ o →
+          Contains (cons_option o (filter_map look xs)) y → (z : X) × Contains (x ∷ xs) z × (look z ≡ Some y)
       by_look again None e k = further (again k)
       by_look again (Some w) e k = by_part again w e (split w (filter_map look xs) y k)
 

@@ -65,15 +65,18 @@ module _ (world : World) where
 
   -- each is there
   there : (test : Loaded → Bool) (class : Class) → IsTrue (each_super world test class) → IsTrue (each_super world (λ s. true) class)
-  there test class all = all_of (λ name. passes (λ s. true) (class_named world name)) (super_names class) (λ name h. by_class (class_named world name) (every (λ n. passes test (class_named world n)) (super_names class) name all h))
+  there test class all = all_of (λ name. passes (λ s. true) (class_named world name)) (super_names class)
+      (λ name h. by_class (class_named world name) (every (λ n. passes test (class_named world n)) (super_names class) name all h))
     where
       by_class : (o : Option Loaded) → IsTrue (passes test o) → IsTrue (passes (λ s. true) o)
       by_class None t = absurd cc
       by_class (Some s) t = refl
 
   -- each that is there passes
-  each_passes : (test : Loaded → Bool) (class : Class) → IsTrue (each_super world (λ s. true) class) → ((s : Loaded) → Contains (supers_in world class) s → IsTrue (test s)) → IsTrue (each_super world test class)
-  each_passes test class all each = all_of (λ name. passes test (class_named world name)) (super_names class) (λ name h. by_class name h (class_named world name) refl (every (λ n. passes (λ s. true) (class_named world n)) (super_names class) name all h))
+  each_passes : (test : Loaded → Bool) (class : Class) → IsTrue (each_super world (λ s. true) class) →
+      ((s : Loaded) → Contains (supers_in world class) s → IsTrue (test s)) → IsTrue (each_super world test class)
+  each_passes test class all each = all_of (λ name. passes test (class_named world name)) (super_names class)
+      (λ name h. by_class name h (class_named world name) refl (every (λ n. passes (λ s. true) (class_named world n)) (super_names class) name all h))
     where
       by_class : (name : List ℕ) → Contains (super_names class) name → (o : Option Loaded) → class_named world name ≡ o → IsTrue (passes (λ s. true) o) → IsTrue (passes test o)
       by_class name h None e t = absurd cc

@@ -173,7 +173,8 @@ module _ (stands : StandsInList) (apart : StartsApart) where
       insn = insns.Return;
       starts = refl;
       assigned = refl;
-      breaks = λ (h : (x : Frame) → FallsInto unlike_env unlike_frames 1 x → IsTrue (frame_flows unlike_env.world x (frame [] (types.Int ∷ [])))). let flows : false ≡ true = h empty nop_falls in absurd cc;
+      breaks = λ (h : (x : Frame) → FallsInto unlike_env unlike_frames 1 x → IsTrue (frame_flows unlike_env.world x (frame [] (types.Int ∷ [])))).
+          let flows : false ≡ true = h empty nop_falls in absurd cc;
     };
   })
 

@@ -109,7 +109,8 @@ known_first e private x = by_open (is_open e) refl
 
 known_next : (e d : Declared) (found : List Declared) (open_before : Bool) → Known e found open_before → joins open_before e d ≡ true → Known e (found ++ d ∷ []) (open_before || is_open d)
 known_next e d found open_before known joined x =
-    list_any-append (overrides_itself x) found (d ∷ []) ∙ ap (λ b. b || (overrides_itself x d || false)) (known x) ∙ by_before open_before (and_parts (not (has d.method.access_flags acc_private)) (open_before || same_package d.by e.by) joined).1
+    list_any-append (overrides_itself x) found (d ∷ []) ∙ ap (λ b. b || (overrides_itself x d || false)) (known x) ∙ by_before open_before
+    (and_parts (not (has d.method.access_flags acc_private)) (open_before || same_package d.by e.by) joined).1
   where
     able : Bool
     able = not (has x.method.access_flags acc_private)
@@ -122,7 +123,8 @@ known_next e d found open_before known joined x =
         by_flag false h = refl
 
     by_before : (before : Bool) → IsTrue (before || same_package d.by e.by)
-        → ((able && (before || same_package x.by e.by)) || ((able && (is_open d || (is_package_private d.method && same_package x.by d.by))) || false)) ≡ (able && ((before || is_open d) || same_package x.by e.by))
+        → ((able && (before || same_package x.by e.by)) || ((able && (is_open d || (is_package_private d.method && same_package x.by d.by))) ||
+        false)) ≡ (able && ((before || is_open d) || same_package x.by e.by))
     by_before true h = joined_behind able (same_package x.by e.by) (is_open d) (is_package_private d.method) (same_package x.by d.by)
     by_before false h =
         joined_near able (same_package x.by e.by) (is_open d) (is_package_private d.method) (same_package x.by d.by) (package_private d not_private)
@@ -130,7 +132,8 @@ known_next e d found open_before known joined x =
 
 -- ---- the walk
 
-walk : (e : Declared) (m : Method) (ls : List Loaded) (found : List Declared) (open_before : Bool) → Known e found open_before → overriding found m ls ≡ found ++ walked e open_before (map (λ l. alike_in l m) ls)
+walk : (e : Declared) (m : Method) (ls : List Loaded) (found : List Declared) (open_before : Bool) → Known e found open_before →
+    overriding found m ls ≡ found ++ walked e open_before (map (λ l. alike_in l m) ls)
 walk e m [] found open_before known = sym (append-nil found)
 walk e m (l ∷ ls) found open_before known = by_declared (alike_in l m) (λ f o k. walk e m ls f o k)
   where
@@ -142,7 +145,8 @@ walk e m (l ∷ ls) found open_before known = by_declared (alike_in l m) (λ f o
     by_test d true j again = again (found ++ d ∷ []) (open_before || is_open d) (known_next e d found open_before known j) ∙ append_assoc found (d ∷ []) (walked e (open_before || is_open d) rest)
     by_test d false j again = again found open_before known
 
-    by_declared : (o : Option Declared) → ((f : List Declared) (o : Bool) → Known e f o → overriding f m ls ≡ f ++ walked e o rest) → overriding (with_declared found o) m ls ≡ found ++ walked e open_before (o ∷ rest)
+    by_declared : (o : Option Declared) → ((f : List Declared) (o : Bool) → Known e f o → overriding f m ls ≡ f ++ walked e o rest) →
+        overriding (with_declared found o) m ls ≡ found ++ walked e open_before (o ∷ rest)
     by_declared None again = again found open_before known
     by_declared (Some d) again = ap (λ b. overriding (if b then found ++ d ∷ [] else found) m ls) (known d) ∙ by_test d (joins open_before e d) refl again
 

@@ -28,15 +28,28 @@ behind n (d ∷ ds) = (omega arith, weaker (λ p. n + field_words d ≤ p.place)
 within : (n : ℕ) (ds : List DeclaredField) → AllByRecursion (λ p. end_of p ≤ n + sum_by field_words ds) (placed_from n ds)
 within n [] = tt
 within n (d ∷ ds) =
-    let all : sum_by field_words (d ∷ ds) ≡ field_words d + sum_by field_words ds = sum_by-cons field_words d ds in
-    (omega (arith, all), weaker (λ p. end_of p ≤ (n + field_words d) + sum_by field_words ds) (λ p. end_of p ≤ n + sum_by field_words (d ∷ ds)) (λ p h. omega (arith, h, all)) (placed_from (n + field_words d) ds) (within (n + field_words d) ds))
+    let all : sum_by field_words (d ∷ ds) ≡ field_words d + sum_by field_words ds = sum_by-cons field_words d ds in (
+      omega (arith, all),
+      weaker (λ p. end_of p ≤ (n + field_words d) + sum_by field_words ds) (λ p. end_of p ≤ n + sum_by field_words (d ∷ ds))
+          (λ p h. omega (arith, h, all)) (placed_from (n + field_words d) ds) (within (n + field_words d) ds),
+    )
 
 apart : (n : ℕ) (ds : List DeclaredField) → EachTwoApart (placed_from n ds)
 apart n [] = tt
-apart n (d ∷ ds) = (weaker (λ p. n + field_words d ≤ p.place) (AreApart (laid_at d n)) (λ p h. inl h) (placed_from (n + field_words d) ds) (behind (n + field_words d) ds), apart (n + field_words d) ds)
+apart n (d ∷ ds) = (
+  weaker (λ p. n + field_words d ≤ p.place) (AreApart (laid_at d n)) (λ p h. inl h) (placed_from (n + field_words d) ds)
+      (behind (n + field_words d) ds),
+  apart (n + field_words d) ds,
+)
 
 pub layout_is_by_rule : LayoutIsByRule
-layout_is_by_rule world l = record { fields = fields_stay 0 (instance_fields world l); within = weaker (λ p. end_of p ≤ 0 + object_words world l) (λ p. end_of p ≤ object_words world l) (λ p h. omega (arith, h)) (layout world l) (within 0 (instance_fields world l)); apart = apart 0 (instance_fields world l) }
+layout_is_by_rule world l = record {
+  fields = fields_stay 0 (instance_fields world l);
+  within = weaker (λ p. end_of p ≤ 0 + object_words world l)
+      (λ p. end_of p ≤ object_words world l) (λ p h. omega (arith, h)) (layout world l) (within 0 (instance_fields world l));
+  apart =
+      apart 0 (instance_fields world l);
+}
 
 pub placed_go_on : (n : ℕ) (ds es : List DeclaredField) → placed_from n (ds ++ es) ≡ placed_from n ds ++ placed_from (n + sum_by field_words ds) es
 placed_go_on n [] es = ap (λ k. placed_from k es) (let e : n ≡ n + 0 = omega arith in e)

@@ -40,11 +40,13 @@ field_by_is c (Some f) d e =
 
 pub field_is_used : AboveByWays → AboveIsTransitive → FieldIsUsed
 field_is_used ways above_above world site how reference d e =
-    let final = guarded (resolved_field world site.by reference >>= (λ d. provided (has_field_kind how d.field) IncompatibleClassChangeError d)) (λ d. can_use_final how site d) IllegalAccessError d e in
+    let final = guarded (resolved_field world site.by reference >>= (λ d. provided (has_field_kind how d.field) IncompatibleClassChangeError d))
+    (λ d. can_use_final how site d) IllegalAccessError d e in
     let kind = guarded (resolved_field world site.by reference) (λ d. has_field_kind how d.field) IncompatibleClassChangeError d final.0 in
     let step = went_on (resolve_text world site.by reference.class >>= (λ c. ok_or (member_class world c) NoSuchFieldError)) (field_from world site.by reference) d kind.0 in
     let access = guarded (found_field world step.0 reference) (λ d. can_access world site.by step.0 d.by d.field.access_flags) IllegalAccessError d step.2 in
-    let found = in_first (λ c. option_map (field_by c) (field_named c.class reference.name reference.descriptor)) (searched_from world step.0) d (there (lookup_field world step.0 reference.name reference.descriptor) NoSuchFieldError d access.0) in
+    let found = in_first (λ c. option_map (field_by c) (field_named c.class reference.name reference.descriptor)) (searched_from world step.0) d
+    (there (lookup_field world step.0 reference.name reference.descriptor) NoSuchFieldError d access.0) in
     let is = field_by_is found.0 (field_named found.0.class reference.name reference.descriptor) d found.2 in
     let named = field_is_named found.0.class reference.name reference.descriptor d.field is.1 in (
       step.0,
@@ -103,7 +105,8 @@ module _ (ways : AboveByWays) (above_above : AboveIsTransitive) (world : World) 
       by_place other (inl e) = absurd (clash (bytes_eq c.class.name l.class.name) (ap (λ (x : Loaded). bytes_eq x.class.name l.class.name) e ∙ nat_list_eq_equiv.refl l.class.name) other)
       by_place other (inr k) = k
 
-  pub candidate : (l : Loaded) (name descriptor : List ℕ) (d : Declared) → Contains (candidates world l name descriptor) d → IsFound (IsInterfaceAbove world l) name descriptor d × IsTrue (is_inheritable d)
+  pub candidate : (l : Loaded) (name descriptor : List ℕ) (d : Declared) → Contains (candidates world l name descriptor) d →
+      IsFound (IsInterfaceAbove world l) name descriptor d × IsTrue (is_inheritable d)
   candidate l name descriptor d h =
       let parts = in_filter is_inheritable (filter_map (method_in name descriptor) (superinterfaces world l)) d h in
       let found = in_found (method_in name descriptor) (superinterfaces world l) d parts.0 in
@@ -143,16 +146,19 @@ module _ (ways : AboveByWays) (above_above : AboveIsTransitive) (world : World) 
   in_class : (named : Loaded) (name descriptor : List ℕ) (d : Declared) → lookup_class_method world named name descriptor ≡ Some d → IsFound (IsCalledPlace named) name descriptor d
   in_class named name descriptor d e = by_part (in_else (first_found (method_in name descriptor) (named ∷ superclasses world named.class)) (superinterface_method world named name descriptor) d e)
     where
-      by_part : (first_found (method_in name descriptor) (named ∷ superclasses world named.class) ≡ Some d) ⊎ (superinterface_method world named name descriptor ≡ Some d) → IsFound (IsCalledPlace named) name descriptor d
+      by_part : (first_found (method_in name descriptor) (named ∷ superclasses world named.class) ≡ Some d) ⊎
+          (superinterface_method world named name descriptor ≡ Some d) → IsFound (IsCalledPlace named) name descriptor d
       by_part (inl f) =
           let found = in_first (method_in name descriptor) (named ∷ superclasses world named.class) d f in
           is_found (IsCalledPlace named) name descriptor found.0 d (in_chain named found.0 found.1) found.2
       by_part (inr f) = wider named name descriptor d (of_superinterface named name descriptor d f)
 
-  pub in_object : (name descriptor : List ℕ) (d : Declared) → method_if_loaded name descriptor (class_named world (codes "java/lang/Object")) ≡ Some d → (root : Loaded) × IsRootClass world root × (method_in name descriptor root ≡ Some d)
+  pub in_object : (name descriptor : List ℕ) (d : Declared) → method_if_loaded name descriptor (class_named world (codes "java/lang/Object")) ≡
+      Some d → (root : Loaded) × IsRootClass world root × (method_in name descriptor root ≡ Some d)
   in_object name descriptor d e = by_class (class_named world (codes "java/lang/Object")) refl e
     where
-      by_class : (o : Option Loaded) → class_named world (codes "java/lang/Object") ≡ o → method_if_loaded name descriptor o ≡ Some d → (root : Loaded) × IsRootClass world root × (method_in name descriptor root ≡ Some d)
+      by_class : (o : Option Loaded) → class_named world (codes "java/lang/Object") ≡ o → method_if_loaded name descriptor o ≡ Some d →
+          (root : Loaded) × IsRootClass world root × (method_in name descriptor root ≡ Some d)
       by_class None f e = absurd cc
       by_class (Some root) f e = (root, f, e)
 
@@ -172,9 +178,11 @@ module _ (ways : AboveByWays) (above_above : AboveIsTransitive) (world : World) 
       by_own (inl f) = is_found (IsCalledPlace named) name descriptor named d (inl (inl refl)) f
       by_own (inr f) = by_others (in_else of_object (superinterface_method world named name descriptor) d f)
 
-  in_either : (constant : MethodConstant) (named : Loaded) (reference : MemberReference) (d : Declared) → found_method world constant named reference ≡ Ok d → IsFound (IsCalledPlace named) reference.name reference.descriptor d
+  in_either : (constant : MethodConstant) (named : Loaded) (reference : MemberReference) (d : Declared) → found_method world constant named
+      reference ≡ Ok d → IsFound (IsCalledPlace named) reference.name reference.descriptor d
   in_either Methodref named reference d e = in_class named reference.name reference.descriptor d (there (lookup_class_method world named reference.name reference.descriptor) NoSuchMethodError d e)
-  in_either InterfaceMethodref named reference d e = in_interface named reference.name reference.descriptor d (there (lookup_interface_method world named reference.name reference.descriptor) NoSuchMethodError d e)
+  in_either InterfaceMethodref named reference d e = in_interface named reference.name reference.descriptor d
+      (there (lookup_interface_method world named reference.name reference.descriptor) NoSuchMethodError d e)
 
 -- a method that was reached from the named class, as a target
 record IsReached (world : World) (current : Loaded) (reference : MemberReference) (named : Loaded) (t : MethodTarget) : Type 0 where
@@ -182,9 +190,12 @@ record IsReached (world : World) (current : Loaded) (reference : MemberReference
   found : IsFound (λ c. IsAtOrAbove world named c ⊎ IsRootClass world c) reference.name reference.descriptor t.declared
   access : IsTrue (can_access world current named t.declared.by t.declared.method.access_flags)
 
-reached : (ways : AboveByWays) (above_above : AboveIsTransitive) (world : World) (current : Loaded) (reference : MethodReference) (named : Loaded) (t : MethodTarget) → method_from world current reference named ≡ Ok t → IsReached world current reference.member named t
+reached : (ways : AboveByWays) (above_above : AboveIsTransitive) (world : World) (current : Loaded) (reference : MethodReference) (named : Loaded)
+    (t : MethodTarget) → method_from world current reference named ≡ Ok t → IsReached world current reference.member named t
 reached ways above_above world current reference named t e =
-    let step = went_on (provided (names_its_kind reference.constant named) IncompatibleClassChangeError named >>= (λ named. found_method world reference.constant named reference.member)) (λ d. provided (can_access world current named d.by d.method.access_flags) IllegalAccessError (target named d)) t e in
+    let step = went_on (provided (names_its_kind reference.constant named) IncompatibleClassChangeError named >>=
+    (λ named. found_method world reference.constant named reference.member))
+    (λ d. provided (can_access world current named d.by d.method.access_flags) IllegalAccessError (target named d)) t e in
     let right = went_on (provided (names_its_kind reference.constant named) IncompatibleClassChangeError named) (λ named. found_method world reference.constant named reference.member) step.0 step.1 in
     as_target step.0 right.0 (held (names_its_kind reference.constant named) IncompatibleClassChangeError named right.0 right.1).1 right.2 step.2
   where
@@ -200,7 +211,8 @@ reached ways above_above world current reference named t e =
 
 pub method_is_called : AboveByWays → AboveIsTransitive → MethodIsCalled
 method_is_called ways above_above world site how reference t e =
-    let kind = guarded (resolved_method world site.by reference >>= (λ t. provided (is_own_init how t) NoSuchMethodError t)) (λ t. has_method_kind how t.declared.method) IncompatibleClassChangeError t e in
+    let kind = guarded (resolved_method world site.by reference >>= (λ t. provided (is_own_init how t) NoSuchMethodError t))
+    (λ t. has_method_kind how t.declared.method) IncompatibleClassChangeError t e in
     let own = guarded (resolved_method world site.by reference) (is_own_init how) NoSuchMethodError t kind.0 in
     let step = went_on (resolve_text world site.by reference.member.class >>= (λ c. ok_or (member_class world c) NoSuchMethodError)) (method_from world site.by reference) t own.0 in
     as_called step.0 step.1 own.1 kind.1 (reached ways above_above world site.by reference step.0 t step.2)

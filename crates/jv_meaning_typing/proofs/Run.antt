@@ -54,7 +54,8 @@ alike l m d e = by_method (method_named l.class m.name m.descriptor) refl e
     some_same : (x : Declared) → Some x ≡ Some d → x ≡ d
     some_same x e = cc
 
-    by_test : (n : Method) → method_named l.class m.name m.descriptor ≡ Some n → (b : Bool) → is_instance n ≡ b → (if b then Some (record { by = l; method = n }) else None) ≡ Some d → (d.by ≡ l) × IsAlike m d
+    by_test : (n : Method) → method_named l.class m.name m.descriptor ≡ Some n → (b : Bool) → is_instance n ≡ b →
+        (if b then Some (record { by = l; method = n }) else None) ≡ Some d → (d.by ≡ l) × IsAlike m d
     by_test n f false t e = absurd cc
     by_test n f true t e =
         let same = some_same (record { by = l; method = n }) e in
@@ -104,14 +105,16 @@ module _ (ways : AboveByWays) (above_above : AboveIsTransitive) (world : World) 
       let parts = held (is_concrete x) AbstractMethodError x d e in
       subst (IsRun world l called) parts.1 (run_by world l called x found parts.0)
 
-  found_run : (l : Loaded) (called d : Declared) (o : Option Declared) → ((x : Declared) → o ≡ Some x → IsUpward world l called.method x) → found_or_default world l called.method o ≡ Ok d → IsRun world l called d
+  found_run : (l : Loaded) (called d : Declared) (o : Option Declared) → ((x : Declared) → o ≡ Some x → IsUpward world l called.method x) →
+      found_or_default world l called.method o ≡ Ok d → IsRun world l called d
   found_run l called d None found e = default_run l called d e
   found_run l called d (Some x) found e = concrete_run l called x d (found x refl) e
 
   virtual_run : (called : Declared) (l : Loaded) (d : Declared) → select_virtual world called l ≡ Ok d → IsRun world l called d
   virtual_run called l d e = found_run l called d (first_overriding world called l) (λ x f. overriding_upward world called l x f) e
 
-  public_run : (l : Loaded) (called d : Declared) (o : Option Declared) → ((x : Declared) → o ≡ Some x → IsUpward world l called.method x) → public_or_default world l called.method o ≡ Ok d → IsRun world l called d
+  public_run : (l : Loaded) (called d : Declared) (o : Option Declared) → ((x : Declared) → o ≡ Some x → IsUpward world l called.method x) →
+      public_or_default world l called.method o ≡ Ok d → IsRun world l called d
   public_run l called d None found e = default_run l called d e
   public_run l called d (Some x) found e =
       let step = went_on (provided (has x.method.access_flags acc_public) IllegalAccessError x) not_abstract d e in
@@ -125,7 +128,9 @@ module _ (ways : AboveByWays) (above_above : AboveIsTransitive) (world : World) 
   SpecialRun start called d = IsRun world start called d ⊎ ((root : Loaded) × IsTrue (is_interface start) × IsRootClass world root × IsRun world root called d)
 
   -- a public instance method of java/lang/Object
-  root_run : (called x d : Declared) → method_if is_public_instance (method_if_loaded called.method.name called.method.descriptor (class_named world (codes "java/lang/Object"))) ≡ Some x → not_abstract x ≡ Ok d → (root : Loaded) × IsRootClass world root × IsRun world root called d
+  root_run : (called x d : Declared) → method_if is_public_instance
+      (method_if_loaded called.method.name called.method.descriptor (class_named world (codes "java/lang/Object"))) ≡ Some x → not_abstract x ≡ Ok d →
+      (root : Loaded) × IsRootClass world root × IsRun world root called d
   root_run called x d e f =
       let test = passed is_public_instance (method_if_loaded called.method.name called.method.descriptor (class_named world (codes "java/lang/Object"))) x e in
       let root = in_object ways above_above world called.method.name called.method.descriptor x test.0 in
@@ -141,18 +146,22 @@ module _ (ways : AboveByWays) (above_above : AboveIsTransitive) (world : World) 
         }) f,
       )
 
-  from_interface : (start : Loaded) (called d : Declared) → IsTrue (is_interface start) → (o : Option Declared) → interface_first world called.method start ≡ o → found_or_default world start called.method o ≡ Ok d → SpecialRun start called d
+  from_interface : (start : Loaded) (called d : Declared) → IsTrue (is_interface start) → (o : Option Declared) → interface_first world called.method
+      start ≡ o → found_or_default world start called.method o ≡ Ok d → SpecialRun start called d
   from_interface start called d i None e f = inl (default_run start called d f)
   from_interface start called d i (Some x) e f = by_part (in_or (alike_in start called.method) _ x e)
     where
-      by_part : (alike_in start called.method ≡ Some x) ⊎ (method_if is_public_instance (method_if_loaded called.method.name called.method.descriptor (class_named world (codes "java/lang/Object"))) ≡ Some x) → SpecialRun start called d
+      by_part : (alike_in start called.method ≡ Some x) ⊎
+          (method_if is_public_instance (method_if_loaded called.method.name called.method.descriptor (class_named world (codes "java/lang/Object")))
+          ≡ Some x) → SpecialRun start called d
       by_part (inl own) = inl (concrete_run start called x d (upward_from world start called.method start x (first start (superclasses world start.class)) own) f)
       by_part (inr root) = let run = root_run called x d root f in inr (run.0, i, run.1, run.2)
 
   from_start : (start : Loaded) (called d : Declared) → select_from world called.method start ≡ Ok d → SpecialRun start called d
   from_start start called d e = by_kind (is_interface start) refl e
     where
-      by_kind : (b : Bool) → is_interface start ≡ b → found_or_default world start called.method (if b then interface_first world called.method start else first_alike world called.method start) ≡ Ok d → SpecialRun start called d
+      by_kind : (b : Bool) → is_interface start ≡ b → found_or_default world start called.method
+          (if b then interface_first world called.method start else first_alike world called.method start) ≡ Ok d → SpecialRun start called d
       by_kind true i e = from_interface start called d i (interface_first world called.method start) refl e
       by_kind false i e = inl (found_run start called d (first_alike world called.method start) (λ x f. alike_upward world called.method start x f) e)
 
@@ -163,7 +172,8 @@ module _ (ways : AboveByWays) (above_above : AboveIsTransitive) (world : World) 
       let same : target t.named d ≡ s = ap (λ (r : OrError MethodTarget). result_unwrap_or r s) e in
       (sym (ap (λ (x : MethodTarget). x.named) same), subst (λ (x : MethodTarget). P x.declared) same h)
 
-  object_run : (site : Site) (t : MethodTarget) (object : Option Loaded) (l : Loaded) (d : Declared) → object_class world object ≡ Ok l → (how : Use) → (how ≡ Invokevirtual) ⊎ (how ≡ Invokeinterface) → selected world site how t object ≡ Ok d → IsRun world l t.declared d
+  object_run : (site : Site) (t : MethodTarget) (object : Option Loaded) (l : Loaded) (d : Declared) → object_class world object ≡ Ok l →
+      (how : Use) → (how ≡ Invokevirtual) ⊎ (how ≡ Invokeinterface) → selected world site how t object ≡ Ok d → IsRun world l t.declared d
   object_run site t object l d is how (inl v) e =
       virtual_run t.declared l d (subst (λ r. (r >>= select_virtual world t.declared) ≡ Ok d) is (subst (λ h. selected world site h t object ≡ Ok d) v e))
   object_run site t object l d is how (inr v) e =
@@ -183,11 +193,13 @@ selected_is_run ways above_above world site how t s object l use_is is e =
 pub special_is_run : AboveByWays → AboveIsTransitive → SpecialIsRun
 special_is_run ways above_above world site t s object plain e =
     let step = went_on (selected world site Invokespecial t object) (λ d. Ok (target t.named d)) s e in
-    of_target ways above_above world t s step.0 (SpecialRun ways above_above world start t.declared) step.2 (from_start ways above_above world start t.declared step.0 (by_name (is_init t.declared.method.name) refl plain step.0 step.1))
+    of_target ways above_above world t s step.0 (SpecialRun ways above_above world start t.declared) step.2
+    (from_start ways above_above world start t.declared step.0 (by_name (is_init t.declared.method.name) refl plain step.0 step.1))
   where
     start : Loaded
     start = special_start world site.by t.named
 
-    by_name : (b : Bool) → is_init t.declared.method.name ≡ b → IsTrue (not b) → (d : Declared) → (if b then Ok t.declared else select_from world t.declared.method start) ≡ Ok d → select_from world t.declared.method start ≡ Ok d
+    by_name : (b : Bool) → is_init t.declared.method.name ≡ b → IsTrue (not b) → (d : Declared) →
+        (if b then Ok t.declared else select_from world t.declared.method start) ≡ Ok d → select_from world t.declared.method start ≡ Ok d
     by_name true f h d e = absurd cc
     by_name false f h d e = e

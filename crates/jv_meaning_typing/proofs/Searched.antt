@@ -72,7 +72,9 @@ module _ (world : World) (P : Loaded → Type 0) (up : (l s : Loaded) → P l �
   pub of_chain : (k : ℕ) (o : Option Loaded) → ((s : Loaded) → o ≡ Some s → P s) → AllOf P (chain_within world k o)
   of_chain zero o here c h = absurd (none c h)
   of_chain (suc k) None here c h = absurd (none c h)
-  of_chain (suc k) (Some l) here c h = by_part (λ j. of_chain k (superclass_in world l.class) (λ s e. up l s (here l refl) (superclass_is_super world l.class s e)) c j) (split l (chain_within world k (superclass_in world l.class)) c h)
+  of_chain (suc k) (Some l) here c h =
+      by_part (λ j. of_chain k (superclass_in world l.class) (λ s e. up l s (here l refl) (superclass_is_super world l.class s e)) c j)
+      (split l (chain_within world k (superclass_in world l.class)) c h)
     where
       by_part : (Contains (chain_within world k (superclass_in world l.class)) c → P c) → (l ≡ c) ⊎ Contains (chain_within world k (superclass_in world l.class)) c → P c
       by_part again (inl e) = subst P e (here l refl)
@@ -114,7 +116,8 @@ module _ (ways : AboveByWays) (above_above : AboveIsTransitive) (world : World) 
 
   -- ---- what is initialized before a class
 
-  named_above : (class : Class) (names : List (List ℕ)) → ((name : List ℕ) → Contains names name → Contains (super_names class) name) → AllOf (λ s. Contains (above world class) s) (filter_map (class_named world) names)
+  named_above : (class : Class) (names : List (List ℕ)) → ((name : List ℕ) → Contains names name → Contains (super_names class) name) →
+      AllOf (λ s. Contains (above world class) s) (filter_map (class_named world) names)
   named_above class names sub s h =
       let found = in_found (class_named world) names s h in
       direct class s (found_in (class_named world) (super_names class) found.0 s (sub found.0 found.1) found.2)
@@ -127,13 +130,16 @@ module _ (ways : AboveByWays) (above_above : AboveIsTransitive) (world : World) 
     where
       from_enumerated : Contains (filter declares_default (enumerated world l.class)) s → Contains (above world l.class) s
       from_enumerated h =
-          of_fold (λ c. Contains (above world l.class) c) (given_within world (length world)) (of_given world (λ c. Contains (above world l.class) c) (λ by t here i. above_above world l.class by t here (interfaces_above by.class t i)) (length world)) [] (interfaces_in world l.class)
+          of_fold (λ c. Contains (above world l.class) c) (given_within world (length world))
+          (of_given world (λ c. Contains (above world l.class) c)
+          (λ by t here i. above_above world l.class by t here (interfaces_above by.class t i)) (length world)) [] (interfaces_in world l.class)
           (λ c k. absurd (none c k)) (interfaces_above l.class) s (in_filter declares_default (enumerated world l.class) s h).0
 
       by_part : Contains (filter_map (class_named world) (superclass_names l.class.super_class)) s ⊎ Contains (filter declares_default (enumerated world l.class)) s → Contains (above world l.class) s
       by_part (inl k) = named_above l.class (superclass_names l.class.super_class) (λ name j. Contains-append_left (superclass_names l.class.super_class) l.class.interfaces name j) s k
       by_part (inr k) = from_enumerated k
 
-      by_kind : (b : Bool) → Contains (if b then [] else filter_map (class_named world) (superclass_names l.class.super_class) ++ filter declares_default (enumerated world l.class)) s → Contains (above world l.class) s
+      by_kind : (b : Bool) → Contains (if b then [] else filter_map (class_named world) (superclass_names l.class.super_class) ++
+          filter declares_default (enumerated world l.class)) s → Contains (above world l.class) s
       by_kind true h = absurd (none s h)
       by_kind false h = by_part (Contains-append_cases (filter_map (class_named world) (superclass_names l.class.super_class)) (filter declares_default (enumerated world l.class)) s h)

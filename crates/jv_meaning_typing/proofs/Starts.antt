@@ -91,7 +91,8 @@ none_behind [] e = refl
 none_behind (x ∷ after) e = absurd (omega (arith, e, size-cons x after, some_bytes x))
 
 -- the instruction at whose end the code ends is the last
-pub last_there : (env : Environment) (pc : ℕ) (insn : Instruction) → IsEnvironment env → instruction_at env pc ≡ Some insn → offset_behind pc insn ≡ length env.code.code → last_or None env.instructions ≡ Some insn
+pub last_there : (env : Environment) (pc : ℕ) (insn : Instruction) → IsEnvironment env → instruction_at env pc ≡ Some insn → offset_behind pc insn ≡
+    length env.code.code → last_or None env.instructions ≡ Some insn
 last_there env pc insn is e end =
     let c = to_cut 0 env.instructions pc insn e in
     let none : c.after ≡ [] = none_behind c.after (omega (arith, end, ap length is.instructions.spelled, ap size c.is, size-append c.before (insn ∷ c.after), size-cons insn c.after, c.place)) in

@@ -218,7 +218,10 @@ named_is_run world site t object by declared instance concrete straight =
             by_other false h = absurd cc
 
     own : alike_in t.named t.declared.method ≡ Some t.declared
-    own = subst (λ c. alike_in c t.declared.method ≡ Some t.declared) by (alike_itself t.declared (subst (λ (c : Loaded). method_named c.class t.declared.method.name t.declared.method.descriptor ≡ Some t.declared.method) (sym by) declared) instance)
+    own = subst (λ c. alike_in c t.declared.method ≡ Some t.declared) by
+        (alike_itself t.declared
+        (subst (λ (c : Loaded). method_named c.class t.declared.method.name t.declared.method.descriptor ≡ Some t.declared.method) (sym by) declared)
+        instance)
 
     start : special_start world site.by t.named ≡ t.named
     start = ap (λ b. if b then unwrap_or (superclass_in world site.by.class) t.named else t.named) straight

@@ -168,7 +168,8 @@ module _ (lists : OneList) (stands : StandsInList) (apart : StartsApart) where
       one_word : argument_words taking ≤ 0 → ⊥
       one_word h = let words : 1 ≤ 0 = h in omega (arith, words)
 
-      none : (env : Environment) → env.world ≡ world_of_row (codes "(I)V") (coded [] None (insns.Return ∷ [])) → env.site ≡ site_of_row (codes "(I)V") (coded [] None (insns.Return ∷ [])) → IsCodeOf env → ⊥
+      none : (env : Environment) → env.world ≡ world_of_row (codes "(I)V") (coded [] None (insns.Return ∷ [])) → env.site ≡ site_of_row (codes "(I)V")
+          (coded [] None (insns.Return ∷ [])) → IsCodeOf env → ⊥
       none env w s code =
           one_word (subst (λ (e : Environment). argument_words e ≤ e.code.max_locals)
           (one_environment lists env taking w s code.is

@@ -99,7 +99,8 @@ profile_code c class e =
     )
 
 -- a class within the profile
-pub holds : (bytes : List ℕ) (c : ClassStructure) → IsClassFile bytes c → IsSupported c → IsSome (class_of c) → All (λ m. HasNoUnsupportedCode m.code) (methods_of c) → IsSomeAnd (option_map Holds (class_of c)) (IsContent bytes)
+pub holds : (bytes : List ℕ) (c : ClassStructure) → IsClassFile bytes c → IsSupported c → IsSome (class_of c) → All (λ m. HasNoUnsupportedCode m.code)
+    (methods_of c) → IsSomeAnd (option_map Holds (class_of c)) (IsContent bytes)
 holds bytes c file supported some all = by_class (class_of c) refl some
   where
     by_class : (o : Option Class) → class_of c ≡ o → IsSome o → IsSomeAnd (option_map Holds o) (IsContent bytes)

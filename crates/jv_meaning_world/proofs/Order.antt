@@ -79,7 +79,8 @@ same_primitive world bases.Short bases.Short h = refl
 same_primitive world bases.Boolean bases.Boolean h = refl
 same_primitive world _ _ h = cc
 
-values_by : (world : World) (m n : ℕ) (e f : Element (List ℕ)) → IsTrue (component_flows world m (erased_element world e) n (erased_element world f)) → IsBelow world (value_type_by m e) (value_type_by n f)
+values_by : (world : World) (m n : ℕ) (e f : Element (List ℕ)) → IsTrue (component_flows world m (erased_element world e) n (erased_element world f))
+    → IsBelow world (value_type_by m e) (value_type_by n f)
 values_by world zero zero (elements.Base a) (elements.Base b) h = same_primitive world a b h
 values_by world zero zero (elements.Class x) (elements.Class y) h = h
 values_by world zero zero (elements.Base a) (elements.Class y) h = absurd (clash h)
@@ -99,7 +100,8 @@ module _ (world : World) (rooted : IsRooted world) where
   abbrev bare : Element (List ℕ) → Element (List ℕ)
   bare e = erased_element world e
 
-  elements_on : (g e f : Element (List ℕ)) → IsTrue (component_flows world zero (bare g) zero (bare e)) → IsTrue (component_flows world zero (bare e) zero (bare f)) → IsTrue (component_flows world zero (bare g) zero (bare f))
+  elements_on : (g e f : Element (List ℕ)) → IsTrue (component_flows world zero (bare g) zero (bare e)) →
+      IsTrue (component_flows world zero (bare e) zero (bare f)) → IsTrue (component_flows world zero (bare g) zero (bare f))
   elements_on (elements.Base a) (elements.Base b) (elements.Base c) h k = same_base_on a b c h k
   elements_on (elements.Class x) (elements.Class y) (elements.Class z) h k = erased_flows_on world rooted x y z h k
   elements_on (elements.Base a) (elements.Class y) f h k = absurd (clash h)
@@ -107,7 +109,8 @@ module _ (world : World) (rooted : IsRooted world) where
   elements_on (elements.Base a) (elements.Base b) (elements.Class z) h k = absurd (clash k)
   elements_on (elements.Class x) (elements.Class y) (elements.Base c) h k = absurd (clash k)
 
-  array_on : (m : ℕ) (g e f : Element (List ℕ)) → IsTrue (component_flows world (suc m) (bare g) zero (bare e)) → IsTrue (component_flows world zero (bare e) zero (bare f)) → IsTrue (component_flows world (suc m) (bare g) zero (bare f))
+  array_on : (m : ℕ) (g e f : Element (List ℕ)) → IsTrue (component_flows world (suc m) (bare g) zero (bare e)) →
+      IsTrue (component_flows world zero (bare e) zero (bare f)) → IsTrue (component_flows world (suc m) (bare g) zero (bare f))
   array_on m g (elements.Class y) (elements.Class z) h k = erased_arrays_on world rooted y z h k
   array_on m g (elements.Base b) f h k = absurd (clash h)
   array_on m g (elements.Class y) (elements.Base c) h k = absurd (clash k)
@@ -116,7 +119,8 @@ module _ (world : World) (rooted : IsRooted world) where
   to_element k m g e (elements.Class z) h = h
   to_element k m g e (elements.Base c) h = absurd (clash h)
 
-  components_on : (k m n : ℕ) (g e f : Element (List ℕ)) → IsTrue (component_flows world k (bare g) m (bare e)) → IsTrue (component_flows world m (bare e) n (bare f)) → IsTrue (component_flows world k (bare g) n (bare f))
+  components_on : (k m n : ℕ) (g e f : Element (List ℕ)) → IsTrue (component_flows world k (bare g) m (bare e)) →
+      IsTrue (component_flows world m (bare e) n (bare f)) → IsTrue (component_flows world k (bare g) n (bare f))
   components_on zero zero zero g e f h i = elements_on g e f h i
   components_on zero zero (suc n) g e f h i = absurd (clash i)
   components_on zero (suc m) n g e f h i = absurd (clash h)
@@ -159,7 +163,8 @@ module _ (world : World) (rooted : IsRooted world) where
 
   -- ---- what flows is kept
 
-  elements_kept : (g e f : Element (List ℕ)) → IsTrue (has_loadable_element world g) → IsTrue (component_flows world zero (bare g) zero (bare e)) → IsTrue (component_flows world zero e zero f) → IsTrue (component_flows world zero (bare g) zero (bare f))
+  elements_kept : (g e f : Element (List ℕ)) → IsTrue (has_loadable_element world g) → IsTrue (component_flows world zero (bare g) zero (bare e)) →
+      IsTrue (component_flows world zero e zero f) → IsTrue (component_flows world zero (bare g) zero (bare f))
   elements_kept (elements.Base a) (elements.Base b) (elements.Base c) there h k = same_base_on a b c h k
   elements_kept (elements.Class x) (elements.Class y) (elements.Class z) there h k = erased_kept world rooted x y z there h k
   elements_kept (elements.Base a) (elements.Class y) f there h k = absurd (clash h)
@@ -167,7 +172,8 @@ module _ (world : World) (rooted : IsRooted world) where
   elements_kept (elements.Base a) (elements.Base b) (elements.Class z) there h k = absurd (clash k)
   elements_kept (elements.Class x) (elements.Class y) (elements.Base c) there h k = absurd (clash k)
 
-  array_kept : (m : ℕ) (g e f : Element (List ℕ)) → IsTrue (component_flows world (suc m) (bare g) zero (bare e)) → IsTrue (component_flows world zero e zero f) → IsTrue (component_flows world (suc m) (bare g) zero (bare f))
+  array_kept : (m : ℕ) (g e f : Element (List ℕ)) → IsTrue (component_flows world (suc m) (bare g) zero (bare e)) →
+      IsTrue (component_flows world zero e zero f) → IsTrue (component_flows world (suc m) (bare g) zero (bare f))
   array_kept m g (elements.Class y) (elements.Class z) h k = arrays_kept world rooted y z h k
   array_kept m g (elements.Base b) f h k = absurd (clash h)
   array_kept m g (elements.Class y) (elements.Base c) h k = absurd (clash k)
@@ -176,7 +182,9 @@ module _ (world : World) (rooted : IsRooted world) where
   to_element_kept k m g e (elements.Class z) h = arrays_erased world rooted z h
   to_element_kept k m g e (elements.Base c) h = absurd (clash h)
 
-  components_kept : (k m n : ℕ) (g e f : Element (List ℕ)) → IsTrue (has_loadable_element world g) → IsTrue (component_flows world k (bare g) m (bare e)) → IsTrue (component_flows world m e n f) → IsTrue (component_flows world k (bare g) n (bare f))
+  components_kept : (k m n : ℕ) (g e f : Element (List ℕ)) → IsTrue (has_loadable_element world g) →
+      IsTrue (component_flows world k (bare g) m (bare e)) → IsTrue (component_flows world m e n f) →
+      IsTrue (component_flows world k (bare g) n (bare f))
   components_kept zero zero zero g e f there h i = elements_kept g e f there h i
   components_kept zero zero (suc n) g e f there h i = absurd (clash i)
   components_kept zero (suc m) n g e f there h i = absurd (clash h)

@@ -63,7 +63,9 @@ module _ (world : World) (rooted : IsRooted world) where
       (loadable_by_all world s stand_alone (super_in_world l.class s h)).1 (all.1 s direct, λ to k. all.1 to (above_is_transitive world l.class s to direct k))
 
   right_kind : (l : Loaded) → Contains world l → IsTrue (is_loadable world l) → IsTrue (have_right_kind world l.class)
-  right_kind l there t = by_loader (or_cases l.by_system (not (is_circular world l.class) && each_super world (λ s. true) l.class && have_right_kind world l.class && can_name_supers world l) ((loadable_by_all world l stand_alone there).0 t).0)
+  right_kind l there t =
+      by_loader (or_cases l.by_system (not (is_circular world l.class) && each_super world (λ s. true) l.class && have_right_kind world l.class &&
+      can_name_supers world l) ((loadable_by_all world l stand_alone there).0 t).0)
     where
       A : Bool
       A = not (is_circular world l.class)
@@ -89,7 +91,8 @@ module _ (world : World) (rooted : IsRooted world) where
   kind_of_super : (l s : Loaded) → Contains world l → IsTrue (is_loadable world l) → Contains (supers_in world l.class) s → (superclass_in world l.class ≡ Some s) ⊎ IsTrue (is_interface s)
   kind_of_super l s there t h =
       let found = found_super world l.class s h in
-      let kinds = and_parts (superclass_passes world (λ x. not (is_interface x)) l.class.super_class) (list_all (λ name. passes is_interface (class_named world name)) l.class.interfaces) (right_kind l there t) in
+      let kinds = and_parts (superclass_passes world (λ x. not (is_interface x)) l.class.super_class)
+      (list_all (λ name. passes is_interface (class_named world name)) l.class.interfaces) (right_kind l there t) in
       by_part found.0 found.2 kinds.1 (Contains-append_cases (superclass_names l.class.super_class) l.class.interfaces found.0 found.1)
     where
       by_name : (name : List ℕ) → class_named world name ≡ Some s → (o : Option (List ℕ)) → Contains (superclass_names o) name → class_if_named world o ≡ Some s
@@ -156,7 +159,8 @@ module _ (world : World) (rooted : IsRooted world) where
           (flows_to_superclass world x y (record { from = l; to = to; found = at; loadable = t; on_chain = k; named = e }))
 
   -- And a class that is below another that is no interface is that one, or has it above.
-  pub below_is_above : (x y : List ℕ) (l : Loaded) → class_named world x ≡ Some l → (IsTrue (names_interface world y) → ⊥) → IsBelow world (types.Class x) (types.Class y) → IsTrue (bytes_eq x y || is_above world y l.class)
+  pub below_is_above : (x y : List ℕ) (l : Loaded) → class_named world x ≡ Some l → (IsTrue (names_interface world y) → ⊥) →
+      IsBelow world (types.Class x) (types.Class y) → IsTrue (bytes_eq x y || is_above world y l.class)
   below_is_above x y l at plain h = by_erased world rooted (λ n. IsTrue (class_flows world n y) → IsTrue (bytes_eq x y || is_above world y l.class)) x by_interface (λ other. by_plain) unerased
     where
       unerased : IsUnder world x y
@@ -195,7 +199,8 @@ module _ (world : World) (rooted : IsRooted world) where
               is_up way.0 f.to (subst (λ (m : Loaded). IsUp world m.class way.0 f.to) same way.1) f.named
 
   -- where neither is an interface, the one is the other, or a superclass of it is
-  pub below_is_superclass : (x y : List ℕ) → (IsTrue (names_interface world x) → ⊥) → (IsTrue (names_interface world y) → ⊥) → IsBelow world (types.Class x) (types.Class y) → (x ≡ y) ⊎ IsSuperclassOf world x y
+  pub below_is_superclass : (x y : List ℕ) → (IsTrue (names_interface world x) → ⊥) → (IsTrue (names_interface world y) → ⊥) →
+      IsBelow world (types.Class x) (types.Class y) → (x ≡ y) ⊎ IsSuperclassOf world x y
   below_is_superclass x y plain other h =
       by_case
       (flow_cases world x y

@@ -77,7 +77,8 @@ up_of world zero class to h = absurd (none to h)
 up_of world (suc k) class to h = by_super (superclass_in world class) refl h (λ s j. up_of world k s.class to j)
   where
     by_super : (o : Option Loaded) → superclass_in world class ≡ o → Contains (chain_within world (suc k) o) to
-        → ((s : Loaded) → Contains (chain_within world k (superclass_in world s.class)) to → (between : List Loaded) × IsUp world s.class between to) → (between : List Loaded) × IsUp world class between to
+        → ((s : Loaded) → Contains (chain_within world k (superclass_in world s.class)) to → (between : List Loaded) × IsUp world s.class between to)
+        → (between : List Loaded) × IsUp world class between to
     by_super None e h again = absurd (none to h)
     by_super (Some s) e h again = by_part (Contains-append_cases (s ∷ []) (chain_within world k (superclass_in world s.class)) to h)
       where
@@ -85,7 +86,8 @@ up_of world (suc k) class to h = by_super (superclass_in world class) refl h (λ
         by_part (inl here) = ([], e ∙ ap (λ l. Some l) (single s to here))
         by_part (inr there) = let way = again s there in (s ∷ way.0, (e, way.1))
 
-on_chain : (world : World) (k : ℕ) (class : Class) (to : Loaded) (between : List Loaded) → length between < k → IsUp world class between to → Contains (chain_within world k (superclass_in world class)) to
+on_chain : (world : World) (k : ℕ) (class : Class) (to : Loaded) (between : List Loaded) → length between < k → IsUp world class between to →
+    Contains (chain_within world k (superclass_in world class)) to
 on_chain world zero class to between few way = absurd (omega (arith, few))
 on_chain world (suc k) class to [] few way =
     subst (λ o. Contains (chain_within world (suc k) o) to) (sym way) (first to (chain_within world k (superclass_in world to.class)))
@@ -108,7 +110,8 @@ record ShortFresh (world : World) (from to : Loaded) : Type 0 where
   fresh : IsFresh from.class.name between
 
 -- a class is not on a way, or a way goes on from it
-on_way : (world : World) (n : Loaded) → IsNamedIn world n → (class : Class) (to : Loaded) (ls : List Loaded) → IsUp world class ls to → NoTwo (to ∷ ls) → IsFresh n.class.name ls ⊎ ShortFresh world n to
+on_way : (world : World) (n : Loaded) → IsNamedIn world n → (class : Class) (to : Loaded) (ls : List Loaded) → IsUp world class ls to →
+    NoTwo (to ∷ ls) → IsFresh n.class.name ls ⊎ ShortFresh world n to
 on_way world n named class to [] way once = inl tt
 on_way world n named class to (l ∷ ls) way once = by_test (bytes_eq n.class.name l.class.name) refl (on_way world n named l.class to ls way.1 (once.0.1, once.1.1))
   where
@@ -155,16 +158,19 @@ member_or_behind world l more q named again h = by_test (bytes_eq q l.class.name
     by_test true t k = subst (λ name. is_member bytes_eq (names_of world) name ≡ true) (sym (same_name q l.class.name t)) (named_is_member world l.class.name l named)
     by_test false t k = again k
 
-between_in_world : (world : World) (class : Class) (to : Loaded) (ls : List Loaded) → IsUp world class ls to → (q : List ℕ) → is_member bytes_eq (names_of ls) q ≡ true → is_member bytes_eq (names_of world) q ≡ true
+between_in_world : (world : World) (class : Class) (to : Loaded) (ls : List Loaded) → IsUp world class ls to → (q : List ℕ) → is_member bytes_eq
+    (names_of ls) q ≡ true → is_member bytes_eq (names_of world) q ≡ true
 between_in_world world class to [] way q h = absurd cc
 between_in_world world class to (l ∷ ls) way q h = member_or_behind world l ls q (up_is_named world class [] l way.0) (λ k. between_in_world world l.class to ls way.1 q k) h
 
-all_in_world : (world : World) (class : Class) (to : Loaded) (ls : List Loaded) → IsUp world class ls to → (q : List ℕ) → is_member bytes_eq (names_of (to ∷ ls)) q ≡ true → is_member bytes_eq (names_of world) q ≡ true
+all_in_world : (world : World) (class : Class) (to : Loaded) (ls : List Loaded) → IsUp world class ls to → (q : List ℕ) → is_member bytes_eq
+    (names_of (to ∷ ls)) q ≡ true → is_member bytes_eq (names_of world) q ≡ true
 all_in_world world class to ls way q h = member_or_behind world to ls q (up_is_named world class ls to way) (λ k. between_in_world world class to ls way q k) h
 
 short_enough : (world : World) (class : Class) (to : Loaded) (short : Short world class to) → length short.between < length world
 short_enough world class to short =
-    let few = length-le_from_is_member nat_list_eq_equiv (names_of (to ∷ short.between)) (names_of world) (distinct (to ∷ short.between) short.once) (all_in_world world class to short.between short.way) in
+    let few = length-le_from_is_member nat_list_eq_equiv (names_of (to ∷ short.between)) (names_of world) (distinct (to ∷ short.between) short.once)
+    (all_in_world world class to short.between short.way) in
     omega (arith, few, length-map (to ∷ short.between) name_of, length-map world name_of)
 
 -- ---- laws
@@ -179,7 +185,8 @@ way_to_superclass world class to between way =
     on_chain world (length world) class to short.between (short_enough world class to short) short.way
 
 -- a superclass of a superclass is one
-pub superclasses_are_transitive : (world : World) (class : Class) (by to : Loaded) → Contains (superclasses world class) by → Contains (superclasses world by.class) to → Contains (superclasses world class) to
+pub superclasses_are_transitive : (world : World) (class : Class) (by to : Loaded) → Contains (superclasses world class) by →
+    Contains (superclasses world by.class) to → Contains (superclasses world class) to
 superclasses_are_transitive world class by to h k =
     let first_way = superclass_by_way world class by h in
     let second_way = superclass_by_way world by.class to k in

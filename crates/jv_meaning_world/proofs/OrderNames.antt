@@ -130,7 +130,8 @@ module _ (world : World) (rooted : IsRooted world) where
   pub interface_found : (name : List ℕ) → IsTrue (names_interface world name) → (l : Loaded) × (class_named world name ≡ Some l) × IsTrue (is_loadable world l) × IsTrue (is_interface l)
   interface_found name h = by_class (class_named world name) refl h
     where
-      by_class : (o : Option Loaded) → class_named world name ≡ o → IsTrue (is_loadable_interface world o) → (l : Loaded) × (class_named world name ≡ Some l) × IsTrue (is_loadable world l) × IsTrue (is_interface l)
+      by_class : (o : Option Loaded) → class_named world name ≡ o → IsTrue (is_loadable_interface world o) → (l : Loaded) ×
+          (class_named world name ≡ Some l) × IsTrue (is_loadable world l) × IsTrue (is_interface l)
       by_class None e k = absurd cc
       by_class (Some l) e k = let parts = and_parts (is_loadable world l) (is_interface l) k in (l, e, parts.0, parts.1)
 
@@ -155,7 +156,9 @@ module _ (world : World) (rooted : IsRooted world) where
   -- ---- what a loadable class has above it
 
   system_climbs : (l : Loaded) → Contains world l → IsTrue l.by_system → Climbs world l
-  system_climbs l there h = by_part (or_cases (bytes_eq l.class.name object_name) (list_any (λ s. bytes_eq s.class.name object_name) (superclasses world l.class)) (and_parts (leads_to world object_name l) (has_right_supers world l.class) (rooted.system l there h)).0)
+  system_climbs l there h =
+      by_part (or_cases (bytes_eq l.class.name object_name) (list_any (λ s. bytes_eq s.class.name object_name) (superclasses world l.class))
+      (and_parts (leads_to world object_name l) (has_right_supers world l.class) (rooted.system l there h)).0)
     where
       by_part : (bytes_eq l.class.name object_name ≡ true) ⊎ (list_any (λ (s : Loaded). bytes_eq s.class.name object_name) (superclasses world l.class) ≡ true) → Climbs world l
       by_part (inl e) = inl (same_name l.class.name object_name e)
@@ -216,7 +219,8 @@ module _ (world : World) (rooted : IsRooted world) where
           by_class name (class_named world name) refl e
           (and_parts (passes (is_loadable_within world k) (class_named world name)) (list_all (λ n. passes (is_loadable_within world k) (class_named world n)) l.class.interfaces) all).0 again
 
-      by_part : IsTrue l.by_system ⊎ IsTrue (each_super world (is_loadable_within world k) l.class) → ((s : Loaded) → Contains world s → IsTrue (is_loadable_within world k s) → Climbs world s) → Climbs world l
+      by_part : IsTrue l.by_system ⊎ IsTrue (each_super world (is_loadable_within world k) l.class) →
+          ((s : Loaded) → Contains world s → IsTrue (is_loadable_within world k s) → Climbs world s) → Climbs world l
       by_part (inl t) again = system_climbs l there t
       by_part (inr all) again = by_super l.class.super_class refl all again
 
@@ -254,7 +258,9 @@ module _ (world : World) (rooted : IsRooted world) where
       names_object None h = absurd cc
       names_object (Some name) h = ap (λ n. Some n) (same_name name object_name h)
 
-      by_kind : (l : Loaded) (b : Bool) → is_interface l ≡ b → IsTrue b → IsTrue (if b then some_and is_object l.class.super_class else is_some l.class.super_class || is_object l.class.name) → l.class.super_class ≡ Some object_name
+      by_kind : (l : Loaded) (b : Bool) → is_interface l ≡ b → IsTrue b →
+          IsTrue (if b then some_and is_object l.class.super_class else is_some l.class.super_class || is_object l.class.name) → l.class.super_class ≡
+          Some object_name
       by_kind l true e t k = names_object l.class.super_class k
       by_kind l false e t k = absurd cc
 
@@ -300,7 +306,8 @@ module _ (world : World) (rooted : IsRooted world) where
   erased_flows_on x y z h k = class_flows_on world (erased_name world x) (erased_name world y) (erased_name world z) (erased_is_plain y) h k
 
   -- a loadable class that is below another is below each that the other flows to
-  pub erased_kept : (w x y : List ℕ) → IsTrue (passes (is_loadable world) (class_named world w)) → IsTrue (class_flows world (erased_name world w) (erased_name world x)) → IsTrue (class_flows world x y)
+  pub erased_kept : (w x y : List ℕ) → IsTrue (passes (is_loadable world) (class_named world w)) →
+      IsTrue (class_flows world (erased_name world w) (erased_name world x)) → IsTrue (class_flows world x y)
       → IsTrue (class_flows world (erased_name world w) (erased_name world y))
   erased_kept w x y loadable h k = by_case (flow_cases world x y k)
     where
@@ -326,7 +333,8 @@ module _ (world : World) (rooted : IsRooted world) where
       by_second (inl e) = inr (subst (λ n. IsTrue (names_interface world n)) (sym (same_name y (codes "java/lang/Cloneable") e)) rooted.cloneable)
       by_second (inr e) = inr (subst (λ n. IsTrue (names_interface world n)) (sym (same_name y (codes "java/io/Serializable") e)) rooted.serializable)
 
-      by_first : (bytes_eq y object_name ≡ true) ⊎ ((bytes_eq y (codes "java/lang/Cloneable") || bytes_eq y (codes "java/io/Serializable")) ≡ true) → (y ≡ object_name) ⊎ IsTrue (names_interface world y)
+      by_first : (bytes_eq y object_name ≡ true) ⊎ ((bytes_eq y (codes "java/lang/Cloneable") || bytes_eq y (codes "java/io/Serializable")) ≡ true) →
+          (y ≡ object_name) ⊎ IsTrue (names_interface world y)
       by_first (inl e) = inl (same_name y object_name e)
       by_first (inr e) = by_second (or_cases (bytes_eq y (codes "java/lang/Cloneable")) (bytes_eq y (codes "java/io/Serializable")) e)
 
@@ -344,13 +352,16 @@ module _ (world : World) (rooted : IsRooted world) where
       by_case (inl e) = e
       by_case (inr i) = absurd (plain i)
 
-  pub erased_arrays_on : (y z : List ℕ) → IsTrue (is_above_arrays (erased_name world y)) → IsTrue (class_flows world (erased_name world y) (erased_name world z)) → IsTrue (is_above_arrays (erased_name world z))
+  pub erased_arrays_on : (y z : List ℕ) → IsTrue (is_above_arrays (erased_name world y)) →
+      IsTrue (class_flows world (erased_name world y) (erased_name world z)) → IsTrue (is_above_arrays (erased_name world z))
   erased_arrays_on y z h k = by_case (flow_cases world (erased_name world y) (erased_name world z) k)
     where
       is_top : erased_name world y ≡ object_name
       is_top = plain_arrays (erased_name world y) (erased_is_plain y) h
 
-      by_case : (erased_name world y ≡ erased_name world z) ⊎ (IsTrue (names_interface world (erased_name world z)) ⊎ IsSuperclassOf world (erased_name world y) (erased_name world z)) → IsTrue (is_above_arrays (erased_name world z))
+      by_case : (erased_name world y ≡ erased_name world z) ⊎
+          (IsTrue (names_interface world (erased_name world z)) ⊎ IsSuperclassOf world (erased_name world y) (erased_name world z)) →
+          IsTrue (is_above_arrays (erased_name world z))
       by_case (inl e) = subst (λ n. IsTrue (is_above_arrays n)) e h
       by_case (inr (inl i)) = absurd (erased_is_plain z i)
       by_case (inr (inr f)) = absurd (nothing_above_object (erased_name world z) (subst (λ n. IsSuperclassOf world n (erased_name world z)) is_top f))

@@ -41,13 +41,15 @@ parts_of c class e =
     let methods = chained (all_found (method_of c.constant_pool) c.methods) _ class fields.2 in
     record { access_flags = cc; name = name.1 ∙ ap (λ l. Some l) cc; super_class = above.1 ∙ ap (λ l. Some l) cc }
 
-right_by : (interface zero named : Bool) (found above : Option (List ℕ)) → (zero ≡ true → found ≡ None) → IsTrue (if interface then some_and is_object found else true) → IsTrue (if named then zero else some_and is_no_array_name found)
+right_by : (interface zero named : Bool) (found above : Option (List ℕ)) → (zero ≡ true → found ≡ None) →
+    IsTrue (if interface then some_and is_object found else true) → IsTrue (if named then zero else some_and is_no_array_name found)
     → (if zero then Some None else option_map Some found) ≡ Some above → IsTrue (if interface then some_and is_object above else is_some above || named)
 right_by interface true named found above no_name i n e =
     by_cases interface named (subst (λ o. IsTrue (if interface then some_and is_object o else true)) (no_name refl) i)
     (subst (λ o. IsTrue (if named then true else some_and is_no_array_name o)) (no_name refl) n)
   where
-    by_cases : (a b : Bool) → IsTrue (if a then some_and is_object None else true) → IsTrue (if b then true else some_and is_no_array_name None) → IsTrue (if a then some_and is_object above else is_some above || b)
+    by_cases : (a b : Bool) → IsTrue (if a then some_and is_object None else true) → IsTrue (if b then true else some_and is_no_array_name None) →
+        IsTrue (if a then some_and is_object above else is_some above || b)
     by_cases true b h k = absurd cc
     by_cases false true h k = or_right (is_some above) true refl
     by_cases false false h k = absurd cc
@@ -85,7 +87,8 @@ held_right (bytes ∷ files) (file ∷ contents) are class k = by_part (λ j. he
 
 -- ---- the classes of a guest are held by its files
 
-one_from : (classes : List Class) (file : FileContent) (files : List FileContent) (class : Class) → Contains (with_class_of classes file) class → Contains classes class ⊎ Contains (file ∷ files) (Holds class)
+one_from : (classes : List Class) (file : FileContent) (files : List FileContent) (class : Class) → Contains (with_class_of classes file) class →
+    Contains classes class ⊎ Contains (file ∷ files) (Holds class)
 one_from classes OtherVersion files class k = inl k
 one_from classes NoClassFile files class k = inl k
 one_from classes MoreThanProfile files class k = inl k
@@ -120,7 +123,8 @@ in_mapped : (by_system : Bool) (classes : List Class) (l : Loaded) → Contains 
 in_mapped by_system [] l h = absurd (none l h)
 in_mapped by_system (c ∷ classes) l h = by_part (λ k. in_mapped by_system classes l k) (Contains-append_cases (loaded by_system c ∷ []) (map (loaded by_system) classes) l h)
   where
-    by_part : (Contains (map (loaded by_system) classes) l → (x : Class) × Contains classes x × (loaded by_system x ≡ l)) → Contains (loaded by_system c ∷ []) l ⊎ Contains (map (loaded by_system) classes) l
+    by_part : (Contains (map (loaded by_system) classes) l → (x : Class) × Contains classes x × (loaded by_system x ≡ l)) →
+        Contains (loaded by_system c ∷ []) l ⊎ Contains (map (loaded by_system) classes) l
         → (x : Class) × Contains (c ∷ classes) x × (loaded by_system x ≡ l)
     by_part again (inl k) = (c, first c classes, single (loaded by_system c) l k)
     by_part again (inr k) = let found = again k in (found.0, later c classes found.0 found.1, found.2)
@@ -135,7 +139,8 @@ module _ (system : List Class) (contents : List FileContent) where
   abbrev HasRoot : Loaded → Type 0
   HasRoot l = IsTrue (has_right_superclass l.class) × (IsTrue l.by_system → IsTrue (is_right l))
 
-  each_has_root : IsTrue (list_all (λ c. has_right_superclass c && is_right (loaded true c)) system) → ((class : Class) → Contains (classes_in contents) class → IsTrue (has_right_superclass class)) → (l : Loaded) → Contains whole l → HasRoot l
+  each_has_root : IsTrue (list_all (λ c. has_right_superclass c && is_right (loaded true c)) system) →
+      ((class : Class) → Contains (classes_in contents) class → IsTrue (has_right_superclass class)) → (l : Loaded) → Contains whole l → HasRoot l
   each_has_root all guests l there = by_loader (Contains-append_cases (map (loaded true) system) (map (loaded false) (classes_in contents)) l there)
     where
       not_so : IsTrue false → ⊥

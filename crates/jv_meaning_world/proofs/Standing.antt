@@ -47,7 +47,8 @@ super_passes world test class s all h =
         let parts = and_parts (passes test (class_named world n)) (list_all (λ m. passes test (class_named world m)) names) all in
         by_part parts.0 (λ k. of_all names parts.1 name k) (Contains-append_cases (n ∷ []) names name h)
       where
-        by_part : IsTrue (passes test (class_named world n)) → (Contains names name → IsTrue (passes test (class_named world name))) → Contains (n ∷ []) name ⊎ Contains names name → IsTrue (passes test (class_named world name))
+        by_part : IsTrue (passes test (class_named world n)) → (Contains names name → IsTrue (passes test (class_named world name))) →
+            Contains (n ∷ []) name ⊎ Contains names name → IsTrue (passes test (class_named world name))
         by_part here again (inl k) = subst (λ m. IsTrue (passes test (class_named world m))) (single n name k) here
         by_part here again (inr k) = again k
 
@@ -60,13 +61,16 @@ all_or_one world test More (n ∷ names) there each =
     let parts = and_parts (passes (λ s. true) (class_named world n)) (list_all (λ m. passes (λ s. true) (class_named world m)) names) there in
     by_rest (class_named world n) refl parts.0 (all_or_one world test More names parts.1 (λ name s k e. each name s (later n names name k) e))
   where
-    by_rest : (o : Option Loaded) → class_named world n ≡ o → IsTrue (passes (λ s. true) o) → IsTrue (list_all (λ name. passes test (class_named world name)) names) ⊎ ((name : List ℕ) × (s : Loaded) × Contains names name × (class_named world name ≡ Some s) × More s)
+    by_rest : (o : Option Loaded) → class_named world n ≡ o → IsTrue (passes (λ s. true) o) →
+        IsTrue (list_all (λ name. passes test (class_named world name)) names) ⊎
+        ((name : List ℕ) × (s : Loaded) × Contains names name × (class_named world name ≡ Some s) × More s)
         → IsTrue (list_all (λ name. passes test (class_named world name)) (n ∷ names)) ⊎ ((name : List ℕ) × (s : Loaded) × Contains (n ∷ names) name × (class_named world name ≡ Some s) × More s)
     by_rest None e t rest = absurd cc
     by_rest (Some s) e t (inr one) = inr (one.0, one.1, later n names one.0 one.2, one.3, one.4)
     by_rest (Some s) e t (inl all) = by_first (each n s (first n names) e)
       where
-        by_first : IsTrue (test s) ⊎ More s → IsTrue (list_all (λ name. passes test (class_named world name)) (n ∷ names)) ⊎ ((name : List ℕ) × (s : Loaded) × Contains (n ∷ names) name × (class_named world name ≡ Some s) × More s)
+        by_first : IsTrue (test s) ⊎ More s → IsTrue (list_all (λ name. passes test (class_named world name)) (n ∷ names)) ⊎
+            ((name : List ℕ) × (s : Loaded) × Contains (n ∷ names) name × (class_named world name ≡ Some s) × More s)
         by_first (inl pass) = inl (and_from (passes test (class_named world n)) (list_all (λ name. passes test (class_named world name)) names) (subst (λ o. IsTrue (passes test o)) (sym e) pass) all)
         by_first (inr more) = inr (n, s, first n names, e, more)
 
@@ -104,7 +108,8 @@ own_parts world k l h = by_parts (either l.by_system _ h)
     D : Bool
     D = can_name_supers world l
 
-    any_super : (names : List (List ℕ)) → IsTrue (list_all (λ name. passes (is_loadable_within world k) (class_named world name)) names) → IsTrue (list_all (λ name. passes (λ s. true) (class_named world name)) names)
+    any_super : (names : List (List ℕ)) → IsTrue (list_all (λ name. passes (is_loadable_within world k) (class_named world name)) names) →
+        IsTrue (list_all (λ name. passes (λ s. true) (class_named world name)) names)
     any_super [] all = refl
     any_super (n ∷ names) all =
         let parts = and_parts (passes (is_loadable_within world k) (class_named world n)) (list_all (λ m. passes (is_loadable_within world k) (class_named world m)) names) all in
@@ -130,7 +135,8 @@ stands world (suc k) l h = by_parts (own_parts world k l h)
     by_parts (inl h) = system_stands world l h
     by_parts (inr h) = h.1
 
-above_stand : (world : World) → SystemStandsAlone world → (k : ℕ) (l to : Loaded) (between : List Loaded) → Contains world l → IsTrue (is_loadable_within world k l) → IsWayUp world l.class between to → IsTrue (stands_itself world to)
+above_stand : (world : World) → SystemStandsAlone world → (k : ℕ) (l to : Loaded) (between : List Loaded) → Contains world l →
+    IsTrue (is_loadable_within world k l) → IsWayUp world l.class between to → IsTrue (stands_itself world to)
 above_stand world alone zero l to between there h way = system_stands world to (system_above world alone l to between there h way)
 above_stand world alone (suc k) l to [] there h way = by_parts (own_parts world k l h)
   where
@@ -140,7 +146,8 @@ above_stand world alone (suc k) l to [] there h way = by_parts (own_parts world 
 above_stand world alone (suc k) l to (by ∷ more) there h way =
     by_parts (own_parts world k l h) (λ t. above_stand world alone k by to more (in_world world l.class by way.0) t way.1)
   where
-    by_parts : IsTrue l.by_system ⊎ (IsTrue (each_super world (is_loadable_within world k) l.class) × IsTrue (stands_itself world l)) → (IsTrue (is_loadable_within world k by) → IsTrue (stands_itself world to)) → IsTrue (stands_itself world to)
+    by_parts : IsTrue l.by_system ⊎ (IsTrue (each_super world (is_loadable_within world k) l.class) × IsTrue (stands_itself world l)) →
+        (IsTrue (is_loadable_within world k by) → IsTrue (stands_itself world to)) → IsTrue (stands_itself world to)
     by_parts (inl h) again = system_stands world to (system_above world alone l to (by ∷ more) there h way)
     by_parts (inr h) again = again (super_passes world (is_loadable_within world k) l.class by h.0 way.0)
 
@@ -209,7 +216,8 @@ loadable_or_deep world (suc k) l all = by_system l.by_system refl (λ s t. loada
     by_supers e a c d (inr one) =
         inr (one.1 ∷ one.4.0, ap suc one.4.1, (e, named_super world (super_names l.class) one.0 one.1 one.2 one.3, one.4.2))
 
-    by_system : (b : Bool) → l.by_system ≡ b → ((s : Loaded) → AllStand world s → IsTrue (is_loadable_within world k s) ⊎ Deep world k s) → IsTrue (is_loadable_within world (suc k) l) ⊎ Deep world (suc k) l
+    by_system : (b : Bool) → l.by_system ≡ b → ((s : Loaded) → AllStand world s → IsTrue (is_loadable_within world k s) ⊎ Deep world k s) →
+        IsTrue (is_loadable_within world (suc k) l) ⊎ Deep world (suc k) l
     by_system true e again = inl (system_loadable world (suc k) l e)
     by_system false e again =
         let own : IsTrue (((A && B) && C) && D) = guest_parts e (either l.by_system (((A && B) && C) && D) all.0) in
@@ -246,11 +254,13 @@ circle_found : (name : List ℕ) (ls : List Loaded) (s : Loaded) → Contains ls
 circle_found name [] s h e = absurd (none s h)
 circle_found name (l ∷ ls) s h e = by_part (λ k. circle_found name ls s k e) (Contains-append_cases (l ∷ []) ls s h)
   where
-    by_part : (Contains ls s → IsTrue (list_any (λ x. bytes_eq x.class.name name) ls)) → Contains (l ∷ []) s ⊎ Contains ls s → IsTrue (bytes_eq l.class.name name || list_any (λ x. bytes_eq x.class.name name) ls)
+    by_part : (Contains ls s → IsTrue (list_any (λ x. bytes_eq x.class.name name) ls)) → Contains (l ∷ []) s ⊎ Contains ls s →
+        IsTrue (bytes_eq l.class.name name || list_any (λ x. bytes_eq x.class.name name) ls)
     by_part again (inl k) = true_left (bytes_eq l.class.name name) _ (nat_list_eq_equiv.symm l.class.name name ∙ ap (λ (m : Loaded). bytes_eq name m.class.name) (single l s k) ∙ e)
     by_part again (inr k) = true_right (bytes_eq l.class.name name) _ (again k)
 
-fresh : (world : World) (x : Loaded) → (IsTrue (is_circular world x.class) → ⊥) → (l : Loaded) (more : List Loaded) → Chain world l more → ((to : Loaded) → Contains (supers_in world l.class) to → Contains (above world x.class) to) → IsFresh x.class.name more
+fresh : (world : World) (x : Loaded) → (IsTrue (is_circular world x.class) → ⊥) → (l : Loaded) (more : List Loaded) → Chain world l more →
+    ((to : Loaded) → Contains (supers_in world l.class) to → Contains (above world x.class) to) → IsFresh x.class.name more
 fresh world x no_circle l [] chain reach = tt
 fresh world x no_circle l (s ∷ more) chain reach =
     (by_test (bytes_eq x.class.name s.class.name) refl, fresh world x no_circle s more chain.2 (λ to h. above_is_transitive world x.class s to (reach s chain.1) (direct world s.class to h)))
@@ -270,7 +280,8 @@ contained_is_member : (world : World) (l : Loaded) → Contains world l → is_m
 contained_is_member [] l h = absurd (none l h)
 contained_is_member (x ∷ world) l h = by_part (λ k. contained_is_member world l k) (Contains-append_cases (x ∷ []) world l h)
   where
-    by_part : (Contains world l → is_member bytes_eq (names_of world) l.class.name ≡ true) → Contains (x ∷ []) l ⊎ Contains world l → (bytes_eq l.class.name x.class.name || is_member bytes_eq (names_of world) l.class.name) ≡ true
+    by_part : (Contains world l → is_member bytes_eq (names_of world) l.class.name ≡ true) → Contains (x ∷ []) l ⊎ Contains world l →
+        (bytes_eq l.class.name x.class.name || is_member bytes_eq (names_of world) l.class.name) ≡ true
     by_part again (inl k) = true_left (bytes_eq l.class.name x.class.name) _ (ap (λ (m : Loaded). bytes_eq l.class.name m.class.name) (single x l k) ∙ nat_list_eq_equiv.refl l.class.name)
     by_part again (inr k) = true_right (bytes_eq l.class.name x.class.name) _ (again k)
 
@@ -283,7 +294,8 @@ member_or_behind world l more q there again h = by_test (bytes_eq q l.class.name
     by_test true e h = subst (λ name. is_member bytes_eq (names_of world) name ≡ true) (sym (same_name q l.class.name e)) there
     by_test false e h = again h
 
-chain_in_world : (world : World) (l : Loaded) (more : List Loaded) → is_member bytes_eq (names_of world) l.class.name ≡ true → Chain world l more → (q : List ℕ) → is_member bytes_eq (names_of (l ∷ more)) q ≡ true → is_member bytes_eq (names_of world) q ≡ true
+chain_in_world : (world : World) (l : Loaded) (more : List Loaded) → is_member bytes_eq (names_of world) l.class.name ≡ true → Chain world l more →
+    (q : List ℕ) → is_member bytes_eq (names_of (l ∷ more)) q ≡ true → is_member bytes_eq (names_of world) q ≡ true
 chain_in_world world l [] there chain q h = member_or_behind world l [] q there (λ k. absurd (no_member k)) h
   where
     no_member : is_member bytes_eq [] q ≡ true → ⊥
@@ -293,7 +305,8 @@ chain_in_world world l (s ∷ more) there chain q h =
 
 not_deep : (world : World) (l : Loaded) → Contains world l → AllStand world l → Deep world (length world) l → ⊥
 not_deep world l there all deep =
-    let few = length-le_from_is_member nat_list_eq_equiv (names_of (l ∷ deep.0)) (names_of world) (distinct (l ∷ deep.0) (all_once world l deep.0 all deep.2)) (chain_in_world world l deep.0 (contained_is_member world l there) deep.2) in
+    let few = length-le_from_is_member nat_list_eq_equiv (names_of (l ∷ deep.0)) (names_of world)
+    (distinct (l ∷ deep.0) (all_once world l deep.0 all deep.2)) (chain_in_world world l deep.0 (contained_is_member world l there) deep.2) in
     absurd (omega (arith, few, deep.1, length-map (l ∷ deep.0) name_of, length-map world name_of))
 
 pub loadable_by_all : LoadableByAll

@@ -56,11 +56,13 @@ module _ {X Y : Type 0} (look : X → Option Y) where
       further : (z : X) × Contains xs z × (look z ≡ Some y) → (z : X) × Contains (x ∷ xs) z × (look z ≡ Some y)
       further found = (found.0, later x xs found.0 found.1, found.2)
 
-      by_part : (Contains (filter_map look xs) y → (z : X) × Contains xs z × (look z ≡ Some y)) → (w : Y) → look x ≡ Some w → Contains (w ∷ []) y ⊎ Contains (filter_map look xs) y → (z : X) × Contains (x ∷ xs) z × (look z ≡ Some y)
+      by_part : (Contains (filter_map look xs) y → (z : X) × Contains xs z × (look z ≡ Some y)) → (w : Y) → look x ≡ Some w → Contains (w ∷ []) y ⊎
+          Contains (filter_map look xs) y → (z : X) × Contains (x ∷ xs) z × (look z ≡ Some y)
       by_part again w e (inl here) = (x, first x xs, e ∙ ap (λ v. Some v) (single w y here))
       by_part again w e (inr there) = further (again there)
 
-      by_look : (Contains (filter_map look xs) y → (z : X) × Contains xs z × (look z ≡ Some y)) → (o : Option Y) → look x ≡ o → Contains (cons_option o (filter_map look xs)) y → (z : X) × Contains (x ∷ xs) z × (look z ≡ Some y)
+      by_look : (Contains (filter_map look xs) y → (z : X) × Contains xs z × (look z ≡ Some y)) → (o : Option Y) → look x ≡ o →
+          Contains (cons_option o (filter_map look xs)) y → (z : X) × Contains (x ∷ xs) z × (look z ≡ Some y)
       by_look again None e k = further (again k)
       by_look again (Some w) e k = by_part again w e (Contains-append_cases (w ∷ []) (filter_map look xs) y k)
 
@@ -175,7 +177,8 @@ record ShortFresh (world : World) (from to : Loaded) : Type 0 where
   fresh : IsFresh from.class.name between
 
 -- a class is not on a way, or a way goes on from it
-on_way : (world : World) (n : Loaded) → class_named world n.class.name ≡ Some n → (class : Class) (to : Loaded) (ls : List Loaded) → IsWayUp world class ls to → NoTwo ls → IsFresh n.class.name ls ⊎ ShortFresh world n to
+on_way : (world : World) (n : Loaded) → class_named world n.class.name ≡ Some n → (class : Class) (to : Loaded) (ls : List Loaded) →
+    IsWayUp world class ls to → NoTwo ls → IsFresh n.class.name ls ⊎ ShortFresh world n to
 on_way world n named class to [] way once = inl tt
 on_way world n named class to (l ∷ ls) way once = by_test (bytes_eq n.class.name l.class.name) refl (on_way world n named l.class to ls way.1 once.1)
   where
@@ -202,12 +205,15 @@ shortened : (world : World) (class : Class) (to : Loaded) (ls : List Loaded) →
 shortened world class to [] way = record { between = []; way = way; once = tt }
 shortened world class to (l ∷ ls) way = cut world class l to way.0 (shortened world l.class to ls way.1)
 
-all_in_world : (world : World) (class : Class) (to : Loaded) (ls : List Loaded) → IsWayUp world class ls to → (q : List ℕ) → is_member bytes_eq (names_of ls) q ≡ true → is_member bytes_eq (names_of world) q ≡ true
+all_in_world : (world : World) (class : Class) (to : Loaded) (ls : List Loaded) → IsWayUp world class ls to → (q : List ℕ) → is_member bytes_eq
+    (names_of ls) q ≡ true → is_member bytes_eq (names_of world) q ≡ true
 all_in_world world class to [] way q h = absurd cc
 all_in_world world class to (l ∷ ls) way q h = by_test (bytes_eq q l.class.name) refl (λ k. all_in_world world l.class to ls way.1 q k) h
   where
-    by_test : (b : Bool) → bytes_eq q l.class.name ≡ b → (is_member bytes_eq (names_of ls) q ≡ true → is_member bytes_eq (names_of world) q ≡ true) → (b || is_member bytes_eq (names_of ls) q) ≡ true → is_member bytes_eq (names_of world) q ≡ true
-    by_test true t again h = subst (λ name. is_member bytes_eq (names_of world) name ≡ true) (sym (same_name q l.class.name t)) (named_is_member world l.class.name l (super_is_named world class l way.0))
+    by_test : (b : Bool) → bytes_eq q l.class.name ≡ b → (is_member bytes_eq (names_of ls) q ≡ true → is_member bytes_eq (names_of world) q ≡ true) →
+        (b || is_member bytes_eq (names_of ls) q) ≡ true → is_member bytes_eq (names_of world) q ≡ true
+    by_test true t again h = subst (λ name. is_member bytes_eq (names_of world) name ≡ true) (sym (same_name q l.class.name t))
+        (named_is_member world l.class.name l (super_is_named world class l way.0))
     by_test false t again h = again h
 
 short_enough : (world : World) (class : Class) (to : Loaded) (short : Short world class to) → length short.between ≤ length world

@@ -38,7 +38,8 @@ in_object false object e = refl
 pub in_other_method : (init object : Bool) → init ≡ false → (init && not object) ≡ false
 in_other_method init object e = rw e refl
 
-pub plain_receiver : (class : CurrentClass) (env : Environment) (init object : Bool) → IsOfClass class env → object ≡ bytes_eq class.by.class.name (codes "java/lang/Object") → (init && not object) ≡ false
+pub plain_receiver : (class : CurrentClass) (env : Environment) (init object : Bool) → IsOfClass class env → object ≡ bytes_eq class.by.class.name
+    (codes "java/lang/Object") → (init && not object) ≡ false
     → types.Class (current_class env).name ≡ receiver_type (current_class env).name init
 plain_receiver class env init object of is plain =
     let same : (init && not (bytes_eq (current_class env).name (codes "java/lang/Object"))) ≡ false =
@@ -87,7 +88,8 @@ same_body class shown body env of = one (sym of.is.code ∙ of.method.code)
 
 -- ---- the environment of a method that was read
 
-same_read : (method : ReadMethod) (class : CurrentClass) (body : CodeSeen) (initial : List Item) (init : Bool) (result : Option (FieldTypeOf ℕ)) → method.class ≡ class → method.body ≡ body → method.initial ≡ initial
+same_read : (method : ReadMethod) (class : CurrentClass) (body : CodeSeen) (initial : List Item) (init : Bool) (result : Option (FieldTypeOf ℕ)) →
+    method.class ≡ class → method.body ≡ body → method.initial ≡ initial
     → method.is_init ≡ init → method.result ≡ result → record { class = class; body = body; initial = initial; is_init = init; result = result } ≡ method
 same_read method class body initial init result c b e i r = rw (← c, ← b, ← e, ← i, ← r) refl
 

@@ -18,11 +18,13 @@ use Rattle.jv_method.specs.Inside.Known.{IsEnvironmentOf}
 
 -- ---- a rule that is broken at offset 0
 
-pub judged_at_start : (world : World) (site : Site) (fault : CodeFault) (broken : VerifyRule) → fault.offset ≡ 0 → fault.rule ≡ broken → BreaksRule world site 0 broken → IsVerdictOnMethod world site (Some fault)
+pub judged_at_start : (world : World) (site : Site) (fault : CodeFault) (broken : VerifyRule) → fault.offset ≡ 0 → fault.rule ≡ broken →
+    BreaksRule world site 0 broken → IsVerdictOnMethod world site (Some fault)
 judged_at_start world site fault broken start is breaks =
     subst (λ (n : ℕ). BreaksRule world site n fault.rule) (sym start) (subst (λ (r : VerifyRule). BreaksRule world site 0 r) (sym is) breaks)
 
-pub breaks_code : (class : CurrentClass) (shown : MethodSeen) (body : CodeSeen) (site : Site) → IsMethodOf class shown body site → ((env : Environment) → IsEnvironmentOf class shown body env → IsCodeOf env → ⊥)
+pub breaks_code : (class : CurrentClass) (shown : MethodSeen) (body : CodeSeen) (site : Site) → IsMethodOf class shown body site →
+    ((env : Environment) → IsEnvironmentOf class shown body env → IsCodeOf env → ⊥)
     → BreaksRule class.types.world site 0 rules.Code
 breaks_code class shown body site of none = (
   refl,
@@ -32,7 +34,8 @@ breaks_code class shown body site of none = (
 pub breaks_handlers : (world : World) (env : Environment) → env.world ≡ world → IsCodeOf env → (HandlersKeepRules env → ⊥) → BreaksRule world env.site 0 rules.HandlerTable
 breaks_handlers world env same code none = (refl, record { env = env; world_is = same; site_is = refl; code = code; holds = none })
 
-pub breaks_map : (world : World) (env : Environment) → env.world ≡ world → IsCodeOf env → HandlersKeepRules env → ((maps : List PlacedFrame) → AreFrames env maps → ⊥) → BreaksRule world env.site 0 rules.MapFrames
+pub breaks_map : (world : World) (env : Environment) → env.world ≡ world → IsCodeOf env → HandlersKeepRules env →
+    ((maps : List PlacedFrame) → AreFrames env maps → ⊥) → BreaksRule world env.site 0 rules.MapFrames
 breaks_map world env same code right none = (refl, record { env = env; world_is = same; site_is = refl; code = code; holds = (right, none) })
 
 -- ---- a rule that is broken at an instruction

@@ -14,7 +14,8 @@ use Rattle.jv_method.specs.Inside.Numbered.{joins, next_number, number_behind}
 
 -- ---- lists
 
-joined_next : (classes : List Class) (files : List FileContent) (k : ℕ) (f : FileContent) → slice_get files k ≡ Some f → joined_all classes (take (suc k) files) ≡ with_class_of (joined_all classes (take k files)) f
+joined_next : (classes : List Class) (files : List FileContent) (k : ℕ) (f : FileContent) → slice_get files k ≡ Some f → joined_all classes
+    (take (suc k) files) ≡ with_class_of (joined_all classes (take k files)) f
 joined_next classes [] zero f e = absurd cc
 joined_next classes [] (suc k) f e = absurd cc
 joined_next classes (x ∷ files) zero f e =
@@ -64,7 +65,8 @@ at_end (c ∷ classes) class more = at_end classes class more
 
 one_of_world : (world : World) (l : Loaded) → joins (verdict_of_class world l) ≡ true
 one_of_world world l =
-    by_tests (is_circular world l.class) (not (each_super world (is_loadable world) l.class)) (not (have_right_kind world l.class)) (not (can_name_supers world l)) (has_final_super world l.class || breaks_final l [] (superclasses world l.class))
+    by_tests (is_circular world l.class) (not (each_super world (is_loadable world) l.class)) (not (have_right_kind world l.class))
+    (not (can_name_supers world l)) (has_final_super world l.class || breaks_final l [] (superclasses world l.class))
   where
     by_tests : (a b c d e : Bool) → joins (cond a (Some Circular) (cond b (Some NoSuper) (cond c (Some WrongKind) (cond d (Some NoAccess) (cond e (Some FinalBroken) None))))) ≡ true
     by_tests true b c d e = refl
@@ -80,7 +82,8 @@ class_joins system earlier world class =
     by_tests (is_reserved class.name) (has_class (classes_in earlier) class.name) (verdict_of_class world (loaded false class)) (one_of_world world (loaded false class))
   where
     by_tests : (r h : Bool) (v : Option LoadVerdict) → joins v ≡ true
-        → cond (r || h) (classes_in earlier) (classes_in earlier ++ class ∷ []) ≡ cond (joins (cond r (Some Reserved) (cond h (Some Duplicate) v))) (classes_in earlier ++ class ∷ []) (classes_in earlier)
+        → cond (r || h) (classes_in earlier) (classes_in earlier ++ class ∷ []) ≡ cond (joins (cond r (Some Reserved) (cond h (Some Duplicate) v)))
+        (classes_in earlier ++ class ∷ []) (classes_in earlier)
     by_tests true h v e = refl
     by_tests false true v e = refl
     by_tests false false v e = ap (λ b. cond b (classes_in earlier ++ class ∷ []) (classes_in earlier)) (sym e)
@@ -91,7 +94,8 @@ one_more n classes class true =
     let more = length-append classes (class ∷ []) in
     omega (arith, more)
 
-number_of : (system : List Class) (earlier : List FileContent) (world : World) (f : FileContent) → length system + length (with_class_of (classes_in earlier) f) ≡ next_number (number_behind system earlier) (verdict_behind system earlier world f)
+number_of : (system : List Class) (earlier : List FileContent) (world : World) (f : FileContent) → length system + length
+    (with_class_of (classes_in earlier) f) ≡ next_number (number_behind system earlier) (verdict_behind system earlier world f)
 number_of system earlier world OtherVersion = refl
 number_of system earlier world NoClassFile = refl
 number_of system earlier world MoreThanProfile = refl
@@ -132,7 +136,8 @@ module _ (system : List Class) (contents : List FileContent) (k : ℕ) (f : File
       let is : why ≡ verdict_behind system (take k contents) (world_of system contents) f = e ∙ verdict_is in
       let on_f : IsTrue (joins (verdict_behind system (take k contents) (world_of system contents) f)) = subst (λ w. IsTrue (joins w)) is on in
       let held = must_hold system (take k contents) (world_of system contents) f on_f in
-      let on_class : joins (verdict_behind system (take k contents) (world_of system contents) (Holds held.0)) ≡ true = subst (λ g. joins (verdict_behind system (take k contents) (world_of system contents) g) ≡ true) held.1 on_f in
+      let on_class : joins (verdict_behind system (take k contents) (world_of system contents) (Holds held.0)) ≡ true =
+      subst (λ g. joins (verdict_behind system (take k contents) (world_of system contents) g) ≡ true) held.1 on_f in
       let here : joined_all [] (take (suc k) contents) ≡ classes_in (take k contents) ++ held.0 ∷ [] =
       joined_next [] contents k f at ∙ (ap (with_class_of (classes_in (take k contents))) held.1
       ∙ (class_joins system (take k contents) (world_of system contents) held.0 ∙ ap (λ b. cond b (classes_in (take k contents) ++ held.0 ∷ []) (classes_in (take k contents))) on_class)) in

@@ -39,13 +39,16 @@ has_map method code env of is = record {
 }
 
 pub maps_told : {E : Type 0} (method : ReadMethod) (constants : PoolTypes) (code : List ℕ) (result : Result (Option (List ReadFrame)) E) → constants ≡ constants_of method → method.body.code ≡ code
-    → IfOk result (λ found. (env : Environment) → HasMap (entry_types constants method.initial) code (record { max_locals = method.body.max_locals; max_stack = method.body.max_stack }) method.body.stack_map_table env
+    → IfOk result (λ found. (env : Environment) → HasMap (entry_types constants method.initial) code
+    (record { max_locals = method.body.max_locals; max_stack = method.body.max_stack }) method.body.stack_map_table env
     → MapsTo (entry_types constants method.initial) method.body.max_locals env found)
     → IfOk result (λ found. (env : Environment) → IsOfRead method env → MapsTo (types_of method) method.body.max_locals env found)
 maps_told method constants code (Err e) same is told = tt
 maps_told method constants code (Ok found) same is told = λ env of.
     subst (λ (p : PoolTypes). MapsTo (entry_types p method.initial) method.body.max_locals env found) same
-    (told env (subst (λ (p : PoolTypes). HasMap (entry_types p method.initial) code (record { max_locals = method.body.max_locals; max_stack = method.body.max_stack }) method.body.stack_map_table env) (sym same) (has_map method code env of is)))
+    (told env (subst (λ (p : PoolTypes). HasMap (entry_types p method.initial) code
+    (record { max_locals = method.body.max_locals; max_stack = method.body.max_stack }) method.body.stack_map_table env) (sym same)
+    (has_map method code env of is)))
 
 pub rooms_told : {E : Type 0} (method : ReadMethod) (constants : PoolTypes) (result : Result (Option (List ReadFrame)) E) → constants ≡ constants_of method
     → IfOk result (λ found. IfSome found (λ frames. All (λ f. f.local_words ≡ local_entry_words (entry_types constants method.initial) f) frames))

@@ -110,7 +110,8 @@ module _ (files : List (List ℕ)) (loading : Loading) (are : AreLoaded files lo
       let both : Some why ≡ Some (load_verdict system_classes are.contents k) = sym e ∙ are.verdict k (subst (λ n. k < n) are.count less) in
       cc
 
-  module _ (k number : ℕ) (is : number ≡ number_behind system_classes (take k are.contents)) (why : Option LoadVerdict) (at : slice_get loading.verdicts k ≡ Some why) (less : k < length loading.verdicts) where
+  module _ (k number : ℕ) (is : number ≡ number_behind system_classes (take k are.contents)) (why : Option LoadVerdict)
+      (at : slice_get loading.verdicts k ≡ Some why) (less : k < length loading.verdicts) where
     content : (f : FileContent) × (slice_get are.contents k ≡ Some f)
     content = there are.contents k (subst (λ n. k < n) (sym many) less)
 
@@ -165,7 +166,8 @@ module _ (files : List (List ℕ)) (loading : Loading) (are : AreLoaded files lo
         by_before (inr le) = inr (not_behind (joins why) refl le)
 
     module _ (verdicts : List Verdict) (below : AreVerdictsBelow are.contents k number verdicts) where
-      pub more_verdicts : (v : Verdict) → IsVerdictAt loading.world number why v → (more : List Verdict) → more ≡ verdicts ++ v ∷ [] → (next : ℕ) → next ≡ next_number number why → AreVerdictsBelow are.contents (k + 1) next more
+      pub more_verdicts : (v : Verdict) → IsVerdictAt loading.world number why v → (more : List Verdict) → more ≡ verdicts ++ v ∷ [] → (next : ℕ) →
+          next ≡ next_number number why → AreVerdictsBelow are.contents (k + 1) next more
       more_verdicts v is_verdict more e next next_is = subst (λ n. AreVerdictsBelow are.contents n next more) (sym plus) (record {
         number = next_is ∙ next_is_behind;
         count = ap length e ∙ (length-append verdicts (v ∷ []) ∙ (ap (λ n. n + 1) below.count ∙ plus));

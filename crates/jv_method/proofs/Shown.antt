@@ -36,7 +36,8 @@ if_ok_so (Err e) P Q so h = tt
 abbrev named : MethodSeen → List ℕ → List ℕ → Method
 named shown n d = record { access_flags = shown.access_flags; name = n; descriptor = d; code = shown.code }
 
-pub known_method : (class : CurrentClass) (shown : MethodSeen) (body : CodeSeen) → shown.code ≡ Some body → (m : Method) → method_in class.by.class.constant_pool shown ≡ Some m → IsMethodOf class shown body (declared_by class.by m)
+pub known_method : (class : CurrentClass) (shown : MethodSeen) (body : CodeSeen) → shown.code ≡ Some body → (m : Method) →
+    method_in class.by.class.constant_pool shown ≡ Some m → IsMethodOf class shown body (declared_by class.by m)
 known_method class shown body is m e = by_texts (utf8_at class.by.class.constant_pool shown.name_index) refl (utf8_at class.by.class.constant_pool shown.descriptor_index) refl e
   where
     by_texts : (n : Option (List ℕ)) → utf8_at class.by.class.constant_pool shown.name_index ≡ n → (d : Option (List ℕ)) → utf8_at class.by.class.constant_pool shown.descriptor_index ≡ d
@@ -63,7 +64,8 @@ has_body pool shown m e = by_texts (utf8_at pool shown.name_index) (utf8_at pool
         let same : named shown n d ≡ m = cc in
         ap (λ x. x.code) (sym same)
 
-pub judged_method : (world : World) (l : Loaded) (m : Method) (body : CodeSeen) → m.code ≡ Some body → (fault : Option CodeFault) → IsVerdictOnMethod world (declared_by l m) fault → IsMethodJudged world l m fault
+pub judged_method : (world : World) (l : Loaded) (m : Method) (body : CodeSeen) → m.code ≡ Some body → (fault : Option CodeFault) →
+    IsVerdictOnMethod world (declared_by l m) fault → IsMethodJudged world l m fault
 judged_method world l m body is None h = λ has. h
 judged_method world l m body is (Some fault) h = (subst (λ (o : Option CodeSeen). IsSome o) (sym is) refl, h)
 
@@ -133,7 +135,8 @@ module _ (world : World) (l : Loaded) (methods : List MethodSeen) (are : AreMeth
       All-more (λ m. IsSome m.code → HasTyping world (declared_by l m)) l.class.methods k at.0 within before
       (subst (λ (m : Method). IsSome m.code → HasTyping world (declared_by l m)) (sym (placed l.class.methods k at.0 within at.1)) at.2)
 
-  pub first_broken : AreTyped world l (take k l.class.methods) → (fault : CodeFault) (result : VerifyFault) → result.method ≡ k → result.offset ≡ fault.offset → result.rule ≡ fault.rule → IsPlaceJudged world l methods k (Some fault)
+  pub first_broken : AreTyped world l (take k l.class.methods) → (fault : CodeFault) (result : VerifyFault) → result.method ≡ k → result.offset ≡
+      fault.offset → result.rule ≡ fault.rule → IsPlaceJudged world l methods k (Some fault)
       → IsFirstFault world l result
   first_broken before fault result place is_offset is_rule judged =
       let at = found (Some fault) judged in
@@ -145,7 +148,8 @@ module _ (world : World) (l : Loaded) (methods : List MethodSeen) (are : AreMeth
         breaks = subst (λ o. BreaksRule world (declared_by l at.0) o result.rule) (sym is_offset) (subst (λ r. BreaksRule world (declared_by l at.0) fault.offset r) (sym is_rule) at.2.1);
       }
 
-pub all_typed : (world : World) (l : Loaded) (methods : List MethodSeen) → AreMethodsOf l methods → (k : ℕ) → length methods ≤ k → AreTyped world l (take k l.class.methods) → AreTyped world l l.class.methods
+pub all_typed : (world : World) (l : Loaded) (methods : List MethodSeen) → AreMethodsOf l methods → (k : ℕ) → length methods ≤ k →
+    AreTyped world l (take k l.class.methods) → AreTyped world l l.class.methods
 all_typed world l methods are k past before =
     let many = as_many (method_in l.class.constant_pool) methods l.class.methods are in
     let end : length l.class.methods ≤ k = subst (λ n. n ≤ k) (sym many) past in
@@ -186,8 +190,10 @@ sixth a b c d e f g h =
 pub few : (c : ClassStructure) → IsTrue (body_fits c) → length (methods_of c) < 65536
 few c fits =
     let table : IsTrue (table_fits method_fits c.methods) =
-    sixth (half.fits c.access_flags) (half.fits c.this_class) (half.fits c.super_class) (table_fits half.fits c.interfaces) (table_fits field_fits c.fields) (table_fits method_fits c.methods) (table_fits attribute_fits c.attributes) fits in
-    subst (λ n. n < 65536) (sym (length-map c.methods (method_shown c.constant_pool))) (ltb-true (length c.methods) 65536 (and_parts (nat_lt (length c.methods) 65536) (list_all method_fits c.methods) table).0)
+    sixth (half.fits c.access_flags) (half.fits c.this_class) (half.fits c.super_class) (table_fits half.fits c.interfaces)
+    (table_fits field_fits c.fields) (table_fits method_fits c.methods) (table_fits attribute_fits c.attributes) fits in
+    subst (λ n. n < 65536) (sym (length-map c.methods (method_shown c.constant_pool)))
+    (ltb-true (length c.methods) 65536 (and_parts (nat_lt (length c.methods) 65536) (list_all method_fits c.methods) table).0)
 
 -- ---- where none has code
 
@@ -198,7 +204,8 @@ none_in (Some code) test e = (λ h. absurd cc, λ h. absurd cc)
 pub none_at : (at : Option MethodSeen) (shown : MethodSeen) (test : Bool) → Some shown ≡ at → test ≡ is_some shown.code → IsTrue (not test) ↔ IfSome at (λ m. m.code ≡ None)
 none_at at shown test here is = subst (λ (o : Option MethodSeen). IsTrue (not test) ↔ IfSome o (λ m. m.code ≡ None)) here (none_in shown.code test is)
 
-none_of : (pool : List Entry) (methods : List MethodSeen) (ms : List Method) → all_found (method_in pool) methods ≡ Some ms → All (λ (m : MethodSeen). m.code ≡ None) methods → All (λ (m : Method). m.code ≡ None) ms
+none_of : (pool : List Entry) (methods : List MethodSeen) (ms : List Method) → all_found (method_in pool) methods ≡ Some ms →
+    All (λ (m : MethodSeen). m.code ≡ None) methods → All (λ (m : Method). m.code ≡ None) ms
 none_of pool [] ms e h =
     let none : [] ≡ ms = cc in
     subst (λ (l : List Method). All (λ (m : Method). m.code ≡ None) l) none (All-nil (λ (m : Method). m.code ≡ None))
@@ -210,4 +217,5 @@ none_of pool (x ∷ methods) ms e h =
 
 pub none_typed : (world : World) (l : Loaded) (methods : List MethodSeen) → AreMethodsOf l methods → All (λ (m : MethodSeen). m.code ≡ None) methods → AreTyped world l l.class.methods
 none_typed world l methods are h =
-    All-weaker (λ (m : Method). m.code ≡ None) (λ (m : Method). IsSome m.code → HasTyping world (declared_by l m)) (no_code world l) l.class.methods (none_of l.class.constant_pool methods l.class.methods are h)
+    All-weaker (λ (m : Method). m.code ≡ None) (λ (m : Method). IsSome m.code → HasTyping world (declared_by l m)) (no_code world l) l.class.methods
+    (none_of l.class.constant_pool methods l.class.methods are h)

@@ -105,7 +105,8 @@ module _ (env : Environment) (frame behind : Frame) where
 
   super_gave : (method : MethodUse) → invoke_super env method frame ≡ Some behind → behind.locals ≡ frame.locals
   super_gave method e =
-      let called = chosen_gave (has_plain_name method && flows env.world (current_type env) method.owner && is_near env method.reference.class) (called_on env method (current_type env ∷ []) frame) behind e in
+      let called = chosen_gave (has_plain_name method && flows env.world (current_type env) method.owner && is_near env method.reference.class)
+      (called_on env method (current_type env ∷ []) frame) behind e in
       let g = bound_gave (taken env.world method.arguments frame.stack >>= taken_as_all env.world (current_type env ∷ [])) (λ below. Some (with_stack frame (method.result ++ below))) behind called in
       ap (λ (f : Frame). f.locals) (sym (of_some g.2))
 

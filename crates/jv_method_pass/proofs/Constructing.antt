@@ -180,7 +180,8 @@ module _ (env : Environment) (before behind : Frame) (object : FrameType) where
       by_version method wide true e at = by_name method wide (is_init method.reference.name) e at
       by_version method wide false e at = absurd cc
 
-      by_method : (o : Option MethodUse) → method_named_by env index ≡ o → (o >>= λ method. when (goes_with_version env method) method >>= λ named. invoke env invocations.Special named before) ≡ Some behind
+      by_method : (o : Option MethodUse) → method_named_by env index ≡ o →
+          (o >>= λ method. when (goes_with_version env method) method >>= λ named. invoke env invocations.Special named before) ≡ Some behind
           → (o >>= λ (m : MethodUse). when (is_init m.reference.name) m >>= λ (m : MethodUse). slice_get before.stack (length m.arguments)) ≡ Some object → Replaced
       by_method None is e at = absurd cc
       by_method (Some method) is e at = by_version method (owner_wide env index method is) (goes_with_version env method) e at

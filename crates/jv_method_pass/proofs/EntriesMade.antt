@@ -67,7 +67,8 @@ module _ (env : Environment) where
 
   -- ---- an entry, and those of a list
 
-  object_by : (text : List ℕ) (array class : Bool) (o : Option (FieldTypeOf (List ℕ))) → is_made env (unwrap_or (cond array (o >>= array_of) (cond class (Some (types.Class text)) None)) types.Top) ≡ true
+  object_by : (text : List ℕ) (array class : Bool) (o : Option (FieldTypeOf (List ℕ))) →
+      is_made env (unwrap_or (cond array (o >>= array_of) (cond class (Some (types.Class text)) None)) types.Top) ≡ true
   object_by text true class None = refl
   object_by text true class (Some t) = refl
   object_by text false true o = refl

@@ -108,7 +108,8 @@ module _ (f : FrameType → FrameType → Bool) (names : List (List ℕ)) (stack
     no_item none = omega (arith, within, room, past stack k none)
 
     module _ (item : Item) (is_item : slice_get stack k ≡ Some item) where
-      at_item : all_flow f (take count (typed_all names stack)) (take count whole) ≡ all_flow f (typed names item ∷ take (count - suc k) (drop (suc k) (typed_all names stack))) (take (suc (count - suc k)) es)
+      at_item : all_flow f (take count (typed_all names stack)) (take count whole) ≡
+          all_flow f (typed names item ∷ take (count - suc k) (drop (suc k) (typed_all names stack))) (take (suc (count - suc k)) es)
       at_item =
           so_far
           ∙ (ap (λ n. all_flow f (take n (drop k (typed_all names stack))) (take n es)) next
@@ -118,7 +119,8 @@ module _ (f : FrameType → FrameType → Bool) (names : List (List ℕ)) (stack
       no_entry e = at_item ∙ ap (λ xs. all_flow f (typed names item ∷ take (count - suc k) (drop (suc k) (typed_all names stack))) (take (suc (count - suc k)) xs)) e
 
       module _ (e : FrameType) (rest : List FrameType) (is : es ≡ e ∷ rest) where
-        at_both : all_flow f (take count (typed_all names stack)) (take count whole) ≡ (f (typed names item) e && all_flow f (take (count - suc k) (drop (suc k) (typed_all names stack))) (take (count - suc k) rest))
+        at_both : all_flow f (take count (typed_all names stack)) (take count whole) ≡
+            (f (typed names item) e && all_flow f (take (count - suc k) (drop (suc k) (typed_all names stack))) (take (count - suc k) rest))
         at_both = at_item ∙ ap (λ xs. all_flow f (typed names item ∷ take (count - suc k) (drop (suc k) (typed_all names stack))) (take (suc (count - suc k)) xs)) is
 
         pub item_not : f (typed names item) e ≡ false → all_flow f (take count (typed_all names stack)) (take count whole) ≡ false
@@ -389,7 +391,8 @@ module _ (pass : Pass) where
       (All-push (IsFlowed pass (stack_of pass.types f)) old s all (flows_whole f map s at e flow kept.2))
 
   -- what is known of one that was found
-  pub known_at : (stacks : List FlowedStack) (stack : List FrameType) (k place : ℕ) (s : FlowedStack) (map : ReadFrame) → All (IsFlowed pass stack) stacks → slice_get stacks k ≡ Some s → s.place ≡ place
+  pub known_at : (stacks : List FlowedStack) (stack : List FrameType) (k place : ℕ) (s : FlowedStack) (map : ReadFrame) →
+      All (IsFlowed pass stack) stacks → slice_get stacks k ≡ Some s → s.place ≡ place
       → slice_get pass.frames place ≡ Some map → LowestFlow pass.types stack map s
   known_at stacks stack k place s map all at e there =
       subst (IsFlowed pass stack) (get_or_from_slice_get stacks k s s at) (all k s (within stacks k s at)) map (ap (slice_get pass.frames) e ∙ there)

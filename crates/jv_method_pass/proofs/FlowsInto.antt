@@ -67,12 +67,14 @@ module _ (pass : Pass) (entries : List Item) (count : ℕ) (kept : IsPass pass e
   handles_is : (insn : Instruction) (frame : Frame) (handler : Handler) (t : FrameType) → Some t ≡ catch_type env handler.catch_type
       → flows_into env (with_stack (handler_frame env insn frame) (t ∷ [])) (frame_at (maps_of pass) handler.handler_pc) ≡ handles env (maps_of pass) (handler_frame env insn frame) handler
   handles_is insn frame handler t e =
-      ap (λ (o : Option FrameType). unwrap_or (option_map (λ (x : Frame). flows_into env x (frame_at (maps_of pass) handler.handler_pc)) (option_map (λ (type : FrameType). with_stack (handler_frame env insn frame) (type ∷ [])) o)) false) e
+      ap (λ (o : Option FrameType). unwrap_or (option_map (λ (x : Frame). flows_into env x (frame_at (maps_of pass) handler.handler_pc))
+      (option_map (λ (type : FrameType). with_stack (handler_frame env insn frame) (type ∷ [])) o)) false) e
 
   pub no_catch : (insn : Instruction) (frame : Frame) (handler : Handler) → None ≡ catch_type env handler.catch_type
       → false ≡ handles env (maps_of pass) (handler_frame env insn frame) handler
   no_catch insn frame handler e =
-      ap (λ (o : Option FrameType). unwrap_or (option_map (λ (x : Frame). flows_into env x (frame_at (maps_of pass) handler.handler_pc)) (option_map (λ (type : FrameType). with_stack (handler_frame env insn frame) (type ∷ [])) o)) false) e
+      ap (λ (o : Option FrameType). unwrap_or (option_map (λ (x : Frame). flows_into env x (frame_at (maps_of pass) handler.handler_pc))
+      (option_map (λ (type : FrameType). with_stack (handler_frame env insn frame) (type ∷ [])) o)) false) e
 
   pub no_map : (insn : Instruction) (frame : Frame) (handler : Handler) (t : FrameType) → Some t ≡ catch_type env handler.catch_type
       → None ≡ frame_at (maps_of pass) handler.handler_pc → false ≡ handles env (maps_of pass) (handler_frame env insn frame) handler

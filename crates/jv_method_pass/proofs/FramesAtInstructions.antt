@@ -91,4 +91,5 @@ module _ (types : EntryTypes) (code : List ℕ) (limits : Limits) (bytes : List 
   maps_not law frames spelled none maps are =
       let placed = frames_placed types.constants.pool (initial_types types) limits.max_locals frames in
       let same : maps ≡ placed = law types.constants.pool limits (initial_types types) bytes maps placed (from_env maps are.spelled) spelled in
-      true≢false (sym (all_stood env types.constants.pool (initial_types types) has.initial limits.max_locals frames (subst (λ (fs : List PlacedFrame). All (FrameStands env) fs) same are.stand)) ∙ none)
+      true≢false (sym (all_stood env types.constants.pool (initial_types types) has.initial limits.max_locals frames
+      (subst (λ (fs : List PlacedFrame). All (FrameStands env) fs) same are.stand)) ∙ none)

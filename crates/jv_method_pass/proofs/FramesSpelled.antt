@@ -118,12 +118,15 @@ module _ (pool : List Entry) (initial : List FrameType) (limits : Limits) where
   all_within (f ∷ frames) [] same h = absurd cc
   all_within (f ∷ frames) (e ∷ es) same h =
       All-cons (λ f. typed_words f ≤ limits.max_locals) f frames
-      (one_within f e (same_head (placed_of f) (placed_frame limits.max_locals e) (map placed_of frames) (map (placed_frame limits.max_locals) es) same) (All-head (λ f. is_within limits f ≡ true) e es h))
-      (all_within frames es (same_tail (placed_of f) (placed_frame limits.max_locals e) (map placed_of frames) (map (placed_frame limits.max_locals) es) same) (All-tail (λ f. is_within limits f ≡ true) e es h))
+      (one_within f e (same_head (placed_of f) (placed_frame limits.max_locals e) (map placed_of frames) (map (placed_frame limits.max_locals) es)
+      same) (All-head (λ f. is_within limits f ≡ true) e es h))
+      (all_within frames es (same_tail (placed_of f) (placed_frame limits.max_locals e) (map placed_of frames)
+      (map (placed_frame limits.max_locals) es) same) (All-tail (λ f. is_within limits f ≡ true) e es h))
 
 -- ---- frames that were read
 
-module _ (types : EntryTypes) (limits : Limits) (bytes : List ℕ) (widths : List Width) (wide : HaveWidths (initial_types types) widths) (frames : List ReadFrame) (own : All (HasItsWords widths) frames) where
+module _ (types : EntryTypes) (limits : Limits) (bytes : List ℕ) (widths : List Width) (wide : HaveWidths (initial_types types) widths)
+    (frames : List ReadFrame) (own : All (HasItsWords widths) frames) where
   one_words : (f : ReadFrame) → HasItsWords widths f → f.local_words ≡ local_entry_words types f
   one_words f h = h ∙ sym (same_words types.constants.pool (initial_types types) widths wide f.locals)
 

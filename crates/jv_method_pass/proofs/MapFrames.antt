@@ -47,7 +47,8 @@ module _ (pool : List Entry) (initial : List FrameType) (max_locals : ℕ) where
   found base place offset [] f r e o = absurd cc
   found base zero offset (g ∷ more) f r e o =
       let same : g ≡ f = unsome g f e in
-      chosen (g.offset == offset) (frame_placed pool initial max_locals g) (find (λ (p : PlacedFrame). p.offset == offset) (placed_all more)) ((Decides-eqb g.offset offset).1 (ap (λ (h : ReadFrame). h.offset) same ∙ o))
+      chosen (g.offset == offset) (frame_placed pool initial max_locals g) (find (λ (p : PlacedFrame). p.offset == offset) (placed_all more))
+      ((Decides-eqb g.offset offset).1 (ap (λ (h : ReadFrame). h.offset) same ∙ o))
       ∙ ap (λ (h : ReadFrame). Some (frame_placed pool initial max_locals h).frame) same
     where
       unsome : (x y : ReadFrame) → Some x ≡ Some y → x ≡ y

@@ -62,7 +62,9 @@ expanded_is count es = ap (λ n. words_of_entries es ++ replicate (count - n) ty
 pub at_low : (count n : ℕ) (es : List FrameType) (k : ℕ) → k < words (drop n es) → slice_get (expanded count (reverse es)) k ≡ slice_get (words_of_entries (drop n es)) k
 at_low count n es k lt =
     let r = low_part n es in
-    ap (λ ls. slice_get ls k) (expanded_is count es ∙ (ap (λ ws. ws ++ replicate (count - words es) types.Top) r.1 ∙ append_assoc (words_of_entries (drop n es)) r.0 (replicate (count - words es) types.Top)))
+    ap (λ ls. slice_get ls k)
+    (expanded_is count es ∙ (ap (λ ws. ws ++ replicate (count - words es) types.Top) r.1 ∙ append_assoc (words_of_entries (drop n es)) r.0
+    (replicate (count - words es) types.Top)))
     ∙ at_left (words_of_entries (drop n es)) (r.0 ++ replicate (count - words es) types.Top) k (omega (arith, lt, words_length (drop n es)))
 
 -- behind all words stands top
@@ -148,7 +150,15 @@ laid_next now whole shared left e es at below so_far is h less =
     let filled = words_of_entries shared ++ replicate (below - words shared) types.Top in
     let many : at - words shared ≡ (below - words shared) + width e = omega (arith, h, less, counted) in
     let size : length filled ≡ below =
-    omega (arith, length-append (words_of_entries shared) (replicate (below - words shared) types.Top), length-replicate {A = FrameType} (below - words shared) types.Top, words_length shared, less, counted) in
+    omega (
+      arith,
+      length-append (words_of_entries shared) (replicate (below - words shared) types.Top),
+      length-replicate {A = FrameType}
+          (below - words shared) types.Top,
+      words_length shared,
+      less,
+      counted,
+    ) in
     let split : now ≡ filled ++ (replicate (width e) types.Top ++ so_far.rest) =
     so_far.set
     ∙ (ap (λ m. (words_of_entries shared ++ replicate m types.Top) ++ so_far.rest) many

@@ -231,7 +231,9 @@ module _ (world : World) where
     none_below : (c : ℕ) → c ≤ left → list_any (is_same_object object) (lowest_of c whole) ≡ false
     none_below zero le = ap (list_any (is_same_object object)) (none_of whole)
     none_below (suc c) le =
-        ap (list_any (is_same_object object)) theirs.is ∙ (ap (λ b. b || list_any (is_same_object object) (lowest_of c whole)) (by_test (is_same_object object theirs.item) refl) ∙ none_below c (omega (arith, le)))
+        ap (list_any (is_same_object object)) theirs.is ∙
+        (ap (λ b. b || list_any (is_same_object object) (lowest_of c whole)) (by_test (is_same_object object theirs.item) refl) ∙
+        none_below c (omega (arith, le)))
       where
         less : suc c ≤ lowest
         less = let l = places_less (objects_of whole) places lowest in omega (arith, le, l)

@@ -201,13 +201,16 @@ begun_more offset opened h is all =
 pub front_more : (old opened : List Handler) (h : Handler) → take (length old) opened ≡ old → take (length old) (opened ++ h ∷ []) ≡ old
 front_more [] opened h e = refl
 front_more (x ∷ old) [] h e = absurd cc
-front_more (x ∷ old) (y ∷ opened) h e = let both : (y ≡ x) × (take (length old) opened ≡ old) = (cc, cc) in ap (λ z. z ∷ take (length old) (opened ++ h ∷ [])) both.0 ∙ ap (λ zs. x ∷ zs) (front_more old opened h both.1)
+front_more (x ∷ old) (y ∷ opened) h e =
+    let both : (y ≡ x) × (take (length old) opened ≡ old) = (cc, cc) in ap (λ z. z ∷ take (length old) (opened ++ h ∷ [])) both.0 ∙ ap (λ zs. x ∷ zs)
+    (front_more old opened h both.1)
 
 -- those that have begun at an instruction, where those that cover it are known to hold, or before it
 pub begun_settled : (from before offset : ℕ) (opened : List Handler) → from ≤ before → before ≤ offset → HaveBegun from opened → AreSettledAt (Some before) offset opened
 begun_settled from before offset [] le behind all = refl
 begun_settled from before offset (h ∷ opened) le behind all =
-    ap (λ b. b && list_all (passes_at offset (is_settled (Some before))) opened) (one (nat_lt offset h.end_pc) refl (nat_lt before h.end_pc) refl (nat_le h.start_pc before) refl (nat_le h.start_pc offset))
+    ap (λ b. b && list_all (passes_at offset (is_settled (Some before))) opened)
+    (one (nat_lt offset h.end_pc) refl (nat_lt before h.end_pc) refl (nat_le h.start_pc before) refl (nat_le h.start_pc offset))
     ∙ begun_settled from before offset opened le behind (All-tail (λ x. x.start_pc ≤ from) h opened all)
   where
     begun : h.start_pc ≤ from

@@ -24,7 +24,8 @@ same_some x y e = cc
 
 -- ---- what a store does to local variables that hold nothing up to there
 
-pub stored_top : (ws : List FrameType) (below m : ℕ) (rest : List FrameType) → m ≡ below + length ws → stored ws below (replicate m types.Top ++ rest) ≡ Some (replicate below types.Top ++ (ws ++ rest))
+pub stored_top : (ws : List FrameType) (below m : ℕ) (rest : List FrameType) → m ≡ below + length ws →
+    stored ws below (replicate m types.Top ++ rest) ≡ Some (replicate below types.Top ++ (ws ++ rest))
 stored_top ws zero m rest h =
     let ls = replicate m types.Top ++ rest in
     let tops : length (replicate m types.Top) ≡ length ws = omega (arith, h, length-replicate {A = FrameType} m types.Top) in

@@ -131,7 +131,8 @@ module _ (env : Environment) (maps : List PlacedFrame) where
       → hold_where_unsettled settled env maps pc insn x ≡ handlers_hold env maps pc insn x
   settled_hold None pc insn x h e = all_plain pc (handler_frame env insn x) env.code.exception_table
   settled_hold (Some before) pc insn x h e =
-      subst (λ (f : Frame). list_all (λ k. not (covers k pc) || covers k before || handles env maps f k) env.code.exception_table ≡ list_all (λ k. not (covers k pc) || handles env maps f k) env.code.exception_table)
+      subst (λ (f : Frame). list_all (λ k. not (covers k pc) || covers k before || handles env maps f k) env.code.exception_table ≡
+      list_all (λ k. not (covers k pc) || handles env maps f k) env.code.exception_table)
       (sym e) (all_same before pc (with_stack x []) env.code.exception_table h)
 
   -- what is settled without an object that is left out

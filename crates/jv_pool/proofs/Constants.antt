@@ -81,16 +81,20 @@ handle_is = both_is byte half byte_is half_is
 abbrev Behind : ℕ → ConstantShape → Type 0
 Behind tag shape = (bytes rest : List ℕ) (c : Entry) → IsBytes bytes → shaped_read shape bytes ≡ Some (c, rest) → Took constant_bytes constant_fits tag bytes rest c
 
-quad_takes : (tag : ℕ) (kind : QuadKind) → ((n : ℕ) → constant_bytes (of_quad kind n) ≡ tag ∷ quad.spelling n) → ((n : ℕ) → constant_fits (of_quad kind n) ≡ quad.fits n) → eqb tag tag ≡ true → Behind tag (shapes.Quad kind)
+quad_takes : (tag : ℕ) (kind : QuadKind) → ((n : ℕ) → constant_bytes (of_quad kind n) ≡ tag ∷ quad.spelling n) →
+    ((n : ℕ) → constant_fits (of_quad kind n) ≡ quad.fits n) → eqb tag tag ≡ true → Behind tag (shapes.Quad kind)
 quad_takes tag kind spelled fit same bytes rest c small e = took constant_bytes constant_fits quad (of_quad kind) tag tag bytes rest c quad_is small spelled fit same e
 
-two_quads_takes : (tag : ℕ) (kind : TwoQuadsKind) → ((p : ℕ × ℕ) → constant_bytes (of_two_quads kind p) ≡ tag ∷ (both quad quad).spelling p) → ((p : ℕ × ℕ) → constant_fits (of_two_quads kind p) ≡ (both quad quad).fits p) → eqb tag tag ≡ true → Behind tag (shapes.TwoQuads kind)
+two_quads_takes : (tag : ℕ) (kind : TwoQuadsKind) → ((p : ℕ × ℕ) → constant_bytes (of_two_quads kind p) ≡ tag ∷ (both quad quad).spelling p) →
+    ((p : ℕ × ℕ) → constant_fits (of_two_quads kind p) ≡ (both quad quad).fits p) → eqb tag tag ≡ true → Behind tag (shapes.TwoQuads kind)
 two_quads_takes tag kind spelled fit same bytes rest c small e = took constant_bytes constant_fits (both quad quad) (of_two_quads kind) tag tag bytes rest c wide_is small spelled fit same e
 
-half_takes : (tag : ℕ) (kind : HalfKind) → ((n : ℕ) → constant_bytes (of_half kind n) ≡ tag ∷ half.spelling n) → ((n : ℕ) → constant_fits (of_half kind n) ≡ half.fits n) → eqb tag tag ≡ true → Behind tag (shapes.Half kind)
+half_takes : (tag : ℕ) (kind : HalfKind) → ((n : ℕ) → constant_bytes (of_half kind n) ≡ tag ∷ half.spelling n) →
+    ((n : ℕ) → constant_fits (of_half kind n) ≡ half.fits n) → eqb tag tag ≡ true → Behind tag (shapes.Half kind)
 half_takes tag kind spelled fit same bytes rest c small e = took constant_bytes constant_fits half (of_half kind) tag tag bytes rest c half_is small spelled fit same e
 
-two_halves_takes : (tag : ℕ) (kind : TwoHalvesKind) → ((p : ℕ × ℕ) → constant_bytes (of_two_halves kind p) ≡ tag ∷ (both half half).spelling p) → ((p : ℕ × ℕ) → constant_fits (of_two_halves kind p) ≡ (both half half).fits p) → eqb tag tag ≡ true → Behind tag (shapes.TwoHalves kind)
+two_halves_takes : (tag : ℕ) (kind : TwoHalvesKind) → ((p : ℕ × ℕ) → constant_bytes (of_two_halves kind p) ≡ tag ∷ (both half half).spelling p) →
+    ((p : ℕ × ℕ) → constant_fits (of_two_halves kind p) ≡ (both half half).fits p) → eqb tag tag ≡ true → Behind tag (shapes.TwoHalves kind)
 two_halves_takes tag kind spelled fit same bytes rest c small e = took constant_bytes constant_fits (both half half) (of_two_halves kind) tag tag bytes rest c pairs_is small spelled fit same e
 
 text_takes : Behind 1 shapes.Text
@@ -116,7 +120,8 @@ shaped_takes (shapes.TwoHalves two_halves.NameAndType) = two_halves_takes 12 two
 shaped_takes (shapes.TwoHalves two_halves.InvokeDynamic) = two_halves_takes 18 two_halves.InvokeDynamic (λ a. refl) (λ a. refl) refl
 shaped_takes shapes.ByteAndHalf = handle_takes
 
-contents_take : (tag : ℕ) (found : Option ConstantShape) (bytes rest : List ℕ) (c : Entry) → IsBytes bytes → shape_of tag ≡ found → contents_read found bytes ≡ Some (c, rest) → Took constant_bytes constant_fits tag bytes rest c
+contents_take : (tag : ℕ) (found : Option ConstantShape) (bytes rest : List ℕ) (c : Entry) → IsBytes bytes → shape_of tag ≡ found →
+    contents_read found bytes ≡ Some (c, rest) → Took constant_bytes constant_fits tag bytes rest c
 contents_take tag None bytes rest c small s e = absurd cc
 contents_take tag (Some shape) bytes rest c small s e = rw (tag_is tag shape s) (shaped_takes shape bytes rest c small e)
 
@@ -242,11 +247,13 @@ constants_read bytes rest n h lt =
     ∙ ap (λ (b : Bool). (cond b never (entries (n - 1))).read rest) no
 
 -- constants that were read, and keep their rules, are the pool of the bytes that they took
-pub pool_taken : (bytes rest : List ℕ) (p : List Entry) → IsBytes bytes → constants.read bytes ≡ Some (p, rest) → All (KeepsRules p) p → (length rest ≤ length bytes) × IsPool (take (length bytes - length rest) bytes) p
+pub pool_taken : (bytes rest : List ℕ) (p : List Entry) → IsBytes bytes → constants.read bytes ≡ Some (p, rest) → All (KeepsRules p) p →
+    (length rest ≤ length bytes) × IsPool (take (length bytes - length rest) bytes) p
 pool_taken bytes rest p small e rules =
     let one = constants_is.takes bytes rest p small e in
     let len : length bytes ≡ length (constants.spelling p) + length rest = ap length one.0 ∙ length-append (constants.spelling p) rest in
-    let front : take (length bytes - length rest) bytes ≡ constants.spelling p = ap (take (length bytes - length rest)) one.0 ∙ take_at (constants.spelling p) rest (length bytes - length rest) (omega arith) in
+    let front : take (length bytes - length rest) bytes ≡ constants.spelling p = ap (take (length bytes - length rest)) one.0 ∙
+    take_at (constants.spelling p) rest (length bytes - length rest) (omega arith) in
     (omega arith, record { spelled = front ∙ constants-spelling p; fits = sym (constants-fits p) ∙ one.1; rules = rules })
 
 -- a pool's bytes are read as that pool
@@ -259,7 +266,8 @@ pub no_pool : (bytes : List ℕ) → constants.read bytes ≡ None → (p : List
 no_pool bytes none p front rest is h = let e = pool_again bytes p front rest is h in cc
 
 -- constants that break their rules are in the way of a pool
-pub no_other : (bytes after : List ℕ) (q : List Entry) → constants.read bytes ≡ Some (q, after) → (All (KeepsRules q) q → ⊥) → (p : List Entry) (front rest : List ℕ) → bytes ≡ front ++ rest → IsPool front p → ⊥
+pub no_other : (bytes after : List ℕ) (q : List Entry) → constants.read bytes ≡ Some (q, after) → (All (KeepsRules q) q → ⊥) →
+    (p : List Entry) (front rest : List ℕ) → bytes ≡ front ++ rest → IsPool front p → ⊥
 no_other bytes after q found broken p front rest is h =
     let e = pool_again bytes p front rest is h in
     let found_same : (q, after) ≡ (p, rest) = is_some (q, after) (p, rest) (sym found ∙ e) in

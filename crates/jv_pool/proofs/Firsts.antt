@@ -18,7 +18,8 @@ first_is : (pool : List Entry) (i f : ℕ) (t : List ℕ) → utf8_at pool i ≡
 first_is pool i f t here h = record { same = h.0 ∙ sym here; first = λ j lt e. h.1 j lt (e ∙ here) }
 
 -- a text that was there before
-pub firsts_known : (pool : List Entry) (i : ℕ) (m : BTreeMap (Bor (List ℕ)) ℕ) (t : List ℕ) (f : ℕ) → utf8_at pool i ≡ Some t → first_in m t ≡ Some f → AreFirsts pool i m → IsFirst pool i f × AreFirsts pool (i + 1) m
+pub firsts_known : (pool : List Entry) (i : ℕ) (m : BTreeMap (Bor (List ℕ)) ℕ) (t : List ℕ) (f : ℕ) → utf8_at pool i ≡ Some t → first_in m t ≡
+    Some f → AreFirsts pool i m → IsFirst pool i f × AreFirsts pool (i + 1) m
 firsts_known pool i m t f here found h = (
   first_is pool i f t here (subst (λ (o : Option ℕ). IsFirstBelow pool i t o) found (h t)),
   λ q. next pool i q (first_in m q) (λ o e.

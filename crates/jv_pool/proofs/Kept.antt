@@ -186,7 +186,8 @@ get_nothing [] k e = refl
 get_nothing (p ∷ places) zero e = absurd cc
 get_nothing (p ∷ places) (suc k) e = get_nothing places k e
 
-pub known_at_place : (pool : List Entry) (facts : List TextFacts) (places : List ℕ) (index place : ℕ) → AllKnown pool facts places → slice_get places index ≡ Some place → IsKnown (utf8_at pool index) (known_in facts place)
+pub known_at_place : (pool : List Entry) (facts : List TextFacts) (places : List ℕ) (index place : ℕ) → AllKnown pool facts places →
+    slice_get places index ≡ Some place → IsKnown (utf8_at pool index) (known_in facts place)
 known_at_place pool facts places index place all e = subst (λ (p : ℕ). IsKnown (utf8_at pool index) (known_in facts p)) (get_there places index place e) (all index)
 
 pub known_past : (pool : List Entry) (facts : List TextFacts) (places : List ℕ) (index : ℕ) → AllKnown pool facts places → slice_get places index ≡ None → IsKnown (utf8_at pool index) None
@@ -263,7 +264,8 @@ pub first_fails : {A R : Type 0} (b : Bool) → b ≡ false → (IsTrue b ↔ A)
 first_fails b off h part = (λ on. absurd (untrue b off on), λ r. absurd (untrue b off (h.1 (part r))))
 
 -- a test of what is known of a text, and of what isn't a text
-pub if_known : (P : List ℕ → Type 0) (text : Option (List ℕ)) (facts : TextFacts) (b : Bool) → IsKnown text (Some facts) → ((t : List ℕ) → AreFacts t facts → IsTrue b ↔ P t) → IsTrue b ↔ IsSomeAnd text P
+pub if_known : (P : List ℕ → Type 0) (text : Option (List ℕ)) (facts : TextFacts) (b : Bool) → IsKnown text (Some facts) →
+    ((t : List ℕ) → AreFacts t facts → IsTrue b ↔ P t) → IsTrue b ↔ IsSomeAnd text P
 if_known P None facts b known h = absurd known
 if_known P (Some t) facts b known h = h t known
 

@@ -38,7 +38,8 @@ regroup before x None = refl
 regroup {A = A} before x (Some y) = ap (λ (xs : List A). just (xs, y.1)) (sym (append_assoc before (x ∷ []) y.0))
 
 -- what a step found is the next of the constants
-step_on : (flag : Bool) (before : List Entry) (k : ℕ) (bytes : List ℕ) (entry : Option Entry) (more : Bool) (after : List ℕ) (total : Option (List Entry × List ℕ)) → step_read flag bytes ≡ Some (entry, more, after)
+step_on : (flag : Bool) (before : List Entry) (k : ℕ) (bytes : List ℕ) (entry : Option Entry) (more : Bool) (after : List ℕ)
+    (total : Option (List Entry × List ℕ)) → step_read flag bytes ≡ Some (entry, more, after)
     → with_front before (entries_read flag (suc k) bytes) ≡ total → with_front (before ++ entry_list entry) (entries_read more k after) ≡ total
 step_on true before k bytes entry more after total e so_far =
     let made : Option Entry × Bool × List ℕ = (None, false, bytes) in
@@ -48,7 +49,8 @@ step_on false before k bytes entry more after total e so_far =
     let c = bind_some (constant_read bytes) (λ c. Some (Some c.0, takes_two c.0, c.1)) (entry, more, after) e in
     let made : Option Entry × Bool × List ℕ = (Some c.0.0, takes_two c.0.0, c.0.1) in
     let one : with_front before (entries_read false (suc k) bytes) ≡ with_front (before ++ c.0.0 ∷ []) (entries_read (takes_two c.0.0) k c.0.1) =
-    ap (λ (o : Option (Entry × List ℕ)). with_front before (o >>= λ c. entries_read (takes_two c.0) k c.1 >>= λ cs. Some (c.0 ∷ cs.0, cs.1))) c.1 ∙ regroup before c.0.0 (entries_read (takes_two c.0.0) k c.0.1) in
+    ap (λ (o : Option (Entry × List ℕ)). with_front before (o >>= λ c. entries_read (takes_two c.0) k c.1 >>= λ cs. Some (c.0 ∷ cs.0, cs.1))) c.1 ∙
+    regroup before c.0.0 (entries_read (takes_two c.0.0) k c.0.1) in
     subst (λ (y : Option Entry × Bool × List ℕ). with_front (before ++ entry_list y.0) (entries_read y.1 k y.2) ≡ total) (is_some made (entry, more, after) c.2) (sym one ∙ so_far)
 
 entries_two : (c : Entry) (two : Bool) → takes_two c ≡ two → entries_of c ≡ Some c ∷ pending two

@@ -67,7 +67,8 @@ module _ (pool : List Entry) (rules : All (KeepsRules pool) pool) where
       let same : member_of c m ≡ member = cc in
       subst (λ (r : MemberReference). IsMember N r) same (record { class = h c refl; unqualified = u m refl; named = k })
 
-  member : (N : NameAndDescriptor → Type 0) (class name_and_type : ℕ) (found : MemberReference) → IsMemberIn N pool class name_and_type → member_at pool class name_and_type ≡ Some found → IsMember N found
+  member : (N : NameAndDescriptor → Type 0) (class name_and_type : ℕ) (found : MemberReference) → IsMemberIn N pool class name_and_type →
+      member_at pool class name_and_type ≡ Some found → IsMember N found
   member N class name_and_type found h e =
       member_named N (class_name_at pool class) (name_and_type_at pool name_and_type) found (λ name. class_at class name) (λ m f. (named name_and_type m f).0) h.member e
 

@@ -431,7 +431,8 @@ module _ (env : Environment) (frame : Frame) where
   new_stands : (pc index : ℕ) → Left (new_object env pc index frame)
   new_stands pc index =
       bound frame.stack (operand_name env index)
-      (λ name. when (not (list_any (is_same_object (types.Uninitialized pc)) frame.stack)) (pushed (with_locals frame (replaced (types.Uninitialized pc) types.Top frame.locals)) (types.Uninitialized pc)))
+      (λ name. when (not (list_any (is_same_object (types.Uninitialized pc)) frame.stack))
+      (pushed (with_locals frame (replaced (types.Uninitialized pc) types.Top frame.locals)) (types.Uninitialized pc)))
       (λ name e. tested frame.stack (not (list_any (is_same_object (types.Uninitialized pc)) frame.stack))
       (pushed (with_locals frame (replaced (types.Uninitialized pc) types.Top frame.locals)) (types.Uninitialized pc)) (pushed_stands (types.Uninitialized pc)))
 

@@ -42,7 +42,8 @@ same_class : {a b : List ℕ} → Some (types.Class a) ≡ Some (types.Class b) 
 same_class e = cc
 
 -- one that has a number
-pub class_named : (names : List (List ℕ)) (text : List ℕ) (owner : Item) (number : ℕ) → reference_type text ≡ Some (typed names owner) → Some number ≡ class_number (Some owner) → text ≡ name_at names number
+pub class_named : (names : List (List ℕ)) (text : List ℕ) (owner : Item) (number : ℕ) → reference_type text ≡ Some (typed names owner) → Some number ≡
+    class_number (Some owner) → text ≡ name_at names number
 class_named names text owner number e is = by_array (is_array_name text) (e ∙ ap (λ t. Some t) (is_class owner is))
   where
     is_class : (t : Item) → Some number ≡ class_number (Some t) → typed names t ≡ types.Class (name_at names number)
@@ -95,7 +96,8 @@ no_flow world name text t e array =
     let is = array_is (field_type_of text) t (sym (ap (λ b. type_by b text) array) ∙ e) in
     ap (flows world (types.Class name)) is.1
 
-pub not_above : (names : List (List ℕ)) (env : Environment) (named : MethodUse) (owner : Item) (frame : Frame) → reference_type named.reference.class ≡ Some (typed names owner) → named.owner ≡ typed names owner
+pub not_above : (names : List (List ℕ)) (env : Environment) (named : MethodUse) (owner : Item) (frame : Frame) →
+    reference_type named.reference.class ≡ Some (typed names owner) → named.owner ≡ typed names owner
     → None ≡ class_number (Some owner) → invoke_super env named frame ≡ None
 not_above names env named owner frame e is none =
     let array : is_array_name named.reference.class ≡ true = array_named names named.reference.class owner e none in

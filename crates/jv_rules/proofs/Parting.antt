@@ -75,6 +75,8 @@ module _ (names : List (List ℕ)) (form : StackForm) where
   moved old mid low new a b taken passed is =
       ap (λ o. left (frame_of names old) (o >>= passing)) taken.0
       ∙ (ap (λ o. left (frame_of names old) (o >>= λ b. Some (arranged form (typed_all names (items_in a)) b.0 ++ b.1))) passed.0
-      ∙ (ap (λ ts. left (frame_of names old) (Some ts)) (sym (map-append (typed names) (arranged_words form a b) low.stack ∙ ap (λ ts. ts ++ typed_all names low.stack) (arranged_typed names form (items_in a) (items_in b))))
+      ∙ (ap (λ ts. left (frame_of names old) (Some ts))
+      (sym (map-append (typed names) (arranged_words form a b) low.stack ∙ ap (λ ts. ts ++ typed_all names low.stack)
+      (arranged_typed names form (items_in a) (items_in b))))
       ∙ (ap (λ (f : NumberFrame). Some (frame_of names (with_stack (arranged_words form a b ++ low.stack) f))) (sym (passed.1 ∙ ap (with_stack low.stack) taken.1))
       ∙ ap (λ (f : NumberFrame). Some (frame_of names f)) (sym is))))

@@ -195,7 +195,9 @@ Same before locals flag = (locals ≡ before.locals) × (flag ≡ before.flag_th
 
 pub locals_are_kept : (env : Environment) (pc : ℕ) (insn : Instruction) (before behind : Frame) → IsTrue (keeps_locals insn) → rule env pc insn before ≡ Some behind
     → (behind.locals ≡ before.locals) × (behind.flag_this_uninit ≡ before.flag_this_uninit)
-locals_are_kept env pc insn before behind keeps e = subst (Leaves (Same before)) e (rule_keeps (Same before) env before (refl, refl) pc insn (other_keeps (Same before) env before (refl, refl) pc insn keeps))
+locals_are_kept env pc insn before behind keeps e =
+    subst (Leaves (Same before)) e
+    (rule_keeps (Same before) env before (refl, refl) pc insn (other_keeps (Same before) env before (refl, refl) pc insn keeps))
 
 -- ---- how many local variables there are
 
@@ -254,7 +256,8 @@ module _ (env : Environment) (frame : Frame) where
   fresh pc = pushed (with_locals frame (replaced (types.Uninitialized pc) types.Top frame.locals)) (types.Uninitialized pc)
 
   new_keeps : (pc index : ℕ) → Leaves Count (new_object env pc index frame)
-  new_keeps pc index = bound Count (operand_name env index) (λ name. when (not (is_there pc)) (fresh pc)) (λ name. tested Count (not (is_there pc)) (fresh pc) (replaced_length (types.Uninitialized pc) types.Top frame.locals))
+  new_keeps pc index = bound Count (operand_name env index) (λ name. when (not (is_there pc)) (fresh pc))
+      (λ name. tested Count (not (is_there pc)) (fresh pc) (replaced_length (types.Uninitialized pc) types.Top frame.locals))
 
   construct_keeps : (method : MethodUse) (stack : List FrameType) → Leaves Count (construct_top env method frame stack)
   construct_keeps method [] = tt

@@ -96,7 +96,8 @@ method_guarded class env index named answer of told e =
 abbrev operand : FieldTypes → Option Item → Bool → FieldOperand
 operand field guarded own = record { owner = types.Class field.owner; value = field.value; guard = guarded; sets_own = own }
 
-pub uses_field : (world : TypeWorld) (env : Environment) (o : Option FieldUse) (field : FieldTypes) (guarded : Option Item) (own : Bool) → env.world ≡ world.world → FindsFieldTypes world.names o (Some field)
+pub uses_field : (world : TypeWorld) (env : Environment) (o : Option FieldUse) (field : FieldTypes) (guarded : Option Item) (own : Bool) → env.world ≡
+    world.world → FindsFieldTypes world.names o (Some field)
     → ((named : FieldUse) → o ≡ Some named → field_guard env named ≡ given world.names guarded)
     → (is_init env.site.method.name && bytes_eq (name_at world.names field.owner) (current_class env).name) ≡ own
     → UsesField world env o (Some (operand field guarded own))

@@ -33,7 +33,8 @@ list_any-map p (name ∷ names) = ap (λ (b : Bool). p name.now || b) (list_any-
 pub exact_texts : (names found : List (Bor (List ℕ))) → IsPermutation (filter (λ name. is_class_file name.now) names) found
     → IsPermutation (filter is_class_file (map bytes_of names)) (map bytes_of found)
 exact_texts names found same =
-    subst (λ (texts : List (List ℕ)). IsPermutation texts (map bytes_of found)) (sym (filter-map is_class_file names)) (IsPermutation-map bytes_of (filter (λ name. is_class_file name.now) names) found same)
+    subst (λ (texts : List (List ℕ)). IsPermutation texts (map bytes_of found)) (sym (filter-map is_class_file names))
+    (IsPermutation-map bytes_of (filter (λ name. is_class_file name.now) names) found same)
 
 -- slices in order have their texts in order
 pub sorted_texts : (found : List (Bor (List ℕ))) → IsSorted (λ a b. slice_cmp nat_cmp a.now b.now) found → IsSorted (slice_cmp nat_cmp) (map bytes_of found)
@@ -48,7 +49,8 @@ sorted_texts (name ∷ names) sorted k d low lt =
     (subst (λ (text : List ℕ). is_lt (slice_cmp nat_cmp text (bytes_of (get_or (name ∷ names) k name))) ≡ false) (sym next) (sorted k name low second))
 
 pub class_files_of : (names found lent : List (Bor (List ℕ))) (result : Result (Vec NamedFile) Failure) → IsPermutation (filter (λ name. is_class_file name.now) names) found
-    → IsSorted (λ a b. slice_cmp nat_cmp a.now b.now) found → lent ≡ found → IfOk result (λ files. map file_name files.items ≡ map bytes_of lent) → IfOk result (λ files. All IsReadUpToLimit files.items)
+    → IsSorted (λ a b. slice_cmp nat_cmp a.now b.now) found → lent ≡ found → IfOk result (λ files. map file_name files.items ≡ map bytes_of lent) →
+    IfOk result (λ files. All IsReadUpToLimit files.items)
     → IfOk result (λ files. AreClassFilesOf (map bytes_of names) files.items)
 class_files_of names found lent (Err e) same sorted is named most = tt
 class_files_of names found lent (Ok files) same sorted is named most =

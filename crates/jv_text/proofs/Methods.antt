@@ -38,7 +38,8 @@ made parameters result = record { parameters = parameters; result = result }
 pub one_method : OneMethod
 one_method text one other h k =
     let texts : method_text one ≡ method_text other = sym h.spelled ∙ k.spelled in
-    let inside : flat_map field_text one.parameters ++ (41 ∷ result_text one.result) ≡ flat_map field_text other.parameters ++ (41 ∷ result_text other.result) = ap (λ (xs : List ℕ). drop 1 xs) texts in
+    let inside : flat_map field_text one.parameters ++ (41 ∷ result_text one.result) ≡ flat_map field_text other.parameters ++
+    (41 ∷ result_text other.result) = ap (λ (xs : List ℕ). drop 1 xs) texts in
     let split = parameters_split other.parameters one.parameters (result_text one.result) (41 ∷ result_text other.result) k.parameters h.parameters inside in
     let ends = no_more split.0 (result_text other.result) (result_text one.result) split.2 in
     let lists : one.parameters ≡ other.parameters = split.1 ∙ ap (λ (ts : List (FieldTypeOf (List ℕ))). other.parameters ++ ts) ends.0 ∙ append-nil other.parameters in
@@ -72,7 +73,8 @@ Front-push before count text rest t total after fits counts few e front = record
       rw (parts, append-nil, append_assoc) mid;
 }
 
-pub Front-method : (before : List (FieldTypeOf (List ℕ))) (count : ℕ) (text rest : List ℕ) (r : Option (FieldTypeOf (List ℕ))) → IsTrue (is_result_type r) → rest ≡ 41 ∷ result_text r → Front before count text rest → IsMethod text (record { parameters = before; result = r })
+pub Front-method : (before : List (FieldTypeOf (List ℕ))) (count : ℕ) (text rest : List ℕ) (r : Option (FieldTypeOf (List ℕ))) →
+    IsTrue (is_result_type r) → rest ≡ 41 ∷ result_text r → Front before count text rest → IsMethod text (record { parameters = before; result = r })
 Front-method before count text rest r fits e front = record {
   parameters = front.fit;
   result = fits;
@@ -96,9 +98,11 @@ Front-no_parameter before count text rest front unended none m h =
     first : (more : List (FieldTypeOf (List ℕ))) → m.parameters ≡ before ++ more → rest ≡ flat_map field_text more ++ (41 ∷ result_text m.result) → IsTrue (list_all is_field_type more) → ⊥
     first [] all e fits = unended (result_text m.result) e
     first (t ∷ ts) all e fits =
-        let sums : slots m ≡ sum_by field_slots before + sum_by field_slots (t ∷ ts) = ap (λ (xs : List (FieldTypeOf (List ℕ))). sum_by field_slots xs) all ∙ sum_by-append field_slots before (t ∷ ts) in
+        let sums : slots m ≡ sum_by field_slots before + sum_by field_slots (t ∷ ts) =
+        ap (λ (xs : List (FieldTypeOf (List ℕ))). sum_by field_slots xs) all ∙ sum_by-append field_slots before (t ∷ ts) in
         let last : sum_by field_slots (t ∷ ts) ≡ field_slots t + sum_by field_slots ts = sum_by-cons field_slots t ts in
-        none t (flat_map field_text ts ++ (41 ∷ result_text m.result)) (and_parts (is_field_type t) (list_all is_field_type ts) fits).0 (omega (arith, sums, last, front.counted, h.few)) (e ∙ append_assoc (field_text t) (flat_map field_text ts) (41 ∷ result_text m.result))
+        none t (flat_map field_text ts ++ (41 ∷ result_text m.result)) (and_parts (is_field_type t) (list_all is_field_type ts) fits).0
+        (omega (arith, sums, last, front.counted, h.few)) (e ∙ append_assoc (field_text t) (flat_map field_text ts) (41 ∷ result_text m.result))
 
 -- nor where the parameters end and no result follows
 pub Front-no_result : (before : List (FieldTypeOf (List ℕ))) (count : ℕ) (text rest : List ℕ) → Front before count text rest → (tail : List ℕ) → rest ≡ 41 ∷ tail
@@ -123,10 +127,12 @@ or_false true = refl
 or_false false = refl
 
 -- whether one of some types is floating, and one more
-pub floats_more : (before : List (FieldTypeOf (List ℕ))) (t : FieldTypeOf (List ℕ)) (b now : Bool) → now ≡ (b || is_floating t) → b ≡ list_any is_floating before → now ≡ list_any is_floating (before ++ t ∷ [])
+pub floats_more : (before : List (FieldTypeOf (List ℕ))) (t : FieldTypeOf (List ℕ)) (b now : Bool) → now ≡ (b || is_floating t) → b ≡
+    list_any is_floating before → now ≡ list_any is_floating (before ++ t ∷ [])
 floats_more before t b now is so_far =
     is ∙ ap (λ (x : Bool). x || is_floating t) so_far ∙ ap (λ (x : Bool). list_any is_floating before || x) (sym (or_false (is_floating t))) ∙ sym (list_any-append is_floating before (t ∷ []))
 
 -- and the result
-pub floats_all : (before : List (FieldTypeOf (List ℕ))) (r : Option (FieldTypeOf (List ℕ))) (b now : Bool) → now ≡ (b || is_floating_result r) → b ≡ list_any is_floating before → now ≡ (list_any is_floating before || is_floating_result r)
+pub floats_all : (before : List (FieldTypeOf (List ℕ))) (r : Option (FieldTypeOf (List ℕ))) (b now : Bool) → now ≡ (b || is_floating_result r) → b ≡
+    list_any is_floating before → now ≡ (list_any is_floating before || is_floating_result r)
 floats_all before r b now is so_far = is ∙ ap (λ (x : Bool). x || is_floating_result r) so_far

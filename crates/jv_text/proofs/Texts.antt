@@ -23,7 +23,8 @@ pub is_unit-from_fits : (u : ℕ) → u < 2 ^ 16 → IsTrue (is_unit u)
 is_unit-from_fits u h = grind arith
 
 -- the text of bytes that begin with those of `before` begins with `before`
-pub text_split : (before all rest : List ℕ) → IsTrue (list_all is_unit before) → IsTrue (list_all is_unit all) → text_bytes all ≡ text_bytes before ++ rest → (more : List ℕ) × (all ≡ before ++ more) × (rest ≡ text_bytes more) × IsTrue (list_all is_unit more)
+pub text_split : (before all rest : List ℕ) → IsTrue (list_all is_unit before) → IsTrue (list_all is_unit all) → text_bytes all ≡ text_bytes before ++
+    rest → (more : List ℕ) × (all ≡ before ++ more) × (rest ≡ text_bytes more) × IsTrue (list_all is_unit more)
 text_split [] all rest fb fa e = (all, refl, sym e, fa)
 text_split (u ∷ us) [] rest fb fa e = absurd (omega (arith, length-unit_bytes u (text_bytes us ++ rest), ap length (e ∙ append_assoc (unit_bytes u) (text_bytes us) rest)))
 text_split (u ∷ us) (v ∷ vs) rest fb fa e =
@@ -67,7 +68,8 @@ Front-all units bytes rest e front = record {
 }
 
 -- where no unit is at the front of the rest, the bytes are no text
-pub Front-none : (units bytes rest : List ℕ) → 0 < length rest → ((u : ℕ) (after : List ℕ) → u < 2 ^ 16 → rest ≡ unit_bytes u ++ after → ⊥) → Front units bytes rest → (all : List ℕ) → Spells all bytes → ⊥
+pub Front-none : (units bytes rest : List ℕ) → 0 < length rest → ((u : ℕ) (after : List ℕ) → u < 2 ^ 16 → rest ≡ unit_bytes u ++ after → ⊥) →
+    Front units bytes rest → (all : List ℕ) → Spells all bytes → ⊥
 Front-none units bytes rest lt none front all h =
     let split = text_split units all rest front.fit h.fit (sym h.spelled ∙ front.spelled) in
     first split.0 rest lt none split.2 split.3

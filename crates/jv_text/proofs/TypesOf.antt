@@ -127,7 +127,8 @@ element_there : (text : List ℕ) (found : Element (List ℕ) × List ℕ) → e
 element_there [] found e = absurd cc
 element_there (x ∷ text) found e = by_test (eqb x 76) refl e
   where
-    by_test : (b : Bool) → eqb x 76 ≡ b → cond b (option_map class_behind (to_semicolon text)) (option_map (base_before text) (base_of_letter x)) ≡ Some found → x ∷ text ≡ element_text found.0 ++ found.1
+    by_test : (b : Bool) → eqb x 76 ≡ b → cond b (option_map class_behind (to_semicolon text)) (option_map (base_before text) (base_of_letter x)) ≡
+        Some found → x ∷ text ≡ element_text found.0 ++ found.1
     by_test true is e =
         let one = mapped class_behind (to_semicolon text) found e in
         let there = name_there text one.0 one.1 in
@@ -182,7 +183,8 @@ unclosed type rest byte more e = by_test (eqb byte 41) refl
     by_test false is = is
     by_test true is = absurd (no_close type rest more (e ∙ ap (λ b. b ∷ more) (eqb-true byte 41 is)))
 
-parameters_back : (n : ℕ) (types : List (FieldTypeOf (List ℕ))) (tail : List ℕ) → length types < n → IsTrue (list_all is_field_type types) → parameters_at n (flat_map field_text types ++ (41 ∷ tail)) ≡ Some (types, tail)
+parameters_back : (n : ℕ) (types : List (FieldTypeOf (List ℕ))) (tail : List ℕ) → length types < n → IsTrue (list_all is_field_type types) →
+    parameters_at n (flat_map field_text types ++ (41 ∷ tail)) ≡ Some (types, tail)
 parameters_back zero types tail lt h = absurd (omega (arith, lt))
 parameters_back (suc n) [] tail lt h = refl
 parameters_back (suc n) (type ∷ types) tail lt h =
@@ -207,7 +209,8 @@ parameters_there (suc n) [] found e = absurd cc
 parameters_there (suc n) (byte ∷ rest) found e = by_test (eqb byte 41) refl e (λ text f h. parameters_there n text f h)
   where
     by_test : (b : Bool) → eqb byte 41 ≡ b → cond b (Some ([], rest)) (option_and_then (parameters_behind n) (type_at (byte ∷ rest))) ≡ Some found
-        → ((text : List ℕ) (f : List (FieldTypeOf (List ℕ)) × List ℕ) → parameters_at n text ≡ Some f → text ≡ flat_map field_text f.0 ++ (41 ∷ f.1)) → byte ∷ rest ≡ flat_map field_text found.0 ++ (41 ∷ found.1)
+        → ((text : List ℕ) (f : List (FieldTypeOf (List ℕ)) × List ℕ) → parameters_at n text ≡ Some f → text ≡ flat_map field_text f.0 ++
+        (41 ∷ f.1)) → byte ∷ rest ≡ flat_map field_text found.0 ++ (41 ∷ found.1)
     by_test true is e again =
         let made : List (FieldTypeOf (List ℕ)) × List ℕ = ([], rest) in
         let same : made ≡ found = cc in
@@ -312,7 +315,8 @@ pub record Split (type : FieldTypeOf (List ℕ)) (count : ℕ) (rest : List ℕ)
   pub element : rest ≡ element_text type.element
 
 -- brackets, and what no bracket begins
-pub split_known : (text rest : List ℕ) (count : ℕ) (type : FieldTypeOf (List ℕ)) → field_type_of text ≡ Some type → text ≡ replicate count 91 ++ rest → ((more : List ℕ) → rest ≢ 91 ∷ more) → Split type count rest
+pub split_known : (text rest : List ℕ) (count : ℕ) (type : FieldTypeOf (List ℕ)) → field_type_of text ≡ Some type → text ≡ replicate count 91 ++
+    rest → ((more : List ℕ) → rest ≢ 91 ∷ more) → Split type count rest
 split_known text rest count type found is all =
     let whole = field_from text type found in
     let tail : List ℕ = element_text type.element in
@@ -332,7 +336,8 @@ split_element type text rest count found parts =
 abbrev joined : ℕ → Element (List ℕ) → FieldTypeOf (List ℕ)
 joined count element = record { dimensions = count; element = element }
 
-pub split_joined : (type : FieldTypeOf (List ℕ)) (text rest : List ℕ) (count : ℕ) (element : Element (List ℕ)) → field_type_of text ≡ Some type → Split type count rest → rest ≡ element_text element → field_type_of text ≡ Some (joined count element)
+pub split_joined : (type : FieldTypeOf (List ℕ)) (text rest : List ℕ) (count : ℕ) (element : Element (List ℕ)) → field_type_of text ≡ Some type →
+    Split type count rest → rest ≡ element_text element → field_type_of text ≡ Some (joined count element)
 split_joined type text rest count element found parts is =
     let same : element ≡ type.element = same_element element type.element (sym is ∙ parts.element) in
     found ∙ ap (λ t. Some t) (ap (λ n. joined n type.element) (sym parts.dimensions) ∙ ap (λ e. joined count e) (sym same))

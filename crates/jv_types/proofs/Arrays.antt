@@ -26,12 +26,14 @@ some_dimension (x ∷ rest) e t f =
     omega (arith, some, has_dimensions (brackets (x ∷ rest)) (element_at (drop (brackets (x ∷ rest)) (x ∷ rest))) t f)
 
 pub no_array : (o : Option (List ℕ)) (t : FieldTypeOf (List ℕ)) (dimensions : ℕ) → Some t ≡ (o >>= named_type) → (1 ≤ t.dimensions → ⊥)
-    → (o >>= λ text. when (is_array_name text) text >>= field_type_of >>= λ type. when (nat_le dimensions type.dimensions) (array_with (record { dimensions = type.dimensions - 1; element = type.element }))) ≡ None
+    → (o >>= λ text. when (is_array_name text) text >>= field_type_of >>= λ type. when (nat_le dimensions type.dimensions)
+    (array_with (record { dimensions = type.dimensions - 1; element = type.element }))) ≡ None
 no_array None t dimensions e none = refl
 no_array (Some text) t dimensions e none = by_array (is_array_name text) refl
   where
     by_array : (b : Bool) → is_array_name text ≡ b
-        → (when (is_array_name text) text >>= field_type_of >>= λ type. when (nat_le dimensions type.dimensions) (array_with (record { dimensions = type.dimensions - 1; element = type.element }))) ≡ None
+        → (when (is_array_name text) text >>= field_type_of >>= λ type. when (nat_le dimensions type.dimensions)
+        (array_with (record { dimensions = type.dimensions - 1; element = type.element }))) ≡ None
     by_array true g =
         let named : named_type text ≡ field_type_of text = ap (λ b. if b then field_type_of text else when (is_class_name text) (class_components text)) g in
         absurd (none (some_dimension text g t (sym named ∙ sym e)))

@@ -52,7 +52,8 @@ no_call b (Some c) (Some n) (Some d) e = by_test (can_be_of (constant_of b) c)
     by_owner None = refl
     by_owner (Some owner) = ap (λ o. o >>= λ descriptor. Some (method_use (through (constant_of b) (reference_of c n d)) owner descriptor)) (none (method_type_of d) e)
 
-    by_test : (t : Bool) → (when t (through (constant_of b) (reference_of c n d)) >>= λ method. reference_type method.member.class >>= λ owner. method_type_of method.member.descriptor >>= λ descriptor.
+    by_test : (t : Bool) → (when t (through (constant_of b) (reference_of c n d)) >>= λ method. reference_type method.member.class >>=
+        λ owner. method_type_of method.member.descriptor >>= λ descriptor.
         Some (method_use method owner descriptor)) ≡ None
     by_test false = refl
     by_test true = by_owner (reference_type c)
@@ -124,7 +125,8 @@ names_method names b class name descriptor n owner found to named typed_as descr
     let all : made b class name descriptor ≡ called m =
     ap (λ o. made b o name descriptor) c.is ∙ (ap (λ o. made b (Some c.text) o descriptor) named ∙ ap (λ o. made b (Some c.text) (Some n) o) d.2) in
     let test : called m ≡ (reference_type c.text >>= λ owner. method_type_of d.0 >>= λ descriptor. Some (method_use m owner descriptor)) =
-    ap (λ t. when t m >>= λ method. reference_type method.member.class >>= λ owner. method_type_of method.member.descriptor >>= λ descriptor. Some (method_use method owner descriptor)) (can_be b c.text names owner c.found can) in
+    ap (λ t. when t m >>= λ method. reference_type method.member.class >>= λ owner. method_type_of method.member.descriptor >>= λ descriptor. Some
+    (method_use method owner descriptor)) (can_be b c.text names owner c.found can) in
     let end : (reference_type c.text >>= λ owner. method_type_of d.0 >>= λ descriptor. Some (method_use m owner descriptor)) ≡ Some (method_use m (typed names owner) d.1) =
     ap (λ o. o >>= λ owner. method_type_of d.0 >>= λ descriptor. Some (method_use m owner descriptor)) c.found
     ∙ ap (λ o. o >>= λ descriptor. Some (method_use m (typed names owner) descriptor)) d.3 in

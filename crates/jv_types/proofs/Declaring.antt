@@ -15,13 +15,15 @@ use Rattle.jv_types.proofs.Protecting.{class_there}
 -- ---- what a look into a class finds
 
 module _ (world classes : List Loaded) (class : ℕ) (x : Loaded) (name descriptor : List ℕ) (place : Option ℕ) (same : classes ≡ world) (is : x ≡ get_or classes class x) where
-  pub method_looked_up : option_and_then (slice_get x.class.methods) place ≡ method_named x.class name descriptor → IfSome place (λ p. p < length x.class.methods) → IsMethodDeclared world class name descriptor place
+  pub method_looked_up : option_and_then (slice_get x.class.methods) place ≡ method_named x.class name descriptor →
+      IfSome place (λ p. p < length x.class.methods) → IsMethodDeclared world class name descriptor place
   method_looked_up found within = record {
     found = λ l at. subst (λ (k : Loaded). option_and_then (slice_get k.class.methods) place ≡ method_named k.class name descriptor) (class_there world classes class x l same is at) found;
     within = λ l at. subst (λ (k : Loaded). IfSome place (λ p. p < length k.class.methods)) (class_there world classes class x l same is at) within;
   }
 
-  pub field_looked_up : option_and_then (slice_get x.class.fields) place ≡ field_named x.class name descriptor → IfSome place (λ p. p < length x.class.fields) → IsFieldDeclared world class name descriptor place
+  pub field_looked_up : option_and_then (slice_get x.class.fields) place ≡ field_named x.class name descriptor →
+      IfSome place (λ p. p < length x.class.fields) → IsFieldDeclared world class name descriptor place
   field_looked_up found within = record {
     found = λ l at. subst (λ (k : Loaded). option_and_then (slice_get k.class.fields) place ≡ field_named k.class name descriptor) (class_there world classes class x l same is at) found;
     within = λ l at. subst (λ (k : Loaded). IfSome place (λ p. p < length k.class.fields)) (class_there world classes class x l same is at) within;

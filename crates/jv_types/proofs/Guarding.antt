@@ -50,12 +50,14 @@ far_only world current named by flags below =
     far_alone (is_subclass world current named) (not (same_class current named)) (has flags acc_protected) (not (has flags acc_static)) (not (same_package current by)) below
 
 pub field_guarded : (world : World) (current : ℕ) (c : Loaded) (reference : MemberReference) (k : ℕ) (answer : Bool) → slice_get world current ≡ Some c → number_named world reference.class ≡ Some k
-    → HoldsAtNumber world current (λ c. HoldsAtNumber world k (λ l. is_proper_subclass world c l ≡ true)) → HoldsAtNumber world current (λ c. HoldsAtNumber world k (λ n. answer ≡ field_is_far world c n reference))
+    → HoldsAtNumber world current (λ c. HoldsAtNumber world k (λ l. is_proper_subclass world c l ≡ true)) → HoldsAtNumber world current
+    (λ c. HoldsAtNumber world k (λ n. answer ≡ field_is_far world c n reference))
     → is_guarded_field world c reference ≡ answer
 field_guarded world current c reference k answer at numbered below far =
     let there = stands_at world reference.class k numbered in
     let named : Loaded = there.0 in
-    let by_found : (o : Option DeclaredField) → unwrap_or (o >>= λ d. Some (is_guarded world c named d.by d.field.access_flags)) false ≡ unwrap_or (o >>= λ d. Some (is_far c d.by d.field.access_flags)) false = found named (below c at named there.1) in
+    let by_found : (o : Option DeclaredField) → unwrap_or (o >>= λ d. Some (is_guarded world c named d.by d.field.access_flags)) false ≡
+    unwrap_or (o >>= λ d. Some (is_far c d.by d.field.access_flags)) false = found named (below c at named there.1) in
     ap (λ o. unwrap_or (o >>= λ n. lookup_field world n reference.name reference.descriptor >>= λ d. Some (is_guarded world c n d.by d.field.access_flags)) false) there.2
     ∙ (by_found (lookup_field world named reference.name reference.descriptor) ∙ sym (far c at named there.1))
   where
@@ -65,12 +67,14 @@ field_guarded world current c reference k answer at numbered below far =
     found n h (Some d) = far_only world c n d.by d.field.access_flags h
 
 pub method_guarded : (world : World) (current : ℕ) (c : Loaded) (reference : MemberReference) (k : ℕ) (answer : Bool) → slice_get world current ≡ Some c → number_named world reference.class ≡ Some k
-    → HoldsAtNumber world current (λ c. HoldsAtNumber world k (λ l. is_proper_subclass world c l ≡ true)) → HoldsAtNumber world current (λ c. HoldsAtNumber world k (λ n. answer ≡ method_is_far world c n reference))
+    → HoldsAtNumber world current (λ c. HoldsAtNumber world k (λ l. is_proper_subclass world c l ≡ true)) → HoldsAtNumber world current
+    (λ c. HoldsAtNumber world k (λ n. answer ≡ method_is_far world c n reference))
     → is_guarded_method world c reference ≡ answer
 method_guarded world current c reference k answer at numbered below far =
     let there = stands_at world reference.class k numbered in
     let named : Loaded = there.0 in
-    let by_found : (o : Option Declared) → unwrap_or (o >>= λ d. Some (is_guarded world c named d.by d.method.access_flags)) false ≡ unwrap_or (o >>= λ d. Some (is_far c d.by d.method.access_flags)) false = found named (below c at named there.1) in
+    let by_found : (o : Option Declared) → unwrap_or (o >>= λ d. Some (is_guarded world c named d.by d.method.access_flags)) false ≡
+    unwrap_or (o >>= λ d. Some (is_far c d.by d.method.access_flags)) false = found named (below c at named there.1) in
     ap (λ o. unwrap_or (o >>= λ n. lookup_method world n reference.name reference.descriptor >>= λ d. Some (is_guarded world c n d.by d.method.access_flags)) false) there.2
     ∙ (by_found (lookup_method world named reference.name reference.descriptor) ∙ sym (far c at named there.1))
   where
@@ -86,19 +90,22 @@ past_all : (world : World) (c : Loaded) (pool : List Entry) (index : ℕ) (mark 
 past_all world c pool index mark none = record {
   field = λ r e. absurd (no_field r (subst (λ o. field_reference_in pool o ≡ Some r) none e));
   method = λ m e.
-      absurd (no_method m (subst (λ o. option_or (option_map (through Methodref) (method_reference_in pool o)) (option_map (through InterfaceMethodref) (interface_method_reference_in pool o)) ≡ Some m) none e));
+      absurd (no_method m (subst (λ o. option_or (option_map (through Methodref) (method_reference_in pool o))
+      (option_map (through InterfaceMethodref) (interface_method_reference_in pool o)) ≡ Some m) none e));
 }
   where
     no_field : (r : MemberReference) → field_reference_in pool None ≡ Some r → ⊥
     no_field r e = cc
 
-    no_method : (m : MethodReference) → option_or (option_map (through Methodref) (method_reference_in pool None)) (option_map (through InterfaceMethodref) (interface_method_reference_in pool None)) ≡ Some m → ⊥
+    no_method : (m : MethodReference) → option_or (option_map (through Methodref) (method_reference_in pool None))
+        (option_map (through InterfaceMethodref) (interface_method_reference_in pool None)) ≡ Some m → ⊥
     no_method m e = cc
 
 abbrev pub AreGuardsBelow : ℕ → World → Loaded → List Entry → List Bool → Type 0
 AreGuardsBelow count world c pool marks = (index : ℕ) → index < count → IsGuard world c pool index (get_or marks index false)
 
-pub guards_next : (world : World) (c : Loaded) (pool : List Entry) (marks : List Bool) (count : ℕ) (mark : Bool) → length marks ≡ count → AreGuardsBelow count world c pool marks → IsGuard world c pool count mark
+pub guards_next : (world : World) (c : Loaded) (pool : List Entry) (marks : List Bool) (count : ℕ) (mark : Bool) → length marks ≡ count →
+    AreGuardsBelow count world c pool marks → IsGuard world c pool count mark
     → AreGuardsBelow (count + 1) world c pool (marks ++ mark ∷ [])
 guards_next world c pool marks count mark size below here index lt = by_index (cases_lt index count)
   where
@@ -107,7 +114,8 @@ guards_next world c pool marks count mark size below here index lt = by_index (c
     by_index (inr behind) =
         let last : index ≡ count = omega arith in
         let place : index ≡ length marks = last ∙ sym size in
-        subst (IsGuard world c pool index) (sym (ap (λ n. get_or (marks ++ mark ∷ []) n false) place ∙ get_or-append_seam marks mark [] false)) (subst (λ n. IsGuard world c pool n mark) (sym last) here)
+        subst (IsGuard world c pool index) (sym (ap (λ n. get_or (marks ++ mark ∷ []) n false) place ∙ get_or-append_seam marks mark [] false))
+        (subst (λ n. IsGuard world c pool n mark) (sym last) here)
 
 pub all_guards : (world : World) (c : Loaded) (pool : List Entry) (marks : List Bool) → AreGuardsBelow (pool_count pool) world c pool marks → AreGuards world c pool marks
 all_guards world c pool marks below index = by_index (cases_lt index (pool_count pool))

@@ -21,7 +21,8 @@ use Rattle.jv_types.specs.Inside.KeptClass.{IsNoArray, IsKept}
 
 -- ---- interfaces
 
-pub interface_at : (env : Environment) (world : World) (name : List ℕ) (k : ℕ) (l : Loaded) (answer : Bool) → env.world ≡ world → Some k ≡ number_named world name → HoldsAtNumber world k (λ m. l ≡ m) → answer ≡ is_interface l
+pub interface_at : (env : Environment) (world : World) (name : List ℕ) (k : ℕ) (l : Loaded) (answer : Bool) → env.world ≡ world → Some k ≡
+    number_named world name → HoldsAtNumber world k (λ m. l ≡ m) → answer ≡ is_interface l
     → is_interface_named env name (class_named env.world name) ≡ answer
 interface_at env world name k l answer same numbered stands is =
     let there = stands_at world name k (sym numbered) in
@@ -32,21 +33,27 @@ no_interface env world name same none = ap (is_interface_named env name) (ap (λ
 
 -- ---- guarded members
 
-module _ (constants : PoolTypes) (class : Loaded) (name : ℕ) (superclass : Option ℕ) (direct guarded : List Bool) (kept : IsKept constants class name superclass direct guarded) (index : ℕ) (answer : Bool) (is : answer ≡ get_or guarded index false) where
+module _ (constants : PoolTypes) (class : Loaded) (name : ℕ) (superclass : Option ℕ) (direct guarded : List Bool)
+    (kept : IsKept constants class name superclass direct guarded) (index : ℕ) (answer : Bool) (is : answer ≡ get_or guarded index false) where
   abbrev value : CurrentClass
   value = record { types = constants.types; by = class }
 
-  pub field_told : (v : CurrentClass) → value ≡ v → (env : Environment) → IsOfClass v env → (reference : MemberReference) → field_reference_at v.by.class.constant_pool index ≡ Some reference → is_guarded_field env.world env.site.by reference ≡ answer
-  field_told v same = subst (λ (u : CurrentClass). (env : Environment) → IsOfClass u env → (reference : MemberReference) → field_reference_at u.by.class.constant_pool index ≡ Some reference → is_guarded_field env.world env.site.by reference ≡ answer) same told
+  pub field_told : (v : CurrentClass) → value ≡ v → (env : Environment) → IsOfClass v env → (reference : MemberReference) →
+      field_reference_at v.by.class.constant_pool index ≡ Some reference → is_guarded_field env.world env.site.by reference ≡ answer
+  field_told v same = subst (λ (u : CurrentClass). (env : Environment) → IsOfClass u env → (reference : MemberReference) →
+      field_reference_at u.by.class.constant_pool index ≡ Some reference → is_guarded_field env.world env.site.by reference ≡ answer) same told
     where
-      told : (env : Environment) → IsOfClass value env → (reference : MemberReference) → field_reference_at class.class.constant_pool index ≡ Some reference → is_guarded_field env.world env.site.by reference ≡ answer
+      told : (env : Environment) → IsOfClass value env → (reference : MemberReference) → field_reference_at class.class.constant_pool index ≡
+          Some reference → is_guarded_field env.world env.site.by reference ≡ answer
       told env of reference e =
           ap (λ w. is_guarded_field w env.site.by reference) of.world
           ∙ (ap (λ (l : Loaded). is_guarded_field constants.types.world l reference) of.by
           ∙ ((kept.guards index).field reference (subst (λ p. field_reference_at p index ≡ Some reference) (sym kept.pool) e) ∙ sym is))
 
-  pub method_told : (v : CurrentClass) → value ≡ v → (env : Environment) → IsOfClass v env → (m : MethodReference) → method_operand v.by.class index ≡ Some m → is_guarded_method env.world env.site.by m.member ≡ answer
-  method_told v same = subst (λ (u : CurrentClass). (env : Environment) → IsOfClass u env → (m : MethodReference) → method_operand u.by.class index ≡ Some m → is_guarded_method env.world env.site.by m.member ≡ answer) same told
+  pub method_told : (v : CurrentClass) → value ≡ v → (env : Environment) → IsOfClass v env → (m : MethodReference) → method_operand v.by.class index ≡
+      Some m → is_guarded_method env.world env.site.by m.member ≡ answer
+  method_told v same = subst (λ (u : CurrentClass). (env : Environment) → IsOfClass u env → (m : MethodReference) → method_operand u.by.class index ≡
+      Some m → is_guarded_method env.world env.site.by m.member ≡ answer) same told
     where
       told : (env : Environment) → IsOfClass value env → (m : MethodReference) → method_operand class.class index ≡ Some m → is_guarded_method env.world env.site.by m.member ≡ answer
       told env of m e =

@@ -24,4 +24,8 @@ lasts_now {names = names} lasts = lasts.kept names (stays names)
 
 -- a class by the number of its name
 pub class_lasts : {names : List (List ℕ)} {number : ℕ} {name : List ℕ} → slice_get names number ≡ Some name → Lasts typed_result names (Some (numbered_class number)) (Some (class_components name))
-class_lasts {number = number} {name = name} at = record { kept = λ longer goes_on. ap (λ text. Some (class_components text)) (get_or_from_slice_get longer number name (codes "java/lang/Object") (goes_on.kept number name at)) }
+class_lasts {number = number} {name = name} at =
+    record {
+      kept = λ longer goes_on. ap (λ text. Some (class_components text)) (get_or_from_slice_get longer number name (codes "java/lang/Object")
+          (goes_on.kept number name at));
+    }

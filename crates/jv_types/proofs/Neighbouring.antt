@@ -27,11 +27,13 @@ module _ (world : World) (current : ℕ) where
   pub room_made : (old new : List (Option Bool)) (n k : ℕ) → new ≡ take n old ++ replicate k None → AreNeighbours world current old → AreNeighbours world current new
   room_made old new n k made right by = by_item (filled old n k by)
     where
-      by_item : (get_or (take n old ++ replicate k None) by None ≡ get_or old by None) ⊎ (get_or (take n old ++ replicate k None) by None ≡ None) → IsNeighbourKept world current by (get_or new by None)
+      by_item : (get_or (take n old ++ replicate k None) by None ≡ get_or old by None) ⊎ (get_or (take n old ++ replicate k None) by None ≡ None) →
+          IsNeighbourKept world current by (get_or new by None)
       by_item (inl same) = subst (IsNeighbourKept world current by) (sym (ap (λ xs. get_or xs by None) made ∙ same)) (right by)
       by_item (inr none) = subst (IsNeighbourKept world current by) (sym (ap (λ xs. get_or xs by None) made ∙ none)) tt
 
-  pub one_kept : (kept : List (Option Bool)) (at : ℕ) (answer : Bool) → at < length kept → AreNeighbours world current kept → IsNeighbour world current at answer → AreNeighbours world current (set kept at (Some answer))
+  pub one_kept : (kept : List (Option Bool)) (at : ℕ) (answer : Bool) → at < length kept → AreNeighbours world current kept →
+      IsNeighbour world current at answer → AreNeighbours world current (set kept at (Some answer))
   one_kept kept at answer within right is by = by_place (eqb_tells by at)
     where
       by_place : ((nat_eq by at ≡ true) × (by ≡ at)) ⊎ ((nat_eq by at ≡ false) × (by ≢ at)) → IsNeighbourKept world current by (get_or (set kept at (Some answer)) by None)

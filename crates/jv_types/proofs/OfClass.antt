@@ -90,7 +90,8 @@ module _ (c : ClassStructure) (kinds : NamesByKind c.constant_pool) (well : IsWe
           → class_of_constant_at c.constant_pool (cond b None (Some c.super_class)) ≡ super
       by_index true is f = none f
       by_index false is f =
-          named_class c.constant_pool c.super_class kinds (super_keeps_rules c.constant_pool c.super_class (class_name c) well.rules.itself.named is) ∙ by_name (class_name_at c.constant_pool c.super_class) f
+          named_class c.constant_pool c.super_class kinds (super_keeps_rules c.constant_pool c.super_class (class_name c) well.rules.itself.named is)
+          ∙ by_name (class_name_at c.constant_pool c.super_class) f
 
   -- ---- its direct superinterfaces
 
@@ -115,12 +116,14 @@ module _ (c : ClassStructure) (kinds : NamesByKind c.constant_pool) (well : IsWe
   -- ---- the whole
 
   pub known : (constants : PoolTypes) (l : Loaded) (name : ℕ) (superclass : Option ℕ) (direct guarded : List Bool) → constants.pool ≡ c.constant_pool → class_of c ≡ Some l.class
-      → class_of_constant constants.pool c.this_class ≡ Some (name_at constants.types.names name) → option_map (name_at constants.types.names) superclass ≡ class_of_constant_at constants.pool (super_index c)
+      → class_of_constant constants.pool c.this_class ≡ Some (name_at constants.types.names name) → option_map (name_at constants.types.names)
+      superclass ≡ class_of_constant_at constants.pool (super_index c)
       → AreMarkedAt constants.types.names constants.pool c.interfaces direct → AreGuards constants.types.world l constants.pool guarded → IsKept constants l name superclass direct guarded
   known constants l name superclass direct guarded same of named above marked guards =
       let is = parts c l.class of in
       let one_name : Some (name_at constants.types.names name) ≡ Some l.class.name = sym named ∙ (ap (λ p. class_of_constant p c.this_class) same ∙ (itself_named ∙ is.name)) in
-      let is_above : class_of_constant_at constants.pool (super_index c) ≡ l.class.super_class = ap (λ p. class_of_constant_at p (super_index c)) same ∙ super_named l.class.super_class is.super_class in
+      let is_above : class_of_constant_at constants.pool (super_index c) ≡ l.class.super_class = ap (λ p. class_of_constant_at p (super_index c))
+      same ∙ super_named l.class.super_class is.super_class in
       record {
         pool = same ∙ is.pool;
         named = one one_name;

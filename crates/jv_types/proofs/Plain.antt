@@ -51,7 +51,9 @@ plain_or_other text = by_array (is_array_name text) refl
         by_class false g = inr (record {
           plain = ap (λ b. when (not b) text >>= λ name. when (is_class_name name) name) e ∙ ap (λ k. when k text) g;
           type = λ name f.
-              let none : reference_type text ≡ None = ap (λ b. if b then field_type_of text >>= array_of else if is_class_name text then Some (types.Class text) else None) e ∙ ap (λ k. if k then Some (types.Class text) else None) g in
+              let none : reference_type text ≡ None =
+              ap (λ b. if b then field_type_of text >>= array_of else if is_class_name text then Some (types.Class text) else None) e ∙
+              ap (λ k. if k then Some (types.Class text) else None) g in
               absurd (unlike (sym none ∙ f));
         })
           where

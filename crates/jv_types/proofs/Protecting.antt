@@ -62,7 +62,8 @@ module _ (flags : ℕ) where
       let not_public : has flags acc_public ≡ false = ap (λ k. not (k == 0)) (narrowed flags 4 1 e) in
       ap (λ b. (false || b) && is_protected_instance flags) not_public
 
-  by_visibility : (interface : Bool) → IsTrue (visibility_keeps_rules flags) → IsTrue (if interface then v == 1 || v == 2 else true) → ((interface || has flags acc_public) && is_protected_instance flags) ≡ false
+  by_visibility : (interface : Bool) → IsTrue (visibility_keeps_rules flags) → IsTrue (if interface then v == 1 || v == 2 else true) →
+      ((interface || has flags acc_public) && is_protected_instance flags) ≡ false
   by_visibility interface right h = by_first (v == 0) refl right
     where
       by_third : (b : Bool) → (v == 2) ≡ b → IsTrue (b || v == 4) → ((interface || has flags acc_public) && is_protected_instance flags) ≡ false
@@ -90,7 +91,8 @@ module _ (flags : ℕ) where
       → ((interface || has flags acc_public) && is_protected_instance flags) ≡ false
   flags_are_right major interface name descriptor right static = by_name (is_clinit name) right static
     where
-      by_name : (b : Bool) → IsTrue (if b then true else visibility_keeps_rules flags && abstract_keeps_rules flags && interface_flags_keep_rules major interface flags && named_flags_keep_rules name flags)
+      by_name : (b : Bool) → IsTrue (if b then true else visibility_keeps_rules flags && abstract_keeps_rules flags && interface_flags_keep_rules
+          major interface flags && named_flags_keep_rules name flags)
           → IsTrue (if b then has flags acc_static && is_no_arguments_void descriptor else true) → ((interface || has flags acc_public) && is_protected_instance flags) ≡ false
       by_name true h k = static_is_not (interface || has flags acc_public) (and_parts (has flags acc_static) (is_no_arguments_void descriptor) k).0
       by_name false h k =
@@ -148,7 +150,8 @@ none_of {X} wrong test (y ∷ xs) x none e = by_wrong (wrong y) refl none (test 
     by_wrong false is n true f again = ap wrong (sym (same f)) ∙ is
     by_wrong false is n false f again = again n f
 
-declared_is_right : (name descriptor : List ℕ) (l : Loaded) (d : Declared) → has_wrongly_protected l.class ≡ false → method_in name descriptor l ≡ Some d → is_wrongly_protected l.class d.method ≡ false
+declared_is_right : (name descriptor : List ℕ) (l : Loaded) (d : Declared) → has_wrongly_protected l.class ≡ false → method_in name descriptor l ≡
+    Some d → is_wrongly_protected l.class d.method ≡ false
 declared_is_right name descriptor l d right e =
     none_of (is_wrongly_protected l.class) (λ m. bytes_eq m.name name && bytes_eq m.descriptor descriptor) l.class.methods d.method right (method_in_is name descriptor l d e).1
 
@@ -199,7 +202,8 @@ module _ (world : World) (right : AreRightlyProtected world) where
             (in_filter (λ x. not (list_any (is_below world x) all)) all d concrete.0).0
         by_part (inr f) = let found = in_first itself all d f in subst (Contains all) (same found.0 found.2) found.1
 
-    object_is_right : (d : Declared) → method_if is_public_instance (method_if_loaded name descriptor (class_named world (codes "java/lang/Object"))) ≡ Some d → is_protected_instance d.method.access_flags ≡ false
+    object_is_right : (d : Declared) → method_if is_public_instance (method_if_loaded name descriptor (class_named world (codes "java/lang/Object")))
+        ≡ Some d → is_protected_instance d.method.access_flags ≡ false
     object_is_right d e =
         let parts = passed is_public_instance (method_if_loaded name descriptor (class_named world (codes "java/lang/Object"))) d e in
         by_class (class_named world (codes "java/lang/Object")) refl parts.0 (and_parts (has d.method.access_flags acc_public) (not (has d.method.access_flags acc_static)) parts.1).0
@@ -260,7 +264,8 @@ module _ (world : World) (current : Loaded) (reference : MemberReference) (numbe
       (interface_is_right world right named (right number named at) reference.name reference.descriptor interface)
       ∙ sym (ap (λ b. far_of (if b then lookup_interface_method world named reference.name reference.descriptor else of_class)) interface)
 
-  by_classes : is_interface named ≡ false → (o : Option Declared) → of_classes ≡ o → method_is_far world current named reference ≡ far_of (else_option o (superinterface_method world named reference.name reference.descriptor))
+  by_classes : is_interface named ≡ false → (o : Option Declared) → of_classes ≡ o → method_is_far world current named reference ≡
+      far_of (else_option o (superinterface_method world named reference.name reference.descriptor))
   by_classes other o e =
       ap (λ b. far_of (if b then lookup_interface_method world named reference.name reference.descriptor else of_class)) other
       ∙ ap (λ p. far_of (else_option p (superinterface_method world named reference.name reference.descriptor))) e
@@ -274,7 +279,8 @@ module _ (world : World) (current : Loaded) (reference : MemberReference) (numbe
   pub found_is_far : is_interface named ≡ false → (d : Declared) → Some d ≡ of_classes → is_far current d.by d.method.access_flags ≡ method_is_far world current named reference
   found_is_far other d found = sym (by_classes other (Some d) (sym found))
 
-  named_so : (name descriptor : List ℕ) (o : Option Declared) → name ≡ reference.name → descriptor ≡ reference.descriptor → o ≡ first_found (method_in name descriptor) (named ∷ superclasses world named.class) → o ≡ of_classes
+  named_so : (name descriptor : List ℕ) (o : Option Declared) → name ≡ reference.name → descriptor ≡ reference.descriptor → o ≡
+      first_found (method_in name descriptor) (named ∷ superclasses world named.class) → o ≡ of_classes
   named_so name descriptor o e f h =
       h ∙ (ap (λ n. first_found (method_in n descriptor) (named ∷ superclasses world named.class)) e
       ∙ ap (λ t. first_found (method_in reference.name t) (named ∷ superclasses world named.class)) f)
@@ -283,7 +289,8 @@ module _ (world : World) (current : Loaded) (reference : MemberReference) (numbe
       → None ≡ first_found (method_in name descriptor) (named ∷ superclasses world named.class) → false ≡ method_is_far world current named reference
   none_of_classes right other name descriptor e f none = none_is_near right other (named_so name descriptor None e f none)
 
-  pub place_is_far : (place : Place) (flags : ℕ) (answer : Bool) → is_interface named ≡ false → (name descriptor : List ℕ) → name ≡ reference.name → descriptor ≡ reference.descriptor → IsMethodPlace world place
+  pub place_is_far : (place : Place) (flags : ℕ) (answer : Bool) → is_interface named ≡ false → (name descriptor : List ℕ) → name ≡ reference.name →
+      descriptor ≡ reference.descriptor → IsMethodPlace world place
       → method_at world place ≡ first_found (method_in name descriptor) (named ∷ superclasses world named.class) → ((d : Declared) → method_at world place ≡ Some d → flags ≡ d.method.access_flags)
       → HoldsAtNumber world place.class (λ l. answer ≡ is_far current l flags) → answer ≡ method_is_far world current named reference
   place_is_far place flags answer other name descriptor e f stands found told far =

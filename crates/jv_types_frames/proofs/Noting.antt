@@ -576,7 +576,9 @@ replaced_next object by before now next places i d place lt is here others h k =
     (λ t. let e = eqb-true place k t in
     subst (λ p. slice_get next p ≡ changed_if (swapped object by) (is_among (take (i + 1) places) p) (slice_get before p)) e
     (here ∙ (ap (option_map (swapped object by)) (h place) ∙ (once (is_among (take i places) place) (slice_get before place)
-    ∙ ap (λ b. changed_if (swapped object by) b (slice_get before place)) (sym (more place ∙ (ap (λ b. is_among (take i places) place || (b || false)) (eq-eqb place place refl) ∙ or_true (is_among (take i places) place))))))))
+    ∙ ap (λ b. changed_if (swapped object by) b (slice_get before place))
+    (sym (more place ∙ (ap (λ b. is_among (take i places) place || (b || false)) (eq-eqb place place refl) ∙
+    or_true (is_among (take i places) place))))))))
     (λ f. others k f ∙ (h k ∙ ap (λ b. changed_if (swapped object by) b (slice_get before k))
     (sym (more k ∙ (ap (λ b. is_among (take i places) k || (b || false)) f ∙ or_false (is_among (take i places) k))))))
   where

@@ -64,7 +64,8 @@ module _ (names : List (List ℕ)) where
   stored_item (suc zero) (x ∷ []) item h = absurd (omega (arith, h))
   stored_item (suc zero) (x ∷ y ∷ locals) item h = behind_cut x (typed names item ∷ []) (y ∷ locals) (typed_all names (item ∷ locals)) (stored_item zero (y ∷ locals) item (smaller h))
   stored_item (suc (suc index)) (x ∷ locals) item h =
-      behind (typed names x) (stored (typed names item ∷ []) (suc index) (typed_all names locals)) (typed_all names (slice_set (cut_at (suc index) locals) (suc index) item)) (stored_item (suc index) locals item (smaller h))
+      behind (typed names x) (stored (typed names item ∷ []) (suc index) (typed_all names locals))
+      (typed_all names (slice_set (cut_at (suc index) locals) (suc index) item)) (stored_item (suc index) locals item (smaller h))
 
   pub stored_long : (index : ℕ) (locals : List Item) → suc index < length locals
       → stored (types.Long ∷ types.Top ∷ []) index (typed_all names locals) ≡ Some (typed_all names (slice_set (slice_set (cut_at index locals) index types.Long) (suc index) types.Top))
@@ -76,7 +77,9 @@ module _ (names : List (List ℕ)) where
   stored_long (suc zero) (x ∷ y ∷ z ∷ locals) h =
       behind_cut x (types.Long ∷ types.Top ∷ []) (y ∷ z ∷ locals) (typed_all names (types.Long ∷ types.Top ∷ locals)) (stored_long zero (y ∷ z ∷ locals) (smaller h))
   stored_long (suc (suc index)) (x ∷ locals) h =
-      behind (typed names x) (stored (types.Long ∷ types.Top ∷ []) (suc index) (typed_all names locals)) (typed_all names (slice_set (slice_set (cut_at (suc index) locals) (suc index) types.Long) (suc (suc index)) types.Top)) (stored_long (suc index) locals (smaller h))
+      behind (typed names x) (stored (types.Long ∷ types.Top ∷ []) (suc index) (typed_all names locals))
+      (typed_all names (slice_set (slice_set (cut_at (suc index) locals) (suc index) types.Long) (suc (suc index)) types.Top))
+      (stored_long (suc index) locals (smaller h))
 
   -- ---- not as many
 

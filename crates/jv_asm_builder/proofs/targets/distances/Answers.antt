@@ -8,8 +8,10 @@ use Rattle.jv_asm_builder.proofs.targets.distances.Goals as goal
 pub returns-in_err-next : goal.returns-in_err-next
 returns-in_err-next c =
     let all = each (distance_in c.args.places.now c.args.at) c.args.labels.now in
-    fault_answer ((distance_in c.args.places.now c.args.at) (get_or c.args.labels.now c.loop-label.label-index _)) all (λ v. v.items) c.from_residual.result c.in_err-next.field-0.0 c.from_residual.ensures.1
-    (λ e. each_stops (distance_in c.args.places.now c.args.at) c.args.labels.now c.loop-label.label-index _ c.loop-label-test.true c.loop-label.distances.items c.in_err-next.field-0.0 all e c.loop-label.invariant)
+    fault_answer ((distance_in c.args.places.now c.args.at) (get_or c.args.labels.now c.loop-label.label-index _)) all (λ v. v.items)
+    c.from_residual.result c.in_err-next.field-0.0 c.from_residual.ensures.1
+    (λ e. each_stops (distance_in c.args.places.now c.args.at) c.args.labels.now c.loop-label.label-index _ c.loop-label-test.true
+    c.loop-label.distances.items c.in_err-next.field-0.0 all e c.loop-label.invariant)
     (inr (sym c.in_err-next.ensures))
 
 pub loop-label-preserved : goal.loop-label-preserved

@@ -9,7 +9,8 @@ pub returns-in_err-next : goal.returns-in_err-next
 returns-in_err-next c =
     let all = each (handler_in c.args.places.now) c.args.handlers.now in
     fault_answer ((handler_in c.args.places.now) (get_or c.args.handlers.now c.loop-labels.labels-index _)) all (λ v. v.items) c.from_residual.result c.in_err-next.field-0.0 c.from_residual.ensures.1
-    (λ e. each_stops (handler_in c.args.places.now) c.args.handlers.now c.loop-labels.labels-index _ c.loop-labels-test.true c.loop-labels.table.items c.in_err-next.field-0.0 all e c.loop-labels.invariant)
+    (λ e. each_stops (handler_in c.args.places.now) c.args.handlers.now c.loop-labels.labels-index _ c.loop-labels-test.true c.loop-labels.table.items
+    c.in_err-next.field-0.0 all e c.loop-labels.invariant)
     (c.in_err-next.ensures {u = tt})
 
 pub loop-labels-preserved : goal.loop-labels-preserved

@@ -8,8 +8,10 @@ use Rattle.jv_asm_builder.proofs.targets.pairs.Goals as goal
 pub returns-in_err-next : goal.returns-in_err-next
 returns-in_err-next c =
     let all = each (case_in (distance_in c.args.places.now c.args.at)) c.args.cases.now in
-    fault_answer ((case_in (distance_in c.args.places.now c.args.at)) (get_or c.args.cases.now c.loop-case.case-index _)) all (λ v. v.items) c.from_residual.result c.in_err-next.field-0.0 c.from_residual.ensures.1
-    (λ e. each_stops (case_in (distance_in c.args.places.now c.args.at)) c.args.cases.now c.loop-case.case-index _ c.loop-case-test.true c.loop-case.pairs.items c.in_err-next.field-0.0 all e c.loop-case.invariant)
+    fault_answer ((case_in (distance_in c.args.places.now c.args.at)) (get_or c.args.cases.now c.loop-case.case-index _)) all (λ v. v.items)
+    c.from_residual.result c.in_err-next.field-0.0 c.from_residual.ensures.1
+    (λ e. each_stops (case_in (distance_in c.args.places.now c.args.at)) c.args.cases.now c.loop-case.case-index _ c.loop-case-test.true
+    c.loop-case.pairs.items c.in_err-next.field-0.0 all e c.loop-case.invariant)
     (inr (sym c.in_err-next.ensures))
 
 pub loop-case-preserved : goal.loop-case-preserved

@@ -6,5 +6,6 @@ use Rattle.jv_asm_builder.proofs.targets.put_lookupswitch.Goals as goal
 
 pub put_item-requires : goal.put_item-requires
 put_item-requires c =
-    lookup_short (length c.args.out.now.items) (cast_signed w32 (cast_unsigned w32 c.in_ok-default.default)) c.deref.result.now (case_in (distance_in c.args.places.now c.len-at.result)) c.args.cases.now
+    lookup_short (length c.args.out.now.items) (cast_signed w32 (cast_unsigned w32 c.in_ok-default.default)) c.deref.result.now
+    (case_in (distance_in c.args.places.now c.len-at.result)) c.args.cases.now
     ((c.in_ok-pairs.ensures {u = tt}) ∙ ap (λ v. Ok v) (sym c.deref.ensures.value)) c.requires

@@ -11,7 +11,8 @@ use Rattle.jv_class.proofs.alike.fields_are_unlike.Goals as goal
 
 pub returns-clause-ok : goal.returns-clause-ok
 returns-clause-ok c =
-    if_ok_same c.all_differ.result (λ differ. IsTrue differ ↔ IsDistinct nat_eq c.deref.result.now) (λ unlike. IsTrue unlike ↔ NoTwoAlike (map (shown_field_texts c.args.pool.now) (map seen_field c.args.fields.now)))
+    if_ok_same c.all_differ.result (λ differ. IsTrue differ ↔ IsDistinct nat_eq c.deref.result.now)
+    (λ unlike. IsTrue unlike ↔ NoTwoAlike (map (shown_field_texts c.args.pool.now) (map seen_field c.args.fields.now)))
     (unlike_fields c.args.pool.now c.args.fields.now c.deref.result.now
     (subst (λ (ks : List ℕ). AllZip (IsFieldKey c.args.pool.now) c.args.fields.now ks) (sym c.deref.ensures.value) c.in_ok-keys.ensures.ok) c.requires)
     c.all_differ.ensures.ok

@@ -12,6 +12,7 @@ use Rattle.jv_class.proofs.alike.methods_are_unlike.Goals as goal
 pub returns-clause-ok : goal.returns-clause-ok
 returns-clause-ok c =
     let class = c.args.parts.now in
-    if_ok_same c.all_differ.result (λ differ. IsTrue differ ↔ IsDistinct nat_eq c.deref.result.now) (λ unlike. IsTrue unlike ↔ NoTwoAlike (map (shown_method_texts class.constant_pool) (methods_of class)))
+    if_ok_same c.all_differ.result (λ differ. IsTrue differ ↔ IsDistinct nat_eq c.deref.result.now)
+    (λ unlike. IsTrue unlike ↔ NoTwoAlike (map (shown_method_texts class.constant_pool) (methods_of class)))
     (unlike_methods class c.deref.result.now (subst (λ (ks : List ℕ). AllZip (IsMethodKey class.constant_pool) (methods_of class) ks) (sym c.deref.ensures.value) c.in_ok-keys.ensures.ok) c.requires)
     c.all_differ.ensures.ok

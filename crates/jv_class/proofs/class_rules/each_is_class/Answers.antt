@@ -6,4 +6,5 @@ use Rattle.jv_class.proofs.Each.{decided}
 use Rattle.jv_class.proofs.class_rules.each_is_class.Goals as goal
 
 pub returns : goal.returns
-returns c = decided _ _ (λ x. IsClassAt c.args.pool.now (seen_index x)) c.all.ensures.ran (YieldsList-from_slice c.args.interfaces.now c.iter.ensures.rest) (λ x q k. search (rules, tests)) (λ x q k. search (rules, tests))
+returns c = decided _ _ (λ x. IsClassAt c.args.pool.now (seen_index x)) c.all.ensures.ran
+    (YieldsList-from_slice c.args.interfaces.now c.iter.ensures.rest) (λ x q k. search (rules, tests)) (λ x q k. search (rules, tests))

@@ -6,4 +6,5 @@ use Rattle.jv_class.proofs.Each.{decided}
 use Rattle.jv_class.proofs.field_rules.each_keeps_rules.Goals as goal
 
 pub returns : goal.returns
-returns c = decided _ _ (λ x. KeepsFieldShown c.args.pool.now c.args.class_flags.0 (seen_field x)) c.all.ensures.ran (YieldsList-from_slice c.args.fields.now c.iter.ensures.rest) (λ x q k. search (rules, tests)) (λ x q k. search (rules, tests))
+returns c = decided _ _ (λ x. KeepsFieldShown c.args.pool.now c.args.class_flags.0 (seen_field x)) c.all.ensures.ran
+    (YieldsList-from_slice c.args.fields.now c.iter.ensures.rest) (λ x q k. search (rules, tests)) (λ x q k. search (rules, tests))

@@ -13,14 +13,16 @@ returns-then-not-is_supported_version-clause-version c = λ e.
 pub returns-clause-ok : goal.returns-clause-ok
 returns-clause-ok c =
     if_ok_same c.class_behind.result (λ x. IsWholeBehind c.in-Some.major c.in-Some.rest.now x) (λ x. IsClassFile c.args.bytes.now x)
-    (class_from_behind c.args.bytes.now c.in-Some.rest.now c.in-Some.minor c.in-Some.major (λ i. omega (arith, c.type_inv.bytes i)) c.in-Some.ensures (sym c.is_supported_version.ensures ∙ c.if-not-is_supported_version.false))
+    (class_from_behind c.args.bytes.now c.in-Some.rest.now c.in-Some.minor c.in-Some.major (λ i. omega (arith, c.type_inv.bytes i)) c.in-Some.ensures
+    (sym c.is_supported_version.ensures ∙ c.if-not-is_supported_version.false))
     c.class_behind.ensures.ok
 
 pub returns-clause-unsupported : goal.returns-clause-unsupported
 returns-clause-unsupported c = λ e.
     let found = c.class_behind.ensures.unsupported e in (
       found.0,
-      class_from_behind c.args.bytes.now c.in-Some.rest.now c.in-Some.minor c.in-Some.major (λ i. omega (arith, c.type_inv.bytes i)) c.in-Some.ensures (sym c.is_supported_version.ensures ∙ c.if-not-is_supported_version.false) found.0 found.1,
+      class_from_behind c.args.bytes.now c.in-Some.rest.now c.in-Some.minor c.in-Some.major (λ i. omega (arith, c.type_inv.bytes i)) c.in-Some.ensures
+          (sym c.is_supported_version.ensures ∙ c.if-not-is_supported_version.false) found.0 found.1,
       found.2,
     )
 

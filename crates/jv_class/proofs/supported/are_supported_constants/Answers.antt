@@ -7,7 +7,8 @@ use Rattle.jv_class.proofs.supported.are_supported_constants.Goals as goal
 pub returns-then-not-is_supported_entry : goal.returns-then-not-is_supported_entry
 returns-then-not-is_supported_entry c = (
   λ no. absurd (untrue _ refl no),
-  λ all. absurd (untrue c.is_supported_entry.result c.if-not-is_supported_entry.true (c.is_supported_entry.ensures.1 (at_indices (IsSupportedConstant c.args.pool.now) c.args.pool.now all c.loop-index.index))),
+  λ all. absurd (untrue c.is_supported_entry.result c.if-not-is_supported_entry.true
+      (c.is_supported_entry.ensures.1 (at_indices (IsSupportedConstant c.args.pool.now) c.args.pool.now all c.loop-index.index))),
 )
 
 pub loop-index-preserved : goal.loop-index-preserved

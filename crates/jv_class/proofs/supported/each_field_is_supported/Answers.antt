@@ -6,4 +6,5 @@ use Rattle.jv_class.proofs.Each.{decided}
 use Rattle.jv_class.proofs.supported.each_field_is_supported.Goals as goal
 
 pub returns : goal.returns
-returns c = decided _ _ (λ x. IsFieldShownSupported c.args.pool.now (seen_field x)) c.all.ensures.ran (YieldsList-from_slice c.args.fields.now c.iter.ensures.rest) (λ x q k. search (rules, tests)) (λ x q k. search (rules, tests))
+returns c = decided _ _ (λ x. IsFieldShownSupported c.args.pool.now (seen_field x)) c.all.ensures.ran
+    (YieldsList-from_slice c.args.fields.now c.iter.ensures.rest) (λ x q k. search (rules, tests)) (λ x q k. search (rules, tests))

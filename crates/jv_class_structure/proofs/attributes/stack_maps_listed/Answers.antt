@@ -15,7 +15,8 @@ loop-preserved c =
     let joined : one_more c.loop.found c.in-Some.map ≡ Some c.in-Some-one_more.joined = sym c.one_more.ensures ∙ c.in-Some-one_more.is in
     record {
       same =
-          gathers (stack_map_kept c.args.pool.now) (seen_found c.loop.found) (seen_found c.in-Some.map) (seen_found c.in-Some-one_more.joined) c.args.count c.loop.counter c.loop.rest.now c.in-Some.after.now _
+          gathers (stack_map_kept c.args.pool.now) (seen_found c.loop.found) (seen_found c.in-Some.map) (seen_found c.in-Some-one_more.joined)
+          c.args.count c.loop.counter c.loop.rest.now c.in-Some.after.now _
           c.loop-test.true c.in-Some.ensures.found (one_more-seen found_info c.loop.found c.in-Some.map c.in-Some-one_more.joined joined) c.loop.invariant.same;
       there = record {
         within =

@@ -12,5 +12,7 @@ returns-in_default c =
 
 pub loop-preserved : goal.loop-preserved
 loop-preserved c =
-    let e : map seen_field c.push.new.self.items ≡ map seen_field c.loop.fields.items ++ (seen_field c.in-Some.field) ∷ [] = rw c.in_ok-push.ensures.items (map_push _ c.loop.fields.items c.in-Some.field) in
-    rw e (goes_on (field_kept c.args.pool.now) (map seen_field c.loop.fields.items) c.args.count c.loop.counter c.loop.rest.now (seen_field c.in-Some.field) c.in-Some.after.now _ c.loop-test.true c.in-Some.ensures c.loop.invariant)
+    let e : map seen_field c.push.new.self.items ≡ map seen_field c.loop.fields.items ++ (seen_field c.in-Some.field) ∷ [] =
+    rw c.in_ok-push.ensures.items (map_push _ c.loop.fields.items c.in-Some.field) in
+    rw e (goes_on (field_kept c.args.pool.now) (map seen_field c.loop.fields.items) c.args.count c.loop.counter c.loop.rest.now
+    (seen_field c.in-Some.field) c.in-Some.after.now _ c.loop-test.true c.in-Some.ensures c.loop.invariant)

@@ -12,5 +12,6 @@ returns-in_default c =
 
 pub loop-preserved : goal.loop-preserved
 loop-preserved c =
-    let e : map seen_index c.push.new.self.items ≡ map seen_index c.loop.interfaces.items ++ c.in-Some.index ∷ [] = rw c.in_ok-push.ensures.items (map_push _ c.loop.interfaces.items (record { 0 = c.in-Some.index })) in
+    let e : map seen_index c.push.new.self.items ≡ map seen_index c.loop.interfaces.items ++ c.in-Some.index ∷ [] =
+    rw c.in_ok-push.ensures.items (map_push _ c.loop.interfaces.items (record { 0 = c.in-Some.index })) in
     rw e (goes_on half (map seen_index c.loop.interfaces.items) c.args.count c.loop.counter c.loop.rest.now c.in-Some.index c.in-Some.after.now _ c.loop-test.true c.in-Some.ensures c.loop.invariant)

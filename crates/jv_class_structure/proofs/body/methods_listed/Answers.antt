@@ -12,7 +12,8 @@ returns-in_default c =
 pub loop-preserved : goal.loop-preserved
 loop-preserved c = record {
   same =
-      rw c.in_ok-push.ensures.list (goes_on (method_kept c.args.pool.now) (seen_list c.loop.methods) c.args.count c.loop.counter c.loop.rest.now (seen_method c.in-Some.method) c.in-Some.after.now _ c.loop-test.true c.in-Some.ensures c.loop.invariant.same);
+      rw c.in_ok-push.ensures.list (goes_on (method_kept c.args.pool.now) (seen_list c.loop.methods) c.args.count c.loop.counter c.loop.rest.now
+      (seen_method c.in-Some.method) c.in-Some.after.now _ c.loop-test.true c.in-Some.ensures c.loop.invariant.same);
   numbered = c.in_ok-push.ensures.numbered;
   many = omega (arith, c.in_ok-push.ensures.longer);
 }

@@ -9,7 +9,8 @@ use Rattle.jv_class_structure.proofs.members.code_at.Goals as goal
 
 pub returns-clause-found : goal.returns-clause-found
 returns-clause-found c =
-    code_found c.args.pool.now c.args.bytes.now c.in-Some.rest.now c.in-Some-code_text_at.rest.now c.in-Some-tables_at.rest.now (c.in-Some.field-0-0.0, c.in-Some.field-0-0.1) c.in-Some-code_text_at.field-0-0.now
+    code_found c.args.pool.now c.args.bytes.now c.in-Some.rest.now c.in-Some-code_text_at.rest.now c.in-Some-tables_at.rest.now
+    (c.in-Some.field-0-0.0, c.in-Some.field-0-0.1) c.in-Some-code_text_at.field-0-0.now
     (handlers_of c.in-Some-tables_at.field-0-0-0) (seen_found c.in-Some-tables_at.map) c.in-Some.ensures c.in-Some-code_text_at.ensures c.in-Some-tables_at.ensures.found
 
 pub returns-clause-there : goal.returns-clause-there
@@ -19,4 +20,5 @@ returns-clause-there c =
     let small_rest : IsBytes c.in-Some.rest.now = IsBytes-rest limits.front c.in-Some.rest.now c.args.bytes.now limits.joined small in
     let text : IsRest c.in-Some.rest.now c.in-Some-code_text_at.rest.now =
     text_rest c.in-Some.rest.now c.in-Some-code_text_at.rest.now c.in-Some-code_text_at.field-0-0.now small_rest c.in-Some-code_text_at.ensures in
-    found_before c.args.bytes.now c.in-Some-code_text_at.rest.now c.in-Some-tables_at.map (rest_more c.args.bytes.now c.in-Some.rest.now c.in-Some-code_text_at.rest.now limits text) c.in-Some-tables_at.ensures.there
+    found_before c.args.bytes.now c.in-Some-code_text_at.rest.now c.in-Some-tables_at.map
+    (rest_more c.args.bytes.now c.in-Some.rest.now c.in-Some-code_text_at.rest.now limits text) c.in-Some-tables_at.ensures.there

@@ -7,7 +7,8 @@ use Rattle.jv_class_structure.proofs.members.codes_listed.Goals as goal
 
 pub loop-preserved : goal.loop-preserved
 loop-preserved c =
-    gathers (method_attribute_kept c.args.pool.now) (seen_codes c.loop.found) (seen_codes c.in-Some.code) (seen_codes c.in-Some-one_more.joined) c.args.count c.loop.counter c.loop.rest.now c.in-Some.after.now _
+    gathers (method_attribute_kept c.args.pool.now) (seen_codes c.loop.found) (seen_codes c.in-Some.code) (seen_codes c.in-Some-one_more.joined)
+    c.args.count c.loop.counter c.loop.rest.now c.in-Some.after.now _
     c.loop-test.true c.in-Some.ensures (one_more-seen unpacked c.loop.found c.in-Some.code c.in-Some-one_more.joined (sym c.one_more.ensures ∙ c.in-Some-one_more.is)) c.loop.invariant
 
 pub returns-in_default-one_more : goal.returns-in_default-one_more

@@ -9,7 +9,8 @@ use Rattle.jv_classes.proofs.reading.methods_in.Goals as goal
 pub loop-place-preserved : goal.loop-place-preserved
 loop-place-preserved c =
     let within : c.loop-place.place < length (methods_of c.args.file.now) = search rules in
-    let found = next_joined (method_at c.args.file.now.constant_pool) (methods_of c.args.file.now) c.loop-place.place within c.loop-place.gathered.members _ c.loop-place.invariant.0 c.in_ok-add_method.ensures.joins in
+    let found = next_joined (method_at c.args.file.now.constant_pool) (methods_of c.args.file.now) c.loop-place.place within
+    c.loop-place.gathered.members _ c.loop-place.invariant.0 c.in_ok-add_method.ensures.joins in
     (found, c.in_ok-add_method.ensures.places)
 
 pub returns : goal.returns

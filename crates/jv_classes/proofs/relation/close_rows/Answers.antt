@@ -20,7 +20,8 @@ pub loop-by-preserved : goal.loop-by-preserved
 loop-by-preserved c =
     let other = c.copy_from_slice.ensures.len ∙ c.loop-by.invariant.1 in
     let within : c.loop-by.by < length c.loop-by.rows = omega (arith, c.loop-by-test.true, c.loop-by.invariant.0) in
-    let copied = c.copy_from_slice.ensures.after ∙ c.deref.ensures.value ∙ ap (λ row. row.items) (sym c.index-rows-by.is) ∙ sym (row_there c.loop-by.rows c.loop-by.by c.index-rows-by.result within c.index-rows-by.is) in (
+    let copied = c.copy_from_slice.ensures.after ∙ c.deref.ensures.value ∙ ap (λ row. row.items) (sym c.index-rows-by.is) ∙
+    sym (row_there c.loop-by.rows c.loop-by.by c.index-rows-by.result within c.index-rows-by.is) in (
       c.join_rows.ensures.size ∙ c.loop-by.invariant.0,
       other,
       λ k d h. c.join_rows.ensures.square k d h ∙ other,

@@ -9,7 +9,8 @@ use Rattle.jv_classes.proofs.table.direct_superclasses.Goals as goal
 pub loop-from-preserved : goal.loop-from-preserved
 loop-from-preserved c =
     let world = c.args.classes.now in
-    let row = c.deref.ensures.value ∙ row_of_class world c.args.rows.now c.loop-from.from c.index-rows-from.result c.index-classes-from.result c.requires c.loop-from-test.true c.index-rows-from.is c.index-classes-from.is in
+    let row = c.deref.ensures.value ∙ row_of_class world c.args.rows.now c.loop-from.from c.index-rows-from.result c.index-classes-from.result
+    c.requires c.loop-from-test.true c.index-rows-from.is c.index-classes-from.is in
     let here = class_at world c.loop-from.from c.index-classes-from.result c.loop-from-test.true c.index-classes-from.is in
     c.in_ok-push.ensures.items ∙ (ap (λ bs. bs ++ c.superclass_of.result ∷ []) c.loop-from.invariant
     ∙ map_more (λ (l : Loaded). superclass_number world l.class) world c.loop-from.from c.superclass_of.result c.loop-from-test.true

@@ -8,7 +8,8 @@ use Rattle.jv_frames.proofs.reading.lay_items.Goals as goal
 
 pub loop-preserved : goal.loop-preserved
 loop-preserved c =
-    step_on item (laid_item c.args.pool.now) c.args.count c.loop.counter c.loop.table c.lay_item.new.table c.loop.rest.now c.in_ok-rest.rest.now _ c.loop-test.true c.in_ok-rest.ensures c.loop.invariant
+    step_on item (laid_item c.args.pool.now) c.args.count c.loop.counter c.loop.table c.lay_item.new.table c.loop.rest.now c.in_ok-rest.rest.now _
+    c.loop-test.true c.in_ok-rest.ensures c.loop.invariant
 
 pub returns-in_err-rest : goal.returns-in_err-rest
 returns-in_err-rest c =

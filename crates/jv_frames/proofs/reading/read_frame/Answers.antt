@@ -18,12 +18,14 @@ returns-in_err-finish c =
     let e = c.in_err-finish.field-0.0 in
     let is : c.from_residual-in_err-finish.result ≡ Err e = cc (p.1, p.2) in
     gives_fault e (frame_read c.args.pool.now c.args.limits c.args.table.now c.args.bytes.now) _ c.from_residual-in_err-finish.result is
-    (fails_on e _ _ (λ none. read_done c.args.pool.now c.args.limits c.in-Some.tag c.in_ok-delta.delta c.args.table.now c.begin.new.table c.args.bytes.now c.in-Some.rest.now c.in_ok-delta.rest.now None c.in-Some.ensures c.in_ok-delta.ensures none)
+    (fails_on e _ _ (λ none. read_done c.args.pool.now c.args.limits c.in-Some.tag c.in_ok-delta.delta c.args.table.now c.begin.new.table
+    c.args.bytes.now c.in-Some.rest.now c.in_ok-delta.rest.now None c.in-Some.ensures c.in_ok-delta.ensures none)
     c.in_err-finish.ensures)
 
 pub returns : goal.returns
 returns c =
-    read_done c.args.pool.now c.args.limits c.in-Some.tag c.in_ok-delta.delta c.args.table.now c.begin.new.table c.args.bytes.now c.in-Some.rest.now c.in_ok-delta.rest.now (Some c.finish.new.self) c.in-Some.ensures c.in_ok-delta.ensures
+    read_done c.args.pool.now c.args.limits c.in-Some.tag c.in_ok-delta.delta c.args.table.now c.begin.new.table c.args.bytes.now c.in-Some.rest.now
+    c.in_ok-delta.rest.now (Some c.finish.new.self) c.in-Some.ensures c.in_ok-delta.ensures
     c.in_ok-finish.ensures
 
 pub returns-in_err-delta : goal.returns-in_err-delta

@@ -20,7 +20,8 @@ returns-clause-begun g c = λ files are.
     starts_in c.judged_by_verdicts.ensures c.one_content.ensures c.never_faults.ensures c.args.judged files are c.args.main.now
     c.args.input.now c.args.budget c.in_ok-verified.verified.items c.in_ok-verified.ensures c.classes-classes.result.now.world c.deref.result.now same c.deref.ensures.value in
     begins c.judged_by_verdicts.ensures c.one_content.ensures c.never_faults.ensures c.args.judged files are c.args.main.now
-    c.args.input.now c.args.budget c.in_ok-verified.verified.items c.in_ok-verified.ensures _ (g.S.Store.content c.args.store.now) (g.S.Store.content c.start.new.store) c.in_ok-frames.field-0 refl refl
+    c.args.input.now c.args.budget c.in_ok-verified.verified.items c.in_ok-verified.ensures _ (g.S.Store.content c.args.store.now)
+    (g.S.Store.content c.start.new.store) c.in_ok-frames.field-0 refl refl
     (record {
       linked = subst (λ (w : World). IsLinked w c.in-Ok.linked) same (c.in-Ok.ensures {u = tt});
       methods = subst (λ (w : World). AreMethods w c.in_ok-methods.methods) same (c.in_ok-methods.ensures {u = tt});

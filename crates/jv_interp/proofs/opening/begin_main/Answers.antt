@@ -34,7 +34,9 @@ pub returns-clause-begun : goal.returns-clause-begun
 returns-clause-begun g c =
     let place = subst (λ (o : Option Place). IfSome o (IsMethodPlace c.args.classes.now.world)) c.in-Some.is c.requires.place in
     on_ok_weaker
-    {P = Moved c.args.classes.now.world (Beginning c.in-Some.place.class c.args.verified.now) (kept c.args.frames.now c.args.control.now c.args.held.now (g.S.Store.content c.args.store.now)) (kept c.begin.new.frames c.begin.new.control c.begin.new.held (g.S.Store.content c.begin.new.store))}
+    {P = Moved c.args.classes.now.world (Beginning c.in-Some.place.class c.args.verified.now)
+    (kept c.args.frames.now c.args.control.now c.args.held.now (g.S.Store.content c.args.store.now))
+    (kept c.begin.new.frames c.begin.new.control c.begin.new.held (g.S.Store.content c.begin.new.store))}
     c.begin.result
     (λ moved program texts s t addresses h.
     moved program texts s t addresses

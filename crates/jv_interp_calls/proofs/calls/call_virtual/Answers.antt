@@ -47,7 +47,10 @@ get-word-requires g c =
     let u = instance_use c.args.how c.requires.kind in
     let w = c.requires.can in
     (has c.args.how c.args.index w.next k here w.texts w.c w.addresses w.done w.below w.calls u c.method_is_called.ensures c.in-Ok.called c.in-Ok.ensures.found c.in-Ok.ensures.called
-    (receives c.args.how c.args.index w.next k here w.texts w.c w.addresses w.done w.below w.calls u c.method_is_called.ensures c.in-Ok.called c.in-Ok.ensures.found c.in-Ok.ensures.called c.if-object-eq0.false) (virtual_does c.args.how c.args.index w.next k here w.texts w.c w.addresses w.done w.below w.calls u c.method_is_called.ensures c.in-Ok.called c.in-Ok.ensures.found c.in-Ok.ensures.called (virtual_use c.args.how c.requires.kind))).some
+    (receives c.args.how c.args.index w.next k here w.texts w.c w.addresses w.done w.below w.calls u c.method_is_called.ensures c.in-Ok.called
+    c.in-Ok.ensures.found c.in-Ok.ensures.called c.if-object-eq0.false)
+    (virtual_does c.args.how c.args.index w.next k here w.texts w.c w.addresses w.done w.below w.calls u c.method_is_called.ensures c.in-Ok.called
+    c.in-Ok.ensures.found c.in-Ok.ensures.called (virtual_use c.args.how c.requires.kind))).some
 
 pub run-requires-clause-site : goal.run-requires-clause-site
 run-requires-clause-site g c =
@@ -64,7 +67,10 @@ run-requires-clause-object g c =
     let w = c.requires.can in
     subst (λ (n : ℕ). IsObject c.args.classes.now.world (class_number n)) (sym c.get-word.ensures)
     (is_object c.args.how c.args.index w.next k here w.texts w.c w.addresses w.done w.below w.calls u c.method_is_called.ensures c.in-Ok.called c.in-Ok.ensures.found c.in-Ok.ensures.called
-    (receives c.args.how c.args.index w.next k here w.texts w.c w.addresses w.done w.below w.calls u c.method_is_called.ensures c.in-Ok.called c.in-Ok.ensures.found c.in-Ok.ensures.called c.if-object-eq0.false) (virtual_does c.args.how c.args.index w.next k here w.texts w.c w.addresses w.done w.below w.calls u c.method_is_called.ensures c.in-Ok.called c.in-Ok.ensures.found c.in-Ok.ensures.called (virtual_use c.args.how c.requires.kind)))
+    (receives c.args.how c.args.index w.next k here w.texts w.c w.addresses w.done w.below w.calls u c.method_is_called.ensures c.in-Ok.called
+    c.in-Ok.ensures.found c.in-Ok.ensures.called c.if-object-eq0.false)
+    (virtual_does c.args.how c.args.index w.next k here w.texts w.c w.addresses w.done w.below w.calls u c.method_is_called.ensures c.in-Ok.called
+    c.in-Ok.ensures.found c.in-Ok.ensures.called (virtual_use c.args.how c.requires.kind)))
 
 pub overflow_cast-result : goal.overflow_cast-result
 overflow_cast-result g c =
@@ -81,7 +87,10 @@ returns-in-Ok-run-clause-calls g c = λ next texts x addresses done below h.
     let here = place c.args.at.now c.args.words.now c.args.held.now (g.S.Store.content c.args.store.now) in
     let u = instance_use c.args.how c.requires.kind in
     runs c.args.how c.args.index next k here texts x addresses done below h u c.method_is_called.ensures c.in-Ok.called c.in-Ok.ensures.found c.in-Ok.ensures.called
-    (receives c.args.how c.args.index next k here texts x addresses done below h u c.method_is_called.ensures c.in-Ok.called c.in-Ok.ensures.found c.in-Ok.ensures.called c.if-object-eq0.false) (virtual_does c.args.how c.args.index next k here texts x addresses done below h u c.method_is_called.ensures c.in-Ok.called c.in-Ok.ensures.found c.in-Ok.ensures.called (virtual_use c.args.how c.requires.kind)) c.in-Ok-run.method
+    (receives c.args.how c.args.index next k here texts x addresses done below h u c.method_is_called.ensures c.in-Ok.called c.in-Ok.ensures.found
+    c.in-Ok.ensures.called c.if-object-eq0.false) (virtual_does c.args.how c.args.index next k here texts x addresses done below h u
+    c.method_is_called.ensures c.in-Ok.called c.in-Ok.ensures.found c.in-Ok.ensures.called (virtual_use c.args.how c.requires.kind))
+    c.in-Ok-run.method
     (subst (λ (n : ℕ). IsRun c.args.classes.now.world c.args.site c.args.how c.in-Ok.called.target n (Ok c.in-Ok-run.method)) c.get-word.ensures c.in-Ok-run.ensures.run)
 
 pub returns-in-Err-run-clause-calls : goal.returns-in-Err-run-clause-calls
@@ -90,5 +99,8 @@ returns-in-Err-run-clause-calls g c = λ next texts x addresses done below h.
     let here = place c.args.at.now c.args.words.now c.args.held.now (g.S.Store.content c.args.store.now) in
     let u = instance_use c.args.how c.requires.kind in
     refused c.args.how c.args.index next k here texts x addresses done below h u c.method_is_called.ensures c.in-Ok.called c.in-Ok.ensures.found c.in-Ok.ensures.called
-    (receives c.args.how c.args.index next k here texts x addresses done below h u c.method_is_called.ensures c.in-Ok.called c.in-Ok.ensures.found c.in-Ok.ensures.called c.if-object-eq0.false) (virtual_does c.args.how c.args.index next k here texts x addresses done below h u c.method_is_called.ensures c.in-Ok.called c.in-Ok.ensures.found c.in-Ok.ensures.called (virtual_use c.args.how c.requires.kind)) c.in-Err-run.class
+    (receives c.args.how c.args.index next k here texts x addresses done below h u c.method_is_called.ensures c.in-Ok.called c.in-Ok.ensures.found
+    c.in-Ok.ensures.called c.if-object-eq0.false) (virtual_does c.args.how c.args.index next k here texts x addresses done below h u
+    c.method_is_called.ensures c.in-Ok.called c.in-Ok.ensures.found c.in-Ok.ensures.called (virtual_use c.args.how c.requires.kind))
+    c.in-Err-run.class
     (subst (λ (n : ℕ). IsRun c.args.classes.now.world c.args.site c.args.how c.in-Ok.called.target n (Err c.in-Err-run.class)) c.get-word.ensures c.in-Err-run.ensures.run)

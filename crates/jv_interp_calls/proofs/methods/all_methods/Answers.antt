@@ -13,7 +13,8 @@ loop-class-preserved c =
           (c.in_ok-add_methods.ensures.added item.0 item.1 (methods_of (take c.loop-class.class world)) c.loop-class.invariant.0),
       rw c.in_ok-push.ensures.items
           (first_joins world c.loop-class.class c.len.result _ item.0 c.loop-class.firsts.items item.1
-          (c.in_ok-add_methods.ensures.count item.0 item.1 ∙ ap (λ (n : ℕ). n + length item.0.class.methods) (let e : length c.loop-class.rows.items ≡ c.len.result = omega (arith, c.loop-class.rows.ok.0, c.len.ensures) in e))
+          (c.in_ok-add_methods.ensures.count item.0 item.1 ∙ ap (λ (n : ℕ). n + length item.0.class.methods)
+          (let e : length c.loop-class.rows.items ≡ c.len.result = omega (arith, c.loop-class.rows.ok.0, c.len.ensures) in e))
           (rw c.len.ensures (rw c.loop-class.rows.ok.0 c.loop-class.invariant.1))),
     )
 

@@ -9,8 +9,12 @@ use Rattle.jv_interp_creation.proofs.arrays.new_base_array.Goals as goal
 pub returns-clause-makes : goal.returns-clause-makes
 returns-clause-makes g c =
     IfOk-weaker c.new_array.result
-    (λ (effect : Effect). MakesArray c.args.word c.args.slots c.args.next c.args.at.now c.args.words.now c.args.held.now (g.S.Store.content c.args.store.now) c.new_array.new.at c.new_array.new.words c.new_array.new.held (g.S.Store.content c.new_array.new.store) effect)
-    (λ (effect : Effect). MakesBaseArray c.args.word c.args.slots c.args.next c.args.at.now c.args.words.now c.args.held.now (g.S.Store.content c.args.store.now) c.new_array.new.at c.new_array.new.words c.new_array.new.held (g.S.Store.content c.new_array.new.store) effect)
+    (λ (effect : Effect). MakesArray c.args.word c.args.slots c.args.next c.args.at.now c.args.words.now c.args.held.now
+    (g.S.Store.content c.args.store.now) c.new_array.new.at c.new_array.new.words c.new_array.new.held (g.S.Store.content c.new_array.new.store)
+    effect)
+    (λ (effect : Effect). MakesBaseArray c.args.word c.args.slots c.args.next c.args.at.now c.args.words.now c.args.held.now
+    (g.S.Store.content c.args.store.now) c.new_array.new.at c.new_array.new.words c.new_array.new.held (g.S.Store.content c.new_array.new.store)
+    effect)
     (λ effect makes. λ texts x element addresses done below h.
     makes texts x (base_components (base_of element)) addresses done below
     (base_array c.args.word c.args.slots c.args.next (place c.args.at.now c.args.words.now c.args.held.now (g.S.Store.content c.args.store.now)) texts x element addresses done below h))

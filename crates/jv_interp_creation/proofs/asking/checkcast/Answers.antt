@@ -54,7 +54,8 @@ is_instance-requires-clause-named g c =
     let k = known c.args.classes.now.world c.args.linked.now c.args.site in
     let here = place c.args.at.now c.args.words.now c.args.held.now (g.S.Store.content c.args.store.now) in
     let w = c.requires in
-    let it = of_type cast_step c.args.index c.args.next k here w.texts w.c w.addresses w.done w.below w.asks cast_tail cast_tests c.if-object-eq0.false c.in-Ok.type_named c.in-Ok.ensures.found in (it.type, it.is_of)
+    let it = of_type cast_step c.args.index c.args.next k here w.texts w.c w.addresses w.done w.below w.asks cast_tail cast_tests
+    c.if-object-eq0.false c.in-Ok.type_named c.in-Ok.ensures.found in (it.type, it.is_of)
 
 pub returns-then-not-is_instance-clause-asks : goal.returns-then-not-is_instance-clause-asks
 returns-then-not-is_instance-clause-asks g c = λ texts x addresses done below h.

@@ -18,7 +18,8 @@ bounds-words-at g c =
     let k = known c.args.classes.now.world c.args.linked.now c.args.site in
     let here = place c.args.at.now c.args.words.now c.args.held.now (g.S.Store.content c.args.store.now) in
     let w = c.requires in
-    let t = top instance_step c.args.index c.args.next k here w.texts w.c w.addresses w.done w.below w.asks in let some = t.some in let within = w.asks.executes.top_within in omega (arith, some, within)
+    let t = top instance_step c.args.index c.args.next k here w.texts w.c w.addresses w.done w.below w.asks in let some = t.some in let within =
+    w.asks.executes.top_within in omega (arith, some, within)
 
 pub returns-then-object-eq0-clause-asks : goal.returns-then-object-eq0-clause-asks
 returns-then-object-eq0-clause-asks g c = λ texts x addresses done below h.
@@ -55,7 +56,8 @@ is_instance-requires-clause-named g c =
     let k = known c.args.classes.now.world c.args.linked.now c.args.site in
     let here = place c.args.at.now c.args.words.now c.args.held.now (g.S.Store.content c.args.store.now) in
     let w = c.requires in
-    let it = of_type instance_step c.args.index c.args.next k here w.texts w.c w.addresses w.done w.below w.asks instance_tail instance_tests c.if-object-eq0.false c.in-Ok.type_named c.in-Ok.ensures.found in (it.type, it.is_of)
+    let it = of_type instance_step c.args.index c.args.next k here w.texts w.c w.addresses w.done w.below w.asks instance_tail instance_tests
+    c.if-object-eq0.false c.in-Ok.type_named c.in-Ok.ensures.found in (it.type, it.is_of)
 
 pub overflow_sub-words : goal.overflow_sub-words
 overflow_sub-words g c =
@@ -69,10 +71,12 @@ returns-clause-asks g c = λ texts x addresses done below h.
     let k = known c.args.classes.now.world c.args.linked.now c.args.site in
     let here = place c.args.at.now c.args.words.now c.args.held.now (g.S.Store.content c.args.store.now) in
     subst
-    (λ (n : ℕ). Did texts (place (record c.args.at.now { pc = c.args.next }) (set c.args.words.now (c.args.at.now.top - 1) n) c.args.held.now (g.S.Store.content c.args.store.now)) effects.Goes x addresses done below)
+    (λ (n : ℕ). Did texts (place (record c.args.at.now { pc = c.args.next }) (set c.args.words.now (c.args.at.now.top - 1) n) c.args.held.now
+    (g.S.Store.content c.args.store.now)) effects.Goes x addresses done below)
     (sym c.int_of.ensures)
     (object_answers c.args.index c.args.next k here texts x addresses done below h c.is_instance.result _
-    (does_so instance_step c.args.index c.args.next k here texts x addresses done below h instance_tail instance_tests c.if-object-eq0.false c.in-Ok.type_named c.in-Ok.ensures.found c.is_instance.result
+    (does_so instance_step c.args.index c.args.next k here texts x addresses done below h instance_tail instance_tests c.if-object-eq0.false
+    c.in-Ok.type_named c.in-Ok.ensures.found c.is_instance.result
     (λ object type word is. c.is_instance.ensures object type (subst (λ (n : ℕ). HasWord c.args.classes.now.world object n) (sym c.get-word.ensures) word) is)) refl refl)
 
 pub named-requires-clause-few : goal.named-requires-clause-few

@@ -34,10 +34,13 @@ returns-clause-makes g c =
     let k = known c.args.classes.now.world c.args.linked.now c.args.site in
     let here = place c.args.at.now c.args.words.now c.args.held.now (g.S.Store.content c.args.store.now) in
     IfOk-weaker c.new_array.result
-    (λ (effect : Effect). MakesOne c.array_word-word.result 1 c.args.next c.args.at.now c.args.words.now c.args.held.now (g.S.Store.content c.args.store.now) c.new_array.new.at c.new_array.new.words c.new_array.new.held (g.S.Store.content c.new_array.new.store) effect)
+    (λ (effect : Effect). MakesOne c.array_word-word.result 1 c.args.next c.args.at.now c.args.words.now c.args.held.now
+    (g.S.Store.content c.args.store.now) c.new_array.new.at c.new_array.new.words c.new_array.new.held (g.S.Store.content c.new_array.new.store)
+    effect)
     (λ (effect : Effect). MakesArray c.args.index c.args.next k here (place c.new_array.new.at c.new_array.new.words c.new_array.new.held (g.S.Store.content c.new_array.new.store)) effect)
     (λ effect makes. λ texts x addresses done below h.
-    let m = made c.args.index c.args.next k here texts x addresses done below h c.in-Ok.components c.in-Ok.ensures.found c.array_word-word.result c.array_word-word.ensures in makes texts x m.components addresses done below m.making)
+    let m = made c.args.index c.args.next k here texts x addresses done below h c.in-Ok.components c.in-Ok.ensures.found c.array_word-word.result
+    c.array_word-word.ensures in makes texts x m.components addresses done below m.making)
     c.new_array.ensures.makes
 
 pub named-requires-clause-few : goal.named-requires-clause-few

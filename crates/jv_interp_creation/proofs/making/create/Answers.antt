@@ -33,16 +33,22 @@ returns-then-not-is_ready-clause-makes g c = λ texts x addresses done below h.
     let k = known c.args.classes.now.world c.args.linked.now c.args.site in
     let here = place c.args.at.now c.args.words.now c.args.held.now (g.S.Store.content c.args.store.now) in
     begins c.args.index c.args.next k c.args.states.now here texts x addresses done below h c.in-Ok.class c.in-Ok.ensures.found
-    (sym (c.is_ready.ensures k.world x.states (l c.args.index c.args.next k c.args.states.now here texts x addresses done below h c.in-Ok.class c.in-Ok.ensures.found) h.states_are (at c.args.index c.args.next k c.args.states.now here texts x addresses done below h c.in-Ok.class c.in-Ok.ensures.found)) ∙ c.if-not-is_ready.true)
+    (sym (c.is_ready.ensures k.world x.states (l c.args.index c.args.next k c.args.states.now here texts x addresses done below h c.in-Ok.class
+    c.in-Ok.ensures.found) h.states_are (at c.args.index c.args.next k c.args.states.now here texts x addresses done below h c.in-Ok.class
+    c.in-Ok.ensures.found)) ∙ c.if-not-is_ready.true)
 
 pub returns-then-size-held-clause-makes : goal.returns-then-size-held-clause-makes
 returns-then-size-held-clause-makes g c = λ texts x addresses done below h.
     let k = known c.args.classes.now.world c.args.linked.now c.args.site in
     let here = place c.args.at.now c.args.words.now c.args.held.now (g.S.Store.content c.args.store.now) in
     lacks c.args.index c.args.next k c.args.states.now here texts x addresses done below h c.in-Ok.class c.in-Ok.ensures.found
-    (sym (c.is_ready.ensures k.world x.states (l c.args.index c.args.next k c.args.states.now here texts x addresses done below h c.in-Ok.class c.in-Ok.ensures.found) h.states_are (at c.args.index c.args.next k c.args.states.now here texts x addresses done below h c.in-Ok.class c.in-Ok.ensures.found)) ∙ c.if-not-is_ready.false)
+    (sym (c.is_ready.ensures k.world x.states (l c.args.index c.args.next k c.args.states.now here texts x addresses done below h c.in-Ok.class
+    c.in-Ok.ensures.found) h.states_are (at c.args.index c.args.next k c.args.states.now here texts x addresses done below h c.in-Ok.class
+    c.in-Ok.ensures.found)) ∙ c.if-not-is_ready.false)
     c.object_words-size.result
-    (c.object_words-size.ensures k.world c.in-Ok.ensures.linked (l c.args.index c.args.next k c.args.states.now here texts x addresses done below h c.in-Ok.class c.in-Ok.ensures.found) (at c.args.index c.args.next k c.args.states.now here texts x addresses done below h c.in-Ok.class c.in-Ok.ensures.found)) c.if-size-held.true
+    (c.object_words-size.ensures k.world c.in-Ok.ensures.linked (l c.args.index c.args.next k c.args.states.now here texts x addresses done below h
+    c.in-Ok.class c.in-Ok.ensures.found) (at c.args.index c.args.next k c.args.states.now here texts x addresses done below h c.in-Ok.class
+    c.in-Ok.ensures.found)) c.if-size-held.true
 
 pub overflow_cast-class : goal.overflow_cast-class
 overflow_cast-class g c =
@@ -72,9 +78,15 @@ new_object-requires-clause-can g c =
       below = w.below;
       creates =
           creating c.args.index c.args.next k c.args.states.now here w.texts w.c w.addresses w.done w.below w.makes c.in-Ok.class c.in-Ok.ensures.found
-          (sym (c.is_ready.ensures k.world w.c.states (l c.args.index c.args.next k c.args.states.now here w.texts w.c w.addresses w.done w.below w.makes c.in-Ok.class c.in-Ok.ensures.found) w.makes.states_are (at c.args.index c.args.next k c.args.states.now here w.texts w.c w.addresses w.done w.below w.makes c.in-Ok.class c.in-Ok.ensures.found)) ∙ c.if-not-is_ready.false)
+          (sym (c.is_ready.ensures k.world w.c.states (l c.args.index c.args.next k c.args.states.now here w.texts w.c w.addresses w.done w.below
+          w.makes c.in-Ok.class c.in-Ok.ensures.found) w.makes.states_are
+          (at c.args.index c.args.next k c.args.states.now here w.texts w.c w.addresses w.done w.below w.makes c.in-Ok.class
+          c.in-Ok.ensures.found)) ∙ c.if-not-is_ready.false)
           c.object_words-size.result
-          (c.object_words-size.ensures k.world c.in-Ok.ensures.linked (l c.args.index c.args.next k c.args.states.now here w.texts w.c w.addresses w.done w.below w.makes c.in-Ok.class c.in-Ok.ensures.found) (at c.args.index c.args.next k c.args.states.now here w.texts w.c w.addresses w.done w.below w.makes c.in-Ok.class c.in-Ok.ensures.found));
+          (c.object_words-size.ensures k.world c.in-Ok.ensures.linked (l c.args.index c.args.next k c.args.states.now here w.texts w.c w.addresses
+          w.done w.below w.makes c.in-Ok.class c.in-Ok.ensures.found)
+          (at c.args.index c.args.next k c.args.states.now here w.texts w.c w.addresses w.done w.below w.makes c.in-Ok.class
+          c.in-Ok.ensures.found));
       room = w.room;
     }
 
@@ -83,12 +95,19 @@ returns-clause-makes g c =
     let k = known c.args.classes.now.world c.args.linked.now c.args.site in
     let here = place c.args.at.now c.args.words.now c.args.held.now (g.S.Store.content c.args.store.now) in
     IfOk-weaker c.new_object.result
-    (λ (effect : Effect). Creates c.in-Ok.class c.object_words-size.result c.args.next c.args.at.now c.args.words.now c.args.held.now (g.S.Store.content c.args.store.now) c.new_object.new.at c.new_object.new.words c.new_object.new.held (g.S.Store.content c.new_object.new.store) effect)
-    (λ (effect : Effect). MakesObject c.args.index c.args.next k c.args.states.now here (place c.new_object.new.at c.new_object.new.words c.new_object.new.held (g.S.Store.content c.new_object.new.store)) effect)
+    (λ (effect : Effect). Creates c.in-Ok.class c.object_words-size.result c.args.next c.args.at.now c.args.words.now c.args.held.now
+    (g.S.Store.content c.args.store.now) c.new_object.new.at c.new_object.new.words c.new_object.new.held
+    (g.S.Store.content c.new_object.new.store) effect)
+    (λ (effect : Effect). MakesObject c.args.index c.args.next k c.args.states.now here
+    (place c.new_object.new.at c.new_object.new.words c.new_object.new.held (g.S.Store.content c.new_object.new.store)) effect)
     (λ effect creates. λ texts x addresses done below h.
     creates texts x (l c.args.index c.args.next k c.args.states.now here texts x addresses done below h c.in-Ok.class c.in-Ok.ensures.found) addresses done below
     (creating c.args.index c.args.next k c.args.states.now here texts x addresses done below h c.in-Ok.class c.in-Ok.ensures.found
-    (sym (c.is_ready.ensures k.world x.states (l c.args.index c.args.next k c.args.states.now here texts x addresses done below h c.in-Ok.class c.in-Ok.ensures.found) h.states_are (at c.args.index c.args.next k c.args.states.now here texts x addresses done below h c.in-Ok.class c.in-Ok.ensures.found)) ∙ c.if-not-is_ready.false)
+    (sym (c.is_ready.ensures k.world x.states (l c.args.index c.args.next k c.args.states.now here texts x addresses done below h c.in-Ok.class
+    c.in-Ok.ensures.found) h.states_are (at c.args.index c.args.next k c.args.states.now here texts x addresses done below h c.in-Ok.class
+    c.in-Ok.ensures.found)) ∙ c.if-not-is_ready.false)
     c.object_words-size.result
-    (c.object_words-size.ensures k.world c.in-Ok.ensures.linked (l c.args.index c.args.next k c.args.states.now here texts x addresses done below h c.in-Ok.class c.in-Ok.ensures.found) (at c.args.index c.args.next k c.args.states.now here texts x addresses done below h c.in-Ok.class c.in-Ok.ensures.found))))
+    (c.object_words-size.ensures k.world c.in-Ok.ensures.linked (l c.args.index c.args.next k c.args.states.now here texts x addresses done below h
+    c.in-Ok.class c.in-Ok.ensures.found) (at c.args.index c.args.next k c.args.states.now here texts x addresses done below h c.in-Ok.class
+    c.in-Ok.ensures.found))))
     c.new_object.ensures.creates

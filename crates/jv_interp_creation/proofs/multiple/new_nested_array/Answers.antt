@@ -30,7 +30,8 @@ pay_nested-requires-clause-some g c =
     let here = place c.args.at.now c.args.words.now c.args.held.now (g.S.Store.content c.args.store.now) in
     let q = c.requires.can in
     let one = some c.args.word c.args.slots c.args.dimensions c.args.next here q.texts q.c q.components q.addresses q.done q.below q.makes in
-    let size = counts_length c.args.word c.args.slots c.args.dimensions c.args.next here q.texts q.c q.components q.addresses q.done q.below q.makes c.words_between-counts.result.now c.words_between-counts.ensures in
+    let size = counts_length c.args.word c.args.slots c.args.dimensions c.args.next here q.texts q.c q.components q.addresses q.done q.below q.makes
+    c.words_between-counts.result.now c.words_between-counts.ensures in
     omega (arith, one, size)
 
 pub pay_nested-requires-clause-counts : goal.pay_nested-requires-clause-counts
@@ -42,7 +43,8 @@ pay_nested-requires-clause-word g c =
     let here = place c.args.at.now c.args.words.now c.args.held.now (g.S.Store.content c.args.store.now) in
     let q = c.requires.can in
     let fits = word_fits c.args.word c.args.slots c.args.dimensions c.args.next here q.texts q.c q.components q.addresses q.done q.below q.makes in
-    let size = counts_length c.args.word c.args.slots c.args.dimensions c.args.next here q.texts q.c q.components q.addresses q.done q.below q.makes c.words_between-counts.result.now c.words_between-counts.ensures in
+    let size = counts_length c.args.word c.args.slots c.args.dimensions c.args.next here q.texts q.c q.components q.addresses q.done q.below q.makes
+    c.words_between-counts.result.now c.words_between-counts.ensures in
     omega (arith, fits, size)
 
 pub returns-in-Some-clause-makes : goal.returns-in-Some-clause-makes

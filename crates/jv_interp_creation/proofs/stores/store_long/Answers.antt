@@ -15,7 +15,9 @@ overflow_sub-at-3 g c =
     let a : get_or c.args.words.now (c.args.at.now.top - 2 - 2) 0 ≡ get_or c.args.words.now (c.args.at.now.top - 4) 0 = ap (λ (n : ℕ). get_or c.args.words.now n 0) (below_two c.args.at.now.top).0 in
     let b : get_or c.args.words.now (c.args.at.now.top - 2 - 1) 0 ≡ get_or c.args.words.now (c.args.at.now.top - 3) 0 = ap (λ (n : ℕ). get_or c.args.words.now n 0) (below_two c.args.at.now.top).1 in
     let u = two_above 2 c.args.next here q.texts q.c q.kind q.addresses q.done q.below q.stores refl in
-    let e = all_there 2 c.args.next here q.texts q.c q.kind q.addresses q.done q.below q.stores (get_or c.args.words.now (c.args.at.now.top - 2) 0 ∷ get_or c.args.words.now (c.args.at.now.top - 1) 0 ∷ []) u (get_or c.args.words.now (c.args.at.now.top - 4) 0) (get_or c.args.words.now (c.args.at.now.top - 3) 0) a b in
+    let e = all_there 2 c.args.next here q.texts q.c q.kind q.addresses q.done q.below q.stores (get_or c.args.words.now (c.args.at.now.top - 2) 0 ∷
+    get_or c.args.words.now (c.args.at.now.top - 1) 0 ∷ []) u (get_or c.args.words.now (c.args.at.now.top - 4) 0)
+    (get_or c.args.words.now (c.args.at.now.top - 3) 0) a b in
     omega (arith, e)
 
 pub returns-then-array-eq0-clause-stores : goal.returns-then-array-eq0-clause-stores
@@ -24,7 +26,9 @@ returns-then-array-eq0-clause-stores g c = λ texts x kind addresses done below 
     let a : get_or c.args.words.now (c.args.at.now.top - 2 - 2) 0 ≡ get_or c.args.words.now (c.args.at.now.top - 4) 0 = ap (λ (n : ℕ). get_or c.args.words.now n 0) (below_two c.args.at.now.top).0 in
     let b : get_or c.args.words.now (c.args.at.now.top - 2 - 1) 0 ≡ get_or c.args.words.now (c.args.at.now.top - 3) 0 = ap (λ (n : ℕ). get_or c.args.words.now n 0) (below_two c.args.at.now.top).1 in
     let u = two_above 2 c.args.next here texts x kind addresses done below h refl in
-    null_raises 2 c.args.next here texts x kind addresses done below h (get_or c.args.words.now (c.args.at.now.top - 2) 0 ∷ get_or c.args.words.now (c.args.at.now.top - 1) 0 ∷ []) u (get_or c.args.words.now (c.args.at.now.top - 4) 0) (get_or c.args.words.now (c.args.at.now.top - 3) 0) a b c.if-array-eq0.true
+    null_raises 2 c.args.next here texts x kind addresses done below h (get_or c.args.words.now (c.args.at.now.top - 2) 0 ∷ get_or c.args.words.now
+    (c.args.at.now.top - 1) 0 ∷ []) u (get_or c.args.words.now (c.args.at.now.top - 4) 0) (get_or c.args.words.now (c.args.at.now.top - 3) 0) a b
+    c.if-array-eq0.true
 
 pub get-requires : goal.get-requires
 get-requires g c =
@@ -33,8 +37,12 @@ get-requires g c =
     let a : get_or c.args.words.now (c.args.at.now.top - 2 - 2) 0 ≡ get_or c.args.words.now (c.args.at.now.top - 4) 0 = ap (λ (n : ℕ). get_or c.args.words.now n 0) (below_two c.args.at.now.top).0 in
     let b : get_or c.args.words.now (c.args.at.now.top - 2 - 1) 0 ≡ get_or c.args.words.now (c.args.at.now.top - 3) 0 = ap (λ (n : ℕ). get_or c.args.words.now n 0) (below_two c.args.at.now.top).1 in
     let u = two_above 2 c.args.next here q.texts q.c q.kind q.addresses q.done q.below q.stores refl in
-    let i = in_array 2 c.args.next here q.texts q.c q.kind q.addresses q.done q.below q.stores (get_or c.args.words.now (c.args.at.now.top - 2) 0 ∷ get_or c.args.words.now (c.args.at.now.top - 1) 0 ∷ []) u (get_or c.args.words.now (c.args.at.now.top - 4) 0) (get_or c.args.words.now (c.args.at.now.top - 3) 0) a b c.if-array-eq0.false in
-    let size = block_size 2 c.args.next here q.texts q.c q.kind q.addresses q.done q.below q.stores (get_or c.args.words.now (c.args.at.now.top - 2) 0 ∷ get_or c.args.words.now (c.args.at.now.top - 1) 0 ∷ []) u (get_or c.args.words.now (c.args.at.now.top - 4) 0) (get_or c.args.words.now (c.args.at.now.top - 3) 0) a b i in
+    let i = in_array 2 c.args.next here q.texts q.c q.kind q.addresses q.done q.below q.stores (get_or c.args.words.now (c.args.at.now.top - 2) 0 ∷
+    get_or c.args.words.now (c.args.at.now.top - 1) 0 ∷ []) u (get_or c.args.words.now (c.args.at.now.top - 4) 0)
+    (get_or c.args.words.now (c.args.at.now.top - 3) 0) a b c.if-array-eq0.false in
+    let size = block_size 2 c.args.next here q.texts q.c q.kind q.addresses q.done q.below q.stores
+    (get_or c.args.words.now (c.args.at.now.top - 2) 0 ∷ get_or c.args.words.now (c.args.at.now.top - 1) 0 ∷ []) u
+    (get_or c.args.words.now (c.args.at.now.top - 4) 0) (get_or c.args.words.now (c.args.at.now.top - 3) 0) a b i in
     omega (arith, size)
 
 pub returns-then-get-index-clause-stores : goal.returns-then-get-index-clause-stores
@@ -43,11 +51,17 @@ returns-then-get-index-clause-stores g c = λ texts x kind addresses done below 
     let a : get_or c.args.words.now (c.args.at.now.top - 2 - 2) 0 ≡ get_or c.args.words.now (c.args.at.now.top - 4) 0 = ap (λ (n : ℕ). get_or c.args.words.now n 0) (below_two c.args.at.now.top).0 in
     let b : get_or c.args.words.now (c.args.at.now.top - 2 - 1) 0 ≡ get_or c.args.words.now (c.args.at.now.top - 3) 0 = ap (λ (n : ℕ). get_or c.args.words.now n 0) (below_two c.args.at.now.top).1 in
     let u = two_above 2 c.args.next here texts x kind addresses done below h refl in
-    let i = in_array 2 c.args.next here texts x kind addresses done below h (get_or c.args.words.now (c.args.at.now.top - 2) 0 ∷ get_or c.args.words.now (c.args.at.now.top - 1) 0 ∷ []) u (get_or c.args.words.now (c.args.at.now.top - 4) 0) (get_or c.args.words.now (c.args.at.now.top - 3) 0) a b c.if-array-eq0.false in
-    let count = count_word 2 c.args.next here texts x kind addresses done below h (get_or c.args.words.now (c.args.at.now.top - 2) 0 ∷ get_or c.args.words.now (c.args.at.now.top - 1) 0 ∷ []) u (get_or c.args.words.now (c.args.at.now.top - 4) 0) (get_or c.args.words.now (c.args.at.now.top - 3) 0) a b i in
+    let i = in_array 2 c.args.next here texts x kind addresses done below h (get_or c.args.words.now (c.args.at.now.top - 2) 0 ∷
+    get_or c.args.words.now (c.args.at.now.top - 1) 0 ∷ []) u (get_or c.args.words.now (c.args.at.now.top - 4) 0)
+    (get_or c.args.words.now (c.args.at.now.top - 3) 0) a b c.if-array-eq0.false in
+    let count = count_word 2 c.args.next here texts x kind addresses done below h (get_or c.args.words.now (c.args.at.now.top - 2) 0 ∷
+    get_or c.args.words.now (c.args.at.now.top - 1) 0 ∷ []) u (get_or c.args.words.now (c.args.at.now.top - 4) 0)
+    (get_or c.args.words.now (c.args.at.now.top - 3) 0) a b i in
     let e = c.get.ensures in
     let w = c.if-get-index.true in
-    outside_raises 2 c.args.next here texts x kind addresses done below h (get_or c.args.words.now (c.args.at.now.top - 2) 0 ∷ get_or c.args.words.now (c.args.at.now.top - 1) 0 ∷ []) u (get_or c.args.words.now (c.args.at.now.top - 4) 0) (get_or c.args.words.now (c.args.at.now.top - 3) 0) a b i (omega (arith, count, e, w))
+    outside_raises 2 c.args.next here texts x kind addresses done below h (get_or c.args.words.now (c.args.at.now.top - 2) 0 ∷ get_or c.args.words.now
+    (c.args.at.now.top - 1) 0 ∷ []) u (get_or c.args.words.now (c.args.at.now.top - 4) 0) (get_or c.args.words.now (c.args.at.now.top - 3) 0) a b
+    i (omega (arith, count, e, w))
 
 pub overflow_add-index : goal.overflow_add-index
 overflow_add-index g c =
@@ -56,10 +70,18 @@ overflow_add-index g c =
     let a : get_or c.args.words.now (c.args.at.now.top - 2 - 2) 0 ≡ get_or c.args.words.now (c.args.at.now.top - 4) 0 = ap (λ (n : ℕ). get_or c.args.words.now n 0) (below_two c.args.at.now.top).0 in
     let b : get_or c.args.words.now (c.args.at.now.top - 2 - 1) 0 ≡ get_or c.args.words.now (c.args.at.now.top - 3) 0 = ap (λ (n : ℕ). get_or c.args.words.now n 0) (below_two c.args.at.now.top).1 in
     let u = two_above 2 c.args.next here q.texts q.c q.kind q.addresses q.done q.below q.stores refl in
-    let i = in_array 2 c.args.next here q.texts q.c q.kind q.addresses q.done q.below q.stores (get_or c.args.words.now (c.args.at.now.top - 2) 0 ∷ get_or c.args.words.now (c.args.at.now.top - 1) 0 ∷ []) u (get_or c.args.words.now (c.args.at.now.top - 4) 0) (get_or c.args.words.now (c.args.at.now.top - 3) 0) a b c.if-array-eq0.false in
-    let size = block_size 2 c.args.next here q.texts q.c q.kind q.addresses q.done q.below q.stores (get_or c.args.words.now (c.args.at.now.top - 2) 0 ∷ get_or c.args.words.now (c.args.at.now.top - 1) 0 ∷ []) u (get_or c.args.words.now (c.args.at.now.top - 4) 0) (get_or c.args.words.now (c.args.at.now.top - 3) 0) a b i in
-    let count = count_word 2 c.args.next here q.texts q.c q.kind q.addresses q.done q.below q.stores (get_or c.args.words.now (c.args.at.now.top - 2) 0 ∷ get_or c.args.words.now (c.args.at.now.top - 1) 0 ∷ []) u (get_or c.args.words.now (c.args.at.now.top - 4) 0) (get_or c.args.words.now (c.args.at.now.top - 3) 0) a b i in
-    let few = few_values 2 c.args.next here q.texts q.c q.kind q.addresses q.done q.below q.stores (get_or c.args.words.now (c.args.at.now.top - 2) 0 ∷ get_or c.args.words.now (c.args.at.now.top - 1) 0 ∷ []) u (get_or c.args.words.now (c.args.at.now.top - 4) 0) (get_or c.args.words.now (c.args.at.now.top - 3) 0) a b i in
+    let i = in_array 2 c.args.next here q.texts q.c q.kind q.addresses q.done q.below q.stores (get_or c.args.words.now (c.args.at.now.top - 2) 0 ∷
+    get_or c.args.words.now (c.args.at.now.top - 1) 0 ∷ []) u (get_or c.args.words.now (c.args.at.now.top - 4) 0)
+    (get_or c.args.words.now (c.args.at.now.top - 3) 0) a b c.if-array-eq0.false in
+    let size = block_size 2 c.args.next here q.texts q.c q.kind q.addresses q.done q.below q.stores
+    (get_or c.args.words.now (c.args.at.now.top - 2) 0 ∷ get_or c.args.words.now (c.args.at.now.top - 1) 0 ∷ []) u
+    (get_or c.args.words.now (c.args.at.now.top - 4) 0) (get_or c.args.words.now (c.args.at.now.top - 3) 0) a b i in
+    let count = count_word 2 c.args.next here q.texts q.c q.kind q.addresses q.done q.below q.stores
+    (get_or c.args.words.now (c.args.at.now.top - 2) 0 ∷ get_or c.args.words.now (c.args.at.now.top - 1) 0 ∷ []) u
+    (get_or c.args.words.now (c.args.at.now.top - 4) 0) (get_or c.args.words.now (c.args.at.now.top - 3) 0) a b i in
+    let few = few_values 2 c.args.next here q.texts q.c q.kind q.addresses q.done q.below q.stores
+    (get_or c.args.words.now (c.args.at.now.top - 2) 0 ∷ get_or c.args.words.now (c.args.at.now.top - 1) 0 ∷ []) u
+    (get_or c.args.words.now (c.args.at.now.top - 4) 0) (get_or c.args.words.now (c.args.at.now.top - 3) 0) a b i in
     let e = c.get.ensures in
     let w = c.if-get-index.false in
     omega (arith, size, count, few, e, w)
@@ -71,10 +93,18 @@ set-requires g c =
     let a : get_or c.args.words.now (c.args.at.now.top - 2 - 2) 0 ≡ get_or c.args.words.now (c.args.at.now.top - 4) 0 = ap (λ (n : ℕ). get_or c.args.words.now n 0) (below_two c.args.at.now.top).0 in
     let b : get_or c.args.words.now (c.args.at.now.top - 2 - 1) 0 ≡ get_or c.args.words.now (c.args.at.now.top - 3) 0 = ap (λ (n : ℕ). get_or c.args.words.now n 0) (below_two c.args.at.now.top).1 in
     let u = two_above 2 c.args.next here q.texts q.c q.kind q.addresses q.done q.below q.stores refl in
-    let i = in_array 2 c.args.next here q.texts q.c q.kind q.addresses q.done q.below q.stores (get_or c.args.words.now (c.args.at.now.top - 2) 0 ∷ get_or c.args.words.now (c.args.at.now.top - 1) 0 ∷ []) u (get_or c.args.words.now (c.args.at.now.top - 4) 0) (get_or c.args.words.now (c.args.at.now.top - 3) 0) a b c.if-array-eq0.false in
-    let size = block_size 2 c.args.next here q.texts q.c q.kind q.addresses q.done q.below q.stores (get_or c.args.words.now (c.args.at.now.top - 2) 0 ∷ get_or c.args.words.now (c.args.at.now.top - 1) 0 ∷ []) u (get_or c.args.words.now (c.args.at.now.top - 4) 0) (get_or c.args.words.now (c.args.at.now.top - 3) 0) a b i in
-    let count = count_word 2 c.args.next here q.texts q.c q.kind q.addresses q.done q.below q.stores (get_or c.args.words.now (c.args.at.now.top - 2) 0 ∷ get_or c.args.words.now (c.args.at.now.top - 1) 0 ∷ []) u (get_or c.args.words.now (c.args.at.now.top - 4) 0) (get_or c.args.words.now (c.args.at.now.top - 3) 0) a b i in
-    let few = few_values 2 c.args.next here q.texts q.c q.kind q.addresses q.done q.below q.stores (get_or c.args.words.now (c.args.at.now.top - 2) 0 ∷ get_or c.args.words.now (c.args.at.now.top - 1) 0 ∷ []) u (get_or c.args.words.now (c.args.at.now.top - 4) 0) (get_or c.args.words.now (c.args.at.now.top - 3) 0) a b i in
+    let i = in_array 2 c.args.next here q.texts q.c q.kind q.addresses q.done q.below q.stores (get_or c.args.words.now (c.args.at.now.top - 2) 0 ∷
+    get_or c.args.words.now (c.args.at.now.top - 1) 0 ∷ []) u (get_or c.args.words.now (c.args.at.now.top - 4) 0)
+    (get_or c.args.words.now (c.args.at.now.top - 3) 0) a b c.if-array-eq0.false in
+    let size = block_size 2 c.args.next here q.texts q.c q.kind q.addresses q.done q.below q.stores
+    (get_or c.args.words.now (c.args.at.now.top - 2) 0 ∷ get_or c.args.words.now (c.args.at.now.top - 1) 0 ∷ []) u
+    (get_or c.args.words.now (c.args.at.now.top - 4) 0) (get_or c.args.words.now (c.args.at.now.top - 3) 0) a b i in
+    let count = count_word 2 c.args.next here q.texts q.c q.kind q.addresses q.done q.below q.stores
+    (get_or c.args.words.now (c.args.at.now.top - 2) 0 ∷ get_or c.args.words.now (c.args.at.now.top - 1) 0 ∷ []) u
+    (get_or c.args.words.now (c.args.at.now.top - 4) 0) (get_or c.args.words.now (c.args.at.now.top - 3) 0) a b i in
+    let few = few_values 2 c.args.next here q.texts q.c q.kind q.addresses q.done q.below q.stores
+    (get_or c.args.words.now (c.args.at.now.top - 2) 0 ∷ get_or c.args.words.now (c.args.at.now.top - 1) 0 ∷ []) u
+    (get_or c.args.words.now (c.args.at.now.top - 4) 0) (get_or c.args.words.now (c.args.at.now.top - 3) 0) a b i in
     let e = c.get.ensures in
     let w = c.if-get-index.false in
     omega (arith, size, count, few, e, w)
@@ -86,10 +116,18 @@ overflow_mul-index g c =
     let a : get_or c.args.words.now (c.args.at.now.top - 2 - 2) 0 ≡ get_or c.args.words.now (c.args.at.now.top - 4) 0 = ap (λ (n : ℕ). get_or c.args.words.now n 0) (below_two c.args.at.now.top).0 in
     let b : get_or c.args.words.now (c.args.at.now.top - 2 - 1) 0 ≡ get_or c.args.words.now (c.args.at.now.top - 3) 0 = ap (λ (n : ℕ). get_or c.args.words.now n 0) (below_two c.args.at.now.top).1 in
     let u = two_above 2 c.args.next here q.texts q.c q.kind q.addresses q.done q.below q.stores refl in
-    let i = in_array 2 c.args.next here q.texts q.c q.kind q.addresses q.done q.below q.stores (get_or c.args.words.now (c.args.at.now.top - 2) 0 ∷ get_or c.args.words.now (c.args.at.now.top - 1) 0 ∷ []) u (get_or c.args.words.now (c.args.at.now.top - 4) 0) (get_or c.args.words.now (c.args.at.now.top - 3) 0) a b c.if-array-eq0.false in
-    let size = block_size 2 c.args.next here q.texts q.c q.kind q.addresses q.done q.below q.stores (get_or c.args.words.now (c.args.at.now.top - 2) 0 ∷ get_or c.args.words.now (c.args.at.now.top - 1) 0 ∷ []) u (get_or c.args.words.now (c.args.at.now.top - 4) 0) (get_or c.args.words.now (c.args.at.now.top - 3) 0) a b i in
-    let count = count_word 2 c.args.next here q.texts q.c q.kind q.addresses q.done q.below q.stores (get_or c.args.words.now (c.args.at.now.top - 2) 0 ∷ get_or c.args.words.now (c.args.at.now.top - 1) 0 ∷ []) u (get_or c.args.words.now (c.args.at.now.top - 4) 0) (get_or c.args.words.now (c.args.at.now.top - 3) 0) a b i in
-    let few = few_values 2 c.args.next here q.texts q.c q.kind q.addresses q.done q.below q.stores (get_or c.args.words.now (c.args.at.now.top - 2) 0 ∷ get_or c.args.words.now (c.args.at.now.top - 1) 0 ∷ []) u (get_or c.args.words.now (c.args.at.now.top - 4) 0) (get_or c.args.words.now (c.args.at.now.top - 3) 0) a b i in
+    let i = in_array 2 c.args.next here q.texts q.c q.kind q.addresses q.done q.below q.stores (get_or c.args.words.now (c.args.at.now.top - 2) 0 ∷
+    get_or c.args.words.now (c.args.at.now.top - 1) 0 ∷ []) u (get_or c.args.words.now (c.args.at.now.top - 4) 0)
+    (get_or c.args.words.now (c.args.at.now.top - 3) 0) a b c.if-array-eq0.false in
+    let size = block_size 2 c.args.next here q.texts q.c q.kind q.addresses q.done q.below q.stores
+    (get_or c.args.words.now (c.args.at.now.top - 2) 0 ∷ get_or c.args.words.now (c.args.at.now.top - 1) 0 ∷ []) u
+    (get_or c.args.words.now (c.args.at.now.top - 4) 0) (get_or c.args.words.now (c.args.at.now.top - 3) 0) a b i in
+    let count = count_word 2 c.args.next here q.texts q.c q.kind q.addresses q.done q.below q.stores
+    (get_or c.args.words.now (c.args.at.now.top - 2) 0 ∷ get_or c.args.words.now (c.args.at.now.top - 1) 0 ∷ []) u
+    (get_or c.args.words.now (c.args.at.now.top - 4) 0) (get_or c.args.words.now (c.args.at.now.top - 3) 0) a b i in
+    let few = few_values 2 c.args.next here q.texts q.c q.kind q.addresses q.done q.below q.stores
+    (get_or c.args.words.now (c.args.at.now.top - 2) 0 ∷ get_or c.args.words.now (c.args.at.now.top - 1) 0 ∷ []) u
+    (get_or c.args.words.now (c.args.at.now.top - 4) 0) (get_or c.args.words.now (c.args.at.now.top - 3) 0) a b i in
     let e = c.get.ensures in
     let w = c.if-get-index.false in
     omega (arith, size, count, few, e, w)
@@ -101,10 +139,18 @@ overflow_mul-index-2 g c =
     let a : get_or c.args.words.now (c.args.at.now.top - 2 - 2) 0 ≡ get_or c.args.words.now (c.args.at.now.top - 4) 0 = ap (λ (n : ℕ). get_or c.args.words.now n 0) (below_two c.args.at.now.top).0 in
     let b : get_or c.args.words.now (c.args.at.now.top - 2 - 1) 0 ≡ get_or c.args.words.now (c.args.at.now.top - 3) 0 = ap (λ (n : ℕ). get_or c.args.words.now n 0) (below_two c.args.at.now.top).1 in
     let u = two_above 2 c.args.next here q.texts q.c q.kind q.addresses q.done q.below q.stores refl in
-    let i = in_array 2 c.args.next here q.texts q.c q.kind q.addresses q.done q.below q.stores (get_or c.args.words.now (c.args.at.now.top - 2) 0 ∷ get_or c.args.words.now (c.args.at.now.top - 1) 0 ∷ []) u (get_or c.args.words.now (c.args.at.now.top - 4) 0) (get_or c.args.words.now (c.args.at.now.top - 3) 0) a b c.if-array-eq0.false in
-    let size = block_size 2 c.args.next here q.texts q.c q.kind q.addresses q.done q.below q.stores (get_or c.args.words.now (c.args.at.now.top - 2) 0 ∷ get_or c.args.words.now (c.args.at.now.top - 1) 0 ∷ []) u (get_or c.args.words.now (c.args.at.now.top - 4) 0) (get_or c.args.words.now (c.args.at.now.top - 3) 0) a b i in
-    let count = count_word 2 c.args.next here q.texts q.c q.kind q.addresses q.done q.below q.stores (get_or c.args.words.now (c.args.at.now.top - 2) 0 ∷ get_or c.args.words.now (c.args.at.now.top - 1) 0 ∷ []) u (get_or c.args.words.now (c.args.at.now.top - 4) 0) (get_or c.args.words.now (c.args.at.now.top - 3) 0) a b i in
-    let few = few_values 2 c.args.next here q.texts q.c q.kind q.addresses q.done q.below q.stores (get_or c.args.words.now (c.args.at.now.top - 2) 0 ∷ get_or c.args.words.now (c.args.at.now.top - 1) 0 ∷ []) u (get_or c.args.words.now (c.args.at.now.top - 4) 0) (get_or c.args.words.now (c.args.at.now.top - 3) 0) a b i in
+    let i = in_array 2 c.args.next here q.texts q.c q.kind q.addresses q.done q.below q.stores (get_or c.args.words.now (c.args.at.now.top - 2) 0 ∷
+    get_or c.args.words.now (c.args.at.now.top - 1) 0 ∷ []) u (get_or c.args.words.now (c.args.at.now.top - 4) 0)
+    (get_or c.args.words.now (c.args.at.now.top - 3) 0) a b c.if-array-eq0.false in
+    let size = block_size 2 c.args.next here q.texts q.c q.kind q.addresses q.done q.below q.stores
+    (get_or c.args.words.now (c.args.at.now.top - 2) 0 ∷ get_or c.args.words.now (c.args.at.now.top - 1) 0 ∷ []) u
+    (get_or c.args.words.now (c.args.at.now.top - 4) 0) (get_or c.args.words.now (c.args.at.now.top - 3) 0) a b i in
+    let count = count_word 2 c.args.next here q.texts q.c q.kind q.addresses q.done q.below q.stores
+    (get_or c.args.words.now (c.args.at.now.top - 2) 0 ∷ get_or c.args.words.now (c.args.at.now.top - 1) 0 ∷ []) u
+    (get_or c.args.words.now (c.args.at.now.top - 4) 0) (get_or c.args.words.now (c.args.at.now.top - 3) 0) a b i in
+    let few = few_values 2 c.args.next here q.texts q.c q.kind q.addresses q.done q.below q.stores
+    (get_or c.args.words.now (c.args.at.now.top - 2) 0 ∷ get_or c.args.words.now (c.args.at.now.top - 1) 0 ∷ []) u
+    (get_or c.args.words.now (c.args.at.now.top - 4) 0) (get_or c.args.words.now (c.args.at.now.top - 3) 0) a b i in
     let e = c.get.ensures in
     let w = c.if-get-index.false in
     omega (arith, size, count, few, e, w)
@@ -116,10 +162,18 @@ overflow_add-index-2 g c =
     let a : get_or c.args.words.now (c.args.at.now.top - 2 - 2) 0 ≡ get_or c.args.words.now (c.args.at.now.top - 4) 0 = ap (λ (n : ℕ). get_or c.args.words.now n 0) (below_two c.args.at.now.top).0 in
     let b : get_or c.args.words.now (c.args.at.now.top - 2 - 1) 0 ≡ get_or c.args.words.now (c.args.at.now.top - 3) 0 = ap (λ (n : ℕ). get_or c.args.words.now n 0) (below_two c.args.at.now.top).1 in
     let u = two_above 2 c.args.next here q.texts q.c q.kind q.addresses q.done q.below q.stores refl in
-    let i = in_array 2 c.args.next here q.texts q.c q.kind q.addresses q.done q.below q.stores (get_or c.args.words.now (c.args.at.now.top - 2) 0 ∷ get_or c.args.words.now (c.args.at.now.top - 1) 0 ∷ []) u (get_or c.args.words.now (c.args.at.now.top - 4) 0) (get_or c.args.words.now (c.args.at.now.top - 3) 0) a b c.if-array-eq0.false in
-    let size = block_size 2 c.args.next here q.texts q.c q.kind q.addresses q.done q.below q.stores (get_or c.args.words.now (c.args.at.now.top - 2) 0 ∷ get_or c.args.words.now (c.args.at.now.top - 1) 0 ∷ []) u (get_or c.args.words.now (c.args.at.now.top - 4) 0) (get_or c.args.words.now (c.args.at.now.top - 3) 0) a b i in
-    let count = count_word 2 c.args.next here q.texts q.c q.kind q.addresses q.done q.below q.stores (get_or c.args.words.now (c.args.at.now.top - 2) 0 ∷ get_or c.args.words.now (c.args.at.now.top - 1) 0 ∷ []) u (get_or c.args.words.now (c.args.at.now.top - 4) 0) (get_or c.args.words.now (c.args.at.now.top - 3) 0) a b i in
-    let few = few_values 2 c.args.next here q.texts q.c q.kind q.addresses q.done q.below q.stores (get_or c.args.words.now (c.args.at.now.top - 2) 0 ∷ get_or c.args.words.now (c.args.at.now.top - 1) 0 ∷ []) u (get_or c.args.words.now (c.args.at.now.top - 4) 0) (get_or c.args.words.now (c.args.at.now.top - 3) 0) a b i in
+    let i = in_array 2 c.args.next here q.texts q.c q.kind q.addresses q.done q.below q.stores (get_or c.args.words.now (c.args.at.now.top - 2) 0 ∷
+    get_or c.args.words.now (c.args.at.now.top - 1) 0 ∷ []) u (get_or c.args.words.now (c.args.at.now.top - 4) 0)
+    (get_or c.args.words.now (c.args.at.now.top - 3) 0) a b c.if-array-eq0.false in
+    let size = block_size 2 c.args.next here q.texts q.c q.kind q.addresses q.done q.below q.stores
+    (get_or c.args.words.now (c.args.at.now.top - 2) 0 ∷ get_or c.args.words.now (c.args.at.now.top - 1) 0 ∷ []) u
+    (get_or c.args.words.now (c.args.at.now.top - 4) 0) (get_or c.args.words.now (c.args.at.now.top - 3) 0) a b i in
+    let count = count_word 2 c.args.next here q.texts q.c q.kind q.addresses q.done q.below q.stores
+    (get_or c.args.words.now (c.args.at.now.top - 2) 0 ∷ get_or c.args.words.now (c.args.at.now.top - 1) 0 ∷ []) u
+    (get_or c.args.words.now (c.args.at.now.top - 4) 0) (get_or c.args.words.now (c.args.at.now.top - 3) 0) a b i in
+    let few = few_values 2 c.args.next here q.texts q.c q.kind q.addresses q.done q.below q.stores
+    (get_or c.args.words.now (c.args.at.now.top - 2) 0 ∷ get_or c.args.words.now (c.args.at.now.top - 1) 0 ∷ []) u
+    (get_or c.args.words.now (c.args.at.now.top - 4) 0) (get_or c.args.words.now (c.args.at.now.top - 3) 0) a b i in
     let e = c.get.ensures in
     let w = c.if-get-index.false in
     omega (arith, size, count, few, e, w)
@@ -131,14 +185,26 @@ set-requires-2 g c =
     let a : get_or c.args.words.now (c.args.at.now.top - 2 - 2) 0 ≡ get_or c.args.words.now (c.args.at.now.top - 4) 0 = ap (λ (n : ℕ). get_or c.args.words.now n 0) (below_two c.args.at.now.top).0 in
     let b : get_or c.args.words.now (c.args.at.now.top - 2 - 1) 0 ≡ get_or c.args.words.now (c.args.at.now.top - 3) 0 = ap (λ (n : ℕ). get_or c.args.words.now n 0) (below_two c.args.at.now.top).1 in
     let u = two_above 2 c.args.next here q.texts q.c q.kind q.addresses q.done q.below q.stores refl in
-    let i = in_array 2 c.args.next here q.texts q.c q.kind q.addresses q.done q.below q.stores (get_or c.args.words.now (c.args.at.now.top - 2) 0 ∷ get_or c.args.words.now (c.args.at.now.top - 1) 0 ∷ []) u (get_or c.args.words.now (c.args.at.now.top - 4) 0) (get_or c.args.words.now (c.args.at.now.top - 3) 0) a b c.if-array-eq0.false in
-    let size = block_size 2 c.args.next here q.texts q.c q.kind q.addresses q.done q.below q.stores (get_or c.args.words.now (c.args.at.now.top - 2) 0 ∷ get_or c.args.words.now (c.args.at.now.top - 1) 0 ∷ []) u (get_or c.args.words.now (c.args.at.now.top - 4) 0) (get_or c.args.words.now (c.args.at.now.top - 3) 0) a b i in
-    let count = count_word 2 c.args.next here q.texts q.c q.kind q.addresses q.done q.below q.stores (get_or c.args.words.now (c.args.at.now.top - 2) 0 ∷ get_or c.args.words.now (c.args.at.now.top - 1) 0 ∷ []) u (get_or c.args.words.now (c.args.at.now.top - 4) 0) (get_or c.args.words.now (c.args.at.now.top - 3) 0) a b i in
-    let few = few_values 2 c.args.next here q.texts q.c q.kind q.addresses q.done q.below q.stores (get_or c.args.words.now (c.args.at.now.top - 2) 0 ∷ get_or c.args.words.now (c.args.at.now.top - 1) 0 ∷ []) u (get_or c.args.words.now (c.args.at.now.top - 4) 0) (get_or c.args.words.now (c.args.at.now.top - 3) 0) a b i in
+    let i = in_array 2 c.args.next here q.texts q.c q.kind q.addresses q.done q.below q.stores (get_or c.args.words.now (c.args.at.now.top - 2) 0 ∷
+    get_or c.args.words.now (c.args.at.now.top - 1) 0 ∷ []) u (get_or c.args.words.now (c.args.at.now.top - 4) 0)
+    (get_or c.args.words.now (c.args.at.now.top - 3) 0) a b c.if-array-eq0.false in
+    let size = block_size 2 c.args.next here q.texts q.c q.kind q.addresses q.done q.below q.stores
+    (get_or c.args.words.now (c.args.at.now.top - 2) 0 ∷ get_or c.args.words.now (c.args.at.now.top - 1) 0 ∷ []) u
+    (get_or c.args.words.now (c.args.at.now.top - 4) 0) (get_or c.args.words.now (c.args.at.now.top - 3) 0) a b i in
+    let count = count_word 2 c.args.next here q.texts q.c q.kind q.addresses q.done q.below q.stores
+    (get_or c.args.words.now (c.args.at.now.top - 2) 0 ∷ get_or c.args.words.now (c.args.at.now.top - 1) 0 ∷ []) u
+    (get_or c.args.words.now (c.args.at.now.top - 4) 0) (get_or c.args.words.now (c.args.at.now.top - 3) 0) a b i in
+    let few = few_values 2 c.args.next here q.texts q.c q.kind q.addresses q.done q.below q.stores
+    (get_or c.args.words.now (c.args.at.now.top - 2) 0 ∷ get_or c.args.words.now (c.args.at.now.top - 1) 0 ∷ []) u
+    (get_or c.args.words.now (c.args.at.now.top - 4) 0) (get_or c.args.words.now (c.args.at.now.top - 3) 0) a b i in
     let e = c.get.ensures in
     let w = c.if-get-index.false in
-    let changes = word_written (g.S.Store.content c.args.store.now) (get_or c.args.words.now (c.args.at.now.top - 4) 0) ((get_or c.args.words.now (c.args.at.now.top - 3) 0) * 2 + 2) (get_or c.args.words.now (c.args.at.now.top - 2) 0) in
-    let same = ap (λ (k : Blocks). length (words_at k (get_or c.args.words.now (c.args.at.now.top - 4) 0))) c.set.ensures.content ∙ ap (λ (l : List ℕ). length l) changes.own ∙ length-set (words_at (g.S.Store.content c.args.store.now) (get_or c.args.words.now (c.args.at.now.top - 4) 0)) ((get_or c.args.words.now (c.args.at.now.top - 3) 0) * 2 + 2) (get_or c.args.words.now (c.args.at.now.top - 2) 0) in
+    let changes = word_written (g.S.Store.content c.args.store.now) (get_or c.args.words.now (c.args.at.now.top - 4) 0)
+    ((get_or c.args.words.now (c.args.at.now.top - 3) 0) * 2 + 2) (get_or c.args.words.now (c.args.at.now.top - 2) 0) in
+    let same = ap (λ (k : Blocks). length (words_at k (get_or c.args.words.now (c.args.at.now.top - 4) 0))) c.set.ensures.content ∙
+    ap (λ (l : List ℕ). length l) changes.own ∙
+    length-set (words_at (g.S.Store.content c.args.store.now) (get_or c.args.words.now (c.args.at.now.top - 4) 0))
+    ((get_or c.args.words.now (c.args.at.now.top - 3) 0) * 2 + 2) (get_or c.args.words.now (c.args.at.now.top - 2) 0) in
     omega (arith, size, count, few, e, w, same)
 
 pub returns-clause-stores : goal.returns-clause-stores
@@ -147,11 +213,20 @@ returns-clause-stores g c = λ texts x kind addresses done below h narrows.
     let a : get_or c.args.words.now (c.args.at.now.top - 2 - 2) 0 ≡ get_or c.args.words.now (c.args.at.now.top - 4) 0 = ap (λ (n : ℕ). get_or c.args.words.now n 0) (below_two c.args.at.now.top).0 in
     let b : get_or c.args.words.now (c.args.at.now.top - 2 - 1) 0 ≡ get_or c.args.words.now (c.args.at.now.top - 3) 0 = ap (λ (n : ℕ). get_or c.args.words.now n 0) (below_two c.args.at.now.top).1 in
     let u = two_above 2 c.args.next here texts x kind addresses done below h refl in
-    let i = in_array 2 c.args.next here texts x kind addresses done below h (get_or c.args.words.now (c.args.at.now.top - 2) 0 ∷ get_or c.args.words.now (c.args.at.now.top - 1) 0 ∷ []) u (get_or c.args.words.now (c.args.at.now.top - 4) 0) (get_or c.args.words.now (c.args.at.now.top - 3) 0) a b c.if-array-eq0.false in
-    let count = count_word 2 c.args.next here texts x kind addresses done below h (get_or c.args.words.now (c.args.at.now.top - 2) 0 ∷ get_or c.args.words.now (c.args.at.now.top - 1) 0 ∷ []) u (get_or c.args.words.now (c.args.at.now.top - 4) 0) (get_or c.args.words.now (c.args.at.now.top - 3) 0) a b i in
+    let i = in_array 2 c.args.next here texts x kind addresses done below h (get_or c.args.words.now (c.args.at.now.top - 2) 0 ∷
+    get_or c.args.words.now (c.args.at.now.top - 1) 0 ∷ []) u (get_or c.args.words.now (c.args.at.now.top - 4) 0)
+    (get_or c.args.words.now (c.args.at.now.top - 3) 0) a b c.if-array-eq0.false in
+    let count = count_word 2 c.args.next here texts x kind addresses done below h (get_or c.args.words.now (c.args.at.now.top - 2) 0 ∷
+    get_or c.args.words.now (c.args.at.now.top - 1) 0 ∷ []) u (get_or c.args.words.now (c.args.at.now.top - 4) 0)
+    (get_or c.args.words.now (c.args.at.now.top - 3) 0) a b i in
     let e = c.get.ensures in
     let w = c.if-get-index.false in
     let within : (get_or c.args.words.now (c.args.at.now.top - 3) 0) < length i.of.values = omega (arith, count, e, w) in
     let low : c.args.at.now.top - 4 ≡ c.args.at.now.top - 2 - 2 = omega arith in
-    long_stored 2 c.args.next here texts x kind addresses done below h (get_or c.args.words.now (c.args.at.now.top - 2) 0 ∷ get_or c.args.words.now (c.args.at.now.top - 1) 0 ∷ []) u (get_or c.args.words.now (c.args.at.now.top - 4) 0) (get_or c.args.words.now (c.args.at.now.top - 3) 0) a b i (get_or c.args.words.now (c.args.at.now.top - 2) 0) (get_or c.args.words.now (c.args.at.now.top - 1) 0) _ (g.S.Store.content c.set-2.new.self) refl within refl refl low
-    (c.set-2.ensures.content ∙ ap (λ (k : Blocks). written k (get_or c.args.words.now (c.args.at.now.top - 4) 0) ((get_or c.args.words.now (c.args.at.now.top - 3) 0) * 2 + 3) (get_or c.args.words.now (c.args.at.now.top - 1) 0)) c.set.ensures.content)
+    long_stored 2 c.args.next here texts x kind addresses done below h (get_or c.args.words.now (c.args.at.now.top - 2) 0 ∷ get_or c.args.words.now
+    (c.args.at.now.top - 1) 0 ∷ []) u (get_or c.args.words.now (c.args.at.now.top - 4) 0) (get_or c.args.words.now (c.args.at.now.top - 3) 0) a b
+    i (get_or c.args.words.now (c.args.at.now.top - 2) 0) (get_or c.args.words.now (c.args.at.now.top - 1) 0) _
+    (g.S.Store.content c.set-2.new.self) refl within refl refl low
+    (c.set-2.ensures.content ∙
+    ap (λ (k : Blocks). written k (get_or c.args.words.now (c.args.at.now.top - 4) 0)
+    ((get_or c.args.words.now (c.args.at.now.top - 3) 0) * 2 + 3) (get_or c.args.words.now (c.args.at.now.top - 1) 0)) c.set.ensures.content)

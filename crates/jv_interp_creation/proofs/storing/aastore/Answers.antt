@@ -50,7 +50,9 @@ can_stand-stands-requires-clause-value g c =
     let count = length_word c.args.classes.now.world c.args.next here q.texts q.c q.addresses q.done q.below q.stores c.if-array-eq0.false in
     let e = c.get-length.ensures in
     let less = c.if-length-index.false in
-    let within : get_or c.args.words.now (c.args.at.now.top - 2) 0 < length (of c.args.classes.now.world c.args.next here q.texts q.c q.addresses q.done q.below q.stores c.if-array-eq0.false).values = omega (arith, count, e, less) in
+    let within : get_or c.args.words.now (c.args.at.now.top - 2) 0 < length
+    (of c.args.classes.now.world c.args.next here q.texts q.c q.addresses q.done q.below q.stores c.if-array-eq0.false).values =
+    omega (arith, count, e, less) in
     value_refers c.args.classes.now.world c.args.next here q.texts q.c q.addresses q.done q.below q.stores c.if-array-eq0.false within
 
 pub can_stand-stands-requires-clause-components : goal.can_stand-stands-requires-clause-components
@@ -58,8 +60,11 @@ can_stand-stands-requires-clause-components g c =
     let here = place c.args.at.now c.args.words.now c.args.held.now (g.S.Store.content c.args.store.now) in
     let q = c.requires in (
       (of c.args.classes.now.world c.args.next here q.texts q.c q.addresses q.done q.below q.stores c.if-array-eq0.false).components,
-      (c.component_type-components.ensures.of_type c.args.classes.now.world (of c.args.classes.now.world c.args.next here q.texts q.c q.addresses q.done q.below q.stores c.if-array-eq0.false).components
-          (subst (λ (n : ℕ). IsArrayWord c.args.classes.now.world (of c.args.classes.now.world c.args.next here q.texts q.c q.addresses q.done q.below q.stores c.if-array-eq0.false).components n) (sym c.get-word.ensures) (array_word c.args.classes.now.world c.args.next here q.texts q.c q.addresses q.done q.below q.stores c.if-array-eq0.false))),
+      (c.component_type-components.ensures.of_type c.args.classes.now.world
+          (of c.args.classes.now.world c.args.next here q.texts q.c q.addresses q.done q.below q.stores c.if-array-eq0.false).components
+          (subst (λ (n : ℕ). IsArrayWord c.args.classes.now.world (of c.args.classes.now.world c.args.next here q.texts q.c q.addresses q.done q.below
+          q.stores c.if-array-eq0.false).components n) (sym c.get-word.ensures)
+          (array_word c.args.classes.now.world c.args.next here q.texts q.c q.addresses q.done q.below q.stores c.if-array-eq0.false))),
     )
 
 pub returns-then-not-store_reference-clause-stores : goal.returns-then-not-store_reference-clause-stores
@@ -68,13 +73,16 @@ returns-then-not-store_reference-clause-stores g c = λ texts x addresses done b
     let count = length_word c.args.classes.now.world c.args.next here texts x addresses done below h c.if-array-eq0.false in
     let e = c.get-length.ensures in
     let less = c.if-length-index.false in
-    let within : get_or c.args.words.now (c.args.at.now.top - 2) 0 < length (of c.args.classes.now.world c.args.next here texts x addresses done below h c.if-array-eq0.false).values = omega (arith, count, e, less) in
+    let within : get_or c.args.words.now (c.args.at.now.top - 2) 0 < length
+    (of c.args.classes.now.world c.args.next here texts x addresses done below h c.if-array-eq0.false).values = omega (arith, count, e, less) in
     let is = sym c.store_reference.ensures.tells ∙ c.if-not-store_reference.true in
     subst (λ (blocks : Blocks). DidIn here.blocks texts (place c.args.at.now c.args.words.now c.args.held.now blocks) (effects.Raises 9) x addresses done below)
     (sym (c.store_reference.ensures.refused is))
     (store_raises c.args.classes.now.world c.args.next here texts x addresses done below h c.if-array-eq0.false within c.component_type-components.result
     (c.component_type-components.ensures.of_type c.args.classes.now.world (of c.args.classes.now.world c.args.next here texts x addresses done below h c.if-array-eq0.false).components
-    (subst (λ (n : ℕ). IsArrayWord c.args.classes.now.world (of c.args.classes.now.world c.args.next here texts x addresses done below h c.if-array-eq0.false).components n) (sym c.get-word.ensures) (array_word c.args.classes.now.world c.args.next here texts x addresses done below h c.if-array-eq0.false)))
+    (subst (λ (n : ℕ). IsArrayWord c.args.classes.now.world (of c.args.classes.now.world c.args.next here texts x addresses done below h
+    c.if-array-eq0.false).components n) (sym c.get-word.ensures) (array_word c.args.classes.now.world c.args.next here texts x addresses done
+    below h c.if-array-eq0.false)))
     c.can_stand-stands.result c.can_stand-stands.ensures is)
 
 pub overflow_add-index : goal.overflow_add-index
@@ -84,7 +92,9 @@ overflow_add-index g c =
     let count = length_word c.args.classes.now.world c.args.next here q.texts q.c q.addresses q.done q.below q.stores c.if-array-eq0.false in
     let e = c.get-length.ensures in
     let less = c.if-length-index.false in
-    let within : get_or c.args.words.now (c.args.at.now.top - 2) 0 < length (of c.args.classes.now.world c.args.next here q.texts q.c q.addresses q.done q.below q.stores c.if-array-eq0.false).values = omega (arith, count, e, less) in
+    let within : get_or c.args.words.now (c.args.at.now.top - 2) 0 < length
+    (of c.args.classes.now.world c.args.next here q.texts q.c q.addresses q.done q.below q.stores c.if-array-eq0.false).values =
+    omega (arith, count, e, less) in
     let few = few_values c.args.classes.now.world c.args.next here q.texts q.c q.addresses q.done q.below q.stores c.if-array-eq0.false in omega (arith, within, few)
 
 pub store_reference-requires : goal.store_reference-requires
@@ -94,7 +104,9 @@ store_reference-requires g c =
     let count = length_word c.args.classes.now.world c.args.next here q.texts q.c q.addresses q.done q.below q.stores c.if-array-eq0.false in
     let e = c.get-length.ensures in
     let less = c.if-length-index.false in
-    let within : get_or c.args.words.now (c.args.at.now.top - 2) 0 < length (of c.args.classes.now.world c.args.next here q.texts q.c q.addresses q.done q.below q.stores c.if-array-eq0.false).values = omega (arith, count, e, less) in
+    let within : get_or c.args.words.now (c.args.at.now.top - 2) 0 < length
+    (of c.args.classes.now.world c.args.next here q.texts q.c q.addresses q.done q.below q.stores c.if-array-eq0.false).values =
+    omega (arith, count, e, less) in
     let size = block_length c.args.classes.now.world c.args.next here q.texts q.c q.addresses q.done q.below q.stores c.if-array-eq0.false in omega (arith, within, size)
 
 pub overflow_sub-at : goal.overflow_sub-at
@@ -109,10 +121,13 @@ returns-clause-stores g c = λ texts x addresses done below h.
     let count = length_word c.args.classes.now.world c.args.next here texts x addresses done below h c.if-array-eq0.false in
     let e = c.get-length.ensures in
     let less = c.if-length-index.false in
-    let within : get_or c.args.words.now (c.args.at.now.top - 2) 0 < length (of c.args.classes.now.world c.args.next here texts x addresses done below h c.if-array-eq0.false).values = omega (arith, count, e, less) in
+    let within : get_or c.args.words.now (c.args.at.now.top - 2) 0 < length
+    (of c.args.classes.now.world c.args.next here texts x addresses done below h c.if-array-eq0.false).values = omega (arith, count, e, less) in
     let is = sym c.store_reference.ensures.tells ∙ c.if-not-store_reference.false in
     stored c.args.classes.now.world c.args.next here texts x addresses done below h c.if-array-eq0.false within c.component_type-components.result
     (c.component_type-components.ensures.of_type c.args.classes.now.world (of c.args.classes.now.world c.args.next here texts x addresses done below h c.if-array-eq0.false).components
-    (subst (λ (n : ℕ). IsArrayWord c.args.classes.now.world (of c.args.classes.now.world c.args.next here texts x addresses done below h c.if-array-eq0.false).components n) (sym c.get-word.ensures) (array_word c.args.classes.now.world c.args.next here texts x addresses done below h c.if-array-eq0.false)))
+    (subst (λ (n : ℕ). IsArrayWord c.args.classes.now.world (of c.args.classes.now.world c.args.next here texts x addresses done below h
+    c.if-array-eq0.false).components n) (sym c.get-word.ensures) (array_word c.args.classes.now.world c.args.next here texts x addresses done
+    below h c.if-array-eq0.false)))
     c.can_stand-stands.result c.can_stand-stands.ensures is _ (g.S.Store.content c.store_reference.new.store)
     (c.store_reference.ensures.stored is) refl refl

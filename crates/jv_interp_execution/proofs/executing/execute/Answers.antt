@@ -8,16 +8,31 @@ use Rattle.jv_interp_memory.proofs.Unmoved.{stays_unmoved}
 use Rattle.jv_interp_execution.proofs.executing.execute.Goals as goal
 
 pub execute_pool_constant-requires-clause-can : goal.execute_pool_constant-requires-clause-can
-execute_pool_constant-requires-clause-can g c = (c.in-PoolConstant._form, (known c.args.classes.now.world c.args.linked.now c.args.site), record { world_is = refl; site_is = refl }, c.requires.texts, (can_at _ _ _ _ _ _ _ _ _ _ c.in-PoolConstant.is c.requires.can).can)
+execute_pool_constant-requires-clause-can g c = (
+  c.in-PoolConstant._form,
+  (known c.args.classes.now.world c.args.linked.now c.args.site),
+  record { world_is = refl; site_is = refl },
+  c.requires.texts,
+  (can_at _ _ _ _ _ _ _ _ _ _ c.in-PoolConstant.is c.requires.can).can,
+)
 
 pub execute_pool_long_constant-requires : goal.execute_pool_long_constant-requires
-execute_pool_long_constant-requires g c = ((known c.args.classes.now.world c.args.linked.now c.args.site), record { world_is = refl; site_is = refl }, c.args.texts.now.names, (can_at _ _ _ _ _ _ _ _ _ _ c.in-PoolLongConstant.is c.requires.can).can)
+execute_pool_long_constant-requires g c = (
+  (known c.args.classes.now.world c.args.linked.now c.args.site),
+  record { world_is = refl; site_is = refl },
+  c.args.texts.now.names,
+  (can_at _ _ _ _ _ _ _ _ _ _ c.in-PoolLongConstant.is c.requires.can).can,
+)
 
 pub execute_array_load-requires : goal.execute_array_load-requires
 execute_array_load-requires g c = ((known c.args.classes.now.world c.args.linked.now c.args.site), c.args.texts.now.names, (can_at _ _ _ _ _ _ _ _ _ _ c.in-ArrayLoad.is c.requires.can).can)
 
 pub execute_reference_array_load-requires : goal.execute_reference_array_load-requires
-execute_reference_array_load-requires g c = ((known c.args.classes.now.world c.args.linked.now c.args.site), c.args.texts.now.names, (can_at _ _ _ _ _ _ _ _ _ _ c.in-ReferenceArrayLoad.is c.requires.can).can)
+execute_reference_array_load-requires g c = (
+  (known c.args.classes.now.world c.args.linked.now c.args.site),
+  c.args.texts.now.names,
+  (can_at _ _ _ _ _ _ _ _ _ _ c.in-ReferenceArrayLoad.is c.requires.can).can,
+)
 
 pub execute_array_store-requires : goal.execute_array_store-requires
 execute_array_store-requires g c = ((known c.args.classes.now.world c.args.linked.now c.args.site), c.args.texts.now.names, (can_at _ _ _ _ _ _ _ _ _ _ c.in-ArrayStore.is c.requires.can).can)

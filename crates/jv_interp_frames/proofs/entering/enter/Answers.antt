@@ -41,7 +41,8 @@ returns-then-words-frames-clause-entered g c =
     let world = c.args.classes.now.world in
     let blocks = g.S.Store.content c.args.store.now in
     on_ok_weaker
-    {P = Moved world (Raising 21) (kept c.args.frames.now c.args.control.now c.args.held.now blocks) (kept c.raise.new.frames c.raise.new.control c.raise.new.held (g.S.Store.content c.raise.new.store))}
+    {P = Moved world (Raising 21) (kept c.args.frames.now c.args.control.now c.args.held.now blocks)
+    (kept c.raise.new.frames c.raise.new.control c.raise.new.held (g.S.Store.content c.raise.new.store))}
     c.raise.result
     (λ moved program texts s t addresses h.
     let now = code_now world c.args.method program texts s t addresses c.args.frames.now c.args.control.now c.args.held.now blocks h in

@@ -14,7 +14,8 @@ use Rattle.jv_interp_frames.proofs.initialization.initialization_step.Goals as g
 pub take_initialization-own-requires : goal.take_initialization-own-requires
 take_initialization-own-requires g c =
     let w = c.requires.can in
-    can_take c.args.classes.now.world c.args.texts.now.names c.args.verified.now w.program w.s w.t w.addresses c.args.frames.now c.args.control.now c.args.held.now (g.S.Store.content c.args.store.now) w.moves
+    can_take c.args.classes.now.world c.args.texts.now.names c.args.verified.now w.program w.s w.t w.addresses c.args.frames.now c.args.control.now
+    c.args.held.now (g.S.Store.content c.args.store.now) w.moves
 
 pub next_task-requires : goal.next_task-requires
 next_task-requires g c =
@@ -23,7 +24,9 @@ next_task-requires g c =
     let asked : Asking c.table.result.now c.args.linked.now own c.deref.result.now w.program w.moves.does.frame w.s.control.states =
     subst (λ (v : World). Asking v c.args.linked.now own c.deref.result.now w.program w.moves.does.frame w.s.control.states) (sym c.table.ensures)
     (subst (λ (xs : List ClassState). Asking c.args.classes.now.world c.args.linked.now own xs w.program w.moves.does.frame w.s.control.states) (sym c.deref.ensures.value)
-    (asking c.args.classes.now.world c.args.texts.now.names c.args.verified.now w.program w.s w.t w.addresses c.args.frames.now c.args.control.now c.args.held.now (g.S.Store.content c.args.store.now) w.moves c.take_initialization-own.new.frames.records.items c.take_initialization-own.result c.take_initialization-own.ensures.items c.args.linked.now c.requires.linked c.requires.few_classes)) in
+    (asking c.args.classes.now.world c.args.texts.now.names c.args.verified.now w.program w.s w.t w.addresses c.args.frames.now c.args.control.now
+    c.args.held.now (g.S.Store.content c.args.store.now) w.moves c.take_initialization-own.new.frames.records.items
+    c.take_initialization-own.result c.take_initialization-own.ensures.items c.args.linked.now c.requires.linked c.requires.few_classes)) in
     record { program = w.program; frame = w.moves.does.frame; known = w.s.control.states; asking = asked }
 
 pub finish-requires-clause-can : goal.finish-requires-clause-can
@@ -33,15 +36,23 @@ finish-requires-clause-can g c =
     let asked : Asking c.table.result.now c.args.linked.now own c.deref.result.now w.program w.moves.does.frame w.s.control.states =
     subst (λ (v : World). Asking v c.args.linked.now own c.deref.result.now w.program w.moves.does.frame w.s.control.states) (sym c.table.ensures)
     (subst (λ (xs : List ClassState). Asking c.args.classes.now.world c.args.linked.now own xs w.program w.moves.does.frame w.s.control.states) (sym c.deref.ensures.value)
-    (asking c.args.classes.now.world c.args.texts.now.names c.args.verified.now w.program w.s w.t w.addresses c.args.frames.now c.args.control.now c.args.held.now (g.S.Store.content c.args.store.now) w.moves c.take_initialization-own.new.frames.records.items c.take_initialization-own.result c.take_initialization-own.ensures.items c.args.linked.now c.requires.linked c.requires.few_classes)) in
-    let none = subst (λ (o : Option Next). IsNext w.program w.moves.does.frame w.s.control.states own.class o) c.in_default.is (c.next_task.ensures w.program w.moves.does.frame w.s.control.states asked) in
-    let moves = finishing c.args.classes.now.world c.args.texts.now.names c.args.verified.now w.program w.s w.t w.addresses c.args.frames.now c.args.control.now c.args.held.now (g.S.Store.content c.args.store.now) w.moves c.take_initialization-own.new.frames.records.items c.take_initialization-own.result c.take_initialization-own.ensures.items c.take_initialization-own.new.frames none c.take_initialization-own.ensures.others refl c.take_initialization-own.ensures.capacity in
+    (asking c.args.classes.now.world c.args.texts.now.names c.args.verified.now w.program w.s w.t w.addresses c.args.frames.now c.args.control.now
+    c.args.held.now (g.S.Store.content c.args.store.now) w.moves c.take_initialization-own.new.frames.records.items
+    c.take_initialization-own.result c.take_initialization-own.ensures.items c.args.linked.now c.requires.linked c.requires.few_classes)) in
+    let none = subst (λ (o : Option Next). IsNext w.program w.moves.does.frame w.s.control.states own.class o) c.in_default.is
+    (c.next_task.ensures w.program w.moves.does.frame w.s.control.states asked) in
+    let moves = finishing c.args.classes.now.world c.args.texts.now.names c.args.verified.now w.program w.s w.t w.addresses c.args.frames.now
+    c.args.control.now c.args.held.now (g.S.Store.content c.args.store.now) w.moves c.take_initialization-own.new.frames.records.items
+    c.take_initialization-own.result c.take_initialization-own.ensures.items c.take_initialization-own.new.frames none
+    c.take_initialization-own.ensures.others refl c.take_initialization-own.ensures.capacity in
     record { program = w.program; texts = c.args.texts.now.names; s = _; t = w.t; addresses = w.addresses; moves = moves }
 
 pub push_record-requires : goal.push_record-requires
 push_record-requires g c =
     let w = c.requires.can in
-    let room = room_for_it c.args.classes.now.world c.args.texts.now.names c.args.verified.now w.program w.s w.t w.addresses c.args.frames.now c.args.control.now c.args.held.now (g.S.Store.content c.args.store.now) w.moves c.take_initialization-own.new.frames.records.items c.take_initialization-own.result c.take_initialization-own.ensures.items in
+    let room = room_for_it c.args.classes.now.world c.args.texts.now.names c.args.verified.now w.program w.s w.t w.addresses c.args.frames.now
+    c.args.control.now c.args.held.now (g.S.Store.content c.args.store.now) w.moves c.take_initialization-own.new.frames.records.items
+    c.take_initialization-own.result c.take_initialization-own.ensures.items in
     let capacity = c.take_initialization-own.ensures.capacity in
     let as_before = (c.in-Err.ensures {u = tt}).refused_frames in
     let size = c.finish.new.frames.records.ok.0 in
@@ -52,7 +63,9 @@ push_record-requires g c =
 pub push_record-requires-2 : goal.push_record-requires-2
 push_record-requires-2 g c =
     let w = c.requires.can in
-    let room = room_for_it c.args.classes.now.world c.args.texts.now.names c.args.verified.now w.program w.s w.t w.addresses c.args.frames.now c.args.control.now c.args.held.now (g.S.Store.content c.args.store.now) w.moves c.take_initialization-own.new.frames.records.items c.take_initialization-own.result c.take_initialization-own.ensures.items in
+    let room = room_for_it c.args.classes.now.world c.args.texts.now.names c.args.verified.now w.program w.s w.t w.addresses c.args.frames.now
+    c.args.control.now c.args.held.now (g.S.Store.content c.args.store.now) w.moves c.take_initialization-own.new.frames.records.items
+    c.take_initialization-own.result c.take_initialization-own.ensures.items in
     let capacity = c.take_initialization-own.ensures.capacity in
     let size = c.take_initialization-own.new.frames.records.ok.0 in
     omega (arith, room, capacity, size)
@@ -64,11 +77,15 @@ do_task-requires-clause-can g c =
     let asked : Asking c.table.result.now c.args.linked.now own c.deref.result.now w.program w.moves.does.frame w.s.control.states =
     subst (λ (v : World). Asking v c.args.linked.now own c.deref.result.now w.program w.moves.does.frame w.s.control.states) (sym c.table.ensures)
     (subst (λ (xs : List ClassState). Asking c.args.classes.now.world c.args.linked.now own xs w.program w.moves.does.frame w.s.control.states) (sym c.deref.ensures.value)
-    (asking c.args.classes.now.world c.args.texts.now.names c.args.verified.now w.program w.s w.t w.addresses c.args.frames.now c.args.control.now c.args.held.now (g.S.Store.content c.args.store.now) w.moves c.take_initialization-own.new.frames.records.items c.take_initialization-own.result c.take_initialization-own.ensures.items c.args.linked.now c.requires.linked c.requires.few_classes)) in
+    (asking c.args.classes.now.world c.args.texts.now.names c.args.verified.now w.program w.s w.t w.addresses c.args.frames.now c.args.control.now
+    c.args.held.now (g.S.Store.content c.args.store.now) w.moves c.take_initialization-own.new.frames.records.items
+    c.take_initialization-own.result c.take_initialization-own.ensures.items c.args.linked.now c.requires.linked c.requires.few_classes)) in
     let is = subst (λ (o : Option Next). IsNext w.program w.moves.does.frame w.s.control.states own.class o) c.in-Some.is (c.next_task.ensures w.program w.moves.does.frame w.s.control.states asked) in
     let after = record c.take_initialization-own.new.frames { records = c.push_record-2.new.records } in
     let moves =
-    tasked c.args.classes.now.world c.args.texts.now.names c.args.verified.now w.program w.s w.t w.addresses c.args.frames.now c.args.control.now c.args.held.now (g.S.Store.content c.args.store.now) w.moves c.take_initialization-own.new.frames.records.items c.take_initialization-own.result c.take_initialization-own.ensures.items c.in-Some.next.task c.in-Some.next.done is.0 after is.1 is.2
+    tasked c.args.classes.now.world c.args.texts.now.names c.args.verified.now w.program w.s w.t w.addresses c.args.frames.now c.args.control.now
+    c.args.held.now (g.S.Store.content c.args.store.now) w.moves c.take_initialization-own.new.frames.records.items
+    c.take_initialization-own.result c.take_initialization-own.ensures.items c.in-Some.next.task c.in-Some.next.done is.0 after is.1 is.2
     (ap (λ (f : Frames). record f { records = c.push_record-2.new.records }) c.take_initialization-own.ensures.others) c.push_record-2.ensures.items
     (c.push_record-2.ensures.capacity ∙ c.take_initialization-own.ensures.capacity) in
     record { program = w.program; s = _; t = w.t; addresses = w.addresses; moves = moves }
@@ -79,9 +96,14 @@ returns-in-Ok-clause-done g c = λ program s t addresses h.
     let asked : Asking c.table.result.now c.args.linked.now own c.deref.result.now program h.does.frame s.control.states =
     subst (λ (v : World). Asking v c.args.linked.now own c.deref.result.now program h.does.frame s.control.states) (sym c.table.ensures)
     (subst (λ (xs : List ClassState). Asking c.args.classes.now.world c.args.linked.now own xs program h.does.frame s.control.states) (sym c.deref.ensures.value)
-    (asking c.args.classes.now.world c.args.texts.now.names c.args.verified.now program s t addresses c.args.frames.now c.args.control.now c.args.held.now (g.S.Store.content c.args.store.now) h c.take_initialization-own.new.frames.records.items c.take_initialization-own.result c.take_initialization-own.ensures.items c.args.linked.now c.requires.linked c.requires.few_classes)) in
+    (asking c.args.classes.now.world c.args.texts.now.names c.args.verified.now program s t addresses c.args.frames.now c.args.control.now
+    c.args.held.now (g.S.Store.content c.args.store.now) h c.take_initialization-own.new.frames.records.items c.take_initialization-own.result
+    c.take_initialization-own.ensures.items c.args.linked.now c.requires.linked c.requires.few_classes)) in
     let none = subst (λ (o : Option Next). IsNext program h.does.frame s.control.states own.class o) c.in_default.is (c.next_task.ensures program h.does.frame s.control.states asked) in
-    let moves = finishing c.args.classes.now.world c.args.texts.now.names c.args.verified.now program s t addresses c.args.frames.now c.args.control.now c.args.held.now (g.S.Store.content c.args.store.now) h c.take_initialization-own.new.frames.records.items c.take_initialization-own.result c.take_initialization-own.ensures.items c.take_initialization-own.new.frames none c.take_initialization-own.ensures.others refl c.take_initialization-own.ensures.capacity in
+    let moves = finishing c.args.classes.now.world c.args.texts.now.names c.args.verified.now program s t addresses c.args.frames.now
+    c.args.control.now c.args.held.now (g.S.Store.content c.args.store.now) h c.take_initialization-own.new.frames.records.items
+    c.take_initialization-own.result c.take_initialization-own.ensures.items c.take_initialization-own.new.frames none
+    c.take_initialization-own.ensures.others refl c.take_initialization-own.ensures.capacity in
     let r = (c.in-Ok.ensures {u = tt}).finished program c.args.texts.now.names _ t addresses moves in
     record { more = r.more; stands = r.stands; grows = r.grows }
 
@@ -91,11 +113,15 @@ returns-in-Ok-do_task-clause-done g c = λ program s t addresses h.
     let asked : Asking c.table.result.now c.args.linked.now own c.deref.result.now program h.does.frame s.control.states =
     subst (λ (v : World). Asking v c.args.linked.now own c.deref.result.now program h.does.frame s.control.states) (sym c.table.ensures)
     (subst (λ (xs : List ClassState). Asking c.args.classes.now.world c.args.linked.now own xs program h.does.frame s.control.states) (sym c.deref.ensures.value)
-    (asking c.args.classes.now.world c.args.texts.now.names c.args.verified.now program s t addresses c.args.frames.now c.args.control.now c.args.held.now (g.S.Store.content c.args.store.now) h c.take_initialization-own.new.frames.records.items c.take_initialization-own.result c.take_initialization-own.ensures.items c.args.linked.now c.requires.linked c.requires.few_classes)) in
+    (asking c.args.classes.now.world c.args.texts.now.names c.args.verified.now program s t addresses c.args.frames.now c.args.control.now
+    c.args.held.now (g.S.Store.content c.args.store.now) h c.take_initialization-own.new.frames.records.items c.take_initialization-own.result
+    c.take_initialization-own.ensures.items c.args.linked.now c.requires.linked c.requires.few_classes)) in
     let is = subst (λ (o : Option Next). IsNext program h.does.frame s.control.states own.class o) c.in-Some.is (c.next_task.ensures program h.does.frame s.control.states asked) in
     let after = record c.take_initialization-own.new.frames { records = c.push_record-2.new.records } in
     let moves =
-    tasked c.args.classes.now.world c.args.texts.now.names c.args.verified.now program s t addresses c.args.frames.now c.args.control.now c.args.held.now (g.S.Store.content c.args.store.now) h c.take_initialization-own.new.frames.records.items c.take_initialization-own.result c.take_initialization-own.ensures.items c.in-Some.next.task c.in-Some.next.done is.0 after is.1 is.2
+    tasked c.args.classes.now.world c.args.texts.now.names c.args.verified.now program s t addresses c.args.frames.now c.args.control.now
+    c.args.held.now (g.S.Store.content c.args.store.now) h c.take_initialization-own.new.frames.records.items c.take_initialization-own.result
+    c.take_initialization-own.ensures.items c.in-Some.next.task c.in-Some.next.done is.0 after is.1 is.2
     (ap (λ (f : Frames). record f { records = c.push_record-2.new.records }) c.take_initialization-own.ensures.others) c.push_record-2.ensures.items
     (c.push_record-2.ensures.capacity ∙ c.take_initialization-own.ensures.capacity) in
     let r = (c.in-Ok-do_task.ensures {u = tt}).done program _ t addresses moves in

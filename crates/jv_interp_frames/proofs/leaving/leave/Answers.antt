@@ -26,7 +26,8 @@ next_of-pc-requires c =
     let rest = c.pop.new.self.items in
     let there : c.args.frames.now.records.items ≡ rest ++ records.Runs own ∷ [] =
     c.in-Some-Runs.ensures.items ∙ ap (λ (r : FrameRecord). rest ++ r ∷ []) c.in-Some-Runs.field-0-is in
-    let r = resumes c.args.methods.now c.args.given c.args.top c.args.count c.args.frames.now c.args.control.now w.program w.addresses w.memory w.frame w.below w.control w.result w.t w.leaving rest own there in
+    let r = resumes c.args.methods.now c.args.given c.args.top c.args.count c.args.frames.now c.args.control.now w.program w.addresses w.memory
+    w.frame w.below w.control w.result w.t w.leaving rest own there in
     record { program = w.program; addresses = w.addresses; frame = r.caller; used = _; below = r.under; insn = r.insn; nexts = r.nexts }
 
 pub returns-in-Some-Runs : goal.returns-in-Some-Runs

@@ -24,7 +24,8 @@ leave-requires c =
         result = w.result;
         t = w.t;
         leaving =
-            subst (λ (n : ℕ). Leaving c.args.methods.now n c.args.at.top c.args.words (record c.args.frames.now { top = c.args.at.base }) c.args.control.now w.program w.addresses w.memory w.frame w.others w.control w.result w.t)
+            subst (λ (n : ℕ). Leaving c.args.methods.now n c.args.at.top c.args.words (record c.args.frames.now { top = c.args.at.base })
+            c.args.control.now w.program w.addresses w.memory w.frame w.others w.control w.result w.t)
             given w.returning.leaving;
       };
     }
@@ -34,5 +35,6 @@ returns c = λ program addresses memory frame others control result t h.
     let given : method_words frame ≡ c.words_of-given.result =
     sym (c.words_of-given.ensures ∙ ap code_words (c.code_of.ensures program h.declared frame.method.code h.code)) in
     c.leave.ensures program addresses memory frame others control result t
-    (subst (λ (n : ℕ). Leaving c.args.methods.now n c.args.at.top c.args.words (record c.args.frames.now { top = c.args.at.base }) c.args.control.now program addresses memory frame others control result t)
+    (subst (λ (n : ℕ). Leaving c.args.methods.now n c.args.at.top c.args.words (record c.args.frames.now { top = c.args.at.base }) c.args.control.now
+    program addresses memory frame others control result t)
     given h.leaving)

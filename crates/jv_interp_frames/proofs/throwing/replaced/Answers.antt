@@ -48,7 +48,8 @@ get-class-requires g c =
     let no_error =
     sym (is_test world w.program w.texts w.t w.behind w.addresses c.args.thrown c.args.held.now before r c.system_has_numbers.ensures c.is_at_or_below.result tells) ∙ c.if-is_at_or_below.false in
     let size = c.object_words-words.ensures w.program.world (subst (λ (v : World). IsLinked v c.args.linked.now) (sym r.world_is) c.requires.linked) in
-    let is_made = subst (λ (o : Option ℕ). IsMade 23 c.object_words-words.result c.args.held.now.cells c.make_exception.new.held.cells before after o) c.in_default.is (c.in_ok-address.ensures {u = tt}).made in
+    let is_made = subst (λ (o : Option ℕ). IsMade 23 c.object_words-words.result c.args.held.now.cells c.make_exception.new.held.cells before after o)
+    c.in_default.is (c.in_ok-address.ensures {u = tt}).made in
     let there =
     word_there world w.program w.texts w.t w.behind w.addresses c.args.thrown c.args.held.now before r c.system_has_numbers.ensures c.make_exception.new.held after c.object_words-words.result None
     no_error size c.make_exception.ensures.held is_made in
@@ -63,7 +64,8 @@ returns-in_default-clause-replaced g c = λ program texts t behind addresses h.
     let no_error =
     sym (is_test world program texts t behind addresses c.args.thrown c.args.held.now before h c.system_has_numbers.ensures c.is_at_or_below.result tells) ∙ c.if-is_at_or_below.false in
     let size = c.object_words-words.ensures program.world (subst (λ (v : World). IsLinked v c.args.linked.now) (sym h.world_is) c.requires.linked) in
-    let is_made = subst (λ (o : Option ℕ). IsMade 23 c.object_words-words.result c.args.held.now.cells c.make_exception.new.held.cells before after o) c.in_default.is (c.in_ok-address.ensures {u = tt}).made in
+    let is_made = subst (λ (o : Option ℕ). IsMade 23 c.object_words-words.result c.args.held.now.cells c.make_exception.new.held.cells before after o)
+    c.in_default.is (c.in_ok-address.ensures {u = tt}).made in
     replaced_by world program texts t behind addresses c.args.thrown c.args.held.now before h c.system_has_numbers.ensures c.make_exception.new.held after c.object_words-words.result None
     (record { address = c.make_exception.new.held.out_of_memory; class = c.get-class.result; throws = c.once_more-throws.result; made = false }) no_error size
     c.make_exception.ensures.held is_made (ap (λ (h : Held). h.out_of_memory) c.make_exception.ensures.held) (sym c.get-class.ensures) c.once_more-throws.ensures
@@ -72,7 +74,8 @@ pub returns-in_default-clause-stays : goal.returns-in_default-clause-stays
 returns-in_default-clause-stays g c =
     let before = g.S.Store.content c.args.store.now in
     let after = g.S.Store.content c.make_exception.new.store in
-    let is_made = subst (λ (o : Option ℕ). IsMade 23 c.object_words-words.result c.args.held.now.cells c.make_exception.new.held.cells before after o) c.in_default.is (c.in_ok-address.ensures {u = tt}).made in
+    let is_made = subst (λ (o : Option ℕ). IsMade 23 c.object_words-words.result c.args.held.now.cells c.make_exception.new.held.cells before after o)
+    c.in_default.is (c.in_ok-address.ensures {u = tt}).made in
     record {
       held_stays = λ same. c.make_exception.ensures.held ∙ ap (λ (n : ℕ). record c.args.held.now { cells = n }) is_made.1;
       blocks_stay = λ same. is_made.2;
@@ -92,7 +95,8 @@ returns-clause-replaced g c = λ program texts t behind addresses h.
     sym (is_test world program texts t behind addresses c.args.thrown c.args.held.now before h c.system_has_numbers.ensures c.is_at_or_below.result tells) ∙ c.if-is_at_or_below.false in
     let size = c.object_words-words.ensures program.world (subst (λ (v : World). IsLinked v c.args.linked.now) (sym h.world_is) c.requires.linked) in
     let address = c.in-Some.address in
-    let is_made = subst (λ (o : Option ℕ). IsMade 23 c.object_words-words.result c.args.held.now.cells c.make_exception.new.held.cells before after o) c.in-Some.is (c.in_ok-address.ensures {u = tt}).made in
+    let is_made = subst (λ (o : Option ℕ). IsMade 23 c.object_words-words.result c.args.held.now.cells c.make_exception.new.held.cells before after o)
+    c.in-Some.is (c.in_ok-address.ensures {u = tt}).made in
     replaced_by world program texts t behind addresses c.args.thrown c.args.held.now before h c.system_has_numbers.ensures c.make_exception.new.held after c.object_words-words.result (Some address)
     (record { address = address; class = 23; throws = c.once_more-throws.result; made = true }) no_error size
     c.make_exception.ensures.held is_made refl (new_word 23 c.object_words-words.result address before after is_made.1) c.once_more-throws.ensures

@@ -71,7 +71,8 @@ pub returns-clause-lands : goal.returns-clause-lands
 returns-clause-lands g c = λ program texts frames used t goes_to addresses h.
     let walked = c.loop-passed.invariant.walked program texts frames used t goes_to addresses h in
     let end : c.loop-passed.passed ≡ length c.args.records.now = let a = c.loop-passed-test.false in let b = c.loop-passed.auto.passed-end in omega (arith, a, b) in
-    subst (λ (n : ℕ). Landed program texts frames t goes_to addresses (g.S.Store.content c.args.store.now) (record { passed = n; handler = None; thrown = c.loop-passed.now }) c.loop-passed.held (g.S.Store.content c.loop-passed.store)) end
+    subst (λ (n : ℕ). Landed program texts frames t goes_to addresses (g.S.Store.content c.args.store.now)
+    (record { passed = n; handler = None; thrown = c.loop-passed.now }) c.loop-passed.held (g.S.Store.content c.loop-passed.store)) end
     (lands_nowhere c.args.classes.now.world c.args.records.now program texts frames used t goes_to addresses c.args.thrown c.args.held.now
     (g.S.Store.content c.args.store.now) h c.loop-passed.passed c.loop-passed.now c.loop-passed.held (g.S.Store.content c.loop-passed.store) walked end)
 
@@ -90,16 +91,21 @@ loop-passed-preserved g c =
     let low = c.loop-passed-test.true in
     elim c.match-records-passed.branch [
       | in-Runs+in_default w ↦
-          subst (λ (now : Thrown). OnTheWay world all c.args.thrown c.args.held.now blocks room (k + 1) now c.match-records-passed.held (g.S.Store.content c.match-records-passed.store) (g.S.Store.room_left c.match-records-passed.store)) (sym w.now-is)
-          (subst (λ (held : Held). OnTheWay world all c.args.thrown c.args.held.now blocks room (k + 1) c.loop-passed.now held (g.S.Store.content c.match-records-passed.store) (g.S.Store.room_left c.match-records-passed.store)) (sym w.held-is)
-          (subst (λ store. OnTheWay world all c.args.thrown c.args.held.now blocks room (k + 1) c.loop-passed.now c.loop-passed.held (g.S.Store.content store) (g.S.Store.room_left store)) (sym w.store-is)
+          subst (λ (now : Thrown). OnTheWay world all c.args.thrown c.args.held.now blocks room (k + 1) now c.match-records-passed.held
+          (g.S.Store.content c.match-records-passed.store) (g.S.Store.room_left c.match-records-passed.store)) (sym w.now-is)
+          (subst (λ (held : Held). OnTheWay world all c.args.thrown c.args.held.now blocks room (k + 1) c.loop-passed.now held
+          (g.S.Store.content c.match-records-passed.store) (g.S.Store.room_left c.match-records-passed.store)) (sym w.held-is)
+          (subst (λ store. OnTheWay world all c.args.thrown c.args.held.now blocks room (k + 1) c.loop-passed.now c.loop-passed.held
+          (g.S.Store.content store) (g.S.Store.room_left store)) (sym w.store-is)
           (record {
             walked =
                 λ program texts frames used t goes_to addresses h.
                 let walked = inv.walked program texts frames used t goes_to addresses h in
                 let at = turned_at all k (records.Runs w.in-Runs.own) _ low w.in-Runs.is in
-                let here = handling world all program texts frames used t goes_to addresses c.args.thrown c.args.held.now blocks h k c.loop-passed.now c.loop-passed.held (g.S.Store.content c.loop-passed.store) walked w.in-Runs.own at in
-                passes_method world all program texts frames used t goes_to addresses c.args.thrown c.args.held.now blocks h k c.loop-passed.now c.loop-passed.held (g.S.Store.content c.loop-passed.store) walked w.in-Runs.own at
+                let here = handling world all program texts frames used t goes_to addresses c.args.thrown c.args.held.now blocks h k c.loop-passed.now
+                c.loop-passed.held (g.S.Store.content c.loop-passed.store) walked w.in-Runs.own at in
+                passes_method world all program texts frames used t goes_to addresses c.args.thrown c.args.held.now blocks h k c.loop-passed.now
+                c.loop-passed.held (g.S.Store.content c.loop-passed.store) walked w.in-Runs.own at
                 (sym w.in_default.is ∙ w.handler_of.ensures program addresses _ _ _ walked.now.class here);
             known = inv.known;
             held_stays = inv.held_stays;
@@ -111,16 +117,20 @@ loop-passed-preserved g c =
       | in-Initializes+in_ok-now-in-Initializes w ↦
           let next = w.in_ok-now-in-Initializes.now in
           let e = w.in_ok-now-in-Initializes.ensures {u = tt} in
-          subst (λ (now : Thrown). OnTheWay world all c.args.thrown c.args.held.now blocks room (k + 1) now c.match-records-passed.held (g.S.Store.content c.match-records-passed.store) (g.S.Store.room_left c.match-records-passed.store)) (sym w.now-is)
-          (subst (λ (held : Held). OnTheWay world all c.args.thrown c.args.held.now blocks room (k + 1) next held (g.S.Store.content c.match-records-passed.store) (g.S.Store.room_left c.match-records-passed.store)) (sym w.held-is)
+          subst (λ (now : Thrown). OnTheWay world all c.args.thrown c.args.held.now blocks room (k + 1) now c.match-records-passed.held
+          (g.S.Store.content c.match-records-passed.store) (g.S.Store.room_left c.match-records-passed.store)) (sym w.now-is)
+          (subst (λ (held : Held). OnTheWay world all c.args.thrown c.args.held.now blocks room (k + 1) next held
+          (g.S.Store.content c.match-records-passed.store) (g.S.Store.room_left c.match-records-passed.store)) (sym w.held-is)
           (subst (λ store. OnTheWay world all c.args.thrown c.args.held.now blocks room (k + 1) next w.replaced.new.held (g.S.Store.content store) (g.S.Store.room_left store)) (sym w.store-is)
           (record {
             walked =
                 λ program texts frames used t goes_to addresses h.
                 let walked = inv.walked program texts frames used t goes_to addresses h in
                 let at = turned_at all k (records.Initializes w.in-Initializes._own) _ low w.in-Initializes.is in
-                let b = behind_it world all program texts frames used t goes_to addresses c.args.thrown c.args.held.now blocks h k c.loop-passed.now c.loop-passed.held (g.S.Store.content c.loop-passed.store) walked w.in-Initializes._own at in
-                passes_initialization world all program texts frames used t goes_to addresses c.args.thrown c.args.held.now blocks h k c.loop-passed.now c.loop-passed.held (g.S.Store.content c.loop-passed.store) walked w.in-Initializes._own at
+                let b = behind_it world all program texts frames used t goes_to addresses c.args.thrown c.args.held.now blocks h k c.loop-passed.now
+                c.loop-passed.held (g.S.Store.content c.loop-passed.store) walked w.in-Initializes._own at in
+                passes_initialization world all program texts frames used t goes_to addresses c.args.thrown c.args.held.now blocks h k
+                c.loop-passed.now c.loop-passed.held (g.S.Store.content c.loop-passed.store) walked w.in-Initializes._own at
                 next w.replaced.new.held (g.S.Store.content w.replaced.new.store) (e.replaced program texts _ b.behind _ b.replacing);
             known = e.known;
             held_stays =

@@ -22,7 +22,8 @@ throw-requires-clause-can g c =
     let before = g.S.Store.content c.args.store.now in
     let after = g.S.Store.content c.make_exception.new.store in
     let size = c.object_words-words.ensures w.program.world (subst (λ (v : World). IsLinked v c.args.linked.now) (sym w.moves.world_is) c.requires.linked) in
-    let is_made = subst (λ (o : Option ℕ). IsMade c.args.class c.object_words-words.result c.args.held.now.cells c.make_exception.new.held.cells before after o) c.in_default.is (c.in_ok-address.ensures {u = tt}).made in
+    let is_made = subst (λ (o : Option ℕ). IsMade c.args.class c.object_words-words.result c.args.held.now.cells c.make_exception.new.held.cells
+    before after o) c.in_default.is (c.in_ok-address.ensures {u = tt}).made in
     record {
       program = w.program;
       texts = w.texts;
@@ -30,7 +31,8 @@ throw-requires-clause-can g c =
       t = w.t;
       addresses = _;
       moves =
-          then_throws world c.args.class w.program w.texts w.s w.t w.addresses c.args.frames.now c.args.control.now c.args.held.now before w.moves c.object_words-words.result size c.requires.few_classes
+          then_throws world c.args.class w.program w.texts w.s w.t w.addresses c.args.frames.now c.args.control.now c.args.held.now before w.moves
+          c.object_words-words.result size c.requires.few_classes
           c.make_exception.new.held after None c.make_exception.ensures.held is_made c.make_exception.new.held.out_of_memory (ap (λ (h : Held). h.out_of_memory) c.make_exception.ensures.held);
     }
 
@@ -41,7 +43,8 @@ returns-in_default-clause-raised g c =
     let after = g.S.Store.content c.make_exception.new.store in
     let last = g.S.Store.content c.throw.new.store in
     let address = c.make_exception.new.held.out_of_memory in
-    let is_made = subst (λ (o : Option ℕ). IsMade c.args.class c.object_words-words.result c.args.held.now.cells c.make_exception.new.held.cells before after o) c.in_default.is (c.in_ok-address.ensures {u = tt}).made in
+    let is_made = subst (λ (o : Option ℕ). IsMade c.args.class c.object_words-words.result c.args.held.now.cells c.make_exception.new.held.cells
+    before after o) c.in_default.is (c.in_ok-address.ensures {u = tt}).made in
     on_ok_weaker
     {P = Moved world (Throwing address) (kept c.args.frames.now c.args.control.now c.make_exception.new.held after) (kept c.throw.new.frames c.throw.new.control c.throw.new.held last)}
     c.throw.result
@@ -61,7 +64,8 @@ throw-requires-2-clause-can g c =
     let before = g.S.Store.content c.args.store.now in
     let after = g.S.Store.content c.make_exception.new.store in
     let size = c.object_words-words.ensures w.program.world (subst (λ (v : World). IsLinked v c.args.linked.now) (sym w.moves.world_is) c.requires.linked) in
-    let is_made = subst (λ (o : Option ℕ). IsMade c.args.class c.object_words-words.result c.args.held.now.cells c.make_exception.new.held.cells before after o) c.in-Some.is (c.in_ok-address.ensures {u = tt}).made in
+    let is_made = subst (λ (o : Option ℕ). IsMade c.args.class c.object_words-words.result c.args.held.now.cells c.make_exception.new.held.cells
+    before after o) c.in-Some.is (c.in_ok-address.ensures {u = tt}).made in
     record {
       program = w.program;
       texts = w.texts;
@@ -69,7 +73,8 @@ throw-requires-2-clause-can g c =
       t = w.t;
       addresses = _;
       moves =
-          then_throws world c.args.class w.program w.texts w.s w.t w.addresses c.args.frames.now c.args.control.now c.args.held.now before w.moves c.object_words-words.result size c.requires.few_classes
+          then_throws world c.args.class w.program w.texts w.s w.t w.addresses c.args.frames.now c.args.control.now c.args.held.now before w.moves
+          c.object_words-words.result size c.requires.few_classes
           c.make_exception.new.held after (Some c.in-Some.address) c.make_exception.ensures.held is_made c.in-Some.address refl;
     }
 
@@ -77,7 +82,8 @@ pub take_back-requires-clause-newest : goal.take_back-requires-clause-newest
 take_back-requires-clause-newest g c =
     let before = g.S.Store.content c.args.store.now in
     let after = g.S.Store.content c.make_exception.new.store in
-    let is_made = subst (λ (o : Option ℕ). IsMade c.args.class c.object_words-words.result c.args.held.now.cells c.make_exception.new.held.cells before after o) c.in-Some.is (c.in_ok-address.ensures {u = tt}).made in
+    let is_made = subst (λ (o : Option ℕ). IsMade c.args.class c.object_words-words.result c.args.held.now.cells c.make_exception.new.held.cells
+    before after o) c.in-Some.is (c.in_ok-address.ensures {u = tt}).made in
     sym
     (ap greatest c.in-Err.ensures.refused_content ∙ ap greatest is_made.1.joins
     ∙ greatest-append_above before c.in-Some.address (c.args.class ∷ replicate c.object_words-words.result 0) is_made.1.above)
@@ -86,7 +92,8 @@ pub take_back-requires-clause-length : goal.take_back-requires-clause-length
 take_back-requires-clause-length g c =
     let before = g.S.Store.content c.args.store.now in
     let after = g.S.Store.content c.make_exception.new.store in
-    let is_made = subst (λ (o : Option ℕ). IsMade c.args.class c.object_words-words.result c.args.held.now.cells c.make_exception.new.held.cells before after o) c.in-Some.is (c.in_ok-address.ensures {u = tt}).made in
+    let is_made = subst (λ (o : Option ℕ). IsMade c.args.class c.object_words-words.result c.args.held.now.cells c.make_exception.new.held.cells
+    before after o) c.in-Some.is (c.in_ok-address.ensures {u = tt}).made in
     let words =
     ap (λ (b : Blocks). length (words_at b c.in-Some.address)) c.in-Err.ensures.refused_content
     ∙ ap length (joined_words (c.args.class ∷ replicate c.object_words-words.result 0) before after c.in-Some.address is_made.1) in
@@ -98,7 +105,8 @@ returns-in-Ok-clause-raised g c = λ program texts s t addresses h.
     let before = g.S.Store.content c.args.store.now in
     let after = g.S.Store.content c.make_exception.new.store in
     let last = g.S.Store.content c.throw-2.new.store in
-    let is_made = subst (λ (o : Option ℕ). IsMade c.args.class c.object_words-words.result c.args.held.now.cells c.make_exception.new.held.cells before after o) c.in-Some.is (c.in_ok-address.ensures {u = tt}).made in
+    let is_made = subst (λ (o : Option ℕ). IsMade c.args.class c.object_words-words.result c.args.held.now.cells c.make_exception.new.held.cells
+    before after o) c.in-Some.is (c.in_ok-address.ensures {u = tt}).made in
     let size = c.object_words-words.ensures program.world (subst (λ (v : World). IsLinked v c.args.linked.now) (sym h.world_is) c.requires.linked) in
     then_reaches world c.args.class program texts s t addresses c.args.frames.now c.args.control.now c.args.held.now before h c.object_words-words.result size c.requires.few_classes
     c.make_exception.new.held after (Some c.in-Some.address) c.make_exception.ensures.held is_made c.throw-2.new.frames c.throw-2.new.control c.throw-2.new.held last
@@ -110,6 +118,7 @@ pub returns-in-Err-clause-refused_content : goal.returns-in-Err-clause-refused_c
 returns-in-Err-clause-refused_content g c =
     let before = g.S.Store.content c.args.store.now in
     let after = g.S.Store.content c.make_exception.new.store in
-    let is_made = subst (λ (o : Option ℕ). IsMade c.args.class c.object_words-words.result c.args.held.now.cells c.make_exception.new.held.cells before after o) c.in-Some.is (c.in_ok-address.ensures {u = tt}).made in
+    let is_made = subst (λ (o : Option ℕ). IsMade c.args.class c.object_words-words.result c.args.held.now.cells c.make_exception.new.held.cells
+    before after o) c.in-Some.is (c.in_ok-address.ensures {u = tt}).made in
     c.take_back.ensures.content ∙ ap (λ (b : Blocks). without b c.in-Some.address) (c.in-Err.ensures.refused_content ∙ is_made.1.joins)
     ∙ without-append before c.in-Some.address (c.args.class ∷ replicate c.object_words-words.result 0) is_made.1.above

@@ -18,7 +18,9 @@ walk-requires-clause-can g c =
       goes_to = w.goes_to;
       addresses = w.addresses;
       walking =
-          subst (λ (all : List FrameRecord). Walking c.args.classes.now.world all w.program w.texts w.frames (in_use c.args.frames.now.words.items c.args.frames.now.top) w.t w.goes_to w.addresses c.args.thrown c.args.held.now blocks) (sym c.deref.ensures.value)
+          subst (λ (all : List FrameRecord). Walking c.args.classes.now.world all w.program w.texts w.frames
+          (in_use c.args.frames.now.words.items c.args.frames.now.top) w.t w.goes_to w.addresses c.args.thrown c.args.held.now blocks)
+          (sym c.deref.ensures.value)
           (walking c.args.classes.now.world c.args.thrown w.program w.texts w.frames w.control w.t w.goes_to w.addresses c.args.frames.now c.args.control.now c.args.held.now blocks w.unwinding);
     }
 
@@ -26,14 +28,17 @@ pub walk-requires-clause-count : goal.walk-requires-clause-count
 walk-requires-clause-count g c =
     let w = c.requires.can in
     subst (λ (all : List FrameRecord). length all < 4294967296) (sym c.deref.ensures.value)
-    (few_records c.args.classes.now.world c.args.thrown w.program w.texts w.frames w.control w.t w.goes_to w.addresses c.args.frames.now c.args.control.now c.args.held.now (g.S.Store.content c.args.store.now) w.unwinding)
+    (few_records c.args.classes.now.world c.args.thrown w.program w.texts w.frames w.control w.t w.goes_to w.addresses c.args.frames.now
+    c.args.control.now c.args.held.now (g.S.Store.content c.args.store.now) w.unwinding)
 
 pub pass_frames-requires-clause-can : goal.pass_frames-requires-clause-can
 pass_frames-requires-clause-can g c =
     let w = c.requires.can in
     let blocks = g.S.Store.content c.args.store.now in
     let walks =
-    subst (λ (all : List FrameRecord). Walking c.args.classes.now.world all w.program w.texts w.frames (in_use c.args.frames.now.words.items c.args.frames.now.top) w.t w.goes_to w.addresses c.args.thrown c.args.held.now blocks) (sym c.deref.ensures.value)
+    subst (λ (all : List FrameRecord). Walking c.args.classes.now.world all w.program w.texts w.frames
+    (in_use c.args.frames.now.words.items c.args.frames.now.top) w.t w.goes_to w.addresses c.args.thrown c.args.held.now blocks)
+    (sym c.deref.ensures.value)
     (walking c.args.classes.now.world c.args.thrown w.program w.texts w.frames w.control w.t w.goes_to w.addresses c.args.frames.now c.args.control.now c.args.held.now blocks w.unwinding) in
     let landed = (c.in_ok-landing.ensures {u = tt}).lands w.program w.texts w.frames (in_use c.args.frames.now.words.items c.args.frames.now.top) w.t w.goes_to w.addresses walks in
     record {
@@ -53,7 +58,8 @@ returns-in_default-clause-unwinds g c = λ program texts fs control t goes_to ad
     let after = g.S.Store.content c.walk.new.store in
     let landing = c.in_ok-landing.landing in
     let walks =
-    subst (λ (all : List FrameRecord). Walking world all program texts fs (in_use c.args.frames.now.words.items c.args.frames.now.top) t goes_to addresses c.args.thrown c.args.held.now blocks) (sym c.deref.ensures.value)
+    subst (λ (all : List FrameRecord). Walking world all program texts fs (in_use c.args.frames.now.words.items c.args.frames.now.top) t goes_to
+    addresses c.args.thrown c.args.held.now blocks) (sym c.deref.ensures.value)
     (walking world c.args.thrown program texts fs control t goes_to addresses c.args.frames.now c.args.control.now c.args.held.now blocks h) in
     let landed = (c.in_ok-landing.ensures {u = tt}).lands program texts fs (in_use c.args.frames.now.words.items c.args.frames.now.top) t goes_to addresses walks in
     let can = passing world c.args.thrown program texts fs control t goes_to addresses c.args.frames.now c.args.control.now c.args.held.now blocks h landing c.walk.new.held after landed in
@@ -69,13 +75,16 @@ catch_thrown-requires g c =
     let after = g.S.Store.content c.walk.new.store in
     let landing = c.in_ok-landing.landing in
     let walks =
-    subst (λ (all : List FrameRecord). Walking world all w.program w.texts w.frames (in_use c.args.frames.now.words.items c.args.frames.now.top) w.t w.goes_to w.addresses c.args.thrown c.args.held.now blocks) (sym c.deref.ensures.value)
+    subst (λ (all : List FrameRecord). Walking world all w.program w.texts w.frames (in_use c.args.frames.now.words.items c.args.frames.now.top) w.t
+    w.goes_to w.addresses c.args.thrown c.args.held.now blocks) (sym c.deref.ensures.value)
     (walking world c.args.thrown w.program w.texts w.frames w.control w.t w.goes_to w.addresses c.args.frames.now c.args.control.now c.args.held.now blocks w.unwinding) in
     let landed = (c.in_ok-landing.ensures {u = tt}).lands w.program w.texts w.frames (in_use c.args.frames.now.words.items c.args.frames.now.top) w.t w.goes_to w.addresses walks in
-    let can = passing world c.args.thrown w.program w.texts w.frames w.control w.t w.goes_to w.addresses c.args.frames.now c.args.control.now c.args.held.now blocks w.unwinding landing c.walk.new.held after landed in
+    let can = passing world c.args.thrown w.program w.texts w.frames w.control w.t w.goes_to w.addresses c.args.frames.now c.args.control.now
+    c.args.held.now blocks w.unwinding landing c.walk.new.held after landed in
     let passed = c.pass_frames.ensures w.program _ w.frames w.control can in
     let x =
-    caught_by world c.args.thrown w.program w.texts w.frames w.control w.t w.goes_to w.addresses c.args.frames.now c.args.control.now c.args.held.now blocks w.unwinding landing c.walk.new.held after landed
+    caught_by world c.args.thrown w.program w.texts w.frames w.control w.t w.goes_to w.addresses c.args.frames.now c.args.control.now c.args.held.now
+    blocks w.unwinding landing c.walk.new.held after landed
     c.in-Some.pc c.pass_frames.new.frames c.pass_frames.new.control c.args.methods.now c.requires.methods c.in-Some.is passed in
     record { program = w.program; addresses = _; frame = x.frame; below = x.below; left = _; object = _; catching = x.catching }
 
@@ -86,7 +95,8 @@ returns-clause-unwinds g c = λ program texts fs control t goes_to addresses h.
     let after = g.S.Store.content c.walk.new.store in
     let landing = c.in_ok-landing.landing in
     let walks =
-    subst (λ (all : List FrameRecord). Walking world all program texts fs (in_use c.args.frames.now.words.items c.args.frames.now.top) t goes_to addresses c.args.thrown c.args.held.now blocks) (sym c.deref.ensures.value)
+    subst (λ (all : List FrameRecord). Walking world all program texts fs (in_use c.args.frames.now.words.items c.args.frames.now.top) t goes_to
+    addresses c.args.thrown c.args.held.now blocks) (sym c.deref.ensures.value)
     (walking world c.args.thrown program texts fs control t goes_to addresses c.args.frames.now c.args.control.now c.args.held.now blocks h) in
     let landed = (c.in_ok-landing.ensures {u = tt}).lands program texts fs (in_use c.args.frames.now.words.items c.args.frames.now.top) t goes_to addresses walks in
     let can = passing world c.args.thrown program texts fs control t goes_to addresses c.args.frames.now c.args.control.now c.args.held.now blocks h landing c.walk.new.held after landed in

@@ -13,7 +13,8 @@ loop-left-init g c =
       few = omega arith;
       ran =
           λ program s addresses h.
-          subst (λ (k : ℕ). Ran k program c.args.texts.now.names s addresses before before) none (ran_not c.args.classes.now.world c.args.verified.now program c.args.texts.now.names s addresses before h);
+          subst (λ (k : ℕ). Ran k program c.args.texts.now.names s addresses before before) none
+          (ran_not c.args.classes.now.world c.args.verified.now program c.args.texts.now.names s addresses before h);
       linked = c.requires.linked;
       fewer = omega arith;
       still = λ none. (refl, refl);
@@ -28,7 +29,8 @@ resume-requires g c =
     let now = kept c.loop-left.frames c.loop-left.control c.loop-left.held (g.S.Store.content c.loop-left.store) in
     let r = c.loop-left.invariant.ran w.program w.s w.addresses w.runs in
     can_resume c.args.classes.now.world c.args.verified.now w.program c.args.texts.now.names r.t (w.addresses ++ r.reaches.more) c.loop-left.frames c.loop-left.control c.loop-left.held
-    (g.S.Store.content c.loop-left.store) (from_now c.args.classes.now.world c.args.verified.now w.program c.args.texts.now.names w.s w.addresses before w.runs k now r) c.args.methods.now c.requires.methods
+    (g.S.Store.content c.loop-left.store) (from_now c.args.classes.now.world c.args.verified.now w.program c.args.texts.now.names w.s w.addresses
+    before w.runs k now r) c.args.methods.now c.requires.methods
 
 pub run_method-turn-requires-clause-can : goal.run_method-turn-requires-clause-can
 run_method-turn-requires-clause-can g c =
@@ -42,8 +44,10 @@ run_method-turn-requires-clause-can g c =
     let own = w.addresses ++ r.reaches.more in
     let e = c.in-Some.ensures {u = tt} in
     let resumed = e.resumes w.program own r.t.frames r.t.control.words
-    (resuming c.args.classes.now.world c.args.verified.now w.program c.args.texts.now.names r.t own c.loop-left.frames c.loop-left.control c.loop-left.held blocks f c.args.methods.now c.requires.methods) in
-    let in_registers = runs_in c.args.classes.now.world c.args.verified.now w.program c.args.texts.now.names r.t own c.loop-left.frames c.loop-left.control c.loop-left.held blocks f c.in-Some.at c.resume.new.frames resumed in
+    (resuming c.args.classes.now.world c.args.verified.now w.program c.args.texts.now.names r.t own c.loop-left.frames c.loop-left.control
+    c.loop-left.held blocks f c.args.methods.now c.requires.methods) in
+    let in_registers = runs_in c.args.classes.now.world c.args.verified.now w.program c.args.texts.now.names r.t own c.loop-left.frames
+    c.loop-left.control c.loop-left.held blocks f c.in-Some.at c.resume.new.frames resumed in
     record { program = w.program; s = r.t; addresses = own; runs = in_registers }
 
 pub returns-then-turn-clause-ran : goal.returns-then-turn-clause-ran
@@ -63,11 +67,14 @@ returns-then-turn-clause-ran g c = λ program s addresses h.
     let own = addresses ++ r.reaches.more in
     let e = c.in-Some.ensures {u = tt} in
     let resumed = e.resumes program own r.t.frames r.t.control.words
-    (resuming c.args.classes.now.world c.args.verified.now program c.args.texts.now.names r.t own c.loop-left.frames c.loop-left.control c.loop-left.held blocks f c.args.methods.now c.requires.methods) in
-    let in_registers = runs_in c.args.classes.now.world c.args.verified.now program c.args.texts.now.names r.t own c.loop-left.frames c.loop-left.control c.loop-left.held blocks f c.in-Some.at c.resume.new.frames resumed in
+    (resuming c.args.classes.now.world c.args.verified.now program c.args.texts.now.names r.t own c.loop-left.frames c.loop-left.control
+    c.loop-left.held blocks f c.args.methods.now c.requires.methods) in
+    let in_registers = runs_in c.args.classes.now.world c.args.verified.now program c.args.texts.now.names r.t own c.loop-left.frames
+    c.loop-left.control c.loop-left.held blocks f c.in-Some.at c.resume.new.frames resumed in
     let q = c.run_method-turn.ensures.ran program r.t own in_registers in
     subst (λ (n : ℕ). Ran n program c.args.texts.now.names s addresses before after) sum
-    (ran_then c.args.classes.now.world c.args.verified.now program c.args.texts.now.names s addresses before h k now r j after (ran_again j program c.args.texts.now.names r.t own between now after refl q))
+    (ran_then c.args.classes.now.world c.args.verified.now program c.args.texts.now.names s addresses before h k now r j after
+    (ran_again j program c.args.texts.now.names r.t own between now after refl q))
 
 pub loop-left-smaller-in-Some : goal.loop-left-smaller-in-Some
 loop-left-smaller-in-Some g c = c.run_method-turn.ensures.some c.loop-left-test.true c.if-turn.false
@@ -93,11 +100,14 @@ loop-left-preserved-in-Some g c =
           let own = addresses ++ r.reaches.more in
           let e = c.in-Some.ensures {u = tt} in
           let resumed = e.resumes program own r.t.frames r.t.control.words
-          (resuming c.args.classes.now.world c.args.verified.now program c.args.texts.now.names r.t own c.loop-left.frames c.loop-left.control c.loop-left.held blocks f c.args.methods.now c.requires.methods) in
-          let in_registers = runs_in c.args.classes.now.world c.args.verified.now program c.args.texts.now.names r.t own c.loop-left.frames c.loop-left.control c.loop-left.held blocks f c.in-Some.at c.resume.new.frames resumed in
+          (resuming c.args.classes.now.world c.args.verified.now program c.args.texts.now.names r.t own c.loop-left.frames c.loop-left.control
+          c.loop-left.held blocks f c.args.methods.now c.requires.methods) in
+          let in_registers = runs_in c.args.classes.now.world c.args.verified.now program c.args.texts.now.names r.t own c.loop-left.frames
+          c.loop-left.control c.loop-left.held blocks f c.in-Some.at c.resume.new.frames resumed in
           let q = c.run_method-turn.ensures.ran program r.t own in_registers in
           subst (λ (n : ℕ). Ran n program c.args.texts.now.names s addresses before after) sum
-          (ran_then c.args.classes.now.world c.args.verified.now program c.args.texts.now.names s addresses before h k now r j after (ran_again j program c.args.texts.now.names r.t own between now after refl q));
+          (ran_then c.args.classes.now.world c.args.verified.now program c.args.texts.now.names s addresses before h k now r j after
+          (ran_again j program c.args.texts.now.names r.t own between now after refl q));
       linked = c.run_method-turn.ensures.linked;
       fewer = let a = c.run_method-turn.ensures.fewer in let b = c.loop-left.invariant.fewer in omega (arith, a, b);
       still = λ none. let less = c.run_method-turn.ensures.some c.loop-left-test.true c.if-turn.false in absurd (omega (arith, few, less, none));
@@ -119,9 +129,18 @@ initialization_step-requires-clause-can g c =
     (c.if-not-is_empty.ensures {u = tt}) in
     let none = c.in-None.ensures {u = tt} in
     let quiet = none.resumes.1 w.program own r.t.frames r.t.control.words
-    (resuming c.args.classes.now.world c.args.verified.now w.program c.args.texts.now.names r.t own c.loop-left.frames c.loop-left.control c.loop-left.held blocks f c.args.methods.now c.requires.methods) in
-    let m = moves c.args.classes.now.world c.args.verified.now w.program c.args.texts.now.names r.t own c.loop-left.frames c.loop-left.control c.loop-left.held blocks f c.resume.new.frames none.resumes.0 quiet some in
-    record { program = w.program; s = r.t; t = next c.args.classes.now.world c.args.verified.now w.program c.args.texts.now.names r.t own c.loop-left.frames c.loop-left.control c.loop-left.held blocks f; addresses = own; moves = m }
+    (resuming c.args.classes.now.world c.args.verified.now w.program c.args.texts.now.names r.t own c.loop-left.frames c.loop-left.control
+    c.loop-left.held blocks f c.args.methods.now c.requires.methods) in
+    let m = moves c.args.classes.now.world c.args.verified.now w.program c.args.texts.now.names r.t own c.loop-left.frames c.loop-left.control
+    c.loop-left.held blocks f c.resume.new.frames none.resumes.0 quiet some in
+    record {
+      program = w.program;
+      s = r.t;
+      t = next c.args.classes.now.world c.args.verified.now w.program c.args.texts.now.names r.t own
+          c.loop-left.frames c.loop-left.control c.loop-left.held blocks f;
+      addresses = own;
+      moves = m;
+    }
 
 pub initialization_step-requires-clause-few_classes : goal.initialization_step-requires-clause-few_classes
 initialization_step-requires-clause-few_classes g c = let few = c.requires.can.runs.guest.few in omega (arith, few)
@@ -139,7 +158,8 @@ returns-in-Err-clause-ran g c = λ program s addresses h.
     let f = from_now c.args.classes.now.world c.args.verified.now program c.args.texts.now.names s addresses before h k now r in
     let own = addresses ++ r.reaches.more in
     ran_kept k program c.args.texts.now.names s addresses before now after r
-    (stands_refused c.args.classes.now.world c.args.verified.now program c.args.texts.now.names r.t own c.loop-left.frames c.loop-left.control c.loop-left.held blocks f c.initialization_step.new.frames c.initialization_step.new.control c.initialization_step.new.held
+    (stands_refused c.args.classes.now.world c.args.verified.now program c.args.texts.now.names r.t own c.loop-left.frames c.loop-left.control
+    c.loop-left.held blocks f c.initialization_step.new.frames c.initialization_step.new.control c.initialization_step.new.held
     (g.S.Store.content c.initialization_step.new.store) (as_before_twice c.loop-left.frames c.resume.new.frames c.initialization_step.new.frames none.resumes.0 e.refused_frames)
     e.refused_control e.refused e.refused_content)
     e.refused_content
@@ -169,14 +189,18 @@ loop-left-preserved g c =
           let own = addresses ++ r.reaches.more in
           let none = c.in-None.ensures {u = tt} in
           let quiet = none.resumes.1 program own r.t.frames r.t.control.words
-          (resuming c.args.classes.now.world c.args.verified.now program c.args.texts.now.names r.t own c.loop-left.frames c.loop-left.control c.loop-left.held blocks f c.args.methods.now c.requires.methods) in
-          let m = moves c.args.classes.now.world c.args.verified.now program c.args.texts.now.names r.t own c.loop-left.frames c.loop-left.control c.loop-left.held blocks f c.resume.new.frames none.resumes.0 quiet some in
+          (resuming c.args.classes.now.world c.args.verified.now program c.args.texts.now.names r.t own c.loop-left.frames c.loop-left.control
+          c.loop-left.held blocks f c.args.methods.now c.requires.methods) in
+          let m = moves c.args.classes.now.world c.args.verified.now program c.args.texts.now.names r.t own c.loop-left.frames c.loop-left.control
+          c.loop-left.held blocks f c.resume.new.frames none.resumes.0 quiet some in
           let t = next c.args.classes.now.world c.args.verified.now program c.args.texts.now.names r.t own c.loop-left.frames c.loop-left.control c.loop-left.held blocks f in
           let q = e.done program r.t t own m in
           subst (λ (n : ℕ). Ran n program c.args.texts.now.names s addresses before after) sum
           (ran_then c.args.classes.now.world c.args.verified.now program c.args.texts.now.names s addresses before h k now r 1 after
           (ran_one program c.args.texts.now.names r.t t own between now after
-          (some_frames c.args.classes.now.world c.args.verified.now program c.args.texts.now.names r.t own c.loop-left.frames c.loop-left.control c.loop-left.held blocks f some) (takes c.args.classes.now.world c.args.verified.now program c.args.texts.now.names r.t own c.loop-left.frames c.loop-left.control c.loop-left.held blocks f).does refl q));
+          (some_frames c.args.classes.now.world c.args.verified.now program c.args.texts.now.names r.t own c.loop-left.frames c.loop-left.control
+          c.loop-left.held blocks f some) (takes c.args.classes.now.world c.args.verified.now program c.args.texts.now.names r.t own
+          c.loop-left.frames c.loop-left.control c.loop-left.held blocks f).does refl q));
       linked = c.loop-left.invariant.linked;
       fewer =
           let r = c.loop-left.invariant.ran w.program w.s w.addresses w.runs in
@@ -184,11 +208,15 @@ loop-left-preserved g c =
           let own = w.addresses ++ r.reaches.more in
           let none = c.in-None.ensures {u = tt} in
           let quiet = none.resumes.1 w.program own r.t.frames r.t.control.words
-          (resuming c.args.classes.now.world c.args.verified.now w.program c.args.texts.now.names r.t own c.loop-left.frames c.loop-left.control c.loop-left.held blocks f c.args.methods.now c.requires.methods) in
-          let m = moves c.args.classes.now.world c.args.verified.now w.program c.args.texts.now.names r.t own c.loop-left.frames c.loop-left.control c.loop-left.held blocks f c.resume.new.frames none.resumes.0 quiet some in
+          (resuming c.args.classes.now.world c.args.verified.now w.program c.args.texts.now.names r.t own c.loop-left.frames c.loop-left.control
+          c.loop-left.held blocks f c.args.methods.now c.requires.methods) in
+          let m = moves c.args.classes.now.world c.args.verified.now w.program c.args.texts.now.names r.t own c.loop-left.frames c.loop-left.control
+          c.loop-left.held blocks f c.resume.new.frames none.resumes.0 quiet some in
           let t = next c.args.classes.now.world c.args.verified.now w.program c.args.texts.now.names r.t own c.loop-left.frames c.loop-left.control c.loop-left.held blocks f in
           let q = e.done w.program r.t t own m in
-          let less = fewer c.step_keeps.ensures w.program c.args.texts.now.names r.t t own between after (takes c.args.classes.now.world c.args.verified.now w.program c.args.texts.now.names r.t own c.loop-left.frames c.loop-left.control c.loop-left.held blocks f).does m.stands q in
+          let less = fewer c.step_keeps.ensures w.program c.args.texts.now.names r.t t own between after
+          (takes c.args.classes.now.world c.args.verified.now w.program c.args.texts.now.names r.t own c.loop-left.frames c.loop-left.control
+          c.loop-left.held blocks f).does m.stands q in
           let b = c.loop-left.invariant.fewer in
           omega (arith, less, b);
       still = λ none. absurd (omega (arith, few, there, none));

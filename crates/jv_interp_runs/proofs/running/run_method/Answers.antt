@@ -75,7 +75,9 @@ loop-left-preserved-in-Ok-true g c =
           c.loop-left.held (g.S.Store.content c.loop-left.store) (c.loop-left.invariant.ran program s addresses h) j c.run_alone.new.at c.run_alone.new.frames
           c.run_alone.ensures.ran c.run_alone.ensures.only in
           let t = next c.args.classes.now.world c.args.verified.now c.args.at program c.args.texts.now.names s addresses before h (k + j) c.run_alone.new.at then r in
-          let q = e.stepped program r.t t (addresses ++ r.runs.more) (steps_in c.args.classes.now.world c.args.verified.now c.args.at program c.args.texts.now.names s addresses before h (k + j) c.run_alone.new.at then r) in
+          let q = e.stepped program r.t t (addresses ++ r.runs.more)
+          (steps_in c.args.classes.now.world c.args.verified.now c.args.at program c.args.texts.now.names s addresses before h
+          (k + j) c.run_alone.new.at then r) in
           subst (λ (i : ℕ). RanOn i program c.args.texts.now.names s addresses c.step_in_method.new.at before after) up
           (ran_on c.args.classes.now.world c.args.verified.now c.args.at program c.args.texts.now.names s addresses before h (k + j) c.run_alone.new.at then r c.step_in_method.new.at after
           (subst (λ (b : Bool). SteppedTo b program c.args.texts.now.names t (addresses ++ r.runs.more) c.step_in_method.new.at then after) c.in-Ok-true.field-0-test q));
@@ -129,7 +131,9 @@ resume-requires g c =
     c.loop-left.held (g.S.Store.content c.loop-left.store) (c.loop-left.invariant.ran w.program w.s w.addresses w.runs) j c.run_alone.new.at c.run_alone.new.frames
     c.run_alone.ensures.ran c.run_alone.ensures.only in
     let t = next c.args.classes.now.world c.args.verified.now c.args.at w.program c.args.texts.now.names w.s w.addresses before w.runs (k + j) c.run_alone.new.at then r in
-    let q = e.stepped w.program r.t t (w.addresses ++ r.runs.more) (steps_in c.args.classes.now.world c.args.verified.now c.args.at w.program c.args.texts.now.names w.s w.addresses before w.runs (k + j) c.run_alone.new.at then r) in
+    let q = e.stepped w.program r.t t (w.addresses ++ r.runs.more)
+    (steps_in c.args.classes.now.world c.args.verified.now c.args.at w.program c.args.texts.now.names w.s w.addresses before w.runs
+    (k + j) c.run_alone.new.at then r) in
     let out : Ran (c.args.n - c.steps_behind-left.result) w.program c.args.texts.now.names w.s w.addresses before after =
     subst (λ (i : ℕ). Ran i w.program c.args.texts.now.names w.s w.addresses before after) up
     (ran_out c.args.classes.now.world c.args.verified.now c.args.at w.program c.args.texts.now.names w.s w.addresses before w.runs (k + j) c.run_alone.new.at then r after
@@ -165,7 +169,9 @@ loop-left-preserved g c =
           c.loop-left.held (g.S.Store.content c.loop-left.store) (c.loop-left.invariant.ran program s addresses h) j c.run_alone.new.at c.run_alone.new.frames
           c.run_alone.ensures.ran c.run_alone.ensures.only in
           let t = next c.args.classes.now.world c.args.verified.now c.args.at program c.args.texts.now.names s addresses before h (k + j) c.run_alone.new.at then r in
-          let q = e.stepped program r.t t (addresses ++ r.runs.more) (steps_in c.args.classes.now.world c.args.verified.now c.args.at program c.args.texts.now.names s addresses before h (k + j) c.run_alone.new.at then r) in
+          let q = e.stepped program r.t t (addresses ++ r.runs.more)
+          (steps_in c.args.classes.now.world c.args.verified.now c.args.at program c.args.texts.now.names s addresses before h
+          (k + j) c.run_alone.new.at then r) in
           let out : Ran (c.args.n - c.steps_behind-left.result) program c.args.texts.now.names s addresses before after =
           subst (λ (i : ℕ). Ran i program c.args.texts.now.names s addresses before after) up
           (ran_out c.args.classes.now.world c.args.verified.now c.args.at program c.args.texts.now.names s addresses before h (k + j) c.run_alone.new.at then r after
@@ -201,7 +207,9 @@ returns-in-None-clause-ran g c = λ program s addresses h.
     c.loop-left.held (g.S.Store.content c.loop-left.store) (c.loop-left.invariant.ran program s addresses h) j c.run_alone.new.at c.run_alone.new.frames
     c.run_alone.ensures.ran c.run_alone.ensures.only in
     let t = next c.args.classes.now.world c.args.verified.now c.args.at program c.args.texts.now.names s addresses before h (k + j) c.run_alone.new.at then r in
-    let q = e.stepped program r.t t (addresses ++ r.runs.more) (steps_in c.args.classes.now.world c.args.verified.now c.args.at program c.args.texts.now.names s addresses before h (k + j) c.run_alone.new.at then r) in
+    let q = e.stepped program r.t t (addresses ++ r.runs.more)
+    (steps_in c.args.classes.now.world c.args.verified.now c.args.at program c.args.texts.now.names s addresses before h
+    (k + j) c.run_alone.new.at then r) in
     let out : Ran (c.args.n - c.steps_behind-left.result) program c.args.texts.now.names s addresses before after =
     subst (λ (i : ℕ). Ran i program c.args.texts.now.names s addresses before after) up
     (ran_out c.args.classes.now.world c.args.verified.now c.args.at program c.args.texts.now.names s addresses before h (k + j) c.run_alone.new.at then r after

@@ -17,7 +17,8 @@ step_known-requires-clause-bytes g c =
 
 pub step_known-requires-in-Some-element_stored-clause-bytes : goal.step_known-requires-in-Some-element_stored-clause-bytes
 step_known-requires-in-Some-element_stored-clause-bytes g c =
-    alone c.args.at.now.code.now c.args.at.now.pc c.opcode_at-opcode.result (array_store_opcode c.in-Some-element_stored.kind) (c.in-Some-element_stored.ensures {u = tt}) c.opcode_at-opcode.ensures.stands
+    alone c.args.at.now.code.now c.args.at.now.pc c.opcode_at-opcode.result (array_store_opcode c.in-Some-element_stored.kind)
+    (c.in-Some-element_stored.ensures {u = tt}) c.opcode_at-opcode.ensures.stands
 
 pub step_known-requires-in-Some-value_returned-clause-bytes : goal.step_known-requires-in-Some-value_returned-clause-bytes
 step_known-requires-in-Some-value_returned-clause-bytes g c =
@@ -65,35 +66,43 @@ step_known-requires-in-19-clause-bytes g c =
 
 pub step_known-requires-in-20-clause-bytes : goal.step_known-requires-in-20-clause-bytes
 step_known-requires-in-20-clause-bytes g c =
-    with_index c.args.at.now.code.now c.args.at.now.pc c.opcode_at-opcode.result 20 c.index_behind-index-in-20.result (sym c.in-20.is) c.opcode_at-opcode.ensures.stands c.index_behind-index-in-20.ensures.stands
+    with_index c.args.at.now.code.now c.args.at.now.pc c.opcode_at-opcode.result 20 c.index_behind-index-in-20.result (sym c.in-20.is)
+    c.opcode_at-opcode.ensures.stands c.index_behind-index-in-20.ensures.stands
 
 pub step_known-requires-in-178-clause-bytes : goal.step_known-requires-in-178-clause-bytes
 step_known-requires-in-178-clause-bytes g c =
-    with_index c.args.at.now.code.now c.args.at.now.pc c.opcode_at-opcode.result 178 c.index_behind-index-in-178.result (sym c.in-178.is) c.opcode_at-opcode.ensures.stands c.index_behind-index-in-178.ensures.stands
+    with_index c.args.at.now.code.now c.args.at.now.pc c.opcode_at-opcode.result 178 c.index_behind-index-in-178.result (sym c.in-178.is)
+    c.opcode_at-opcode.ensures.stands c.index_behind-index-in-178.ensures.stands
 
 pub step_known-requires-in-179-clause-bytes : goal.step_known-requires-in-179-clause-bytes
 step_known-requires-in-179-clause-bytes g c =
-    with_index c.args.at.now.code.now c.args.at.now.pc c.opcode_at-opcode.result 179 c.index_behind-index-in-179.result (sym c.in-179.is) c.opcode_at-opcode.ensures.stands c.index_behind-index-in-179.ensures.stands
+    with_index c.args.at.now.code.now c.args.at.now.pc c.opcode_at-opcode.result 179 c.index_behind-index-in-179.result (sym c.in-179.is)
+    c.opcode_at-opcode.ensures.stands c.index_behind-index-in-179.ensures.stands
 
 pub step_known-requires-in-180-clause-bytes : goal.step_known-requires-in-180-clause-bytes
 step_known-requires-in-180-clause-bytes g c =
-    with_index c.args.at.now.code.now c.args.at.now.pc c.opcode_at-opcode.result 180 c.index_behind-index-in-180.result (sym c.in-180.is) c.opcode_at-opcode.ensures.stands c.index_behind-index-in-180.ensures.stands
+    with_index c.args.at.now.code.now c.args.at.now.pc c.opcode_at-opcode.result 180 c.index_behind-index-in-180.result (sym c.in-180.is)
+    c.opcode_at-opcode.ensures.stands c.index_behind-index-in-180.ensures.stands
 
 pub step_known-requires-in-181-clause-bytes : goal.step_known-requires-in-181-clause-bytes
 step_known-requires-in-181-clause-bytes g c =
-    with_index c.args.at.now.code.now c.args.at.now.pc c.opcode_at-opcode.result 181 c.index_behind-index-in-181.result (sym c.in-181.is) c.opcode_at-opcode.ensures.stands c.index_behind-index-in-181.ensures.stands
+    with_index c.args.at.now.code.now c.args.at.now.pc c.opcode_at-opcode.result 181 c.index_behind-index-in-181.result (sym c.in-181.is)
+    c.opcode_at-opcode.ensures.stands c.index_behind-index-in-181.ensures.stands
 
 pub step_known-requires-in-182-clause-bytes : goal.step_known-requires-in-182-clause-bytes
 step_known-requires-in-182-clause-bytes g c =
-    with_index c.args.at.now.code.now c.args.at.now.pc c.opcode_at-opcode.result 182 c.index_behind-index-in-182.result (sym c.in-182.is) c.opcode_at-opcode.ensures.stands c.index_behind-index-in-182.ensures.stands
+    with_index c.args.at.now.code.now c.args.at.now.pc c.opcode_at-opcode.result 182 c.index_behind-index-in-182.result (sym c.in-182.is)
+    c.opcode_at-opcode.ensures.stands c.index_behind-index-in-182.ensures.stands
 
 pub step_known-requires-in-183-clause-bytes : goal.step_known-requires-in-183-clause-bytes
 step_known-requires-in-183-clause-bytes g c =
-    with_index c.args.at.now.code.now c.args.at.now.pc c.opcode_at-opcode.result 183 c.index_behind-index-in-183.result (sym c.in-183.is) c.opcode_at-opcode.ensures.stands c.index_behind-index-in-183.ensures.stands
+    with_index c.args.at.now.code.now c.args.at.now.pc c.opcode_at-opcode.result 183 c.index_behind-index-in-183.result (sym c.in-183.is)
+    c.opcode_at-opcode.ensures.stands c.index_behind-index-in-183.ensures.stands
 
 pub step_known-requires-in-184-clause-bytes : goal.step_known-requires-in-184-clause-bytes
 step_known-requires-in-184-clause-bytes g c =
-    with_index c.args.at.now.code.now c.args.at.now.pc c.opcode_at-opcode.result 184 c.index_behind-index-in-184.result (sym c.in-184.is) c.opcode_at-opcode.ensures.stands c.index_behind-index-in-184.ensures.stands
+    with_index c.args.at.now.code.now c.args.at.now.pc c.opcode_at-opcode.result 184 c.index_behind-index-in-184.result (sym c.in-184.is)
+    c.opcode_at-opcode.ensures.stands c.index_behind-index-in-184.ensures.stands
 
 pub step_known-requires-in-185-clause-bytes : goal.step_known-requires-in-185-clause-bytes
 step_known-requires-in-185-clause-bytes g c =
@@ -109,12 +118,15 @@ step_known-requires-in-185-clause-fits g c =
 
 pub step_known-requires-in-187-clause-bytes : goal.step_known-requires-in-187-clause-bytes
 step_known-requires-in-187-clause-bytes g c =
-    with_index c.args.at.now.code.now c.args.at.now.pc c.opcode_at-opcode.result 187 c.index_behind-index-in-187.result (sym c.in-187.is) c.opcode_at-opcode.ensures.stands c.index_behind-index-in-187.ensures.stands
+    with_index c.args.at.now.code.now c.args.at.now.pc c.opcode_at-opcode.result 187 c.index_behind-index-in-187.result (sym c.in-187.is)
+    c.opcode_at-opcode.ensures.stands c.index_behind-index-in-187.ensures.stands
 
 pub step_known-requires-in-192-clause-bytes : goal.step_known-requires-in-192-clause-bytes
 step_known-requires-in-192-clause-bytes g c =
-    with_index c.args.at.now.code.now c.args.at.now.pc c.opcode_at-opcode.result 192 c.index_behind-index-in-192.result (sym c.in-192.is) c.opcode_at-opcode.ensures.stands c.index_behind-index-in-192.ensures.stands
+    with_index c.args.at.now.code.now c.args.at.now.pc c.opcode_at-opcode.result 192 c.index_behind-index-in-192.result (sym c.in-192.is)
+    c.opcode_at-opcode.ensures.stands c.index_behind-index-in-192.ensures.stands
 
 pub step_known-requires-in-193-clause-bytes : goal.step_known-requires-in-193-clause-bytes
 step_known-requires-in-193-clause-bytes g c =
-    with_index c.args.at.now.code.now c.args.at.now.pc c.opcode_at-opcode.result 193 c.index_behind-index-in-193.result (sym c.in-193.is) c.opcode_at-opcode.ensures.stands c.index_behind-index-in-193.ensures.stands
+    with_index c.args.at.now.code.now c.args.at.now.pc c.opcode_at-opcode.result 193 c.index_behind-index-in-193.result (sym c.in-193.is)
+    c.opcode_at-opcode.ensures.stands c.index_behind-index-in-193.ensures.stands

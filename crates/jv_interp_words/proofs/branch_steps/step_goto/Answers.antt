@@ -17,7 +17,8 @@ jump-requires c =
     let same = to_z-of_z w32 distance.result (record { sfits = distance.type_inv }) in
     let insn : Instruction = insns.Goto (to_z w32 (of_z w32 distance.result)) jump_forms.Half in
     let is : IsAt at.code.now at.pc insn = subst (λ (z : ℤ). IsAt at.code.now at.pc (insns.Goto z jump_forms.Half)) (sym same)
-    (stands_at (insns.Goto distance.result jump_forms.Half) at c.args.words.now c.requires.can (opcode_and at.code.now at.pc 167 (signed16.spelling distance.result) c.requires.opcode distance.ensures.stands) (distance.ensures.fits)) in
+    (stands_at (insns.Goto distance.result jump_forms.Half) at c.args.words.now c.requires.can
+    (opcode_and at.code.now at.pc 167 (signed16.spelling distance.result) c.requires.opcode distance.ensures.stands) (distance.ensures.fits)) in
     can_work insn (at.pc + 3) at c.args.words.now c.requires.can is refl
 
 pub returns : goal.returns
@@ -27,7 +28,8 @@ returns c =
     let same = to_z-of_z w32 distance.result (record { sfits = distance.type_inv }) in
     let insn : Instruction = insns.Goto (to_z w32 (of_z w32 distance.result)) jump_forms.Half in
     let is : IsAt at.code.now at.pc insn = subst (λ (z : ℤ). IsAt at.code.now at.pc (insns.Goto z jump_forms.Half)) (sym same)
-    (stands_at (insns.Goto distance.result jump_forms.Half) at c.args.words.now c.requires.can (opcode_and at.code.now at.pc 167 (signed16.spelling distance.result) c.requires.opcode distance.ensures.stands) (distance.ensures.fits)) in
+    (stands_at (insns.Goto distance.result jump_forms.Half) at c.args.words.now c.requires.can
+    (opcode_and at.code.now at.pc 167 (signed16.spelling distance.result) c.requires.opcode distance.ensures.stands) (distance.ensures.fits)) in
     went_to insn (at.pc + 3) at c.jump.new.at c.args.words.now c.args.words.now is refl c.jump.ensures.went
     c.jump.ensures.stays refl
 

@@ -18,7 +18,9 @@ if_ints-requires c =
     let same = to_z-of_z w32 distance.result (record { sfits = distance.type_inv }) in
     let insn : Instruction = insns.Branch (tests.IfInts c.args.condition) (to_z w32 (of_z w32 distance.result)) in
     let is : IsAt at.code.now at.pc insn = subst (λ (z : ℤ). IsAt at.code.now at.pc (insns.Branch (tests.IfInts c.args.condition) z)) (sym same)
-    (stands_at (insns.Branch (tests.IfInts c.args.condition) distance.result) at c.args.words.now c.requires.can (opcode_and at.code.now at.pc (branch_opcode (tests.IfInts c.args.condition)) (signed16.spelling distance.result) c.requires.opcode distance.ensures.stands) (distance.ensures.fits)) in
+    (stands_at (insns.Branch (tests.IfInts c.args.condition) distance.result) at c.args.words.now c.requires.can
+    (opcode_and at.code.now at.pc (branch_opcode (tests.IfInts c.args.condition)) (signed16.spelling distance.result) c.requires.opcode
+    distance.ensures.stands) (distance.ensures.fits)) in
     can_work insn (at.pc + 3) at c.args.words.now c.requires.can is refl
 
 pub returns : goal.returns
@@ -28,7 +30,9 @@ returns c =
     let same = to_z-of_z w32 distance.result (record { sfits = distance.type_inv }) in
     let insn : Instruction = insns.Branch (tests.IfInts c.args.condition) (to_z w32 (of_z w32 distance.result)) in
     let is : IsAt at.code.now at.pc insn = subst (λ (z : ℤ). IsAt at.code.now at.pc (insns.Branch (tests.IfInts c.args.condition) z)) (sym same)
-    (stands_at (insns.Branch (tests.IfInts c.args.condition) distance.result) at c.args.words.now c.requires.can (opcode_and at.code.now at.pc (branch_opcode (tests.IfInts c.args.condition)) (signed16.spelling distance.result) c.requires.opcode distance.ensures.stands) (distance.ensures.fits)) in
+    (stands_at (insns.Branch (tests.IfInts c.args.condition) distance.result) at c.args.words.now c.requires.can
+    (opcode_and at.code.now at.pc (branch_opcode (tests.IfInts c.args.condition)) (signed16.spelling distance.result) c.requires.opcode
+    distance.ensures.stands) (distance.ensures.fits)) in
     went_to insn (at.pc + 3) at c.if_ints.new.at c.args.words.now c.args.words.now is refl c.if_ints.ensures.went
     c.if_ints.ensures.stays refl
 

@@ -18,7 +18,8 @@ compute-requires c =
     let same = to_z-of_z w16 value.result (record { sfits = value.type_inv }) in
     let insn : Instruction = insns.Compute (compute.IntConstant (to_z w16 (of_z w16 value.result)) int_forms.Half) in
     let is : IsAt at.code.now at.pc insn = subst (λ (z : ℤ). IsAt at.code.now at.pc (insns.Compute (compute.IntConstant z int_forms.Half))) (sym same)
-    (stands_at (insns.Compute (compute.IntConstant value.result int_forms.Half)) at c.args.words.now c.requires.can (opcode_and at.code.now at.pc 17 (signed16.spelling value.result) c.requires.opcode value.ensures.stands) (value.ensures.fits)) in
+    (stands_at (insns.Compute (compute.IntConstant value.result int_forms.Half)) at c.args.words.now c.requires.can
+    (opcode_and at.code.now at.pc 17 (signed16.spelling value.result) c.requires.opcode value.ensures.stands) (value.ensures.fits)) in
     can_work insn (at.pc + 3) at c.args.words.now c.requires.can is refl
 
 pub returns : goal.returns
@@ -28,7 +29,8 @@ returns c =
     let same = to_z-of_z w16 value.result (record { sfits = value.type_inv }) in
     let insn : Instruction = insns.Compute (compute.IntConstant (to_z w16 (of_z w16 value.result)) int_forms.Half) in
     let is : IsAt at.code.now at.pc insn = subst (λ (z : ℤ). IsAt at.code.now at.pc (insns.Compute (compute.IntConstant z int_forms.Half))) (sym same)
-    (stands_at (insns.Compute (compute.IntConstant value.result int_forms.Half)) at c.args.words.now c.requires.can (opcode_and at.code.now at.pc 17 (signed16.spelling value.result) c.requires.opcode value.ensures.stands) (value.ensures.fits)) in
+    (stands_at (insns.Compute (compute.IntConstant value.result int_forms.Half)) at c.args.words.now c.requires.can
+    (opcode_and at.code.now at.pc 17 (signed16.spelling value.result) c.requires.opcode value.ensures.stands) (value.ensures.fits)) in
     went_to insn (at.pc + 3) at c.compute.new.at c.args.words.now c.compute.new.words is refl c.compute.ensures.went
     c.compute.ensures.stays c.compute.auto.words
 

@@ -7,5 +7,6 @@ pub returns-clause-done : goal.returns-clause-done
 returns-clause-done c =
     rearranges forms.Dup2X1 _ _ _ _
     (one_on c.top_word-a.result c.top_word-a.ensures (one_on c.top_word-b.result c.top_word-b.ensures (one_on c.top_word-c.result c.top_word-c.ensures refl)))
-    (two_on c.top_word-a.result c.top_word-b.result c.push_two.ensures.used (one_on c.top_word-c.result c.push_word-high.ensures.used (two_on c.top_word-a.result c.top_word-b.result c.push_two-low.ensures.used refl)))
+    (two_on c.top_word-a.result c.top_word-b.result c.push_two.ensures.used
+    (one_on c.top_word-c.result c.push_word-high.ensures.used (two_on c.top_word-a.result c.top_word-b.result c.push_two-low.ensures.used refl)))
     refl

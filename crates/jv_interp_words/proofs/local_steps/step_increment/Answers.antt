@@ -19,7 +19,11 @@ increment-requires c =
     let same = to_z-of_z w32 by.result (record { sfits = by.type_inv }) in
     let insn : Instruction = insns.Increment index.result (to_z w32 (of_z w32 by.result)) increment_forms.Byte in
     let is : IsAt at.code.now at.pc insn = subst (λ (z : ℤ). IsAt at.code.now at.pc (insns.Increment index.result z increment_forms.Byte)) (sym same)
-    (stands_at (insns.Increment index.result by.result increment_forms.Byte) at c.args.words.now c.requires.can (opcode_and at.code.now at.pc 132 (byte.spelling index.result ++ signed8.spelling by.result) c.requires.opcode (join at.code.now (at.pc + 1) (byte.spelling index.result) (signed8.spelling by.result) index.ensures.stands (next_at at.code.now at.pc (signed8.spelling by.result) by.ensures.stands))) (both_fit (byte.fits index.result) (signed8.fits by.result) index.ensures.fits by.ensures.fits)) in
+    (stands_at (insns.Increment index.result by.result increment_forms.Byte) at c.args.words.now c.requires.can
+    (opcode_and at.code.now at.pc 132 (byte.spelling index.result ++ signed8.spelling by.result) c.requires.opcode
+    (join at.code.now (at.pc + 1) (byte.spelling index.result) (signed8.spelling by.result) index.ensures.stands
+    (next_at at.code.now at.pc (signed8.spelling by.result) by.ensures.stands)))
+    (both_fit (byte.fits index.result) (signed8.fits by.result) index.ensures.fits by.ensures.fits)) in
     can_work insn (at.pc + 3) at c.args.words.now c.requires.can is refl
 
 pub returns : goal.returns
@@ -30,7 +34,11 @@ returns c =
     let same = to_z-of_z w32 by.result (record { sfits = by.type_inv }) in
     let insn : Instruction = insns.Increment index.result (to_z w32 (of_z w32 by.result)) increment_forms.Byte in
     let is : IsAt at.code.now at.pc insn = subst (λ (z : ℤ). IsAt at.code.now at.pc (insns.Increment index.result z increment_forms.Byte)) (sym same)
-    (stands_at (insns.Increment index.result by.result increment_forms.Byte) at c.args.words.now c.requires.can (opcode_and at.code.now at.pc 132 (byte.spelling index.result ++ signed8.spelling by.result) c.requires.opcode (join at.code.now (at.pc + 1) (byte.spelling index.result) (signed8.spelling by.result) index.ensures.stands (next_at at.code.now at.pc (signed8.spelling by.result) by.ensures.stands))) (both_fit (byte.fits index.result) (signed8.fits by.result) index.ensures.fits by.ensures.fits)) in
+    (stands_at (insns.Increment index.result by.result increment_forms.Byte) at c.args.words.now c.requires.can
+    (opcode_and at.code.now at.pc 132 (byte.spelling index.result ++ signed8.spelling by.result) c.requires.opcode
+    (join at.code.now (at.pc + 1) (byte.spelling index.result) (signed8.spelling by.result) index.ensures.stands
+    (next_at at.code.now at.pc (signed8.spelling by.result) by.ensures.stands)))
+    (both_fit (byte.fits index.result) (signed8.fits by.result) index.ensures.fits by.ensures.fits)) in
     went_to insn (at.pc + 3) at c.increment.new.at c.args.words.now c.increment.new.words is refl c.increment.ensures.went
     c.increment.ensures.stays c.increment.auto.words
 

@@ -14,7 +14,9 @@ load-requires c =
     let at = c.args.at.now in
     let index = c.index_at-index in
     let insn : Instruction = insns.Load c.args.kind index.result local_forms.Byte in
-    let is : IsAt at.code.now at.pc insn = stands_at (insns.Load c.args.kind index.result local_forms.Byte) at c.args.words.now c.requires.can (opcode_and at.code.now at.pc (load_opcode c.args.kind) (byte.spelling index.result) c.requires.opcode index.ensures.stands) (index.ensures.fits) in
+    let is : IsAt at.code.now at.pc insn = stands_at (insns.Load c.args.kind index.result local_forms.Byte) at c.args.words.now c.requires.can
+    (opcode_and at.code.now at.pc (load_opcode c.args.kind) (byte.spelling index.result) c.requires.opcode index.ensures.stands)
+    (index.ensures.fits) in
     can_work insn (at.pc + 2) at c.args.words.now c.requires.can is refl
 
 pub returns : goal.returns
@@ -22,7 +24,9 @@ returns c =
     let at = c.args.at.now in
     let index = c.index_at-index in
     let insn : Instruction = insns.Load c.args.kind index.result local_forms.Byte in
-    let is : IsAt at.code.now at.pc insn = stands_at (insns.Load c.args.kind index.result local_forms.Byte) at c.args.words.now c.requires.can (opcode_and at.code.now at.pc (load_opcode c.args.kind) (byte.spelling index.result) c.requires.opcode index.ensures.stands) (index.ensures.fits) in
+    let is : IsAt at.code.now at.pc insn = stands_at (insns.Load c.args.kind index.result local_forms.Byte) at c.args.words.now c.requires.can
+    (opcode_and at.code.now at.pc (load_opcode c.args.kind) (byte.spelling index.result) c.requires.opcode index.ensures.stands)
+    (index.ensures.fits) in
     went_to insn (at.pc + 2) at c.load.new.at c.args.words.now c.load.new.words is refl c.load.ensures.went
     c.load.ensures.stays c.load.auto.words
 

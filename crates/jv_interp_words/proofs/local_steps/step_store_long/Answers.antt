@@ -13,7 +13,8 @@ store_long-requires c =
     let at = c.args.at.now in
     let index = c.index_at-index in
     let insn : Instruction = insns.StoreLong index.result local_forms.Byte in
-    let is : IsAt at.code.now at.pc insn = stands_at (insns.StoreLong index.result local_forms.Byte) at c.args.words.now c.requires.can (opcode_and at.code.now at.pc (55) (byte.spelling index.result) c.requires.opcode index.ensures.stands) (index.ensures.fits) in
+    let is : IsAt at.code.now at.pc insn = stands_at (insns.StoreLong index.result local_forms.Byte) at c.args.words.now c.requires.can
+    (opcode_and at.code.now at.pc (55) (byte.spelling index.result) c.requires.opcode index.ensures.stands) (index.ensures.fits) in
     can_work insn (at.pc + 2) at c.args.words.now c.requires.can is refl
 
 pub returns : goal.returns
@@ -21,7 +22,8 @@ returns c =
     let at = c.args.at.now in
     let index = c.index_at-index in
     let insn : Instruction = insns.StoreLong index.result local_forms.Byte in
-    let is : IsAt at.code.now at.pc insn = stands_at (insns.StoreLong index.result local_forms.Byte) at c.args.words.now c.requires.can (opcode_and at.code.now at.pc (55) (byte.spelling index.result) c.requires.opcode index.ensures.stands) (index.ensures.fits) in
+    let is : IsAt at.code.now at.pc insn = stands_at (insns.StoreLong index.result local_forms.Byte) at c.args.words.now c.requires.can
+    (opcode_and at.code.now at.pc (55) (byte.spelling index.result) c.requires.opcode index.ensures.stands) (index.ensures.fits) in
     went_to insn (at.pc + 2) at c.store_long.new.at c.args.words.now c.store_long.new.words is refl c.store_long.ensures.went
     c.store_long.ensures.stays c.store_long.auto.words
 

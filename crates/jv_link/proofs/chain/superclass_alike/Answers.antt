@@ -15,7 +15,8 @@ returns-in-Some-clause-found c = λ l at e at_e.
     let number : ℕ = get_or above.result.now c.loop-superclass.superclass-index 0 in
     let class = some_class world number (above.ensures.numbers c.loop-superclass.superclass-index 0 c.loop-superclass-test.true) in
     let there = method_stands world c.in-Some.place c.in-Some.ensures.place in
-    there.1 ∙ (found world look above.result.now c.loop-superclass.superclass-index number class.0 there.0 c.loop-superclass-test.true refl class.1 (sym (c.in-Some.ensures.found class.0 class.1 e at_e) ∙ there.1) (c.loop-superclass.invariant e at_e)
+    there.1 ∙ (found world look above.result.now c.loop-superclass.superclass-index number class.0 there.0 c.loop-superclass-test.true refl class.1
+    (sym (c.in-Some.ensures.found class.0 class.1 e at_e) ∙ there.1) (c.loop-superclass.invariant e at_e)
     ∙ ap (first_found look) (above.ensures.found l at))
 
 pub loop-superclass-preserved : goal.loop-superclass-preserved
@@ -25,4 +26,5 @@ loop-superclass-preserved c = λ e at_e.
     let above = c.superclasses-superclass-items in
     let number : ℕ = get_or above.result.now c.loop-superclass.superclass-index 0 in
     let class = some_class world number (above.ensures.numbers c.loop-superclass.superclass-index 0 c.loop-superclass-test.true) in
-    passed world look above.result.now c.loop-superclass.superclass-index number class.0 c.loop-superclass-test.true refl class.1 (sym (c.in_default.ensures.found class.0 class.1 e at_e)) (c.loop-superclass.invariant e at_e)
+    passed world look above.result.now c.loop-superclass.superclass-index number class.0 c.loop-superclass-test.true refl class.1
+    (sym (c.in_default.ensures.found class.0 class.1 e at_e)) (c.loop-superclass.invariant e at_e)

@@ -15,4 +15,5 @@ returns-in-Some-clause-found c = λ r e.
 pub returns-in-None-clause-found : goal.returns-in-None-clause-found
 returns-in-None-clause-found c = λ r e.
     let world = c.args.table.now in
-    ap (λ o. Some (ok_or o (error_of c.args.missing))) (sym (not_named world (codes "java/lang/Object") (sym c.find.ensures ∙ c.in-None.is)) ∙ array_means world c.args.found c.in-Array.field-0 r c.in-Array.is e)
+    ap (λ o. Some (ok_or o (error_of c.args.missing))) (sym (not_named world (codes "java/lang/Object") (sym c.find.ensures ∙ c.in-None.is)) ∙
+    array_means world c.args.found c.in-Array.field-0 r c.in-Array.is e)

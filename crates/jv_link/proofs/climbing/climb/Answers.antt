@@ -25,7 +25,8 @@ returns-in-Far-clause-found c = λ l at e at_e.
     let class = some_class world c.in-Some.class before.below in
     let met = c.in-Far.ensures.met class.0 class.1 e at_e in
     c.settle.ensures.found e met.0 at_e met.1
-    ∙ climbs_far c.above_by_ways.ensures c.above_is_transitive.ensures world c.args.from c.args.called c.in-Some.class class.0 c.super_of.result e met.0 class.1 c.super_of.ensures at_e met.2 before l at
+    ∙ climbs_far c.above_by_ways.ensures c.above_is_transitive.ensures world c.args.from c.args.called c.in-Some.class class.0 c.super_of.result e
+    met.0 class.1 c.super_of.ensures at_e met.2 before l at
 
 pub returns-in-Sure-clause-found : goal.returns-in-Sure-clause-found
 returns-in-Sure-clause-found c = λ l at e at_e.
@@ -54,4 +55,5 @@ pub loop-next-preserved : goal.loop-next-preserved
 loop-next-preserved c =
     let world = c.args.table.now in
     let before = subst (Climbs world c.args.from c.args.called) c.in-Some.is c.loop-next.invariant in
-    climbs_on c.above_by_ways.ensures c.above_is_transitive.ensures world c.args.from c.args.called c.in-Some.class c.super_of-next.result before.below c.super_of-next.ensures c.in-Nothing.ensures.met before
+    climbs_on c.above_by_ways.ensures c.above_is_transitive.ensures world c.args.from c.args.called c.in-Some.class c.super_of-next.result
+    before.below c.super_of-next.ensures c.in-Nothing.ensures.met before

@@ -8,4 +8,5 @@ returns-then-not-is_instance-clause-found c = λ l at e at_e. none_runs c.args.t
 pub returns-clause-found : goal.returns-clause-found
 returns-clause-found c = λ l at e at_e.
     c.climb.ensures.found l at e at_e
-    ∙ run_is c.overriding_upward.ensures c.above_by_ways.ensures c.above_is_transitive.ensures c.args.table.now e l (sym (c.is_instance.ensures e at_e) ∙ c.if-not-is_instance.false) (c.requires.straight l at)
+    ∙ run_is c.overriding_upward.ensures c.above_by_ways.ensures c.above_is_transitive.ensures c.args.table.now e l
+    (sym (c.is_instance.ensures e at_e) ∙ c.if-not-is_instance.false) (c.requires.straight l at)

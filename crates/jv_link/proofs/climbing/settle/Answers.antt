@@ -14,7 +14,8 @@ pub loop-next-preserved : goal.loop-next-preserved
 loop-next-preserved c =
     let world = c.args.table.now in
     let before = subst (λ o. Waits world c.args.called c.args.waits c.args.first o c.loop-next.sure) c.in-Some.is c.loop-next.invariant in
-    waits_on c.above_by_ways.ensures c.above_is_transitive.ensures world c.args.called c.args.waits c.args.first c.in-Some.class c.loop-next.sure c.super_of-next.result c.sure_behind-sure.result before.below c.super_of-next.ensures c.sure_behind-sure.ensures.place
+    waits_on c.above_by_ways.ensures c.above_is_transitive.ensures world c.args.called c.args.waits c.args.first c.in-Some.class c.loop-next.sure
+    c.super_of-next.result c.sure_behind-sure.result before.below c.super_of-next.ensures c.sure_behind-sure.ensures.place
     (λ l at e at_e.
     let met = c.meets-met.ensures.met l at e at_e in
     (sym (c.is_opening.ensures world (meets world e l) met) ∙ c.if-is_opening.false, c.sure_behind-sure.ensures.found (meets world e l) met)) before

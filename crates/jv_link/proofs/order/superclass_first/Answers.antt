@@ -19,4 +19,6 @@ pub returns-clause-numbers : goal.returns-clause-numbers
 returns-clause-numbers c =
     let class = some_class c.args.table.now c.args.class c.requires in
     subst (AreNumbers c.args.table.now) (sym (c.in_ok-push.ensures.items ∙ ap (λ xs. xs ++ c.in-Some.superclass ∷ []) c.new-order.ensures.items))
-    (one_number (length c.args.table.now) c.in-Some.superclass (subst (IsBelowSize (length c.args.table.now)) (sym (c.super_of.ensures class.0 class.1) ∙ c.in-Some.is) (superclass_below c.args.table.now class.0.class.super_class)))
+    (one_number (length c.args.table.now) c.in-Some.superclass
+    (subst (IsBelowSize (length c.args.table.now)) (sym (c.super_of.ensures class.0 class.1) ∙ c.in-Some.is)
+    (superclass_below c.args.table.now class.0.class.super_class)))

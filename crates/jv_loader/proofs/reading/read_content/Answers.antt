@@ -4,7 +4,8 @@ use Rattle.jv_loader.proofs.reading.read_content.Goals as goal
 
 pub returns-then-is_within_profile : goal.returns-then-is_within_profile
 returns-then-is_within_profile c =
-    holds c.args.bytes.now c.in-Ok.class c.in-Ok.ensures.ok c.in-Ok.ensures.supported (c.is_some_class.ensures c.in-Ok.class c.is_well_formed.ensures) (c.is_within_profile.ensures.0 c.if-is_within_profile.true)
+    holds c.args.bytes.now c.in-Ok.class c.in-Ok.ensures.ok c.in-Ok.ensures.supported (c.is_some_class.ensures c.in-Ok.class c.is_well_formed.ensures)
+    (c.is_within_profile.ensures.0 c.if-is_within_profile.true)
 
 pub returns-in-Ok : goal.returns-in-Ok
 returns-in-Ok c =

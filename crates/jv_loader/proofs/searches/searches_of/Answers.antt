@@ -8,7 +8,8 @@ loop-number-preserved c =
     let one : IsSearch c.args.table.now c.loop-number.number c.in_ok-searched_from.field-0.items =
     record { numbers = c.in_ok-searched_from.ensures.numbers; found = c.in_ok-searched_from.ensures.found }
     in
-    one_more c.args.table.now c.loop-number.searches.items c.push.new.self.items c.in_ok-searched_from.field-0 c.loop-number.number c.in_ok-push.ensures.items c.loop-number.invariant.0 c.loop-number.invariant.1 one
+    one_more c.args.table.now c.loop-number.searches.items c.push.new.self.items c.in_ok-searched_from.field-0 c.loop-number.number
+    c.in_ok-push.ensures.items c.loop-number.invariant.0 c.loop-number.invariant.1 one
 
 pub returns : goal.returns
 returns c =

@@ -12,7 +12,8 @@ returns-in-Some-clause-found c = λ l e.
     let look = field_named_in c.args.name.now c.args.descriptor.now in
     let class = some_class world _ (c.requires c.loop-class.class-index 0 c.loop-class-test.true) in
     let there = field_stands world c.in-Some.place c.in-Some.ensures.place in
-    there.1 ∙ (found world look c.args.searched.now c.loop-class.class-index _ class.0 there.0 c.loop-class-test.true refl class.1 (sym (c.in-Some.ensures.found class.0 class.1) ∙ there.1) c.loop-class.invariant
+    there.1 ∙ (found world look c.args.searched.now c.loop-class.class-index _ class.0 there.0 c.loop-class-test.true refl class.1
+    (sym (c.in-Some.ensures.found class.0 class.1) ∙ there.1) c.loop-class.invariant
     ∙ ap (first_found look) e)
 
 pub loop-class-preserved : goal.loop-class-preserved

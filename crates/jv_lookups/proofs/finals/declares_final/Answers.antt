@@ -9,4 +9,5 @@ returns-then-is_final_instance c =
 
 pub loop-place-preserved : goal.loop-place-preserved
 loop-place-preserved c =
-    one_more_fails is_final_instance c.args.class.now.class.methods c.loop-place.place c.method.result (final_same c.method.result) c.method.ensures c.loop-place.invariant (sym c.if-is_final_instance.ensures)
+    one_more_fails is_final_instance c.args.class.now.class.methods c.loop-place.place c.method.result (final_same c.method.result) c.method.ensures
+    c.loop-place.invariant (sym c.if-is_final_instance.ensures)

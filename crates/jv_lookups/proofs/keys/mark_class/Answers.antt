@@ -24,7 +24,8 @@ pub mark_method-requires-clause-opens : goal.mark_method-requires-clause-opens
 mark_method-requires-clause-opens c = subst (λ n. c.args.opens < n) (sym c.loop-place.invariant.finals.kept.width) c.requires.opens
 
 pub returns-clause-finals : goal.returns-clause-finals
-returns-clause-finals c = all_methods is_final_open c.args.seed c.args.finals c.args.marks.now c.loop-place.marks c.args.class.now.class.methods c.loop-place.place (omega arith) c.loop-place.invariant.finals
+returns-clause-finals c = all_methods is_final_open c.args.seed c.args.finals c.args.marks.now c.loop-place.marks c.args.class.now.class.methods
+    c.loop-place.place (omega arith) c.loop-place.invariant.finals
 
 pub returns-clause-opens : goal.returns-clause-opens
 returns-clause-opens c = all_methods is_open c.args.seed c.args.opens c.args.marks.now c.loop-place.marks c.args.class.now.class.methods c.loop-place.place (omega arith) c.loop-place.invariant.opens

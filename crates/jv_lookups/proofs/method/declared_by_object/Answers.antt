@@ -20,12 +20,16 @@ pub returns-then-not-is_public_instance-clause-found : goal.returns-then-not-is_
 returns-then-not-is_public_instance-clause-found c =
     let object = stands_at c.args.table.now _ c.in-Some.object (sym c.find.ensures ∙ c.in-Some.is) in
     let there = method_stands c.args.table.now c.in-Some-declared_method.place c.in-Some-declared_method.ensures.place in
-    dropped is_public_instance (method_in c.args.name.now c.args.descriptor.now object.0) there.0 (sym (c.in-Some-declared_method.ensures.found object.0 object.1) ∙ there.1) (sym (c.is_public_instance.ensures there.0 there.1) ∙ c.if-not-is_public_instance.true)
+    dropped is_public_instance (method_in c.args.name.now c.args.descriptor.now object.0) there.0
+    (sym (c.in-Some-declared_method.ensures.found object.0 object.1) ∙ there.1) (sym (c.is_public_instance.ensures there.0 there.1) ∙
+    c.if-not-is_public_instance.true)
     ∙ ap (λ o. method_if is_public_instance (method_if_loaded c.args.name.now c.args.descriptor.now o)) (sym object.2)
 
 pub returns-clause-found : goal.returns-clause-found
 returns-clause-found c =
     let object = stands_at c.args.table.now _ c.in-Some.object (sym c.find.ensures ∙ c.in-Some.is) in
     let there = method_stands c.args.table.now c.in-Some-declared_method.place c.in-Some-declared_method.ensures.place in
-    there.1 ∙ (kept is_public_instance (method_in c.args.name.now c.args.descriptor.now object.0) there.0 (sym (c.in-Some-declared_method.ensures.found object.0 object.1) ∙ there.1) (sym (c.is_public_instance.ensures there.0 there.1) ∙ c.if-not-is_public_instance.false)
+    there.1 ∙ (kept is_public_instance (method_in c.args.name.now c.args.descriptor.now object.0) there.0
+    (sym (c.in-Some-declared_method.ensures.found object.0 object.1) ∙ there.1) (sym (c.is_public_instance.ensures there.0 there.1) ∙
+    c.if-not-is_public_instance.false)
     ∙ ap (λ o. method_if is_public_instance (method_if_loaded c.args.name.now c.args.descriptor.now o)) (sym object.2))

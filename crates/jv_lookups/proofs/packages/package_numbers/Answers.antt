@@ -6,7 +6,8 @@ use Rattle.jv_lookups.proofs.packages.package_numbers.Goals as goal
 
 pub loop-class-preserved : goal.loop-class-preserved
 loop-class-preserved c =
-    let step = numbered_step c.loop-class.names c.place_of.new.names c.package.result.now c.args.classes.now c.loop-class.class-index c.class-item.result c.loop-class.numbers.items c.push.new.self.items c.in_ok-place.place c.number.result c.by_system.result
+    let step = numbered_step c.loop-class.names c.place_of.new.names c.package.result.now c.args.classes.now c.loop-class.class-index
+    c.class-item.result c.loop-class.numbers.items c.push.new.self.items c.in_ok-place.place c.number.result c.by_system.result
     c.loop-class.invariant.theirs c.loop-class.invariant.few (omega arith) c.class-item.is
     c.package.ensures c.by_system.ensures c.in_ok-place.ensures.names c.in_ok-place.ensures.place c.number.ensures c.in_ok-push.ensures.items
     in

@@ -20,8 +20,14 @@ returns-then-deeper-eq0-clause-found t c = λ l at.
 pub go_on-requires : goal.go_on-requires
 go_on-requires t c =
     let world = c.args.table.now in
-    let class = some_class world c.args.number c.requires.number in
-    (omega arith, (next_below world class.0.class c.interfaces_of-interfaces.result.now c.loop-place.place c.in-Some.interface (c.interfaces_of-interfaces.ensures class.0 class.1) c.in-Some.is, c.loop-place.invariant.numbers))
+    let class = some_class world c.args.number c.requires.number in (
+      omega arith,
+      (
+        next_below world class.0.class c.interfaces_of-interfaces.result.now c.loop-place.place c.in-Some.interface
+            (c.interfaces_of-interfaces.ensures class.0 class.1) c.in-Some.is,
+        c.loop-place.invariant.numbers,
+      ),
+    )
 
 pub loop-place-preserved : goal.loop-place-preserved
 loop-place-preserved t c =
@@ -30,12 +36,14 @@ loop-place-preserved t c =
     let depth : suc (c.args.deeper - 1) ≡ c.args.deeper = omega arith in
     elim c.match-interfaces-place.branch [
       | in-Some+in_ok-go_on w ↦
-          step_with world c.args.deeper (c.args.deeper - 1) c.add.new.self c.loop-place.begun c.match-interfaces-place.begun c.interfaces_of-interfaces.result.now c.loop-place.place w.in-Some.interface
+          step_with world c.args.deeper (c.args.deeper - 1) c.add.new.self c.loop-place.begun c.match-interfaces-place.begun
+          c.interfaces_of-interfaces.result.now c.loop-place.place w.in-Some.interface
           depth c.loop-place-test.true w.in-Some.is
           (next_below world class.0.class c.interfaces_of-interfaces.result.now c.loop-place.place w.in-Some.interface (c.interfaces_of-interfaces.ensures class.0 class.1) w.in-Some.is)
           (rw w.begun-is w.in_ok-go_on.ensures.found) (rw w.begun-is w.in_ok-go_on.ensures.begun) c.loop-place.invariant
       | in_default w ↦
-          step_without world c.args.deeper c.add.new.self c.loop-place.begun c.match-interfaces-place.begun c.interfaces_of-interfaces.result.now c.loop-place.place c.loop-place-test.true w.in_default.is w.begun-is c.loop-place.invariant
+          step_without world c.args.deeper c.add.new.self c.loop-place.begun c.match-interfaces-place.begun c.interfaces_of-interfaces.result.now
+          c.loop-place.place c.loop-place-test.true w.in_default.is w.begun-is c.loop-place.invariant
     ]
 
 pub go_on-requires-in-Some-super_of : goal.go_on-requires-in-Some-super_of
@@ -50,10 +58,12 @@ returns-in_ok-go_on-2-clause-found t c = λ l at.
     let depth : suc (c.args.deeper - 1) ≡ c.args.deeper = omega arith in
     let size : length c.interfaces_of-interfaces.result.now ≡ c.loop-place.place = omega (arith, c.loop-place-test.false) in
     let less = super_below world l.class c.super_of.result c.in-Some-super_of.superclass (c.super_of.ensures l at) c.in-Some-super_of.is in
-    finish world c.args.deeper c.args.begun.now c.add.new.self c.loop-place.begun c.go_on-in-Some-super_of.new.begun c.args.number c.loop-place.place l c.interfaces_of-interfaces.result.now c.super_of.result at
+    finish world c.args.deeper c.args.begun.now c.add.new.self c.loop-place.begun c.go_on-in-Some-super_of.new.begun c.args.number c.loop-place.place
+    l c.interfaces_of-interfaces.result.now c.super_of.result at
     (sym (among world c.is_numbered.ensures c.args.number l c.args.begun.now.numbers at c.requires.begun.numbers) ∙ (sym c.has.ensures ∙ c.if-has.false))
     c.in_ok-add.ensures.ok (c.interfaces_of-interfaces.ensures l at) (c.super_of.ensures l at) size c.loop-place.invariant
-    (ends_with world c.args.deeper (c.args.deeper - 1) c.super_of.result c.loop-place.begun c.go_on-in-Some-super_of.new.begun c.in-Some-super_of.superclass depth c.in-Some-super_of.is less c.in_ok-go_on-2.ensures.found)
+    (ends_with world c.args.deeper (c.args.deeper - 1) c.super_of.result c.loop-place.begun c.go_on-in-Some-super_of.new.begun
+    c.in-Some-super_of.superclass depth c.in-Some-super_of.is less c.in_ok-go_on-2.ensures.found)
 
 pub returns-in_default-super_of-clause-found : goal.returns-in_default-super_of-clause-found
 returns-in_default-super_of-clause-found t c = λ l at.

@@ -19,7 +19,8 @@ returns-then-is_some-clause-found c = λ l at.
 pub returns-in-Some-found-clause-found : goal.returns-in-Some-found-clause-found
 returns-in-Some-found-clause-found c =
     let size : length c.args.searched.now ≡ c.loop-class.class-index = omega (arith, c.loop-class-test.false) in
-    one_alone c.args.table.now c.args.from c.args.searched.now c.args.name.now c.args.descriptor.now c.loop-class.class-index c.loop-class.found size c.loop-class.invariant c.in-Some-found.place c.in-Some-found.is
+    one_alone c.args.table.now c.args.from c.args.searched.now c.args.name.now c.args.descriptor.now c.loop-class.class-index c.loop-class.found size
+    c.loop-class.invariant c.in-Some-found.place c.in-Some-found.is
 
 pub returns-in-None-clause-found : goal.returns-in-None-clause-found
 returns-in-None-clause-found c =

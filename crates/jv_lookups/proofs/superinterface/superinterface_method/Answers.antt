@@ -12,7 +12,9 @@ returns-in-Some-clause-found c = λ l at e.
     let world = c.args.table.now in
     let there = method_stands world c.in-Some.place c.in-Some.ensures.place in
     some_first (method_at world c.in-Some.place) _ there.0 there.1
-    ∙ method_found world c.args.searched.now c.args.name.now c.args.descriptor.now l (method_at world c.in-Some.place) (first_found (candidate_in c.args.name.now c.args.descriptor.now l) (classes_at world c.args.searched.now)) e (c.in-Some.ensures.found l at) refl
+    ∙ method_found world c.args.searched.now c.args.name.now c.args.descriptor.now l (method_at world c.in-Some.place)
+    (first_found (candidate_in c.args.name.now c.args.descriptor.now l) (classes_at world c.args.searched.now)) e (c.in-Some.ensures.found l at)
+    refl
 
 pub returns-clause-found : goal.returns-clause-found
 returns-clause-found c = λ l at e.

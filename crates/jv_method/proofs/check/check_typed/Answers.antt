@@ -14,7 +14,8 @@ unreachable-requires c =
     let names = c.args.class.now.types.names in
     let env = c.requires.some.0 in
     let read =
-    read_in c.args.class.now (seen_method c.args.method.now) (seen_code c.args.body.now) c.args.types c.in_ok-items.items.items c.is_static.result c.is_named_init-is_init.result env c.requires.some.1.0
+    read_in c.args.class.now (seen_method c.args.method.now) (seen_code c.args.body.now) c.args.types c.in_ok-items.items.items c.is_static.result
+    c.is_named_init-is_init.result env c.requires.some.1.0
     c.requires.some.1.1 c.is_static.ensures c.is_named_init-is_init.ensures c.in_ok-items.ensures in
     let room : words (typed_all names c.deref.result.now) ≤ c.args.body.now.max_locals =
     subst (λ (xs : List Item). words (typed_all names xs) ≤ c.args.body.now.max_locals) (sym c.deref.ensures.value) (has_room _ env read) in
@@ -28,8 +29,10 @@ pub check_tables-requires : goal.check_tables-requires
 check_tables-requires c =
     let env = c.requires.some.0 in (
       env,
-      of_read c.new-read.result c.args.class.now (seen_method c.args.method.now) (seen_code c.args.body.now) c.args.types c.in_ok-items.items.items c.is_static.result c.is_named_init-is_init.result env
-          c.new-read.ensures.class c.new-read.ensures.body (c.new-read.ensures.initial ∙ c.deref-2.ensures.value) c.new-read.ensures.is_init c.new-read.ensures.of c.requires.some.1.0 c.requires.some.1.1
+      of_read c.new-read.result c.args.class.now (seen_method c.args.method.now) (seen_code c.args.body.now) c.args.types c.in_ok-items.items.items
+          c.is_static.result c.is_named_init-is_init.result env
+          c.new-read.ensures.class c.new-read.ensures.body (c.new-read.ensures.initial ∙ c.deref-2.ensures.value) c.new-read.ensures.is_init
+          c.new-read.ensures.of c.requires.some.1.0 c.requires.some.1.1
           c.is_static.ensures c.is_named_init-is_init.ensures c.in_ok-items.ensures,
     )
 

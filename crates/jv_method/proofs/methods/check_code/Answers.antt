@@ -8,8 +8,11 @@ use Rattle.jv_method.proofs.methods.check_code.Goals as goal
 
 pub check_method-requires : goal.check_method-requires
 check_method-requires c =
-    let m = there (method_in c.args.class.now.by.class.constant_pool (seen_method c.args.method.now)) c.requires in
-    (declared_by c.args.class.now.by m.0, known_method c.args.class.now (seen_method c.args.method.now) (seen_code c.in-Some.code) (sym c.code.ensures ∙ ap (option_map seen_code) c.in-Some.is) m.0 m.1)
+    let m = there (method_in c.args.class.now.by.class.constant_pool (seen_method c.args.method.now)) c.requires in (
+      declared_by c.args.class.now.by m.0,
+      known_method c.args.class.now (seen_method c.args.method.now) (seen_code c.in-Some.code)
+          (sym c.code.ensures ∙ ap (option_map seen_code) c.in-Some.is) m.0 m.1,
+    )
 
 pub returns-in-Some : goal.returns-in-Some
 returns-in-Some c = λ m e.

@@ -12,7 +12,8 @@ pub returns-in-Some : goal.returns-in-Some
 returns-in-Some c =
     let less : c.loop-place.place < length (methods_of c.args.file.now) = search rules in
     let place : c.fault_at.result.method ≡ c.loop-place.place = search rules in
-    first_broken c.args.class.now.types.world c.args.class.now.by (methods_of c.args.file.now) c.requires.methods c.loop-place.place less c.loop-place.invariant c.in-Some.fault c.fault_at.result place c.fault_at.ensures.offset c.fault_at.ensures.rule
+    first_broken c.args.class.now.types.world c.args.class.now.by (methods_of c.args.file.now) c.requires.methods c.loop-place.place less
+    c.loop-place.invariant c.in-Some.fault c.fault_at.result place c.fault_at.ensures.offset c.fault_at.ensures.rule
     (subst (IsPlaceJudged c.args.class.now.types.world c.args.class.now.by (methods_of c.args.file.now) c.loop-place.place) c.in-Some.is c.in_ok-fault.ensures)
 
 pub loop-place-preserved : goal.loop-place-preserved

@@ -14,7 +14,8 @@ pub returns-then-from-local_count : goal.returns-then-from-local_count
 returns-then-from-local_count c =
     let types = c.args.types.now in
     let locals = c.args.frame.now.locals in
-    sym (no_room (world_of_types types) (without_object (option_map (typed (names_of_types types)) c.args.object) (typed_all (names_of_types types) locals)) (length locals) (types_of_entries types c.args.map.now.locals)
+    sym (no_room (world_of_types types) (without_object (option_map (typed (names_of_types types)) c.args.object)
+    (typed_all (names_of_types types) locals)) (length locals) (types_of_entries types c.args.map.now.locals)
     (without_length (names_of_types types) c.args.object locals)
     (omega (arith, c.if-from-local_count.true, c.local_count.ensures, c.from.ensures, c.local_words-at.ensures, c.requires)))
 

@@ -12,7 +12,9 @@ use Rattle.jv_method_frames.proofs.frame_flow.locals_flow.Given as goal
 abbrev pub invariant-loop-entry : goal.invariant-loop-entry
 invariant-loop-entry l =
     let locals = without_object (option_map (typed (names_of_types l.types)) l.object) (typed_all (names_of_types l.types) l.frame.locals) in
-    FlowsBehind (world_of_types l.types) locals (all_flow (flows (world_of_types l.types)) locals (expanded (length l.frame.locals) (reverse (types_of_entries l.types l.map.locals)))) (types_of_entries l.types l.entries) l.at
+    FlowsBehind (world_of_types l.types) locals
+    (all_flow (flows (world_of_types l.types)) locals (expanded (length l.frame.locals) (reverse (types_of_entries l.types l.map.locals))))
+    (types_of_entries l.types l.entries) l.at
 
 abbrev pub decreases-loop-entry : goal.decreases-loop-entry
 decreases-loop-entry l = length l.entries

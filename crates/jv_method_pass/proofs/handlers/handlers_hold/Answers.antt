@@ -19,7 +19,8 @@ pub loop-k-init : goal.loop-k-init
 loop-k-init c = (
   λ env insn is constructed.
       let pass = c.args.pass.now in
-      settled_first c.args.settled c.args.offset (handles env (maps_of pass) (handler_frame env insn (frame_of (names_in pass) c.args.frame.now))) (take c.args.known c.args.handlers.now) c.requires.known,
+      settled_first c.args.settled c.args.offset (handles env (maps_of pass) (handler_frame env insn (frame_of (names_in pass) c.args.frame.now)))
+      (take c.args.known c.args.handlers.now) c.requires.known,
   c.requires.flowed,
   tt,
 )

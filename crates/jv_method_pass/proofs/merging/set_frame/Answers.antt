@@ -61,13 +61,15 @@ set_to_map-requires-clause-words c = c.requires.room.words ∙ ap (λ (p : Pass)
 
 pub returns-clause-ok : goal.returns-clause-ok
 returns-clause-ok c =
-    made_is c.args.pass.now c.pass.inside.types.now (length c.args.frame.now.locals) c.set_to_map.new.frame c.args.map.now (ap (λ (p : Pass). p.types) c.pass.view_is) c.requires.locals c.in_ok-set_to_map.ensures.ok
+    made_is c.args.pass.now c.pass.inside.types.now (length c.args.frame.now.locals) c.set_to_map.new.frame c.args.map.now
+    (ap (λ (p : Pass). p.types) c.pass.view_is) c.requires.locals c.in_ok-set_to_map.ensures.ok
 
 pub returns-clause-held : goal.returns-clause-held
 returns-clause-held c =
     c.in_ok-begin.ensures c.set_to_map.new.frame.locals
     (ap (λ (f : Frame). f.locals)
-    (made_is c.args.pass.now c.pass.inside.types.now (length c.args.frame.now.locals) c.set_to_map.new.frame c.args.map.now (ap (λ (p : Pass). p.types) c.pass.view_is) c.requires.locals c.in_ok-set_to_map.ensures.ok))
+    (made_is c.args.pass.now c.pass.inside.types.now (length c.args.frame.now.locals) c.set_to_map.new.frame c.args.map.now
+    (ap (λ (p : Pass). p.types) c.pass.view_is) c.requires.locals c.in_ok-set_to_map.ensures.ok))
 
 pub returns-clause-flowed : goal.returns-clause-flowed
 returns-clause-flowed c = none_all (HasFlowed c.args.pass.now _ c.set_to_map.new.frame.locals) _ c.forget.ensures

@@ -20,7 +20,8 @@ loop-left-init c =
       ap words begins ∙ counted,
       ap (drop c.args.above) c.locals-entries.ensures,
       λ made.
-          subst (λ es. LaidAbove (locals_of types c.args.made.now) (expanded_entries types count map.locals) (types_of_entries types (drop c.args.above map.locals)) es c.local_words-at.result) (sym begins)
+          subst (λ es. LaidAbove (locals_of types c.args.made.now) (expanded_entries types count map.locals)
+          (types_of_entries types (drop c.args.above map.locals)) es c.local_words-at.result) (sym begins)
           (subst (LaidAbove (locals_of types c.args.made.now) (expanded_entries types count map.locals) (types_of_entries types (drop c.args.above map.locals)) all) counted
           (laid_start count (types_of_entries types (drop c.args.above map.locals)) all c.args.above (locals_of types c.args.made.now) (sym (dropped _ c.args.above map.locals))
           (omega (arith, counted, c.local_words-at.ensures, c.requires.room)) made)),
@@ -43,7 +44,12 @@ loop-left-preserved c =
     let left = left_next c.loop-left.left c.in-Some.entry rest c.loop-left.entries all c.loop-left-test.true i.1 c.in-Some.ensures in
     let below = c.loop-left.at - c.words_of-at.result in
     let less : words (types_of_entries types all) ≤ words (types_of_entries types rest) =
-    omega (arith, ap (λ es. words (types_of_entries types es)) left, ap words (dropped (type_of_entry types) (c.loop-left.left - 1) rest), below_less (c.loop-left.left - 1) (types_of_entries types rest)) in
+    omega (
+      arith,
+      ap (λ es. words (types_of_entries types es)) left,
+      ap words (dropped (type_of_entry types) (c.loop-left.left - 1) rest),
+      below_less (c.loop-left.left - 1) (types_of_entries types rest),
+    ) in
     let whole = expanded_entries types (length c.args.made.now.locals) c.args.map.now.locals in
     let put = ap (λ (f : NumberFrame). f.locals) c.put.ensures in (
       omega (arith, next, wide),

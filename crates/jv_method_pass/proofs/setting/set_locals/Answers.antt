@@ -14,7 +14,8 @@ loop-entry-init c =
     let map = c.args.map.now in
     let entries = types_of_entries c.args.types.now map.locals in
     let old = c.args.frame.now.locals in (
-      subst (λ es. SetBehind (typed_all (names_of_types c.args.types.now) old) (expanded (length old) (reverse entries)) (reverse (types_of_entries c.args.types.now es)) c.local_words-at.result) (sym c.locals-entries.ensures)
+      subst (λ es. SetBehind (typed_all (names_of_types c.args.types.now) old) (expanded (length old) (reverse entries))
+          (reverse (types_of_entries c.args.types.now es)) c.local_words-at.result) (sym c.locals-entries.ensures)
           (set_start (names_of_types c.args.types.now) old (length old) (reverse entries) c.local_words-at.result (ap (λ (f : NumberFrame). f.locals) c.requires.blank)
           (c.local_words-at.ensures ∙ (c.requires.words ∙ words_reversed entries)) (omega (arith, c.local_words-at.ensures, c.requires.room))),
       refl,

@@ -8,7 +8,8 @@ use Rattle.jv_method_pass.proofs.setting.set_locals.Given as goal
 
 abbrev pub invariant-loop-entry : goal.invariant-loop-entry
 invariant-loop-entry l =
-    SetBehind (typed_all (names_of_types l.types) l.frame.locals) (expanded (length l.fn.frame.locals) (reverse (types_of_entries l.types l.map.locals))) (reverse (types_of_entries l.types l.entries)) l.at
+    SetBehind (typed_all (names_of_types l.types) l.frame.locals)
+    (expanded (length l.fn.frame.locals) (reverse (types_of_entries l.types l.map.locals))) (reverse (types_of_entries l.types l.entries)) l.at
     × (l.frame ≡ with_locals l.frame.locals l.fn.frame)
 
 abbrev pub decreases-loop-entry : goal.decreases-loop-entry

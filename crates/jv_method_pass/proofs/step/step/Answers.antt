@@ -27,8 +27,10 @@ returns-then-not-branch-2-clause-step c = λ env is at r.
     let pass = c.args.pass.now in
     let x = frame_of (names_in pass) c.merge.new.frame in
     let here : Stands env (maps_of pass) c.args.offset x =
-    stand c.stands_in_list.ensures c.starts_apart.ensures env is.is (maps_of pass) c.args.offset x _ r (is_left (names_in pass) _ c.merge.new.frame _ c.if-not-branch.false (c.in_ok-merge.ensures.merged env is)) in
-    handler_broken c.stands_in_list.ensures c.starts_apart.ensures env is.is (maps_of pass) c.args.offset (instruction_of c.args.insn.now) x at here (sym c.if-not-branch-2.true ∙ c.in_ok-is_handled.ensures.hold env is)
+    stand c.stands_in_list.ensures c.starts_apart.ensures env is.is (maps_of pass) c.args.offset x _ r
+    (is_left (names_in pass) _ c.merge.new.frame _ c.if-not-branch.false (c.in_ok-merge.ensures.merged env is)) in
+    handler_broken c.stands_in_list.ensures c.starts_apart.ensures env is.is (maps_of pass) c.args.offset (instruction_of c.args.insn.now) x at here
+    (sym c.if-not-branch-2.true ∙ c.in_ok-is_handled.ensures.hold env is)
 
 pub returns-then-not-branch-3-clause-step : goal.returns-then-not-branch-3-clause-step
 returns-then-not-branch-3-clause-step c = λ env is at r.
@@ -39,7 +41,8 @@ returns-then-not-branch-3-clause-step c = λ env is at r.
     let insn = instruction_of c.args.insn.now in
     let x = frame_of (names_in pass) c.merge.new.frame in
     let here : Stands env (maps_of pass) c.args.offset x =
-    stand c.stands_in_list.ensures c.starts_apart.ensures env is.is (maps_of pass) c.args.offset x _ r (is_left (names_in pass) _ c.merge.new.frame _ c.if-not-branch.false (c.in_ok-merge.ensures.merged env is)) in
+    stand c.stands_in_list.ensures c.starts_apart.ensures env is.is (maps_of pass) c.args.offset x _ r
+    (is_left (names_in pass) _ c.merge.new.frame _ c.if-not-branch.false (c.in_ok-merge.ensures.merged env is)) in
     instruction_broken c.stands_in_list.ensures c.starts_apart.ensures env is.is (maps_of pass) c.args.offset insn x at here (sym c.if-not-branch-2.false ∙ c.in_ok-is_handled.ensures.hold env is)
     (is_none_left (names_in pass) _ c.apply.new.frame _ c.if-not-branch-3.true
     (applied pass entries count kept env is c.pass.inside.context.now insn c.merge.new.frame c.apply.new.frame _ c.args.offset _ (ap (λ (p : Pass). p.context) c.pass.view_is)
@@ -121,8 +124,10 @@ returns-then-not-targets_hold-clause-step c = λ env is at r.
     let insn = instruction_of c.args.insn.now in
     let x = frame_of (names_in pass) c.merge.new.frame in
     let here : Stands env (maps_of pass) c.args.offset x =
-    stand c.stands_in_list.ensures c.starts_apart.ensures env is.is (maps_of pass) c.args.offset x _ r (is_left (names_in pass) _ c.merge.new.frame _ c.if-not-branch.false (c.in_ok-merge.ensures.merged env is)) in
-    target_broken c.stands_in_list.ensures c.starts_apart.ensures env is.is (maps_of pass) c.args.offset insn x (frame_of (names_in pass) c.apply.new.frame) at here (sym c.if-not-branch-2.false ∙ c.in_ok-is_handled.ensures.hold env is)
+    stand c.stands_in_list.ensures c.starts_apart.ensures env is.is (maps_of pass) c.args.offset x _ r
+    (is_left (names_in pass) _ c.merge.new.frame _ c.if-not-branch.false (c.in_ok-merge.ensures.merged env is)) in
+    target_broken c.stands_in_list.ensures c.starts_apart.ensures env is.is (maps_of pass) c.args.offset insn x
+    (frame_of (names_in pass) c.apply.new.frame) at here (sym c.if-not-branch-2.false ∙ c.in_ok-is_handled.ensures.hold env is)
     (is_left (names_in pass) _ c.apply.new.frame _ c.if-not-branch-3.false
     (applied pass entries count kept env is c.pass.inside.context.now insn c.merge.new.frame c.apply.new.frame _ c.args.offset _ (ap (λ (p : Pass). p.context) c.pass.view_is)
     refl c.in_ok-apply.ensures))
@@ -137,8 +142,10 @@ returns-clause-step c = λ env is at r.
     let insn = instruction_of c.args.insn.now in
     let x = frame_of (names_in pass) c.merge.new.frame in
     let here : Stands env (maps_of pass) c.args.offset x =
-    stand c.stands_in_list.ensures c.starts_apart.ensures env is.is (maps_of pass) c.args.offset x _ r (is_left (names_in pass) _ c.merge.new.frame _ c.if-not-branch.false (c.in_ok-merge.ensures.merged env is)) in
-    goes_on c.stands_in_list.ensures c.starts_apart.ensures env is.is (maps_of pass) c.args.offset insn x (frame_of (names_in pass) c.apply.new.frame) at here (sym c.if-not-branch-2.false ∙ c.in_ok-is_handled.ensures.hold env is)
+    stand c.stands_in_list.ensures c.starts_apart.ensures env is.is (maps_of pass) c.args.offset x _ r
+    (is_left (names_in pass) _ c.merge.new.frame _ c.if-not-branch.false (c.in_ok-merge.ensures.merged env is)) in
+    goes_on c.stands_in_list.ensures c.starts_apart.ensures env is.is (maps_of pass) c.args.offset insn x (frame_of (names_in pass) c.apply.new.frame)
+    at here (sym c.if-not-branch-2.false ∙ c.in_ok-is_handled.ensures.hold env is)
     (is_left (names_in pass) _ c.apply.new.frame _ c.if-not-branch-3.false
     (applied pass entries count kept env is c.pass.inside.context.now insn c.merge.new.frame c.apply.new.frame _ c.args.offset _ (ap (λ (p : Pass). p.context) c.pass.view_is)
     refl c.in_ok-apply.ensures))
@@ -174,7 +181,8 @@ returns-clause-settled c = λ env is keeps none.
     let kept : IsPass pass entries count = subst (λ (p : Pass). IsPass p entries count) c.pass.view_is c.pass.invariant in
     let insn = instruction_of c.args.insn.now in
     let x = frame_of (names_in pass) c.merge.new.frame in
-    now_settled env (maps_of pass) c.leaves_locals.ensures c.args.offset insn x (frame_of (names_in pass) c.apply.new.frame) keeps (sym c.if-not-branch-2.false ∙ c.in_ok-is_handled.ensures.hold env is)
+    now_settled env (maps_of pass) c.leaves_locals.ensures c.args.offset insn x (frame_of (names_in pass) c.apply.new.frame) keeps
+    (sym c.if-not-branch-2.false ∙ c.in_ok-is_handled.ensures.hold env is)
     (is_left (names_in pass) _ c.apply.new.frame _ c.if-not-branch-3.false
     (applied pass entries count kept env is c.pass.inside.context.now insn c.merge.new.frame c.apply.new.frame _ c.args.offset _ (ap (λ (p : Pass). p.context) c.pass.view_is)
     refl c.in_ok-apply.ensures))

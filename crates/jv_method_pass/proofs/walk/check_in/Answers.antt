@@ -25,7 +25,8 @@ returns c = λ env is.
     ap (λ (f : NumberFrame). length f.locals) c.in_ok-renew.ensures
     ∙ (length-replicate {A = Item} c.pass.inside.max_locals variants.Top ∙ ap (λ (p : Pass). p.max_locals) c.pass.view_is) in
     c.walk.ensures env is
-    (subst (λ (f : Frame). Reaches env (maps_of pass) 0 (Some f)) (first_is pass entries count kept env is c.set_to_initial.new.frame (length c.renew.new.self.locals) many c.set_to_initial.ensures.frame)
+    (subst (λ (f : Frame). Reaches env (maps_of pass) 0 (Some f)) (first_is pass entries count kept env is c.set_to_initial.new.frame
+    (length c.renew.new.self.locals) many c.set_to_initial.ensures.frame)
     (begins c.stands_in_list.ensures c.starts_apart.ensures env is.is (maps_of pass)))
 
 pub walk-requires-clause-held : goal.walk-requires-clause-held

@@ -22,7 +22,8 @@ returns-in-Some c = λ env is r.
     let insn = instruction_of c.insn_at-next.result.0 in
     let left = frame_of (names_in c.args.pass.now) c.step.new.frame in
     let code = c.code-code.ensures ∙ ap (λ (p : Pass). p.context.code) c.pass.view_is in
-    let at = at_is c.stands_in_list.ensures c.starts_apart.ensures env is.is maps c.args.pass.now.context.code c.code-code.result.now.bytes.now c.loop-offset.offset insn code is.context.code c.insn_at-next.ensures.insn in
+    let at = at_is c.stands_in_list.ensures c.starts_apart.ensures env is.is maps c.args.pass.now.context.code c.code-code.result.now.bytes.now
+    c.loop-offset.offset insn code is.context.code c.insn_at-next.ensures.insn in
     step_broken c.stands_in_list.ensures c.starts_apart.ensures env is.is maps c.loop-offset.offset insn left c.in_ok-rule.field-0 c.in-Some.rule c.in-Some.is
     (c.in_ok-rule.ensures.step env is at (c.loop-offset.invariant.2 env is r).reaches)
 
@@ -32,7 +33,8 @@ returns-then-next-size c = λ env is r.
     let insn = instruction_of c.insn_at-next.result.0 in
     let left = frame_of (names_in c.args.pass.now) c.step.new.frame in
     let code = c.code-code.ensures ∙ ap (λ (p : Pass). p.context.code) c.pass.view_is in
-    let at = at_is c.stands_in_list.ensures c.starts_apart.ensures env is.is maps c.args.pass.now.context.code c.code-code.result.now.bytes.now c.loop-offset.offset insn code is.context.code c.insn_at-next.ensures.insn in
+    let at = at_is c.stands_in_list.ensures c.starts_apart.ensures env is.is maps c.args.pass.now.context.code c.code-code.result.now.bytes.now
+    c.loop-offset.offset insn code is.context.code c.insn_at-next.ensures.insn in
     at_end c.stands_in_list.ensures c.starts_apart.ensures env is.is maps c.args.pass.now.context.code c.code-code.result.now.bytes.now c.size-size.result c.loop-offset.offset
     c.insn_at-next.result.1 insn left c.in_ok-rule.field-0 code is.context.code c.size-size.ensures.bytes c.insn_at-next.ensures.insn c.insn_at-next.ensures.next c.if-next-size.true
     c.if-falls.ensures c.in_default.is (c.in_ok-rule.ensures.step env is at (c.loop-offset.invariant.2 env is r).reaches)
@@ -50,7 +52,8 @@ loop-offset-preserved c =
           let maps = maps_of c.args.pass.now in
           let insn = instruction_of c.insn_at-next.result.0 in
           let left = frame_of (names_in c.args.pass.now) c.step.new.frame in
-          let at = at_is c.stands_in_list.ensures c.starts_apart.ensures env is.is maps c.args.pass.now.context.code c.code-code.result.now.bytes.now c.loop-offset.offset insn code is.context.code c.insn_at-next.ensures.insn in
+          let at = at_is c.stands_in_list.ensures c.starts_apart.ensures env is.is maps c.args.pass.now.context.code c.code-code.result.now.bytes.now
+          c.loop-offset.offset insn code is.context.code c.insn_at-next.ensures.insn in
           goes_further c.stands_in_list.ensures c.starts_apart.ensures env is.is maps c.args.pass.now.context.code c.code-code.result.now.bytes.now c.size-size.result c.loop-offset.offset
           c.insn_at-next.result.1 insn left c.in_ok-rule.field-0 c.falls_through-falls.result code is.context.code c.size-size.ensures.bytes c.insn_at-next.ensures.insn c.insn_at-next.ensures.next
           c.falls_through-falls.ensures not_last c.in_default.is (c.in_ok-rule.ensures.step env is at (c.loop-offset.invariant.2 env is r).reaches),

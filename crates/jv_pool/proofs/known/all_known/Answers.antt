@@ -6,9 +6,12 @@ use Rattle.jv_pool.proofs.known.all_known.Goals as goal
 
 pub loop-index-preserved : goal.loop-index-preserved
 loop-index-preserved c =
-    let added = subst (λ (t : Option (List ℕ)). IsAdded t c.place_alike-before.result c.loop-index.facts.items c.add_facts.new.facts.items c.in_ok-place.place) c.utf8-2.ensures c.in_ok-place.ensures.ok in
+    let added = subst (λ (t : Option (List ℕ)). IsAdded t c.place_alike-before.result c.loop-index.facts.items c.add_facts.new.facts.items
+    c.in_ok-place.place) c.utf8-2.ensures c.in_ok-place.ensures.ok in
     rw c.in_ok-push.ensures.items
-    (KnownBelow-push c.args.table.now c.args.alike.now c.loop-index.index c.loop-index.facts.items c.add_facts.new.facts.items c.loop-index.places.items c.in_ok-place.place c.requires (rw (c.place_alike-before.ensures, c.deref.ensures.value) at added) c.loop-index.invariant)
+    (KnownBelow-push c.args.table.now c.args.alike.now c.loop-index.index c.loop-index.facts.items c.add_facts.new.facts.items
+    c.loop-index.places.items c.in_ok-place.place c.requires (rw (c.place_alike-before.ensures, c.deref.ensures.value) at added)
+    c.loop-index.invariant)
 
 pub returns-clause-ok : goal.returns-clause-ok
 returns-clause-ok c =

@@ -26,4 +26,5 @@ returns-in-Some c = λ env of named calls.
 
 pub returns-in-None : goal.returns-in-None
 returns-in-None c = λ env of named calls.
-    not_above c.args.context.now.class.types.names env named c.args.called.owner (frame_of c.args.context.now.class.types.names c.args.frame.now) calls.types.class calls.types.owner (c.in-None.ensures {u = tt})
+    not_above c.args.context.now.class.types.names env named c.args.called.owner (frame_of c.args.context.now.class.types.names c.args.frame.now)
+    calls.types.class calls.types.owner (c.in-None.ensures {u = tt})

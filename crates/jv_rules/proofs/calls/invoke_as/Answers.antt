@@ -18,4 +18,5 @@ returns-in-Static c = λ env of named calls.
     let names = c.args.context.now.class.types.names in
     subst (λ how. IsOutcome names (invoke env how named (frame_of names c.args.frame.now)) c.invoke_static.new.frame c.invoke_static.result) (sym c.in-Static.is)
     (subst (λ (t : TypeWorld). IsOutcome t.names (invoke_static env named (frame_of t.names c.args.frame.now)) c.invoke_static.new.frame c.invoke_static.result) c.types-in-Static.ensures
-    (c.invoke_static.ensures env named (subst (λ (t : TypeWorld). IsMethod t env named c.method_operand-in-Static.result) (sym c.types-in-Static.ensures) (c.method_operand-in-Static.ensures env of named calls))))
+    (c.invoke_static.ensures env named (subst (λ (t : TypeWorld). IsMethod t env named c.method_operand-in-Static.result)
+    (sym c.types-in-Static.ensures) (c.method_operand-in-Static.ensures env of named calls))))

@@ -15,6 +15,8 @@ returns-in-Some c = λ env of.
     let called = c.in-Some.called in
     let found : IsNamed names (method_named_by env c.args.index) called = is_named names (method_named_by env c.args.index) called (c.in-Some.ensures {u = tt} env of) in
     subst (λ o. IsOutcome names (o >>= λ method. invoke_interface env c.args.count method (frame_of names c.args.frame.now)) c.invoke_interface.new.frame c.invoke_interface.result) (sym found.is)
-    (subst (λ (t : TypeWorld). IsOutcome t.names (invoke_interface env c.args.count found.method (frame_of t.names c.args.frame.now)) c.invoke_interface.new.frame c.invoke_interface.result) c.types.ensures
+    (subst (λ (t : TypeWorld). IsOutcome t.names (invoke_interface env c.args.count found.method (frame_of t.names c.args.frame.now))
+    c.invoke_interface.new.frame c.invoke_interface.result) c.types.ensures
     (c.invoke_interface.ensures env found.method
-    (subst (λ (t : TypeWorld). IsMethod t env found.method c.method_operand.result) (sym c.types.ensures) (c.method_operand.ensures env of found.method (record { named = found.is; types = found.types })))))
+    (subst (λ (t : TypeWorld). IsMethod t env found.method c.method_operand.result) (sym c.types.ensures)
+    (c.method_operand.ensures env of found.method (record { named = found.is; types = found.types })))))

@@ -18,7 +18,8 @@ returns-in-Some c = λ env of named calls.
     let takes : TakesObject types.names (taken types.world (typed_all types.names arguments) (typed_all types.names old.stack)) old mid (Some object) =
     subst (λ (t : TypeWorld). TakesObject t.names (taken t.world (typed_all t.names arguments) (typed_all t.names old.stack)) old mid (Some object)) c.types.ensures (c.in-Some.ensures {u = tt}) in
     subst (λ o. IsOutcome types.names o c.construct_object.new.frame c.construct_object.result)
-    (sym (object_taken types.names env named object old mid (taken env.world named.arguments (typed_all types.names old.stack)) (left_by types env named arguments old of.class.world calls.types.arguments ∙ takes.0) takes.1))
+    (sym (object_taken types.names env named object old mid (taken env.world named.arguments (typed_all types.names old.stack))
+    (left_by types env named arguments old of.class.world calls.types.arguments ∙ takes.0) takes.1))
     (c.construct_object.ensures env of named calls)
 
 pub returns-in-None : goal.returns-in-None
@@ -28,4 +29,5 @@ returns-in-None c = λ env of named calls.
     let old = c.args.frame.now in
     let none : object_in (taken types.world (typed_all types.names arguments) (typed_all types.names old.stack)) ≡ None =
     subst (λ (t : TypeWorld). object_in (taken t.world (typed_all t.names arguments) (typed_all t.names old.stack)) ≡ None) c.types.ensures (c.in-None.ensures {u = tt}) in
-    no_object env named (frame_of types.names old) (taken env.world named.arguments (typed_all types.names old.stack)) (ap object_in (left_by types env named arguments old of.class.world calls.types.arguments) ∙ none)
+    no_object env named (frame_of types.names old) (taken env.world named.arguments (typed_all types.names old.stack))
+    (ap object_in (left_by types env named arguments old of.class.world calls.types.arguments) ∙ none)

@@ -21,7 +21,9 @@ pub returns-in-Compute : goal.returns-in-Compute
 returns-in-Compute c = λ env of.
     let names = c.args.constants.now.types.names in
     at_insn names env c.args.offset (frame_of names c.args.frame.now) c.compute.new.frame c.compute.result c.in-Compute.is
-    (in_class c.args.context.now c.args.constants.now env of c.names-types.result.now c.names-types.ensures c.compute.new.frame c.compute.result (λ w ns. exchanged w (computation c.in-Compute.what).takes (computation c.in-Compute.what).gives (frame_of ns c.args.frame.now)) c.compute.ensures)
+    (in_class c.args.context.now c.args.constants.now env of c.names-types.result.now c.names-types.ensures c.compute.new.frame c.compute.result
+    (λ w ns. exchanged w (computation c.in-Compute.what).takes (computation c.in-Compute.what).gives (frame_of ns c.args.frame.now))
+    c.compute.ensures)
 
 pub returns-in-PoolConstant : goal.returns-in-PoolConstant
 returns-in-PoolConstant c = λ env of.
@@ -57,25 +59,31 @@ pub returns-in-ArrayLoad : goal.returns-in-ArrayLoad
 returns-in-ArrayLoad c = λ env of.
     let names = c.args.constants.now.types.names in
     at_insn names env c.args.offset (frame_of names c.args.frame.now) c.array_load.new.frame c.array_load.result c.in-ArrayLoad.is
-    (in_class c.args.context.now c.args.constants.now env of c.names-types.result.now c.names-types.ensures c.array_load.new.frame c.array_load.result (λ w ns. array_load w c.in-ArrayLoad.element (frame_of ns c.args.frame.now)) c.array_load.ensures)
+    (in_class c.args.context.now c.args.constants.now env of c.names-types.result.now c.names-types.ensures c.array_load.new.frame c.array_load.result
+    (λ w ns. array_load w c.in-ArrayLoad.element (frame_of ns c.args.frame.now)) c.array_load.ensures)
 
 pub returns-in-ReferenceArrayLoad : goal.returns-in-ReferenceArrayLoad
 returns-in-ReferenceArrayLoad c = λ env of.
     let names = c.args.constants.now.types.names in
     at_insn names env c.args.offset (frame_of names c.args.frame.now) c.reference_array_load.new.frame c.reference_array_load.result c.in-ReferenceArrayLoad.is
-    (in_class c.args.context.now c.args.constants.now env of c.names-types.result.now c.names-types.ensures c.reference_array_load.new.frame c.reference_array_load.result (λ w ns. reference_array_load w (frame_of ns c.args.frame.now)) c.reference_array_load.ensures)
+    (in_class c.args.context.now c.args.constants.now env of c.names-types.result.now c.names-types.ensures c.reference_array_load.new.frame
+    c.reference_array_load.result (λ w ns. reference_array_load w (frame_of ns c.args.frame.now)) c.reference_array_load.ensures)
 
 pub returns-in-ArrayStore : goal.returns-in-ArrayStore
 returns-in-ArrayStore c = λ env of.
     let names = c.args.constants.now.types.names in
     at_insn names env c.args.offset (frame_of names c.args.frame.now) c.array_store.new.frame c.array_store.result c.in-ArrayStore.is
-    (in_class c.args.context.now c.args.constants.now env of c.names-types.result.now c.names-types.ensures c.array_store.new.frame c.array_store.result (λ w ns. array_store w c.in-ArrayStore.element (frame_of ns c.args.frame.now)) c.array_store.ensures)
+    (in_class c.args.context.now c.args.constants.now env of c.names-types.result.now c.names-types.ensures c.array_store.new.frame
+    c.array_store.result (λ w ns. array_store w c.in-ArrayStore.element (frame_of ns c.args.frame.now)) c.array_store.ensures)
 
 pub returns-in-ReferenceArrayStore : goal.returns-in-ReferenceArrayStore
 returns-in-ReferenceArrayStore c = λ env of.
     let names = c.args.constants.now.types.names in
     at_insn names env c.args.offset (frame_of names c.args.frame.now) c.reference_array_store.new.frame c.reference_array_store.result c.in-ReferenceArrayStore.is
-    (in_class c.args.context.now c.args.constants.now env of c.names-types.result.now c.names-types.ensures c.reference_array_store.new.frame c.reference_array_store.result (λ w ns. exchanged w (array_with (class_components (codes "java/lang/Object")) ∷ types.Int ∷ object_class_type ∷ []) [] (frame_of ns c.args.frame.now)) c.reference_array_store.ensures)
+    (in_class c.args.context.now c.args.constants.now env of c.names-types.result.now c.names-types.ensures c.reference_array_store.new.frame
+    c.reference_array_store.result
+    (λ w ns. exchanged w (array_with (class_components (codes "java/lang/Object")) ∷ types.Int ∷ object_class_type ∷ []) []
+    (frame_of ns c.args.frame.now)) c.reference_array_store.ensures)
 
 pub returns-in-Stack : goal.returns-in-Stack
 returns-in-Stack c = λ env of.
@@ -93,13 +101,20 @@ pub returns-in-Branch : goal.returns-in-Branch
 returns-in-Branch c = λ env of.
     let names = c.args.constants.now.types.names in
     at_insn names env c.args.offset (frame_of names c.args.frame.now) c.branch-types.new.frame c.branch-types.result c.in-Branch.is
-    (subst (λ (t : TypeWorld). IsOutcome t.names (by_exchange env (test c.in-Branch.condition) (test_references c.in-Branch.condition (frame_of t.names c.args.frame.now)) (frame_of t.names c.args.frame.now)) c.branch-types.new.frame c.branch-types.result) c.names-types.ensures (c.branch-types.ensures env (world_same c.args.context.now c.args.constants.now env of c.names-types.result.now c.names-types.ensures)))
+    (subst (λ (t : TypeWorld). IsOutcome t.names
+    (by_exchange env (test c.in-Branch.condition) (test_references c.in-Branch.condition (frame_of t.names c.args.frame.now))
+    (frame_of t.names c.args.frame.now)) c.branch-types.new.frame c.branch-types.result) c.names-types.ensures
+    (c.branch-types.ensures env (world_same c.args.context.now c.args.constants.now env of c.names-types.result.now c.names-types.ensures)))
 
 pub returns-in-ReturnValue : goal.returns-in-ReturnValue
 returns-in-ReturnValue c = λ env of.
     let names = c.args.constants.now.types.names in
     at_insn names env c.args.offset (frame_of names c.args.frame.now) c.leave_with_value.new.frame c.leave_with_value.result c.in-ReturnValue.is
-    (subst (λ (t : TypeWorld). IsOutcome t.names (return_value env c.in-ReturnValue.kind env.descriptor.result (frame_of t.names c.args.frame.now)) c.leave_with_value.new.frame c.leave_with_value.result) c.names-types.ensures (c.leave_with_value.ensures env env.descriptor.result (world_same c.args.context.now c.args.constants.now env of c.names-types.result.now c.names-types.ensures) (result_same c.args.context.now c.args.constants.now env of c.names-types.result.now c.names-types.ensures c.result.result c.result.ensures)))
+    (subst (λ (t : TypeWorld). IsOutcome t.names (return_value env c.in-ReturnValue.kind env.descriptor.result (frame_of t.names c.args.frame.now))
+    c.leave_with_value.new.frame c.leave_with_value.result) c.names-types.ensures
+    (c.leave_with_value.ensures env env.descriptor.result (world_same c.args.context.now c.args.constants.now env of c.names-types.result.now
+    c.names-types.ensures) (result_same c.args.context.now c.args.constants.now env of c.names-types.result.now c.names-types.ensures
+    c.result.result c.result.ensures)))
 
 pub returns-in-Return : goal.returns-in-Return
 returns-in-Return c = λ env of.
@@ -111,37 +126,47 @@ pub returns-in-Field : goal.returns-in-Field
 returns-in-Field c = λ env of.
     let names = c.args.constants.now.types.names in
     at_insn names env c.args.offset (frame_of names c.args.frame.now) c.use_field.new.frame c.use_field.result c.in-Field.is
-    (subst (λ (t : TypeWorld). IsOutcome t.names (field_rule env c.in-Field.access c.in-Field.index (frame_of t.names c.args.frame.now)) c.use_field.new.frame c.use_field.result) of.types (c.use_field.ensures env of.method))
+    (subst (λ (t : TypeWorld). IsOutcome t.names (field_rule env c.in-Field.access c.in-Field.index (frame_of t.names c.args.frame.now))
+    c.use_field.new.frame c.use_field.result) of.types (c.use_field.ensures env of.method))
 
 pub returns-in-Invoke : goal.returns-in-Invoke
 returns-in-Invoke c = λ env of.
     let names = c.args.constants.now.types.names in
     at_insn names env c.args.offset (frame_of names c.args.frame.now) c.invoke.new.frame c.invoke.result c.in-Invoke.is
-    (subst (λ (t : TypeWorld). IsOutcome t.names (invoke_rule env c.in-Invoke.how c.in-Invoke.index (frame_of t.names c.args.frame.now)) c.invoke.new.frame c.invoke.result) of.types (c.invoke.ensures env of.method))
+    (subst (λ (t : TypeWorld). IsOutcome t.names (invoke_rule env c.in-Invoke.how c.in-Invoke.index (frame_of t.names c.args.frame.now))
+    c.invoke.new.frame c.invoke.result) of.types (c.invoke.ensures env of.method))
 
 pub returns-in-InvokeInterface : goal.returns-in-InvokeInterface
 returns-in-InvokeInterface c = λ env of.
     let names = c.args.constants.now.types.names in
     at_insn names env c.args.offset (frame_of names c.args.frame.now) c.invoke_of_interface.new.frame c.invoke_of_interface.result c.in-InvokeInterface.is
-    (subst (λ (t : TypeWorld). IsOutcome t.names (invoke_interface_rule env c.in-InvokeInterface.index c.in-InvokeInterface.count (frame_of t.names c.args.frame.now)) c.invoke_of_interface.new.frame c.invoke_of_interface.result) of.types (c.invoke_of_interface.ensures env of.method))
+    (subst (λ (t : TypeWorld). IsOutcome t.names (invoke_interface_rule env c.in-InvokeInterface.index c.in-InvokeInterface.count
+    (frame_of t.names c.args.frame.now)) c.invoke_of_interface.new.frame c.invoke_of_interface.result) of.types
+    (c.invoke_of_interface.ensures env of.method))
 
 pub returns-in-Throw : goal.returns-in-Throw
 returns-in-Throw c = λ env of.
     let names = c.args.constants.now.types.names in
     at_insn names env c.args.offset (frame_of names c.args.frame.now) c.exchange.new.frame c.exchange.result c.in-Throw.is
-    (subst (λ type. IsOutcome names (exchanged env.world (type ∷ []) [] (frame_of names c.args.frame.now)) c.exchange.new.frame c.exchange.result) c.throwable.ensures (in_class c.args.context.now c.args.constants.now env of c.names-types.result.now c.names-types.ensures c.exchange.new.frame c.exchange.result (λ w ns. exchanged w (typed ns c.throwable.result ∷ []) [] (frame_of ns c.args.frame.now)) c.exchange.ensures))
+    (subst (λ type. IsOutcome names (exchanged env.world (type ∷ []) [] (frame_of names c.args.frame.now)) c.exchange.new.frame c.exchange.result)
+    c.throwable.ensures (in_class c.args.context.now c.args.constants.now env of c.names-types.result.now c.names-types.ensures
+    c.exchange.new.frame c.exchange.result (λ w ns. exchanged w (typed ns c.throwable.result ∷ []) [] (frame_of ns c.args.frame.now))
+    c.exchange.ensures))
 
 pub returns-in-NewArray : goal.returns-in-NewArray
 returns-in-NewArray c = λ env of.
     let names = c.args.constants.now.types.names in
     at_insn names env c.args.offset (frame_of names c.args.frame.now) c.new_array.new.frame c.new_array.result c.in-NewArray.is
-    (in_class c.args.context.now c.args.constants.now env of c.names-types.result.now c.names-types.ensures c.new_array.new.frame c.new_array.result (λ w ns. exchanged w (types.Int ∷ []) (new_array_type c.in-NewArray.element ∷ []) (frame_of ns c.args.frame.now)) c.new_array.ensures)
+    (in_class c.args.context.now c.args.constants.now env of c.names-types.result.now c.names-types.ensures c.new_array.new.frame c.new_array.result
+    (λ w ns. exchanged w (types.Int ∷ []) (new_array_type c.in-NewArray.element ∷ []) (frame_of ns c.args.frame.now)) c.new_array.ensures)
 
 pub returns-in-Division : goal.returns-in-Division
 returns-in-Division c = λ env of.
     let names = c.args.constants.now.types.names in
     at_insn names env c.args.offset (frame_of names c.args.frame.now) c.combine.new.frame c.combine.result c.in-Division.is
-    (in_class c.args.context.now c.args.constants.now env of c.names-types.result.now c.names-types.ensures c.combine.new.frame c.combine.result (λ w ns. exchanged w (number_type c.in-Division.kind ∷ number_type c.in-Division.kind ∷ []) (number_type c.in-Division.kind ∷ []) (frame_of ns c.args.frame.now)) c.combine.ensures)
+    (in_class c.args.context.now c.args.constants.now env of c.names-types.result.now c.names-types.ensures c.combine.new.frame c.combine.result
+    (λ w ns. exchanged w (number_type c.in-Division.kind ∷ number_type c.in-Division.kind ∷ []) (number_type c.in-Division.kind ∷ [])
+    (frame_of ns c.args.frame.now)) c.combine.ensures)
 
 pub returns-in-New : goal.returns-in-New
 returns-in-New c = λ env of.

@@ -18,6 +18,15 @@ returns c =
     let lines : with_rules (new_app (codes "run")) args ≡ run_line = search rules in
     IfOk-weaker c.args-2.result _ _ (λ line h.
     let chain : AddsInTurn AddsArg c.about.result args line = subst (λ (xs : List Arg). AddsInTurn AddsArg c.about.result xs line) items h in
-    app_of_chain args c.about.result line chain
-    (c.words.ensures.local, (c.number.ensures.local, (c.number-2.ensures.local, (c.number-3.ensures.local, (c.number-4.ensures.local, (c.number-5.ensures.local, (c.number-6.ensures.local, (c.flag.ensures.local, tt)))))))) ∙ (from_start ∙ lines))
+    app_of_chain args c.about.result line chain (
+      c.words.ensures.local,
+      (
+        c.number.ensures.local,
+        (
+          c.number-2.ensures.local,
+          (c.number-3.ensures.local, (c.number-4.ensures.local, (c.number-5.ensures.local, (c.number-6.ensures.local, (c.flag.ensures.local, tt))))),
+        ),
+      ),
+    )
+    ∙ (from_start ∙ lines))
     c.args-2.ensures

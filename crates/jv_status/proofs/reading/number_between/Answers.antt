@@ -24,7 +24,8 @@ returns-then-number-most c =
     let some : first_value (found_of c.args.found.now) c.args.name.now ≡ Some c.in-Some.field-0.now = search rules in
     let text = used c.args.found.now c.args.name.now c.in-Some.field-0.now some in
     let reads = c.get_one.ensures.value text.0 text.1 in
-    let is = read (λ bs x. ParsesUnsigned 32 10 bs x × ExplainsUnsignedError 10 bs x × HasUnsignedDigitsIfOk bs x) text.0 c.get_one.result c.in-Some-get_one.number reads (λ x g. g.0) c.in-Some-get_one.is in
+    let is = read (λ bs x. ParsesUnsigned 32 10 bs x × ExplainsUnsignedError 10 bs x × HasUnsignedDigitsIfOk bs x) text.0 c.get_one.result
+    c.in-Some-get_one.number reads (λ x g. g.0) c.in-Some-get_one.is in
     let same = is.1 in
     let low = c.if-least-number.true in
     let high = c.if-number-most.true in
@@ -38,7 +39,8 @@ returns-else-least-number c =
     let some : first_value (found_of c.args.found.now) c.args.name.now ≡ Some c.in-Some.field-0.now = search rules in
     let text = used c.args.found.now c.args.name.now c.in-Some.field-0.now some in
     let reads = c.get_one.ensures.value text.0 text.1 in
-    let is = read (λ bs x. ParsesUnsigned 32 10 bs x × ExplainsUnsignedError 10 bs x × HasUnsignedDigitsIfOk bs x) text.0 c.get_one.result c.in-Some-get_one.number reads (λ x g. g.0) c.in-Some-get_one.is in
+    let is = read (λ bs x. ParsesUnsigned 32 10 bs x × ExplainsUnsignedError 10 bs x × HasUnsignedDigitsIfOk bs x) text.0 c.get_one.result
+    c.in-Some-get_one.number reads (λ x g. g.0) c.in-Some-get_one.is in
     let same = is.1 in
     rw (in_rows c.args.found.now c.args.name.now text.0 text.1)
     (sym (outside c.args.least c.args.most text.0 (λ low high. elim c.else-least-number.branch [

@@ -10,7 +10,8 @@ returns-in_default-clause-none c =
 
 pub returns-in_default-element_at-clause-none : goal.returns-in_default-element_at-clause-none
 returns-in_default-element_at-clause-none c = λ t x.
-    no_element c.args.text.now c.in-Some.rest.now c.in-Some.dimensions c.in-Some.ensures.found c.in-Some.ensures.all c.in_default-element_at.ensures.no_base c.in_default-element_at.ensures.no_class t x
+    no_element c.args.text.now c.in-Some.rest.now c.in-Some.dimensions c.in-Some.ensures.found c.in-Some.ensures.all
+    c.in_default-element_at.ensures.no_base c.in_default-element_at.ensures.no_class t x
 
 pub returns-clause-found : goal.returns-clause-found
 returns-clause-found c = grind (arith, common_steps)

@@ -15,7 +15,9 @@ returns-in-Some-clause-found c = λ l e.
     let look = field_named_in c.args.field.now.name.now c.args.field.now.descriptor.now in
     let number : ℕ = get_or c.args.searched.now c.loop-class.class-index 0 in
     let class = some_class world number (c.requires.searched c.loop-class.class-index 0 c.loop-class-test.true) in
-    let is : IsFieldOfClass world number (seen_member c.args.field.now) (Some c.in-Some.place) = subst (λ (o : Option Place). IsFieldOfClass world number (seen_member c.args.field.now) o) c.in-Some.is c.in_ok-found.ensures.found in
+    let is : IsFieldOfClass world number (seen_member c.args.field.now) (Some c.in-Some.place) =
+    subst (λ (o : Option Place). IsFieldOfClass world number (seen_member c.args.field.now) o) c.in-Some.is c.in_ok-found.ensures.found in
     let there = field_stands world c.in-Some.place is.stands in
-    there.1 ∙ (found world look c.args.searched.now c.loop-class.class-index number class.0 there.0 c.loop-class-test.true refl class.1 (sym (is.found class.0 class.1) ∙ there.1) c.loop-class.invariant.left
+    there.1 ∙ (found world look c.args.searched.now c.loop-class.class-index number class.0 there.0 c.loop-class-test.true refl class.1
+    (sym (is.found class.0 class.1) ∙ there.1) c.loop-class.invariant.left
     ∙ ap (first_found look) e)

@@ -15,7 +15,9 @@ returns-in-Some-clause-found c = λ l at.
     let above = c.superclasses-superclass-items in
     let number : ℕ = get_or above.result.now c.loop-superclass.superclass-index 0 in
     let class = some_class world number (above.ensures.numbers c.loop-superclass.superclass-index 0 c.loop-superclass-test.true) in
-    let is : IsMethodOfClass world number (seen_member c.args.method.now) (Some c.in-Some.place) = subst (λ (o : Option Place). IsMethodOfClass world number (seen_member c.args.method.now) o) c.in-Some.is c.in_ok-found.ensures.found in
+    let is : IsMethodOfClass world number (seen_member c.args.method.now) (Some c.in-Some.place) =
+    subst (λ (o : Option Place). IsMethodOfClass world number (seen_member c.args.method.now) o) c.in-Some.is c.in_ok-found.ensures.found in
     let there = method_stands world c.in-Some.place is.stands in
-    there.1 ∙ (found world look above.result.now c.loop-superclass.superclass-index number class.0 there.0 c.loop-superclass-test.true refl class.1 (sym (is.found class.0 class.1) ∙ there.1) c.loop-superclass.invariant.left
+    there.1 ∙ (found world look above.result.now c.loop-superclass.superclass-index number class.0 there.0 c.loop-superclass-test.true refl class.1
+    (sym (is.found class.0 class.1) ∙ there.1) c.loop-superclass.invariant.left
     ∙ ap (first_found look) (above.ensures.found l at))

@@ -10,7 +10,8 @@ loop-index-preserved c =
       size = search rules;
       below = λ l at.
           subst (AreGuardsBelow (c.loop-index.index + 1) c.args.classes.now.world l c.args.constants.now.pool) (sym pushed)
-          (guards_next c.args.classes.now.world l c.args.constants.now.pool c.loop-index.marks.items c.loop-index.index c.in_ok-mark.mark c.loop-index.invariant.size (c.loop-index.invariant.below l at) (c.in_ok-mark.ensures.guarded l at));
+          (guards_next c.args.classes.now.world l c.args.constants.now.pool c.loop-index.marks.items c.loop-index.index c.in_ok-mark.mark
+          c.loop-index.invariant.size (c.loop-index.invariant.below l at) (c.in_ok-mark.ensures.guarded l at));
       answers = c.in_ok-mark.ensures.answers;
     }
 

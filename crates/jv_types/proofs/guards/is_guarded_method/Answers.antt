@@ -18,9 +18,11 @@ use Rattle.jv_types.proofs.guards.is_guarded_method.Goals as goal
 pub method_is_far-requires-clause-texts : goal.method_is_far-requires-clause-texts
 method_is_far-requires-clause-texts c =
     let pool : List Entry = c.args.constants.now.pool in
-    of_named (λ (r : MemberReference). IfSome c.called_indices-indices.result (λ i. AreTextsOf pool i.name i.descriptor r)) (method_operand_in pool c.args.index) (seen_member c.in-Some-method_in.method)
+    of_named (λ (r : MemberReference). IfSome c.called_indices-indices.result (λ i. AreTextsOf pool i.name i.descriptor r))
+    (method_operand_in pool c.args.index) (seen_member c.in-Some-method_in.method)
     (c.in-Some-method_in.ensures ∙ ap (λ p. option_map member_named (method_operand_in p c.args.index)) c.pool-2.ensures)
-    (subst (λ (p : List Entry). (m : MethodReference) → method_operand_in p c.args.index ≡ Some m → IfSome c.called_indices-indices.result (λ i. AreTextsOf p i.name i.descriptor m.member)) c.pool.ensures c.called_indices-indices.ensures)
+    (subst (λ (p : List Entry). (m : MethodReference) → method_operand_in p c.args.index ≡ Some m → IfSome c.called_indices-indices.result
+    (λ i. AreTextsOf p i.name i.descriptor m.member)) c.pool.ensures c.called_indices-indices.ensures)
 
 pub returns-in-Some-method_in-clause-guarded : goal.returns-in-Some-method_in-clause-guarded
 returns-in-Some-method_in-clause-guarded c =

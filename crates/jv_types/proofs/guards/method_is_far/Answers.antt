@@ -38,4 +38,5 @@ returns-in-None-clause-far c =
     none_of_classes c.table-table.result.now l (seen_member c.args.method.now) c.args.named n at_n (subst AreRightlyProtected (sym c.table-table.ensures) c.requires.right)
     (ap is_interface (sym there) ∙ (sym c.is_interface.ensures ∙ c.if-is_interface.false))
     c.args.method.now.name.now c.args.method.now.descriptor.now refl refl
-    (subst (λ (o : Option Place). IsFirstOfClasses c.table-table.result.now c.args.named c.args.method.now.name.now c.args.method.now.descriptor.now o) c.in-None.is c.in_ok-found.ensures.found n at_n))
+    (subst (λ (o : Option Place). IsFirstOfClasses c.table-table.result.now c.args.named c.args.method.now.name.now c.args.method.now.descriptor.now
+    o) c.in-None.is c.in_ok-found.ensures.found n at_n))

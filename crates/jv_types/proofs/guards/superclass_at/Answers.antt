@@ -13,7 +13,9 @@ returns-in_default-clause-none c = λ cur at text l e named. absurd (no_class c.
 pub returns-else-is_below-clause-none : goal.returns-else-is_below-clause-none
 returns-else-is_below-clause-none c = λ cur at text l e named.
     let same : c.table.result.now ≡ c.args.constants.now.types.world = c.table.ensures ∙ ap (λ (t : TypeWorld). t.world) c.names.ensures in
-    let there : slice_get c.args.constants.now.types.world c.in-Some.named ≡ Some l = stands_there c.args.constants.now.types.world text c.in-Some.named (sym c.in-Some.is ∙ c.class_at.ensures.number text e) l named in
-    let below : HoldsAtNumber c.args.constants.now.types.world c.args.current (λ m. HoldsAtNumber c.args.constants.now.types.world c.in-Some.named (λ n. c.is_below.result ≡ is_proper_subclass c.args.constants.now.types.world m n)) =
+    let there : slice_get c.args.constants.now.types.world c.in-Some.named ≡ Some l = stands_there c.args.constants.now.types.world text
+    c.in-Some.named (sym c.in-Some.is ∙ c.class_at.ensures.number text e) l named in
+    let below : HoldsAtNumber c.args.constants.now.types.world c.args.current (λ m. HoldsAtNumber c.args.constants.now.types.world c.in-Some.named
+    (λ n. c.is_below.result ≡ is_proper_subclass c.args.constants.now.types.world m n)) =
     subst (λ (w : World). HoldsAtNumber w c.args.current (λ m. HoldsAtNumber w c.in-Some.named (λ n. c.is_below.result ≡ is_proper_subclass w m n))) same c.is_below.ensures in
     sym (below cur at l there) ∙ c.if-is_below.false

@@ -13,8 +13,11 @@ loop-index-preserved c =
     record {
       size = search rules;
       kept = subst (AreKeptBelow (index + 1) c.types_at.new.names.names c.types_at.new.arguments.items c.args.pool.now c.in_ok-marks.marks.items) (sym pushed)
-          (kept_next c.args.pool.now c.in_ok-marks.marks.items c.loop-index.texts.items index c.in_ok-types_at.field-0 c.loop-index.invariant.size c.in_ok-types_at.ensures.goes_on c.in_ok-types_at.ensures.front
-          c.loop-index.invariant.kept (subst (λ b. IsKept c.types_at.new.names.names c.types_at.new.arguments.items (utf8_at c.args.pool.now index) b c.in_ok-types_at.field-0) marked c.in_ok-types_at.ensures.kept));
+          (kept_next c.args.pool.now c.in_ok-marks.marks.items c.loop-index.texts.items index c.in_ok-types_at.field-0 c.loop-index.invariant.size
+          c.in_ok-types_at.ensures.goes_on c.in_ok-types_at.ensures.front
+          c.loop-index.invariant.kept
+          (subst (λ b. IsKept c.types_at.new.names.names c.types_at.new.arguments.items (utf8_at c.args.pool.now index) b
+          c.in_ok-types_at.field-0) marked c.in_ok-types_at.ensures.kept));
       goes_on = through c.loop-index.invariant.goes_on c.in_ok-types_at.ensures.goes_on;
       world = c.in_ok-types_at.ensures.world ∙ c.loop-index.invariant.world;
     }

@@ -12,19 +12,22 @@ pub returns-in_err-add-clause-too_large : goal.returns-in_err-add-clause-too_lar
 returns-in_err-add-clause-too_large c =
     let new = subst (IsIndexFound c.args.self.now (seen c.args.constant)) c.in_default.is c.found.ensures in
     let right : IsTrue (constant_fits (seen c.args.constant)) = sym c.constant_fits.ensures ∙ c.if-not-constant_fits.false in
-    let room = room_at (map seen c.self.inside.constants.items) c.args.self.now (seen c.args.constant) c.self.inside.indices c.self.inside.count c.self.view_is c.self.invariant new right (omega arith) in
+    let room = room_at (map seen c.self.inside.constants.items) c.args.self.now (seen c.args.constant) c.self.inside.indices c.self.inside.count
+    c.self.view_is c.self.invariant new right (omega arith) in
     (λ e. absurd (is_memory c.from_residual.result c.from_residual.ensures.1 e), λ none. absurd (none room))
 
 pub returns-clause-ok : goal.returns-clause-ok
 returns-clause-ok c =
     let new = subst (IsIndexFound c.args.self.now (seen c.args.constant)) c.in_default.is c.found.ensures in
-    added_at (map seen c.self.inside.constants.items) c.args.self.now c.add.new.self (seen c.args.constant) c.self.inside.indices c.self.inside.count c.self.view_is c.self.invariant new (c.in_ok-add.ensures {u = tt})
+    added_at (map seen c.self.inside.constants.items) c.args.self.now c.add.new.self (seen c.args.constant) c.self.inside.indices c.self.inside.count
+    c.self.view_is c.self.invariant new (c.in_ok-add.ensures {u = tt})
 
 pub returns-clause-too_large : goal.returns-clause-too_large
 returns-clause-too_large c =
     let new = subst (IsIndexFound c.args.self.now (seen c.args.constant)) c.in_default.is c.found.ensures in
     let right : IsTrue (constant_fits (seen c.args.constant)) = sym c.constant_fits.ensures ∙ c.if-not-constant_fits.false in
-    let room = room_at (map seen c.self.inside.constants.items) c.args.self.now (seen c.args.constant) c.self.inside.indices c.self.inside.count c.self.view_is c.self.invariant new right (omega arith) in
+    let room = room_at (map seen c.self.inside.constants.items) c.args.self.now (seen c.args.constant) c.self.inside.indices c.self.inside.count
+    c.self.view_is c.self.invariant new right (omega arith) in
     (λ e. absurd (is_no_fault _ _ e), λ none. absurd (none room))
 
 pub returns-then-count-gt65535-clause-too_large : goal.returns-then-count-gt65535-clause-too_large

@@ -10,4 +10,5 @@ pub returns : goal.returns
 returns c = λ l at.
     let world = c.args.self.now in
     c.is_final_at.ensures ∙ (ap (λ w. passes_at w (λ (m : Loaded). has m.class.access_flags acc_final) c.super_of.result) c.classes.ensures
-    ∙ (ap (passes_at world (λ (m : Loaded). has m.class.access_flags acc_final)) (c.super_of.ensures l at) ∙ ap (passes (λ (m : Loaded). has m.class.access_flags acc_final)) (at_superclass world l.class)))
+    ∙ (ap (passes_at world (λ (m : Loaded). has m.class.access_flags acc_final)) (c.super_of.ensures l at) ∙
+    ap (passes (λ (m : Loaded). has m.class.access_flags acc_final)) (at_superclass world l.class)))

@@ -12,7 +12,10 @@ use Rattle.jv_code.proofs.starts.Starts.handlers_fit.Goals as goal
 pub returns-then-not-handler_fits : goal.returns-then-not-handler_fits
 returns-then-not-handler_fits c = (
   λ no. absurd cc,
-  λ all. absurd (false≢true (sym c.if-not-handler_fits.true ∙ c.handler_fits.ensures.1 (handler_there (HandlerFits c.args.self.now) (handlers_of c.args.table) c.loop-place.place c.in-Some.handler (sym c.handler.ensures ∙ c.in-Some.is) all))),
+  λ all. absurd (false≢true
+      (sym c.if-not-handler_fits.true ∙ c.handler_fits.ensures.1
+      (handler_there (HandlerFits c.args.self.now) (handlers_of c.args.table) c.loop-place.place c.in-Some.handler
+      (sym c.handler.ensures ∙ c.in-Some.is) all))),
 )
 
 pub loop-place-preserved : goal.loop-place-preserved
@@ -22,7 +25,8 @@ loop-place-preserved c =
 
 pub returns : goal.returns
 returns c = (
-  λ yes. subst (λ (handlers : List Handler). All (HandlerFits c.args.self.now) handlers) (take_all c.loop-place.place (handlers_of c.args.table) (omega (arith, c.len-place-end.ensures))) c.loop-place.invariant,
+  λ yes. subst (λ (handlers : List Handler). All (HandlerFits c.args.self.now) handlers)
+      (take_all c.loop-place.place (handlers_of c.args.table) (omega (arith, c.len-place-end.ensures))) c.loop-place.invariant,
   λ all. refl,
 )
 

@@ -8,14 +8,16 @@ use Rattle.jv_frames.proofs.table.FrameTable.finish.Goals as goal
 pub invariant_of-self-2 : goal.invariant_of-self-2
 invariant_of-self-2 c =
     let i = c.self.inside in
-    rw c.in_ok-push.ensures.items (holds_joined i.widths.now i.nodes i.frames.items i.base i.locals i.pile (i.base + c.from.result) c.self.invariant (omega arith) (omega (arith, c.from.ensures, c.ranges.delta)))
+    rw c.in_ok-push.ensures.items (holds_joined i.widths.now i.nodes i.frames.items i.base i.locals i.pile (i.base + c.from.result) c.self.invariant
+    (omega arith) (omega (arith, c.from.ensures, c.ranges.delta)))
 
 pub returns : goal.returns
 returns c =
     let i = c.self.inside in
     let offset : i.base + c.from.result ≡ c.args.self.now.base + c.args.delta = omega (arith, c.from.ensures, ap (λ (b : Built). b.base) c.self.view_is) in
     let joined : built i.widths.now i.nodes c.push.new.self.items (i.base + c.from.result + 1) i.locals.top 0 ≡ with_frame (i.base + c.from.result) c.args.self.now =
-    rw c.in_ok-push.ensures.items (built_joined i.widths.now i.nodes i.frames.items i.base i.locals i.pile (i.base + c.from.result) c.self.invariant ∙ ap (with_frame (i.base + c.from.result)) c.self.view_is) in
+    rw c.in_ok-push.ensures.items (built_joined i.widths.now i.nodes i.frames.items i.base i.locals i.pile (i.base + c.from.result) c.self.invariant ∙
+    ap (with_frame (i.base + c.from.result)) c.self.view_is) in
     finished_as c.args.limits c.args.delta c.args.self.now _ (i.base + c.from.result) (sym c.if-not-is_within.ensures) offset joined
 
 pub overflow_add-self : goal.overflow_add-self

@@ -11,4 +11,5 @@ overflow_add-words c =
 pub invariant_of-self : goal.invariant_of-self
 invariant_of-self c =
     let i = c.self.inside in
-    rw c.entry_words.ensures (holds_shared i.widths.now i.nodes i.frames.items i.base i.locals i.pile c.args.entry c.in-Some.top c.self.invariant c.in-Some.ensures.chain c.in-Some.ensures.there c.are_numbered.ensures)
+    rw c.entry_words.ensures (holds_shared i.widths.now i.nodes i.frames.items i.base i.locals i.pile c.args.entry c.in-Some.top c.self.invariant
+    c.in-Some.ensures.chain c.in-Some.ensures.there c.are_numbered.ensures)

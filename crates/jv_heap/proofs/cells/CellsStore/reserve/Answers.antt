@@ -11,7 +11,16 @@ invariant_of-self-2-clause-filled c =
     ap (λ l. fill l (vec_len c.reserve.new.self)) c.reserve-2.ensures.items ∙ (ap (fill c.args.self.now.starts.items) c.reserve.ensures.len ∙ c.args.self.now.filled)
 
 pub invariant_of-self-2-clause-starts_fit : goal.invariant_of-self-2-clause-starts_fit
-invariant_of-self-2-clause-starts_fit c = omega (arith, fill_count c.args.self.now.starts.items _ c.args.self.now.filled, c.len.ensures, c.len-2.ensures, c.reserve.ensures.len, c.args.self.now.starts.ok.0, (c.in_ok-reserve-2.ensures {u = tt}).ok, c.reserve-2.ensures.len)
+invariant_of-self-2-clause-starts_fit c = omega (
+  arith,
+  fill_count c.args.self.now.starts.items _ c.args.self.now.filled,
+  c.len.ensures,
+  c.len-2.ensures,
+  c.reserve.ensures.len,
+  c.args.self.now.starts.ok.0,
+  (c.in_ok-reserve-2.ensures {u = tt}).ok,
+  c.reserve-2.ensures.len,
+)
 
 pub invariant_of-self-2-clause-few : goal.invariant_of-self-2-clause-few
 invariant_of-self-2-clause-few c =
@@ -19,7 +28,18 @@ invariant_of-self-2-clause-few c =
     omega (arith, held, c.requires, c.reserve.ensures.len, c.args.self.now.words.ok.0)
 
 pub returns-in_err-reserve-2-clause-nothing : goal.returns-in_err-reserve-2-clause-nothing
-returns-in_err-reserve-2-clause-nothing c e = absurd (omega (arith, e, (c.in_err-reserve-2.ensures {u = tt}).full, fill_count c.args.self.now.starts.items _ c.args.self.now.filled, c.len.ensures, c.len-2.ensures, c.reserve.ensures.len, c.args.self.now.starts.ok.0, c.args.self.now.starts_fit))
+returns-in_err-reserve-2-clause-nothing c e =
+    absurd (omega (
+      arith,
+      e,
+      (c.in_err-reserve-2.ensures {u = tt}).full,
+      fill_count c.args.self.now.starts.items _ c.args.self.now.filled,
+      c.len.ensures,
+      c.len-2.ensures,
+      c.reserve.ensures.len,
+      c.args.self.now.starts.ok.0,
+      c.args.self.now.starts_fit,
+    ))
 
 pub invariant_of-self-2-clause-words_fit : goal.invariant_of-self-2-clause-words_fit
 invariant_of-self-2-clause-words_fit c = search rules

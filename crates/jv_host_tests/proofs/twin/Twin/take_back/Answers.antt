@@ -21,7 +21,8 @@ pub invariant_of-self : goal.invariant_of-self
 invariant_of-self g c =
     let last = last_block (λ b. (b.address, b.words.items)) c.args.self.now.blocks.items c.pop-newest.new.self.items c.in-Some.block (c.in-Some.ensures {u = tt}).items c.args.self.now.rising in
     record {
-      same_content = c.take_back.ensures.content ∙ (ap (λ l. without l c.in-Some.block.address) (c.args.self.now.same_content ∙ last.whole) ∙ c.back.ensures _ c.in-Some.block.address c.in-Some.block.words.items last.before.below);
+      same_content = c.take_back.ensures.content ∙ (ap (λ l. without l c.in-Some.block.address) (c.args.self.now.same_content ∙ last.whole) ∙
+          c.back.ensures _ c.in-Some.block.address c.in-Some.block.words.items last.before.below);
       same_room = omega (arith, c.take_back.ensures.room, c.args.self.now.same_room);
       rising = last.before.rising;
     }

@@ -6,7 +6,11 @@ pub execute_array_load-requires : goal.execute_array_load-requires
 execute_array_load-requires g c = ((known c.args.classes.now.world c.args.linked.now c.args.site), c.args.texts.now.names, (can_at _ _ _ _ _ _ _ _ _ _ c.in-ArrayLoad.is c.requires.can).can)
 
 pub execute_reference_array_load-requires : goal.execute_reference_array_load-requires
-execute_reference_array_load-requires g c = ((known c.args.classes.now.world c.args.linked.now c.args.site), c.args.texts.now.names, (can_at _ _ _ _ _ _ _ _ _ _ c.in-ReferenceArrayLoad.is c.requires.can).can)
+execute_reference_array_load-requires g c = (
+  (known c.args.classes.now.world c.args.linked.now c.args.site),
+  c.args.texts.now.names,
+  (can_at _ _ _ _ _ _ _ _ _ _ c.in-ReferenceArrayLoad.is c.requires.can).can,
+)
 
 pub execute_array_store-requires : goal.execute_array_store-requires
 execute_array_store-requires g c = ((known c.args.classes.now.world c.args.linked.now c.args.site), c.args.texts.now.names, (can_at _ _ _ _ _ _ _ _ _ _ c.in-ArrayStore.is c.requires.can).can)

@@ -5,10 +5,21 @@ use Rattle.jv_interp_execution.proofs.AllInstructions.{can_at, settled}
 use Rattle.jv_interp_execution.proofs.families.ConstantLoadsExecution.execute.Goals as goal
 
 pub execute_pool_constant-requires-clause-can : goal.execute_pool_constant-requires-clause-can
-execute_pool_constant-requires-clause-can g c = (c.in-PoolConstant._form, (known c.args.classes.now.world c.args.linked.now c.args.site), record { world_is = refl; site_is = refl }, c.requires.texts, (can_at _ _ _ _ _ _ _ _ _ _ c.in-PoolConstant.is c.requires.can).can)
+execute_pool_constant-requires-clause-can g c = (
+  c.in-PoolConstant._form,
+  (known c.args.classes.now.world c.args.linked.now c.args.site),
+  record { world_is = refl; site_is = refl },
+  c.requires.texts,
+  (can_at _ _ _ _ _ _ _ _ _ _ c.in-PoolConstant.is c.requires.can).can,
+)
 
 pub execute_pool_long_constant-requires : goal.execute_pool_long_constant-requires
-execute_pool_long_constant-requires g c = ((known c.args.classes.now.world c.args.linked.now c.args.site), record { world_is = refl; site_is = refl }, c.args.texts.now.names, (can_at _ _ _ _ _ _ _ _ _ _ c.in-PoolLongConstant.is c.requires.can).can)
+execute_pool_long_constant-requires g c = (
+  (known c.args.classes.now.world c.args.linked.now c.args.site),
+  record { world_is = refl; site_is = refl },
+  c.args.texts.now.names,
+  (can_at _ _ _ _ _ _ _ _ _ _ c.in-PoolLongConstant.is c.requires.can).can,
+)
 
 pub returns-in-PoolConstant-clause-done : goal.returns-in-PoolConstant-clause-done
 returns-in-PoolConstant-clause-done g c =

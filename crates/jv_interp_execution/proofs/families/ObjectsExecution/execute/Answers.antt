@@ -12,7 +12,9 @@ returns-in-ReferenceArrayStore-clause-done g c =
 
 pub returns-in-New-clause-done : goal.returns-in-New-clause-done
 returns-in-New-clause-done g c =
-    rw (sym c.create-result.ensures.stays.same) (rw c.in-New.is (IfOk-weaker c.create-result.result _ _ (λ effect m. object_made _ _ c.args.texts.now.names _ _ _ effect _ m) c.create-result.ensures.makes))
+    rw (sym c.create-result.ensures.stays.same)
+    (rw c.in-New.is (IfOk-weaker c.create-result.result _ _ (λ effect m. object_made _ _ c.args.texts.now.names _ _ _ effect _ m)
+    c.create-result.ensures.makes))
 
 pub returns-in-CheckCast-clause-done : goal.returns-in-CheckCast-clause-done
 returns-in-CheckCast-clause-done g c =

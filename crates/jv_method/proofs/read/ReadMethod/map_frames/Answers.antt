@@ -15,7 +15,8 @@ returns-clause-map c =
     let inside : ReadMethod =
     record { class = c.self.inside.class.now; body = seen_code c.self.inside.body.now; initial = c.self.inside.initial.now; is_init = c.self.inside.is_init; result = c.self.inside.result } in
     subst (λ (m : ReadMethod). IfOk c.read_map.result (λ found. (env : Environment) → IsOfRead m env → MapsTo (types_of m) m.body.max_locals env found)) c.self.view_is
-    (maps_told inside c.constants.result.now c.self.inside.code.now.bytes.now c.read_map.result (same_constants inside c.constants.result.now c.constants.ensures.types c.constants.ensures.pool) c.self.invariant.code
+    (maps_told inside c.constants.result.now c.self.inside.code.now.bytes.now c.read_map.result
+    (same_constants inside c.constants.result.now c.constants.ensures.types c.constants.ensures.pool) c.self.invariant.code
     c.read_map.ensures.map)
 
 pub returns-clause-room : goal.returns-clause-room
@@ -23,4 +24,6 @@ returns-clause-room c =
     let inside : ReadMethod =
     record { class = c.self.inside.class.now; body = seen_code c.self.inside.body.now; initial = c.self.inside.initial.now; is_init = c.self.inside.is_init; result = c.self.inside.result } in
     subst (λ (m : ReadMethod). IfOk c.read_map.result (λ found. IfSome found (HaveRoom m))) c.self.view_is
-    (rooms_told inside c.constants.result.now c.read_map.result (same_constants inside c.constants.result.now c.constants.ensures.types c.constants.ensures.pool) c.read_map.ensures.words c.read_map.ensures.room)
+    (rooms_told inside c.constants.result.now c.read_map.result
+    (same_constants inside c.constants.result.now c.constants.ensures.types c.constants.ensures.pool) c.read_map.ensures.words
+    c.read_map.ensures.room)

@@ -42,7 +42,8 @@ pub returns-then-all_flow_at-clause-one : goal.returns-then-all_flow_at-clause-o
 returns-then-all_flow_at-clause-one c =
     let f = c.args.self.now in
     let frame = c.args.frame.now in
-    subst (λ (w : TypeWorld). c.between_flow-then-all_flow_at.result ≡ false → (k : ℕ) × (flows_at w.world (typed_all w.names frame.locals) (typed_all w.names f.made.locals) k ≡ false)) c.names-names.ensures
+    subst (λ (w : TypeWorld). c.between_flow-then-all_flow_at.result ≡ false → (k : ℕ) ×
+    (flows_at w.world (typed_all w.names frame.locals) (typed_all w.names f.made.locals) k ≡ false)) c.names-names.ensures
     c.between_flow-then-all_flow_at.ensures.one
 
 pub returns-else-all_flow_at-clause-one : goal.returns-else-all_flow_at-clause-one

@@ -8,7 +8,8 @@ pub returns-clause-locals : goal.returns-clause-locals
 returns-clause-locals c = λ names.
     let old = c.args.frame.now.locals in
     let i = c.self.inside in
-    subst (λ (h : HeldFrame). length old ≡ length h.base.locals → AreSameBut h.written (typed_all names h.base.locals) (typed_all names old) → typed_all names c.set_flag.new.self.locals ≡ typed_all names h.base.locals) c.self.view_is
+    subst (λ (h : HeldFrame). length old ≡ length h.base.locals → AreSameBut h.written (typed_all names h.base.locals) (typed_all names old) →
+    typed_all names c.set_flag.new.self.locals ≡ typed_all names h.base.locals) c.self.view_is
     (λ many same.
     ap (λ (f : NumberFrame). typed_all names f.locals) c.set_flag.ensures
     ∙ c.put_back.ensures.locals names many (subst (λ (places : List ℕ). AreSameBut places (typed_all names i.base.locals) (typed_all names old)) (sym c.deref.ensures.value) same))

@@ -21,4 +21,6 @@ returns-else-is_start c = λ env of.
     let code : c.self.inside.starts.now ≡ c.args.self.now.code = c.self.invariant ∙ ap (λ (m : MethodContext). m.code) c.self.view_is in
     none_at c.instruction_at_is.ensures c.args.self.now env c.args.offset of
     (λ start.
-    no_truth (subst IsTrue c.if-is_start.false (c.is_start.ensures.1 (subst (λ pc. IsStart c.self.inside.starts.now pc) (sym c.from-pc.ensures) (subst (λ bytes. IsStart bytes c.args.offset) (sym code) start)))))
+    no_truth (subst IsTrue c.if-is_start.false
+    (c.is_start.ensures.1 (subst (λ pc. IsStart c.self.inside.starts.now pc) (sym c.from-pc.ensures)
+    (subst (λ bytes. IsStart bytes c.args.offset) (sym code) start)))))

@@ -36,9 +36,12 @@ invariant_of-result c =
     let l : Loaded = there.0 in
     let at : slice_get world c.args.class ≡ Some l = there.1 in
     let is : c.class_at.result.now ≡ l = subst (λ (w : World). HoldsAtNumber w c.args.class (λ m. c.class_at.result.now ≡ m)) c.table.ensures c.class_at.ensures l at in
-    let named : class_of_constant constants.pool file.this_class ≡ Some (name_at constants.types.names name) = ap (class_of_constant constants.pool) (sym c.this_class.ensures.same) ∙ c.known_number-name.ensures in
-    let above : option_map (name_at constants.types.names) superclass ≡ class_of_constant_at constants.pool (super_index file) = c.number_by-superclass.ensures ∙ ap (class_of_constant_at constants.pool) c.super_class.ensures.same in
-    let marked : AreMarkedAt constants.types.names constants.pool file.interfaces direct = subst (λ is. AreMarkedAt constants.types.names constants.pool is direct) c.interfaces.ensures.same c.in_ok-direct.ensures in
+    let named : class_of_constant constants.pool file.this_class ≡ Some (name_at constants.types.names name) = ap (class_of_constant constants.pool)
+    (sym c.this_class.ensures.same) ∙ c.known_number-name.ensures in
+    let above : option_map (name_at constants.types.names) superclass ≡ class_of_constant_at constants.pool (super_index file) =
+    c.number_by-superclass.ensures ∙ ap (class_of_constant_at constants.pool) c.super_class.ensures.same in
+    let marked : AreMarkedAt constants.types.names constants.pool file.interfaces direct =
+    subst (λ is. AreMarkedAt constants.types.names constants.pool is direct) c.interfaces.ensures.same c.in_ok-direct.ensures in
     let guards : AreGuards constants.types.world l constants.pool guarded = subst (λ (w : World). AreGuards w l constants.pool guarded) (sym c.requires.world) (c.in_ok-guarded.ensures l at) in
     subst (λ (m : Loaded). IsKept constants m name superclass direct guarded) (sym is)
     (known file kinds c.is_well_formed.ensures constants l name superclass direct guarded c.requires.pool (c.requires.file l at) named above marked guards)
