@@ -1,11 +1,7 @@
-"""Changes bytes of code, handlers and stack maps in the examples' classes: damage.py EXAMPLES FOLDER COUNT SEED MAJOR.
-Writes each whole file and the damaged ones as files of that major version, and a list of each with its folder, its class's
-name and the file that it was."""
+"""Changes bytes of code, handlers and stack maps in the examples' classes. It has nothing to run; ./run calls `write`."""
 import glob
-import os
 import random
 import struct
-import sys
 
 
 def half(spelled, at):
@@ -76,23 +72,31 @@ def with_version(spelled, major):
     return spelled[:4] + struct.pack(">HH", 0, major) + spelled[8:]
 
 
-examples, folder, count, seed, major = sys.argv[1:]
-random.seed(int(seed))
-files = []
-for path in sorted(glob.glob(f"{examples}/*/*.class")):
-    if "/host/" in path or "/unsupported/" in path or path.endswith("/Audited.class"):
-        continue
-    with open(path, "rb") as file:
-        spelled = file.read()
-    name, parts = parts_of(spelled)
-    if parts:
-        files.append((path, spelled, name, parts))
-lines = []
-for number in range(len(files) + int(count)):
-    is_whole = number < len(files)
-    path, spelled, name, parts = files[number] if is_whole else random.choice(files)
-    with open(f"{folder}/{number}.class", "wb") as file:
-        file.write(with_version(spelled if is_whole else damaged(spelled, parts), int(major)))
-    lines.append(f"{folder}/{number}.class\t{os.path.dirname(path)}\t{name}\t{path}\n")
-with open(f"{folder}/list", "w") as file:
-    file.writelines(lines)
+def class_files(examples):
+    """The path, the bytes, the class's name and the parts that can be damaged of each class of the examples that is accepted and has any."""
+    found = []
+    for path in sorted(glob.glob(f"{examples}/*/*.class")):
+        if "/host/" in path or "/unsupported/" in path or path.endswith("/Audited.class"):
+            continue
+        with open(path, "rb") as file:
+            spelled = file.read()
+        name, parts = parts_of(spelled)
+        if parts:
+            found.append((path, spelled, name, parts))
+    return found
+
+
+def write(examples, folder, count, seed, major):
+    """Writes each whole file and so many damaged ones as files of that major version, and answers of each its path, its class's name and the
+    file that it was."""
+    random.seed(seed)
+    files = class_files(examples)
+    written = []
+    for number in range(len(files) + count):
+        is_whole = number < len(files)
+        path, spelled, name, parts = files[number] if is_whole else random.choice(files)
+        made = f"{folder}/{number}.class"
+        with open(made, "wb") as file:
+            file.write(with_version(spelled if is_whole else damaged(spelled, parts), major))
+        written.append((made, name, path))
+    return written

@@ -13,7 +13,8 @@ from shapes import *
 # ---- over in time
 
 def new_high(folder, scale, methods=54):
-    """7,200 times a store to the last of 65,535 local variables and `new, pop`, with a frame of the map behind each whose one entry names a later `new`; in 54 methods 4 MB."""
+    """7,200 times a store to the last of 65,535 local variables and `new, pop`, with a frame of the map behind each whose one entry names a
+    later `new`; in 54 methods 4 MB."""
     made = ClassFile("Main")
     made.main()
     count = 7200
@@ -66,8 +67,8 @@ def copies_referred(made, folder, name, owners, copies):
 
 
 def long_by_copies(folder, scale, classes=33, copies=1000, referring=96):
-    """33 classes in a chain with a field each, of one name of 65,535 bytes; 96 classes below them with 63,000 references each to it by way of each of them, with 1,000 copies of its
-    descriptor."""
+    """33 classes in a chain with a field each, of one name of 65,535 bytes; 96 classes below them with 63,000 references each to it by way
+    of each of them, with 1,000 copies of its descriptor."""
     name = "f" * 65535
     for n in range(classes):
         made = ClassFile(f"C{n}", f"C{n - 1}" if n else "java/lang/Object")
@@ -80,8 +81,8 @@ def long_by_copies(folder, scale, classes=33, copies=1000, referring=96):
 
 
 def long_by_interfaces(folder, scale, classes=33, copies=1000, referring=96):
-    """33 classes in a chain with a field each, of one name of 65,535 bytes, with one below each of them that has 850 superinterfaces; 96 classes below these with 63,000 references each to
-    the field by way of each of those, with 1,000 copies of its descriptor."""
+    """33 classes in a chain with a field each, of one name of 65,535 bytes, with one below each of them that has 850 superinterfaces; 96
+    classes below these with 63,000 references each to the field by way of each of those, with 1,000 copies of its descriptor."""
     name = "f" * 65535
     listed = [f"I{n}" for n in range(1024 - 2 * classes - referring - 10)]
     for one in listed:
@@ -105,8 +106,8 @@ def long_by_interfaces(folder, scale, classes=33, copies=1000, referring=96):
 
 
 def long_by_many(folder, scale, classes=8, kinds=3875, referring=80):
-    """8 classes in a chain with 3,875 fields each, of one name of 65,535 bytes; 80 classes below them with 57,000 references each to these by way of each of them: as many questions as
-    fields, and no text twice."""
+    """8 classes in a chain with 3,875 fields each, of one name of 65,535 bytes; 80 classes below them with 57,000 references each to these
+    by way of each of them: as many questions as fields, and no text twice."""
     name = "f" * 65535
     given = [("[" * (k % 40)) + "L" + chr(97 + k // 40 % 26) + chr(97 + k // 40 // 26 % 26) + ";" for k in range(kinds)]
     for n in range(classes):
@@ -168,7 +169,8 @@ def refused_start_in_turn(folder, scale):
 
 
 def start_at_random(folder, scale, methods=30, spread=1):
-    """A tableswitch of 8,000 targets from the frame that a method begins with to as many frames, each with an entry more than another, in no order; in 30 methods 4 MB."""
+    """A tableswitch of 8,000 targets from the frame that a method begins with to as many frames, each with an entry more than another, in
+    no order; in 30 methods 4 MB."""
     count = 8000
     end = 1 + len(switch(1, [0] * count))
 
@@ -183,7 +185,7 @@ def start_at_random(folder, scale, methods=30, spread=1):
 
 
 def start_at_random_far(folder, scale):
-    """The same with three entries more each, 41,500 to 65,535."""
+    """start_at_random with three entries more each, 41,500 to 65,535."""
     start_at_random(folder, scale, 25, 3)
 
 
@@ -233,7 +235,8 @@ def names_described(made, most):
 
 
 def names_many(folder, scale, above="java/lang/Object"):
-    """Descriptors of methods with 255 classes each, no two alike, of names of three letters: 830,000 names in one class of 4.2 MB, which has a method with code."""
+    """Descriptors of methods with 255 classes each, no two alike, of names of three letters: 830,000 names in one class of 4.2 MB, which
+    has a method with code."""
     made = ClassFile("Main", above)
     made.main()
     names_described(made, scaled(scale, 4190000))
@@ -247,7 +250,8 @@ def names_below_chain(folder, scale):
 
 
 def names_and_frames(folder, scale, above=None):
-    """A chain of 1,000 classes, below which one has 1.95 MB of descriptors as in names_many, and a method of 8,000 branches to 33 frames of 65,535 entries that share none, in turn."""
+    """A chain of 1,000 classes, below which one has 1.95 MB of descriptors as in names_many, and a method of 8,000 branches to 33 frames of
+    65,535 entries that share none, in turn."""
     if above is None:
         chain(folder, 1000)
     made = ClassFile("Main", above or "C999")
@@ -320,7 +324,8 @@ def texts_and_names(folder, scale):
 # ---- under the goal, and near it
 
 def below_finals(folder, scale, package, finals, classes):
-    """So many classes of 65,000 abstract methods each below a chain of 1,000 classes of a package, of which the one with a number has final methods of names."""
+    """So many classes of 65,000 abstract methods each below a chain of 1,000 classes of a package, of which the one with a number has final
+    methods of names."""
     count, given = 1000, descriptors(1024)
     for n in range(count):
         made = ClassFile(f"{package}C{n}", f"{package}C{n - 1}" if n else "java/lang/Object", 0x421)
@@ -336,7 +341,8 @@ def below_finals(folder, scale, package, finals, classes):
 
 
 def finals_of_empty(folder, scale):
-    """14 classes of 65,000 abstract methods each below a chain of 1,000 classes without methods, whose highest has 12,000 final methods for its package alone, in which the chain is."""
+    """14 classes of 65,000 abstract methods each below a chain of 1,000 classes without methods, whose highest has 12,000 final methods for
+    its package alone, in which the chain is."""
     below_finals(folder, scale, "q/", lambda n: [f"m{k // 1024}" for k in range(12000 if n == 0 else 0)], 14)
 
 
@@ -346,7 +352,8 @@ def finals_of_same(folder, scale):
 
 
 def finals_in_many(folder, scale):
-    """8 classes of 65,000 abstract methods each below a chain of 1,000 classes in their package, of which 130 have 3,800 final methods each, of other names."""
+    """8 classes of 65,000 abstract methods each below a chain of 1,000 classes in their package, of which 130 have 3,800 final methods
+    each, of other names."""
     below_finals(folder, scale, "", lambda n: [f"f{n}n{k // 1024}" for k in range(3800 if n < 130 else 0)], 8)
 
 
@@ -363,7 +370,8 @@ def walked_plain(folder, scale):
 
 
 def walked_found(folder, scale):
-    """24 classes below a chain of 1,000 with 65,000 references each to one protected method of its highest class, whose name has 300 bytes."""
+    """24 classes below a chain of 1,000 with 65,000 references each to one protected method of its highest class, whose name has 300
+    bytes."""
     for n in range(1000):
         made = ClassFile(f"C{n}", f"C{n - 1}" if n else "java/lang/Object", 0x421)
         if n == 0:
@@ -378,7 +386,8 @@ def walked_found(folder, scale):
 
 
 def params_tiny(folder, scale):
-    """Two classes of 65,000 methods of a branch and a return with 255 parameters, arrays, a frame of the map, and by turns 256 and 255 local variables."""
+    """Two classes of 65,000 methods of a branch and a return with 255 parameters, arrays, a frame of the map, and by turns 256 and 255
+    local variables."""
     kinds = ["(" + "".join(("[I", "[[I")[k >> bit & 1] for bit in range(8)) + "[I" * 247 + ")V" for k in range(250)]
     for c in range(2):
         made = ClassFile("Main" if c == 0 else f"M{c}")
@@ -389,7 +398,8 @@ def params_tiny(folder, scale):
 
 
 def classes_few(folder, scale, methods=45):
-    """A tableswitch of 15,500 targets to 60 frames of 31 local entries and 31 items of classes far up a chain of 950, from as many of classes far down; in 45 methods."""
+    """A tableswitch of 15,500 targets to 60 frames of 31 local entries and 31 items of classes far up a chain of 950, from as many of
+    classes far down; in 45 methods."""
     chain(folder, 950)
     made = ClassFile("Main", "C949")
     made.main()

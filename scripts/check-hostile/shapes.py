@@ -145,12 +145,12 @@ def long_references(folder, scale):
 
 
 def short_references(folder, scale):
-    """The same with short names."""
+    """long_references with short names."""
     references(folder, scale, [f"m{k}" for k in range(50)])
 
 
 def used_references(folder, scale):
-    """The same short ones, each used by an instruction."""
+    """short_references, each used by an instruction."""
     count = scaled(scale, 1000)
     chain(folder, count, lambda made, n: made.field(1, "f", "I"))
     made = ClassFile("Main", f"C{count - 1}")
@@ -167,7 +167,7 @@ def used_references(folder, scale):
 
 
 def interface_often(folder, scale):
-    """The name of a class that isn't there: HotSpot ends where an interface is listed twice."""
+    """65,535 times one interface whose name has 65,535 bytes and that is not there; HotSpot ends where one is listed twice."""
     made = ClassFile("Main")
     made.main()
     made.interfaces = ["i" * 65535] * scaled(scale, 65535)
@@ -196,12 +196,12 @@ def long_methods(folder, scale, final=False):
 
 
 def long_methods_final(folder, scale):
-    """The same below four classes with a final method."""
+    """long_methods below four classes with a final method."""
     long_methods(folder, scale, True)
 
 
 def long_fields(folder, scale):
-    """65,535 fields over 50 such names."""
+    """65,535 fields over 50 names of 65,535 bytes."""
     made = ClassFile("Main")
     made.main()
     left = scaled(scale, 65535)
@@ -267,7 +267,7 @@ def chain_of_methods(folder, count, prefix, last, kind):
 
 
 def finals_in_each(folder, scale):
-    """The same, where all of these methods are final."""
+    """1,024 classes of 256 final methods each in a chain."""
     chain_of_methods(folder, scaled(scale, 1024), "C", "Main", lambda n: (0x11, f"m{n}"))
 
 
@@ -547,7 +547,7 @@ def branches_apart(folder, scale):
 
 
 def branches_apart_often(folder, scale):
-    """The same in 15 methods: 4 MB."""
+    """branches_apart in 15 methods: 4 MB."""
     branching(folder, scale, ([INT] * 65535, []), ([TOP] + [INT] * 65534, []), 1, 65535, scaled(scale, 15))
 
 
@@ -557,7 +557,7 @@ def stack_branches(folder, scale):
 
 
 def stack_branches_often(folder, scale):
-    """The same in 15 methods: 4 MB."""
+    """stack_branches in 15 methods: 4 MB."""
     branching(folder, scale, ([], [INT] * 65533), ([], [INT] * 65533), 65535, 0, scaled(scale, 15))
 
 
@@ -618,8 +618,8 @@ def stack_constructs(folder, scale):
 
 
 def stack_copies(folder, scale):
-    """2,600 objects that are constructed one after the other, each with a copy at the bottom of a stack of 65,530 items and a branch behind it
-    to a frame with top there; in 21 methods 3.9 MB."""
+    """2,600 objects that are constructed one after the other, each with a copy at the bottom of a stack of 65,530 items and a branch behind
+    it to a frame with top there; in 21 methods 3.9 MB."""
     made = ClassFile("Main")
     made.main()
     made.method(1, "<init>", "()V", 1, 1, bytes([42, 183]) + u2(made.called("java/lang/Object", "<init>", "()V")) + bytes([177]))
@@ -709,7 +709,7 @@ def branches_in_turn(folder, scale):
 
 
 def branches_in_turn_often(folder, scale):
-    """The same to 400 frames, in 39 methods: 4 MB."""
+    """8,000 branches from 65,535 ints to 400 frames in turn, each with an entry less; in 39 methods 4 MB."""
     in_turn(folder, scale, 400, scaled(scale, 39))
 
 
@@ -818,8 +818,8 @@ def few_in_turn(folder, scale):
 
 
 def pairs_in_turn(folder, scale):
-    """Branches to 64 frames of 1,024 entries over 65,535 local variables, of two kinds in turn, each of which has an entry less than the one
-    before of its kind; in 1,000 methods 2.7 MB."""
+    """Branches to 64 frames of 1,024 entries over 65,535 local variables, of two kinds in turn, each of which has an entry less than the
+    one before of its kind; in 1,000 methods 2.7 MB."""
     def add(made, name):
         code = b"".join(branch(256 + k // 2 + 32 * (k % 2), 4 * k) for k in range(64)) + bytes([177]) * 64
         less = (u1(250) + u2(0)) * 31
@@ -875,7 +875,8 @@ def stacks_kept(folder, scale):
 
 
 def stacks_named(folder, scale):
-    """256 branches with 64 objects that are not initialized on the stack to as many frames, then 4,600 times `new, <init>`; in 50 methods 4 MB."""
+    """256 branches with 64 objects that are not initialized on the stack to as many frames, then 4,600 times `new, <init>`; in 50 methods 4
+    MB."""
     targets, count = scaled(scale, 256), scaled(scale, 4600)
     at = 192 + 4 * targets + 6 * count
 
@@ -912,7 +913,8 @@ def objects_in_turn(folder, scale):
 
 
 def copies_in_turn(folder, scale):
-    """30 times an object 1,024 times on the stack, with branches behind it to 256 frames of as many tops, then its `<init>`; in 12 methods 3.8 MB."""
+    """30 times an object 1,024 times on the stack, with branches behind it to 256 frames of as many tops, then its `<init>`; in 12 methods
+    3.8 MB."""
     half, targets, pairs = scaled(scale, 15), scaled(scale, 256), scaled(scale, 511)
     size = 8 + 2 * pairs + 4 * targets
     at = size * half + 1
@@ -938,8 +940,8 @@ def copies_in_turn(folder, scale):
 
 
 def stores_for_many(folder, scale):
-    """Branches to 64 frames of 1,024 entries over 65,535 local variables, of two kinds in turn, then 15,000 stores, then the branches once more;
-    in 115 methods 4 MB."""
+    """Branches to 64 frames of 1,024 entries over 65,535 local variables, of two kinds in turn, then 15,000 stores, then the branches once
+    more; in 115 methods 4 MB."""
     count = scaled(scale, 15000)
     at = 512 + 2 * count
 
@@ -1098,7 +1100,8 @@ def catches_long(folder, scale):
 
 
 def defaults_many(folder, scale):
-    """1,000 interfaces with the same default method and one more with it below all of them, above a class; 10,000 references to it below that."""
+    """1,000 interfaces with the same default method and one more with it below all of them, above a class; 10,000 references to it below
+    that."""
     count = scaled(scale, 1000)
     names = [f"I{k}" for k in range(count)]
 
@@ -1149,8 +1152,8 @@ def names_alike(folder, scale):
 
 
 def finals_apart(folder, scale):
-    """A chain of 1,000 classes with the same 432 abstract methods below one with a final method; a class that is not above them declares each of
-    these final."""
+    """A chain of 1,000 classes with the same 432 abstract methods below one with a final method; a class that is not above them declares
+    each of these final."""
     given = descriptors(24)
     apart = ClassFile("Apart", flags=0x421)
     for n in range(18):
@@ -1246,7 +1249,7 @@ def switch_behind_many(folder, scale):
 
 
 def objects_behind_many(folder, scale):
-    """The same to a frame of 1,000 entries of Object from as many arrays."""
+    """switch_behind_many to a frame of 1,000 entries of Object from as many arrays."""
     behind_many(folder, scale, 1000, lambda made: object_of(made, "[[I"), lambda made: object_of(made, "java/lang/Object"))
 
 
@@ -1301,7 +1304,8 @@ def class_constants(folder, scale):
 
 
 def finals_hidden(folder, scale):
-    """A chain of 1,000 classes with the same 432 abstract methods below one of another package that declares each of these final for its package alone."""
+    """A chain of 1,000 classes with the same 432 abstract methods below one of another package that declares each of these final for its
+    package alone."""
     named = [(f"m{n}", descriptor) for n in range(18) for descriptor in descriptors(24)]
     top = ClassFile("b/Top", flags=0x421)
     for name, descriptor in named:
@@ -1318,8 +1322,8 @@ def finals_hidden(folder, scale):
 
 
 def finals_of_packages(folder, scale):
-    """A chain of 500 classes, each in a package of its own, with the same 200 final methods for it alone, below 500 of the same packages where these are public and
-    abstract, below one of another package where they are final for it alone."""
+    """A chain of 500 classes, each in a package of its own, with the same 200 final methods for it alone, below 500 of the same packages
+    where these are public and abstract, below one of another package where they are final for it alone."""
     given = descriptors(200)
 
     def write(name, above, flags):
@@ -1342,8 +1346,8 @@ def finals_of_packages(folder, scale):
 
 
 def finals_of_others(folder, scale):
-    """4 classes of 65,000 abstract methods each below a chain of 1,000 classes with 200 methods each of other names, whose highest has 12,000 final methods for its
-    package alone, in which the chain is."""
+    """4 classes of 65,000 abstract methods each below a chain of 1,000 classes with 200 methods each of other names, whose highest has
+    12,000 final methods for its package alone, in which the chain is."""
     count = scaled(scale, 1000)
     given = descriptors(1024)
     for n in range(count):
@@ -1407,7 +1411,8 @@ def methods_in_each(folder, scale):
 
 
 def names_alike_by_many(folder, scale):
-    """10 classes below a chain of 1,000, with 62,000 references each to 62 fields of the highest, of one name of 65,535 bytes, by way of each class of the chain."""
+    """10 classes below a chain of 1,000, with 62,000 references each to 62 fields of the highest, of one name of 65,535 bytes, by way of
+    each class of the chain."""
     name, count = "f" * 65535, scaled(scale, 1000)
     kinds = ["[" * k + "I" for k in range(62)]
 
@@ -1426,7 +1431,8 @@ def names_alike_by_many(folder, scale):
 
 
 def package_above_chain(folder, scale):
-    """9 classes with 64,000 references each to a protected method of the highest class of a chain of 1,000, in one package with that, whose name has 65,500 bytes."""
+    """9 classes with 64,000 references each to a protected method of the highest class of a chain of 1,000, in one package with that, whose
+    name has 65,500 bytes."""
     package = "p" * 65500
     above = f"{package}/A"
     made = ClassFile(above, flags=0x421)

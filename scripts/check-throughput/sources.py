@@ -1,11 +1,8 @@
-#!/usr/bin/env python3
-"""Writes 1,000 Java source files to a folder: classes in ten packages, each with the statements that Java programs are made of
-(loops, switches, arrays, exceptions, calls to one another), all within the profile that this host reads."""
+"""Java source files: classes in ten packages, each with the statements that Java programs are made of (loops, switches, arrays,
+exceptions, calls to one another), all within the profile that this host reads. It has nothing to run; ./run calls `write`."""
+import os
 import random
-import sys
-from pathlib import Path
 
-CLASSES = 1000
 PACKAGES = 10
 
 
@@ -109,9 +106,8 @@ def throw_method(rng, name):
 """
 
 
-def call_method(rng, name, number):
-    other = rng.randrange(CLASSES)
-    package, of = place(other)
+def call_method(rng, name, count):
+    package, of = place(rng.randrange(count))
     return f"""
     public {package}.{of} {name}(int depth, int[] values) {{
         {package}.{of} made = new {package}.{of}(depth, this);
@@ -125,7 +121,8 @@ def call_method(rng, name, number):
 """
 
 
-def source(number):
+def source(number, count):
+    """The text of the class with a number, of so many."""
     rng = random.Random(number)
     package, name = place(number)
     above = number // 3 if number else None
@@ -134,7 +131,7 @@ def source(number):
         extends = " extends {}.{}".format(*place(above))
     makers = [loop_method, switch_method, array_method, text_method, throw_method]
     methods = "".join(rng.choice(makers)(rng, f"m{number}_{k}") for k in range(rng.randrange(4, 16)))
-    methods += "".join(call_method(rng, f"call{number}_{k}", number) for k in range(rng.randrange(1, 4)))
+    methods += "".join(call_method(rng, f"call{number}_{k}", count) for k in range(rng.randrange(1, 4)))
     fields = ""
     if above is None:
         fields = """
@@ -171,8 +168,13 @@ public class {name}{extends} implements java.io.Serializable {{
 """
 
 
-folder = Path(sys.argv[1])
-for number in range(CLASSES):
-    package, name = place(number)
-    (folder / package).mkdir(parents=True, exist_ok=True)
-    (folder / package / f"{name}.java").write_text(source(number))
+def write(folder, count):
+    """Writes the sources of so many classes below a folder, and answers their paths."""
+    paths = []
+    for number in range(count):
+        package, name = place(number)
+        os.makedirs(os.path.join(folder, package), exist_ok=True)
+        paths.append(os.path.join(folder, package, name + ".java"))
+        with open(paths[-1], "w", encoding="utf-8") as file:
+            file.write(source(number, count))
+    return paths
