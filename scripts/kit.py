@@ -5,7 +5,7 @@ import os
 import shutil
 import sys
 
-ROOT = os.path.dirname(os.path.dirname(os.path.realpath(__file__)))
+from tree import ROOT
 
 
 def load_rt():

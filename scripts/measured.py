@@ -16,7 +16,8 @@ import tempfile
 import time
 import typing
 
-ROOT = os.path.dirname(os.path.dirname(os.path.realpath(__file__)))
+from tree import ROOT
+
 PROGRAM = os.path.join(ROOT, "crates", "jvhost", "out", "jvhost")
 UNPROVED = os.path.join(ROOT, "crates", "jvhost", "out", "unproved")
 DATA = os.path.join(ROOT, "docs", "data")
