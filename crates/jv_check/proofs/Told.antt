@@ -1,9 +1,8 @@
 -- What is told of the verdicts on files.
 use Rattle.std.proofs.Common.{◌≡◌, ℕ, List, sym, subst}
 use Rattle.jv_meaning_typing.specs.declared.verdict.Verdict.{Verdict}
-use Rattle.jv_run.specs.of_method.Files.{AreVerdicts, Verified}
+use Rattle.jv_run.specs.of_method.Files.{AreFilesOf, AreVerdicts, Verified}
 use Rattle.jv_check.specs.Check.{AreVerdictsOf}
-use Rattle.jv_check.specs.Inside.Verified.{AreFilesOf}
 
 -- these are the verdicts
 pub told : (files : List (List ℕ)) (verified : Verified) (verdicts : List Verdict) → AreFilesOf files verified

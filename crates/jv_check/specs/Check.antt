@@ -2,7 +2,7 @@
 use Rattle.std.specs.Prelude.{◌≡◌, ℕ, ⊤, List, None, Some, string_bytes}
 use Rattle.jv_meaning_world.specs.FileContent.{FileContent, AreContents}
 use Rattle.jv_meaning_typing.specs.declared.verdict.Verdict.{Verdict}
-use Rattle.jv_run.specs.of_host.Limits.{first_file_refusal}
+use Rattle.jv_run.specs.of_host.FileLimits.{first_file_refusal}
 use Rattle.jv_run.specs.of_method.Files.{AreVerdicts}
 use Rattle.jv_run.specs.declared.failure.Failure.{Failure}
 use Rattle.jv_run.specs.declared.failure.Failure.TheVariants.{Refused, HostMemory, Memory}

@@ -1,16 +1,15 @@
 //! The verdicts on files, and what is said of them.
 ghost use Rattle.std.specs.Prelude.{◌≡◌, IfErr, IfOk, length, map, string_bytes};
 ghost use Rattle.std.specs.List.{list_all};
-ghost use Rattle.jv_run.specs.Bytes.{bytes_of};
+ghost use Rattle.jv_run.specs.of_host.Bytes.{bytes_of};
 ghost use Rattle.jv_check.specs.Check.{AreVerdictsOf, IsChecked, IsCheckFailure, IsHostFailure};
-ghost use Rattle.jv_check.specs.Inside.Verified.{AreFilesOf};
 ghost use Rattle.jv_check.specs.Text.{check_status, check_text, is_accepted};
 
 use crate::report::Lines;
 use jv_meaning_typing::Verdict;
 use jv_run::of_host::first_file_refusal;
-use jv_run::of_loader::{Classes, Memory, SystemFiles, system_files};
-use jv_run::of_method::{Verified, verify};
+use jv_run::of_loader::system_files;
+use jv_run::of_method::{Verified, verify_files};
 use jv_run::{Failure, Outcome};
 use std::alloc::{AllocError, Global};
 use std::hash::RandomState;
@@ -47,19 +46,6 @@ fn listed(alloc: Global, verified: &Verified<'_>) -> Result<Vec<Verdict>, AllocE
     Ok(verdicts)
 }
 
-/// The classes of the files of one guest, with the verdicts on them.
-fn verified<'a>(
-    alloc: Global,
-    state: RandomState,
-    system: &'a SystemFiles,
-    files: &'a [&'a [u8]],
-) -> Result<Verified<'a>, Memory>
-    ensures { IfOk result (AreFilesOf (map bytes_of files.now)) }
-{
-    let classes = Classes::load(alloc, state, system, files)?;
-    Ok(verify(alloc, state, classes)?)
-}
-
 /// The verdicts on the files of one guest.
 fn verdicts_of(alloc: Global, state: RandomState, files: &[&[u8]]) -> Result<Vec<Verdict>, Failure>
     ensures ok { IfOk result (λ verdicts. AreVerdictsOf (map bytes_of files.now) verdicts.items) }
@@ -68,7 +54,7 @@ fn verdicts_of(alloc: Global, state: RandomState, files: &[&[u8]]) -> Result<Vec
     let Ok(system) = system_files(alloc) else {
         return Err(Failure::Memory);
     };
-    let Ok(verified) = verified(alloc, state, &system, files) else {
+    let Ok(verified) = verify_files(alloc, state, &system, files) else {
         return Err(Failure::HostMemory);
     };
     Ok(listed(alloc, &verified)?)

@@ -1,6 +1,6 @@
 //! Files that are named, read, and checked.
 ghost use Rattle.std.specs.Prelude.{◌≡◌, IfErr, IfOk, length, map};
-ghost use Rattle.jv_run.specs.Bytes.{bytes_of};
+ghost use Rattle.jv_run.specs.of_host.Bytes.{bytes_of};
 ghost use Rattle.jv_check.specs.Check.{IsChecked};
 ghost use Rattle.jv_check.specs.Named.{IsCheckedAs, IsNamedFailure, IsOneUnread, IsReadFailure};
 

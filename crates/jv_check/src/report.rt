@@ -1,6 +1,6 @@
 //! Verdicts as they are printed.
 ghost use Rattle.std.specs.Prelude.{Some, map};
-ghost use Rattle.jv_run.specs.Bytes.{bytes_of};
+ghost use Rattle.jv_run.specs.of_host.Bytes.{bytes_of};
 ghost use Rattle.jv_check.specs.Text.{check_line, check_text};
 
 use jv_meaning_typing::Verdict;

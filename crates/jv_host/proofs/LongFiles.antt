@@ -3,8 +3,8 @@ use Rattle.std.proofs.Common.{◌≡◌, ℕ, Bool, List, [], ◌∷◌, refl, a
 use Rattle.std.specs.Prelude.{map, ◌||◌}
 use Rattle.std.specs.Borrow.{Bor}
 use Rattle.std.specs.List.{list_any}
-use Rattle.jv_host.specs.Files.{bytes_of}
-use Rattle.jv_host.specs.Limits.{is_long_file}
+use Rattle.jv_host.specs.Bytes.{bytes_of}
+use Rattle.jv_host.specs.FileLimits.{is_long_file}
 
 pub any_long_file : (files : List (Bor (List ℕ))) → list_any is_long_file (map bytes_of files) ≡ list_any (λ file. is_long_file file.now) files
 any_long_file [] = refl

@@ -1,11 +1,8 @@
 -- What a guest brings, without where it lies in memory.
-use Rattle.std.specs.Prelude.{ℕ, List, map}
-use Rattle.std.specs.Borrow.{Bor}
+use Rattle.std.specs.Prelude.{map}
 use Rattle.jv_meaning_machine.specs.Alone.{GuestFiles as FilesOfGuest}
 use Rattle.jv_host.specs.declared.files.GuestFiles.{GuestFiles}
-
-abbrev pub bytes_of : Bor (List ℕ) → List ℕ
-bytes_of bytes = bytes.now
+use Rattle.jv_host.specs.Bytes.{bytes_of}
 
 -- its class files, the name of its main class and its input
 abbrev pub guest_of : GuestFiles → FilesOfGuest

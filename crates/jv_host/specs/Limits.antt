@@ -1,33 +1,21 @@
 -- The limits of the host, and the order in which it refuses a guest, or bytes for one (own).
-use Rattle.std.specs.Prelude.{ℕ, ◌+◌, Bool, ◌&&◌, not, nat_le, nat_lt, ◌==◌, if◌then◌else◌, List, length, Option, Some, None, ◌≡◌, ◌≢◌, slice_get}
-use Rattle.std.specs.List.{list_any}
+use Rattle.std.specs.Prelude.{ℕ, ◌+◌, Bool, ◌&&◌, not, nat_le, nat_lt, if◌then◌else◌, List, length, Option, Some, None, ◌≡◌, ◌≢◌, slice_get}
 use Rattle.std.specs.Option.{option_or}
 use Rattle.jv_format.specs.Numbers.{is_from_to}
 use Rattle.jv_meaning_machine.specs.Start.{Budget}
 use Rattle.jv_meaning_machine.specs.Alone.{GuestFiles}
 use Rattle.jv_host.specs.declared.fault.AdmitFault.{AdmitFault}
-use Rattle.jv_host.specs.declared.fault.AdmitFault.TheVariants.{NoFiles, TooManyFiles, FileTooLong, InputTooLong, BudgetOutOfRange, TooManyGuests, HostMemory}
+use Rattle.jv_host.specs.declared.fault.AdmitFault.TheVariants.{InputTooLong, BudgetOutOfRange, TooManyGuests, HostMemory}
 use Rattle.jv_host.specs.declared.fault.FeedFault.{FeedFault}
 use Rattle.jv_host.specs.declared.fault.FeedFault.TheVariants as feeds
+use Rattle.jv_host.specs.FileLimits.{first_file_refusal}
 use Rattle.jv_host.specs.Host.{Admission, input_bytes}
 
 -- ---- admissions
 
--- a file longer than 4,194,304 bytes
-abbrev pub is_long_file : List ℕ → Bool
-is_long_file file = nat_lt 4194304 (length file)
-
 -- 64 to 16,777,216 cells, 64 to 1,048,576 words, and at most 1,048,576 bytes of output
 abbrev pub is_in_range : Budget → Bool
 is_in_range b = is_from_to 64 16777216 b.cells && is_from_to 64 1048576 b.words && nat_le b.output 1048576
-
--- the first reason to refuse files: there are 1 to 1,024, none of them longer than a file may be
-abbrev pub first_file_refusal : List (List ℕ) → Option AdmitFault
-first_file_refusal files =
-    if length files == 0 then Some NoFiles
-    else if nat_lt 1024 (length files) then Some TooManyFiles
-    else if list_any is_long_file files then Some FileTooLong
-    else None
 
 -- the first other reason to refuse a guest, where the host holds so many, of which 64 is the most
 abbrev pub first_other_refusal : GuestFiles → Budget → (guests : ℕ) → Option AdmitFault

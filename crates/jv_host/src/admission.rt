@@ -1,12 +1,11 @@
 //! A guest that was admitted.
 
-ghost use Rattle.std.specs.Prelude.{◌≡◌, ◌≢◌, ◌+◌, ◌-◌, ◌<◌, ◌≤◌, [], Some, None, Err, true, false, length, map, IfOk, IfErr, IsOk, OnOk, OnErr, IsTrue};
+ghost use Rattle.std.specs.Prelude.{◌≡◌, ◌≢◌, ◌+◌, ◌-◌, ◌<◌, ◌≤◌, [], Some, None, Err, true, false, length, IfOk, IfErr, IsOk, OnOk, OnErr, IsTrue};
 ghost use Rattle.jv_heap.specs.Content.{words_held};
 ghost use Rattle.jv_interp_memory.specs.ObjectsInBlocks.{Blocks};
 ghost use Rattle.jv_interp.specs.Started.{budget_of};
-ghost use Rattle.jv_interp.specs.Beginning.{AreFilesOf};
 ghost use Rattle.jv_host.specs.declared.fault.FeedFault.TheVariants.{HostMemory};
-ghost use Rattle.jv_host.specs.Files.{bytes_of, guest_of};
+ghost use Rattle.jv_host.specs.Files.{guest_of};
 ghost use Rattle.jv_host.specs.Host.{stepped, fed_now};
 ghost use Rattle.jv_host.specs.Limits.{feed_refusal_of};
 ghost use Rattle.jv_host.specs.Calls.{admission, HadTurn, HadCutTurn};
@@ -16,8 +15,8 @@ use crate::fault::FeedFault;
 use crate::files::GuestFiles;
 use crate::limits::INPUT_BYTES;
 use jv_heap::{MOST_WORDS, Memory, Store};
-use jv_interp::of_loader::{Classes, SystemFiles};
-use jv_interp::of_method::{Verified, verify};
+use jv_interp::of_loader::SystemFiles;
+use jv_interp::of_method::verify_files;
 use jv_interp::{Budget, Guest};
 use jv_meaning_machine::{ended_guest_stays, one_judged};
 use std::alloc::{AllocError, Global};
@@ -57,21 +56,6 @@ impl Drop for Admitted<'_> {
 pub(crate) struct Taken {
     pub(crate) steps: u64,
     pub(crate) refused: bool,
-}
-
-/// The classes of a guest's files, with the verdicts on them.
-fn judge<'a>(
-    alloc: Global,
-    state: RandomState,
-    system: &'a SystemFiles,
-    files: &'a [&'a [u8]],
-) -> Result<Verified<'a>, Memory>
-    ensures { IfOk result (AreFilesOf (map bytes_of files.now)) }
-{
-    let Ok(classes) = Classes::load(alloc, state, system, files) else {
-        return Err(Memory);
-    };
-    Ok(verify(alloc, state, classes)?)
 }
 
 /// A copy of bytes.
@@ -114,7 +98,9 @@ pub(crate) fn begin<'a, S: Store>(
     ensures refused { OnErr result (S.content store.new ≡ S.content store.old) }
     ensures refused_room { OnErr result (S.room_left store.new ≡ S.room_left store.old) }
 {
-    let judged = judge(alloc, state, system, files.files)?;
+    let Ok(judged) = verify_files(alloc, state, system, files.files) else {
+        return Err(Memory);
+    };
     if !has_place(store, budget.cells) {
         return Err(Memory);
     }

@@ -6,16 +6,19 @@
 
 mod admission;
 mod fault;
+mod file_limits;
 mod files;
 mod host;
 mod laws;
 mod limits;
 mod rounds;
+mod watch;
 
 pub use fault::{AdmitFault, FeedFault, NoGuest, TurnFault};
+pub use file_limits::first_file_refusal;
 pub use files::GuestFiles;
 pub use host::{GuestId, Host};
 pub use jv_interp as of_interp;
 pub use jv_interp::{Budget, GuestEnd, Observation, of_loader, of_method};
 pub use laws::two_worlds;
-pub use limits::first_file_refusal;
+pub use watch::{Progress, Unwatched, Watch};

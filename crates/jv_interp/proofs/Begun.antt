@@ -9,7 +9,7 @@ use Rattle.jv_meaning_machine.specs.Start.{start}
 use Rattle.jv_meaning_machine.specs.Alone.{GuestFiles, Judged, IsJudged, fed, alone}
 use Rattle.jv_meaning_machine.specs.Laws.Shown.{JudgedByVerdicts}
 use Rattle.jv_sound.specs.Law.{NeverFaults}
-use Rattle.jv_method.specs.Files.{Verified}
+use Rattle.jv_method.specs.Files.{Verified, AreFilesOf}
 use Rattle.jv_interp_memory.specs.ObjectsInBlocks.{Blocks}
 use Rattle.jv_interp_frames.specs.Moves.{AreVerified}
 use Rattle.jv_interp.specs.declared.budget.Budget.{Budget}
@@ -18,7 +18,7 @@ use Rattle.jv_interp.specs.Started.{budget_of, StartsIn, CanStart, StandsFirst}
 use Rattle.jv_interp.specs.VerifiedClasses.{AreVerifiedClasses}
 use Rattle.jv_interp.specs.declared.guest.Guest.{Guest}
 use Rattle.jv_interp.specs.Standing.{AreTables}
-use Rattle.jv_interp.specs.Beginning.{AreFilesOf, guest_with, Begins}
+use Rattle.jv_interp.specs.Beginning.{guest_with, Begins}
 
 not_ok : (fault : Fault) → IsOk {T = State} (Err fault) → ⊥
 not_ok fault h = cc

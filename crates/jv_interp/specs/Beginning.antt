@@ -1,20 +1,13 @@
 -- A guest at its start (JVMS 5.2; own).
 use Rattle.std.specs.Prelude.{ℕ, List, []}
-use Rattle.jv_meaning_world.specs.FileContent.{FileContent, AreContents}
 use Rattle.jv_meaning_machine.specs.Alone.{GuestFiles}
-use Rattle.jv_method.specs.Files.{Verified, AreVerified}
+use Rattle.jv_method.specs.Files.{Verified, AreFilesOf}
 use Rattle.jv_interp_memory.specs.ObjectsInBlocks.{Blocks}
 use Rattle.jv_interp_memory.specs.Growing.{Grows}
 use Rattle.jv_interp.specs.declared.budget.Budget.{Budget}
 use Rattle.jv_interp.specs.Started.{budget_of}
 use Rattle.jv_interp.specs.declared.guest.Guest.{Guest}
 use Rattle.jv_interp.specs.Standing.{GuestStands}
-
--- these files hold the classes, and the verdicts are on them
-pub record AreFilesOf (files : List (List ℕ)) (judged : Verified) : Type 0 where
-  pub contents : List FileContent
-  pub read : AreContents files contents
-  pub found : AreVerified contents judged
 
 abbrev pub guest_with : List (List ℕ) → List ℕ → List ℕ → GuestFiles
 guest_with files main input = record { files = files; main = main; input = input }

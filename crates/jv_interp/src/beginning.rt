@@ -2,7 +2,8 @@
 
 ghost use Rattle.std.specs.Prelude.{◌≡◌, ◌+◌, ◌<◌, ◌≤◌, ℕ, List, IfOk, OnErr, length};
 ghost use Rattle.jv_heap.specs.Content.{words_held};
-ghost use Rattle.jv_interp.specs.Beginning.{AreFilesOf, HasBegun};
+ghost use Rattle.jv_method.specs.Files.{AreFilesOf};
+ghost use Rattle.jv_interp.specs.Beginning.{HasBegun};
 
 use crate::budget::Budget;
 use crate::first::Started;

@@ -16,7 +16,7 @@ mod nested;
 mod objects;
 mod stores;
 mod storing;
-mod texts;
+mod text_blocks;
 mod throwing;
 mod types;
 mod units;

@@ -3,7 +3,7 @@
 ghost use Rattle.std.specs.Prelude.{◌≡◌, ◌+◌, ◌<◌, ◌≤◌, length, IfOk, IsOk, IsTrue, OnOk, OnErr};
 ghost use Rattle.jv_interp_creation.specs.Literals.{CanFindLiteral, FindsLiteral};
 
-use crate::texts::pay_text;
+use crate::text_blocks::pay_text;
 use jv_heap::{Memory, Store};
 use jv_interp_memory::{Held, keep_literal};
 

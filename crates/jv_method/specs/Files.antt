@@ -2,7 +2,7 @@
 use Rattle.std.specs.Prelude.{◌≡◌, ℕ, false, List, length, Some, slice_get, IsTrue}
 use Rattle.std.specs.List.{Contains}
 use Rattle.jv_class.specs.Class.{Class}
-use Rattle.jv_meaning_world.specs.FileContent.{FileContent}
+use Rattle.jv_meaning_world.specs.FileContent.{FileContent, AreContents}
 use Rattle.jv_meaning_world.specs.declared.content.Content.TheVariants.{Holds}
 use Rattle.jv_meaning_world.specs.System.Classes.{system_classes}
 use Rattle.jv_meaning_world.specs.World.{Loaded, World, loaded, world_of}
@@ -40,6 +40,12 @@ pub record AreVerdicts (contents : List FileContent) (verdicts : List Verdict) :
 pub record AreVerified (contents : List FileContent) (verified : Verified) : Type 0 where
   pub world : verified.world ≡ world_of system_classes contents
   pub verdicts : AreVerdicts contents verified.verdicts
+
+-- these files hold the classes, and the verdicts are on them
+pub record AreFilesOf (files : List (List ℕ)) (verified : Verified) : Type 0 where
+  pub contents : List FileContent
+  pub read : AreContents files contents
+  pub found : AreVerified contents verified
 
 abbrev pub IsOfFiles : Verified → Type 0
 IsOfFiles verified = (contents : List FileContent) × AreVerified contents verified

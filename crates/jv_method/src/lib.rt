@@ -14,4 +14,4 @@ mod verified;
 
 pub use class::check_class;
 pub use jv_meaning_typing::{Verdict, VerifyFault, VerifyRule};
-pub use verified::{Verified, verify};
+pub use verified::{Verified, verify, verify_files};

@@ -1,13 +1,13 @@
 //! A guest's classes, with the verdict on each of its files.
 
-ghost use Rattle.std.specs.Prelude.{◌≡◌, ◌<◌, ℕ, List, Some, IfOk, length, slice_get, true};
+ghost use Rattle.std.specs.Prelude.{◌≡◌, ◌<◌, ℕ, List, Some, IfOk, length, map, slice_get, true};
 ghost use Rattle.jv_method_pass.specs.of_loader.Loading.{AreLoaded};
 ghost use Rattle.jv_meaning_world.specs.FileContent.{FileContent};
-ghost use Rattle.jv_method.specs.Files.{AreVerified, AcceptedAreTyped, IsOfFiles, IsSystemAccepted, IsSystemTyped};
+ghost use Rattle.jv_method.specs.Files.{AreFilesOf, AreVerified, AcceptedAreTyped, IsOfFiles, IsSystemAccepted, IsSystemTyped};
 
 use crate::files::verdicts_of;
 use jv_meaning_typing::Verdict;
-use jv_method_pass::of_loader::Classes;
+use jv_method_pass::of_loader::{Classes, Memory, SystemFiles};
 use jv_sound_system::{system_is_accepted, system_is_typed};
 use std::alloc::{AllocError, Global};
 use std::hash::RandomState;
@@ -53,6 +53,23 @@ pub fn verify<'a>(
 {
     let verdicts = verdicts_of(alloc, state, &classes)?;
     Ok(Verified { classes, verdicts })
+}
+
+/// Reads the files of a guest, and finds the verdict on each beside the system's classes (JVMS 4.10, 5.3). Names are hashed with the state.
+///
+/// # Errors
+///
+/// Where the host had no memory for the classes, or for what is known of them.
+pub fn verify_files<'a>(
+    alloc: Global,
+    state: RandomState,
+    system: &'a SystemFiles,
+    files: &'a [&'a [u8]],
+) -> Result<Verified<'a>, Memory>
+    ensures { IfOk result (AreFilesOf (map (λ file. file.now) files.now)) }
+{
+    let classes = Classes::load(alloc, state, system, files)?;
+    Ok(verify(alloc, state, classes)?)
 }
 
 impl<'a> Verified<'a> {

@@ -12,7 +12,7 @@ use Rattle.jv_host.specs.Calls.{admission}
 use Rattle.jv_host.specs.Limits.{first_refusal}
 use Rattle.jv_run.specs.declared.brought.Brought.{Brought}
 use Rattle.jv_run.specs.Failure.{failure_of}
-use Rattle.jv_run.specs.Folder.{NamedGuest}
+use Rattle.jv_run.specs.Guests.{NamedGuest}
 use Rattle.jv_run.specs.Outcome.{AreAllowed, IsRefusedAmong}
 use Rattle.jv_run.specs.Inside.Brought.{named_guest_of}
 use Rattle.jv_run.specs.Inside.Play.{IsAdmitFailure, at_start}

@@ -6,7 +6,7 @@ use Rattle.std.proofs.lemmas.Nat.{mul-le}
 use Rattle.jv_meaning_machine.specs.Laws.Shown.{ShowsOneThing}
 use Rattle.jv_meaning_machine.specs.Laws.Feeds.{FeedShowsLater}
 use Rattle.jv_host.specs.Host.{Admission, after_feed, fed_now, stepped}
-use Rattle.jv_host.specs.Calls.{IsRound, IsRun, NoneRuns, OverAt, Rounds, TookTurn}
+use Rattle.jv_host.specs.Calls.{IsRound, IsRun, NoneRuns, Rounds, TookTurn}
 use Rattle.jv_host.proofs.Places.{at_changed, beside_changed, count_of_changed, same_or_other}
 use Rattle.jv_run.specs.Inside.Turns.{AreAtStart, IsSamePlayed, NoneFed, OnlyFed, PlayedSince}
 use Rattle.jv_run.proofs.Places.{in_place, some_same, within}
@@ -169,17 +169,3 @@ module _ (later : FeedShowsLater) where
               | inr other ↦ (was.0, at_others id mid new bytes after place other ∙ was.1, was.2)
             ];
       }
-
--- ---- whether a guest runs
-
--- none runs where each of so many has ended, and there are no others
-pub none_runs : (host : List Admission) (count : ℕ) → length host ≡ count → ((id : ℕ) → id < count → OverAt host id) → NoneRuns host
-none_runs host count same before id a found = let there = within host id a found in before id (omega (arith, same, there)) a found
-
-pub over_more : (host : List Admission) (k : ℕ) → ((id : ℕ) → id < k → OverAt host id) → OverAt host k → (id : ℕ) → id < suc k → OverAt host id
-over_more host k before last id lt =
-    let least : id ≤ k = omega (arith, lt) in
-    elim (eq-or-lt_of_le least) [
-      | inl same ↦ subst (OverAt host) (sym same) last
-      | inr less ↦ before id less
-    ]

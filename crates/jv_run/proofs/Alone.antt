@@ -14,7 +14,7 @@ use Rattle.jv_host.specs.Host.{Admission, fed_bytes}
 use Rattle.jv_host.specs.Calls.{IsShown, NoneRuns}
 use Rattle.jv_run.specs.declared.settings.RunSettings.{RunSettings}
 use Rattle.jv_run.specs.Feeding.{feeds_to}
-use Rattle.jv_run.specs.Folder.{NamedGuest}
+use Rattle.jv_run.specs.Guests.{NamedGuest}
 use Rattle.jv_run.specs.declared.brought.Brought.{Brought}
 use Rattle.jv_run.specs.declared.outcome.Outcome.{Outcome}
 use Rattle.jv_run.specs.Outcome.{AreAllowed, IsRunAlone, IsRunOutcome, IsToldOf, WereNeeded}

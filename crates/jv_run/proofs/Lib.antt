@@ -11,6 +11,5 @@ pub mod Places
 pub mod Played
 pub mod Read
 pub mod Reports
-pub mod RoundByRound
 pub mod Turns
 pub mod WhatWasRead

@@ -2,7 +2,7 @@
 use Rattle.std.proofs.Common.{◌≡◌, ℕ, zero, suc, ◌≤◌, ◌<◌, length, take, List, [], ◌∷◌, ◌++◌, get_or, min, Bor, refl, sym, ap, ◌∙◌, append_assoc, append-nil, arith, ◌⊎◌, inl, inr}
 use Rattle.std.specs.Prelude.{map}
 use Rattle.std.proofs.lemmas.Bool.{cases_lt}
-use Rattle.jv_run.specs.Bytes.{bytes_of}
+use Rattle.jv_host.specs.Bytes.{bytes_of}
 use Rattle.jv_meaning_typing.specs.declared.verdict.Verdict.{Verdict}
 use Rattle.jv_run.specs.Report.{verdict_line, verdict_lines}
 

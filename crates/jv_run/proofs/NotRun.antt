@@ -5,7 +5,7 @@ use Rattle.jv_run.specs.declared.failure.Failure.TheVariants.{Unreadable, Standa
 use Rattle.jv_run.specs.declared.folder.Folder.{Folder}
 use Rattle.jv_run.specs.declared.settings.RunSettings.{RunSettings}
 use Rattle.jv_run.specs.Failure.{IsOneNotRead}
-use Rattle.jv_run.specs.Folder.{named_guest}
+use Rattle.jv_run.specs.Guests.{named_guest}
 use Rattle.jv_run.specs.Named.{AreFoldersOf, AreTaken, IsRunFailure}
 use Rattle.jv_run.specs.Outcome.{IsGuestsFailure}
 

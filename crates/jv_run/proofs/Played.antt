@@ -14,7 +14,7 @@ use Rattle.jv_run.specs.declared.failure.Failure.{Failure}
 use Rattle.jv_run.specs.declared.failure.Failure.TheVariants.{Unreadable, StandardInput, Refused, FeedTooLong, TooManyFolders, NoGuest, HostMemory, Memory}
 use Rattle.jv_run.specs.declared.settings.RunSettings.{RunSettings}
 use Rattle.jv_run.specs.Feeding.{AreFeedsFrom, IsTooLong, feeds_to, is_no_guest}
-use Rattle.jv_run.specs.Folder.{NamedGuest}
+use Rattle.jv_run.specs.Guests.{NamedGuest}
 use Rattle.jv_run.specs.Outcome.{AreAllowed, IsFeedingFailure, IsGuestsFailure}
 use Rattle.jv_run.specs.Inside.Play.{HasRun, IsAdmitFailure, at_start}
 use Rattle.jv_run.specs.Inside.Turns.{AreAtStart, IsFedRun, IsFeedFailure, NoneFed, PlayedSince, ReadSoFar, SomeWent}

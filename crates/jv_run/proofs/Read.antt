@@ -2,7 +2,7 @@
 use Rattle.std.proofs.Common.{◌≡◌, ℕ, ◌+◌, List, [], ◌∷◌, ◌++◌, length, take, Bor, Some, sym, ap, subst, ◌∙◌, inl, inr, arith}
 use Rattle.std.specs.Prelude.{map, slice_get}
 use Rattle.jv_run.specs.declared.folder.Folder.{Folder}
-use Rattle.jv_run.specs.Bytes.{bytes_of}
+use Rattle.jv_host.specs.Bytes.{bytes_of}
 use Rattle.jv_run.specs.Folder.{IsFolderRead}
 use Rattle.jv_run.specs.Named.{AreFoldersOf}
 use Rattle.jv_run.proofs.Places.{length-more, map-take-more, pushed}

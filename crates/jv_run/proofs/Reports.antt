@@ -5,7 +5,7 @@ use Rattle.std.specs.List.{list_any}
 use Rattle.jv_host.specs.of_interp.Showing.{seen_end}
 use Rattle.jv_run.specs.declared.report.Report.{Report}
 use Rattle.jv_host.specs.Host.{Admission}
-use Rattle.jv_run.specs.Folder.{NamedGuest}
+use Rattle.jv_run.specs.Guests.{NamedGuest}
 use Rattle.jv_run.specs.Report.{Told, is_running}
 use Rattle.jv_run.specs.Inside.Play.{AreReportsOn, IsReportOn, told_of}
 use Rattle.jv_run.proofs.Places.{length-more, map-more, pushed}

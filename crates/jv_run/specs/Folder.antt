@@ -2,10 +2,8 @@
 use Rattle.std.specs.Prelude.{◌≡◌, ℕ, ◌≤◌, false, List, [], All, map, filter, vec_len, codes, IsPermutation, IsSorted}
 use Rattle.std.specs.Cmp.Lexicographic.{slice_cmp}
 use Rattle.std.specs.Ordering.{nat_cmp}
-use Rattle.jv_meaning_machine.specs.Alone.{GuestFiles}
 use Rattle.jv_run.specs.declared.folder.NamedFile.{NamedFile}
 use Rattle.jv_run.specs.declared.folder.Folder.{Folder}
-use Rattle.jv_run.specs.MainName.{main_name_of}
 use Rattle.jv_run.specs.Names.{is_listed_name, is_class_file, names_listed}
 
 abbrev pub file_name : NamedFile → List ℕ
@@ -13,29 +11,6 @@ file_name file = file.name.items
 
 abbrev pub file_bytes : NamedFile → List ℕ
 file_bytes file = file.bytes.items
-
--- what is run: the bytes of its class files, the name in its file `main`, and its input
-abbrev pub guest_in : Folder → GuestFiles
-guest_in folder = record {
-  files = map file_bytes folder.class_files.items;
-  main = main_name_of folder.main.items;
-  input = folder.input.items;
-}
-
--- ---- a guest with its names
-
--- the guest of a folder, with the folder's word and the names of its class files
-pub record NamedGuest : Type 0 where
-  pub word : List ℕ
-  pub names : List (List ℕ)
-  pub guest : GuestFiles
-
-abbrev pub named_guest : Folder → NamedGuest
-named_guest folder = record {
-  word = folder.word.now;
-  names = map file_name folder.class_files.items;
-  guest = guest_in folder;
-}
 
 -- ---- the folder of a listing
 

@@ -7,7 +7,8 @@ use Rattle.jv_run.specs.declared.outcome.Outcome.{Outcome}
 use Rattle.jv_run.specs.declared.settings.RunSettings.{RunSettings}
 use Rattle.jv_run.specs.Failure.{IsOneNotRead}
 use Rattle.jv_run.specs.Feeding.{is_no_guest}
-use Rattle.jv_run.specs.Folder.{IsFolderRead, named_guest}
+use Rattle.jv_run.specs.Folder.{IsFolderRead}
+use Rattle.jv_run.specs.Guests.{named_guest}
 use Rattle.jv_run.specs.Outcome.{IsGuestsFailure, IsRunOutcome}
 
 -- there is one folder for each word, which was read by it

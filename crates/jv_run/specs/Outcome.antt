@@ -12,7 +12,7 @@ use Rattle.jv_run.specs.declared.failure.Failure.TheVariants.{Unreadable, Standa
 use Rattle.jv_run.specs.declared.outcome.Outcome.{Outcome}
 use Rattle.jv_run.specs.declared.settings.RunSettings.{RunSettings}
 use Rattle.jv_run.specs.Feeding.{AreFeedsFrom, CameInTime, IsRunningAlone, IsTooLong, bytes_of_feeds, feeds_to}
-use Rattle.jv_run.specs.Folder.{NamedGuest}
+use Rattle.jv_run.specs.Guests.{NamedGuest}
 use Rattle.jv_run.specs.Report.{Told, report_text, run_status}
 
 -- each of the first guests is within the limits of a host that holds those before it

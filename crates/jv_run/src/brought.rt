@@ -1,8 +1,9 @@
 //! The guests of folders, as the host takes them.
 ghost use Rattle.std.specs.Prelude.{◌≡◌, IfOk, map};
 ghost use Rattle.jv_host.specs.Files.{guest_of};
-ghost use Rattle.jv_run.specs.Bytes.{bytes_of};
-ghost use Rattle.jv_run.specs.Folder.{file_bytes, file_name, named_guest};
+ghost use Rattle.jv_host.specs.Bytes.{bytes_of};
+ghost use Rattle.jv_run.specs.Folder.{file_bytes, file_name};
+ghost use Rattle.jv_run.specs.Guests.{named_guest};
 ghost use Rattle.jv_run.specs.Inside.Brought.{named_guest_of};
 
 use crate::folder::{Folder, NamedFile};

@@ -1,13 +1,12 @@
 //! Rounds of turns, before each of which a guest is fed what is read.
-ghost use Rattle.std.specs.Prelude.{◌≡◌, IfErr, IfOk, IsSome, length, slice_get};
+ghost use Rattle.std.specs.Prelude.{IfErr, IfOk, IsSome, slice_get};
 ghost use Rattle.jv_run.specs.Inside.Turns.{AreAtStart, IsFedNext, IsFedRun, IsFeedFailure, IsNextFailure};
 
 use crate::failure::Failure;
-use crate::rounds::{any_takes_steps, run_round, see};
+use crate::rounds::run_round;
 use crate::settings::RunSettings;
-use crate::watch::Watch;
 use jv_heap::Cells;
-use jv_host::{GuestId, Host};
+use jv_host::{GuestId, Host, Watch};
 use jv_meaning_machine::{feed_shows_later, shows_one_thing};
 use std::io::Read;
 
@@ -36,7 +35,7 @@ fn feed_next<I: Read>(
     Ok(count > 0)
 }
 
-/// Gives the guests of a host, of which there are so many and each is at its start, their turns, round by round, as long as one takes
+/// Gives the guests of a host, each of which is at its start, their turns, round by round, as long as one takes
 /// steps. Before each round, until the input ends, what one read of it gives is fed to a guest. Answers how many rounds there were. A watch
 /// sees them.
 ///
@@ -46,13 +45,11 @@ fn feed_next<I: Read>(
 /// where the host had no memory for them.
 pub(crate) fn run_fed<I: Read, W: Watch>(
     host: &mut Host<'_, Cells>,
-    count: u32,
     id: GuestId,
     settings: RunSettings,
     input: &mut I,
     watch: &mut W,
 ) -> Result<u32, Failure>
-    requires all { length host.old ≡ count }
     requires there { IsSome (slice_get host.old id.0) }
     requires start { AreAtStart host.old }
     ensures ok { IfOk result (IsFedRun settings.quantum settings.rounds id.0 host.old host.new
@@ -63,14 +60,14 @@ pub(crate) fn run_fed<I: Read, W: Watch>(
     feed_shows_later();
     let mut more = true;
     for round in 0..settings.rounds {
-        if !any_takes_steps(host, count) {
+        if !host.any_runs() {
             return Ok(round);
         }
         if more {
             more = feed_next(host, id, input)?;
         }
         run_round(host, settings.quantum);
-        see(host, round + 1, watch);
+        host.tell(round + 1, watch);
     }
     Ok(settings.rounds)
 }

@@ -1,7 +1,7 @@
 //! What a folder holds of a guest.
 ghost use Rattle.std.specs.Prelude.{◌≡◌, ◌≢◌, ◌≤◌, ◌+◌, ◌<◌, ◌^◌, [], ◌∷◌, ◌++◌, ℕ, All, IfErr, IfOk, List, codes, false, map, vec_len};
 ghost use Rattle.std.specs.IoError.{error_kind};
-ghost use Rattle.jv_run.specs.Bytes.{bytes_of};
+ghost use Rattle.jv_host.specs.Bytes.{bytes_of};
 ghost use Rattle.jv_run.specs.Failure.{IsNotRead, IsUnread};
 ghost use Rattle.jv_run.specs.Inside.Reading.{IsOneUnreadIn};
 ghost use Rattle.jv_run.specs.Folder.{AreClassFilesOf, IsFolderOf, IsFolderRead, IsReadUpToLimit, file_name};

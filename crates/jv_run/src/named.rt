@@ -1,24 +1,23 @@
 //! Folders that are named, read and run.
 ghost use Rattle.std.specs.Prelude.{◌≡◌, ◌≤◌, false, IfErr, IfOk, length, map};
-ghost use Rattle.jv_run.specs.Bytes.{bytes_of};
+ghost use Rattle.jv_host.specs.Bytes.{bytes_of};
 ghost use Rattle.jv_run.specs.Failure.{IsOneNotRead};
 ghost use Rattle.jv_run.specs.Feeding.{is_no_guest};
-ghost use Rattle.jv_run.specs.Folder.{named_guest};
+ghost use Rattle.jv_run.specs.Guests.{named_guest};
 ghost use Rattle.jv_run.specs.Named.{AreFoldersOf, AreTaken, IsRunAs, IsRunFailure};
 ghost use Rattle.jv_run.specs.Outcome.{IsGuestsFailure, IsRunOutcome};
-ghost use Rattle.jv_run.specs.declared.failure.Failure.TheVariants.{HostMemory};
 
 use crate::failure::Failure;
 use crate::folder::{Folder, read_folder};
 use crate::folders::Folders;
-use crate::outcome::{Outcome, run_folders};
+use crate::outcome::Outcome;
+use crate::running::run_folders;
 use crate::settings::RunSettings;
-use crate::watch::Watch;
+use jv_host::Watch;
 use jv_host::of_loader::system_files;
 use std::alloc::{AllocError, Global};
 use std::hash::RandomState;
 use std::io::Read;
-use std::random::RandomSource;
 
 /// The most folders.
 const FOLDERS: usize = 64;
@@ -39,16 +38,6 @@ fn read_folders<'a, F: Folders>(
         read.push(folder).map_err(AllocError::from)?;
     }
     Ok(read)
-}
-
-/// The state with which names are hashed; a system that gives none is short of memory.
-pub fn hashing_state<R: RandomSource>(rt: &R) -> Result<RandomState, Failure>
-    ensures { IfErr result (λ failure. failure ≡ HostMemory) }
-{
-    match RandomState::new(rt) {
-        Ok(state) => Ok(state),
-        Err(_) => Err(Failure::HostMemory),
-    }
 }
 
 /// Whether there is no guest with the number of the one that is to be fed, where one is.

@@ -4,7 +4,7 @@ ghost use Rattle.std.specs.Ordering.{nat_cmp};
 ghost use Rattle.std.specs.Cmp.Lexicographic.{slice_cmp};
 ghost use Rattle.std.specs.List.{list_any};
 ghost use Rattle.std.specs.Str.{bytes_eq};
-ghost use Rattle.jv_run.specs.Bytes.{bytes_of};
+ghost use Rattle.jv_host.specs.Bytes.{bytes_of};
 ghost use Rattle.jv_run.specs.Names.{is_listed_name, is_class_file, listing_parts, names_listed};
 
 use std::alloc::{AllocError, Global};

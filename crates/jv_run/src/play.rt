@@ -15,10 +15,9 @@ use crate::feeding::run_fed;
 use crate::report::Report;
 use crate::rounds::run_rounds;
 use crate::settings::RunSettings;
-use crate::watch::Watch;
 use jv_heap::Cells;
 use jv_host::of_interp::{Budget, Observation};
-use jv_host::{GuestId, Host};
+use jv_host::{GuestId, Host, Watch};
 use jv_meaning_machine::shows_one_thing;
 use std::alloc::{AllocError, Global};
 use std::io::Read;
@@ -40,14 +39,8 @@ fn admit_all<'a>(
     Ok(())
 }
 
-/// Gives the guests of a host, of which there are so many and each is at its start, their turns. Answers how many rounds there were.
-fn run_unfed<W: Watch>(
-    host: &mut Host<'_, Cells>,
-    count: u32,
-    settings: RunSettings,
-    watch: &mut W,
-) -> u32
-    requires all { length host.old ≡ count }
+/// Gives the guests of a host, each of which is at its start, their turns. Answers how many rounds there were.
+fn run_unfed<W: Watch>(host: &mut Host<'_, Cells>, settings: RunSettings, watch: &mut W) -> u32
     requires start { AreAtStart host.old }
     ensures few { result ≤ settings.rounds }
     ensures played { PlayedSince settings.quantum result host.old host.new }
@@ -56,7 +49,7 @@ fn run_unfed<W: Watch>(
     ensures needed { 1 ≤ settings.quantum → SomeWent settings.quantum result host.new }
 {
     shows_one_thing();
-    run_rounds(host, count, settings.quantum, settings.rounds, watch)
+    run_rounds(host, settings, watch)
 }
 
 /// Gives the guests of a host their turns, and feeds one of them what is read where the settings say so.
@@ -75,13 +68,12 @@ fn run_all<I: Read, W: Watch>(
     ensures err { IfErr result
         (IsFeedingFailure settings.stdin (map named_guest_of guests.now) (I.remaining input.old) (I.remaining input.new)) }
 {
-    let count = guests.len() as u32;
     let Some(number) = settings.stdin else {
-        let _rounds = run_unfed(host, count, settings, watch);
+        let _rounds = run_unfed(host, settings, watch);
         return Ok(());
     };
     let id = GuestId(number - 1);
-    let _rounds = run_fed(host, count, id, settings, input, watch)?;
+    let _rounds = run_fed(host, id, settings, input, watch)?;
     Ok(())
 }
 

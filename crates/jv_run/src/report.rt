@@ -3,7 +3,7 @@ ghost use Rattle.std.specs.Prelude.{◌≡◌, Some, map};
 ghost use Rattle.std.specs.List.{list_any};
 ghost use Rattle.std.specs.Option.{option_map};
 ghost use Rattle.jv_host.specs.of_interp.Showing.{bytes_seen, seen_end};
-ghost use Rattle.jv_run.specs.Bytes.{bytes_of};
+ghost use Rattle.jv_host.specs.Bytes.{bytes_of};
 ghost use Rattle.jv_run.specs.Report.{ending_text, heading_text, output_text, throws_text, verdict_line, verdict_lines};
 ghost use Rattle.jv_run.specs.Report.{is_running, report_text, run_status, told_text};
 ghost use Rattle.jv_run.specs.Inside.Play.{told_of};

@@ -2,8 +2,8 @@
 ghost use Rattle.std.specs.Prelude.{◌≡◌, Some};
 ghost use Rattle.jv_run.specs.Verdict.{fault_text, reason_name, rule_number, verdict_text};
 
-use jv_host::of_loader::LoadVerdict;
 use jv_meaning_typing::{Verdict, VerifyFault, VerifyRule};
+use jv_meaning_world::LoadVerdict;
 use std::fmt;
 
 /// The rule that a method breaks, and where, as it is printed.

@@ -1,8 +1,8 @@
 -- The guests of folders, as the code has them.
 use Rattle.std.specs.Prelude.{map}
 use Rattle.jv_run.specs.declared.brought.Brought.{Brought}
-use Rattle.jv_run.specs.Bytes.{bytes_of}
-use Rattle.jv_run.specs.Folder.{NamedGuest}
+use Rattle.jv_host.specs.Bytes.{bytes_of}
+use Rattle.jv_run.specs.Guests.{NamedGuest}
 
 abbrev pub named_guest_of : Brought → NamedGuest
 named_guest_of brought = record {

@@ -10,9 +10,9 @@ use Rattle.jv_run.specs.declared.failure.Failure.{Failure}
 use Rattle.jv_run.specs.declared.failure.Failure.TheVariants.{Refused, HostMemory}
 use Rattle.jv_run.specs.declared.report.Report.{Report}
 use Rattle.jv_run.specs.declared.settings.RunSettings.{RunSettings}
-use Rattle.jv_run.specs.Bytes.{bytes_of}
+use Rattle.jv_host.specs.Bytes.{bytes_of}
 use Rattle.jv_run.specs.Feeding.{AreFeedsFrom, feeds_to}
-use Rattle.jv_run.specs.Folder.{NamedGuest}
+use Rattle.jv_run.specs.Guests.{NamedGuest}
 use Rattle.jv_run.specs.Outcome.{AreAllowed, IsRefusedAmong}
 use Rattle.jv_run.specs.Report.{Told}
 use Rattle.jv_run.specs.Inside.Turns.{PlayedSince, SomeWent}

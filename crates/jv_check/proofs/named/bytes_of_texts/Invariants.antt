@@ -1,5 +1,5 @@
 use Rattle.std.proofs.Common.{◌≡◌, map, take}
-use Rattle.jv_run.specs.Bytes.{bytes_of}
+use Rattle.jv_run.specs.of_host.Bytes.{bytes_of}
 use Rattle.jv_check.proofs.named.bytes_of_texts.Given as goal
 
 abbrev pub invariant-loop-text : goal.invariant-loop-text

@@ -1,5 +1,5 @@
 use Rattle.std.proofs.Common.{map}
-use Rattle.jv_run.specs.Bytes.{bytes_of}
+use Rattle.jv_run.specs.of_host.Bytes.{bytes_of}
 use Rattle.jv_check.specs.Named.{IsOneUnread}
 use Rattle.jv_check.proofs.NotRead.{one_unread, passed_on}
 use Rattle.jv_check.proofs.named.read_classes.Goals as goal

@@ -1,5 +1,5 @@
 use Rattle.std.proofs.Common.{◌≡◌, map, take}
-use Rattle.jv_run.specs.Folder.{named_guest}
+use Rattle.jv_run.specs.Guests.{named_guest}
 use Rattle.jv_run.specs.Inside.Brought.{named_guest_of}
 use Rattle.jv_run.proofs.brought.all_brought_by.Given as goal
 

@@ -1,5 +1,5 @@
 use Rattle.std.proofs.Common.{◌≡◌, map, take}
-use Rattle.jv_run.specs.Bytes.{bytes_of}
+use Rattle.jv_host.specs.Bytes.{bytes_of}
 use Rattle.jv_run.specs.Folder.{file_name}
 use Rattle.jv_run.proofs.brought.names_of_files.Given as goal
 

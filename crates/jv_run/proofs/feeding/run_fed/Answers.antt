@@ -32,8 +32,8 @@ loop-round-preserved g c =
       | then-more+in_ok-more w ↦
           subst SomeRuns (sym w.host-is)
           (fed_runs c.feed_shows_later.ensures id c.loop-round.host w.feed_next.new.host (g.I.Read.remaining c.loop-round.input)
-          (g.I.Read.remaining w.feed_next.new.input) w.in_ok-more.more (w.in_ok-more.ensures {u = tt}).ok (c.any_takes_steps.ensures.some (search rules)))
-      | else-more w ↦ subst SomeRuns (sym w.host-is) (c.any_takes_steps.ensures.some (search rules))
+          (g.I.Read.remaining w.feed_next.new.input) w.in_ok-more.more (w.in_ok-more.ensures {u = tt}).ok (c.any_runs.ensures.some (search rules)))
+      | else-more w ↦ subst SomeRuns (sym w.host-is) (c.any_runs.ensures.some (search rules))
     ] in
     fed_round c.shows_one_thing.ensures n r c.run_round.ensures.0 id old c.if-more.host c.run_round.new.host b0 (g.I.Read.remaining c.if-more.input) c.if-more.more
     (few_steps n c.args.settings.rounds (suc r) quantum rounds (omega (arith, less))) runs fed c.run_round.ensures.1
@@ -47,7 +47,7 @@ returns-in_err-more-clause-err g c =
     (not_fed c.args.settings.quantum r id c.args.host.now c.loop-round.host (g.I.Read.remaining c.args.input.now) (g.I.Read.remaining c.loop-round.input)
     (g.I.Read.remaining c.feed_next.new.input) c.loop-round.more c.requires.there c.loop-round.invariant c.in_err-more.field-0.0 (c.in_err-more.ensures {u = tt}).err)
 
-pub returns-then-not-any_takes_steps-clause-ok : goal.returns-then-not-any_takes_steps-clause-ok
-returns-then-not-any_takes_steps-clause-ok g c =
+pub returns-then-not-any_runs-clause-ok : goal.returns-then-not-any_runs-clause-ok
+returns-then-not-any_runs-clause-ok g c =
     fed_over c.args.settings.quantum c.args.settings.rounds c.loop-round.round c.args.id.0 c.args.host.now c.loop-round.host (g.I.Read.remaining c.args.input.now)
-    (g.I.Read.remaining c.loop-round.input) c.loop-round.more c.loop-round-test.true c.loop-round.invariant (c.any_takes_steps.ensures.none (search rules))
+    (g.I.Read.remaining c.loop-round.input) c.loop-round.more c.loop-round-test.true c.loop-round.invariant (c.any_runs.ensures.none (search rules))

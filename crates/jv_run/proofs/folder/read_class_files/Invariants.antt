@@ -1,6 +1,6 @@
 use Rattle.std.proofs.Common.{◌≡◌, map, take}
 use Rattle.std.specs.Prelude.{All}
-use Rattle.jv_run.specs.Bytes.{bytes_of}
+use Rattle.jv_host.specs.Bytes.{bytes_of}
 use Rattle.jv_run.specs.Folder.{IsReadUpToLimit, file_name}
 use Rattle.jv_run.proofs.folder.read_class_files.Given as goal
 

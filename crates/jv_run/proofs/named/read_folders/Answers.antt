@@ -1,7 +1,7 @@
 use Rattle.std.proofs.lemmas.Grind.{common_steps}
 use Rattle.std.proofs.Common.{◌≡◌, ◌∷◌, ◌++◌, [], arith, map}
 use Rattle.jv_run.specs.declared.failure.Failure.TheVariants.{Memory}
-use Rattle.jv_run.specs.Bytes.{bytes_of}
+use Rattle.jv_host.specs.Bytes.{bytes_of}
 use Rattle.jv_run.specs.Failure.{IsOneNotRead}
 use Rattle.jv_run.proofs.NotRead.{one_not_read, short_for_folder}
 use Rattle.jv_run.proofs.Places.{in_place, passed_on}

@@ -1,7 +1,7 @@
 use Rattle.std.proofs.Common.{List, Bor, ℕ, map, subst}
 use Rattle.std.specs.Prelude.{string_bytes}
 use Rattle.jv_run.specs.declared.settings.RunSettings.{RunSettings}
-use Rattle.jv_run.specs.Bytes.{bytes_of}
+use Rattle.jv_run.specs.of_host.Bytes.{bytes_of}
 use Rattle.jv_run.specs.Named.{IsRunFailure}
 use Rattle.jv_run.proofs.Places.{passed_on}
 use Rattle.jv_status.specs.Settings.{AskFor, IsAskedIn, texts_of}

@@ -4,7 +4,7 @@ use Rattle.std.specs.Option.{option_map}
 use Rattle.std.proofs.Output.{has_written_of_eq}
 use Rattle.jv_host.specs.of_interp.Showing.{bytes_seen, seen_end}
 use Rattle.jv_run.specs.declared.report.Report.{Report}
-use Rattle.jv_run.specs.Bytes.{bytes_of}
+use Rattle.jv_host.specs.Bytes.{bytes_of}
 use Rattle.jv_run.specs.Report.{ending_text, heading_text, labelled_line, output_text, throws_text, told_text, verdict_lines}
 use Rattle.jv_run.specs.Inside.Play.{told_of}
 use Rattle.jv_run.proofs.report.ReportDisplay.fmt.Goals as goal

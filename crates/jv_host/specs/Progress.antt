@@ -1,7 +1,7 @@
 -- How far a run is, as it is told.
 use Rattle.std.specs.Prelude.{ℕ, List, ◌++◌, codes}
 use Rattle.std.specs.Fmt.{decimal}
-use Rattle.jv_run.specs.declared.watch.Progress.{Progress}
+use Rattle.jv_host.specs.declared.watch.Progress.{Progress}
 
 abbrev pub progress_text : Progress → List ℕ
 progress_text progress =

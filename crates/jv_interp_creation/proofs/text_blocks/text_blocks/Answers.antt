@@ -3,7 +3,7 @@ use Rattle.jv_heap.specs.Content.{words_at, greatest, without}
 use Rattle.jv_interp_memory.specs.ObjectsInBlocks.{Blocks}
 use Rattle.jv_interp_memory.proofs.NewWords.{joined_length}
 use Rattle.jv_interp_creation.proofs.TextJoined.{newest_address, taken_back, can_fill, string_words, filled_joins}
-use Rattle.jv_interp_creation.proofs.texts.text_blocks.Goals as goal
+use Rattle.jv_interp_creation.proofs.text_blocks.text_blocks.Goals as goal
 
 pub fill-requires-clause-can : goal.fill-requires-clause-can
 fill-requires-clause-can g c =

@@ -3,7 +3,7 @@ use Rattle.jv_host.specs.declared.fault.TurnFault.{TurnFault}
 use Rattle.jv_host.specs.declared.fault.TurnFault.TheVariants.{HostMemory}
 use Rattle.jv_host.specs.Calls.{Rounds}
 use Rattle.jv_host.proofs.Rounding.{one_more_round}
-use Rattle.jv_host.proofs.host.Host.run.Goals as goal
+use Rattle.jv_host.proofs.host.Host.run_watched.Goals as goal
 
 pub loop-round-init : goal.loop-round-init
 loop-round-init g c = refl

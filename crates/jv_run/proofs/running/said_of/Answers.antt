@@ -1,7 +1,7 @@
 use Rattle.std.proofs.Common.{ap, map}
 use Rattle.jv_run.specs.Inside.Play.{told_of}
 use Rattle.jv_run.proofs.Alone.{all_there, said}
-use Rattle.jv_run.proofs.outcome.said_of.Goals as goal
+use Rattle.jv_run.proofs.running.said_of.Goals as goal
 
 pub returns : goal.returns
 returns c =

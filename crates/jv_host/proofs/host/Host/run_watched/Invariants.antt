@@ -1,5 +1,5 @@
 use Rattle.jv_host.specs.Calls.{Rounds}
-use Rattle.jv_host.proofs.host.Host.run.Given as goal
+use Rattle.jv_host.proofs.host.Host.run_watched.Given as goal
 
 -- so many rounds led here
 abbrev pub invariant-loop-round : goal.invariant-loop-round

@@ -1,6 +1,6 @@
 //! How far a run is, for whoever watches it.
 ghost use Rattle.std.specs.Prelude.{Some};
-ghost use Rattle.jv_run.specs.Progress.{progress_text};
+ghost use Rattle.jv_host.specs.Progress.{progress_text};
 
 use std::fmt;
 
