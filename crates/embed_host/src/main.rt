@@ -1,9 +1,9 @@
 //! A host in a program: one guest is admitted, has a turn, is fed while it runs, and is looked at. The gate runs it in `data`.
 #![tactic(auto)]
 
-use jv_heap::Cells;
 use jv_host::{Budget, GuestEnd, GuestFiles, GuestId, Host};
 use jv_loader::{SystemFiles, system_files};
+use jv_store::Cells;
 use std::alloc::Global;
 use std::hash::RandomState;
 use std::process::ExitCode;

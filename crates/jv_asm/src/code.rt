@@ -265,7 +265,7 @@ fn written(alloc: Global, items: &[Item<'_>]) -> Result<Vec<u8>, AllocError>
 ///
 /// # Errors
 ///
-/// `TooLarge` exactly where there are more than 65,535 bytes, `Memory` where the host's memory was
+/// `TooLarge` exactly where there are more than 65,535 bytes, `OutOfMemory` where the host's memory was
 /// refused.
 pub fn write_code(alloc: Global, items: &[Item<'_>]) -> Result<Vec<u8>, AsmFault>
     ensures ok { IfOk result (λ code. code.items ≡ code_of_items 0 items.now) }

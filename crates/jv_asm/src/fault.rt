@@ -1,7 +1,7 @@
 //! Why nothing was written.
 
 ghost use Rattle.std.specs.Prelude.{◌≡◌};
-ghost use Rattle.jv_asm.specs.declared.fault.AsmFault.TheVariants.{Memory};
+ghost use Rattle.jv_asm.specs.declared.fault.AsmFault.TheVariants.{OutOfMemory};
 
 use std::alloc::{AllocError, AllocFailed};
 use thiserror::Error;
@@ -14,21 +14,21 @@ pub enum AsmFault {
     TooLarge,
     /// The host's memory was refused.
     #[error("out of memory")]
-    Memory,
+    OutOfMemory,
 }
 
 impl From<AllocError> for AsmFault {
-    ghost from_gives = { λ _ e. e ≡ Memory };
+    ghost from_gives = { λ _ e. e ≡ OutOfMemory };
 
     fn from(_e: AllocError) -> AsmFault {
-        AsmFault::Memory
+        AsmFault::OutOfMemory
     }
 }
 
 impl<T: Drop> From<AllocFailed<T>> for AsmFault {
-    ghost from_gives = { λ _ e. e ≡ Memory };
+    ghost from_gives = { λ _ e. e ≡ OutOfMemory };
 
     fn from(_e: AllocFailed<T>) -> AsmFault {
-        AsmFault::Memory
+        AsmFault::OutOfMemory
     }
 }

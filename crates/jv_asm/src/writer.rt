@@ -142,7 +142,7 @@ fn written<M: Method>(
 ///
 /// # Errors
 ///
-/// `TooLarge` exactly where a count or a length does not fit its field, `Memory` where the host's
+/// `TooLarge` exactly where a count or a length does not fit its field, `OutOfMemory` where the host's
 /// memory was refused.
 pub fn write_class_with<M: Method>(
     alloc: Global,
@@ -164,7 +164,7 @@ pub fn write_class_with<M: Method>(
 ///
 /// # Errors
 ///
-/// `TooLarge` exactly where a count or a length does not fit its field, `Memory` where the host's
+/// `TooLarge` exactly where a count or a length does not fit its field, `OutOfMemory` where the host's
 /// memory was refused.
 pub fn write_class(alloc: Global, description: &Description<'_>) -> Result<Vec<u8>, AsmFault>
     ensures ok { IfOk result (λ bytes. bytes.items ≡ class_bytes (described_class description.now)) }

@@ -2,10 +2,10 @@
 use Rattle.std.proofs.Common.{◌≡◌, Ok, Err}
 use Rattle.std.specs.Prelude.{Result, IsErrAnd}
 use Rattle.jv_asm.specs.declared.fault.AsmFault.{AsmFault}
-use Rattle.jv_asm.specs.declared.fault.AsmFault.TheVariants.{TooLarge, Memory}
+use Rattle.jv_asm.specs.declared.fault.AsmFault.TheVariants.{TooLarge, OutOfMemory}
 
 -- want of memory is no other refusal
-pub is_memory : {T : Type 0} (result : Result T AsmFault) → IsErrAnd result (λ e. e ≡ Memory) → result ≡ Err TooLarge → ⊥
+pub is_memory : {T : Type 0} (result : Result T AsmFault) → IsErrAnd result (λ e. e ≡ OutOfMemory) → result ≡ Err TooLarge → ⊥
 is_memory (Ok t) h e = h
 is_memory (Err f) h e = absurd cc
 

@@ -4,7 +4,7 @@ use Rattle.std.specs.Prelude.{map, suc, if◌then◌else◌}
 use Rattle.std.specs.List.{flat_map}
 use Rattle.std.proofs.lemmas.Bool.{lt-ltb}
 use Rattle.jv_format.specs.Format.{half}
-use Rattle.jv_frames.specs.Bytes.{MapForm, form_bytes, stack_map_bytes}
+use Rattle.jv_stackmap.specs.Bytes.{MapForm, form_bytes, stack_map_bytes}
 use Rattle.jv_asm_builder.specs.declared.fault.BuilderFault.{BuilderFault}
 use Rattle.jv_asm_builder.specs.declared.fault.BuilderFault.TheVariants.{TooLarge}
 use Rattle.jv_asm_builder.specs.Faults.{Expected, ◌>>=◌}

@@ -4,10 +4,10 @@ use Rattle.std.specs.Prelude.{◌≡◌, ℕ, ◌+◌, ◌-◌, ◌*◌, ◌%◌
 use Rattle.std.specs.Borrow.{Bor}
 use Rattle.jv_code.specs.Numbers.{signed16}
 use Rattle.jv_format.specs.declared.handlers.Handler.{Handler}
-use Rattle.jv_frames.specs.Bytes.{MapForm, stack_map_bytes}
-use Rattle.jv_frames.specs.declared.form.Form.TheVariants.{Full}
-use Rattle.jv_frames.specs.declared.item.Item.{Item as StackMapType}
-use Rattle.jv_frames.specs.declared.item.Item.TheVariants as stack_map
+use Rattle.jv_stackmap.specs.Bytes.{MapForm, stack_map_bytes}
+use Rattle.jv_stackmap.specs.declared.form.Form.TheVariants.{Full}
+use Rattle.jv_stackmap.specs.declared.item.Item.{Item as StackMapType}
+use Rattle.jv_stackmap.specs.declared.item.Item.TheVariants as stack_map
 use Rattle.jv_asm.specs.declared.fault.AsmFault.{AsmFault}
 use Rattle.jv_asm.specs.declared.fault.AsmFault.TheVariants as asm
 use Rattle.jv_asm.specs.declared.item.Item.{Item}

@@ -6,7 +6,7 @@ use Rattle.jv_pool.specs.Constants.{Entry, pool_fits}
 use Rattle.jv_class_structure.specs.Structure.{AttributeInfo, Code, FieldInfo, MethodInfo, ClassStructure}
 use Rattle.jv_asm_builder.specs.declared.class_builder.MethodBuilder.{MethodBuilder}
 use Rattle.jv_asm_builder.specs.declared.fault.BuilderFault.{BuilderFault}
-use Rattle.jv_asm_builder.specs.declared.fault.BuilderFault.TheVariants.{TooLarge, Memory}
+use Rattle.jv_asm_builder.specs.declared.fault.BuilderFault.TheVariants.{TooLarge, OutOfMemory}
 use Rattle.jv_asm_builder.specs.Assembly.{no_steps, AssembledCode, assembled_code}
 use Rattle.jv_asm_builder.specs.Added.{IsAdded, IsNamedAdded, AreClassesAdded, AreTextsAdded, IsGrownPool, IsMemberNamed, IsMemberAdded, HasRoom, HasRoomForTwo}
 
@@ -153,7 +153,8 @@ pub record HasNoMapRoom (old : ClassStructure) (method : MethodBuilder) : Type 0
 
 -- why a method is not ended: the host's memory was refused, its code has a fault, or there is no room for the StackMapTable
 abbrev pub IsEndFault : ClassStructure → MethodBuilder → BuilderFault → Type 0
-IsEndFault old method fault = (fault ≡ Memory) ⊎ ((assembled_code method.code ≡ Err fault) ⊎ ((fault ≡ TooLarge) × HasNoMapRoom old method))
+IsEndFault old method fault =
+    (fault ≡ OutOfMemory) ⊎ ((assembled_code method.code ≡ Err fault) ⊎ ((fault ≡ TooLarge) × HasNoMapRoom old method))
 
 -- ---- what calls add to the pool of a class
 

@@ -3,7 +3,7 @@ use Rattle.std.specs.Prelude.{◌≡◌, ◌⊎◌, List, [], ◌∷◌, Result,
 use Rattle.jv_asm.specs.declared.fault.AsmFault.{AsmFault}
 use Rattle.jv_asm.specs.declared.fault.AsmFault.TheVariants as asm
 use Rattle.jv_asm_builder.specs.declared.fault.BuilderFault.{BuilderFault}
-use Rattle.jv_asm_builder.specs.declared.fault.BuilderFault.TheVariants.{TooLarge, Memory}
+use Rattle.jv_asm_builder.specs.declared.fault.BuilderFault.TheVariants.{TooLarge, OutOfMemory}
 
 -- what is expected, or a fault
 abbrev pub Expected : Type 0 → Type 0
@@ -23,9 +23,9 @@ each f (x ∷ xs) = f x >>= λ y. each f xs >>= λ ys. Ok (y ∷ ys)
 -- A result is what was expected, or want of memory.
 abbrev pub IsAnswer : {A B : Type 0} → Expected B → (A → B) → Expected A → Type 0
 IsAnswer expected value (Ok a) = expected ≡ Ok (value a)
-IsAnswer expected value (Err fault) = (fault ≡ Memory) ⊎ (expected ≡ Err fault)
+IsAnswer expected value (Err fault) = (fault ≡ OutOfMemory) ⊎ (expected ≡ Err fault)
 
 -- the fault of one constant, as that of the whole
 abbrev pub fault_of : AsmFault → BuilderFault
 fault_of asm.TooLarge = TooLarge
-fault_of asm.Memory = Memory
+fault_of asm.OutOfMemory = OutOfMemory

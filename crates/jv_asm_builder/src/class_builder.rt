@@ -44,7 +44,7 @@ pub struct MethodBuilder<'a> {
 /// # Errors
 ///
 /// A call answers `TooLarge` where a text has more than 65,535 bytes or the pool would have more
-/// than 65,534 entries, and `Memory` where the host's memory was refused. It then changes nothing,
+/// than 65,534 entries, and `OutOfMemory` where the host's memory was refused. It then changes nothing,
 /// but for constants that joined the pool.
 #[derive(Drop)]
 pub struct ClassBuilder<'a> {
@@ -421,7 +421,7 @@ impl<'a> ClassBuilder<'a> {
     ///
     /// # Errors
     ///
-    /// `TooLarge` exactly where a count or a length does not fit its field, `Memory` where the host's
+    /// `TooLarge` exactly where a count or a length does not fit its field, `OutOfMemory` where the host's
     /// memory was refused.
     pub fn finish(&self) -> Result<Vec<u8>, AsmFault>
         ensures ok { IfOk result (λ bytes. bytes.items ≡ class_bytes self.now) }

@@ -204,7 +204,7 @@ impl<'a> CodeBuilder<'a> {
     /// # Errors
     ///
     /// `Unplaced` for a label of an instruction that was not placed, `TooLarge` where the distance of
-    /// a branch does not fit two bytes, whichever comes first; `Memory` where the host's memory was
+    /// a branch does not fit two bytes, whichever comes first; `OutOfMemory` where the host's memory was
     /// refused.
     pub fn code(&self) -> Result<Vec<u8>, BuilderFault>
         ensures { IsAnswer (assembled_bytes self.now) (λ code. code.items) result }
@@ -217,7 +217,7 @@ impl<'a> CodeBuilder<'a> {
     ///
     /// # Errors
     ///
-    /// `Unplaced` for a label that was not placed; `Memory` where the host's memory was refused.
+    /// `Unplaced` for a label that was not placed; `OutOfMemory` where the host's memory was refused.
     pub fn exception_table(&self) -> Result<Vec<Handler>, BuilderFault>
         ensures { IsAnswer (exception_table self.now) (λ table. table.items) result }
     {
@@ -229,7 +229,7 @@ impl<'a> CodeBuilder<'a> {
     /// # Errors
     ///
     /// `TwoFrames` where two frames stand at one place, `TooLarge` where a number of frames or
-    /// entries does not fit two bytes; `Memory` where the host's memory was refused.
+    /// entries does not fit two bytes; `OutOfMemory` where the host's memory was refused.
     pub fn stack_map_table(&self) -> Result<Option<Vec<u8>>, BuilderFault>
         ensures { IsAnswer (stack_map_table self.now.frames) contents_kept result }
     {

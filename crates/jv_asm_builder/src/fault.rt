@@ -1,7 +1,7 @@
 //! Why code was not assembled.
 
 ghost use Rattle.std.specs.Prelude.{◌≡◌};
-ghost use Rattle.jv_asm_builder.specs.declared.fault.BuilderFault.TheVariants.{Memory};
+ghost use Rattle.jv_asm_builder.specs.declared.fault.BuilderFault.TheVariants.{OutOfMemory};
 ghost use Rattle.jv_asm_builder.specs.Faults.{fault_of};
 
 use jv_asm::AsmFault;
@@ -22,7 +22,7 @@ pub enum BuilderFault {
     TwoFrames,
     /// The host's memory was refused.
     #[error("out of memory")]
-    Memory,
+    OutOfMemory,
 }
 
 impl From<AsmFault> for BuilderFault {
@@ -31,23 +31,23 @@ impl From<AsmFault> for BuilderFault {
     fn from(fault: AsmFault) -> BuilderFault {
         match fault {
             AsmFault::TooLarge => BuilderFault::TooLarge,
-            AsmFault::Memory => BuilderFault::Memory,
+            AsmFault::OutOfMemory => BuilderFault::OutOfMemory,
         }
     }
 }
 
 impl From<AllocError> for BuilderFault {
-    ghost from_gives = { λ _ e. e ≡ Memory };
+    ghost from_gives = { λ _ e. e ≡ OutOfMemory };
 
     fn from(_e: AllocError) -> BuilderFault {
-        BuilderFault::Memory
+        BuilderFault::OutOfMemory
     }
 }
 
 impl<T: Drop> From<AllocFailed<T>> for BuilderFault {
-    ghost from_gives = { λ _ e. e ≡ Memory };
+    ghost from_gives = { λ _ e. e ≡ OutOfMemory };
 
     fn from(_e: AllocFailed<T>) -> BuilderFault {
-        BuilderFault::Memory
+        BuilderFault::OutOfMemory
     }
 }

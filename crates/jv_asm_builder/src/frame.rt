@@ -1,7 +1,7 @@
 //! Stack maps (JVMS 4.7.4).
 
 ghost use Rattle.std.specs.Prelude.{◌≡◌, ◌++◌, ◌<◌, OnOk, length, map};
-ghost use Rattle.jv_frames.specs.Bytes.{item_bytes, counted_bytes};
+ghost use Rattle.jv_stackmap.specs.Bytes.{item_bytes, counted_bytes};
 ghost use Rattle.jv_asm_builder.specs.Faults.{IsAnswer};
 ghost use Rattle.jv_asm_builder.specs.Assembly.{stack_map_type, stack_map_table};
 ghost use Rattle.jv_asm_builder.specs.Inside.Kept.{frame_kept, contents_kept, full_bytes};

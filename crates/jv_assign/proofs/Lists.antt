@@ -2,7 +2,7 @@
 use Rattle.std.proofs.Common.{◌≡◌, ℕ, suc, Bool, true, false, ◌&&◌, List, [], ◌∷◌, length, map, nat_eq, refl, sym, ap, ◌∙◌}
 use Rattle.std.specs.List.{list_all, zip}
 use Rattle.std.proofs.lemmas.Bool.{eqb-true}
-use Rattle.jv_frames.specs.Types.{FrameType}
+use Rattle.jv_stackmap.specs.Types.{FrameType}
 use Rattle.jv_meaning_world.specs.FrameFlow.{all_flow}
 
 module _ {A : Type 0} (flow : FrameType → FrameType → Bool) (seen : A → FrameType) where

@@ -1,3 +1,2 @@
 pub mod Seen
 pub mod Inside
-pub use Rattle.jv_meaning_world.specs as of_meaning_world

@@ -2,10 +2,10 @@
 use Rattle.std.specs.Prelude.{ℕ, List, map}
 use Rattle.std.specs.Borrow.{Bor}
 use Rattle.jv_text.specs.Seen.{seen_field_type}
-use Rattle.jv_frames.specs.declared.verification.VerificationTypeOf.{VerificationTypeOf}
-use Rattle.jv_frames.specs.declared.verification.VerificationTypeOf.TheVariants as types
-use Rattle.jv_frames.specs.Types.{FrameType}
-use Rattle.jv_frames.specs.Frames.{Frame as FrameByWords}
+use Rattle.jv_stackmap.specs.declared.verification.VerificationTypeOf.{VerificationTypeOf}
+use Rattle.jv_stackmap.specs.declared.verification.VerificationTypeOf.TheVariants as types
+use Rattle.jv_stackmap.specs.Types.{FrameType}
+use Rattle.jv_stackmap.specs.Frames.{Frame as FrameByWords}
 use Rattle.jv_assign.specs.declared.frame.Frame.{Frame}
 
 abbrev pub seen_type : VerificationTypeOf (Bor (List ℕ)) → FrameType

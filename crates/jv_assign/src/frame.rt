@@ -2,7 +2,7 @@
 
 ghost use Rattle.std.specs.Prelude.{◌≡◌};
 
-use jv_frames::VerificationTypeOf;
+use jv_stackmap::VerificationTypeOf;
 use std::alloc::AllocError;
 
 /// A frame by words (JVMS 4.10.1.4): the type of each local variable, from the first on, where a long is

@@ -9,7 +9,7 @@ ghost use Rattle.jv_assign.specs.Seen.{seen_type, seen_frame};
 use crate::frame::Frame;
 use crate::types::flows;
 use jv_classes::ClassTable;
-use jv_frames::VerificationTypeOf;
+use jv_stackmap::VerificationTypeOf;
 
 /// Whether an item of the stack can stand where another is expected: a long flows to a long alone.
 fn item_flows(

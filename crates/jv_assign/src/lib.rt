@@ -11,5 +11,4 @@ mod types;
 pub use classes::other_class_flows;
 pub use frame::Frame;
 pub use frames::frame_flows;
-pub use jv_classes as of_classes;
 pub use types::flows;

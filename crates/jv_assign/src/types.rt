@@ -1,7 +1,7 @@
 //! All verification types.
 
 ghost use Rattle.std.specs.Prelude.{◌≡◌};
-ghost use Rattle.jv_frames.specs.declared.verification.VerificationTypeOf.TheVariants as variants;
+ghost use Rattle.jv_stackmap.specs.declared.verification.VerificationTypeOf.TheVariants as variants;
 ghost use Rattle.jv_text.specs.Seen.{seen_field_type};
 ghost use Rattle.jv_meaning_world.specs.World.{World};
 ghost use Rattle.jv_meaning_world.specs.Flow.{flows};
@@ -10,7 +10,7 @@ ghost use Rattle.jv_assign.specs.Seen.{seen_type};
 use crate::arrays::{component_flows, is_above_arrays};
 use crate::classes::class_flows;
 use jv_classes::ClassTable;
-use jv_frames::VerificationTypeOf;
+use jv_stackmap::VerificationTypeOf;
 use jv_text::FieldType;
 
 /// Whether a type flows to a class: null, a class by its name, or an array to a class above arrays.

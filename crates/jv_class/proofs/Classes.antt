@@ -7,8 +7,8 @@ use Rattle.std.specs.Str.{bytes_eq}
 use Rattle.std.proofs.lemmas.Bool.{and_parts, and_from}
 use Rattle.std.proofs.lemmas.List.Elements.{All-head, All-tail}
 use Rattle.std.proofs.lemmas.Slice.Eq.{bytes_eq-Decides}
-use Rattle.jv_class_structure.specs.of_format.Format.{◌>>=◌}
-use Rattle.jv_class_structure.specs.of_pool.Constants.{Entry, NameAndDescriptor, name_and_descriptor, named_at, class_name_at}
+use Rattle.jv_format.specs.Format.{◌>>=◌}
+use Rattle.jv_pool.specs.Constants.{Entry, NameAndDescriptor, name_and_descriptor, named_at, class_name_at}
 use Rattle.jv_class_structure.specs.Structure.{FieldInfo, MethodInfo, ClassStructure}
 use Rattle.jv_class_structure.specs.Attributes.{some_and}
 use Rattle.jv_class_structure.specs.Parts.{method_shown}

@@ -2,17 +2,17 @@
 use Rattle.std.proofs.Common.{◌≡◌, ℕ, Bool, List, sym, ap, ◌∙◌}
 use Rattle.std.specs.Prelude.{IsTrue, not, ◌&&◌}
 use Rattle.std.proofs.lemmas.Bool.{and_parts, and_from}
-use Rattle.jv_class_structure.specs.of_text.Descriptor.{MethodDescriptor, is_floating, is_floating_method}
-use Rattle.jv_class_structure.proofs.laws_of_text.Fields.{one_field}
-use Rattle.jv_class_structure.proofs.laws_of_text.Methods.{one_method}
-use Rattle.jv_class_structure.specs.of_pool.declared.facts.FieldFacts.{FieldFacts}
-use Rattle.jv_class_structure.specs.of_pool.declared.facts.MethodFacts.{MethodFacts}
-use Rattle.jv_class_structure.specs.of_pool.Facts.{AreFieldFacts, AreMethodFacts}
+use Rattle.jv_text.specs.Descriptor.{MethodDescriptor, is_floating, is_floating_method}
+use Rattle.jv_text.proofs.Fields.{one_field}
+use Rattle.jv_text.proofs.Methods.{one_method}
+use Rattle.jv_pool.specs.declared.facts.FieldFacts.{FieldFacts}
+use Rattle.jv_pool.specs.declared.facts.MethodFacts.{MethodFacts}
+use Rattle.jv_pool.specs.Facts.{AreFieldFacts, AreMethodFacts}
 use Rattle.std.specs.Prelude.{is_none, is_some}
-use Rattle.jv_class_structure.specs.of_pool.Constants.{Entry, NameAndDescriptor}
-use Rattle.jv_class_structure.specs.of_pool.declared.facts.TextFacts.{TextFacts}
-use Rattle.jv_class_structure.specs.of_pool.Facts.{AreFacts, value_of_type}
-use Rattle.jv_class_structure.specs.of_text.Descriptor.{slots}
+use Rattle.jv_pool.specs.Constants.{Entry, NameAndDescriptor}
+use Rattle.jv_pool.specs.declared.facts.TextFacts.{TextFacts}
+use Rattle.jv_pool.specs.Facts.{AreFacts, value_of_type}
+use Rattle.jv_text.specs.Descriptor.{slots}
 use Rattle.jv_class_structure.specs.Flags.{has, acc_interface}
 use Rattle.jv_class_structure.specs.Parts.{FieldSeen, MethodSeen}
 use Rattle.jv_class.specs.Rules.{field_flags_keep_rules, value_keeps_rules, KeepsRulesAsField, method_flags_keep_rules, init_keeps_rules, clinit_keeps_rules, slots_keep_rules, code_presence_keeps_rules, KeepsRulesAsMethod}

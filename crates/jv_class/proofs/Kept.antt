@@ -5,7 +5,7 @@ use Rattle.std.specs.Option.{IsSomeAnd}
 use Rattle.std.specs.List.{All}
 use Rattle.std.proofs.lemmas.List.Elements.{All-map, All-head, All-tail, All-nil, All-cons}
 use Rattle.std.proofs.lemmas.Bool.{cases_eq}
-use Rattle.jv_class_structure.specs.of_pool.Constants.{Entry, takes_two, table_of, usable, at_index}
+use Rattle.jv_pool.specs.Constants.{Entry, takes_two, table_of, usable, at_index}
 
 pub untrue : (b : Bool) → b ≡ false → IsTrue b → ⊥
 untrue b off on = cc

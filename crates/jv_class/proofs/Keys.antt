@@ -9,9 +9,9 @@ use Rattle.std.proofs.lemmas.Grind.{common_steps}
 use Rattle.std.proofs.lemmas.List.{take_more, take-append-drop}
 use Rattle.std.proofs.lemmas.List.Elements.{All-head, All-tail, All-nil, All-cons, All-get_or}
 use Rattle.std.proofs.lemmas.Option.{slice_get_cases, slice_get_within, get_or_from_slice_get}
-use Rattle.jv_class_structure.specs.of_format.Format.{◌>>=◌}
-use Rattle.jv_class_structure.specs.of_pool.Constants.{Entry, NameAndDescriptor, name_and_descriptor, utf8_at, named_at, class_name_at}
-use Rattle.jv_class_structure.specs.of_pool.declared.index.ClassIndex.{ClassIndex}
+use Rattle.jv_format.specs.Format.{◌>>=◌}
+use Rattle.jv_pool.specs.Constants.{Entry, NameAndDescriptor, name_and_descriptor, utf8_at, named_at, class_name_at}
+use Rattle.jv_pool.specs.declared.index.ClassIndex.{ClassIndex}
 use Rattle.std.proofs.lemmas.Slice.Zip.{all_zipped_more}
 use Rattle.jv_class_structure.specs.Seen.{seen_index, seen_field, seen_method}
 use Rattle.jv_class_structure.specs.Attributes.{some_and}

@@ -4,7 +4,7 @@ use Rattle.std.specs.Prelude.{IsSomeAnd, is_some, map}
 use Rattle.std.specs.List.{All}
 use Rattle.std.specs.Option.{option_map}
 use Rattle.std.proofs.lemmas.List.Elements.{All-map, All-head, All-tail, All-nil, All-cons}
-use Rattle.jv_class_structure.specs.of_pool.Constants.{Entry}
+use Rattle.jv_pool.specs.Constants.{Entry}
 use Rattle.jv_class_structure.specs.Structure.{MethodInfo, ClassStructure}
 use Rattle.jv_class_structure.specs.Attributes.{sole, codes_of}
 use Rattle.jv_class_structure.specs.Parts.{code_shown, field_shown, method_shown}

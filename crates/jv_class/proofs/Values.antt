@@ -5,26 +5,26 @@ use Rattle.std.specs.Option.{option_map, IsSomeAnd}
 use Rattle.std.specs.List.{All}
 use Rattle.std.proofs.lemmas.List.Elements.{All-get_or}
 use Rattle.std.proofs.lemmas.Option.{slice_get_within, get_or_from_slice_get}
-use Rattle.jv_class_structure.specs.of_text.declared.descriptor.FieldTypeOf.{FieldTypeOf}
-use Rattle.jv_class_structure.specs.of_text.Descriptor.{is_floating}
-use Rattle.jv_class_structure.specs.of_pool.declared.constant.Constant.TheVariants.{Utf8, Integer, Float, Long, Double, Class, String, Fieldref, Methodref, InterfaceMethodref, NameAndType, MethodHandle, MethodType, InvokeDynamic}
-use Rattle.jv_class_structure.specs.of_pool.declared.constant.Kind.TheVariants as kinds
-use Rattle.jv_class_structure.specs.of_pool.Constants.{Entry, at_index, kind_of, kind_at, string_in, string_at, utf8_at}
-use Rattle.jv_class_structure.specs.of_pool.Rules.{KeepsRules}
+use Rattle.jv_text.specs.declared.descriptor.FieldTypeOf.{FieldTypeOf}
+use Rattle.jv_text.specs.Descriptor.{is_floating}
+use Rattle.jv_pool.specs.declared.constant.Constant.TheVariants.{Utf8, Integer, Float, Long, Double, Class, String, Fieldref, Methodref, InterfaceMethodref, NameAndType, MethodHandle, MethodType, InvokeDynamic}
+use Rattle.jv_pool.specs.declared.constant.Kind.TheVariants as kinds
+use Rattle.jv_pool.specs.Constants.{Entry, at_index, kind_of, kind_at, string_in, string_at, utf8_at}
+use Rattle.jv_pool.specs.Rules.{KeepsRules}
 use Rattle.std.proofs.Common.{cond}
 use Rattle.std.specs.Prelude.{codes, ◌==◌}
 use Rattle.std.specs.Str.{bytes_eq}
-use Rattle.jv_class_structure.specs.of_format.Format.{◌>>=◌}
-use Rattle.jv_class_structure.specs.of_text.declared.descriptor.Base.{Base}
-use Rattle.jv_class_structure.specs.of_text.declared.descriptor.Base.TheVariants as bases
-use Rattle.jv_class_structure.specs.of_text.declared.descriptor.Element.{Element}
-use Rattle.jv_class_structure.specs.of_text.declared.descriptor.Element.TheVariants as elements
-use Rattle.jv_class_structure.specs.of_text.Descriptor.{is_floating_element}
-use Rattle.jv_class_structure.specs.of_pool.declared.constant.Kind.{Kind}
-use Rattle.jv_class_structure.specs.of_pool.declared.facts.ConstantValueKind.{ConstantValueKind}
-use Rattle.jv_class_structure.specs.of_pool.declared.facts.ConstantValueKind.TheVariants as values
-use Rattle.jv_class_structure.specs.of_pool.Constants.{NameAndDescriptor, name_and_descriptor}
-use Rattle.jv_class_structure.specs.of_pool.Facts.{value_of_base, value_of_element, value_of_type}
+use Rattle.jv_format.specs.Format.{◌>>=◌}
+use Rattle.jv_text.specs.declared.descriptor.Base.{Base}
+use Rattle.jv_text.specs.declared.descriptor.Base.TheVariants as bases
+use Rattle.jv_text.specs.declared.descriptor.Element.{Element}
+use Rattle.jv_text.specs.declared.descriptor.Element.TheVariants as elements
+use Rattle.jv_text.specs.Descriptor.{is_floating_element}
+use Rattle.jv_pool.specs.declared.constant.Kind.{Kind}
+use Rattle.jv_pool.specs.declared.facts.ConstantValueKind.{ConstantValueKind}
+use Rattle.jv_pool.specs.declared.facts.ConstantValueKind.TheVariants as values
+use Rattle.jv_pool.specs.Constants.{NameAndDescriptor, name_and_descriptor}
+use Rattle.jv_pool.specs.Facts.{value_of_base, value_of_element, value_of_type}
 use Rattle.jv_class_structure.specs.Structure.{ClassStructure}
 use Rattle.jv_class_structure.specs.Parts.{FieldSeen}
 use Rattle.jv_class.specs.Rules.{is_integer, is_long, is_string, takes, value_keeps_rules, KeepsRulesAsField, KeepsClassRules}

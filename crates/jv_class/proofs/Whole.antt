@@ -3,10 +3,10 @@ use Rattle.std.proofs.Common.{◌≡◌, ⊎_elim, ℕ, Bool, true, false, List,
 use Rattle.std.specs.Prelude.{◌⊎◌, ◌||◌, ◌==◌, IsTrue}
 use Rattle.std.proofs.lemmas.Bool.{and_parts, and_from, ltb-true, lt-ltb, eqb-true}
 use Rattle.std.proofs.lemmas.List.{append_assoc}
-use Rattle.jv_class_structure.specs.of_format.Format.{IsBytes, half, quad}
-use Rattle.jv_class_structure.specs.of_format.Readers.{both}
-use Rattle.jv_class_structure.proofs.laws_of_format.Laws.{is_some, IsFormat, half_is, quad_is, both_is, such_is}
-use Rattle.jv_class_structure.specs.of_pool.Constants.{pool_bytes}
+use Rattle.jv_format.specs.Format.{IsBytes, half, quad}
+use Rattle.jv_format.specs.Readers.{both}
+use Rattle.jv_format.proofs.Laws.{is_some, IsFormat, half_is, quad_is, both_is, such_is}
+use Rattle.jv_pool.specs.Constants.{pool_bytes}
 use Rattle.jv_class_structure.specs.Structure.{ClassStructure, magic, body_bytes, class_bytes}
 use Rattle.jv_class_structure.specs.Version.{is_supported_version}
 use Rattle.jv_class_structure.specs.Parts.{OneBehindVersion}

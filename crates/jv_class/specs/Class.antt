@@ -5,9 +5,9 @@ use Rattle.std.specs.Int.{cast_signed, w32, w64}
 use Rattle.std.specs.List.{find}
 use Rattle.std.specs.Option.{option_map}
 use Rattle.std.specs.Str.{bytes_eq}
-use Rattle.jv_class_structure.specs.of_format.Format.{◌>>=◌}
-use Rattle.jv_class_structure.specs.of_pool.declared.constant.Constant.TheVariants.{Integer, Long, String}
-use Rattle.jv_class_structure.specs.of_pool.Constants.{Entry, at_index, named_at, utf8_at, class_name_at}
+use Rattle.jv_format.specs.Format.{◌>>=◌}
+use Rattle.jv_pool.specs.declared.constant.Constant.TheVariants.{Integer, Long, String}
+use Rattle.jv_pool.specs.Constants.{Entry, at_index, named_at, utf8_at, class_name_at}
 use Rattle.jv_class_structure.specs.Structure.{FieldInfo, MethodInfo, ClassStructure}
 use Rattle.jv_class_structure.specs.Attributes.{static_value}
 use Rattle.jv_class_structure.specs.Parts.{CodeSeen, method_shown}

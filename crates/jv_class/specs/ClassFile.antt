@@ -1,8 +1,8 @@
 -- Which bytes are a class file (JVMS 4.1), and which are one of another version.
 use Rattle.std.specs.Prelude.{◌≡◌, ℕ, ◌<◌, ◌==◌, List, ◌++◌, Option, Some, None, IsTrue, if◌then◌else◌}
-use Rattle.jv_class_structure.specs.of_format.Format.{half}
-use Rattle.jv_class_structure.specs.of_pool.Constants.{class_name_at, pool_bytes}
-use Rattle.jv_class_structure.specs.of_pool.Rules.{IsPool}
+use Rattle.jv_format.specs.Format.{half}
+use Rattle.jv_pool.specs.Constants.{class_name_at, pool_bytes}
+use Rattle.jv_pool.specs.Rules.{IsPool}
 use Rattle.jv_class_structure.specs.Structure.{ClassStructure, magic, class_bytes, body_fits}
 use Rattle.jv_class_structure.specs.Attributes.{attributes_keep_rules}
 use Rattle.jv_class_structure.specs.Version.{is_supported_version}

@@ -3,16 +3,16 @@ use Rattle.std.specs.Prelude.{◌≢◌, ⊤, ℕ, ◌+◌, Bool, true, false, n
 use Rattle.std.specs.List.{All, AllByRecursion}
 use Rattle.std.specs.Option.{IsSomeAnd}
 use Rattle.std.specs.Str.{bytes_eq}
-use Rattle.jv_class_structure.specs.of_text.declared.descriptor.FieldTypeOf.{FieldTypeOf}
-use Rattle.jv_class_structure.specs.of_text.Name.{is_unqualified_name, is_method_name}
-use Rattle.jv_class_structure.specs.of_text.Descriptor.{IsField, MethodDescriptor, slots, IsMethod}
-use Rattle.jv_class_structure.specs.of_pool.declared.constant.Kind.{Kind}
-use Rattle.jv_class_structure.specs.of_pool.declared.constant.Kind.TheVariants as kinds
-use Rattle.jv_class_structure.specs.of_pool.declared.facts.ConstantValueKind.{ConstantValueKind}
-use Rattle.jv_class_structure.specs.of_pool.declared.facts.ConstantValueKind.TheVariants as values
-use Rattle.jv_class_structure.specs.of_pool.Constants.{Entry, NameAndDescriptor, named_at, kind_at, class_name_at}
-use Rattle.jv_class_structure.specs.of_text.Name.{is_array_name, is_init}
-use Rattle.jv_class_structure.specs.of_pool.Facts.{value_of_type}
+use Rattle.jv_text.specs.declared.descriptor.FieldTypeOf.{FieldTypeOf}
+use Rattle.jv_text.specs.Name.{is_unqualified_name, is_method_name}
+use Rattle.jv_text.specs.Descriptor.{IsField, MethodDescriptor, slots, IsMethod}
+use Rattle.jv_pool.specs.declared.constant.Kind.{Kind}
+use Rattle.jv_pool.specs.declared.constant.Kind.TheVariants as kinds
+use Rattle.jv_pool.specs.declared.facts.ConstantValueKind.{ConstantValueKind}
+use Rattle.jv_pool.specs.declared.facts.ConstantValueKind.TheVariants as values
+use Rattle.jv_pool.specs.Constants.{Entry, NameAndDescriptor, named_at, kind_at, class_name_at}
+use Rattle.jv_text.specs.Name.{is_array_name, is_init}
+use Rattle.jv_pool.specs.Facts.{value_of_type}
 use Rattle.jv_class_structure.specs.Structure.{FieldInfo, MethodInfo, ClassStructure}
 use Rattle.jv_class_structure.specs.Attributes.{some_and, sole, static_value, codes_of}
 use Rattle.jv_class_structure.specs.Flags.{has, acc_static, acc_native, acc_interface, acc_abstract, class_flags_keep_rules, visibility_keeps_rules, volatile_keeps_rules, interface_field_keeps_rules, abstract_keeps_rules, interface_method_keeps_rules, older_interface_method_keeps_rules, init_flags_keep_rules}

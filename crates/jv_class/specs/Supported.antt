@@ -3,11 +3,11 @@
 use Rattle.std.specs.Prelude.{⊤, ℕ, ◌+◌, Bool, not, ◌||◌, List, IsTrue}
 use Rattle.std.specs.List.{All}
 use Rattle.std.specs.Option.{IsSomeAnd}
-use Rattle.jv_class_structure.specs.of_text.declared.descriptor.FieldTypeOf.{FieldTypeOf}
-use Rattle.jv_class_structure.specs.of_text.Descriptor.{IsField, is_floating, is_floating_method, MethodDescriptor, IsMethod}
-use Rattle.jv_class_structure.specs.of_pool.declared.constant.Constant.TheVariants.{Utf8, Integer, Float, Long, Double, Class, String, Fieldref, Methodref, InterfaceMethodref, NameAndType, MethodHandle, MethodType, InvokeDynamic}
-use Rattle.jv_class_structure.specs.of_pool.Constants.{Entry, utf8_at}
-use Rattle.jv_class_structure.specs.of_text.Name.{is_array_name}
+use Rattle.jv_text.specs.declared.descriptor.FieldTypeOf.{FieldTypeOf}
+use Rattle.jv_text.specs.Descriptor.{IsField, is_floating, is_floating_method, MethodDescriptor, IsMethod}
+use Rattle.jv_pool.specs.declared.constant.Constant.TheVariants.{Utf8, Integer, Float, Long, Double, Class, String, Fieldref, Methodref, InterfaceMethodref, NameAndType, MethodHandle, MethodType, InvokeDynamic}
+use Rattle.jv_pool.specs.Constants.{Entry, utf8_at}
+use Rattle.jv_text.specs.Name.{is_array_name}
 use Rattle.jv_class_structure.specs.Structure.{ClassStructure}
 use Rattle.jv_class_structure.specs.Flags.{has, acc_native, acc_synchronized}
 use Rattle.jv_class.specs.Rules.{is_clinit}

@@ -1,8 +1,8 @@
 -- The constants that static fields have as their values (JVMS 4.7.2).
 use Rattle.std.specs.Prelude.{ℕ, Bool, ◌||◌, List, Option, IsSome, slice_get}
-use Rattle.jv_class_structure.specs.of_format.Format.{◌>>=◌}
-use Rattle.jv_class_structure.specs.of_pool.declared.constant.Kind.{Kind}
-use Rattle.jv_class_structure.specs.of_pool.Constants.{Entry, integer_at, long_at, string_at}
+use Rattle.jv_format.specs.Format.{◌>>=◌}
+use Rattle.jv_pool.specs.declared.constant.Kind.{Kind}
+use Rattle.jv_pool.specs.Constants.{Entry, integer_at, long_at, string_at}
 use Rattle.jv_class_structure.specs.Structure.{ClassStructure}
 use Rattle.jv_class.specs.Rules.{is_integer, is_long, is_string}
 use Rattle.jv_class_structure.specs.Parts.{fields_of}

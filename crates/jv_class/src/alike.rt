@@ -5,17 +5,17 @@
 
 ghost use Rattle.std.specs.Prelude.{◌≡◌, ◌↔◌, IsSome, IsTrue, IfSome, IfOk, OnErr, Err, map, nat_eq, slice_get};
 ghost use Rattle.std.specs.List.{All, AllZip, IsDistinct};
-ghost use Rattle.jv_class_structure.specs.of_pool.Constants.{utf8_at};
+ghost use Rattle.jv_pool.specs.Constants.{utf8_at};
 ghost use Rattle.jv_class_structure.specs.Seen.{seen_field};
 ghost use Rattle.jv_class_structure.specs.Parts.{methods_of};
 ghost use Rattle.jv_class.specs.Inside.Reading.{IsKeyOf, IsFieldKey, IsMethodKey, FailsForMemory};
 ghost use Rattle.jv_class.specs.Rules.{NoTwoAlike, MembersKeepRules, AreMembersUnlike};
 ghost use Rattle.jv_class.specs.Inside.Shown.{shown_field_texts, shown_method_texts, AreShownUnlike};
-ghost use Rattle.jv_class.specs.declared.fault.ClassFault.TheVariants.{Memory};
+ghost use Rattle.jv_class.specs.declared.fault.ClassFault.TheVariants.{OutOfMemory};
 
 use crate::fault::ClassFault;
-use jv_class_structure::of_pool::{Pool, Utf8Index};
 use jv_class_structure::{Field, Parts};
+use jv_pool::{Pool, Utf8Index};
 use std::alloc::Global;
 use std::collections::BTreeSet;
 
@@ -48,7 +48,7 @@ fn field_keys(alloc: Global, pool: &Pool<'_>, fields: &[Field]) -> Result<Vec<u3
     ensures memory { FailsForMemory result }
 {
     let Ok(mut keys) = Vec::with_capacity(alloc, fields.len()) else {
-        return Err(ClassFault::Memory);
+        return Err(ClassFault::OutOfMemory);
     };
     for field in fields {
         keys.push(key_of(pool, field.name, field.descriptor))?;
@@ -73,7 +73,7 @@ fn method_keys(alloc: Global, parts: &Parts<'_>) -> Result<Vec<u32>, ClassFault>
     ensures memory { FailsForMemory result }
 {
     let Ok(mut keys) = Vec::with_capacity(alloc, parts.method_count()) else {
-        return Err(ClassFault::Memory);
+        return Err(ClassFault::OutOfMemory);
     };
     for place in 0..parts.method_count() {
         keys.push(method_key(parts, place))?;

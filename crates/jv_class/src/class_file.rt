@@ -3,8 +3,8 @@
 ghost use Rattle.std.specs.Prelude.{◌≡◌, ◌≢◌, ◌↔◌, Some, IsSome, IfSome, IsTrue, IfOk, Err, length, map, slice_get};
 ghost use Rattle.std.specs.Option.{option_map};
 ghost use Rattle.std.specs.List.{All};
-ghost use Rattle.jv_class_structure.specs.of_pool.Constants.{class_name_at, pool_bytes, utf8_at};
-ghost use Rattle.jv_class_structure.specs.of_pool.Rules.{IsPool};
+ghost use Rattle.jv_pool.specs.Constants.{class_name_at, pool_bytes, utf8_at};
+ghost use Rattle.jv_pool.specs.Rules.{IsPool};
 ghost use Rattle.jv_class_structure.specs.Attributes.{attributes_keep_rules};
 ghost use Rattle.jv_class_structure.specs.Structure.{body_fits};
 ghost use Rattle.jv_class_structure.specs.Seen.{seen_index, seen_field, seen_method};
@@ -23,8 +23,8 @@ use crate::constant_value::{ConstantValue, value_at};
 use crate::fault::ClassFault;
 use crate::supported::{are_supported_constants, are_supported_fields, are_supported_methods};
 use crate::{field_rules, method_rules};
-use jv_class_structure::of_pool::{ClassIndex, Pool};
 use jv_class_structure::{ClassFlags, Field, Method, Parts};
+use jv_pool::{ClassIndex, Pool};
 use std::alloc::Global;
 use std::marker::Model;
 

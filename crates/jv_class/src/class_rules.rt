@@ -3,8 +3,8 @@
 ghost use Rattle.std.specs.Prelude.{◌≡◌, ◌↔◌, IsTrue, map};
 ghost use Rattle.std.specs.List.{All};
 ghost use Rattle.std.specs.Option.{option_map, IsSomeAnd};
-ghost use Rattle.jv_class_structure.specs.of_pool.Constants.{class_name_at};
-ghost use Rattle.jv_class_structure.specs.of_pool.Seen.{seen_text};
+ghost use Rattle.jv_pool.specs.Constants.{class_name_at};
+ghost use Rattle.jv_pool.specs.Seen.{seen_text};
 ghost use Rattle.jv_class_structure.specs.Attributes.{some_and};
 ghost use Rattle.jv_class_structure.specs.Seen.{seen_index};
 ghost use Rattle.jv_class.specs.Rules.{is_object, is_no_array_name, is_class_at, IsClassAt, super_keeps_rules, interface_super_keeps_rules, KeepsRulesAsName, SupersKeepRules, ItselfKeepsRules};
@@ -12,9 +12,9 @@ ghost use Rattle.jv_class.specs.Rules.{is_object, is_no_array_name, is_class_at,
 use crate::flags::are_of_class;
 use crate::names::is_object;
 use bitflags::Flags;
-use jv_class_structure::of_pool::{ClassIndex, Pool};
-use jv_class_structure::of_text::is_array_name;
 use jv_class_structure::{ClassFlags, Parts};
+use jv_pool::{ClassIndex, Pool};
+use jv_text::is_array_name;
 
 fn name_at<'a>(pool: &Pool<'a>, index: u16) -> Option<&'a [u8]>
     ensures { option_map seen_text result ≡ class_name_at pool.now index }

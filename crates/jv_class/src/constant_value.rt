@@ -2,11 +2,11 @@
 
 ghost use Rattle.std.specs.Prelude.{◌≡◌, false, IfSome, IfNone};
 ghost use Rattle.std.specs.List.{All};
-ghost use Rattle.jv_class_structure.specs.of_pool.Constants.{kind_at};
-ghost use Rattle.jv_class_structure.specs.of_pool.Rules.{KeepsRules};
+ghost use Rattle.jv_pool.specs.Constants.{kind_at};
+ghost use Rattle.jv_pool.specs.Rules.{KeepsRules};
 ghost use Rattle.jv_class.specs.Value.{value_number, IsValueNamed, is_value};
 
-use jv_class_structure::of_pool::{IntegerIndex, Kind, LongIndex, Pool, StringIndex};
+use jv_pool::{IntegerIndex, Kind, LongIndex, Pool, StringIndex};
 
 /// The constant that a static field has as its value.
 #[derive(Clone, Copy)]

@@ -1,7 +1,7 @@
 //! Why bytes were not read as a class file.
 
 ghost use Rattle.std.specs.Prelude.{◌≡◌};
-ghost use Rattle.jv_class.specs.declared.fault.ClassFault.TheVariants.{Memory};
+ghost use Rattle.jv_class.specs.declared.fault.ClassFault.TheVariants.{OutOfMemory};
 
 use std::alloc::AllocFailed;
 use thiserror::Error;
@@ -20,13 +20,13 @@ pub enum ClassFault {
     Unsupported,
     /// The host's memory was refused.
     #[error("out of memory")]
-    Memory,
+    OutOfMemory,
 }
 
 impl<T: Drop> From<AllocFailed<T>> for ClassFault {
-    ghost from_gives = { λ _ e. e ≡ Memory };
+    ghost from_gives = { λ _ e. e ≡ OutOfMemory };
 
     fn from(_e: AllocFailed<T>) -> ClassFault {
-        ClassFault::Memory
+        ClassFault::OutOfMemory
     }
 }

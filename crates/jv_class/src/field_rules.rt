@@ -2,8 +2,8 @@
 
 ghost use Rattle.std.specs.Prelude.{◌≡◌, ◌↔◌, ◌&&◌, IsTrue, map};
 ghost use Rattle.std.specs.List.{All};
-ghost use Rattle.jv_class_structure.specs.of_pool.Constants.{NameAndDescriptor};
-ghost use Rattle.jv_class_structure.specs.of_pool.Facts.{AreFacts};
+ghost use Rattle.jv_pool.specs.Constants.{NameAndDescriptor};
+ghost use Rattle.jv_pool.specs.Facts.{AreFacts};
 ghost use Rattle.jv_class_structure.specs.Flags.{has, acc_interface};
 ghost use Rattle.jv_class_structure.specs.Seen.{seen_field};
 ghost use Rattle.jv_class.specs.Rules.{interface_field_flags_keep_rules, field_flags_keep_rules, takes, value_keeps_rules, KeepsRulesAsField};
@@ -11,8 +11,8 @@ ghost use Rattle.jv_class.specs.Inside.Shown.{KeepsFieldShown};
 
 use crate::flags::{are_not_final_and_volatile, are_of_interface_field, have_one_visibility};
 use bitflags::Flags;
-use jv_class_structure::of_pool::{ConstantValueKind, FieldFacts, Kind, Pool, TextFacts};
 use jv_class_structure::{ClassFlags, Field, FieldFlags};
+use jv_pool::{ConstantValueKind, FieldFacts, Kind, Pool, TextFacts};
 
 fn flags_keep_rules_in(in_interface: bool, flags: FieldFlags) -> bool
     ensures { result ≡ interface_field_flags_keep_rules in_interface flags.0 }

@@ -2,8 +2,8 @@
 
 ghost use Rattle.std.specs.Prelude.{◌≡◌, ◌↔◌, ◌&&◌, IsTrue, IfSome, is_some, slice_get};
 ghost use Rattle.std.specs.List.{All};
-ghost use Rattle.jv_class_structure.specs.of_pool.Constants.{NameAndDescriptor};
-ghost use Rattle.jv_class_structure.specs.of_pool.Facts.{AreFacts};
+ghost use Rattle.jv_pool.specs.Constants.{NameAndDescriptor};
+ghost use Rattle.jv_pool.specs.Facts.{AreFacts};
 ghost use Rattle.jv_class_structure.specs.Flags.{has, acc_interface};
 ghost use Rattle.jv_class_structure.specs.Parts.{methods_of};
 ghost use Rattle.jv_class_structure.specs.Seen.{seen_method};
@@ -16,9 +16,9 @@ use crate::flags::{
 };
 use crate::names::{is_clinit, is_no_arguments_void};
 use bitflags::Flags;
-use jv_class_structure::of_pool::{MethodFacts, Pool, TextFacts};
-use jv_class_structure::of_text::is_init;
 use jv_class_structure::{ClassFlags, Method, MethodFlags, Parts};
+use jv_pool::{MethodFacts, Pool, TextFacts};
+use jv_text::is_init;
 
 /// Abstract and native.
 const WITHOUT_CODE: MethodFlags = MethodFlags(0x0500);

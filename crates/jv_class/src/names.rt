@@ -1,7 +1,7 @@
 //! Names and descriptors that rules look for.
 
 ghost use Rattle.std.specs.Prelude.{◌≡◌};
-ghost use Rattle.jv_class_structure.specs.of_text.Name.{is_array_name, is_init};
+ghost use Rattle.jv_text.specs.Name.{is_array_name, is_init};
 ghost use Rattle.jv_class.specs.Rules.{is_object, is_clinit, is_no_arguments_void};
 
 pub(crate) fn is_object(name: &[u8]) -> bool

@@ -1,7 +1,7 @@
 //! Reads a class file.
 
 ghost use Rattle.std.specs.Prelude.{◌≡◌, ◌≢◌, IfOk, Err};
-ghost use Rattle.jv_class_structure.specs.of_format.Format.{Finds};
+ghost use Rattle.jv_format.specs.Format.{Finds};
 ghost use Rattle.jv_class_structure.specs.Structure.{ClassStructure};
 ghost use Rattle.jv_class_structure.specs.Version.{is_supported_version};
 ghost use Rattle.jv_class.specs.ClassFile.{IsClassFile, IsOtherVersion, IsUnsupportedFile};
@@ -11,8 +11,8 @@ ghost use Rattle.jv_class.specs.declared.fault.ClassFault.TheVariants.{Version, 
 
 use crate::class_file::{ClassFile, class_of};
 use crate::fault::ClassFault;
-use jv_class_structure::of_format::{half_at, quad_at};
 use jv_class_structure::{PartsFault, one_behind_version, read_parts};
+use jv_format::{half_at, quad_at};
 use std::alloc::Global;
 
 /// What follows the magic number.
@@ -65,7 +65,7 @@ fn class_behind<'a>(alloc: Global, major: u16, bytes: &'a [u8]) -> Result<ClassF
             class_of(alloc, parts)
         }
         Err(PartsFault::Format) => Err(ClassFault::Format),
-        Err(PartsFault::Memory) => Err(ClassFault::Memory),
+        Err(PartsFault::OutOfMemory) => Err(ClassFault::OutOfMemory),
     }
 }
 
@@ -77,7 +77,7 @@ fn class_behind<'a>(alloc: Global, major: u16, bytes: &'a [u8]) -> Result<ClassF
 ///
 /// `Version` where the bytes begin like a class file of another version than 50.0, 51.0 and 52.0,
 /// `Format` where they are no class file else, `Unsupported` where they are one with more than this
-/// host's profile has, its code aside, and `Memory` where the host had none for what was read.
+/// host's profile has, its code aside, and `OutOfMemory` where the host had none for what was read.
 pub fn read_class<'a>(alloc: Global, bytes: &'a [u8]) -> Result<ClassFile<'a>, ClassFault>
     ensures ok { IfOk result (λ c. IsClassFile bytes.now c) }
     ensures supported { IfOk result (λ c. IsSupported c) }

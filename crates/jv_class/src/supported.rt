@@ -3,9 +3,9 @@
 ghost use Rattle.std.specs.Prelude.{◌≡◌, ◌↔◌, ℕ, List, IsTrue, IfSome, map, slice_get};
 ghost use Rattle.std.specs.List.{All};
 ghost use Rattle.std.specs.Option.{IsSomeAnd};
-ghost use Rattle.jv_class_structure.specs.of_pool.Constants.{utf8_at};
-ghost use Rattle.jv_class_structure.specs.of_pool.Facts.{IsFieldKnown, IsMethodKnown, AreFacts};
-ghost use Rattle.jv_class_structure.specs.of_pool.Seen.{seen};
+ghost use Rattle.jv_pool.specs.Constants.{utf8_at};
+ghost use Rattle.jv_pool.specs.Facts.{IsFieldKnown, IsMethodKnown, AreFacts};
+ghost use Rattle.jv_pool.specs.Seen.{seen};
 ghost use Rattle.jv_class_structure.specs.Parts.{methods_of};
 ghost use Rattle.jv_class_structure.specs.Seen.{seen_field, seen_method};
 ghost use Rattle.jv_class.specs.Inside.Reading.{IsSupportedAt};
@@ -14,9 +14,9 @@ ghost use Rattle.jv_class.specs.Inside.Shown.{IsFieldShownSupported, IsMethodSho
 
 use crate::names::is_clinit;
 use bitflags::Flags;
-use jv_class_structure::of_pool::{Constant, FieldFacts, MethodFacts, Pool, TextFacts};
-use jv_class_structure::of_text::is_array_name;
 use jv_class_structure::{Field, Method, MethodFlags, Parts};
+use jv_pool::{Constant, FieldFacts, MethodFacts, Pool, TextFacts};
+use jv_text::is_array_name;
 
 /// Native and synchronized.
 const NOT_SUPPORTED: MethodFlags = MethodFlags(0x0120);

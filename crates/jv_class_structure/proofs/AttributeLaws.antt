@@ -4,9 +4,9 @@ use Rattle.std.specs.Prelude.{IsTrue, ◌&&◌, filter, is_some, codes, nat_lt}
 use Rattle.std.specs.Option.{option_map}
 use Rattle.std.specs.List.{list_all}
 use Rattle.std.proofs.lemmas.Bool.{and_parts, and_from}
-use Rattle.jv_pool.specs.of_format.Format.{◌>>=◌, half, quad}
-use Rattle.jv_pool.specs.of_format.Readers.{both, contents, such_that}
-use Rattle.jv_pool.proofs.laws_of_format.Laws.{IsFormat, half_is, both_is, such_is, contents_is}
+use Rattle.jv_format.specs.Format.{◌>>=◌, half, quad}
+use Rattle.jv_format.specs.Readers.{both, contents, such_that}
+use Rattle.jv_format.proofs.Laws.{IsFormat, half_is, both_is, such_is, contents_is}
 use Rattle.jv_pool.specs.Constants.{Entry}
 use Rattle.jv_class_structure.specs.Structure.{AttributeInfo, attribute_bytes, attribute_fits, table_fits}
 use Rattle.jv_class_structure.specs.Attributes.{has_attribute_name, has_utf8_name, all_named, at_most_one, sole, value_index}

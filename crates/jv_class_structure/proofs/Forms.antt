@@ -3,9 +3,9 @@ use Rattle.std.proofs.Common.{◌≡◌, ℕ, zero, suc, ◌<◌, Bool, true, fa
 use Rattle.std.specs.Prelude.{IsTrue, map}
 use Rattle.std.specs.List.{list_all}
 use Rattle.std.proofs.lemmas.Bool.{and_parts, and_from, eqb-true}
-use Rattle.jv_pool.specs.of_format.Format.{Format, ◌>>=◌, IsBytes, half, quad}
-use Rattle.jv_pool.specs.of_format.Readers.{both, list_read, found_as, after, passed, paired, contents, whole, enclosed}
-use Rattle.jv_pool.proofs.laws_of_format.Laws.{is_some, IsFormat, bind_some, IsBytes-rest, half_is, list_is, after_is, such_is, contents_is}
+use Rattle.jv_format.specs.Format.{Format, ◌>>=◌, IsBytes, half, quad}
+use Rattle.jv_format.specs.Readers.{both, list_read, found_as, after, passed, paired, contents, whole, enclosed}
+use Rattle.jv_format.proofs.Laws.{is_some, IsFormat, bind_some, IsBytes-rest, half_is, list_is, after_is, such_is, contents_is}
 use Rattle.jv_class_structure.specs.Attributes.{at_most_one, sole}
 use Rattle.jv_class_structure.specs.Inside.Reading.{shaped, kept, items_of, table, listed, values_in, solely, one_more, gathered, gather}
 

@@ -1,8 +1,8 @@
 -- The one value among the items of a list: the loop that looks for it, and what it finds.
 use Rattle.std.proofs.Common.{◌≡◌, ℕ, suc, ◌+◌, ◌-◌, ◌<◌, false, eqb, length, List, [], ◌∷◌, Option, Some, None, refl, sym, ap, ◌∙◌, arith}
 use Rattle.std.specs.Option.{option_map}
-use Rattle.jv_pool.specs.of_format.Format.{Format, ◌>>=◌}
-use Rattle.jv_pool.specs.of_format.Readers.{contents, whole, enclosed, enclosed_read}
+use Rattle.jv_format.specs.Format.{Format, ◌>>=◌}
+use Rattle.jv_format.specs.Readers.{contents, whole, enclosed, enclosed_read}
 use Rattle.jv_class_structure.specs.Inside.Reading.{one_more, gathered}
 
 -- one item more

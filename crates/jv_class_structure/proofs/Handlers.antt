@@ -2,11 +2,11 @@
 use Rattle.std.proofs.Common.{◌≡◌, ℕ, zero, suc, ◌+◌, ◌*◌, ◌<◌, ◌≤◌, Bool, true, false, cond, ltb, List, [], ◌∷◌, ◌++◌, length, take, drop, Option, Some, None, refl, sym, ap, ◌∙◌, arith}
 use Rattle.std.specs.Prelude.{IsTrue, ◌&&◌}
 use Rattle.std.proofs.lemmas.Bool.{and_parts, and_from, lt-ltb, le-ltb, ltb-false, ltb-true}
-use Rattle.jv_pool.specs.of_format.Format.{◌>>=◌, half, front}
-use Rattle.jv_pool.specs.of_format.Readers.{both, list_read, found_as}
-use Rattle.jv_pool.proofs.laws_of_format.Laws.{IsFormat, half_is, both_is}
-use Rattle.jv_pool.specs.of_format.declared.handlers.Handler.{Handler}
-use Rattle.jv_pool.specs.of_format.Handlers.{handler_bytes, handler_fits, handlers_in}
+use Rattle.jv_format.specs.Format.{◌>>=◌, half, front}
+use Rattle.jv_format.specs.Readers.{both, list_read, found_as}
+use Rattle.jv_format.proofs.Laws.{IsFormat, half_is, both_is}
+use Rattle.jv_format.specs.declared.handlers.Handler.{Handler}
+use Rattle.jv_format.specs.Handlers.{handler_bytes, handler_fits, handlers_in}
 use Rattle.jv_class_structure.specs.Packed.{handlers_kept}
 use Rattle.jv_class_structure.specs.Inside.Reading.{table, exception_of, exception}
 use Rattle.jv_class_structure.proofs.Forms.{Keeps, shaped_is, by_found}

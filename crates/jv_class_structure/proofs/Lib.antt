@@ -7,5 +7,3 @@ pub mod MemberLaws
 pub mod Packing
 pub mod Numbering
 pub mod Whole
-pub use Rattle.jv_pool.proofs.laws_of_format
-pub use Rattle.jv_pool.proofs.laws_of_text

@@ -4,7 +4,7 @@ use Rattle.std.specs.Prelude.{IsTrue, ◌&&◌, map, filter, is_some}
 use Rattle.std.specs.Option.{option_map}
 use Rattle.std.specs.List.{list_all}
 use Rattle.std.proofs.lemmas.Bool.{and_parts, and_from}
-use Rattle.jv_pool.specs.of_format.Format.{◌>>=◌}
+use Rattle.jv_format.specs.Format.{◌>>=◌}
 use Rattle.jv_class_structure.specs.Attributes.{at_most_one, sole}
 use Rattle.jv_class_structure.specs.Inside.Reading.{listed, values_in}
 

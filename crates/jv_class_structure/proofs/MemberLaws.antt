@@ -4,12 +4,12 @@ use Rattle.std.specs.Prelude.{IsTrue, ◌&&◌, ◌⊎◌, not, map, codes, nat_
 use Rattle.std.specs.Option.{option_map}
 use Rattle.std.specs.List.{flat_map, list_all}
 use Rattle.std.proofs.lemmas.Bool.{and_parts, and_from, not-true, not_from_false}
-use Rattle.jv_pool.specs.of_format.Format.{Format, ◌>>=◌, half, quad}
-use Rattle.jv_pool.specs.of_format.Readers.{both, contents, such_that, paired, enclosed, case_of, found_as, passed}
-use Rattle.jv_pool.proofs.laws_of_format.Laws.{is_some, IsFormat, half_is, both_is, such_is, contents_is, paired_is, enclosed_is, case_is, choice_is}
+use Rattle.jv_format.specs.Format.{Format, ◌>>=◌, half, quad}
+use Rattle.jv_format.specs.Readers.{both, contents, such_that, paired, enclosed, case_of, found_as, passed}
+use Rattle.jv_format.proofs.Laws.{is_some, IsFormat, half_is, both_is, such_is, contents_is, paired_is, enclosed_is, case_is, choice_is}
 use Rattle.jv_pool.specs.Constants.{Entry}
-use Rattle.jv_pool.specs.of_format.declared.handlers.Handler.{Handler}
-use Rattle.jv_pool.specs.of_format.Handlers.{handler_bytes, handler_fits}
+use Rattle.jv_format.specs.declared.handlers.Handler.{Handler}
+use Rattle.jv_format.specs.Handlers.{handler_bytes, handler_fits}
 use Rattle.jv_class_structure.specs.Structure.{AttributeInfo, CodeAttribute, MethodAttribute, FieldInfo, MethodInfo, table_bytes, attribute_bytes, code_bytes, contents_bytes, method_attribute_bytes, field_bytes, method_bytes, table_fits, attribute_fits, code_fits, method_attribute_fits, field_fits, method_fits}
 use Rattle.jv_class_structure.specs.Structure.MethodAttribute.{Code, Other}
 use Rattle.jv_class_structure.specs.Attributes.{has_attribute_name, has_utf8_name, all_named, at_most_one, sole, code_length_keeps_rules, field_attributes_keep_rules, code_keeps_rules, method_attribute_keeps_rules, code_in, codes_of, method_attributes_keep_rules}

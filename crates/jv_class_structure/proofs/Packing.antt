@@ -2,11 +2,11 @@
 use Rattle.std.proofs.Common.{◌≡◌, ℕ, Bool, true, false, cond, ◌*◌, ◌<◌, List, [], ◌++◌, length, Option, Some, None, refl, sym, ap, subst, ◌∙◌, append_assoc, length-append, arith}
 use Rattle.std.specs.Prelude.{IfSome}
 use Rattle.std.proofs.lemmas.Bool.{ltb-true}
-use Rattle.jv_pool.specs.of_format.Format.{◌>>=◌, IsBytes, half, quad, front}
-use Rattle.jv_pool.specs.of_format.Readers.{both, contents, passed, found_as}
-use Rattle.jv_pool.specs.of_format.declared.handlers.Handler.{Handler}
-use Rattle.jv_pool.specs.of_format.Handlers.{handlers_in}
-use Rattle.jv_pool.proofs.laws_of_format.Laws.{is_some, bind_some, IsBytes-rest, half_is, both_is, such_is, contents_is, bytes_is}
+use Rattle.jv_format.specs.Format.{◌>>=◌, IsBytes, half, quad, front}
+use Rattle.jv_format.specs.Readers.{both, contents, passed, found_as}
+use Rattle.jv_format.specs.declared.handlers.Handler.{Handler}
+use Rattle.jv_format.specs.Handlers.{handlers_in}
+use Rattle.jv_format.proofs.Laws.{is_some, bind_some, IsBytes-rest, half_is, both_is, such_is, contents_is, bytes_is}
 use Rattle.jv_pool.specs.Constants.{Entry}
 use Rattle.jv_class_structure.specs.declared.attributes.FoundMap.{FoundMap}
 use Rattle.jv_class_structure.specs.Structure.{AttributeInfo}

@@ -4,9 +4,9 @@ use Rattle.std.specs.Prelude.{IsTrue, ◌&&◌, map, nat_lt, Result, Err}
 use Rattle.std.specs.List.{list_all}
 use Rattle.std.proofs.lemmas.Bool.{and_parts, and_from}
 use Rattle.std.proofs.lemmas.List.{append-nil}
-use Rattle.jv_pool.specs.of_format.Format.{Format, ◌>>=◌, half, IsBytes}
-use Rattle.jv_pool.specs.of_format.Readers.{both, found_as, whole}
-use Rattle.jv_pool.proofs.laws_of_format.Laws.{is_some, IsFormat, half_is, both_is}
+use Rattle.jv_format.specs.Format.{Format, ◌>>=◌, half, IsBytes}
+use Rattle.jv_format.specs.Readers.{both, found_as, whole}
+use Rattle.jv_format.proofs.Laws.{is_some, IsFormat, half_is, both_is}
 use Rattle.jv_pool.specs.Constants.{Entry, pool_bytes}
 use Rattle.jv_pool.specs.Rules.{IsPool, OnePool}
 use Rattle.jv_class_structure.specs.Structure.{ClassStructure, table_bytes, attribute_bytes, field_bytes, method_bytes, body_bytes, table_fits, attribute_fits, field_fits, method_fits, body_fits}
@@ -14,7 +14,7 @@ use Rattle.jv_class_structure.specs.Attributes.{all_named, field_attributes_keep
 use Rattle.jv_class_structure.specs.Parts.{IsBehindVersion, OneBehindVersion, field_shown, method_shown}
 use Rattle.jv_class_structure.specs.Inside.Reading.{three, kept, table, field_attributes, field, method, Body, class_body, structure_of, body_in, structure_in, values_kept, field_kept, method_kept, passed_over, members_kept, BodySeen, body_kept, body_shown, AreBody, FailsWhole}
 use Rattle.jv_class_structure.specs.declared.fault.PartsFault.{PartsFault}
-use Rattle.jv_class_structure.specs.declared.fault.PartsFault.TheVariants.{Format as BadFormat, Memory}
+use Rattle.jv_class_structure.specs.declared.fault.PartsFault.TheVariants.{Format as BadFormat, OutOfMemory}
 use Rattle.jv_class_structure.proofs.Lists.{all_both, all_parts}
 use Rattle.jv_class_structure.proofs.Forms.{Keeps, each_side, table_is, itself, both_keeps, table_keeps}
 use Rattle.jv_class_structure.proofs.AttributeLaws.{field_attributes_is, field_attributes_enter, field_attributes_leave, values_keep}
@@ -255,7 +255,7 @@ fault_in e f same = cc
 
 whole_fails : {A : Type 0} (read : Option (A × List ℕ)) (e : PartsFault) → e ≡ BadFormat → FailsWhole e read → (read >>= whole []) ≡ None
 whole_fails read BadFormat is h = h
-whole_fails read Memory is h = absurd cc
+whole_fails read OutOfMemory is h = absurd cc
 
 pub no_whole : {A : Type 0} (B : Type 0) (read : Option (A × List ℕ)) (e : PartsFault) → err {A = B} e ≡ err {A = B} BadFormat → FailsWhole e read → (read >>= whole []) ≡ None
 no_whole B read e same h = whole_fails read e (fault_in {A = B} e BadFormat same) h

@@ -6,6 +6,3 @@ pub mod Parts
 pub mod Packed
 pub mod Seen
 pub mod Inside
-pub use Rattle.jv_pool.specs.of_format
-pub use Rattle.jv_pool.specs as of_pool
-pub use Rattle.jv_pool.specs.of_text

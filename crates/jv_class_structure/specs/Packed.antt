@@ -1,9 +1,9 @@
 -- How a method's code is found in the contents of its Code attribute (JVMS 4.7.3).
 use Rattle.std.specs.Prelude.{ℕ, ◌*◌, false, if◌then◌else◌, nat_eq, List, [], take, drop, Option, Some, None}
-use Rattle.jv_pool.specs.of_format.Format.{Format, ◌>>=◌, half, front}
-use Rattle.jv_pool.specs.of_format.Readers.{both, contents, found_as}
-use Rattle.jv_pool.specs.of_format.declared.handlers.Handler.{Handler}
-use Rattle.jv_pool.specs.of_format.Handlers.{handlers_in}
+use Rattle.jv_format.specs.Format.{Format, ◌>>=◌, half, front}
+use Rattle.jv_format.specs.Readers.{both, contents, found_as}
+use Rattle.jv_format.specs.declared.handlers.Handler.{Handler}
+use Rattle.jv_format.specs.Handlers.{handlers_in}
 use Rattle.jv_class_structure.specs.Parts.{CodeSeen}
 
 -- exception_table_length, and as many handlers, eight bytes each

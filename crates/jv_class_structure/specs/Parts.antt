@@ -1,7 +1,7 @@
 -- What a class file's bytes behind its version spell (JVMS 4.1), before the rules on names, types and flags.
 use Rattle.std.specs.Prelude.{◌≡◌, ℕ, List, ◌++◌, map, IsTrue, Option}
 use Rattle.std.specs.Option.{option_map}
-use Rattle.jv_pool.specs.of_format.declared.handlers.Handler.{Handler}
+use Rattle.jv_format.specs.declared.handlers.Handler.{Handler}
 use Rattle.jv_pool.specs.Constants.{Entry, pool_bytes}
 use Rattle.jv_pool.specs.Rules.{IsPool}
 use Rattle.jv_class_structure.specs.Structure.{CodeAttribute, FieldInfo, MethodInfo, ClassStructure, body_bytes, body_fits}

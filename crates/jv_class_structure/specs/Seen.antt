@@ -7,7 +7,7 @@ use Rattle.jv_class_structure.specs.declared.member.Field.{Field}
 use Rattle.jv_class_structure.specs.declared.member.MethodCode.{MethodCode}
 use Rattle.jv_class_structure.specs.declared.member.PackedCode.{PackedCode}
 use Rattle.jv_class_structure.specs.declared.member.Method.{Method}
-use Rattle.jv_pool.specs.of_format.Handlers.{handlers_of}
+use Rattle.jv_format.specs.Handlers.{handlers_of}
 use Rattle.jv_class_structure.specs.Parts.{FieldSeen, CodeSeen, MethodSeen}
 use Rattle.jv_class_structure.specs.Packed.{code_in, map_in}
 

@@ -2,9 +2,9 @@
 -- A structure holds what stands in the file, indices as they stand there; what makes it well formed is said by rules over it.
 use Rattle.std.specs.Prelude.{ℕ, Bool, ◌&&◌, nat_lt, List, [], ◌∷◌, ◌++◌, length}
 use Rattle.std.specs.List.{flat_map, list_all}
-use Rattle.jv_pool.specs.of_format.Format.{half, quad}
-use Rattle.jv_pool.specs.of_format.declared.handlers.Handler.{Handler}
-use Rattle.jv_pool.specs.of_format.Handlers.{handler_bytes, handler_fits}
+use Rattle.jv_format.specs.Format.{half, quad}
+use Rattle.jv_format.specs.declared.handlers.Handler.{Handler}
+use Rattle.jv_format.specs.Handlers.{handler_bytes, handler_fits}
 use Rattle.jv_pool.specs.Constants.{Entry, pool_bytes}
 
 -- an attribute that is passed over (4.7): the index of its name, and its contents

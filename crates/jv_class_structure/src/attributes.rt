@@ -1,15 +1,15 @@
 //! Reads attributes (JVMS 4.7). An attribute that is not looked at is passed over by its length.
 
 ghost use Rattle.std.specs.Prelude.{◌≡◌, codes, IfSome};
-ghost use Rattle.jv_pool.specs.of_format.Format.{Finds, half};
-ghost use Rattle.jv_pool.specs.of_format.Readers.{contents, such_that};
+ghost use Rattle.jv_format.specs.Format.{Finds, half};
+ghost use Rattle.jv_format.specs.Readers.{contents, such_that};
 ghost use Rattle.jv_class_structure.specs.Attributes.{is_text_at, has_attribute_name, value_index};
 ghost use Rattle.jv_class_structure.specs.Inside.Kept.{seen_attribute, seen_found};
 ghost use Rattle.jv_class_structure.specs.Inside.Within.{IsFoundIn, AreFoundIn};
 ghost use Rattle.jv_class_structure.specs.Inside.Reading.{is_utf8, attribute, one_more, value_kept, counted_values, values_kept, stack_map_kept, counted_stack_maps, stack_maps_kept};
 
+use jv_format::{bytes_at, half_at, quad_at};
 use jv_pool::Pool;
-use jv_pool::of_format::{bytes_at, half_at, quad_at};
 
 /// An attribute: the index of its name, and its contents.
 #[derive(Clone, Copy)]

@@ -1,8 +1,8 @@
 //! Reads what stands behind the constant pool (JVMS 4.1).
 
 ghost use Rattle.std.specs.Prelude.{map};
-ghost use Rattle.jv_pool.specs.of_format.Format.{Finds, half};
-ghost use Rattle.jv_pool.specs.of_format.Readers.{list_of};
+ghost use Rattle.jv_format.specs.Format.{Finds, half};
+ghost use Rattle.jv_format.specs.Readers.{list_of};
 ghost use Rattle.jv_class_structure.specs.Seen.{seen_index, seen_field, seen_fields};
 ghost use Rattle.jv_class_structure.specs.Inside.Kept.{seen_list, seen_body};
 ghost use Rattle.jv_class_structure.specs.Inside.Reading.{Gives, GivesWhole, table, field_kept, method_kept, passed_over, members_kept, body_kept, last_kept};
@@ -13,7 +13,7 @@ use crate::flags::ClassFlags;
 use crate::member::Field;
 use crate::members::{field_at, method_at, three_at};
 use crate::method_list::MethodList;
-use jv_pool::of_format::half_at;
+use jv_format::half_at;
 use jv_pool::{ClassIndex, Pool};
 use std::alloc::Global;
 

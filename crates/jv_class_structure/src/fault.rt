@@ -1,7 +1,7 @@
 //! Why bytes have no parts.
 
 ghost use Rattle.std.specs.Prelude.{◌≡◌};
-ghost use Rattle.jv_class_structure.specs.declared.fault.PartsFault.TheVariants.{Memory};
+ghost use Rattle.jv_class_structure.specs.declared.fault.PartsFault.TheVariants.{OutOfMemory};
 
 use std::alloc::{AllocError, AllocFailed};
 
@@ -11,21 +11,21 @@ pub enum PartsFault {
     /// The bytes are no class structure's.
     Format,
     /// The host had no memory for the lists.
-    Memory,
+    OutOfMemory,
 }
 
 impl<T: Drop> From<AllocFailed<T>> for PartsFault {
-    ghost from_gives = { λ _ e. e ≡ Memory };
+    ghost from_gives = { λ _ e. e ≡ OutOfMemory };
 
     fn from(_e: AllocFailed<T>) -> PartsFault {
-        PartsFault::Memory
+        PartsFault::OutOfMemory
     }
 }
 
 impl From<AllocError> for PartsFault {
-    ghost from_gives = { λ _ e. e ≡ Memory };
+    ghost from_gives = { λ _ e. e ≡ OutOfMemory };
 
     fn from(_e: AllocError) -> PartsFault {
-        PartsFault::Memory
+        PartsFault::OutOfMemory
     }
 }

@@ -14,8 +14,6 @@ mod parts;
 
 pub use fault::PartsFault;
 pub use flags::{ClassFlags, FieldFlags, MethodFlags};
-pub use jv_pool as of_pool;
-pub use jv_pool::{of_format, of_text};
 pub use law::one_behind_version;
 pub use member::{Field, Method, MethodCode};
 pub use parts::{Parts, read_parts};

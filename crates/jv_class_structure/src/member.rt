@@ -8,8 +8,8 @@ ghost use Rattle.jv_class_structure.specs.Inside.Kept.{seen_map};
 
 use crate::flags::{FieldFlags, MethodFlags};
 use crate::members::code_in;
+use jv_format::ExceptionTable;
 use jv_pool::Utf8Index;
-use jv_pool::of_format::ExceptionTable;
 
 /// A field.
 #[derive(Clone, Copy)]

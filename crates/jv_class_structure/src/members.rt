@@ -1,9 +1,9 @@
 //! Reads fields and methods (JVMS 4.5, 4.6, 4.7.3).
 
 ghost use Rattle.std.specs.Prelude.{◌≡◌, ◌<◌, length, IfSome};
-ghost use Rattle.jv_pool.specs.of_format.Format.{Finds, half};
-ghost use Rattle.jv_pool.specs.of_format.Readers.{both, enclosed, contents, such_that};
-ghost use Rattle.jv_pool.specs.of_format.Handlers.{handlers_of};
+ghost use Rattle.jv_format.specs.Format.{Finds, half};
+ghost use Rattle.jv_format.specs.Readers.{both, enclosed, contents, such_that};
+ghost use Rattle.jv_format.specs.Handlers.{handlers_of};
 ghost use Rattle.jv_class_structure.specs.Flags.{has, acc_static};
 ghost use Rattle.jv_class_structure.specs.Seen.{seen_field, seen_code, unpacked, seen_method};
 ghost use Rattle.jv_class_structure.specs.Packed.{handlers_kept, code_front, code_in};
@@ -16,7 +16,7 @@ use crate::attributes::{
 };
 use crate::flags::{FieldFlags, MethodFlags};
 use crate::member::{Field, Method, MethodCode, PackedCode};
-use jv_pool::of_format::{ExceptionTable, bytes_at, half_at};
+use jv_format::{ExceptionTable, bytes_at, half_at};
 use jv_pool::{Pool, Utf8Index};
 
 /// Three numbers, and what follows them.

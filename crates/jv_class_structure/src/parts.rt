@@ -43,7 +43,7 @@ impl<'a> Model for Parts<'a> {
 ///
 /// # Errors
 ///
-/// `Format` where the bytes are no class structure's, and `Memory` where the host had none for the
+/// `Format` where the bytes are no class structure's, and `OutOfMemory` where the host had none for the
 /// constant pool or for the lists of interfaces, fields and methods.
 pub fn read_parts<'a>(alloc: Global, major: u16, bytes: &'a [u8]) -> Result<Parts<'a>, PartsFault>
     ensures ok { IfOk result (λ c. IsBehindVersion major bytes.now c) }
@@ -52,7 +52,7 @@ pub fn read_parts<'a>(alloc: Global, major: u16, bytes: &'a [u8]) -> Result<Part
     let (pool, taken) = match read_pool(alloc, bytes) {
         Ok(found) => found,
         Err(PoolFault::BadPool) => return Err(PartsFault::Format),
-        Err(PoolFault::Memory) => return Err(PartsFault::Memory),
+        Err(PoolFault::OutOfMemory) => return Err(PartsFault::OutOfMemory),
     };
     one_pool();
     let (_, rest) = bytes.split_at(taken);

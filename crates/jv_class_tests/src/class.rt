@@ -29,7 +29,7 @@ fn answer_to(alloc: Global, bytes: &[u8]) -> &'static str {
         Err(ClassFault::Version) => "Version",
         Err(ClassFault::Format) => "Format",
         Err(ClassFault::Unsupported) => "Unsupported",
-        Err(ClassFault::Memory) => "Memory",
+        Err(ClassFault::OutOfMemory) => "Memory",
     }
 }
 
@@ -92,7 +92,7 @@ fn reads_the_parts(rt: HostRuntime) {
 fn reads_or_has_no_memory(rt: HostRuntime) {
     let is_right = match read_class(rt.alloc(), &HI) {
         Ok(class) => class.name() == b"Hi".as_slice(),
-        Err(fault) => matches!(fault, ClassFault::Memory),
+        Err(fault) => matches!(fault, ClassFault::OutOfMemory),
     };
     assert!(rt; is_right);
 }

@@ -103,7 +103,7 @@ fn padding_is_counted_from_the_start(rt: HostRuntime) {
 fn is_spelled_or_has_no_memory(rt: HostRuntime) {
     match write_code(rt.alloc(), &[Item::Plain(0), Item::SignedHalf(167, -1)]) {
         Ok(code) => assert!(rt; code.as_slice() == b"\x00\xa7\xff\xff".as_slice()),
-        Err(fault) => assert!(rt; matches!(fault, AsmFault::Memory)),
+        Err(fault) => assert!(rt; matches!(fault, AsmFault::OutOfMemory)),
     }
 }
 

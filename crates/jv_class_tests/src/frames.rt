@@ -1,8 +1,8 @@
 //! Frames of each form.
 
 use crate::support::{POOL, frames_in};
-use jv_frames::{Entries, FrameEntry, MapFrames, no_frames};
 use jv_pool::read_pool;
+use jv_stackmap::{Entries, FrameEntry, MapFrames, no_frames};
 use std::alloc::Global;
 
 /// A frame as the tests have it: its offset, a letter for each of its local entries from the last

@@ -15,7 +15,7 @@ fn answer_to(alloc: Global, bytes: &[u8]) -> &'static str {
     match read_pool(alloc, bytes) {
         Ok(_) => "Read",
         Err(PoolFault::BadPool) => "BadPool",
-        Err(PoolFault::Memory) => "Memory",
+        Err(PoolFault::OutOfMemory) => "Memory",
     }
 }
 
@@ -102,7 +102,7 @@ fn has_members(pool: &Pool<'_>) -> bool {
 fn reads_or_has_no_memory(rt: HostRuntime) {
     let is_right = match read_pool(rt.alloc(), pool_of_hi()) {
         Ok((_, taken)) => taken == 109,
-        Err(fault) => matches!(fault, PoolFault::Memory),
+        Err(fault) => matches!(fault, PoolFault::OutOfMemory),
     };
     assert!(rt; is_right);
 }

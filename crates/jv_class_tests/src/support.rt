@@ -1,7 +1,7 @@
 //! What the tests share.
 
-use jv_frames::{FrameFault, Limits, MapFrames, Width, read_frames};
 use jv_pool::{Pool, read_pool};
+use jv_stackmap::{FrameFault, Limits, MapFrames, Width, read_frames};
 use std::alloc::Global;
 
 /// Utf8 `A`, Class 1, Utf8 `[[J`, Class 3.

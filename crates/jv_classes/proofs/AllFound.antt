@@ -5,7 +5,7 @@ use Rattle.std.proofs.lemmas.Option.{slice_get_cases}
 use Rattle.std.specs.Option.{option_map, IsSomeAnd}
 use Rattle.std.proofs.lemmas.List.{take_more}
 use Rattle.jv_format.specs.Format.{◌>>=◌}
-use Rattle.jv_meaning_world.specs.of_class.Class.{all_found}
+use Rattle.jv_class.specs.Class.{all_found}
 
 module _ {X Y : Type 0} (look : X → Option Y) where
   -- where something is found of all, it is so of the first and of the others

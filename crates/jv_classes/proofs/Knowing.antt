@@ -1,7 +1,7 @@
 -- One text more whose class is known.
 use Rattle.std.proofs.Common.{◌≡◌, ℕ, ◌<◌, Bool, true, false, List, length, get_or, set, nat_eq, Option, Some, None, refl, sym, subst, get_or-set_same, get_or-set_other}
 use Rattle.std.proofs.lemmas.Bool.{eqb-true, eqb-false}
-use Rattle.jv_meaning_world.specs.of_pool.Constants.{Entry}
+use Rattle.jv_pool.specs.Constants.{Entry}
 use Rattle.jv_meaning_world.specs.World.{World}
 use Rattle.jv_classes.specs.Inside.Known.{IsKnown, AreKnown, text_number}
 

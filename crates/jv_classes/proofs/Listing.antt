@@ -9,7 +9,7 @@ use Rattle.std.proofs.lemmas.List.{length-map, map-append}
 use Rattle.std.proofs.lemmas.List.Recursion.{is_position_or_len}
 use Rattle.jv_classes.specs.Names.{with_name}
 use Rattle.jv_classes.proofs.Pushed.{in_two_parts}
-use Rattle.jv_meaning_world.specs.of_class.Rules.{is_no_array_name}
+use Rattle.jv_class.specs.Rules.{is_no_array_name}
 use Rattle.jv_meaning_world.specs.World.{Loaded}
 use Rattle.jv_meaning_world.specs.Numbers.{number_named, IsNumbered, AreNoArrays}
 use Rattle.jv_classes.specs.Inside.Listed.{name_of, names_of}

@@ -1,8 +1,8 @@
 -- A class as it is kept with its file.
 use Rattle.std.proofs.Common.{◌≡◌, Bool, Option, Some, None, refl, sym, ap, ◌∙◌}
 use Rattle.std.specs.Prelude.{IsSome, unwrap_or}
-use Rattle.jv_meaning_world.specs.of_class_structure.Structure.{ClassStructure}
-use Rattle.jv_meaning_world.specs.of_class.Class.{Class, class_of}
+use Rattle.jv_class_structure.specs.Structure.{ClassStructure}
+use Rattle.jv_class.specs.Class.{Class, class_of}
 use Rattle.jv_meaning_world.specs.System.Io.{io}
 use Rattle.jv_classes.specs.declared.kept.Kept.{Kept}
 use Rattle.jv_classes.specs.Inside.Kept.{Keeps, class_of_file, IsLoaded}

@@ -3,15 +3,15 @@ use Rattle.std.proofs.Common.{◌≡◌, ℕ, zero, suc, ◌<◌, List, [], ◌�
 use Rattle.std.specs.Prelude.{Result, Ok, Err, IfOk, slice_get}
 use Rattle.std.specs.Option.{option_map, option_copied}
 use Rattle.jv_format.specs.Format.{◌>>=◌}
-use Rattle.jv_meaning_world.specs.of_pool.declared.index.ClassIndex.{ClassIndex}
-use Rattle.jv_meaning_world.specs.of_pool.Constants.{Entry, NameAndDescriptor, named_at, class_name_at}
-use Rattle.jv_meaning_world.specs.of_class_structure.declared.member.Field.{Field}
-use Rattle.jv_meaning_world.specs.of_class_structure.Seen.{seen_index, seen_field}
-use Rattle.jv_meaning_world.specs.of_class_structure.Parts.{FieldSeen, field_shown, method_shown, fields_of, methods_of}
-use Rattle.jv_meaning_world.specs.of_class_structure.Structure.{ClassStructure}
-use Rattle.jv_meaning_world.specs.of_class.ClassFile.{class_name}
-use Rattle.jv_meaning_world.specs.of_class.Rules.{NoTwoAlike, field_texts as field_info_texts, method_texts as method_info_texts}
-use Rattle.jv_meaning_world.specs.of_class.Class.{Class, all_found, field_of, method_of, super_of, class_of}
+use Rattle.jv_pool.specs.declared.index.ClassIndex.{ClassIndex}
+use Rattle.jv_pool.specs.Constants.{Entry, NameAndDescriptor, named_at, class_name_at}
+use Rattle.jv_class_structure.specs.declared.member.Field.{Field}
+use Rattle.jv_class_structure.specs.Seen.{seen_index, seen_field}
+use Rattle.jv_class_structure.specs.Parts.{FieldSeen, field_shown, method_shown, fields_of, methods_of}
+use Rattle.jv_class_structure.specs.Structure.{ClassStructure}
+use Rattle.jv_class.specs.ClassFile.{class_name}
+use Rattle.jv_class.specs.Rules.{NoTwoAlike, field_texts as field_info_texts, method_texts as method_info_texts}
+use Rattle.jv_class.specs.Class.{Class, all_found, field_of, method_of, super_of, class_of}
 use Rattle.jv_meaning_world.specs.World.{World, package_of}
 use Rattle.jv_meaning_world.specs.Numbers.{number_named}
 use Rattle.std.proofs.lemmas.List.{length-map}

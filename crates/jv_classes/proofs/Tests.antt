@@ -4,7 +4,7 @@ use Rattle.std.specs.Prelude.{not, is_some}
 use Rattle.std.specs.Option.{option_copied}
 use Rattle.std.specs.Borrow.{Bor}
 use Rattle.std.specs.List.{list_all}
-use Rattle.jv_meaning_world.specs.of_class.Class.{Class}
+use Rattle.jv_class.specs.Class.{Class}
 use Rattle.jv_meaning_world.specs.World.{Loaded, World, class_named}
 use Rattle.jv_meaning_world.specs.Above.{super_names, superclass_names}
 use Rattle.jv_meaning_world.specs.Verdicts.{passes, each_super, is_interface, superclass_passes, have_right_kind}

@@ -1,7 +1,7 @@
 -- Where the texts of a constant pool stand among those that are gathered, when one more is.
 use Rattle.std.proofs.Common.{◌≡◌, ℕ, zero, suc, List, [], ◌∷◌, ◌++◌, length, get_or, set, Option, Some, None, refl, inl, inr, sym, ap, ◌∙◌}
 use Rattle.std.specs.Prelude.{◌⊎◌, slice_get}
-use Rattle.jv_meaning_world.specs.of_pool.Constants.{Entry, utf8_at}
+use Rattle.jv_pool.specs.Constants.{Entry, utf8_at}
 use Rattle.jv_classes.specs.Inside.Found.{ArePlaces, Stay}
 
 pub stay : (texts : List (List ℕ)) (more : List (List ℕ)) → Stay texts (texts ++ more)

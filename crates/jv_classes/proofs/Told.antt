@@ -9,7 +9,7 @@ use Rattle.std.proofs.lemmas.List.Elements.{Contains-append_cases, All-cons, All
 use Rattle.std.proofs.lemmas.Option.{slice_get-get_or}
 use Rattle.jv_format.specs.Format.{◌>>=◌}
 use Rattle.jv_classes.specs.Ways.{Rows, related, IsBelowSize, is_there}
-use Rattle.jv_meaning_world.specs.of_class.Class.{Class}
+use Rattle.jv_class.specs.Class.{Class}
 use Rattle.jv_meaning_world.specs.World.{Loaded, World, class_named}
 use Rattle.jv_meaning_world.specs.Above.{super_names, superclass_names, class_if_named}
 use Rattle.jv_meaning_world.proofs.Up.{none, first, later, single, same_name, found_super}

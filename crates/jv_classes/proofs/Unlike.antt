@@ -5,9 +5,9 @@ use Rattle.std.specs.Option.{option_map}
 use Rattle.std.specs.Str.{bytes_eq}
 use Rattle.std.proofs.lemmas.Bool.{and_parts}
 use Rattle.std.proofs.lemmas.Slice.Eq.{bytes_eq-Decides}
-use Rattle.jv_meaning_world.specs.of_pool.Constants.{NameAndDescriptor, name_and_descriptor}
-use Rattle.jv_meaning_world.specs.of_class.Class.{all_found}
-use Rattle.jv_meaning_world.specs.of_class.Rules.{NoTwoAlike}
+use Rattle.jv_pool.specs.Constants.{NameAndDescriptor, name_and_descriptor}
+use Rattle.jv_class.specs.Class.{all_found}
+use Rattle.jv_class.specs.Rules.{NoTwoAlike}
 use Rattle.jv_classes.specs.Inside.Seen.{MemberSeen, declares}
 use Rattle.jv_classes.specs.Inside.Found.{member_with}
 use Rattle.jv_classes.proofs.AllFound.{parts_found}

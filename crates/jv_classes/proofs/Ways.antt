@@ -9,7 +9,7 @@ use Rattle.std.proofs.lemmas.Option.{slice_get-get_or, slice_get_within, get_or_
 use Rattle.std.proofs.lemmas.List.{get_or-map}
 use Rattle.jv_classes.proofs.RelationWays.{to_below}
 use Rattle.jv_classes.specs.Inside.Told.{TellsAbove, AreAllMarked}
-use Rattle.jv_meaning_world.specs.of_class.Class.{Class}
+use Rattle.jv_class.specs.Class.{Class}
 use Rattle.jv_classes.specs.Ways.{Rows, related, IsSquare, IsWay, Reaches}
 use Rattle.jv_meaning_world.specs.World.{Loaded, World, class_named}
 use Rattle.jv_meaning_world.specs.Above.{supers_in, above, is_above}

@@ -1,6 +1,6 @@
 -- Hashes of the texts of a constant pool.
 use Rattle.std.specs.Prelude.{◌≡◌, ℕ, List, Some, slice_get}
-use Rattle.jv_meaning_world.specs.of_pool.Constants.{Entry, utf8_at}
+use Rattle.jv_pool.specs.Constants.{Entry, utf8_at}
 use Rattle.jv_classes.specs.Texts.{text_hash}
 
 -- where there is one for the index of a text, it is that of the text

@@ -1,6 +1,6 @@
 -- Which classes may declare a member of a name and a descriptor, by keys: marks that leave out none that does.
 use Rattle.std.specs.Prelude.{◌≡◌, ◌-◌, ◌/◌, ◌%◌, ◌^◌, ◌||◌, ℕ, suc, Bool, false, true, List, [], length, Some, None, bit_and, get_or, nat_eq, slice_get, if◌then◌else◌}
-use Rattle.jv_meaning_world.specs.of_class.Class.{Field, Method, field_named, method_named}
+use Rattle.jv_class.specs.Class.{Field, Method, field_named, method_named}
 use Rattle.jv_meaning_world.specs.World.{Loaded, World}
 use Rattle.jv_classes.specs.Texts.{Key, key_of}
 

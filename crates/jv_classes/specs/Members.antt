@@ -1,6 +1,6 @@
 -- A field or a method of a class, as the code has it (JVMS 4.5, 4.6).
 use Rattle.std.specs.Prelude.{◌≡◌}
-use Rattle.jv_meaning_world.specs.of_class.Class.{Field, Method}
+use Rattle.jv_class.specs.Class.{Field, Method}
 use Rattle.jv_classes.specs.declared.member.Member.{Member}
 
 -- it is this field of its class

@@ -2,7 +2,7 @@
 -- and whatever asks about its supers learns nothing from the second time (own).
 use Rattle.std.specs.Prelude.{ℕ, Bool, true, false, nat_eq, List, [], ◌∷◌, ◌++◌, map, Option, Some, None, if◌then◌else◌}
 use Rattle.std.specs.List.{fold, list_any}
-use Rattle.jv_meaning_world.specs.of_class.Class.{Class}
+use Rattle.jv_class.specs.Class.{Class}
 use Rattle.jv_meaning_world.specs.World.{World}
 use Rattle.jv_meaning_world.specs.Above.{superclass_names}
 use Rattle.jv_meaning_world.specs.Numbers.{number_named}

@@ -1,12 +1,12 @@
 //! The texts of a constant pool, each hashed once.
 
 ghost use Rattle.std.specs.Prelude.{◌≡◌, ℕ, List, IfOk, IsSome, Some};
-ghost use Rattle.jv_meaning_world.specs.of_pool.Constants.{utf8_at};
+ghost use Rattle.jv_pool.specs.Constants.{utf8_at};
 ghost use Rattle.jv_classes.specs.Texts.{text_hash};
 ghost use Rattle.jv_classes.specs.Hashes.{AreHashes};
 
 use crate::text::{Text, text_hash};
-use jv_meaning_world::of_pool::{Pool, Utf8Index};
+use jv_pool::{Pool, Utf8Index};
 use std::alloc::{AllocError, Global};
 
 /// The hash of the text at an index, and any number where there is none.

@@ -3,10 +3,10 @@
 ghost use Rattle.std.specs.Prelude.{◌≡◌, ◌<◌, IfOk, IfSome, OnOk, IsSome, None, Some, get_or, length, map, set, slice_get};
 ghost use Rattle.std.specs.List.{All};
 ghost use Rattle.std.specs.Option.{option_copied};
-ghost use Rattle.jv_meaning_world.specs.of_pool.Constants.{utf8_at};
-ghost use Rattle.jv_meaning_world.specs.of_class.Class.{Class, all_found, class_of, super_of};
-ghost use Rattle.jv_meaning_world.specs.of_class.Rules.{NoTwoAlike};
-ghost use Rattle.jv_meaning_world.specs.of_class_structure.Parts.{methods_of};
+ghost use Rattle.jv_pool.specs.Constants.{utf8_at};
+ghost use Rattle.jv_class.specs.Class.{Class, all_found, class_of, super_of};
+ghost use Rattle.jv_class.specs.Rules.{NoTwoAlike};
+ghost use Rattle.jv_class_structure.specs.Parts.{methods_of};
 ghost use Rattle.jv_classes.specs.Hashes.{AreHashes};
 ghost use Rattle.jv_classes.specs.Inside.Kept.{Keeps};
 ghost use Rattle.jv_classes.specs.Inside.Seen.{field_seen, method_seen};
@@ -17,8 +17,8 @@ use crate::kept::Kept;
 use crate::members::{Gathered, Members};
 use crate::package::package;
 use crate::text::seed_of;
-use jv_meaning_world::of_class::{ClassFile, Field};
-use jv_meaning_world::of_pool::{Pool, Utf8Index};
+use jv_class::{ClassFile, Field};
+use jv_pool::{Pool, Utf8Index};
 use std::alloc::{AllocError, Global};
 use std::hash::RandomState;
 

@@ -2,8 +2,8 @@
 
 ghost use Rattle.std.specs.Prelude.{◌≡◌, List, IfOk, IsSome, map, not, true};
 ghost use Rattle.std.specs.List.{All, list_all};
-ghost use Rattle.jv_meaning_world.specs.of_pool.Constants.{Entry, class_name_at, utf8_at};
-ghost use Rattle.jv_meaning_world.specs.of_class_structure.Flags.{has, acc_final};
+ghost use Rattle.jv_pool.specs.Constants.{Entry, class_name_at, utf8_at};
+ghost use Rattle.jv_class_structure.specs.Flags.{has, acc_final};
 ghost use Rattle.jv_meaning_world.specs.World.{World, can_name};
 ghost use Rattle.jv_meaning_world.specs.Above.{superclass_names, is_circular};
 ghost use Rattle.jv_meaning_world.specs.Laws.Above.{stands_itself};
@@ -16,7 +16,7 @@ ghost use Rattle.jv_classes.specs.Inside.Tests.{passes_at, marked_at, are_of_rig
 use crate::list::ClassList;
 use crate::loaded_class::LoadedClass;
 use crate::once::Once;
-use jv_meaning_world::of_pool::{ClassIndex, Constant, Pool};
+use jv_pool::{ClassIndex, Constant, Pool};
 use std::alloc::{AllocError, Global};
 
 /// The number of the superclass, where the class has one and it is there.

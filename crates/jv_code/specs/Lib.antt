@@ -9,4 +9,3 @@ pub mod Handlers
 pub mod Targets
 pub mod Successors
 pub mod Operands
-pub use Rattle.jv_format.specs as of_format

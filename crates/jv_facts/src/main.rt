@@ -23,7 +23,7 @@ pub(crate) fn fault_name(fault: ClassFault) -> &'static str {
         ClassFault::Version => "Version",
         ClassFault::Format => "Format",
         ClassFault::Unsupported => "Unsupported",
-        ClassFault::Memory => "Memory",
+        ClassFault::OutOfMemory => "Memory",
     }
 }
 

@@ -3,15 +3,15 @@ use Rattle.std.proofs.Common.{◌≡◌, ℕ, suc, ◌≤◌, List, [], ◌∷�
 use Rattle.std.specs.Borrow.{Bor}
 use Rattle.jv_meaning_world.specs.FileContent.{FileContent, AreContents}
 use Rattle.jv_meaning_machine.specs.Alone.{Feed}
-use Rattle.jv_interp.specs.of_method.Files.{Verified, AreFilesOf}
-use Rattle.jv_interp_memory.specs.ObjectsInBlocks.{Blocks}
+use Rattle.jv_verify.specs.Files.{Verified, AreFilesOf}
+use Rattle.jv_interp_heap.specs.ObjectsInBlocks.{Blocks}
 use Rattle.jv_interp.specs.Started.{budget_of}
 use Rattle.jv_interp.proofs.FewClasses.{few_classes}
 use Rattle.jv_interp.specs.Standing.{GuestStands}
 use Rattle.jv_interp.specs.Beginning.{Begins}
 use Rattle.jv_host.specs.declared.admission.Fed.{Fed}
 use Rattle.jv_host.specs.declared.admission.Admitted.{Admitted}
-use Rattle.jv_host.specs.Bytes.{bytes_of}
+use Rattle.jv_limits.specs.Bytes.{bytes_of}
 use Rattle.jv_host.specs.Files.{guest_of}
 use Rattle.jv_host.specs.Host.{Admission, fed_bytes}
 use Rattle.jv_host.specs.Calls.{admission}

@@ -5,7 +5,7 @@ use Rattle.jv_meaning_machine.specs.Faults.{OrFault}
 use Rattle.jv_meaning_machine.specs.State.{State}
 use Rattle.jv_meaning_machine.specs.Alone.{Judged, IsJudged, alone}
 use Rattle.jv_meaning_machine.specs.Observation.{observation}
-use Rattle.jv_interp.specs.of_sound.Law.{NeverFaults as JudgedNeverFaults}
+use Rattle.jv_sound.specs.Law.{NeverFaults as JudgedNeverFaults}
 use Rattle.jv_host.specs.Host.{Admission}
 use Rattle.jv_host.specs.Faultless.{NeverFaults}
 

@@ -4,10 +4,10 @@ use Rattle.std.proofs.lemmas.Bool.{lt-ltb, le-ltb}
 use Rattle.std.specs.Prelude.{Bool, cond}
 use Rattle.jv_meaning_machine.specs.Start.{Budget as BudgetOfMachine}
 use Rattle.jv_meaning_machine.specs.Alone.{GuestFiles as FilesOfGuest, Feed}
-use Rattle.jv_interp_memory.specs.ObjectsInBlocks.{Blocks}
+use Rattle.jv_interp_heap.specs.ObjectsInBlocks.{Blocks}
 use Rattle.jv_interp.specs.Started.{budget_of}
 use Rattle.jv_interp.specs.Standing.{GuestStands, IsFed, StandsStill}
-use Rattle.jv_host.specs.declared.fault.FeedFault.TheVariants as faults
+use Rattle.jv_limits.specs.declared.fault.FeedFault.TheVariants as faults
 use Rattle.jv_host.specs.declared.admission.Fed.{Fed}
 use Rattle.jv_host.specs.declared.admission.Admitted.{Admitted}
 use Rattle.jv_host.specs.Files.{guest_of}

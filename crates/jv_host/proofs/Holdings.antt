@@ -1,7 +1,7 @@
 -- All guests of a host stand in one store, whatever one of them does.
 use Rattle.std.proofs.Common.{◌≡◌, ◌≢◌, ℕ, zero, suc, ◌+◌, ◌<◌, ◌≤◌, List, [], ◌∷◌, ◌++◌, Some, length, length-append, append-nil, slice_get, map, set, refl, sym, ap, subst, ◌∙◌, inl, inr, arith}
-use Rattle.jv_interp_memory.specs.ObjectsInBlocks.{Blocks}
-use Rattle.jv_interp_memory.specs.Growing.{Grows}
+use Rattle.jv_interp_heap.specs.ObjectsInBlocks.{Blocks}
+use Rattle.jv_interp_held.specs.Growing.{Grows}
 use Rattle.jv_interp.specs.Started.{budget_of}
 use Rattle.jv_interp.specs.Standing.{AreApart}
 use Rattle.jv_interp.proofs.Elsewhere.{stands_elsewhere, still_apart}

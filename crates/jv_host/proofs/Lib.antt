@@ -2,7 +2,6 @@ pub mod Beginnings
 pub mod Faultless
 pub mod Feeding
 pub mod Holdings
-pub mod LongFiles
 pub mod MayBegin
 pub mod Places
 pub mod Rounding

@@ -1,6 +1,6 @@
 -- Whether a guest takes steps.
 use Rattle.std.proofs.Common.{ℕ, true, false, List, map, refl}
-use Rattle.jv_interp_memory.specs.ObjectsInBlocks.{Blocks}
+use Rattle.jv_interp_heap.specs.ObjectsInBlocks.{Blocks}
 use Rattle.jv_interp.specs.Started.{budget_of}
 use Rattle.jv_interp.specs.Showing.{IsAnswered}
 use Rattle.jv_meaning_machine.specs.Observation.{observation}

@@ -12,7 +12,7 @@ use Rattle.jv_meaning_machine.specs.Laws.Feeds.{came_behind}
 use Rattle.jv_meaning_machine.specs.Laws.Ends.{EndedGuestStays}
 use Rattle.jv_meaning_machine.specs.Laws.Shown.{OneJudged}
 use Rattle.jv_meaning_machine.proofs.Leading.{bound_gave, same_given}
-use Rattle.jv_interp_memory.specs.ObjectsInBlocks.{Blocks}
+use Rattle.jv_interp_heap.specs.ObjectsInBlocks.{Blocks}
 use Rattle.jv_interp.specs.Started.{budget_of}
 use Rattle.jv_interp.specs.declared.guest.Guest.{Guest}
 use Rattle.jv_interp.specs.Standing.{GuestStands, Went, WentOn}

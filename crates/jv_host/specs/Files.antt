@@ -2,7 +2,7 @@
 use Rattle.std.specs.Prelude.{map}
 use Rattle.jv_meaning_machine.specs.Alone.{GuestFiles as FilesOfGuest}
 use Rattle.jv_host.specs.declared.files.GuestFiles.{GuestFiles}
-use Rattle.jv_host.specs.Bytes.{bytes_of}
+use Rattle.jv_limits.specs.Bytes.{bytes_of}
 
 -- its class files, the name of its main class and its input
 abbrev pub guest_of : GuestFiles → FilesOfGuest

@@ -4,11 +4,11 @@ use Rattle.std.specs.Option.{option_or}
 use Rattle.jv_format.specs.Numbers.{is_from_to}
 use Rattle.jv_meaning_machine.specs.Start.{Budget}
 use Rattle.jv_meaning_machine.specs.Alone.{GuestFiles}
-use Rattle.jv_host.specs.declared.fault.AdmitFault.{AdmitFault}
-use Rattle.jv_host.specs.declared.fault.AdmitFault.TheVariants.{InputTooLong, BudgetOutOfRange, TooManyGuests, HostMemory}
-use Rattle.jv_host.specs.declared.fault.FeedFault.{FeedFault}
-use Rattle.jv_host.specs.declared.fault.FeedFault.TheVariants as feeds
-use Rattle.jv_host.specs.FileLimits.{first_file_refusal}
+use Rattle.jv_limits.specs.declared.fault.AdmitFault.{AdmitFault}
+use Rattle.jv_limits.specs.declared.fault.AdmitFault.TheVariants.{InputTooLong, BudgetOutOfRange, TooManyGuests, HostMemory}
+use Rattle.jv_limits.specs.declared.fault.FeedFault.{FeedFault}
+use Rattle.jv_limits.specs.declared.fault.FeedFault.TheVariants as feeds
+use Rattle.jv_limits.specs.FileLimits.{first_file_refusal}
 use Rattle.jv_host.specs.Host.{Admission, input_bytes}
 
 -- ---- admissions

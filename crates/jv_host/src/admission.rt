@@ -1,24 +1,24 @@
 //! A guest that was admitted.
 
 ghost use Rattle.std.specs.Prelude.{◌≡◌, ◌≢◌, ◌+◌, ◌-◌, ◌<◌, ◌≤◌, [], Some, None, Err, true, false, length, IfOk, IfErr, IsOk, OnOk, OnErr, IsTrue};
-ghost use Rattle.jv_heap.specs.Content.{words_held};
-ghost use Rattle.jv_interp_memory.specs.ObjectsInBlocks.{Blocks};
+ghost use Rattle.jv_store.specs.Content.{words_held};
+ghost use Rattle.jv_interp_heap.specs.ObjectsInBlocks.{Blocks};
 ghost use Rattle.jv_interp.specs.Started.{budget_of};
-ghost use Rattle.jv_host.specs.declared.fault.FeedFault.TheVariants.{HostMemory};
+ghost use Rattle.jv_limits.specs.declared.fault.FeedFault.TheVariants.{HostMemory};
 ghost use Rattle.jv_host.specs.Files.{guest_of};
 ghost use Rattle.jv_host.specs.Host.{stepped, fed_now};
 ghost use Rattle.jv_host.specs.Limits.{feed_refusal_of};
 ghost use Rattle.jv_host.specs.Calls.{admission, HadTurn, HadCutTurn};
 ghost use Rattle.jv_host.specs.Inside.Holding.{admission_of, IsSomeHeld, GoesOn, HasBegun, StaysHeld};
 
-use crate::fault::FeedFault;
 use crate::files::GuestFiles;
 use crate::limits::INPUT_BYTES;
-use jv_heap::{MOST_WORDS, Memory, Store};
-use jv_interp::of_loader::SystemFiles;
-use jv_interp::of_method::verify_files;
 use jv_interp::{Budget, Guest};
+use jv_limits::FeedFault;
+use jv_loader::SystemFiles;
 use jv_meaning_machine::{ended_guest_stays, one_judged};
+use jv_store::{MOST_WORDS, OutOfMemory, Store};
+use jv_verify::verify_files;
 use std::alloc::{AllocError, Global};
 use std::hash::RandomState;
 
@@ -87,7 +87,7 @@ pub(crate) fn begin<'a, S: Store>(
     files: GuestFiles<'a>,
     budget: Budget,
     store: &mut S,
-) -> Result<Admitted<'a>, Memory>
+) -> Result<Admitted<'a>, OutOfMemory>
     requires few { length files.files.now ≤ 1024 }
     requires input { length files.input.now ≤ 16777216 }
     requires some { 64 ≤ budget.cells }
@@ -99,10 +99,10 @@ pub(crate) fn begin<'a, S: Store>(
     ensures refused_room { OnErr result (S.room_left store.new ≡ S.room_left store.old) }
 {
     let Ok(judged) = verify_files(alloc, state, system, files.files) else {
-        return Err(Memory);
+        return Err(OutOfMemory);
     };
     if !has_place(store, budget.cells) {
-        return Err(Memory);
+        return Err(OutOfMemory);
     }
     let guest = Guest::new(alloc, state, judged, files.main, files.input, budget, store)?;
     Ok(Admitted {

@@ -10,14 +10,14 @@ ghost use Rattle.jv_host.specs.Faultless.{NoGuestFaults};
 ghost use Rattle.jv_host.specs.Limits.{first_refusal, IsRefused, feed_refusal, IsFeedRefused};
 
 use crate::admission::{Admitted, begin};
-use crate::fault::{AdmitFault, FeedFault, NoGuest, TurnFault};
 use crate::files::GuestFiles;
 use crate::limits::first_refusal;
-use jv_heap::Store;
-use jv_interp::of_loader::SystemFiles;
-use jv_interp::of_sound::never_faults;
 use jv_interp::{Budget, Observation};
+use jv_limits::{AdmitFault, FeedFault, NoGuest, TurnFault};
+use jv_loader::SystemFiles;
 use jv_meaning_typing::Verdict;
+use jv_sound::never_faults;
+use jv_store::Store;
 use std::alloc::Global;
 use std::hash::RandomState;
 use std::marker::Model;

@@ -5,8 +5,6 @@
 #![tactic(auto)]
 
 mod admission;
-mod fault;
-mod file_limits;
 mod files;
 mod host;
 mod laws;
@@ -14,11 +12,9 @@ mod limits;
 mod rounds;
 mod watch;
 
-pub use fault::{AdmitFault, FeedFault, NoGuest, TurnFault};
-pub use file_limits::first_file_refusal;
 pub use files::GuestFiles;
 pub use host::{GuestId, Host};
-pub use jv_interp as of_interp;
-pub use jv_interp::{Budget, GuestEnd, Observation, of_loader, of_method};
+pub use jv_interp::{Budget, GuestEnd, Observation};
+pub use jv_limits::{AdmitFault, FeedFault, NoGuest, TurnFault};
 pub use laws::two_worlds;
 pub use watch::{Progress, Unwatched, Watch};

@@ -6,10 +6,9 @@ ghost use Rattle.jv_interp.specs.Started.{budget_of};
 ghost use Rattle.jv_format.specs.Numbers.{is_from_to};
 ghost use Rattle.jv_host.specs.Limits.{first_other_refusal, first_refusal, is_in_range};
 
-use crate::fault::AdmitFault;
-use crate::file_limits::first_file_refusal;
 use crate::files::GuestFiles;
 use jv_interp::Budget;
+use jv_limits::{AdmitFault, first_file_refusal};
 
 /// The most bytes of a guest's input, at admission and by all feeds together.
 pub(crate) const INPUT_BYTES: usize = 16_777_216;

@@ -3,11 +3,11 @@
 ghost use Rattle.std.specs.Prelude.{◌≡◌, ◌≢◌, ◌≤◌, ℕ, Err, false, OnOk, IfOk, IsOk, IsTrue, length};
 ghost use Rattle.jv_host.specs.Calls.{SomeRuns, NoneRuns, IsRound, IsCutRound, IsRun, IsCutRun};
 
-use crate::fault::TurnFault;
 use crate::host::{GuestId, Host};
 use crate::watch::{Progress, Unwatched, Watch};
-use jv_heap::Store;
 use jv_interp::GuestEnd;
+use jv_limits::TurnFault;
+use jv_store::Store;
 
 impl<S: Store> Host<'_, S> {
     /// Whether some guest takes steps.

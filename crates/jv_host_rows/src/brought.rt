@@ -1,6 +1,6 @@
 //! What the guests of a row bring.
 
-use jv_run::of_host::Budget;
+use jv_host::Budget;
 use std::alloc::{AllocError, Global};
 
 /// What a guest brings.

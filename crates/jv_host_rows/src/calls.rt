@@ -2,8 +2,9 @@
 
 use crate::brought::{Lent, bytes_of, first_word, number_of};
 use crate::shown::{write_guest, write_verdicts};
-use jv_heap::Store;
-use jv_run::of_host::{AdmitFault, FeedFault, GuestFiles, GuestId, Host, TurnFault};
+use jv_host::{GuestFiles, GuestId, Host};
+use jv_limits::{AdmitFault, FeedFault, TurnFault};
+use jv_store::Store;
 use std::alloc::AllocError;
 
 /// A guest's files as they are lent.

@@ -4,8 +4,8 @@ use crate::Prepared;
 use crate::brought::Lent;
 use crate::calls::write_admission;
 use crate::shown::{write_guest, write_verdicts};
-use jv_heap::Cells;
-use jv_run::of_host::{GuestId, Host};
+use jv_host::{GuestId, Host};
+use jv_store::Cells;
 use std::alloc::{AllocError, Global};
 
 /// How many damaged files there were, and how many of them came out so.

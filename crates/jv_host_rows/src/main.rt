@@ -16,9 +16,9 @@ mod shown;
 
 use brought::{Brought, Lent, beside_in, brought_in, lent_of};
 use damage::write_damage;
-use jv_heap::{Blocks, Cells, Store};
-use jv_run::of_host::Host;
-use jv_run::of_loader::{SystemFiles, system_files};
+use jv_host::Host;
+use jv_loader::{SystemFiles, system_files};
+use jv_store::{Blocks, Cells, Store};
 use std::alloc::{AllocError, Global};
 use std::hash::RandomState;
 use std::process::ExitCode;

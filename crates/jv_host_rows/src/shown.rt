@@ -1,8 +1,8 @@
 //! What a guest shows, as text.
 
-use jv_heap::Store;
-use jv_run::of_host::{GuestEnd, GuestId, Host, Observation};
-use jv_run::{Escaped, ShownVerdict};
+use jv_host::{GuestEnd, GuestId, Host, Observation};
+use jv_program_base::{Escaped, ShownVerdict};
+use jv_store::Store;
 use std::alloc::AllocError;
 
 fn write_end(out: &mut String, end: GuestEnd<'_>) -> Result<(), AllocError> {

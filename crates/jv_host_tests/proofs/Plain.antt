@@ -2,7 +2,7 @@
 use Rattle.std.proofs.Common.{◌≡◌, ℕ, zero, suc, ◌<◌, cond, nat_eq, nat_lt, Bool, ◌&&◌, true, false, true≢false, List, [], ◌∷◌, ◌++◌, map, length, set, get_or, refl, sym, ap, ◌∙◌, subst, arith}
 use Rattle.std.proofs.lemmas.List.{map-append}
 use borrow.Author.Tests.{ne_eqb, eq-eqb, lt-ltb, ltb-true}
-use Rattle.jv_heap.specs.Content.{words_at, greatest, written}
+use Rattle.jv_store.specs.Content.{words_at, greatest, written}
 use Rattle.jv_host_tests.specs.Plain.{mounting}
 
 both : (x y : Bool) → x ≡ true → y ≡ true → (x && y) ≡ true

@@ -1,5 +1,5 @@
 use crate::twin::Twin;
-use jv_heap::{Memory, Store};
+use jv_store::{OutOfMemory, Store};
 use std::alloc::Global;
 use std::process::Abort;
 
@@ -96,7 +96,7 @@ fn play_row<S: Store, R: Abort>(
     twin: &mut Twin<S>,
     number: usize,
     row: &Row,
-) -> Result<(), Memory> {
+) -> Result<(), OutOfMemory> {
     let outcome = twin.step(rt, row.0);
     twin.compare(rt);
     outcome?;
@@ -105,7 +105,11 @@ fn play_row<S: Store, R: Abort>(
 }
 
 /// Plays rows up to the first whose call is refused for want of memory.
-fn play_rows<S: Store, R: Abort>(rt: &R, twin: &mut Twin<S>, rows: &[Row]) -> Result<(), Memory> {
+fn play_rows<S: Store, R: Abort>(
+    rt: &R,
+    twin: &mut Twin<S>,
+    rows: &[Row],
+) -> Result<(), OutOfMemory> {
     twin.compare(rt);
     for (number, row) in rows.iter().enumerate() {
         play_row(rt, twin, number, row)?;

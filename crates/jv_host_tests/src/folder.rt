@@ -1,6 +1,6 @@
 //! What no clause says of a folder: that the definitions of its names are those that are meant.
 
-use jv_run::{class_file_names, main_name_of, names_in};
+use jv_program_base::{class_file_names, main_name_of, names_in};
 use std::alloc::Global;
 
 /// A text, and what is left without the end of its line.

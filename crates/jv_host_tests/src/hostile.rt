@@ -4,7 +4,7 @@
 use crate::program::{
     FEEDS, Memory, Narrow, Pieces, REFUSALS, REPORTS, Row, does, is_out, words_of,
 };
-use jv_status::command;
+use jv_program::command;
 use std::alloc::{AllocError, Global};
 use std::hash::RandomState;
 use std::io;

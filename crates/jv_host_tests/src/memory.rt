@@ -2,9 +2,10 @@
 //! as its row says.
 
 use crate::files::HI;
-use jv_heap::Blocks;
+use jv_host::{Budget, GuestEnd, GuestFiles, GuestId, Host};
+use jv_limits::{AdmitFault, TurnFault};
 use jv_loader::{SystemFiles, system_files};
-use jv_run::of_host::{AdmitFault, Budget, GuestEnd, GuestFiles, GuestId, Host, TurnFault};
+use jv_store::Blocks;
 use std::alloc::Global;
 use std::hash::RandomState;
 

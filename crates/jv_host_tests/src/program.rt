@@ -1,8 +1,8 @@
 //! What no clause says of the program: what it prints, and its statuses, over folders, an input and outputs in memory.
 
 use crate::files::{ECHO_FILE, HI};
-use jv_run::Folders;
-use jv_status::command;
+use jv_program::command;
+use jv_program_base::Folders;
 use std::alloc::{AllocError, Global};
 use std::hash::RandomState;
 use std::io;

@@ -1,7 +1,7 @@
 //! What `--progress` tells, and where.
 
 use crate::program::{Memory, Pieces, words_of};
-use jv_status::{ProgressLine, command_watched};
+use jv_program::{ProgressLine, command_watched};
 use std::alloc::Global;
 use std::cell::Cell;
 use std::hash::RandomState;

@@ -1,8 +1,9 @@
 //! What no clause says: that the definitions of the printed text are those that are meant.
 
+use jv_host::{GuestEnd, Observation};
 use jv_meaning_typing::{Verdict, VerifyFault, VerifyRule};
-use jv_run::of_host::{GuestEnd, Observation};
-use jv_run::{Escaped, Report};
+use jv_program_base::Escaped;
+use jv_program_run::Report;
 use std::alloc::{AllocError, Global};
 
 /// Bytes, and how they are shown.

@@ -1,5 +1,5 @@
 use crate::calls::play_all;
-use jv_heap::{Blocks, Cells};
+use jv_store::{Blocks, Cells};
 
 #[test]
 fn blocks(rt: HostRuntime) {

@@ -1,9 +1,9 @@
 //! The system's classes, what the program prints of one file, and the verdict on one class by its number.
 
 use crate::program::INT_AS_OBJECT;
-use jv_check::check_files;
-use jv_check::of_method::{Verdict, VerifyFault, VerifyRule, check_class, verify};
 use jv_loader::{Classes, LoadVerdict, system_files};
+use jv_program_check::check_files;
+use jv_verify::{Verdict, VerifyFault, VerifyRule, check_class, verify};
 use std::alloc::Global;
 use std::hash::RandomState;
 

@@ -1,9 +1,9 @@
 ghost use Rattle.jv_host_tests.specs.Plain.{mounting};
-ghost use Rattle.jv_heap.specs.Content.{words_at, greatest};
+ghost use Rattle.jv_store.specs.Content.{words_at, greatest};
 ghost use Rattle.std.specs.Prelude.{◌≡◌, ◌+◌, ◌<◌, ◌≤◌, [], ◌∷◌, ◌++◌, map, replicate, slice_index_or, vec_len, IfOk, IsTrue, OnErr, OnOk};
 
 use crate::calls::Call;
-use jv_heap::{MOST_WORDS, Memory, Store, back, new_block};
+use jv_store::{MOST_WORDS, OutOfMemory, Store, back, new_block};
 use std::alloc::Global;
 use std::process::Abort;
 
@@ -37,7 +37,7 @@ impl<S: Store> Twin<S> {
     }
 
     /// Makes a call on both. The call has to be one that the contract allows.
-    pub fn step<R: Abort>(&mut self, rt: &R, call: Call) -> Result<(), Memory> {
+    pub fn step<R: Abort>(&mut self, rt: &R, call: Call) -> Result<(), OutOfMemory> {
         match call {
             Call::Reserve(words) => self.reserve(rt, words),
             Call::Release(words) => {
@@ -101,7 +101,7 @@ impl<S: Store> Twin<S> {
         &self.blocks[block]
     }
 
-    fn reserve<R: Abort>(&mut self, rt: &R, words: u32) -> Result<(), Memory> {
+    fn reserve<R: Abort>(&mut self, rt: &R, words: u32) -> Result<(), OutOfMemory> {
         let total = self.store.total();
         assert!(rt; total + words as u64 <= MOST_WORDS);
         self.store.reserve(words as u64)?;
@@ -115,7 +115,7 @@ impl<S: Store> Twin<S> {
         self.room -= words as u64;
     }
 
-    fn alloc<R: Abort>(&mut self, rt: &R, len: u32) -> Result<(), Memory> {
+    fn alloc<R: Abort>(&mut self, rt: &R, len: u32) -> Result<(), OutOfMemory> {
         assert!(rt; len >= 1 && len as u64 <= self.room);
         let words = zeros(self.alloc, len)?;
         self.blocks.reserve(1)?;
@@ -162,7 +162,7 @@ fn have_words(blocks: &[Block], wanted: &[&[u32]]) -> bool {
 }
 
 /// A block of a store, which is not refused where the store never refuses one.
-fn block_in<S: Store>(store: &mut S, len: u32) -> Result<u32, Memory>
+fn block_in<S: Store>(store: &mut S, len: u32) -> Result<u32, OutOfMemory>
     requires some { 1 ≤ len }
     requires room { len ≤ S.room_left store.old }
     ensures above { IfOk result (λ address. greatest (S.content store.old) < address) }
@@ -179,7 +179,7 @@ fn block_in<S: Store>(store: &mut S, len: u32) -> Result<u32, Memory>
 }
 
 /// As many zero words.
-fn zeros(alloc: Global, len: u32) -> Result<Vec<u32>, Memory>
+fn zeros(alloc: Global, len: u32) -> Result<Vec<u32>, OutOfMemory>
     ensures { IfOk result (λ words. words.items ≡ replicate len 0) }
 {
     let words = vec![in alloc; 0; len as usize]?;

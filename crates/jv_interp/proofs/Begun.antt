@@ -9,9 +9,9 @@ use Rattle.jv_meaning_machine.specs.Start.{start}
 use Rattle.jv_meaning_machine.specs.Alone.{GuestFiles, Judged, IsJudged, fed, alone}
 use Rattle.jv_meaning_machine.specs.Laws.Shown.{JudgedByVerdicts}
 use Rattle.jv_sound.specs.Law.{NeverFaults}
-use Rattle.jv_method.specs.Files.{Verified, AreFilesOf}
-use Rattle.jv_interp_memory.specs.ObjectsInBlocks.{Blocks}
-use Rattle.jv_interp_frames.specs.Moves.{AreVerified}
+use Rattle.jv_verify.specs.Files.{Verified, AreFilesOf}
+use Rattle.jv_interp_heap.specs.ObjectsInBlocks.{Blocks}
+use Rattle.jv_interp_control.specs.Moves.{AreVerified}
 use Rattle.jv_interp.specs.declared.budget.Budget.{Budget}
 use Rattle.jv_interp.specs.declared.first.Started.{Started}
 use Rattle.jv_interp.specs.Started.{budget_of, StartsIn, CanStart, StandsFirst}
@@ -101,16 +101,16 @@ module _ (by_verdicts : JudgedByVerdicts) (one : OneContent) (never : NeverFault
           ran = first.2;
           stands = record {
             frames =
-                subst (λ f. Rattle.jv_interp_frames.specs.FramesStand.FramesStand judged.program (started.held.out_of_memory ∷ started.held.arguments ∷ s.more) first.0.frames f first.0.control.words)
+                subst (λ f. Rattle.jv_interp_control.specs.FramesStand.FramesStand judged.program (started.held.out_of_memory ∷ started.held.arguments ∷ s.more) first.0.frames f first.0.control.words)
                 (sym frames_are) s.stands.frames;
-            control = subst (λ c. Rattle.jv_interp_frames.specs.ControlStands.ControlStands judged.program.world first.0.control c) (sym control_is) s.stands.control;
+            control = subst (λ c. Rattle.jv_interp_control.specs.ControlStands.ControlStands judged.program.world first.0.control c) (sym control_is) s.stands.control;
             memory =
-                subst (λ h. Rattle.jv_interp_memory.specs.HeldInWords.MemoryStands judged.program.world guest.texts.names first.0.memory
+                subst (λ h. Rattle.jv_interp_held.specs.HeldInWords.MemoryStands judged.program.world guest.texts.names first.0.memory
                 (started.held.out_of_memory ∷ started.held.arguments ∷ s.more) h after)
                 (sym held_is) s.stands.memory;
           };
           steps_are = steps_are;
-          few_cells = let cells = ap (λ (h : Rattle.jv_interp_memory.specs.declared.held.Held.Held). h.cells) held_is in omega (arith, cells, less, few);
+          few_cells = let cells = ap (λ (h : Rattle.jv_interp_held.specs.declared.held.Held.Held). h.cells) held_is in omega (arith, cells, less, few);
         };
         grows = s.grows;
       }

@@ -8,7 +8,7 @@ use Rattle.jv_meaning_machine.specs.Faults.{OrFault, ◌>>=◌}
 use Rattle.jv_meaning_machine.specs.State.{State}
 use Rattle.jv_meaning_machine.specs.Start.{Budget as BudgetOfMachine, start}
 use Rattle.jv_meaning_machine.specs.Alone.{Judged, IsJudged, Feed, GuestFiles, FindsInstructions, AreUnits, accepted_names, came_at, fed, alone}
-use Rattle.jv_method.specs.Files.{Verified, AreVerified}
+use Rattle.jv_verify.specs.Files.{Verified, AreVerified}
 use Rattle.jv_interp.specs.declared.budget.Budget.{Budget}
 use Rattle.jv_interp.specs.VerifiedClasses.{AreVerifiedClasses}
 use Rattle.jv_interp.specs.Started.{budget_of, CanStart}

@@ -6,11 +6,11 @@ use Rattle.jv_meaning_machine.specs.Objects.{Object}
 use Rattle.jv_meaning_machine.specs.State.{Memory}
 use Rattle.jv_meaning_machine.specs.Start.{Budget}
 use Rattle.jv_meaning_machine.specs.Alone.{GuestFiles, Feed}
-use Rattle.jv_interp_memory.specs.ObjectsInBlocks.{Blocks, ObjectStands, ObjectsStand}
-use Rattle.jv_interp_memory.specs.declared.held.Held.{Held}
-use Rattle.jv_interp_memory.specs.HeldInWords.{MemoryStands}
-use Rattle.jv_interp_memory.specs.Growing.{Grows}
-use Rattle.jv_interp_memory.proofs.Growths.{there_in}
+use Rattle.jv_interp_heap.specs.ObjectsInBlocks.{Blocks, ObjectStands, ObjectsStand}
+use Rattle.jv_interp_held.specs.declared.held.Held.{Held}
+use Rattle.jv_interp_held.specs.HeldInWords.{MemoryStands}
+use Rattle.jv_interp_held.specs.Growing.{Grows}
+use Rattle.jv_interp_held.proofs.Growths.{there_in}
 use Rattle.jv_interp.specs.declared.guest.Guest.{Guest}
 use Rattle.jv_interp.specs.Standing.{GuestStands, AreApart}
 

@@ -6,11 +6,11 @@ use Rattle.std.proofs.lemmas.Bool.{eqb-true}
 use Rattle.jv_meaning_machine.specs.Start.{Budget}
 use Rattle.jv_meaning_machine.specs.Alone.{GuestFiles, Feed, came_at, alone}
 use Rattle.jv_meaning_machine.specs.Laws.Feeds.{NothingComes, FeedJoins}
-use Rattle.jv_interp_memory.specs.ObjectsInBlocks.{Blocks}
-use Rattle.jv_interp_memory.specs.declared.held.Held.{Held}
+use Rattle.jv_interp_heap.specs.ObjectsInBlocks.{Blocks}
+use Rattle.jv_interp_held.specs.declared.held.Held.{Held}
 use Rattle.jv_interp.specs.declared.guest.Guest.{Guest}
 use Rattle.jv_interp.specs.Standing.{AreTables, GuestStands, IsFed, StandsStill}
-use Rattle.jv_interp_frames.specs.Moves.{AreVerified}
+use Rattle.jv_interp_control.specs.Moves.{AreVerified}
 
 abbrev feed_at : ℕ → List ℕ → Feed
 feed_at n bytes = record { own_step = n; bytes = bytes }
@@ -51,16 +51,16 @@ input_changed before after same held_is g b feeds later n addresses blocks input
       state = record h.state { memory = record h.state.memory { input = input } };
       ran = ran;
       stands = record {
-        frames = subst (λ (x : Guest). Rattle.jv_interp_frames.specs.FramesStand.FramesStand h.judged.program addresses h.state.frames x.frames h.state.control.words) (sym same) h.stands.frames;
-        control = subst (λ (x : Guest). Rattle.jv_interp_frames.specs.ControlStands.ControlStands h.judged.program.world h.state.control x.control) (sym same) h.stands.control;
+        frames = subst (λ (x : Guest). Rattle.jv_interp_control.specs.FramesStand.FramesStand h.judged.program addresses h.state.frames x.frames h.state.control.words) (sym same) h.stands.frames;
+        control = subst (λ (x : Guest). Rattle.jv_interp_control.specs.ControlStands.ControlStands h.judged.program.world h.state.control x.control) (sym same) h.stands.control;
         memory = record {
           objects = m.objects;
-          statics = subst (λ (x : Held). Rattle.jv_interp_memory.specs.ObjectsInBlocks.AreFields addresses
-              (Rattle.jv_interp_memory.specs.HeldInWords.static_fields h.judged.program.world) h.state.memory.statics x.statics.items) (sym held_is)
+          statics = subst (λ (x : Held). Rattle.jv_interp_heap.specs.ObjectsInBlocks.AreFields addresses
+              (Rattle.jv_interp_held.specs.HeldInWords.static_fields h.judged.program.world) h.state.memory.statics x.statics.items) (sym held_is)
               m.statics;
           literals =
-              subst (λ names. Rattle.jv_interp_memory.specs.HeldInWords.AreLiterals names addresses h.state.memory.literals after.held.literals.items) (sym (ap (λ (x : Guest). x.texts.names) same))
-              (subst (λ (x : Held). Rattle.jv_interp_memory.specs.HeldInWords.AreLiterals before.texts.names addresses h.state.memory.literals x.literals.items) (sym held_is) m.literals);
+              subst (λ names. Rattle.jv_interp_held.specs.HeldInWords.AreLiterals names addresses h.state.memory.literals after.held.literals.items) (sym (ap (λ (x : Guest). x.texts.names) same))
+              (subst (λ (x : Held). Rattle.jv_interp_held.specs.HeldInWords.AreLiterals before.texts.names addresses h.state.memory.literals x.literals.items) (sym held_is) m.literals);
           error_stands = m.error_stands ∙ ap Rattle.std.proofs.Common.Some (sym (ap (λ (x : Held). x.out_of_memory) held_is));
           arguments_stand = m.arguments_stand ∙ ap Rattle.std.proofs.Common.Some (sym (ap (λ (x : Held). x.arguments) held_is));
           cells = m.cells ∙ sym (ap (λ (x : Held). x.cells) held_is);
@@ -77,9 +77,9 @@ input_changed before after same held_is g b feeds later n addresses blocks input
   where
     tables_again : AreTables after.judged.world after
     tables_again = record {
-      linked = subst (λ (x : Guest). Rattle.jv_interp_creation.specs.of_linked.Linked.IsLinked x.judged.world x.linked) (sym same) h.tables.linked;
-      methods = subst (λ (x : Guest). Rattle.jv_interp_creation.specs.of_interp_calls.Methods.AreMethods x.judged.world x.methods) (sym same) h.tables.methods;
-      texts = subst (λ (x : Guest). Rattle.jv_interp_creation.specs.of_interp_calls.Texts.AreTexts x.judged.world x.texts) (sym same) h.tables.texts;
+      linked = subst (λ (x : Guest). Rattle.jv_link_cache.specs.Linked.IsLinked x.judged.world x.linked) (sym same) h.tables.linked;
+      methods = subst (λ (x : Guest). Rattle.jv_interp_members.specs.Methods.AreMethods x.judged.world x.methods) (sym same) h.tables.methods;
+      texts = subst (λ (x : Guest). Rattle.jv_interp_objects.specs.Texts.AreTexts x.judged.world x.texts) (sym same) h.tables.texts;
       few = subst (λ (x : Guest). length x.judged.world ≤ 1057) (sym same) h.tables.few;
     }
 

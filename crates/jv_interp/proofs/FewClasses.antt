@@ -6,7 +6,7 @@ use Rattle.jv_meaning_world.specs.FileContent.{FileContent}
 use Rattle.jv_meaning_world.specs.declared.content.Content.TheVariants.{OtherVersion, NoClassFile, MoreThanProfile, Holds}
 use Rattle.jv_meaning_world.specs.System.Classes.{system_classes}
 use Rattle.jv_meaning_world.specs.World.{World, loaded, is_reserved, has_class, with_class_of, joined_all, classes_in}
-use Rattle.jv_method.specs.Files.{Verified, AreVerified}
+use Rattle.jv_verify.specs.Files.{Verified, AreVerified}
 
 one_more : (classes : List Class) (file : FileContent) → length (with_class_of classes file) ≤ suc (length classes)
 one_more classes OtherVersion = omega arith

@@ -6,9 +6,9 @@ use Rattle.jv_meaning_world.specs.System.Classes.{system_classes}
 use Rattle.jv_meaning_world.specs.World.{Loaded, World, loaded, classes_in, world_of}
 use Rattle.jv_meaning_world.specs.FileContent.{FileContent}
 use Rattle.jv_meaning_machine.specs.State.{class_state}
-use Rattle.jv_interp_memory.specs.declared.class_state.ClassState.{ClassState}
-use Rattle.jv_interp_memory.specs.declared.class_state.ClassState.TheVariants as kept
-use Rattle.jv_interp_memory.specs.ClassStates.{kept_state, AreClassStates}
+use Rattle.jv_interp_held.specs.declared.class_state.ClassState.{ClassState}
+use Rattle.jv_interp_held.specs.declared.class_state.ClassState.TheVariants as kept
+use Rattle.jv_interp_held.specs.ClassStates.{kept_state, AreClassStates}
 use Rattle.jv_interp.specs.StartStates.{states_at_start, AreStatesAtStart}
 
 first_loaded : (a b : Loaded) → Some a ≡ Some b → a ≡ b

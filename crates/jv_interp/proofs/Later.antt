@@ -7,12 +7,12 @@ use Rattle.jv_meaning_machine.specs.Alone.{GuestFiles, Feed}
 use Rattle.jv_meaning_machine.specs.Laws.Feeds.{NothingComes}
 use Rattle.jv_meaning_machine.specs.Laws.Runs.{AloneStepsOn}
 use Rattle.jv_meaning_machine.specs.Laws.Ends.{EndFitsAlone}
-use Rattle.jv_interp_creation.specs.of_linked.Linked.{IsLinked}
+use Rattle.jv_link_cache.specs.Linked.{IsLinked}
 use Rattle.jv_interp_words.specs.declared.records.FrameRecord.{FrameRecord}
 use Rattle.jv_interp_words.specs.FramesInWords.{in_use, AreFrames}
-use Rattle.jv_interp_memory.specs.ObjectsInBlocks.{Blocks}
-use Rattle.jv_interp_runs.specs.Running.{Ran}
-use Rattle.jv_interp_runs.proofs.Runs.{after_them}
+use Rattle.jv_interp_heap.specs.ObjectsInBlocks.{Blocks}
+use Rattle.jv_interp_steps.specs.Running.{Ran}
+use Rattle.jv_interp_steps.proofs.Runs.{after_them}
 use Rattle.jv_interp.specs.declared.guest.Guest.{Guest}
 use Rattle.jv_interp.specs.Standing.{kept_of, GuestStands, Went}
 use Rattle.jv_interp.specs.Showing.{HasEnded}
@@ -37,19 +37,19 @@ went on g b feeds n k addresses before after blocks blocks_after h r same linked
         world_is = h.world_is ∙ sym (ap (λ (x : Guest). x.judged.world) same);
         verdicts_are = h.verdicts_are ∙ sym (ap (λ (x : Guest). x.judged.verdicts) same);
         verified_are =
-            subst (λ v. Rattle.jv_interp_frames.specs.Moves.AreVerified h.judged.program v) (sym (ap (λ (x : Guest). x.verified.items) same)) h.verified_are;
+            subst (λ v. Rattle.jv_interp_control.specs.Moves.AreVerified h.judged.program v) (sym (ap (λ (x : Guest). x.verified.items) same)) h.verified_are;
         tables = record {
           linked = subst (λ w. IsLinked w after.linked) (sym (ap (λ (x : Guest). x.judged.world) same)) linked;
           methods =
-              subst (λ (x : Guest). Rattle.jv_interp_creation.specs.of_interp_calls.Methods.AreMethods x.judged.world x.methods) (sym same) h.tables.methods;
-          texts = subst (λ (x : Guest). Rattle.jv_interp_creation.specs.of_interp_calls.Texts.AreTexts x.judged.world x.texts) (sym same) h.tables.texts;
+              subst (λ (x : Guest). Rattle.jv_interp_members.specs.Methods.AreMethods x.judged.world x.methods) (sym same) h.tables.methods;
+          texts = subst (λ (x : Guest). Rattle.jv_interp_objects.specs.Texts.AreTexts x.judged.world x.texts) (sym same) h.tables.texts;
           few = subst (λ (x : Guest). Rattle.std.specs.Prelude.length x.judged.world ≤ 1057) (sym same) h.tables.few;
         };
         came = nothing_later n k feeds h.came;
         state = r.t;
         ran = on h.judged g b feeds n k h.state h.ran (h.came k) ∙ after_them h.judged.program k h.state r.t r.does;
         stands =
-            subst (λ names. Rattle.jv_interp_frames.specs.Standing.StateStands h.judged.program names r.t (addresses ++ r.reaches.more) (kept_of after blocks_after))
+            subst (λ names. Rattle.jv_interp_control.specs.Standing.StateStands h.judged.program names r.t (addresses ++ r.reaches.more) (kept_of after blocks_after))
             (sym (ap (λ (x : Guest). x.texts.names) same)) r.reaches.stands;
         steps_are = let first = h.steps_are in omega (arith, steps, first);
         few_cells = let first = h.few_cells in omega (arith, first, fewer);

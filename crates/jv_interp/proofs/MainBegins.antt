@@ -4,7 +4,7 @@ use Rattle.std.specs.Prelude.{vec_capacity}
 use Rattle.std.specs.List.{flat_map}
 use Rattle.std.proofs.lemmas.List.{length-replicate, map-append}
 use Rattle.std.proofs.lemmas.List.Concat.{flat_map-cons}
-use Rattle.jv_frames.specs.Types.{value_type, width}
+use Rattle.jv_stackmap.specs.Types.{value_type, width}
 use Rattle.jv_text.specs.Descriptor.{field_slots}
 use Rattle.jv_meaning_world.specs.FileContent.{FileContent}
 use Rattle.jv_meaning_world.specs.System.Classes.{system_classes}
@@ -16,13 +16,13 @@ use Rattle.jv_meaning_typing.specs.Named.{class_components}
 use Rattle.jv_meaning_machine.specs.Objects.{Content, default_entry, made_object, new_array}
 use Rattle.jv_meaning_machine.specs.Literals.{string_name}
 use Rattle.jv_meaning_machine.specs.Start.{static_entries, start_cells}
-use Rattle.jv_interp_memory.specs.ObjectsInBlocks.{Blocks, AreFields, HasNumber, IsArrayWord, ObjectsStand}
-use Rattle.jv_interp_memory.specs.NewBlocks.{Joins}
-use Rattle.jv_interp_memory.proofs.NewObjects.{fields_begin, instance_joined, array_joined}
-use Rattle.jv_interp_memory.specs.declared.held.Held.{Held}
-use Rattle.jv_interp_memory.specs.HeldInWords.{own_static_fields, static_fields, AreLiterals}
-use Rattle.jv_interp_memory.specs.Growing.{Grows}
-use Rattle.jv_interp_memory.proofs.Growths.{joined_grows, then_grows}
+use Rattle.jv_interp_heap.specs.ObjectsInBlocks.{Blocks, AreFields, HasNumber, IsArrayWord, ObjectsStand}
+use Rattle.jv_interp_heap.specs.NewBlocks.{Joins}
+use Rattle.jv_interp_heap.proofs.NewObjects.{fields_begin, instance_joined, array_joined}
+use Rattle.jv_interp_held.specs.declared.held.Held.{Held}
+use Rattle.jv_interp_held.specs.HeldInWords.{own_static_fields, static_fields, AreLiterals}
+use Rattle.jv_interp_held.specs.Growing.{Grows}
+use Rattle.jv_interp_held.proofs.Growths.{joined_grows, then_grows}
 use Rattle.jv_interp.specs.Starting.{BothJoin, Differ, Starts}
 
 -- ---- the two classes

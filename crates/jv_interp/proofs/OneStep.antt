@@ -5,7 +5,7 @@ use Rattle.jv_meaning_machine.specs.State.End.{Running}
 use Rattle.jv_meaning_machine.specs.Alone.{GuestFiles, Feed}
 use Rattle.jv_meaning_machine.specs.Observation.{Observed, Shows, observation}
 use Rattle.jv_meaning_machine.specs.Laws.Shown.{ShowsOneThing}
-use Rattle.jv_interp_memory.specs.ObjectsInBlocks.{Blocks}
+use Rattle.jv_interp_heap.specs.ObjectsInBlocks.{Blocks}
 use Rattle.jv_interp.specs.declared.guest.Guest.{Guest}
 use Rattle.jv_interp.specs.Standing.{GuestStands, IsSomeGuest, WentOn}
 use Rattle.jv_interp.specs.Showing.{HasEnded, TakesSteps}

@@ -15,16 +15,16 @@ use Rattle.jv_meaning_machine.specs.Initialization.{begin, main_method}
 use Rattle.jv_meaning_machine.specs.Start.{start_control, start_with}
 use Rattle.jv_lookups.specs.declared.place.Place.{Place}
 use Rattle.jv_lookups.specs.Places.{method_at, method_of, IsMethodPlace}
-use Rattle.jv_interp_memory.specs.ObjectsInBlocks.{Blocks}
-use Rattle.jv_interp_memory.specs.declared.held.Held.{Held}
-use Rattle.jv_interp_frames.specs.declared.frames.Frames.{Frames}
-use Rattle.jv_interp_frames.specs.declared.control.Control.{Control}
-use Rattle.jv_interp_frames.specs.declared.control.End.TheVariants as ends
-use Rattle.jv_interp_frames.specs.FramesStand.{FramesStand}
-use Rattle.jv_interp_frames.specs.ControlStands.{ControlStands}
-use Rattle.jv_interp_frames.specs.Standing.{kept, StateStands, Moves, Reaches}
-use Rattle.jv_interp_frames.specs.Moves.{Beginning}
-use Rattle.jv_interp_frames.proofs.MemoryJoined.{grows_not}
+use Rattle.jv_interp_heap.specs.ObjectsInBlocks.{Blocks}
+use Rattle.jv_interp_held.specs.declared.held.Held.{Held}
+use Rattle.jv_interp_control.specs.declared.frames.Frames.{Frames}
+use Rattle.jv_interp_control.specs.declared.control.Control.{Control}
+use Rattle.jv_interp_control.specs.declared.control.End.TheVariants as ends
+use Rattle.jv_interp_control.specs.FramesStand.{FramesStand}
+use Rattle.jv_interp_control.specs.ControlStands.{ControlStands}
+use Rattle.jv_interp_control.specs.Standing.{kept, StateStands, Moves, Reaches}
+use Rattle.jv_interp_control.specs.Moves.{Beginning}
+use Rattle.jv_interp_control.proofs.MemoryJoined.{grows_not}
 use Rattle.jv_interp.specs.Opening.{Opening}
 
 same_state : (s t : State) → ◌≡◌ {A = OrFault State} (Ok s) (Ok t) → s ≡ t

@@ -13,10 +13,10 @@ use Rattle.jv_meaning_machine.specs.Step.{step, after_steps}
 use Rattle.jv_meaning_machine.specs.Laws.Runs.{AloneStepsOn}
 use Rattle.jv_meaning_machine.specs.Laws.Ends.{EndFitsAlone}
 use Rattle.jv_sound.specs.Law.{NeverFaults, ObjectsAreLoadable, InitializationsAreLoadable}
-use Rattle.jv_interp_memory.specs.ObjectsInBlocks.{Blocks}
-use Rattle.jv_interp_runs.specs.Guests.{IsGuest, IsLoadableOnTop}
-use Rattle.jv_interp_runs.specs.Running.{Leads, IsSafe, RunsFrom}
-use Rattle.jv_interp_runs.proofs.Runs.{after_them}
+use Rattle.jv_interp_heap.specs.ObjectsInBlocks.{Blocks}
+use Rattle.jv_interp_steps.specs.Guests.{IsGuest, IsLoadableOnTop}
+use Rattle.jv_interp_steps.specs.Running.{Leads, IsSafe, RunsFrom}
+use Rattle.jv_interp_steps.proofs.Runs.{after_them}
 use Rattle.jv_interp.specs.declared.guest.Guest.{Guest}
 use Rattle.jv_interp.specs.Standing.{kept_of, GuestStands}
 

@@ -4,13 +4,13 @@ use Rattle.jv_meaning_typing.specs.declared.verdict.Verdict.{Verdict}
 use Rattle.jv_meaning_world.specs.World.{World}
 use Rattle.jv_meaning_machine.specs.State.{End as EndOfNames}
 use Rattle.jv_meaning_machine.specs.State.End.{Running, Returned, Threw, NoMain}
-use Rattle.jv_interp_frames.specs.declared.control.End.{End}
-use Rattle.jv_interp_frames.specs.declared.control.End.TheVariants as ends
-use Rattle.jv_interp_frames.specs.ControlStands.{EndStands}
+use Rattle.jv_interp_control.specs.declared.control.End.{End}
+use Rattle.jv_interp_control.specs.declared.control.End.TheVariants as ends
+use Rattle.jv_interp_control.specs.ControlStands.{EndStands}
 use Rattle.jv_meaning_machine.specs.Start.{Budget}
 use Rattle.jv_meaning_machine.specs.Alone.{GuestFiles, Feed}
 use Rattle.jv_meaning_machine.specs.Observation.{Observed, observation, Shows}
-use Rattle.jv_interp_memory.specs.ObjectsInBlocks.{Blocks}
+use Rattle.jv_interp_heap.specs.ObjectsInBlocks.{Blocks}
 use Rattle.jv_interp.specs.declared.guest.Guest.{Guest}
 use Rattle.jv_interp.specs.Standing.{GuestStands}
 

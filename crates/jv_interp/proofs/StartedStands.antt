@@ -9,10 +9,10 @@ use Rattle.jv_meaning_machine.specs.Initialization.{main_method}
 use Rattle.jv_meaning_machine.specs.Start.{Budget as BudgetOfMachine, start_memory, start_control, start_with, start}
 use Rattle.jv_lookups.specs.declared.place.Place.{Place}
 use Rattle.jv_lookups.specs.Places.{IsMethodFound}
-use Rattle.jv_interp_memory.specs.ObjectsInBlocks.{Blocks}
-use Rattle.jv_interp_memory.specs.Growing.{Grows}
-use Rattle.jv_interp_memory.proofs.Growths.{then_grows}
-use Rattle.jv_interp_frames.specs.Standing.{StateStands, Moves, Moved}
+use Rattle.jv_interp_heap.specs.ObjectsInBlocks.{Blocks}
+use Rattle.jv_interp_held.specs.Growing.{Grows}
+use Rattle.jv_interp_held.proofs.Growths.{then_grows}
+use Rattle.jv_interp_control.specs.Standing.{StateStands, Moves, Moved}
 use Rattle.jv_interp.specs.declared.budget.Budget.{Budget}
 use Rattle.jv_interp.specs.declared.first.Started.{Started}
 use Rattle.jv_interp.specs.Starting.{BothJoin}

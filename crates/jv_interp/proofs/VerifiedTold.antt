@@ -4,7 +4,7 @@ use Rattle.jv_meaning_world.specs.World.{World}
 use Rattle.jv_meaning_world.specs.Numbers.{IsNumbered}
 use Rattle.jv_meaning_machine.specs.State.{is_class_accepted}
 use Rattle.jv_meaning_machine.specs.Alone.{Judged, IsJudged}
-use Rattle.jv_interp_frames.specs.Moves.{AreVerified}
+use Rattle.jv_interp_control.specs.Moves.{AreVerified}
 use Rattle.jv_interp.specs.VerifiedClasses.{accepted_by, TellWithAbove}
 use Rattle.jv_interp.proofs.AcceptedClasses.{judged_told}
 

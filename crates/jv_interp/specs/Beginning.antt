@@ -1,9 +1,9 @@
 -- A guest at its start (JVMS 5.2; own).
 use Rattle.std.specs.Prelude.{ℕ, List, []}
 use Rattle.jv_meaning_machine.specs.Alone.{GuestFiles}
-use Rattle.jv_method.specs.Files.{Verified, AreFilesOf}
-use Rattle.jv_interp_memory.specs.ObjectsInBlocks.{Blocks}
-use Rattle.jv_interp_memory.specs.Growing.{Grows}
+use Rattle.jv_verify.specs.Files.{Verified, AreFilesOf}
+use Rattle.jv_interp_heap.specs.ObjectsInBlocks.{Blocks}
+use Rattle.jv_interp_held.specs.Growing.{Grows}
 use Rattle.jv_interp.specs.declared.budget.Budget.{Budget}
 use Rattle.jv_interp.specs.Started.{budget_of}
 use Rattle.jv_interp.specs.declared.guest.Guest.{Guest}

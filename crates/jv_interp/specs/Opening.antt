@@ -6,7 +6,7 @@ use Rattle.jv_meaning_machine.specs.Initialization.{main_method}
 use Rattle.jv_meaning_machine.specs.Start.{Budget, start_control, start_with}
 use Rattle.jv_lookups.specs.declared.place.Place.{Place}
 use Rattle.jv_lookups.specs.Places.{IsMethodFound}
-use Rattle.jv_interp_frames.specs.Moves.{AreVerified}
+use Rattle.jv_interp_control.specs.Moves.{AreVerified}
 
 -- In a state without frames the class of the main method, which is at this place, is begun; where there is none the guest has ended.
 pub record Opening (place : Option Place) (verified : List Bool) (program : Program) (addresses : List ℕ) (s t : State) : Type 0 where

@@ -7,7 +7,7 @@ use Rattle.jv_meaning_machine.specs.State.End.{Running, Returned, Threw, NoMain}
 use Rattle.jv_meaning_machine.specs.Start.{Budget}
 use Rattle.jv_meaning_machine.specs.Alone.{GuestFiles, Feed, alone}
 use Rattle.jv_meaning_machine.specs.Observation.{Observed, Shows}
-use Rattle.jv_interp_memory.specs.ObjectsInBlocks.{Blocks}
+use Rattle.jv_interp_heap.specs.ObjectsInBlocks.{Blocks}
 use Rattle.jv_interp.specs.declared.guest.Guest.{Guest}
 use Rattle.jv_interp.specs.declared.observation.Observation.{Observation}
 use Rattle.jv_interp.specs.declared.observation.GuestEnd.{GuestEnd}

@@ -6,13 +6,13 @@ use Rattle.jv_meaning_machine.specs.State.{State}
 use Rattle.jv_meaning_machine.specs.Start.{Budget}
 use Rattle.jv_meaning_machine.specs.Alone.{GuestFiles, Judged, IsJudged, Feed, alone}
 use Rattle.jv_meaning_machine.specs.Laws.Feeds.{NothingComes}
-use Rattle.jv_interp_creation.specs.of_linked.Linked.{IsLinked}
-use Rattle.jv_interp_memory.specs.ObjectsInBlocks.{Blocks}
-use Rattle.jv_interp_memory.specs.Growing.{Grows}
-use Rattle.jv_interp_creation.specs.of_interp_calls.Methods.{AreMethods}
-use Rattle.jv_interp_creation.specs.of_interp_calls.Texts.{AreTexts}
-use Rattle.jv_interp_frames.specs.Moves.{AreVerified}
-use Rattle.jv_interp_frames.specs.Standing.{Kept, kept, StateStands}
+use Rattle.jv_link_cache.specs.Linked.{IsLinked}
+use Rattle.jv_interp_heap.specs.ObjectsInBlocks.{Blocks}
+use Rattle.jv_interp_held.specs.Growing.{Grows}
+use Rattle.jv_interp_members.specs.Methods.{AreMethods}
+use Rattle.jv_interp_objects.specs.Texts.{AreTexts}
+use Rattle.jv_interp_control.specs.Moves.{AreVerified}
+use Rattle.jv_interp_control.specs.Standing.{Kept, kept, StateStands}
 use Rattle.jv_interp.specs.declared.guest.Guest.{Guest}
 
 -- its frames, its control, what it holds, and the blocks of the store

@@ -2,10 +2,10 @@
 -- other one is begun.
 use Rattle.std.specs.Prelude.{◌≡◌, ℕ, ◌-◌, List, [], ◌++◌, length, replicate, take}
 use Rattle.jv_meaning_world.specs.World.{World}
-use Rattle.jv_interp_memory.specs.declared.class_state.ClassState.{ClassState}
-use Rattle.jv_interp_memory.specs.declared.class_state.ClassState.TheVariants as kept
-use Rattle.jv_interp_memory.specs.ClassStates.{AreClassStates}
-use Rattle.jv_interp_memory.specs.SystemNumbers.{IsGuestsWorld}
+use Rattle.jv_interp_held.specs.declared.class_state.ClassState.{ClassState}
+use Rattle.jv_interp_held.specs.declared.class_state.ClassState.TheVariants as kept
+use Rattle.jv_interp_held.specs.ClassStates.{AreClassStates}
+use Rattle.jv_interp_heap.specs.SystemNumbers.{IsGuestsWorld}
 
 -- of so many classes, of which 33 are the system's
 abbrev pub states_at_start : ℕ → List ClassState

@@ -7,15 +7,15 @@ use Rattle.jv_meaning_machine.specs.Initialization.{main_method}
 use Rattle.jv_meaning_machine.specs.Start.{Budget as BudgetOfMachine, start_memory, start_control, start}
 use Rattle.jv_lookups.specs.declared.place.Place.{Place}
 use Rattle.jv_lookups.specs.Places.{IsMethodFound}
-use Rattle.jv_interp_memory.specs.ObjectsInBlocks.{Blocks}
-use Rattle.jv_interp_memory.specs.Growing.{Grows}
-use Rattle.jv_interp_memory.specs.SystemNumbers.{IsGuestsWorld}
-use Rattle.jv_interp_frames.specs.declared.frames.Frames.{Frames}
-use Rattle.jv_interp_frames.specs.declared.control.Control.{Control}
-use Rattle.jv_interp_frames.specs.FramesStand.{FramesStand}
-use Rattle.jv_interp_frames.specs.ControlStands.{ControlStands}
-use Rattle.jv_interp_frames.specs.Standing.{Kept, kept, StateStands}
-use Rattle.jv_interp_frames.specs.Moves.{AreVerified}
+use Rattle.jv_interp_heap.specs.ObjectsInBlocks.{Blocks}
+use Rattle.jv_interp_held.specs.Growing.{Grows}
+use Rattle.jv_interp_heap.specs.SystemNumbers.{IsGuestsWorld}
+use Rattle.jv_interp_control.specs.declared.frames.Frames.{Frames}
+use Rattle.jv_interp_control.specs.declared.control.Control.{Control}
+use Rattle.jv_interp_control.specs.FramesStand.{FramesStand}
+use Rattle.jv_interp_control.specs.ControlStands.{ControlStands}
+use Rattle.jv_interp_control.specs.Standing.{Kept, kept, StateStands}
+use Rattle.jv_interp_control.specs.Moves.{AreVerified}
 use Rattle.jv_interp.specs.declared.budget.Budget.{Budget}
 use Rattle.jv_interp.specs.declared.first.Started.{Started}
 

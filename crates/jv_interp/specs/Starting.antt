@@ -4,12 +4,12 @@ use Rattle.std.specs.Prelude.{◌≡◌, ℕ, ◌+◌, List, [], ◌∷◌, Some
 use Rattle.jv_meaning_world.specs.World.{Loaded, World, class_named}
 use Rattle.jv_meaning_typing.specs.Layout.{field_words}
 use Rattle.jv_meaning_machine.specs.Start.{Budget, start_memory}
-use Rattle.jv_interp_memory.specs.ObjectsInBlocks.{Blocks}
-use Rattle.jv_interp_memory.specs.NewBlocks.{Joins}
-use Rattle.jv_interp_memory.specs.declared.held.Held.{Held}
-use Rattle.jv_interp_memory.specs.HeldInWords.{static_fields, MemoryStands}
-use Rattle.jv_interp_memory.specs.SystemNumbers.{IsGuestsWorld}
-use Rattle.jv_interp_memory.specs.declared.numbers.TheConstants.{STRING, OUT_OF_MEMORY}
+use Rattle.jv_interp_heap.specs.ObjectsInBlocks.{Blocks}
+use Rattle.jv_interp_heap.specs.NewBlocks.{Joins}
+use Rattle.jv_interp_held.specs.declared.held.Held.{Held}
+use Rattle.jv_interp_held.specs.HeldInWords.{static_fields, MemoryStands}
+use Rattle.jv_interp_heap.specs.SystemNumbers.{IsGuestsWorld}
+use Rattle.jv_interp_heap.specs.declared.numbers.TheConstants.{STRING, OUT_OF_MEMORY}
 
 -- ---- the two objects
 

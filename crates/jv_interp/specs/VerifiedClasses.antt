@@ -8,8 +8,8 @@ use Rattle.jv_meaning_world.specs.Above.{above, is_above}
 use Rattle.jv_meaning_typing.specs.declared.verdict.Verdict.{Verdict}
 use Rattle.jv_meaning_typing.specs.declared.verdict.Verdict.TheVariants as verdicts
 use Rattle.jv_meaning_machine.specs.Alone.{Judged, IsJudged}
-use Rattle.jv_method.specs.Files.{Verified}
-use Rattle.jv_interp_frames.specs.Moves.{AreVerified}
+use Rattle.jv_verify.specs.Files.{Verified}
+use Rattle.jv_interp_control.specs.Moves.{AreVerified}
 
 -- ---- from verdicts
 

@@ -6,7 +6,7 @@ ghost use Rattle.jv_interp.specs.VerifiedClasses.{class_accepted, accepted_by};
 
 use jv_meaning_typing::Verdict;
 use jv_meaning_world::LoadVerdict;
-use jv_method::Verified;
+use jv_verify::Verified;
 use std::alloc::{AllocError, Global};
 
 /// How many classes the system has.

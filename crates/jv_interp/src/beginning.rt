@@ -1,8 +1,8 @@
 //! A guest at its start.
 
 ghost use Rattle.std.specs.Prelude.{◌≡◌, ◌+◌, ◌<◌, ◌≤◌, ℕ, List, IfOk, OnErr, length};
-ghost use Rattle.jv_heap.specs.Content.{words_held};
-ghost use Rattle.jv_method.specs.Files.{AreFilesOf};
+ghost use Rattle.jv_store.specs.Content.{words_held};
+ghost use Rattle.jv_verify.specs.Files.{AreFilesOf};
 ghost use Rattle.jv_interp.specs.Beginning.{HasBegun};
 
 use crate::budget::Budget;
@@ -10,13 +10,14 @@ use crate::first::Started;
 use crate::guest::Guest;
 use crate::starting::start;
 use crate::verified::verified_classes;
-use jv_heap::{Memory, Store};
-use jv_interp_creation::of_interp_calls::{Methods, Texts};
-use jv_interp_creation::of_linked::link;
+use jv_interp_members::Methods;
+use jv_interp_objects::Texts;
+use jv_link_cache::link;
 use jv_meaning_machine::judged_by_verdicts;
 use jv_meaning_world::one_content;
-use jv_method::Verified;
 use jv_sound::never_faults;
+use jv_store::{OutOfMemory, Store};
+use jv_verify::Verified;
 use std::alloc::Global;
 use std::hash::RandomState;
 
@@ -29,7 +30,7 @@ fn begin_in_room<'a, S: Store>(
     input: &[u8],
     budget: Budget,
     store: &mut S,
-) -> Result<Guest<'a>, Memory>
+) -> Result<Guest<'a>, OutOfMemory>
     requires files { (files : List (List ℕ)) × AreFilesOf files judged }
     requires few { length judged.world ≤ 1057 }
     requires some { 4 ≤ budget.cells }
@@ -46,7 +47,7 @@ fn begin_in_room<'a, S: Store>(
     never_faults();
     let classes = judged.classes();
     let Ok(linked) = link(alloc, classes) else {
-        return Err(Memory);
+        return Err(OutOfMemory);
     };
     let methods = Methods::of(alloc, classes, &linked)?;
     let texts = Texts::of(alloc, state, classes)?;
@@ -87,7 +88,7 @@ impl<'a> Guest<'a> {
         input: &[u8],
         budget: Budget,
         store: &mut S,
-    ) -> Result<Guest<'a>, Memory>
+    ) -> Result<Guest<'a>, OutOfMemory>
         requires files { (files : List (List ℕ)) × AreFilesOf files judged }
         requires few { length judged.world ≤ 1057 }
         requires some { 4 ≤ budget.cells }

@@ -2,7 +2,7 @@
 
 ghost use Rattle.std.specs.Prelude.{◌+◌, ◌≤◌, length};
 
-use jv_method::Verified;
+use jv_verify::Verified;
 
 /// A guest has no more classes than the system's 33 and one of each of its files. The call does nothing.
 pub fn classes_are_few(verified: &Verified<'_>)

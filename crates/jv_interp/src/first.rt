@@ -2,9 +2,9 @@
 
 ghost use Rattle.std.specs.Prelude.{◌≡◌, ◌+◌, ◌≤◌, [], IfOk, IfSome, OnOk, OnErr, length};
 ghost use Rattle.jv_lookups.specs.Places.{IsMethodPlace};
-ghost use Rattle.jv_interp_frames.specs.of_linked.Linked.{IsLinked};
-ghost use Rattle.jv_interp_frames.specs.of_interp_calls.Methods.{AreMethods};
-ghost use Rattle.jv_interp_frames.specs.of_interp_calls.Texts.{AreTexts};
+ghost use Rattle.jv_link_cache.specs.Linked.{IsLinked};
+ghost use Rattle.jv_interp_members.specs.Methods.{AreMethods};
+ghost use Rattle.jv_interp_objects.specs.Texts.{AreTexts};
 ghost use Rattle.jv_interp.specs.Starting.{BothJoin};
 ghost use Rattle.jv_interp.specs.Started.{FirstFrames, FirstControl, FirstStands};
 
@@ -12,12 +12,13 @@ use crate::budget::Budget;
 use crate::main_method::number_of;
 use crate::room::start_memory;
 use crate::states::start_states;
-use jv_heap::{Memory, Store};
-use jv_interp_frames::of_interp_calls::{Methods, Texts};
-use jv_interp_frames::of_linked::Linked;
-use jv_interp_frames::of_loader::{Classes, Place};
-use jv_interp_frames::{Control, End, Frames};
-use jv_interp_memory::Held;
+use jv_interp_control::{Control, End, Frames};
+use jv_interp_held::Held;
+use jv_interp_members::Methods;
+use jv_interp_objects::Texts;
+use jv_link_cache::Linked;
+use jv_loader::{Classes, Place};
+use jv_store::{OutOfMemory, Store};
 use std::alloc::{AllocError, Global};
 
 /// What is kept of a guest from its start on, beside the blocks of the store.
@@ -79,7 +80,7 @@ pub(crate) fn first_kept<S: Store>(
     input: &[u8],
     budget: Budget,
     store: &mut S,
-) -> Result<Started, Memory>
+) -> Result<Started, OutOfMemory>
     requires linked { IsLinked classes.now.world linked.now }
     requires methods { AreMethods classes.now.world methods.now }
     requires texts { AreTexts classes.now.world texts.now }

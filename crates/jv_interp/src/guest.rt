@@ -1,10 +1,11 @@
 //! What is kept of a guest.
 
-use jv_interp_creation::of_interp_calls::{Methods, Texts};
-use jv_interp_creation::of_linked::Linked;
-use jv_interp_frames::{Control, Frames};
-use jv_interp_memory::Held;
-use jv_method::Verified;
+use jv_interp_control::{Control, Frames};
+use jv_interp_held::Held;
+use jv_interp_members::Methods;
+use jv_interp_objects::Texts;
+use jv_link_cache::Linked;
+use jv_verify::Verified;
 
 /// A guest: its classes with the verdicts on its files, what is known of them, and its state. Its objects are blocks of a store that it
 /// may share with other guests.

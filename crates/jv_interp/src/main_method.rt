@@ -9,11 +9,11 @@ ghost use Rattle.jv_meaning_world.specs.Numbers.{HoldsAtNumber};
 ghost use Rattle.jv_meaning_machine.specs.Initialization.{is_main, main_in, main_method};
 ghost use Rattle.jv_lookups.specs.Places.{method_at, method_of, IsMethodPlace, IsMethodFound};
 ghost use Rattle.jv_interp_words.specs.FramesInWords.{methods_of};
-ghost use Rattle.jv_interp_frames.specs.of_interp_calls.Methods.{AreMethods};
+ghost use Rattle.jv_interp_members.specs.Methods.{AreMethods};
 
-use jv_interp_frames::of_interp_calls::Methods;
-use jv_interp_frames::of_link::class_at;
-use jv_interp_frames::of_loader::{ClassTable, Classes, LoadedClass, Place};
+use jv_interp_members::Methods;
+use jv_link::class_at;
+use jv_loader::{ClassTable, Classes, LoadedClass, Place};
 
 // Access flags of methods (JVMS table 4.6-A).
 const PUBLIC: u16 = 0x0001;

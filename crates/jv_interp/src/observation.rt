@@ -2,16 +2,16 @@
 
 ghost use Rattle.std.specs.Prelude.{◌≡◌, List, ℕ, Option};
 ghost use Rattle.std.specs.Option.{option_map};
-ghost use Rattle.jv_interp_memory.specs.ObjectsInBlocks.{Blocks, HasNumber};
-ghost use Rattle.jv_interp_frames.specs.ControlStands.{IsClassOf, EndStands};
+ghost use Rattle.jv_interp_heap.specs.ObjectsInBlocks.{Blocks, HasNumber};
+ghost use Rattle.jv_interp_control.specs.ControlStands.{IsClassOf, EndStands};
 ghost use Rattle.jv_meaning_machine.specs.State.{End as EndOfNames};
 ghost use Rattle.jv_interp.specs.Standing.{IsSomeGuest};
 ghost use Rattle.jv_interp.specs.Showing.{IsShown, bytes_seen, seen_end};
 
 use crate::guest::Guest;
-use jv_interp_creation::of_link::class_at;
-use jv_interp_creation::of_loader::Classes;
-use jv_interp_frames::End;
+use jv_interp_control::End;
+use jv_link::class_at;
+use jv_loader::Classes;
 use jv_meaning_typing::Verdict;
 
 /// How a guest ended, if it did.

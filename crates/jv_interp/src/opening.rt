@@ -2,17 +2,17 @@
 
 ghost use Rattle.std.specs.Prelude.{◌≡◌, ◌+◌, ◌<◌, ◌≤◌, IfSome, OnOk, OnErr, length};
 ghost use Rattle.jv_lookups.specs.Places.{IsMethodPlace};
-ghost use Rattle.jv_interp_frames.specs.of_linked.Linked.{IsLinked};
-ghost use Rattle.jv_interp_frames.specs.of_interp_calls.Methods.{AreMethods};
-ghost use Rattle.jv_interp_frames.specs.Standing.{kept, CanMove, Moved};
+ghost use Rattle.jv_link_cache.specs.Linked.{IsLinked};
+ghost use Rattle.jv_interp_members.specs.Methods.{AreMethods};
+ghost use Rattle.jv_interp_control.specs.Standing.{kept, CanMove, Moved};
 ghost use Rattle.jv_interp.specs.Opening.{Opening};
 
-use jv_heap::{Memory, Store};
-use jv_interp_frames::of_interp_calls::Methods;
-use jv_interp_frames::of_linked::Linked;
-use jv_interp_frames::of_loader::{Classes, Place};
-use jv_interp_frames::{Control, End, Frames, begin};
-use jv_interp_memory::Held;
+use jv_interp_control::{Control, End, Frames, begin};
+use jv_interp_held::Held;
+use jv_interp_members::Methods;
+use jv_link_cache::Linked;
+use jv_loader::{Classes, Place};
+use jv_store::{OutOfMemory, Store};
 
 /// Begins the class of the main method, which is at a place; where there is none the guest has ended (own).
 ///
@@ -29,7 +29,7 @@ pub(crate) fn begin_main<S: Store>(
     held: &mut Held,
     store: &mut S,
     place: Option<Place>,
-) -> Result<(), Memory>
+) -> Result<(), OutOfMemory>
     requires can { CanMove classes.now.world (Opening place verified.now) (kept frames.old control.old held.old (S.content store.old)) }
     requires linked { IsLinked classes.now.world linked.now }
     requires methods { AreMethods classes.now.world methods.now }

@@ -1,16 +1,16 @@
 //! What a guest holds at its start.
 
 ghost use Rattle.std.specs.Prelude.{◌≡◌, ◌+◌, ◌≤◌, [], ◌∷◌, replicate, vec_len, vec_capacity, IfOk, OnOk, OnErr};
-ghost use Rattle.jv_interp_memory.specs.Growing.{Grows};
+ghost use Rattle.jv_interp_held.specs.Growing.{Grows};
 ghost use Rattle.jv_interp.specs.Starting.{BothJoin, Starts};
 
 use crate::objects::start_objects;
-use jv_heap::{Memory, Store};
-use jv_interp_memory::Held;
+use jv_interp_held::Held;
+use jv_store::{OutOfMemory, Store};
 use std::alloc::Global;
 
 /// So many zero words.
-fn zeros(alloc: Global, count: usize) -> Result<Vec<u32>, Memory>
+fn zeros(alloc: Global, count: usize) -> Result<Vec<u32>, OutOfMemory>
     ensures { IfOk result (λ words. words.items ≡ replicate count 0) }
 {
     let words = vec![in alloc; 0; count]?;
@@ -18,7 +18,7 @@ fn zeros(alloc: Global, count: usize) -> Result<Vec<u32>, Memory>
 }
 
 /// Room for so many bytes.
-fn room_for(alloc: Global, count: u32) -> Result<Vec<u8>, Memory>
+fn room_for(alloc: Global, count: u32) -> Result<Vec<u8>, OutOfMemory>
     ensures none { IfOk result (λ bytes. bytes.items ≡ []) }
     ensures room { IfOk result (λ bytes. vec_len bytes + count ≤ vec_capacity bytes) }
 {
@@ -27,7 +27,7 @@ fn room_for(alloc: Global, count: u32) -> Result<Vec<u8>, Memory>
 }
 
 /// The same bytes.
-fn copy_of(alloc: Global, input: &[u8]) -> Result<Vec<u8>, Memory>
+fn copy_of(alloc: Global, input: &[u8]) -> Result<Vec<u8>, OutOfMemory>
     ensures { IfOk result (λ bytes. bytes.items ≡ input.now) }
 {
     let mut bytes = Vec::new(alloc);
@@ -50,7 +50,7 @@ pub fn start_memory<S: Store>(
     cells: u32,
     output: u32,
     store: &mut S,
-) -> Result<Held, Memory>
+) -> Result<Held, OutOfMemory>
     requires some { 4 ≤ cells }
     requires cells { cells ≤ S.room_left store.old }
     ensures made { IfOk result (λ held. BothJoin held.out_of_memory held.arguments (S.content store.old) (S.content store.new)) }

@@ -1,10 +1,10 @@
 //! The start of a guest (JVMS 5.2).
 
 ghost use Rattle.std.specs.Prelude.{◌≡◌, ◌+◌, ◌<◌, ◌≤◌, IfOk, OnErr, length};
-ghost use Rattle.jv_interp_frames.specs.of_linked.Linked.{IsLinked};
-ghost use Rattle.jv_interp_frames.specs.of_interp_calls.Methods.{AreMethods};
-ghost use Rattle.jv_interp_frames.specs.of_interp_calls.Texts.{AreTexts};
-ghost use Rattle.jv_interp_memory.specs.ObjectsInBlocks.{Blocks};
+ghost use Rattle.jv_link_cache.specs.Linked.{IsLinked};
+ghost use Rattle.jv_interp_members.specs.Methods.{AreMethods};
+ghost use Rattle.jv_interp_objects.specs.Texts.{AreTexts};
+ghost use Rattle.jv_interp_heap.specs.ObjectsInBlocks.{Blocks};
 ghost use Rattle.jv_interp.specs.Starting.{BothJoin};
 ghost use Rattle.jv_interp.specs.Started.{CanStart, HasStarted};
 
@@ -12,10 +12,11 @@ use crate::budget::Budget;
 use crate::first::{Started, first_kept};
 use crate::main_method::main_place;
 use crate::opening::begin_main;
-use jv_heap::{Memory, Store};
-use jv_interp_frames::of_interp_calls::{Methods, Texts};
-use jv_interp_frames::of_linked::Linked;
-use jv_interp_frames::of_loader::Classes;
+use jv_interp_members::Methods;
+use jv_interp_objects::Texts;
+use jv_link_cache::Linked;
+use jv_loader::Classes;
+use jv_store::{OutOfMemory, Store};
 use std::alloc::Global;
 
 /// Takes back the two objects of the start, of which the second is the newest block.
@@ -46,7 +47,7 @@ pub fn start<S: Store>(
     input: &[u8],
     budget: Budget,
     store: &mut S,
-) -> Result<Started, Memory>
+) -> Result<Started, OutOfMemory>
     requires can { CanStart classes.now.world verified.now main.now input.now budget }
     requires linked { IsLinked classes.now.world linked.now }
     requires methods { AreMethods classes.now.world methods.now }

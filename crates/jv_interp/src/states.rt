@@ -3,7 +3,7 @@
 ghost use Rattle.std.specs.Prelude.{◌≡◌, IfOk};
 ghost use Rattle.jv_interp.specs.StartStates.{states_at_start, AreStatesAtStart};
 
-use jv_interp_memory::ClassState;
+use jv_interp_held::ClassState;
 use std::alloc::{AllocError, Global};
 
 /// How many classes the system has.

@@ -5,11 +5,11 @@ ghost use Rattle.jv_interp.specs.Standing.{IsSomeGuest, WentOn};
 ghost use Rattle.jv_interp.specs.Showing.{HasEnded, TakesSteps, RanToLast, IsAnswered};
 
 use crate::guest::Guest;
-use jv_heap::{Memory, Store};
-use jv_interp_frames::End;
-use jv_interp_runs::{Turn, run};
+use jv_interp_control::End;
+use jv_interp_steps::{Turn, run};
 use jv_meaning_machine::{alone_steps_on, end_fits_alone, shows_one_thing};
 use jv_sound::{initializations_are_loadable, never_faults, objects_are_loadable};
+use jv_store::{OutOfMemory, Store};
 
 impl Guest<'_> {
     /// How many steps it has taken.
@@ -69,7 +69,7 @@ impl Guest<'_> {
     /// # Errors
     ///
     /// Where the host had no memory for it: the step is then not taken, and the guest and the store are as they were before it.
-    pub fn step<S: Store>(&mut self, store: &mut S) -> Result<(), Memory>
+    pub fn step<S: Store>(&mut self, store: &mut S) -> Result<(), OutOfMemory>
         requires can { IsSomeGuest self.old (S.content store.old) }
         requires running { TakesSteps self.old (S.content store.old) }
         requires cells { self.old.held.cells ≤ S.room_left store.old }
@@ -85,7 +85,7 @@ impl Guest<'_> {
         shows_one_thing();
         let turn = self.turn(store, 1);
         if turn.refused {
-            return Err(Memory);
+            return Err(OutOfMemory);
         }
         Ok(())
     }

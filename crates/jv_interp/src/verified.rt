@@ -8,8 +8,8 @@ ghost use Rattle.jv_meaning_world.specs.Numbers.{HoldsAtNumber, HoldsAtBoth, IsN
 ghost use Rattle.jv_interp.specs.VerifiedClasses.{TellsEach, TellWithAbove, AreVerifiedClasses, holds_if_above};
 
 use crate::accepted::accepted_classes;
-use jv_interp_frames::of_loader::ClassTable;
-use jv_method::Verified;
+use jv_loader::ClassTable;
+use jv_verify::Verified;
 use std::alloc::{AllocError, Global};
 
 /// What flags tell of the class with a number.

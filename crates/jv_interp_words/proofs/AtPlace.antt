@@ -8,8 +8,8 @@ use Rattle.jv_text.specs.Descriptor.{MethodDescriptor}
 use Rattle.jv_class_structure.specs.Parts.{CodeSeen}
 use Rattle.jv_code.specs.Insns.{Instruction, insn_bytes}
 use Rattle.jv_code.specs.Places.{IsCode, IsAt}
-use Rattle.jv_meaning_machine.specs.of_meaning_world.Overriding.{Declared}
-use Rattle.jv_meaning_machine.specs.of_meaning_typing.Environment.{Environment, instruction_from, instruction_at, offset_behind}
+use Rattle.jv_meaning_world.specs.Overriding.{Declared}
+use Rattle.jv_meaning_typing.specs.Environment.{Environment, instruction_from, instruction_at, offset_behind}
 use Rattle.jv_meaning_machine.specs.Faults.{OrFault, found, tested, ◌>>=◌}
 use Rattle.jv_meaning_machine.specs.Faults.Fault.{UnverifiedFault, OffsetFault}
 use Rattle.jv_meaning_machine.specs.State.{Program, is_class_accepted, entered_method}

@@ -5,7 +5,7 @@ use Rattle.jv_code.specs.declared.insn.Insn.TheVariants as insns
 use Rattle.jv_code.specs.declared.kinds.DivisionOperator.{DivisionOperator}
 use Rattle.jv_code.specs.declared.kinds.NumberKind.{NumberKind}
 use Rattle.jv_code.specs.declared.kinds.NumberKind.TheVariants as numbers
-use Rattle.jv_meaning_machine.specs.of_meaning_typing.NumberRules.{exchange, number_type}
+use Rattle.jv_meaning_typing.specs.NumberRules.{exchange, number_type}
 use Rattle.jv_meaning_machine.specs.Faults.{◌>>=◌}
 use Rattle.jv_meaning_machine.specs.Values.{Value}
 use Rattle.jv_meaning_machine.specs.State.{Memory}

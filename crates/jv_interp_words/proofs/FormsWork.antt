@@ -3,7 +3,7 @@ use Rattle.std.proofs.Common.{◌≡◌, ℕ, ◌+◌, ◌≤◌, true, nat_le, 
 use Rattle.std.proofs.lemmas.Grind.{common_steps}
 use Rattle.jv_code.specs.declared.kinds.StackForm.{StackForm}
 use Rattle.jv_code.specs.declared.insn.Insn.TheVariants as insns
-use Rattle.jv_meaning_machine.specs.of_meaning_typing.StackForms.{taken_words, passed_words, arranged, rearranged}
+use Rattle.jv_meaning_typing.specs.StackForms.{taken_words, passed_words, arranged, rearranged}
 use Rattle.jv_meaning_machine.specs.Faults.{found, tested, ◌>>=◌}
 use Rattle.jv_meaning_machine.specs.Faults.Fault.{StackFault, TagFault}
 use Rattle.jv_meaning_machine.specs.Values.{Value, value_width, words_of_values}

@@ -1,9 +1,9 @@
 -- Branches on ints (JVMS 6.5, if<cond> and if_icmp<cond>).
 use Rattle.std.proofs.Common.{◌≡◌, ℕ, ℤ, pos, ◌+◌, ◌≤◌, Bool, List, [], ◌∷◌, length, refl, ap, ◌∙◌, arith}
-use Rattle.jv_meaning_machine.specs.of_frames.declared.verification.VerificationTypeOf.TheVariants as types
+use Rattle.jv_stackmap.specs.declared.verification.VerificationTypeOf.TheVariants as types
 use Rattle.jv_code.specs.declared.kinds.Condition.{Condition}
 use Rattle.jv_code.specs.declared.kinds.NumberKind.TheVariants as numbers
-use Rattle.jv_meaning_machine.specs.of_meaning_typing.NumberRules.{exchange}
+use Rattle.jv_meaning_typing.specs.NumberRules.{exchange}
 use Rattle.jv_meaning_machine.specs.Values.{Value}
 use Rattle.jv_meaning_machine.specs.State.{Memory}
 use Rattle.jv_meaning_machine.specs.Effects.{Effect, Context, Outcome}

@@ -27,5 +27,3 @@ pub mod AtPlace
 pub mod StepsStand
 pub mod OpcodesStand
 pub mod RunsOn
-pub use Rattle.jv_meaning_machine.proofs as laws_of_meaning_machine
-pub use Rattle.jv_meaning_machine.proofs.laws_of_meaning_world

@@ -3,7 +3,7 @@ use Rattle.std.proofs.Common.{◌≡◌, ℕ, zero, suc, ◌+◌, ◌≤◌, Lis
 use Rattle.jv_format.specs.Format.{◌>>=◌}
 use Rattle.jv_code.specs.declared.kinds.StackForm.{StackForm}
 use Rattle.jv_code.specs.declared.kinds.StackForm.TheVariants as forms
-use Rattle.jv_meaning_machine.specs.of_meaning_typing.StackForms.{item_before, top_words, taken_words, passed_words, arranged, rearranged}
+use Rattle.jv_meaning_typing.specs.StackForms.{item_before, top_words, taken_words, passed_words, arranged, rearranged}
 use Rattle.jv_meaning_machine.specs.Values.{Value, value_width}
 use Rattle.jv_meaning_machine.specs.Values.Value.{Int, Long, Null, Reference, Half, Unset}
 use Rattle.jv_interp_words.specs.ValuesInWords.{IsOnTop, AreOnTop}

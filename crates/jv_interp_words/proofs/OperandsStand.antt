@@ -2,7 +2,7 @@
 use Rattle.std.proofs.Common.{◌≡◌, ℕ, ℤ, List, [], ◌∷◌, ◌++◌, Some, Ok, reverse, sym, ap, subst, ◌∙◌}
 use Rattle.jv_code.specs.Insns.{Instruction}
 use Rattle.jv_code.specs.declared.kinds.NumberKind.TheVariants as numbers
-use Rattle.jv_meaning_machine.specs.of_meaning_typing.NumberRules.{Exchange}
+use Rattle.jv_meaning_typing.specs.NumberRules.{Exchange}
 use Rattle.jv_meaning_machine.specs.Faults.{◌>>=◌}
 use Rattle.jv_meaning_machine.specs.Values.{Value}
 use Rattle.jv_meaning_machine.specs.Values.Value.{Int}

@@ -5,8 +5,8 @@ use Rattle.jv_code.specs.Targets.{target_of}
 use Rattle.jv_code.specs.declared.insn.Insn.TheVariants as insns
 use Rattle.jv_code.specs.declared.kinds.Computation.{Computation}
 use Rattle.jv_code.specs.declared.kinds.JumpForm.{JumpForm}
-use Rattle.jv_meaning_machine.specs.of_frames.declared.verification.VerificationTypeOf.TheVariants as types
-use Rattle.jv_meaning_machine.specs.of_meaning_typing.NumberRules.{exchange, computation}
+use Rattle.jv_stackmap.specs.declared.verification.VerificationTypeOf.TheVariants as types
+use Rattle.jv_meaning_typing.specs.NumberRules.{exchange, computation}
 use Rattle.jv_meaning_machine.specs.Faults.{◌>>=◌}
 use Rattle.jv_meaning_machine.specs.Values.{Value}
 use Rattle.jv_meaning_machine.specs.Values.Value.{Null}

@@ -1,7 +1,7 @@
 -- Words of a stack that were put in another order.
 use Rattle.std.proofs.Common.{◌≡◌, ℕ, List, ◌∷◌, Some, sym, ap, ◌∙◌}
 use Rattle.jv_code.specs.declared.kinds.StackForm.{StackForm}
-use Rattle.jv_meaning_machine.specs.of_meaning_typing.StackForms.{rearranged}
+use Rattle.jv_meaning_typing.specs.StackForms.{rearranged}
 use Rattle.jv_interp_words.specs.Inside.Forms.{word_width, Rearranges}
 
 pub rearranges :

@@ -2,7 +2,7 @@
 use Rattle.std.proofs.Common.{◌≡◌, ℕ, ℤ, ◌≤◌, Bool, true, false, nat_eq, List, ◌∷◌, ◌++◌, Some, Ok, length, reverse, slice_get, refl, sym, ap, subst, ◌∙◌, arith}
 use Rattle.std.proofs.lemmas.Bool.{eqb-true}
 use Rattle.jv_code.specs.declared.kinds.Equality.{Equality}
-use Rattle.jv_meaning_machine.specs.of_meaning_typing.Named.{object_class_type}
+use Rattle.jv_meaning_typing.specs.Named.{object_class_type}
 use Rattle.jv_meaning_machine.specs.Faults.{OrFault, tested, ◌>>=◌}
 use Rattle.jv_meaning_machine.specs.Faults.Fault.{TagFault}
 use Rattle.jv_meaning_machine.specs.Values.{Value, has_type, is_reference_value}

@@ -6,7 +6,7 @@ use Rattle.std.proofs.lemmas.Grind.{common_steps}
 use Rattle.jv_code.specs.Insns.{Instruction}
 use Rattle.jv_code.specs.Places.{IsAt}
 use Rattle.jv_code.proofs.StartLaws.{OneAtOffset-holds}
-use Rattle.jv_meaning_machine.specs.of_meaning_typing.Environment.{instruction_at, offset_behind}
+use Rattle.jv_meaning_typing.specs.Environment.{instruction_at, offset_behind}
 use Rattle.jv_meaning_machine.specs.Faults.{OrFault, found, tested, ◌>>=◌}
 use Rattle.jv_meaning_machine.specs.Faults.Fault.{OffsetFault, StackFault}
 use Rattle.jv_meaning_machine.specs.Values.{Value, words_of_values}

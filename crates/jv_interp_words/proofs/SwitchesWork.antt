@@ -1,11 +1,11 @@
 -- Switches (JVMS 6.5, tableswitch and lookupswitch).
 use Rattle.std.proofs.Common.{◌≡◌, ℕ, ℤ, ◌≤◌, List, [], ◌∷◌, Some, refl, sym, subst, IsSome}
-use Rattle.jv_meaning_machine.specs.of_frames.declared.verification.VerificationTypeOf.TheVariants as types
+use Rattle.jv_stackmap.specs.declared.verification.VerificationTypeOf.TheVariants as types
 use Rattle.jv_code.specs.Insns.{Instruction}
 use Rattle.jv_code.specs.Targets.{target_of}
 use Rattle.jv_code.specs.declared.insn.Insn.TheVariants as insns
 use Rattle.jv_code.specs.declared.kinds.NumberKind.TheVariants as numbers
-use Rattle.jv_meaning_machine.specs.of_meaning_typing.NumberRules.{exchange}
+use Rattle.jv_meaning_typing.specs.NumberRules.{exchange}
 use Rattle.jv_meaning_machine.specs.Values.{Value}
 use Rattle.jv_meaning_machine.specs.State.{Memory}
 use Rattle.jv_meaning_machine.specs.Effects.{Effect, Context, Outcome}

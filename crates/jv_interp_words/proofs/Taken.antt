@@ -1,7 +1,7 @@
 -- What was taken from a stack stood on its top.
 use Rattle.std.proofs.Common.{◌≡◌, List, [], ◌∷◌, ◌++◌, reverse, Ok, refl, sym, ap, ◌∙◌, append_assoc}
 use Rattle.std.proofs.lemmas.List.{reverse-append}
-use Rattle.jv_meaning_machine.specs.of_frames.Types.{FrameType}
+use Rattle.jv_stackmap.specs.Types.{FrameType}
 use Rattle.jv_meaning_machine.specs.Faults.{OrFault, tested, ◌>>=◌}
 use Rattle.jv_meaning_machine.specs.Faults.Fault.{TagFault, ConstructionFault}
 use Rattle.jv_meaning_machine.specs.Values.{Value, has_type}

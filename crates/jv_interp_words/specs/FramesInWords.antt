@@ -3,9 +3,9 @@
 -- local variables of what is called.
 use Rattle.std.specs.Prelude.{◌≡◌, ℕ, ◌≤◌, List, [], ◌∷◌, ◌++◌, Some, Ok, drop, length, map, reverse, slice_get, take}
 use Rattle.std.specs.List.{flat_map}
-use Rattle.jv_meaning_machine.specs.of_meaning_world.World.{World}
-use Rattle.jv_meaning_machine.specs.of_meaning_world.Overriding.{Declared}
-use Rattle.jv_meaning_machine.specs.of_meaning_world.Verdicts.{declared_by}
+use Rattle.jv_meaning_world.specs.World.{World}
+use Rattle.jv_meaning_world.specs.Overriding.{Declared}
+use Rattle.jv_meaning_world.specs.Verdicts.{declared_by}
 use Rattle.jv_meaning_machine.specs.Values.{Value, words_of_values}
 use Rattle.jv_meaning_machine.specs.Frames.{MethodFrame, InitializationFrame, Frame}
 use Rattle.jv_meaning_machine.specs.Frames.Frame.{Runs, Initializes}

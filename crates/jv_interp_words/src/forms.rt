@@ -2,7 +2,7 @@
 
 ghost use Rattle.std.specs.Prelude.{◌≡◌, ◌+◌, ◌-◌, ◌<◌, ◌≤◌, length};
 ghost use Rattle.jv_interp_words.specs.FramesInWords.{in_use};
-ghost use Rattle.jv_meaning_machine.specs.of_meaning_typing.StackForms.{taken_words, passed_words};
+ghost use Rattle.jv_meaning_typing.specs.StackForms.{taken_words, passed_words};
 ghost use Rattle.jv_interp_words.specs.Inside.Forms.{Rearranges, added_words};
 
 use crate::words::{push_two, push_word, top_word};

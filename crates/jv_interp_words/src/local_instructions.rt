@@ -1,7 +1,7 @@
 //! Local variables (JVMS 6.5).
 
 ghost use Rattle.std.specs.Prelude.{◌≡◌};
-ghost use Rattle.jv_meaning_machine.specs.of_meaning_typing.ValueRules.{value_kind};
+ghost use Rattle.jv_meaning_typing.specs.ValueRules.{value_kind};
 ghost use Rattle.jv_code.specs.declared.insn.Insn.TheVariants.{Load as LoadInsn, Store as StoreInsn, StoreLong as StoreLongInsn, Increment as IncrementInsn};
 ghost use Rattle.jv_interp_words.specs.Going.{CanWork, GoesOn, StaysIn};
 

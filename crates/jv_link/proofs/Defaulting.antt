@@ -12,12 +12,12 @@ use Rattle.jv_meaning_world.specs.Verdicts.{declared_by}
 use Rattle.jv_meaning_world.specs.Numbers.{number_named, superclass_number}
 use Rattle.jv_meaning_world.specs.Numbers.{HoldsAtNumber}
 use Rattle.jv_classes.proofs.Followed.{at_named, some_class}
-use Rattle.jv_loader.specs.of_lookups.declared.place.Place.{Place}
-use Rattle.jv_loader.specs.of_lookups.Places.{method_of, method_at}
+use Rattle.jv_lookups.specs.declared.place.Place.{Place}
+use Rattle.jv_lookups.specs.Places.{method_of, method_at}
 use Rattle.jv_meaning_world.specs.Numbers.{classes_at}
-use Rattle.jv_loader.proofs.laws_of_lookups.Among.{one_behind}
-use Rattle.jv_loader.proofs.laws_of_lookups.Found.{one_class_more, no_class_left}
-use Rattle.jv_loader.proofs.laws_of_lookups.Next.{those_at}
+use Rattle.jv_lookups.proofs.Among.{one_behind}
+use Rattle.jv_lookups.proofs.Found.{one_class_more, no_class_left}
+use Rattle.jv_lookups.proofs.Next.{those_at}
 use Rattle.jv_meaning_typing.specs.InitializationOrder.{is_default, declares_default}
 use Rattle.jv_link.specs.Inside.Enumerating.{with_default, superclass_first}
 

@@ -16,10 +16,10 @@ use Rattle.jv_meaning_world.specs.LookUps.{DeclaredField, field_by}
 use Rattle.jv_meaning_world.specs.Numbers.{HoldsAtNumber}
 use Rattle.jv_classes.proofs.Followed.{some_class}
 use Rattle.jv_classes.proofs.Numbers.{take_more}
-use Rattle.jv_loader.specs.of_lookups.declared.place.Place.{Place}
-use Rattle.jv_loader.specs.of_lookups.Places.{field_in, field_at}
+use Rattle.jv_lookups.specs.declared.place.Place.{Place}
+use Rattle.jv_lookups.specs.Places.{field_in, field_at}
 use Rattle.jv_meaning_world.specs.Numbers.{classes_at, AreNumbers}
-use Rattle.jv_loader.proofs.laws_of_lookups.Found.{one_class_more}
+use Rattle.jv_lookups.proofs.Found.{one_class_more}
 use Rattle.jv_meaning_typing.specs.Kind.{is_static_field}
 use Rattle.jv_meaning_typing.specs.Layout.{own_fields, instance_fields, field_words, laid_at, placed_from}
 use Rattle.jv_meaning_typing.proofs.Places.{placed_go_on}

@@ -8,10 +8,10 @@ use Rattle.jv_meaning_world.specs.Numbers.{number_named}
 use Rattle.jv_meaning_world.specs.Numbers.{HoldsAtNumber}
 use Rattle.jv_classes.proofs.Followed.{some_class}
 use Rattle.jv_meaning_world.specs.Numbers.{classes_at}
-use Rattle.jv_loader.specs.of_lookups.Inside.Numbers.{NumbersBelow, numbers_below, AreNumbersOf}
+use Rattle.jv_lookups.specs.Inside.Numbers.{NumbersBelow, numbers_below, AreNumbersOf}
 use Rattle.jv_classes.specs.Once.{each_once, interface_numbers}
-use Rattle.jv_loader.proofs.laws_of_lookups.Once.{among_more, among_last, kept_by_all, over_once}
-use Rattle.jv_loader.proofs.laws_of_lookups.Next.{those_at, those_named, with, without, none_left, added_class}
+use Rattle.jv_lookups.proofs.Once.{among_more, among_last, kept_by_all, over_once}
+use Rattle.jv_lookups.proofs.Next.{those_at, those_named, with, without, none_left, added_class}
 use Rattle.jv_meaning_typing.specs.InitializationOrder.{interfaces_in, given_within}
 
 -- the loop over the interfaces: what was given with the rest is what all lead to

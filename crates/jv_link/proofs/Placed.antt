@@ -8,8 +8,8 @@ use Rattle.jv_meaning_world.specs.World.{Loaded, World}
 use Rattle.jv_meaning_world.specs.Overriding.{Declared}
 use Rattle.jv_meaning_world.specs.Verdicts.{declared_by}
 use Rattle.jv_meaning_world.specs.LookUps.{DeclaredField, field_by}
-use Rattle.jv_loader.specs.of_lookups.declared.place.Place.{Place}
-use Rattle.jv_loader.specs.of_lookups.Places.{field_in, field_at, method_of, method_at}
+use Rattle.jv_lookups.specs.declared.place.Place.{Place}
+use Rattle.jv_lookups.specs.Places.{field_in, field_at, method_of, method_at}
 
 pub field_placed : (world : World) (place : Place) (d : DeclaredField) → field_at world place ≡ Some d → slice_get world place.class ≡ Some d.by
 field_placed world place d e = by_class (slice_get world place.class) e

@@ -14,8 +14,8 @@ use Rattle.jv_meaning_world.specs.Numbers.{superclass_number}
 use Rattle.jv_meaning_world.specs.Numbers.{HoldsAtNumber}
 use Rattle.jv_classes.proofs.Told.{superclass_below}
 use Rattle.jv_classes.proofs.Followed.{at_superclass, some_class}
-use Rattle.jv_loader.specs.of_lookups.declared.place.Place.{Place}
-use Rattle.jv_loader.specs.of_lookups.Places.{method_at, IsMethodPlace}
+use Rattle.jv_lookups.specs.declared.place.Place.{Place}
+use Rattle.jv_lookups.specs.Places.{method_at, IsMethodPlace}
 use Rattle.jv_loader.specs.Straight.{IsStraight}
 use Rattle.jv_link.specs.Inside.Climbing.{Meeting, meets, is_opening, run_of, upward_of, met_upward, run_behind, sure_behind, numbered, IsStraightAt}
 use Rattle.jv_link.specs.Inside.Climbing.Meeting.{Nothing, Far, Sure, Opens}

@@ -6,8 +6,8 @@ use Rattle.jv_pool.specs.Constants.{MemberReference}
 use Rattle.jv_meaning_world.specs.World.{Loaded, World}
 use Rattle.jv_meaning_world.specs.Overriding.{Declared}
 use Rattle.jv_meaning_world.specs.LookUps.{DeclaredField}
-use Rattle.jv_loader.specs.of_lookups.Places.{field_at, method_at}
-use Rattle.jv_loader.specs.of_lookups.declared.place.Place.{Place}
+use Rattle.jv_lookups.specs.Places.{field_at, method_at}
+use Rattle.jv_lookups.specs.declared.place.Place.{Place}
 use Rattle.jv_meaning_typing.specs.Uses.{Site as SiteOfNames}
 use Rattle.jv_meaning_typing.specs.LinkErrors.{OrError}
 use Rattle.jv_meaning_typing.specs.Operands.{MethodReference, class_operand, field_operand, method_operand}

@@ -3,8 +3,8 @@ use Rattle.std.specs.Prelude.{◌≡◌, ℕ, List, [], ◌∷◌, map, sum_by, 
 use Rattle.std.specs.Option.{option_map}
 use Rattle.jv_meaning_world.specs.World.{World}
 use Rattle.jv_meaning_world.specs.LookUps.{DeclaredField}
-use Rattle.jv_loader.specs.of_lookups.declared.place.Place.{Place}
-use Rattle.jv_loader.specs.of_lookups.Places.{field_at}
+use Rattle.jv_lookups.specs.declared.place.Place.{Place}
+use Rattle.jv_lookups.specs.Places.{field_at}
 use Rattle.jv_meaning_typing.specs.Kind.{is_static_field}
 use Rattle.jv_meaning_typing.specs.Layout.{Placed, laid_at, placed_from, field_words, own_fields, instance_fields}
 use Rattle.jv_link.specs.declared.layout.PlacedField.{PlacedField}

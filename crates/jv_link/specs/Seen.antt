@@ -4,8 +4,8 @@ use Rattle.std.specs.Option.{option_map}
 use Rattle.jv_format.specs.Format.{◌>>=◌}
 use Rattle.jv_text.specs.Seen.{seen_field_type}
 use Rattle.jv_meaning_world.specs.World.{World}
-use Rattle.jv_loader.specs.of_lookups.declared.place.Place.{Place}
-use Rattle.jv_loader.specs.of_lookups.Places.{method_at, IsMethodPlace}
+use Rattle.jv_lookups.specs.declared.place.Place.{Place}
+use Rattle.jv_lookups.specs.Places.{method_at, IsMethodPlace}
 use Rattle.jv_meaning_typing.specs.Uses.{Site as SiteOfNames, Use as UseOfNames}
 use Rattle.jv_meaning_typing.specs.Uses.Use.{Getstatic, Putstatic, Getfield, Putfield, Invokevirtual, Invokespecial, Invokestatic, Invokeinterface, New}
 use Rattle.jv_meaning_typing.specs.LinkErrors.{LinkError as ErrorOfNames, OrError}

@@ -2,8 +2,8 @@
 use Rattle.std.specs.Prelude.{◌≡◌, ◌<◌, ⊤, length, Result, Some, slice_get}
 use Rattle.jv_meaning_world.specs.World.{World}
 use Rattle.jv_meaning_world.specs.LookUps.{DeclaredField}
-use Rattle.jv_loader.specs.of_lookups.declared.place.Place.{Place}
-use Rattle.jv_loader.specs.of_lookups.Places.{field_at}
+use Rattle.jv_lookups.specs.declared.place.Place.{Place}
+use Rattle.jv_lookups.specs.Places.{field_at}
 use Rattle.jv_meaning_typing.specs.Uses.{Use, Site}
 use Rattle.jv_meaning_typing.specs.LinkErrors.{OrError, ◌>>=◌, provided}
 use Rattle.jv_meaning_typing.specs.LinkErrors.LinkError.{IncompatibleClassChangeError, IllegalAccessError, NoSuchMethodError}

@@ -2,10 +2,10 @@
 
 ghost use Rattle.std.specs.Prelude.{◌≡◌, ◌<◌, Some, IfSome, length};
 ghost use Rattle.std.specs.Option.{option_and_then};
-ghost use Rattle.jv_class.specs.of_class_structure.Flags.{has, acc_public};
+ghost use Rattle.jv_class_structure.specs.Flags.{has, acc_public};
 ghost use Rattle.jv_meaning_world.specs.Overriding.{Declared, is_instance, alike_in};
 ghost use Rattle.jv_meaning_world.specs.LookUps.{is_concrete};
-ghost use Rattle.jv_loader.specs.of_lookups.Places.{method_at, IsMethodPlace, HoldsAtCall};
+ghost use Rattle.jv_lookups.specs.Places.{method_at, IsMethodPlace, HoldsAtCall};
 ghost use Rattle.jv_meaning_typing.specs.Inside.OneWalk.{is_open};
 ghost use Rattle.jv_meaning_typing.specs.Inside.Upward.{is_private};
 ghost use Rattle.jv_link.specs.Inside.Called.{method_named_as};

@@ -2,7 +2,7 @@
 
 ghost use Rattle.std.specs.Prelude.{◌<◌, Some, IfSome, length};
 ghost use Rattle.jv_meaning_world.specs.Overriding.{alike_in};
-ghost use Rattle.jv_loader.specs.of_lookups.Places.{IsMethodPlace, HoldsAtCall, IsMethodFound};
+ghost use Rattle.jv_lookups.specs.Places.{IsMethodPlace, HoldsAtCall, IsMethodFound};
 ghost use Rattle.jv_meaning_typing.specs.Selection.{first_alike};
 ghost use Rattle.jv_link.specs.Inside.Called.{IsAlikeAbove};
 

@@ -4,7 +4,7 @@ ghost use Rattle.std.specs.Prelude.{◌≡◌, ◌<◌, Some, None, IfSome, leng
 ghost use Rattle.jv_classes.specs.Ways.{IsBelowSize};
 ghost use Rattle.jv_meaning_world.specs.World.{World};
 ghost use Rattle.jv_meaning_world.specs.Numbers.{HoldsAtNumber};
-ghost use Rattle.jv_loader.specs.of_lookups.Places.{IsMethodPlace, HoldsAtCall, IsMethodFound};
+ghost use Rattle.jv_lookups.specs.Places.{IsMethodPlace, HoldsAtCall, IsMethodFound};
 ghost use Rattle.jv_loader.specs.Straight.{IsStraight};
 ghost use Rattle.jv_meaning_typing.specs.Selection.{first_overriding};
 ghost use Rattle.jv_link.specs.Inside.Climbing.{met_upward, run_of, is_opening, sure_behind, IsMet, IsMetPlace, Meeting, IsStraightAt, IsSureBehind, IsRunBehind};

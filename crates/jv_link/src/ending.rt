@@ -2,7 +2,7 @@
 
 ghost use Rattle.std.specs.Prelude.{◌≡◌, ◌<◌, Some, IfOk, IfSome, length};
 ghost use Rattle.jv_meaning_world.specs.Overriding.{Declared};
-ghost use Rattle.jv_loader.specs.of_lookups.Places.{method_at, IsMethodPlace};
+ghost use Rattle.jv_lookups.specs.Places.{method_at, IsMethodPlace};
 ghost use Rattle.jv_meaning_typing.specs.Selection.{superinterface_default, not_abstract, found_or_default, public_or_default};
 ghost use Rattle.jv_link.specs.Seen.{answer_at};
 ghost use Rattle.jv_link.specs.Inside.Called.{public_one, RunsFound, RunsPublic, RunsDefault};

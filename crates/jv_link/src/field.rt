@@ -3,7 +3,7 @@
 ghost use Rattle.std.specs.Prelude.{◌≡◌, ◌<◌, Some, IsSome, IfOk, length};
 ghost use Rattle.jv_pool.specs.Seen.{seen_member};
 ghost use Rattle.jv_meaning_world.specs.Numbers.{HoldsAtNumber, HoldsAtBoth};
-ghost use Rattle.jv_loader.specs.of_lookups.Places.{field_at, IsFieldPlace};
+ghost use Rattle.jv_lookups.specs.Places.{field_at, IsFieldPlace};
 ghost use Rattle.jv_meaning_typing.specs.Operands.{field_operand};
 ghost use Rattle.jv_meaning_typing.specs.FieldResolution.{found_field, field_from, resolved_field, resolve_field};
 ghost use Rattle.jv_link.specs.Seen.{IsSite};

@@ -2,12 +2,12 @@
 
 ghost use Rattle.std.specs.Prelude.{◌<◌, IfOk, OnOk, length};
 ghost use Rattle.jv_meaning_world.specs.Numbers.{AreNumbers};
-ghost use Rattle.jv_loader.specs.of_lookups.Inside.Numbers.{AreNumbersOf};
+ghost use Rattle.jv_lookups.specs.Inside.Numbers.{AreNumbersOf};
 ghost use Rattle.jv_meaning_typing.specs.InitializationOrder.{enumerated};
 ghost use Rattle.jv_link.specs.Inside.Enumerating.{GivesBehind, AreEnumerated};
 
 use jv_loader::ClassTable;
-use jv_loader::of_lookups::{Begun, interfaces_of};
+use jv_lookups::{Begun, interfaces_of};
 use std::alloc::{AllocError, Global};
 
 /// Gives an interface behind those that were given, its superinterfaces first, and these at most so many

@@ -5,7 +5,7 @@ ghost use Rattle.jv_text.specs.Name.{is_init as is_init_name};
 ghost use Rattle.jv_class.specs.Class.{Field, Method};
 ghost use Rattle.jv_meaning_world.specs.Overriding.{Declared};
 ghost use Rattle.jv_meaning_world.specs.LookUps.{DeclaredField};
-ghost use Rattle.jv_loader.specs.of_lookups.Places.{field_at, method_at, IsFieldPlace};
+ghost use Rattle.jv_lookups.specs.Places.{field_at, method_at, IsFieldPlace};
 ghost use Rattle.jv_meaning_typing.specs.Uses.{Site as SiteOfNames};
 ghost use Rattle.jv_meaning_typing.specs.Kind.{has_field_kind, can_set_final, can_use_final, has_method_kind};
 ghost use Rattle.jv_meaning_typing.specs.MethodResolution.{is_own_init};

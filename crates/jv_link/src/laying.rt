@@ -4,13 +4,13 @@ ghost use Rattle.std.specs.Prelude.{◌≡◌, ◌≤◌, ◌<◌, ◌*◌, IfOk
 ghost use Rattle.std.specs.Str.{bytes_eq};
 ghost use Rattle.jv_meaning_world.specs.Verdicts.{is_loadable};
 ghost use Rattle.jv_meaning_world.specs.Numbers.{HoldsAtNumber};
-ghost use Rattle.jv_loader.specs.of_lookups.Places.{field_at, IsFieldPlace};
+ghost use Rattle.jv_lookups.specs.Places.{field_at, IsFieldPlace};
 ghost use Rattle.jv_meaning_typing.specs.Layout.{instance_fields};
 ghost use Rattle.jv_link.specs.Layouts.{IsLaid, LaysField, LaysFields, IsLayoutOf};
 
 use crate::layout::{Layout, add_field};
 use crate::member::{class_at, field_at};
-use jv_loader::{ClassTable, Classes, Memory, Place};
+use jv_loader::{ClassTable, Classes, OutOfMemory, Place};
 use std::alloc::{AllocError, Global};
 
 const STATIC: u16 = 0x0008;
@@ -80,7 +80,7 @@ fn layout_in(alloc: Global, table: &ClassTable<'_>, class: usize) -> Result<Layo
 /// # Errors
 ///
 /// Where the host had no memory for the list.
-pub fn layout_of(alloc: Global, classes: &Classes<'_>, class: usize) -> Result<Layout, Memory>
+pub fn layout_of(alloc: Global, classes: &Classes<'_>, class: usize) -> Result<Layout, OutOfMemory>
     requires class { class < length classes.now.world }
     requires loadable { HoldsAtNumber classes.now.world class (λ l. IsTrue (is_loadable classes.now.world l)) }
     ensures { IfOk result (IsLayoutOf classes.now.world class) }

@@ -28,7 +28,6 @@ pub use access::same_package;
 pub use class::{constants_class, created, resolve_class, same_class};
 pub use error::LinkError;
 pub use field::{constants_field, resolve_field};
-pub use jv_loader as of_loader;
 pub use kind::{callable_with, usable_with};
 pub use laying::layout_of;
 pub use layout::{Layout, PlacedField};

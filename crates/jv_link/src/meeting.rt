@@ -2,7 +2,7 @@
 
 ghost use Rattle.std.specs.Prelude.{◌≡◌, ◌<◌, Some, length};
 ghost use Rattle.jv_meaning_world.specs.Overriding.{Declared};
-ghost use Rattle.jv_loader.specs.of_lookups.Places.{method_at, IsMethodPlace, HoldsAtCall};
+ghost use Rattle.jv_lookups.specs.Places.{method_at, IsMethodPlace, HoldsAtCall};
 ghost use Rattle.jv_meaning_typing.specs.Inside.Upward.{is_near};
 ghost use Rattle.jv_link.specs.Inside.Climbing.{met_below, meets, IsMet, IsMetPlace, IsMetBelow};
 

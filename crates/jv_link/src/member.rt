@@ -5,7 +5,7 @@ ghost use Rattle.jv_meaning_world.specs.Overriding.{Declared};
 ghost use Rattle.jv_meaning_world.specs.LookUps.{DeclaredField};
 ghost use Rattle.jv_classes.specs.Members.{IsField, IsMethod};
 ghost use Rattle.jv_meaning_world.specs.Numbers.{HoldsAtNumber};
-ghost use Rattle.jv_loader.specs.of_lookups.Places.{field_at, method_at, IsFieldPlace, IsMethodPlace};
+ghost use Rattle.jv_lookups.specs.Places.{field_at, method_at, IsFieldPlace, IsMethodPlace};
 
 use jv_loader::{ClassTable, LoadedClass, Member, Place};
 

@@ -3,7 +3,7 @@
 ghost use Rattle.std.specs.Prelude.{◌≡◌, ◌<◌, Some, IsSome, IfOk, length};
 ghost use Rattle.jv_pool.specs.Seen.{seen_member};
 ghost use Rattle.jv_meaning_world.specs.Numbers.{HoldsAtNumber};
-ghost use Rattle.jv_loader.specs.of_lookups.Places.{method_at, IsMethodPlace};
+ghost use Rattle.jv_lookups.specs.Places.{method_at, IsMethodPlace};
 ghost use Rattle.jv_meaning_typing.specs.Operands.{method_operand};
 ghost use Rattle.jv_meaning_typing.specs.MethodResolution.{names_its_kind, method_from, resolved_method, resolve_method};
 ghost use Rattle.jv_link.specs.Seen.{IsSite, IsMethodTarget};

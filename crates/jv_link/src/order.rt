@@ -5,14 +5,14 @@ ghost use Rattle.jv_meaning_world.specs.Overriding.{Declared};
 ghost use Rattle.jv_meaning_world.specs.Verdicts.{is_loadable};
 ghost use Rattle.jv_meaning_world.specs.Numbers.{HoldsAtNumber};
 ghost use Rattle.jv_meaning_world.specs.Numbers.{AreNumbers};
-ghost use Rattle.jv_loader.specs.of_lookups.Places.{method_at, IsMethodPlace};
+ghost use Rattle.jv_lookups.specs.Places.{method_at, IsMethodPlace};
 ghost use Rattle.jv_meaning_typing.specs.InitializationOrder.{is_default, declares_default};
 ghost use Rattle.jv_link.specs.Orders.{IsOrder};
 ghost use Rattle.jv_link.specs.Inside.Enumerating.{superclass_first, OrdersOne, OrdersAll, BeginsOrder};
 
 use crate::giving::enumerated;
 use crate::member::{class_at, method_at};
-use jv_loader::{ClassTable, Classes, Memory, Place};
+use jv_loader::{ClassTable, Classes, OutOfMemory, Place};
 use std::alloc::{AllocError, Global};
 
 const STATIC_OR_ABSTRACT: u16 = 0x0408;
@@ -112,7 +112,11 @@ fn order_in(alloc: Global, table: &ClassTable<'_>, class: usize) -> Result<Vec<u
 /// # Errors
 ///
 /// Where the host had no memory for the list.
-pub fn init_order(alloc: Global, classes: &Classes<'_>, class: usize) -> Result<Vec<usize>, Memory>
+pub fn init_order(
+    alloc: Global,
+    classes: &Classes<'_>,
+    class: usize,
+) -> Result<Vec<usize>, OutOfMemory>
     requires class { class < length classes.now.world }
     requires loadable { HoldsAtNumber classes.now.world class (λ l. IsTrue (is_loadable classes.now.world l)) }
     ensures { IfOk result (λ order. HoldsAtNumber classes.now.world class (IsOrder classes.now.world order.items)) }

@@ -2,7 +2,7 @@
 
 ghost use Rattle.std.specs.Prelude.{◌≡◌, ◌<◌, Some, IfOk, length, slice_get};
 ghost use Rattle.jv_meaning_world.specs.Numbers.{HoldsAtNumber};
-ghost use Rattle.jv_loader.specs.of_lookups.Places.{IsMethodPlace, HoldsAtCall};
+ghost use Rattle.jv_lookups.specs.Places.{IsMethodPlace, HoldsAtCall};
 ghost use Rattle.jv_loader.specs.Straight.{AreStraight, IsStraight};
 ghost use Rattle.jv_meaning_typing.specs.Selection.{object_class, implements, select_virtual, select_interface, selected, select};
 ghost use Rattle.jv_link.specs.Seen.{answer_at, IsSite, IsMethodTarget};

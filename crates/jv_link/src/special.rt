@@ -2,7 +2,7 @@
 
 ghost use Rattle.std.specs.Prelude.{◌≡◌, ◌<◌, Some, IfOk, IfSome, length, slice_get};
 ghost use Rattle.jv_meaning_world.specs.Numbers.{HoldsAtNumber, HoldsAtBoth};
-ghost use Rattle.jv_loader.specs.of_lookups.Places.{method_at, IsMethodPlace, HoldsAtCall, IsMethodFound};
+ghost use Rattle.jv_lookups.specs.Places.{method_at, IsMethodPlace, HoldsAtCall, IsMethodFound};
 ghost use Rattle.jv_meaning_typing.specs.Selection.{begins_above, special_start, interface_first, special_first, select_from, select_special};
 ghost use Rattle.jv_link.specs.Seen.{IsMethodTarget};
 ghost use Rattle.jv_link.specs.Answers.{AnswersMethod};
@@ -14,8 +14,8 @@ use crate::ending::found_or_default;
 use crate::error::LinkError;
 use crate::member::{class_at, method_at};
 use crate::target::MethodTarget;
-use jv_loader::of_lookups::method_of_object;
 use jv_loader::{ClassTable, Classes, Place};
+use jv_lookups::method_of_object;
 use jv_text::is_init;
 
 /// Whether the search begins at the direct superclass of the current class: the named class is a superclass

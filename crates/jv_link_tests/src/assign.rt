@@ -3,8 +3,8 @@
 use crate::load::FILES;
 use jv_assign::{Frame, flows, frame_flows};
 use jv_classes::ClassTable;
-use jv_frames::VerificationTypeOf;
 use jv_loader::{Classes, system_files};
+use jv_stackmap::VerificationTypeOf;
 use jv_text::{Base, Element, FieldTypeOf};
 use std::alloc::Global;
 use std::hash::RandomState;

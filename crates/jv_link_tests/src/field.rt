@@ -4,14 +4,14 @@ ghost use Rattle.std.specs.Prelude.{IsSome};
 ghost use Rattle.jv_meaning_world.specs.Numbers.{HoldsAtNumber};
 ghost use Rattle.jv_meaning_typing.specs.Operands.{field_operand};
 ghost use Rattle.jv_link.specs.Seen.{IsSite};
-ghost use Rattle.jv_linked.specs.Linked.{IsLinked};
+ghost use Rattle.jv_link_cache.specs.Linked.{IsLinked};
 
 use crate::guest::{Table, wrong_row};
 use crate::named::{class_name, error_name, is_field_at};
 use crate::row::Row;
 use crate::site::{field_index, site_of, use_of};
 use jv_link::{LinkError, Site, Use, resolve_field};
-use jv_linked::Linked;
+use jv_link_cache::Linked;
 use jv_loader::{Classes, Place};
 use std::hash::RandomState;
 

@@ -1,10 +1,10 @@
 //! Guests, and which row of a table is wrong for one.
 
-ghost use Rattle.jv_linked.specs.Linked.{IsLinked};
+ghost use Rattle.jv_link_cache.specs.Linked.{IsLinked};
 
 use crate::row::{Row, is_comment, read_row};
 use crate::{class, field, files, layout, method, order, uses};
-use jv_linked::{Linked, link};
+use jv_link_cache::{Linked, link};
 use jv_loader::{Classes, SystemFiles, system_files};
 use std::alloc::{AllocError, Global};
 use std::hash::RandomState;

@@ -5,14 +5,14 @@ ghost use Rattle.jv_meaning_world.specs.Numbers.{HoldsAtNumber};
 ghost use Rattle.jv_meaning_typing.specs.Operands.{method_operand};
 ghost use Rattle.jv_link.specs.Seen.{IsSite, IsMethodTarget};
 ghost use Rattle.jv_link.specs.Objects.{IsObject};
-ghost use Rattle.jv_linked.specs.Linked.{IsLinked};
+ghost use Rattle.jv_link_cache.specs.Linked.{IsLinked};
 
 use crate::guest::{Table, wrong_row};
 use crate::named::{class_name, error_name, is_method_at};
 use crate::row::Row;
 use crate::site::{method_index, site_of, use_of};
 use jv_link::{LinkError, MethodTarget, Site, Use, resolve_method, select};
-use jv_linked::Linked;
+use jv_link_cache::Linked;
 use jv_loader::Classes;
 use std::hash::RandomState;
 

@@ -4,7 +4,7 @@ use crate::guest::{NO_MEMORY, Table, wrong_row};
 use crate::named::class_name;
 use crate::row::Row;
 use jv_link::init_order;
-use jv_linked::Linked;
+use jv_link_cache::Linked;
 use jv_loader::Classes;
 use std::alloc::Global;
 use std::hash::RandomState;

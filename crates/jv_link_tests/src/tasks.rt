@@ -1,7 +1,7 @@
 //! What the initialization of a class does itself (JVMS 4.7.2, 5.5): constants of static fields, and `<clinit>`.
 
 use jv_asm_builder::{AttributeDescription, ClassBuilder, ClassFlags, FieldFlags, MethodFlags, Op};
-use jv_linked::{InitialValue, Linked, initial_value, link};
+use jv_link_cache::{InitialValue, Linked, initial_value, link};
 use jv_loader::{Classes, SystemFiles, system_files};
 use std::alloc::Global;
 use std::hash::RandomState;

@@ -4,13 +4,13 @@ ghost use Rattle.std.specs.Prelude.{IsSome};
 ghost use Rattle.jv_meaning_world.specs.Numbers.{HoldsAtNumber};
 ghost use Rattle.jv_meaning_typing.specs.Operands.{field_operand, method_operand};
 ghost use Rattle.jv_link.specs.Seen.{IsSite};
-ghost use Rattle.jv_linked.specs.Linked.{IsLinked};
+ghost use Rattle.jv_link_cache.specs.Linked.{IsLinked};
 
 use crate::guest::{Table, wrong_row};
 use crate::row::Row;
 use crate::site::{field_index, method_index, site_of, use_of};
 use jv_link::{LinkError, Site, Use};
-use jv_linked::{Body, FieldKind, FieldUse, Linked, MethodUse};
+use jv_link_cache::{Body, FieldKind, FieldUse, Linked, MethodUse};
 use jv_loader::Classes;
 use std::hash::RandomState;
 

@@ -9,4 +9,3 @@ pub mod Searching
 pub mod Straightness
 pub mod Unlike
 pub mod Whole
-pub use Rattle.jv_lookups.proofs as laws_of_lookups

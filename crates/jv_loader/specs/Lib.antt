@@ -1,4 +1,3 @@
 pub mod Inside
 pub mod Loading
 pub mod Straight
-pub use Rattle.jv_lookups.specs as of_lookups

@@ -13,7 +13,7 @@ ghost use Rattle.jv_loader.specs.Inside.Searches.{IsSearch};
 
 use crate::entry::put_files;
 use crate::files::SystemFiles;
-use crate::memory::Memory;
+use crate::out_of_memory::OutOfMemory;
 use crate::searches::searches_of;
 use crate::system::system_list;
 use crate::verdicts::verdicts_of;
@@ -79,7 +79,7 @@ impl<'a> Classes<'a> {
         state: RandomState,
         system: &'a SystemFiles,
         files: &'a [&'a [u8]],
-    ) -> Result<Classes<'a>, Memory>
+    ) -> Result<Classes<'a>, OutOfMemory>
         ensures { IfOk result (λ classes. AreLoaded (texts_of files.now) classes) }
     {
         let mut list = system_list(alloc, state, system)?;

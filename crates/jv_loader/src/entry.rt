@@ -6,7 +6,7 @@ ghost use Rattle.jv_meaning_world.specs.World.{is_reserved};
 ghost use Rattle.jv_classes.specs.Inside.KeptNames.{texts_of};
 ghost use Rattle.jv_loader.specs.Inside.Files.{with_file, entry_of, ArePut, IsPut};
 
-use crate::memory::Memory;
+use crate::out_of_memory::OutOfMemory;
 use crate::reading::read_content;
 use jv_classes::{ClassList, LoadedClass};
 use jv_meaning_world::{Content, LoadVerdict};
@@ -46,7 +46,7 @@ fn put_file<'a>(
     state: RandomState,
     list: &mut ClassList<'a>,
     bytes: &'a [u8],
-) -> Result<Entry, Memory>
+) -> Result<Entry, OutOfMemory>
     ensures { IfOk result (IsPut bytes.now list.old list.new) }
 {
     match read_content(alloc, bytes)? {
@@ -66,7 +66,7 @@ pub(crate) fn put_files<'a>(
     state: RandomState,
     list: &mut ClassList<'a>,
     files: &'a [&'a [u8]],
-) -> Result<Vec<Entry>, Memory>
+) -> Result<Vec<Entry>, OutOfMemory>
     ensures { IfOk result (λ entries. ArePut (texts_of files.now) list.old list.new entries.items) }
 {
     let mut entries = Vec::new(alloc);

@@ -11,8 +11,8 @@ ghost use Rattle.jv_meaning_world.specs.System.Classes.{system_bytes, system_con
 
 use crate::interface::{cloneable_file, serializable_file};
 use crate::law::system_holds;
-use crate::memory::Memory;
 use crate::object::object_file;
+use crate::out_of_memory::OutOfMemory;
 use crate::string::string_file;
 use crate::throwable::throwable_file;
 use crate::throwables::put_throwable_files;
@@ -20,7 +20,7 @@ use std::alloc::Global;
 use std::marker::Model;
 
 /// The files of the system classes, host/Io aside, which has none. In contracts it is the list of
-/// their bytes, in the order of `specs/SystemClasses.antt`.
+/// their bytes, in the order of `system_classes`.
 #[derive(Drop)]
 pub struct SystemFiles {
     files: Vec<Vec<u8>>,
@@ -64,7 +64,7 @@ impl SystemFiles {
 }
 
 /// The files of the interfaces, of java/lang/Object, java/lang/String and java/lang/Throwable.
-fn first_files(alloc: Global) -> Result<Vec<Vec<u8>>, Memory>
+fn first_files(alloc: Global) -> Result<Vec<Vec<u8>>, OutOfMemory>
     ensures { IfOk result (λ files. map (λ file. file.items) files.items
         ≡ class_bytes cloneable_file ∷ class_bytes serializable_file ∷ class_bytes object_file
         ∷ class_bytes string_file ∷ class_bytes throwable_file ∷ []) }
@@ -83,7 +83,7 @@ fn first_files(alloc: Global) -> Result<Vec<Vec<u8>>, Memory>
 /// # Errors
 ///
 /// Where the host had no memory for them.
-pub fn system_files(alloc: Global) -> Result<SystemFiles, Memory>
+pub fn system_files(alloc: Global) -> Result<SystemFiles, OutOfMemory>
     ensures { IfOk result (λ files. files ≡ system_bytes) }
 {
     let mut files = first_files(alloc)?;

@@ -5,7 +5,7 @@ ghost use Rattle.jv_class_structure.specs.Structure.{class_bytes};
 ghost use Rattle.jv_meaning_world.specs.System.Interfaces.{cloneable_file, serializable_file};
 
 use crate::flag::INTERFACE;
-use crate::memory::Memory;
+use crate::out_of_memory::OutOfMemory;
 use crate::written::written;
 use jv_asm::{Constant, Description};
 use std::alloc::Global;
@@ -51,14 +51,14 @@ static SERIALIZABLE: Description<'static> = Description {
 };
 
 /// The file of java/lang/Cloneable.
-pub(crate) fn cloneable_file(alloc: Global) -> Result<Vec<u8>, Memory>
+pub(crate) fn cloneable_file(alloc: Global) -> Result<Vec<u8>, OutOfMemory>
     ensures { IfOk result (λ file. file.items ≡ class_bytes cloneable_file) }
 {
     written(alloc, &CLONEABLE)
 }
 
 /// The file of java/io/Serializable.
-pub(crate) fn serializable_file(alloc: Global) -> Result<Vec<u8>, Memory>
+pub(crate) fn serializable_file(alloc: Global) -> Result<Vec<u8>, OutOfMemory>
     ensures { IfOk result (λ file. file.items ≡ class_bytes serializable_file) }
 {
     written(alloc, &SERIALIZABLE)

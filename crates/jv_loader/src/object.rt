@@ -5,8 +5,8 @@ ghost use Rattle.jv_class_structure.specs.Structure.{class_bytes};
 ghost use Rattle.jv_meaning_world.specs.System.Object.{object_file};
 
 use crate::flag::{CLASS, PUBLIC};
-use crate::memory::Memory;
 use crate::opcode::{ALOAD_0, ALOAD_1, ICONST_0, ICONST_1, IF_ACMPNE, IRETURN, RETURN};
+use crate::out_of_memory::OutOfMemory;
 use crate::written::written;
 use jv_asm::{
     AttributeDescription, CodeDescription, Constant, Description, MethodAttributeDescription,
@@ -96,7 +96,7 @@ static OBJECT: Description<'static> = Description {
 };
 
 /// The file of java/lang/Object.
-pub(crate) fn object_file(alloc: Global) -> Result<Vec<u8>, Memory>
+pub(crate) fn object_file(alloc: Global) -> Result<Vec<u8>, OutOfMemory>
     ensures { IfOk result (λ file. file.items ≡ class_bytes object_file) }
 {
     written(alloc, &OBJECT)

@@ -7,7 +7,7 @@ ghost use Rattle.jv_class_structure.specs.Parts.{methods_of};
 ghost use Rattle.jv_meaning_world.specs.FileContent.{HasNoUnsupportedCode, IsContent};
 ghost use Rattle.jv_loader.specs.Inside.Reading.{content_of};
 
-use crate::memory::Memory;
+use crate::out_of_memory::OutOfMemory;
 use jv_class::{ClassFault, ClassFile, Method, is_some_class, read_class};
 use jv_code::unsupported;
 use jv_meaning_world::{Content, FileClass};
@@ -45,7 +45,7 @@ fn is_within_profile(class: &ClassFile<'_>) -> bool
 /// # Errors
 ///
 /// Where the host had no memory for what was read.
-pub fn read_content<'a>(alloc: Global, bytes: &'a [u8]) -> Result<FileClass<'a>, Memory>
+pub fn read_content<'a>(alloc: Global, bytes: &'a [u8]) -> Result<FileClass<'a>, OutOfMemory>
     ensures { IfOk result (λ found. IsSomeAnd (content_of found) (IsContent bytes.now)) }
 {
     match read_class(alloc, bytes) {
@@ -61,6 +61,6 @@ pub fn read_content<'a>(alloc: Global, bytes: &'a [u8]) -> Result<FileClass<'a>,
         Err(ClassFault::Version) => Ok(Content::OtherVersion),
         Err(ClassFault::Format) => Ok(Content::NoClassFile),
         Err(ClassFault::Unsupported) => Ok(Content::MoreThanProfile),
-        Err(ClassFault::Memory) => Err(Memory),
+        Err(ClassFault::OutOfMemory) => Err(OutOfMemory),
     }
 }

@@ -5,12 +5,12 @@ ghost use Rattle.jv_class_structure.specs.Structure.{class_bytes};
 ghost use Rattle.jv_meaning_world.specs.System.String.{string_file};
 
 use crate::flag::{FINAL_CLASS, PRIVATE_FINAL, PUBLIC};
-use crate::memory::Memory;
 use crate::opcode::{
     ALOAD_0, ALOAD_1, ALOAD_2, ARRAYLENGTH, ASTORE_2, BIPUSH, CALOAD, CHECKCAST, GETFIELD, GOTO,
     IADD, ICONST_0, ICONST_1, IF_ICMPEQ, IF_ICMPGE, IFNE, IINC, ILOAD_1, ILOAD_2, ILOAD_3, IMUL,
     INSTANCEOF, IRETURN, ISTORE_1, ISTORE_2, ISTORE_3,
 };
+use crate::out_of_memory::OutOfMemory;
 use crate::written::written;
 use jv_asm::{
     AttributeDescription, CodeDescription, Constant, Description, FieldDescription,
@@ -289,7 +289,7 @@ static STRING: Description<'static> = Description {
 };
 
 /// The file of java/lang/String.
-pub(crate) fn string_file(alloc: Global) -> Result<Vec<u8>, Memory>
+pub(crate) fn string_file(alloc: Global) -> Result<Vec<u8>, OutOfMemory>
     ensures { IfOk result (λ file. file.items ≡ class_bytes string_file) }
 {
     written(alloc, &STRING)

@@ -9,7 +9,7 @@ ghost use Rattle.jv_meaning_world.specs.Numbers.{number_named};
 ghost use Rattle.jv_loader.specs.Inside.System.{system_world};
 
 use crate::files::SystemFiles;
-use crate::memory::Memory;
+use crate::out_of_memory::OutOfMemory;
 use crate::reading::read_content;
 use jv_classes::{ClassList, LoadedClass};
 use jv_meaning_world::{Content, one_content};
@@ -22,7 +22,7 @@ fn add_system_file<'a>(
     state: RandomState,
     list: &mut ClassList<'a>,
     bytes: &'a [u8],
-) -> Result<(), Memory>
+) -> Result<(), OutOfMemory>
     requires { (class : Class) × IsContent bytes.now (Holds class) × (number_named list.now class.name ≡ None) }
     ensures { (class : Class) → IsContent bytes.now (Holds class) → OnOk result (list.new ≡ list.old ++ loaded true class ∷ []) }
 {
@@ -42,7 +42,7 @@ pub(crate) fn system_list<'a>(
     alloc: Global,
     state: RandomState,
     system: &'a SystemFiles,
-) -> Result<ClassList<'a>, Memory>
+) -> Result<ClassList<'a>, OutOfMemory>
     ensures { IfOk result (λ list. list ≡ system_world) }
 {
     system.hold_system_classes();

@@ -5,8 +5,8 @@ ghost use Rattle.jv_class_structure.specs.Structure.{class_bytes};
 ghost use Rattle.jv_meaning_world.specs.System.Throwable.{throwable_file};
 
 use crate::flag::{CLASS, PRIVATE, PUBLIC};
-use crate::memory::Memory;
 use crate::opcode::{ALOAD_0, ALOAD_1, ARETURN, GETFIELD, INVOKESPECIAL, PUTFIELD, RETURN};
+use crate::out_of_memory::OutOfMemory;
 use crate::written::written;
 use jv_asm::{
     CodeDescription, Constant, Description, FieldDescription, MethodAttributeDescription,
@@ -147,7 +147,7 @@ static THROWABLE: Description<'static> = Description {
 };
 
 /// The file of java/lang/Throwable.
-pub(crate) fn throwable_file(alloc: Global) -> Result<Vec<u8>, Memory>
+pub(crate) fn throwable_file(alloc: Global) -> Result<Vec<u8>, OutOfMemory>
     ensures { IfOk result (λ file. file.items ≡ class_bytes throwable_file) }
 {
     written(alloc, &THROWABLE)

@@ -8,8 +8,8 @@ ghost use Rattle.jv_meaning_world.specs.System.Throwables.{throwable_class_file,
 ghost use Rattle.jv_loader.specs.Inside.Table.{row_of};
 
 use crate::flag::{ABSTRACT_CLASS, CLASS, PUBLIC};
-use crate::memory::Memory;
 use crate::opcode::{ALOAD_0, ALOAD_1, INVOKESPECIAL, RETURN};
+use crate::out_of_memory::OutOfMemory;
 use crate::written::written;
 use jv_asm::{
     CodeDescription, Constant, Description, MethodAttributeDescription, MethodDescription,
@@ -224,7 +224,7 @@ static METHODS: [MethodDescription<'static>; 2] = [
 ];
 
 /// The file of such a class.
-fn throwable_class_file(alloc: Global, class: &ThrowableClass) -> Result<Vec<u8>, Memory>
+fn throwable_class_file(alloc: Global, class: &ThrowableClass) -> Result<Vec<u8>, OutOfMemory>
     requires { IsFit (throwable_class_file (row_of class.now)) }
     ensures { IfOk result (λ file. file.items ≡ class_bytes (throwable_class_file (row_of class.now))) }
 {
@@ -262,7 +262,7 @@ fn put_files(
     alloc: Global,
     files: &mut Vec<Vec<u8>>,
     classes: &[ThrowableClass],
-) -> Result<(), Memory>
+) -> Result<(), OutOfMemory>
     requires { All (λ class. IsFit (throwable_class_file (row_of class))) classes.now }
     ensures { OnOk result (map (λ file. file.items) files.new.items
         ≡ map (λ file. file.items) files.old.items ++ map (λ class. class_bytes (throwable_class_file (row_of class))) classes.now) }
@@ -275,7 +275,10 @@ fn put_files(
 }
 
 /// Puts the files of the classes below java/lang/Throwable behind others.
-pub(crate) fn put_throwable_files(alloc: Global, files: &mut Vec<Vec<u8>>) -> Result<(), Memory>
+pub(crate) fn put_throwable_files(
+    alloc: Global,
+    files: &mut Vec<Vec<u8>>,
+) -> Result<(), OutOfMemory>
     ensures { OnOk result (map (λ file. file.items) files.new.items
         ≡ map (λ file. file.items) files.old.items ++ map class_bytes (map throwable_class_file throwable_rows)) }
 {

@@ -8,7 +8,7 @@ use Rattle.std.proofs.lemmas.List.{get_or-map, take-append-drop}
 use Rattle.std.proofs.lemmas.List.Elements.{All-drop, All-take, filter_map-append}
 use Rattle.std.proofs.lemmas.List.Folds.{list_all-append}
 use Rattle.std.proofs.lemmas.Option.{get_or_from_slice_get}
-use Rattle.jv_meaning_world.specs.of_class.Class.{EachIsNamed}
+use Rattle.jv_class.specs.Class.{EachIsNamed}
 use Rattle.jv_meaning_world.specs.World.{Loaded}
 use Rattle.jv_meaning_world.specs.Verdicts.{passes, is_final_instance, breaks_final_of, breaks_final, overrides_in, declared_by}
 use Rattle.jv_meaning_world.specs.Numbers.{classes_at, AreNumbers}

@@ -3,7 +3,7 @@ use Rattle.std.proofs.Common.{◌≡◌, ℕ, ◌-◌, ◌<◌, List, ◌∷◌,
 use Rattle.std.specs.Prelude.{slice_get}
 use Rattle.std.proofs.lemmas.Option.{get_or_from_slice_get}
 use Rattle.std.proofs.lemmas.List.{take_all}
-use Rattle.jv_meaning_world.specs.of_class.Class.{Class}
+use Rattle.jv_class.specs.Class.{Class}
 use Rattle.jv_meaning_world.specs.World.{Loaded, World}
 use Rattle.jv_meaning_world.specs.Above.{superclass_names}
 use Rattle.jv_meaning_world.specs.Numbers.{number_named}

@@ -10,8 +10,8 @@ use Rattle.std.proofs.lemmas.List.{take_more, take_all}
 use Rattle.std.proofs.lemmas.List.Folds.{list_any-append}
 use Rattle.std.proofs.lemmas.Option.{slice_get_read, get_or_from_slice_get, slice_get_within}
 use Rattle.std.proofs.lemmas.Slice.Eq.{bytes_eq-Decides}
-use Rattle.jv_meaning_world.specs.of_class_structure.Flags.{has, acc_public, acc_protected, acc_final}
-use Rattle.jv_meaning_world.specs.of_class.Class.{Method, method_named}
+use Rattle.jv_class_structure.specs.Flags.{has, acc_public, acc_protected, acc_final}
+use Rattle.jv_class.specs.Class.{Method, method_named}
 use Rattle.jv_classes.specs.Texts.{Key, key_of}
 use Rattle.jv_classes.specs.declared.member.Member.{Member}
 use Rattle.jv_classes.specs.Members.{IsMethod}

@@ -18,4 +18,3 @@ pub mod Stamped
 pub mod Standing
 pub mod Tests
 pub mod Upward
-pub use Rattle.jv_classes.proofs as laws_of_classes

@@ -8,8 +8,8 @@ use Rattle.std.proofs.lemmas.List.Elements.{filter_map-append}
 use Rattle.std.proofs.lemmas.List.Folds.{list_any-append}
 use Rattle.std.proofs.lemmas.Option.{slice_get_read, get_or_from_slice_get, slice_get_within}
 use Rattle.jv_text.specs.Name.{is_init}
-use Rattle.jv_meaning_world.specs.of_class_structure.Flags.{has, acc_private, acc_static, acc_final}
-use Rattle.jv_meaning_world.specs.of_class.Class.{Method, EachIsNamed}
+use Rattle.jv_class_structure.specs.Flags.{has, acc_private, acc_static, acc_final}
+use Rattle.jv_class.specs.Class.{Method, EachIsNamed}
 use Rattle.jv_classes.specs.declared.member.Member.{Member}
 use Rattle.jv_classes.specs.Members.{IsMethod}
 use Rattle.jv_meaning_world.specs.World.{Loaded}

@@ -9,8 +9,8 @@ use Rattle.std.proofs.lemmas.List.{length-replicate, length-set, length-drop, dr
 use Rattle.std.proofs.lemmas.List.Elements.{filter_map-append}
 use Rattle.std.proofs.lemmas.Option.{slice_get_read}
 use Rattle.std.proofs.Math.Seq.{drop-cons}
-use Rattle.jv_meaning_world.specs.of_class_structure.Flags.{has, acc_private, acc_final}
-use Rattle.jv_meaning_world.specs.of_class.Class.{Method, method_named}
+use Rattle.jv_class_structure.specs.Flags.{has, acc_private, acc_final}
+use Rattle.jv_class.specs.Class.{Method, method_named}
 use Rattle.jv_meaning_world.specs.World.{Loaded, same_package}
 use Rattle.jv_meaning_world.specs.Overriding.{Declared, is_instance, declared_if, alike_in}
 use Rattle.jv_meaning_world.specs.Verdicts.{passes, declared_by}

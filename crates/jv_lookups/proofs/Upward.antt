@@ -6,8 +6,8 @@ use Rattle.std.specs.Str.{bytes_eq}
 use Rattle.std.proofs.lemmas.Bool.{and_parts, and_from}
 use Rattle.std.proofs.lemmas.List.Folds.{list_any-append}
 use Rattle.std.proofs.lemmas.Slice.Eq.{bytes_eq-Decides}
-use Rattle.jv_meaning_world.specs.of_class_structure.Flags.{has, acc_public, acc_private, acc_protected, acc_final}
-use Rattle.jv_meaning_world.specs.of_class.Class.{Class, Method, method_named, EachIsNamed}
+use Rattle.jv_class_structure.specs.Flags.{has, acc_public, acc_private, acc_protected, acc_final}
+use Rattle.jv_class.specs.Class.{Class, Method, method_named, EachIsNamed}
 use Rattle.jv_meaning_world.specs.World.{Loaded, same_package}
 use Rattle.jv_meaning_world.specs.Overriding.{Declared, is_instance, is_package_private, overrides_itself, declared_if, alike_in, with_declared, overriding}
 use Rattle.jv_meaning_world.specs.Verdicts.{overrides_in, is_final_instance, declared_by, breaks_final_of, breaks_final}

@@ -4,4 +4,3 @@ pub mod Finals
 pub mod Inside
 pub mod Packages
 pub mod Places
-pub use Rattle.jv_classes.specs as of_classes

@@ -2,7 +2,7 @@
 
 ghost use Rattle.std.specs.Prelude.{◌≡◌, ◌*◌, ◌<◌, ◌≤◌, IfOk, length, map};
 ghost use Rattle.std.specs.List.{list_any};
-ghost use Rattle.jv_meaning_world.specs.of_class.Class.{EachIsNamed};
+ghost use Rattle.jv_class.specs.Class.{EachIsNamed};
 ghost use Rattle.jv_meaning_world.specs.Numbers.{classes_at, AreNumbers};
 ghost use Rattle.jv_lookups.specs.Packages.{AreNumbered};
 ghost use Rattle.jv_lookups.specs.Finals.{declares_final, AreUnlike, breaks_final_at, PassesWith};
@@ -14,8 +14,8 @@ use crate::above::{breaks_final_by, up_to_marked};
 use crate::keys::FinalKeys;
 use crate::marks::Marks;
 use crate::member::is_final_instance;
+use jv_class::one_of_each_name;
 use jv_classes::LoadedClass;
-use jv_meaning_world::of_class::one_of_each_name;
 use std::alloc::{AllocError, Global};
 
 /// Whether the class declares a final instance method.

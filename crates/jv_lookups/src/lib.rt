@@ -21,7 +21,6 @@ pub use begun::Begun;
 pub use defaults::Defaults;
 pub use field::lookup_field;
 pub use finals::{breaks_final, final_declarers};
-pub use jv_classes as of_classes;
 pub use keys::{FinalKeys, final_keys};
 pub use marks::Marks;
 pub use method::{class_method, lookup_method, method_of_object};

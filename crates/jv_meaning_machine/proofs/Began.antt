@@ -1,7 +1,7 @@
 -- What beginning an initialization comes to, by the class's state, and for a class that is untouched by whether it is verified: the
 -- definition with these as arguments, for lemmas by cases on them.
 use Rattle.std.proofs.Common.{Bool, true, false, List, ◌∷◌, Ok}
-use Rattle.jv_meaning_typing.specs.of_meaning_world.World.{Loaded}
+use Rattle.jv_meaning_world.specs.World.{Loaded}
 use Rattle.jv_meaning_typing.specs.LinkErrors.{error_class}
 use Rattle.jv_meaning_typing.specs.LinkErrors.LinkError.{NoClassDefFoundError, VerifyError}
 use Rattle.jv_meaning_machine.specs.Faults.{OrFault}

@@ -6,8 +6,8 @@ use Rattle.std.proofs.lemmas.Bool.{and_parts, and_from, ltb-true, leb-true, le-l
 use Rattle.std.proofs.lemmas.Grind.{common_steps}
 use Rattle.std.proofs.lemmas.List.{length-append, drop_at}
 use Rattle.std.proofs.lemmas.Slice.Eq.{bytes_eq-Decides}
-use Rattle.jv_meaning_typing.specs.of_text.Text.{unit_bytes, text_bytes, is_unit, Spells}
-use Rattle.jv_meaning_typing.proofs.laws_of_text.Texts.{length-unit_bytes}
+use Rattle.jv_text.specs.Text.{unit_bytes, text_bytes, is_unit, Spells}
+use Rattle.jv_text.proofs.Texts.{length-unit_bytes}
 use Rattle.jv_code.specs.Insns.{Instruction, insn_bytes, insn_fits}
 use Rattle.jv_code.specs.Inside.Reading.{insn_read}
 use Rattle.jv_code.specs.Places.{all_fit, IsCode}

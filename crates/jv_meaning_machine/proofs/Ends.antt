@@ -1,7 +1,7 @@
 -- A guest has no frame exactly where it has ended.
 use Rattle.std.proofs.Common.{◌≡◌, ℕ, zero, suc, ◌+◌, add-zero, add-suc, false, List, [], Option, Some, None, Ok, refl, sym, ap, subst, ◌∙◌, codes, if◌then◌else◌}
-use Rattle.jv_meaning_typing.specs.of_meaning_world.World.{World, class_named}
-use Rattle.jv_meaning_typing.specs.of_meaning_world.Overriding.{Declared}
+use Rattle.jv_meaning_world.specs.World.{World, class_named}
+use Rattle.jv_meaning_world.specs.Overriding.{Declared}
 use Rattle.jv_meaning_machine.specs.Faults.{OrFault, found, ◌>>=◌}
 use Rattle.jv_meaning_machine.specs.Faults.Fault.{ReferenceFault}
 use Rattle.jv_meaning_machine.specs.Frames.{Frame}

@@ -1,7 +1,7 @@
 -- Classes that are initialized or erroneous stay so, and throws are never fewer.
 use Rattle.std.proofs.Common.{◌≡◌, ℕ, ◌+◌, ◌-◌, ◌^◌, ◌≤◌, min, Bool, true, false, List, [], ◌∷◌, refl, sym, ap, ◌∙◌, arith, true≢false, if◌then◌else◌, bytes_eq}
 use Rattle.std.proofs.lemmas.Slice.Eq.{bytes_eq-Decides}
-use Rattle.jv_meaning_typing.specs.of_meaning_world.World.{Loaded}
+use Rattle.jv_meaning_world.specs.World.{Loaded}
 use Rattle.jv_meaning_machine.specs.Frames.{InitializationFrame, Task, Frame}
 use Rattle.jv_meaning_machine.specs.Frames.Frame.{Runs, Initializes}
 use Rattle.jv_meaning_machine.specs.State.{State, ClassState, ClassStates, state_named, class_state}

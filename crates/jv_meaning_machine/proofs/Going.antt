@@ -1,12 +1,12 @@
 -- What holds over throws, calls, returns and initializations: frames go exactly where the guest ends, and whatever each change
 -- of the frames, of the classes' states and of the count of throws keeps.
 use Rattle.std.proofs.Common.{◌≡◌, ℕ, ◌+◌, ◌-◌, ◌^◌, min, nat_le, Bool, true, false, List, [], ◌∷◌, Option, Some, None, Ok, refl, codes, if◌then◌else◌}
-use Rattle.jv_code.specs.of_format.declared.handlers.Handler.{Handler}
-use Rattle.jv_meaning_typing.specs.of_text.declared.descriptor.FieldTypeOf.{FieldTypeOf}
+use Rattle.jv_format.specs.declared.handlers.Handler.{Handler}
+use Rattle.jv_text.specs.declared.descriptor.FieldTypeOf.{FieldTypeOf}
 use Rattle.jv_code.specs.Insns.{Instruction}
-use Rattle.jv_meaning_typing.specs.of_meaning_world.World.{Loaded, World}
-use Rattle.jv_meaning_typing.specs.of_meaning_world.Overriding.{Declared}
-use Rattle.jv_meaning_typing.specs.of_meaning_world.LookUps.{DeclaredField}
+use Rattle.jv_meaning_world.specs.World.{Loaded, World}
+use Rattle.jv_meaning_world.specs.Overriding.{Declared}
+use Rattle.jv_meaning_world.specs.LookUps.{DeclaredField}
 use Rattle.jv_meaning_typing.specs.LinkErrors.{error_class}
 use Rattle.jv_meaning_typing.specs.LinkErrors.LinkError.{NoClassDefFoundError, VerifyError}
 use Rattle.jv_meaning_machine.specs.Faults.{OrFault, found, ◌>>=◌}

@@ -4,9 +4,9 @@ use Rattle.std.specs.Option.{option_map}
 use Rattle.std.proofs.lemmas.List.{length-map}
 use Rattle.std.proofs.lemmas.Option.{slice_get-map}
 use Rattle.std.proofs.lemmas.List.Sums.{sum_by-cons}
-use Rattle.jv_meaning_typing.specs.of_meaning_world.System.Classes.{system_classes}
-use Rattle.jv_meaning_typing.specs.of_meaning_world.World.{Loaded, World, class_named, world_of}
-use Rattle.jv_meaning_typing.specs.of_meaning_world.Overriding.{Declared}
+use Rattle.jv_meaning_world.specs.System.Classes.{system_classes}
+use Rattle.jv_meaning_world.specs.World.{Loaded, World, class_named, world_of}
+use Rattle.jv_meaning_world.specs.Overriding.{Declared}
 use Rattle.jv_meaning_typing.specs.Named.{class_components}
 use Rattle.jv_meaning_machine.specs.Faults.{found}
 use Rattle.jv_meaning_machine.specs.Faults.Fault.{ReferenceFault}

@@ -1,6 +1,6 @@
 -- Memory stays over an instruction that calls a method.
 use Rattle.std.proofs.Common.{◌≡◌, ℕ, ◌==◌, ℤ, Bool, true, false, not, ◌&&◌, true≢false, List, [], ◌∷◌, Ok, refl, sym, if◌then◌else◌}
-use Rattle.jv_meaning_typing.specs.of_text.Descriptor.{MethodDescriptor}
+use Rattle.jv_text.specs.Descriptor.{MethodDescriptor}
 use Rattle.jv_meaning_typing.specs.Uses.{Use}
 use Rattle.jv_meaning_typing.specs.Uses.Use.{Invokestatic, Invokespecial}
 use Rattle.jv_meaning_typing.specs.MethodResolution.{MethodTarget}

@@ -3,14 +3,14 @@ use Rattle.std.proofs.Common.{◌≡◌, ℕ, ◌+◌, ◌-◌, ◌≤◌, nat_l
 use Rattle.std.specs.List.{flat_map}
 use Rattle.std.proofs.lemmas.Bool.{leb-true}
 use Rattle.std.proofs.lemmas.List.Sums.{sum_by-cons}
-use Rattle.jv_code.specs.of_format.declared.handlers.Handler.{Handler}
-use Rattle.jv_meaning_typing.specs.of_text.declared.descriptor.FieldTypeOf.{FieldTypeOf}
-use Rattle.jv_meaning_typing.specs.of_class_structure.Parts.{CodeSeen}
-use Rattle.jv_meaning_typing.specs.of_meaning_world.World.{Loaded, class_named}
-use Rattle.jv_meaning_typing.specs.of_meaning_world.Overriding.{Declared}
-use Rattle.jv_meaning_typing.specs.of_meaning_world.LookUps.{DeclaredField}
+use Rattle.jv_format.specs.declared.handlers.Handler.{Handler}
+use Rattle.jv_text.specs.declared.descriptor.FieldTypeOf.{FieldTypeOf}
+use Rattle.jv_class_structure.specs.Parts.{CodeSeen}
+use Rattle.jv_meaning_world.specs.World.{Loaded, class_named}
+use Rattle.jv_meaning_world.specs.Overriding.{Declared}
+use Rattle.jv_meaning_world.specs.LookUps.{DeclaredField}
 use Rattle.jv_meaning_typing.specs.Layout.{object_cells}
-use Rattle.jv_meaning_typing.specs.of_text.Types.{method_type_of}
+use Rattle.jv_text.specs.Types.{method_type_of}
 use Rattle.jv_meaning_typing.specs.LinkErrors.{error_class}
 use Rattle.jv_meaning_typing.specs.LinkErrors.LinkError.{NoClassDefFoundError, VerifyError}
 use Rattle.jv_meaning_typing.specs.Environment.{Environment}

@@ -1,11 +1,11 @@
 -- Memory stays over each instruction.
 use Rattle.std.proofs.Common.{◌≡◌, ℕ, ℤ, Bool, true, false, not, true≢false, List, [], ◌∷◌, Option, Some, None, Ok, Err, refl, sym, ap, subst, ◌∙◌, slice_get, IsSome, if◌then◌else◌}
 use Rattle.std.specs.Option.{ok_or}
-use Rattle.jv_meaning_typing.specs.of_text.declared.descriptor.Element.{Element}
-use Rattle.jv_meaning_typing.specs.of_text.declared.descriptor.Element.TheVariants as elements
-use Rattle.jv_meaning_typing.specs.of_text.declared.descriptor.FieldTypeOf.{FieldTypeOf}
-use Rattle.jv_meaning_typing.specs.of_text.Name.{is_array_name}
-use Rattle.jv_meaning_typing.specs.of_text.Types.{field_type_of}
+use Rattle.jv_text.specs.declared.descriptor.Element.{Element}
+use Rattle.jv_text.specs.declared.descriptor.Element.TheVariants as elements
+use Rattle.jv_text.specs.declared.descriptor.FieldTypeOf.{FieldTypeOf}
+use Rattle.jv_text.specs.Name.{is_array_name}
+use Rattle.jv_text.specs.Types.{field_type_of}
 use Rattle.jv_code.specs.Insns.{Instruction}
 use Rattle.jv_code.specs.declared.insn.Insn.TheVariants as insns
 use Rattle.jv_code.specs.declared.kinds.DivisionOperator.{DivisionOperator}
@@ -15,7 +15,7 @@ use Rattle.jv_code.specs.declared.kinds.Test.{Test}
 use Rattle.jv_code.specs.declared.kinds.Test.TheVariants as tests
 use Rattle.jv_code.specs.declared.kinds.ValueKind.{ValueKind}
 use Rattle.jv_code.specs.declared.kinds.ValueKind.TheVariants as kinds
-use Rattle.jv_meaning_typing.specs.of_meaning_world.World.{Loaded, World, class_named, can_name}
+use Rattle.jv_meaning_world.specs.World.{Loaded, World, class_named, can_name}
 use Rattle.jv_meaning_typing.specs.Uses.{Site}
 use Rattle.jv_meaning_typing.specs.Uses.Use.{New, Invokeinterface}
 use Rattle.jv_meaning_typing.specs.LinkErrors.{LinkError, OrError, provided, unless_wrong, ◌>>=◌}

@@ -7,8 +7,8 @@ use Rattle.std.proofs.lemmas.List.Sums.{sum_by-append}
 use Rattle.std.proofs.lemmas.Slice.Eq.{bytes_eq-Decides}
 use Rattle.std.proofs.lemmas.Option.{get_or_from_slice_get}
 use Rattle.std.proofs.Math.Seq.{map-set_same}
-use Rattle.jv_meaning_typing.specs.of_meaning_world.World.{Loaded, World, class_named}
-use Rattle.jv_meaning_typing.specs.of_meaning_world.LookUps.{DeclaredField}
+use Rattle.jv_meaning_world.specs.World.{Loaded, World, class_named}
+use Rattle.jv_meaning_world.specs.LookUps.{DeclaredField}
 use Rattle.jv_meaning_typing.specs.Layout.{instance_fields}
 use Rattle.jv_meaning_typing.proofs.Chain.{found_is_named}
 use Rattle.jv_meaning_machine.specs.Values.{Value}

@@ -24,4 +24,3 @@ mod StepDoes
 mod Decoding
 mod Shown
 pub mod Rooting
-pub use Rattle.jv_meaning_typing.proofs.laws_of_meaning_world

@@ -5,13 +5,13 @@ use Rattle.std.specs.List.{find, list_all}
 use Rattle.std.specs.Option.{option_and_then, option_map}
 use Rattle.std.specs.Str.{bytes_eq}
 use Rattle.std.proofs.lemmas.List.Folds.{list_all-append}
-use Rattle.jv_meaning_typing.specs.of_meaning_world.System.Classes.{system_classes}
-use Rattle.jv_meaning_typing.specs.of_class.Class.{Class, Method, method_named}
-use Rattle.jv_meaning_typing.specs.of_meaning_world.FileContent.{FileContent}
-use Rattle.jv_meaning_typing.specs.of_meaning_world.World.{Loaded, World, loaded, class_named, classes_in, world_of}
-use Rattle.jv_meaning_typing.specs.of_meaning_world.Overriding.{Declared}
-use Rattle.jv_meaning_typing.specs.of_meaning_world.Verdicts.{declared_by, is_loadable}
-use Rattle.jv_meaning_typing.specs.of_meaning_world.LookUps.{method_in, method_if}
+use Rattle.jv_meaning_world.specs.System.Classes.{system_classes}
+use Rattle.jv_class.specs.Class.{Class, Method, method_named}
+use Rattle.jv_meaning_world.specs.FileContent.{FileContent}
+use Rattle.jv_meaning_world.specs.World.{Loaded, World, loaded, class_named, classes_in, world_of}
+use Rattle.jv_meaning_world.specs.Overriding.{Declared}
+use Rattle.jv_meaning_world.specs.Verdicts.{declared_by, is_loadable}
+use Rattle.jv_meaning_world.specs.LookUps.{method_in, method_if}
 use Rattle.jv_meaning_machine.specs.Initialization.{is_main, main_in}
 use Rattle.jv_meaning_machine.specs.Laws.Mains.{NoMainWithoutFiles, MainIsItsOwn}
 

@@ -3,14 +3,14 @@ use Rattle.std.proofs.Common.{◌≡◌, ℕ, ◌≤◌, ◌<◌, nat_le, ℤ, p
 use Rattle.std.specs.List.{list_any}
 use Rattle.std.proofs.lemmas.Bool.{leb-true, leb-false}
 use Rattle.std.proofs.lemmas.List.{length-replicate}
-use Rattle.jv_meaning_typing.specs.of_text.declared.descriptor.FieldTypeOf.{FieldTypeOf}
-use Rattle.jv_meaning_typing.specs.of_text.Name.{is_array_name}
-use Rattle.jv_meaning_typing.specs.of_frames.declared.verification.VerificationTypeOf.TheVariants as types
-use Rattle.jv_meaning_typing.specs.of_frames.Types.{FrameType, component}
-use Rattle.jv_meaning_typing.specs.of_pool.Constants.{at_index}
-use Rattle.jv_meaning_typing.specs.of_class.Class.{InitialValue}
-use Rattle.jv_meaning_typing.specs.of_class.Class.InitialValue.{IntValue, LongValue, StringValue}
-use Rattle.jv_meaning_typing.specs.of_meaning_world.World.{Loaded, class_named}
+use Rattle.jv_text.specs.declared.descriptor.FieldTypeOf.{FieldTypeOf}
+use Rattle.jv_text.specs.Name.{is_array_name}
+use Rattle.jv_stackmap.specs.declared.verification.VerificationTypeOf.TheVariants as types
+use Rattle.jv_stackmap.specs.Types.{FrameType, component}
+use Rattle.jv_pool.specs.Constants.{at_index}
+use Rattle.jv_class.specs.Class.{InitialValue}
+use Rattle.jv_class.specs.Class.InitialValue.{IntValue, LongValue, StringValue}
+use Rattle.jv_meaning_world.specs.World.{Loaded, class_named}
 use Rattle.jv_meaning_typing.specs.Uses.{Use}
 use Rattle.jv_meaning_typing.specs.Uses.Use.{New}
 use Rattle.jv_meaning_typing.specs.LinkErrors.{OrError, error_class}

@@ -5,9 +5,9 @@ use Rattle.std.proofs.lemmas.Bool.{and_from}
 use Rattle.std.proofs.lemmas.List.{map-append}
 use Rattle.std.proofs.lemmas.List.Folds.{list_any-append}
 use Rattle.std.proofs.lemmas.Slice.Eq.{bytes_eq-Decides}
-use Rattle.jv_meaning_typing.specs.of_class.Class.{Field}
-use Rattle.jv_meaning_typing.specs.of_meaning_world.World.{Loaded, World}
-use Rattle.jv_meaning_typing.specs.of_meaning_world.LookUps.{field_by}
+use Rattle.jv_class.specs.Class.{Field}
+use Rattle.jv_meaning_world.specs.World.{Loaded, World}
+use Rattle.jv_meaning_world.specs.LookUps.{field_by}
 use Rattle.jv_meaning_typing.specs.Kind.{is_static_field}
 use Rattle.jv_meaning_machine.specs.Values.{Value}
 use Rattle.jv_meaning_machine.specs.Objects.{FieldKey, Content, key_of, same_key, value_at, default_entry}

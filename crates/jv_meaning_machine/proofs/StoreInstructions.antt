@@ -1,16 +1,16 @@
 -- The instructions that store: each throws or begins an initialization and leaves the memory as it is, or stores at the location
 -- that it names and goes on.
 use Rattle.std.proofs.Common.{◌≡◌, ℕ, ℤ, pos, negsuc, Bool, true, false, List, [], ◌∷◌, Option, Some, None, Ok, Err, refl, sym, ap, subst, ◌∙◌, ◌⊎◌, inl, inr, slice_get, is_some, IsSome, codes, if◌then◌else◌}
-use Rattle.jv_meaning_typing.specs.of_text.declared.descriptor.FieldTypeOf.{FieldTypeOf}
-use Rattle.jv_meaning_typing.specs.of_text.Types.{field_type_of}
-use Rattle.jv_meaning_typing.specs.of_frames.declared.verification.VerificationTypeOf.TheVariants as types
-use Rattle.jv_meaning_typing.specs.of_frames.Types.{FrameType, value_type}
+use Rattle.jv_text.specs.declared.descriptor.FieldTypeOf.{FieldTypeOf}
+use Rattle.jv_text.specs.Types.{field_type_of}
+use Rattle.jv_stackmap.specs.declared.verification.VerificationTypeOf.TheVariants as types
+use Rattle.jv_stackmap.specs.Types.{FrameType, value_type}
 use Rattle.jv_code.specs.declared.kinds.FieldAccess.{FieldAccess}
 use Rattle.jv_code.specs.declared.kinds.FieldAccess.TheVariants as access
 use Rattle.jv_code.specs.declared.kinds.NumberElement.{NumberElement}
-use Rattle.jv_meaning_typing.specs.of_pool.Constants.{MemberReference}
-use Rattle.jv_meaning_typing.specs.of_meaning_world.World.{Loaded}
-use Rattle.jv_meaning_typing.specs.of_meaning_world.LookUps.{DeclaredField}
+use Rattle.jv_pool.specs.Constants.{MemberReference}
+use Rattle.jv_meaning_world.specs.World.{Loaded}
+use Rattle.jv_meaning_world.specs.LookUps.{DeclaredField}
 use Rattle.jv_meaning_typing.specs.LinkErrors.{OrError, error_class}
 use Rattle.jv_meaning_typing.specs.Operands.{field_operand}
 use Rattle.jv_meaning_typing.specs.FieldResolution.{resolve_field}

@@ -1,7 +1,7 @@
 -- What was taken from the stack stood on its top.
 use Rattle.std.proofs.Common.{◌≡◌, ◌+◌, ℤ, List, [], ◌∷◌, length, reverse, Ok, refl, ap, ◌∙◌, arith}
 use Rattle.std.proofs.lemmas.List.{length-reverse}
-use Rattle.jv_meaning_typing.specs.of_frames.Types.{FrameType}
+use Rattle.jv_stackmap.specs.Types.{FrameType}
 use Rattle.jv_meaning_machine.specs.Faults.{OrFault, tested, ◌>>=◌}
 use Rattle.jv_meaning_machine.specs.Faults.Fault.{TagFault, ConstructionFault}
 use Rattle.jv_meaning_machine.specs.Values.{Value, has_type}

@@ -1,13 +1,13 @@
 -- A guest alone (own): what its own files, main class name, input, feeds and budget give on the machine, after some number of
 -- steps; and what of its files is found before that (JVMS 4.10, 5.3).
 use Rattle.std.specs.Prelude.{◌≡◌, ◌↔◌, ℕ, zero, suc, ◌==◌, if◌then◌else◌, List, [], ◌∷◌, ◌++◌, length, Option, Some, Ok, slice_get}
-use Rattle.jv_meaning_typing.specs.of_text.Text.{Spells}
+use Rattle.jv_text.specs.Text.{Spells}
 use Rattle.jv_code.specs.Insns.{Instruction}
 use Rattle.jv_code.specs.Places.{IsCode}
-use Rattle.jv_meaning_typing.specs.of_meaning_world.FileContent.{FileContent, AreContents}
-use Rattle.jv_meaning_typing.specs.of_meaning_world.declared.content.Content.TheVariants.{Holds}
-use Rattle.jv_meaning_typing.specs.of_meaning_world.World.{world_of}
-use Rattle.jv_meaning_typing.specs.of_meaning_world.System.Classes.{system_classes}
+use Rattle.jv_meaning_world.specs.FileContent.{FileContent, AreContents}
+use Rattle.jv_meaning_world.specs.declared.content.Content.TheVariants.{Holds}
+use Rattle.jv_meaning_world.specs.World.{world_of}
+use Rattle.jv_meaning_world.specs.System.Classes.{system_classes}
 use Rattle.jv_meaning_typing.specs.declared.verdict.Verdict.{Verdict}
 use Rattle.jv_meaning_typing.specs.declared.verdict.Verdict.TheVariants.{Accepted}
 use Rattle.jv_meaning_typing.specs.Judgement.{IsVerdictOfFile}

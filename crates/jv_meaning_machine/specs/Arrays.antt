@@ -2,15 +2,15 @@
 -- anything is made.
 use Rattle.std.specs.Prelude.{ℕ, zero, ◌+◌, ◌*◌, ℤ, pos, negsuc, Bool, true, false, ◌&&◌, nat_le, List, [], ◌∷◌, length, map, replicate, Option, Some, None, Ok, Err, slice_get, slice_set}
 use Rattle.std.specs.List.{flat_map, list_any, range_with_len}
-use Rattle.jv_meaning_typing.specs.of_text.declared.descriptor.Base.{Base}
-use Rattle.jv_meaning_typing.specs.of_text.declared.descriptor.Base.TheVariants as bases
-use Rattle.jv_meaning_typing.specs.of_text.declared.descriptor.Element.{Element}
-use Rattle.jv_meaning_typing.specs.of_text.declared.descriptor.Element.TheVariants as elements
-use Rattle.jv_meaning_typing.specs.of_text.declared.descriptor.FieldTypeOf.{FieldTypeOf}
-use Rattle.jv_meaning_typing.specs.of_text.Name.{is_array_name}
-use Rattle.jv_meaning_typing.specs.of_text.Types.{field_type_of}
-use Rattle.jv_meaning_typing.specs.of_frames.declared.verification.VerificationTypeOf.TheVariants as types
-use Rattle.jv_meaning_typing.specs.of_frames.Types.{component, value_type}
+use Rattle.jv_text.specs.declared.descriptor.Base.{Base}
+use Rattle.jv_text.specs.declared.descriptor.Base.TheVariants as bases
+use Rattle.jv_text.specs.declared.descriptor.Element.{Element}
+use Rattle.jv_text.specs.declared.descriptor.Element.TheVariants as elements
+use Rattle.jv_text.specs.declared.descriptor.FieldTypeOf.{FieldTypeOf}
+use Rattle.jv_text.specs.Name.{is_array_name}
+use Rattle.jv_text.specs.Types.{field_type_of}
+use Rattle.jv_stackmap.specs.declared.verification.VerificationTypeOf.TheVariants as types
+use Rattle.jv_stackmap.specs.Types.{component, value_type}
 use Rattle.jv_code.specs.declared.kinds.ElementType.{ElementType}
 use Rattle.jv_code.specs.declared.kinds.ElementType.TheVariants as element_types
 use Rattle.jv_code.specs.declared.kinds.NumberElement.{NumberElement}

@@ -3,17 +3,17 @@
 use Rattle.std.specs.Prelude.{ℕ, ◌-◌, ◌%◌, ℤ, pos, negsuc, Bool, true, false, not, ◌&&◌, ◌||◌, ◌==◌, List, [], ◌∷◌, ◌++◌, map, Option, Some, None, Ok, Err, codes, if◌then◌else◌}
 use Rattle.std.specs.Int.{w32, cast_unsigned}
 use Rattle.std.specs.Str.{bytes_eq}
-use Rattle.jv_meaning_typing.specs.of_text.Descriptor.{MethodDescriptor}
-use Rattle.jv_meaning_typing.specs.of_text.Name.{is_init}
-use Rattle.jv_meaning_typing.specs.of_text.Types.{method_type_of}
-use Rattle.jv_meaning_typing.specs.of_class_structure.Version.{is_below_52}
-use Rattle.jv_meaning_typing.specs.of_class.Class.{Class}
-use Rattle.jv_meaning_typing.specs.of_frames.Types.{value_type}
+use Rattle.jv_text.specs.Descriptor.{MethodDescriptor}
+use Rattle.jv_text.specs.Name.{is_init}
+use Rattle.jv_text.specs.Types.{method_type_of}
+use Rattle.jv_class_structure.specs.Version.{is_below_52}
+use Rattle.jv_class.specs.Class.{Class}
+use Rattle.jv_stackmap.specs.Types.{value_type}
 use Rattle.jv_code.specs.declared.kinds.Invocation.{Invocation}
 use Rattle.jv_code.specs.declared.kinds.Invocation.TheVariants as invocations
-use Rattle.jv_meaning_typing.specs.of_meaning_world.World.{Loaded, World, class_named}
-use Rattle.jv_meaning_typing.specs.of_meaning_world.Overriding.{Declared}
-use Rattle.jv_meaning_typing.specs.of_meaning_world.Verdicts.{is_interface}
+use Rattle.jv_meaning_world.specs.World.{Loaded, World, class_named}
+use Rattle.jv_meaning_world.specs.Overriding.{Declared}
+use Rattle.jv_meaning_world.specs.Verdicts.{is_interface}
 use Rattle.jv_meaning_typing.specs.Uses.{Use}
 use Rattle.jv_meaning_typing.specs.Uses.Use.{Invokestatic, Invokevirtual, Invokespecial, Invokeinterface}
 use Rattle.jv_meaning_typing.specs.Operands.{MethodReference, method_operand}

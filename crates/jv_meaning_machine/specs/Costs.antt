@@ -1,10 +1,10 @@
 -- What objects and frames cost (own), against what is left of the guest's own budget. No cell comes back; the words of a
 -- frame do, when it is left.
 use Rattle.std.specs.Prelude.{ℕ, ◌+◌, ◌*◌, ◌-◌, nat_le, List, [], ◌∷◌, ◌++◌, length, Option, Some, None, if◌then◌else◌}
-use Rattle.jv_meaning_typing.specs.of_text.declared.descriptor.FieldTypeOf.{FieldTypeOf}
-use Rattle.jv_meaning_typing.specs.of_text.Descriptor.{field_slots}
-use Rattle.jv_meaning_typing.specs.of_frames.Types.{component}
-use Rattle.jv_meaning_typing.specs.of_class_structure.Parts.{CodeSeen}
+use Rattle.jv_text.specs.declared.descriptor.FieldTypeOf.{FieldTypeOf}
+use Rattle.jv_text.specs.Descriptor.{field_slots}
+use Rattle.jv_stackmap.specs.Types.{component}
+use Rattle.jv_class_structure.specs.Parts.{CodeSeen}
 use Rattle.jv_meaning_machine.specs.Objects.{Object}
 use Rattle.jv_meaning_machine.specs.Frames.{MethodFrame}
 use Rattle.jv_meaning_machine.specs.State.{Memory, Control}

@@ -1,8 +1,8 @@
 -- What instructions do beside what they do to memory, while they know nothing of other frames (JVMS 2.11, 6.5).
 use Rattle.std.specs.Prelude.{ℕ, List, Option, Ok, Err, codes, if◌then◌else◌}
-use Rattle.jv_meaning_typing.specs.of_text.declared.descriptor.FieldTypeOf.{FieldTypeOf}
-use Rattle.jv_meaning_typing.specs.of_meaning_world.World.{Loaded, World}
-use Rattle.jv_meaning_typing.specs.of_meaning_world.Overriding.{Declared}
+use Rattle.jv_text.specs.declared.descriptor.FieldTypeOf.{FieldTypeOf}
+use Rattle.jv_meaning_world.specs.World.{Loaded, World}
+use Rattle.jv_meaning_world.specs.Overriding.{Declared}
 use Rattle.jv_meaning_typing.specs.Uses.{Site}
 use Rattle.jv_meaning_typing.specs.LinkErrors.{OrError, error_class}
 use Rattle.jv_meaning_typing.specs.Operands.{class_operand}

@@ -2,14 +2,14 @@
 -- declares a static field, and then the operands.
 use Rattle.std.specs.Prelude.{ℕ, Bool, false, ◌&&◌, ◌||◌, ◌==◌, List, ◌∷◌, is_some, Option, Some, None, Ok, Err, slice_set}
 use Rattle.std.specs.Str.{bytes_eq}
-use Rattle.jv_meaning_typing.specs.of_text.declared.descriptor.FieldTypeOf.{FieldTypeOf}
-use Rattle.jv_meaning_typing.specs.of_text.Name.{is_init}
-use Rattle.jv_meaning_typing.specs.of_text.Types.{field_type_of}
-use Rattle.jv_meaning_typing.specs.of_frames.Types.{value_type}
+use Rattle.jv_text.specs.declared.descriptor.FieldTypeOf.{FieldTypeOf}
+use Rattle.jv_text.specs.Name.{is_init}
+use Rattle.jv_text.specs.Types.{field_type_of}
+use Rattle.jv_stackmap.specs.Types.{value_type}
 use Rattle.jv_code.specs.declared.kinds.FieldAccess.{FieldAccess}
 use Rattle.jv_code.specs.declared.kinds.FieldAccess.TheVariants as access
-use Rattle.jv_meaning_typing.specs.of_pool.Constants.{MemberReference}
-use Rattle.jv_meaning_typing.specs.of_meaning_world.LookUps.{DeclaredField}
+use Rattle.jv_pool.specs.Constants.{MemberReference}
+use Rattle.jv_meaning_world.specs.LookUps.{DeclaredField}
 use Rattle.jv_meaning_typing.specs.Uses.{Use}
 use Rattle.jv_meaning_typing.specs.Uses.Use.{Getstatic, Putstatic, Getfield, Putfield}
 use Rattle.jv_meaning_typing.specs.Operands.{field_operand}

@@ -3,14 +3,14 @@
 use Rattle.std.specs.Prelude.{ℕ, Bool, true, false, ◌&&◌, List, [], ◌∷◌, ◌++◌, map, Option, Some, None, Ok, codes}
 use Rattle.std.specs.List.{filter_map, list_all}
 use Rattle.std.specs.Option.{option_map, option_to_list, option_and_then}
-use Rattle.jv_meaning_typing.specs.of_text.declared.descriptor.FieldTypeOf.{FieldTypeOf}
-use Rattle.jv_meaning_typing.specs.of_class.Class.{Field}
-use Rattle.jv_meaning_typing.specs.of_class_structure.Flags.{has, acc_public, acc_static}
-use Rattle.jv_meaning_typing.specs.of_meaning_world.World.{Loaded, World, class_named}
-use Rattle.jv_meaning_typing.specs.of_meaning_world.Above.{above}
-use Rattle.jv_meaning_typing.specs.of_meaning_world.Overriding.{Declared}
-use Rattle.jv_meaning_typing.specs.of_meaning_world.Verdicts.{is_loadable}
-use Rattle.jv_meaning_typing.specs.of_meaning_world.LookUps.{DeclaredField, field_by, method_in, method_if}
+use Rattle.jv_text.specs.declared.descriptor.FieldTypeOf.{FieldTypeOf}
+use Rattle.jv_class.specs.Class.{Field}
+use Rattle.jv_class_structure.specs.Flags.{has, acc_public, acc_static}
+use Rattle.jv_meaning_world.specs.World.{Loaded, World, class_named}
+use Rattle.jv_meaning_world.specs.Above.{above}
+use Rattle.jv_meaning_world.specs.Overriding.{Declared}
+use Rattle.jv_meaning_world.specs.Verdicts.{is_loadable}
+use Rattle.jv_meaning_world.specs.LookUps.{DeclaredField, field_by, method_in, method_if}
 use Rattle.jv_meaning_typing.specs.LinkErrors.{error_class}
 use Rattle.jv_meaning_typing.specs.LinkErrors.LinkError.{NoClassDefFoundError, VerifyError}
 use Rattle.jv_meaning_typing.specs.InitializationOrder.{init_order}

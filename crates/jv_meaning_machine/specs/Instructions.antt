@@ -3,9 +3,9 @@
 use Rattle.std.specs.Prelude.{ℕ, ◌+◌, ℤ, pos, Bool, true, false, not, List, [], ◌∷◌, Option, Some, None, Ok, Err, nat_eq, nat_le, codes}
 use Rattle.std.specs.Int.{w32, int_wrapping_add}
 use Rattle.std.specs.Ordering.{int_eq}
-use Rattle.jv_meaning_typing.specs.of_text.Name.{is_array_name}
-use Rattle.jv_meaning_typing.specs.of_text.declared.descriptor.FieldTypeOf.{FieldTypeOf}
-use Rattle.jv_meaning_typing.specs.of_frames.Types.{value_type}
+use Rattle.jv_text.specs.Name.{is_array_name}
+use Rattle.jv_text.specs.declared.descriptor.FieldTypeOf.{FieldTypeOf}
+use Rattle.jv_stackmap.specs.Types.{value_type}
 use Rattle.jv_code.specs.Insns.{Instruction}
 use Rattle.jv_code.specs.declared.insn.Insn.TheVariants as insns
 use Rattle.jv_code.specs.declared.kinds.DivisionOperator.{DivisionOperator}
@@ -18,7 +18,7 @@ use Rattle.jv_code.specs.declared.kinds.Test.TheVariants as tests
 use Rattle.jv_code.specs.declared.kinds.ValueKind.{ValueKind}
 use Rattle.jv_code.specs.declared.kinds.ValueKind.TheVariants as kinds
 use Rattle.jv_code.specs.Targets.{target_of}
-use Rattle.jv_meaning_typing.specs.of_meaning_world.World.{Loaded}
+use Rattle.jv_meaning_world.specs.World.{Loaded}
 use Rattle.jv_meaning_typing.specs.Uses.Use.{New, Invokeinterface}
 use Rattle.jv_meaning_typing.specs.ClassResolution.{ResolvedClass, resolve_class}
 use Rattle.jv_meaning_typing.specs.ClassResolution.ResolvedClass.{ClassOf, ArrayOf}

@@ -21,9 +21,3 @@ pub mod Alone
 pub mod Observation
 pub mod Rows
 pub mod Laws
-pub use Rattle.jv_meaning_typing.specs.of_class
-pub use Rattle.jv_code.specs as of_code
-pub use Rattle.jv_code.specs.of_format
-pub use Rattle.jv_meaning_typing.specs.of_frames
-pub use Rattle.jv_meaning_typing.specs as of_meaning_typing
-pub use Rattle.jv_meaning_typing.specs.of_meaning_world

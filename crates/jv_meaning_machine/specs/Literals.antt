@@ -3,12 +3,12 @@
 use Rattle.std.specs.Prelude.{ℕ, ◌+◌, pos, true, List, [], ◌∷◌, map, length, Option, Some, None, Ok, Err, codes, if◌then◌else◌}
 use Rattle.std.specs.Int.{w32, w64, cast_signed}
 use Rattle.std.specs.Str.{bytes_eq}
-use Rattle.jv_meaning_typing.specs.of_text.declared.descriptor.Base.TheVariants as bases
-use Rattle.jv_meaning_typing.specs.of_pool.declared.constant.Constant.TheVariants as constants
-use Rattle.jv_meaning_typing.specs.of_pool.Constants.{Entry, at_index, utf8_at, long_at, member_of, name_and_descriptor}
-use Rattle.jv_meaning_typing.specs.of_class.Class.{InitialValue}
-use Rattle.jv_meaning_typing.specs.of_class.Class.InitialValue.{IntValue, LongValue, StringValue}
-use Rattle.jv_meaning_typing.specs.of_meaning_world.World.{Loaded, class_named}
+use Rattle.jv_text.specs.declared.descriptor.Base.TheVariants as bases
+use Rattle.jv_pool.specs.declared.constant.Constant.TheVariants as constants
+use Rattle.jv_pool.specs.Constants.{Entry, at_index, utf8_at, long_at, member_of, name_and_descriptor}
+use Rattle.jv_class.specs.Class.{InitialValue}
+use Rattle.jv_class.specs.Class.InitialValue.{IntValue, LongValue, StringValue}
+use Rattle.jv_meaning_world.specs.World.{Loaded, class_named}
 use Rattle.jv_meaning_typing.specs.Layout.{object_cells}
 use Rattle.jv_meaning_typing.specs.Environment.{current_class}
 use Rattle.jv_meaning_machine.specs.Faults.{OrFault, found, ◌>>=◌}

@@ -2,13 +2,13 @@
 -- hold is kept by their names.
 use Rattle.std.specs.Prelude.{ℕ, suc, Bool, true, false, ◌&&◌, ◌||◌, List, [], ◌∷◌, map, replicate, Option, Some, None, if◌then◌else◌}
 use Rattle.std.specs.Str.{bytes_eq}
-use Rattle.jv_meaning_typing.specs.of_text.declared.descriptor.FieldTypeOf.{FieldTypeOf}
-use Rattle.jv_meaning_typing.specs.of_pool.Constants.{MemberReference, member_of, name_and_descriptor}
-use Rattle.jv_meaning_typing.specs.of_meaning_world.World.{Loaded, World, class_named}
-use Rattle.jv_meaning_typing.specs.of_meaning_world.Above.{is_above}
-use Rattle.jv_meaning_typing.specs.of_meaning_world.LookUps.{DeclaredField}
+use Rattle.jv_text.specs.declared.descriptor.FieldTypeOf.{FieldTypeOf}
+use Rattle.jv_pool.specs.Constants.{MemberReference, member_of, name_and_descriptor}
+use Rattle.jv_meaning_world.specs.World.{Loaded, World, class_named}
+use Rattle.jv_meaning_world.specs.Above.{is_above}
+use Rattle.jv_meaning_world.specs.LookUps.{DeclaredField}
 use Rattle.jv_meaning_typing.specs.Layout.{instance_fields}
-use Rattle.jv_meaning_typing.specs.of_meaning_world.Flow.{extended}
+use Rattle.jv_meaning_world.specs.Flow.{extended}
 use Rattle.jv_meaning_typing.specs.Named.{class_components}
 use Rattle.jv_meaning_machine.specs.Values.{Value, default_of, default_of_type}
 

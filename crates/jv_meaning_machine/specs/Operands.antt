@@ -1,7 +1,7 @@
 -- Taking operands from the stack: by the types that the verifier takes (JVMS 4.10.1.9), and with objects that are constructed
 -- (4.9.2).
 use Rattle.std.specs.Prelude.{ℕ, List, [], ◌∷◌, reverse, slice_get, Ok, Err}
-use Rattle.jv_meaning_typing.specs.of_frames.Types.{FrameType}
+use Rattle.jv_stackmap.specs.Types.{FrameType}
 use Rattle.jv_meaning_typing.specs.Named.{object_class_type}
 use Rattle.jv_meaning_machine.specs.Faults.{OrFault, found, tested, ◌>>=◌}
 use Rattle.jv_meaning_machine.specs.Faults.Fault.{StackFault, TagFault, ReferenceFault, ConstructionFault}

@@ -2,10 +2,10 @@
 use Rattle.std.specs.Prelude.{ℕ, Bool, true, false, ◌||◌, List, [], ◌∷◌, Option, Ok, if◌then◌else◌}
 use Rattle.std.specs.List.{list_any}
 use Rattle.std.specs.Str.{bytes_eq}
-use Rattle.jv_meaning_typing.specs.of_text.Types.{method_type_of}
+use Rattle.jv_text.specs.Types.{method_type_of}
 use Rattle.jv_code.specs.Insns.{Instruction}
-use Rattle.jv_meaning_typing.specs.of_meaning_world.World.{Loaded, World}
-use Rattle.jv_meaning_typing.specs.of_meaning_world.Overriding.{Declared}
+use Rattle.jv_meaning_world.specs.World.{Loaded, World}
+use Rattle.jv_meaning_world.specs.Overriding.{Declared}
 use Rattle.jv_meaning_typing.specs.Environment.{Environment}
 use Rattle.jv_meaning_machine.specs.Faults.{OrFault, found, tested, ◌>>=◌}
 use Rattle.jv_meaning_machine.specs.Faults.Fault.{OffsetFault, UnverifiedFault}

@@ -2,9 +2,9 @@
 -- used (5.5).
 use Rattle.std.specs.Prelude.{ℕ, ◌+◌, ◌-◌, ◌^◌, min, Bool, true, false, ◌&&◌, ◌==◌, nat_le, List, [], ◌∷◌, Option, Some, None, Ok, codes, if◌then◌else◌}
 use Rattle.std.specs.List.{find}
-use Rattle.jv_code.specs.of_format.declared.handlers.Handler.{Handler}
-use Rattle.jv_meaning_typing.specs.of_pool.Constants.{Entry, class_name_at}
-use Rattle.jv_meaning_typing.specs.of_meaning_world.World.{Loaded, World, class_named}
+use Rattle.jv_format.specs.declared.handlers.Handler.{Handler}
+use Rattle.jv_pool.specs.Constants.{Entry, class_name_at}
+use Rattle.jv_meaning_world.specs.World.{Loaded, World, class_named}
 use Rattle.jv_meaning_typing.specs.Layout.{object_cells}
 use Rattle.jv_meaning_typing.specs.Environment.{current_class}
 use Rattle.jv_meaning_typing.specs.Typing.{covers}

@@ -1,16 +1,16 @@
 -- Values (JVMS 2.3, 2.4): ints, longs and references, each of which tells its kind.
 use Rattle.std.specs.Prelude.{ℕ, zero, ◌%◌, ℤ, pos, Bool, true, false, List, sum_by, Option, Some, None}
 use Rattle.std.specs.Int.{w8, w16, w32, cast_signed, cast_unsigned}
-use Rattle.jv_meaning_typing.specs.of_text.declared.descriptor.Base.{Base}
-use Rattle.jv_meaning_typing.specs.of_text.declared.descriptor.Base.TheVariants as bases
-use Rattle.jv_meaning_typing.specs.of_text.declared.descriptor.Element.{Element}
-use Rattle.jv_meaning_typing.specs.of_text.declared.descriptor.Element.TheVariants as elements
-use Rattle.jv_meaning_typing.specs.of_text.declared.descriptor.FieldTypeOf.{FieldTypeOf}
-use Rattle.jv_meaning_typing.specs.of_text.Types.{field_type_of}
-use Rattle.jv_meaning_typing.specs.of_frames.declared.verification.VerificationTypeOf.TheVariants as types
-use Rattle.jv_meaning_typing.specs.of_frames.declared.width.Width.{Width}
-use Rattle.jv_meaning_typing.specs.of_frames.declared.width.Width.TheVariants.{One, Two}
-use Rattle.jv_meaning_typing.specs.of_frames.Types.{FrameType, value_type}
+use Rattle.jv_text.specs.declared.descriptor.Base.{Base}
+use Rattle.jv_text.specs.declared.descriptor.Base.TheVariants as bases
+use Rattle.jv_text.specs.declared.descriptor.Element.{Element}
+use Rattle.jv_text.specs.declared.descriptor.Element.TheVariants as elements
+use Rattle.jv_text.specs.declared.descriptor.FieldTypeOf.{FieldTypeOf}
+use Rattle.jv_text.specs.Types.{field_type_of}
+use Rattle.jv_stackmap.specs.declared.verification.VerificationTypeOf.TheVariants as types
+use Rattle.jv_stackmap.specs.declared.width.Width.{Width}
+use Rattle.jv_stackmap.specs.declared.width.Width.TheVariants.{One, Two}
+use Rattle.jv_stackmap.specs.Types.{FrameType, value_type}
 use Rattle.jv_code.specs.declared.kinds.ValueKind.{ValueKind}
 use Rattle.jv_code.specs.declared.kinds.ValueKind.TheVariants as kinds
 

@@ -22,7 +22,6 @@ pub use feed_law::{
     same_bytes_show_the_same,
 };
 pub use forward_law::{constructed_stays, erroneous_stays, initialized_stays, throws_never_fall};
-pub use jv_code as of_code;
 pub use main_law::{main_is_its_own, no_main_without_files};
 pub use new_law::{
     constant_pushes, new_array_makes, new_makes, new_multi_array_makes, new_reference_array_makes,

@@ -2,8 +2,8 @@
 
 ghost use Rattle.jv_meaning_machine.specs.Laws.Shown.{EndedShowsTheSame, FaultsShowNothing, FaultsStay, JudgedByVerdicts, OneJudged, ShowsMore, ShowsNoMain, ShowsOneThing};
 
-use jv_meaning_typing::of_meaning_world::one_content;
 use jv_meaning_typing::one_judgement_of_file;
+use jv_meaning_world::one_content;
 
 /// What is to be found of files is one thing.
 pub fn one_judged()

@@ -1,9 +1,9 @@
 -- Two assignments that are typings below an offset agree at the instructions below it.
 use Rattle.std.proofs.Common.{◌≡◌, ℕ, zero, suc, ◌<◌, ◌≤◌, Bool, true, false, Option, Some, None, List, refl, sym, subst, ◌∙◌, inl, inr, arith}
 use Rattle.std.specs.Prelude.{IsTrue, not}
-use Rattle.jv_meaning_world.specs.of_frames.Frames.{Frame, PlacedFrame}
-use Rattle.jv_meaning_world.specs.of_code.Insns.{Instruction}
-use Rattle.jv_meaning_world.proofs.laws_of_code.Sizes.{some_bytes}
+use Rattle.jv_stackmap.specs.Frames.{Frame, PlacedFrame}
+use Rattle.jv_code.specs.Insns.{Instruction}
+use Rattle.jv_code.proofs.Sizes.{some_bytes}
 use Rattle.jv_meaning_typing.specs.declared.verdict.VerifyRule.{VerifyRule}
 use Rattle.jv_meaning_typing.specs.declared.verdict.VerifyRule.TheVariants as rules
 use Rattle.jv_meaning_typing.specs.Environment.{Environment, instruction_at}

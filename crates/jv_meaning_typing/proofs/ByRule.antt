@@ -5,7 +5,7 @@ use Rattle.std.specs.List.{Contains, list_any}
 use Rattle.std.proofs.lemmas.List.{append_assoc, append-nil}
 use Rattle.std.proofs.lemmas.List.Elements.{Contains-append_cases}
 use Rattle.std.proofs.lemmas.List.Folds.{list_any-append}
-use Rattle.jv_meaning_world.specs.of_class.Class.{Method}
+use Rattle.jv_class.specs.Class.{Method}
 use Rattle.jv_meaning_world.specs.World.{Loaded}
 use Rattle.jv_meaning_world.specs.Overriding.{Declared, overrides_itself, alike_in, with_declared, overriding}
 use Rattle.jv_meaning_typing.specs.OverridingRule.{Overrides, by_itself, by_third, IsNextFound, OverridingIsByRule}

@@ -8,7 +8,7 @@ use Rattle.std.specs.Cmp.Lexicographic.{nat_list_eq_equiv}
 use Rattle.std.proofs.lemmas.List.{length-map}
 use Rattle.std.proofs.lemmas.Map.Keys.{IsDistinct-cons}
 use Rattle.std.proofs.lemmas.Map.Made.{length-le_from_is_member}
-use Rattle.jv_meaning_world.specs.of_class.Class.{Class}
+use Rattle.jv_class.specs.Class.{Class}
 use Rattle.jv_meaning_world.specs.World.{Loaded, World, class_named}
 use Rattle.jv_meaning_world.specs.Above.{above, is_circular, class_if_named, superclass_in, chain_within, superclasses}
 use Rattle.jv_meaning_world.specs.Laws.Above.{AboveByWays, AboveIsTransitive}

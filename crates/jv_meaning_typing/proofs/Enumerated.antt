@@ -5,7 +5,7 @@ use Rattle.std.specs.List.{Contains, cons_option, filter_map, fold, list_any}
 use Rattle.std.specs.Str.{bytes_eq}
 use Rattle.std.proofs.lemmas.List.{append_assoc, append-nil}
 use Rattle.std.proofs.lemmas.List.Elements.{Contains-append_left, Contains-append_right, Contains-append_cases, filter-append}
-use Rattle.jv_meaning_world.specs.of_class.Class.{Class}
+use Rattle.jv_class.specs.Class.{Class}
 use Rattle.jv_meaning_world.specs.World.{Loaded, World, class_named}
 use Rattle.jv_meaning_world.specs.Above.{above, is_circular, class_if_named, superclass_names}
 use Rattle.jv_meaning_world.specs.Verdicts.{is_interface}

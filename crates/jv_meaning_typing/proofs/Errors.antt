@@ -2,14 +2,14 @@
 use Rattle.std.proofs.Common.{◌≡◌, ℕ, Bool, true, false, not, List, [], ◌∷◌, Option, Some, None, refl, sym, ap, ◌∙◌}
 use Rattle.std.specs.Prelude.{◌≢◌, ◌+◌, Ok, Err, filter, codes, if◌then◌else◌}
 use Rattle.std.specs.Option.{ok_or, option_and_then}
-use Rattle.jv_meaning_world.specs.of_text.declared.descriptor.Element.{Element}
-use Rattle.jv_meaning_world.specs.of_text.declared.descriptor.Element.TheVariants as elements
-use Rattle.jv_meaning_world.specs.of_text.declared.descriptor.FieldTypeOf.{FieldTypeOf}
-use Rattle.jv_meaning_world.specs.of_text.Name.{is_array_name, is_init}
-use Rattle.jv_meaning_world.specs.of_text.Types.{field_type_of}
-use Rattle.jv_meaning_world.specs.of_pool.Constants.{MemberReference}
-use Rattle.jv_meaning_world.specs.of_class_structure.Flags.{has, acc_public, acc_interface, acc_abstract}
-use Rattle.jv_meaning_world.specs.of_class.Class.{Method}
+use Rattle.jv_text.specs.declared.descriptor.Element.{Element}
+use Rattle.jv_text.specs.declared.descriptor.Element.TheVariants as elements
+use Rattle.jv_text.specs.declared.descriptor.FieldTypeOf.{FieldTypeOf}
+use Rattle.jv_text.specs.Name.{is_array_name, is_init}
+use Rattle.jv_text.specs.Types.{field_type_of}
+use Rattle.jv_pool.specs.Constants.{MemberReference}
+use Rattle.jv_class_structure.specs.Flags.{has, acc_public, acc_interface, acc_abstract}
+use Rattle.jv_class.specs.Class.{Method}
 use Rattle.jv_meaning_world.specs.World.{Loaded, World, class_named, can_name}
 use Rattle.jv_meaning_world.specs.Overriding.{Declared}
 use Rattle.jv_meaning_world.specs.declared.verdict.LoadVerdict.{LoadVerdict}

@@ -2,10 +2,10 @@
 use Rattle.std.proofs.Common.{◌≡◌, ℕ, zero, suc, ◌<◌, List, [], Option, Some, None, sym, ap, subst, ◌∙◌, ◌⊎◌, inl, inr, arith}
 use Rattle.std.specs.Prelude.{IsTrue}
 use Rattle.std.proofs.lemmas.Bool.{cases_order}
-use Rattle.jv_meaning_world.specs.of_frames.Frames.{Frame, PlacedFrame}
-use Rattle.jv_meaning_world.specs.of_code.Insns.{Instruction}
-use Rattle.jv_meaning_world.specs.of_code.Places.{IsAt, StandsInList, StartsApart}
-use Rattle.jv_meaning_world.proofs.laws_of_code.Sizes.{some_bytes}
+use Rattle.jv_stackmap.specs.Frames.{Frame, PlacedFrame}
+use Rattle.jv_code.specs.Insns.{Instruction}
+use Rattle.jv_code.specs.Places.{IsAt, StandsInList, StartsApart}
+use Rattle.jv_code.proofs.Sizes.{some_bytes}
 use Rattle.jv_meaning_typing.specs.Environment.{Environment, IsEnvironment, instruction_at, offset_behind}
 use Rattle.jv_meaning_typing.specs.Rule.{rule}
 use Rattle.jv_meaning_typing.specs.Typing.{Assignment, FallsInto, IsAssignedBy, Merges, IsTypeSafe, IsTypingBelow, frame_at, handlers_hold, instruction_holds, targets_hold}

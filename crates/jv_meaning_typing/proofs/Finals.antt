@@ -5,7 +5,7 @@ use Rattle.std.specs.List.{Contains, find, list_any}
 use Rattle.std.specs.Str.{bytes_eq}
 use Rattle.std.specs.Cmp.Lexicographic.{nat_list_eq_equiv}
 use Rattle.std.proofs.lemmas.List.{append_assoc, append-nil, reverse-append}
-use Rattle.jv_meaning_world.specs.of_class_structure.Flags.{has, acc_final}
+use Rattle.jv_class_structure.specs.Flags.{has, acc_final}
 use Rattle.jv_meaning_world.specs.World.{Loaded, World}
 use Rattle.jv_meaning_world.specs.Above.{above, is_above, is_circular, superclass_in, chain_within, superclasses}
 use Rattle.jv_meaning_world.specs.Overriding.{Declared, is_instance, overriding}

@@ -8,7 +8,7 @@ use Rattle.std.specs.Str.{bytes_eq}
 use Rattle.std.proofs.lemmas.Bool.{and_parts}
 use Rattle.std.proofs.lemmas.List.Elements.{Contains-append_left, Contains-append_right, Contains-append_cases}
 use Rattle.std.proofs.lemmas.Slice.Eq.{bytes_eq-Decides}
-use Rattle.jv_meaning_world.specs.of_class.Class.{Class, Field, Method, field_named, method_named}
+use Rattle.jv_class.specs.Class.{Class, Field, Method, field_named, method_named}
 use Rattle.jv_meaning_world.specs.Overriding.{Declared}
 use Rattle.jv_meaning_world.specs.LookUps.{first_found, else_option, only, method_if}
 use Rattle.jv_meaning_world.proofs.Up.{none, single, first, later}

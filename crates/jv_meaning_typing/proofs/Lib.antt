@@ -19,5 +19,3 @@ pub mod OneFault
 pub mod OneVerdict
 pub mod Starts
 pub mod Verdicts
-pub use Rattle.jv_meaning_world.proofs as laws_of_meaning_world
-pub use Rattle.jv_meaning_world.proofs.laws_of_text

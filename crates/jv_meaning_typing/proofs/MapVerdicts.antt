@@ -2,21 +2,21 @@
 use Rattle.std.proofs.Common.{◌≡◌, ℕ, zero, suc, true, false, List, [], ◌∷◌, Some, None, refl, sym, ap, subst, inl, inr, arith, pos, codes}
 use Rattle.std.specs.Prelude.{IsTrue}
 use Rattle.std.proofs.lemmas.List.Elements.{All-cons}
-use Rattle.jv_meaning_world.specs.of_class_structure.Parts.{CodeSeen}
-use Rattle.jv_meaning_world.specs.of_frames.declared.item.Item.TheVariants as items
-use Rattle.jv_meaning_world.specs.of_frames.declared.form.Form.TheVariants.{Same, SameItem, Full}
-use Rattle.jv_meaning_world.specs.of_frames.declared.verification.VerificationTypeOf.TheVariants as types
-use Rattle.jv_meaning_world.specs.of_frames.Frames.{Frame, PlacedFrame, map_frame}
-use Rattle.jv_meaning_world.specs.of_code.declared.insn.Insn.TheVariants as insns
-use Rattle.jv_meaning_world.specs.of_code.declared.kinds.Invocation.TheVariants as invocations
-use Rattle.jv_meaning_world.specs.of_code.declared.kinds.JumpForm.TheVariants as jump
-use Rattle.jv_meaning_world.specs.of_code.declared.kinds.LocalForm.TheVariants as local
-use Rattle.jv_meaning_world.specs.of_code.declared.kinds.ValueKind.TheVariants as kinds
-use Rattle.jv_meaning_world.specs.of_code.Handlers.{HandlerFits}
-use Rattle.jv_meaning_world.specs.of_code.Insns.{Instruction}
-use Rattle.jv_meaning_world.specs.of_code.Places.{IsStart, StandsInList, StartsApart}
-use Rattle.jv_meaning_world.specs.of_code.Successors.{falls_through}
-use Rattle.jv_meaning_world.proofs.laws_of_code.Sizes.{some_bytes}
+use Rattle.jv_class_structure.specs.Parts.{CodeSeen}
+use Rattle.jv_stackmap.specs.declared.item.Item.TheVariants as items
+use Rattle.jv_stackmap.specs.declared.form.Form.TheVariants.{Same, SameItem, Full}
+use Rattle.jv_stackmap.specs.declared.verification.VerificationTypeOf.TheVariants as types
+use Rattle.jv_stackmap.specs.Frames.{Frame, PlacedFrame, map_frame}
+use Rattle.jv_code.specs.declared.insn.Insn.TheVariants as insns
+use Rattle.jv_code.specs.declared.kinds.Invocation.TheVariants as invocations
+use Rattle.jv_code.specs.declared.kinds.JumpForm.TheVariants as jump
+use Rattle.jv_code.specs.declared.kinds.LocalForm.TheVariants as local
+use Rattle.jv_code.specs.declared.kinds.ValueKind.TheVariants as kinds
+use Rattle.jv_code.specs.Handlers.{HandlerFits}
+use Rattle.jv_code.specs.Insns.{Instruction}
+use Rattle.jv_code.specs.Places.{IsStart, StandsInList, StartsApart}
+use Rattle.jv_code.specs.Successors.{falls_through}
+use Rattle.jv_code.proofs.Sizes.{some_bytes}
 use Rattle.jv_meaning_world.specs.FrameFlow.{frame_flows}
 use Rattle.jv_meaning_world.specs.Verdicts.{declared_by}
 use Rattle.jv_meaning_typing.specs.Rows.LinkingSamples.{world_with, guest}

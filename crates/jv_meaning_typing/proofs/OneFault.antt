@@ -2,12 +2,12 @@
 use Rattle.std.proofs.Common.{◌≡◌, ℕ, ◌<◌, ◌≤◌, Bool, true, false, not, List, length, Option, Some, None, refl, sym, ap, subst, ◌∙◌, ◌⊎◌, inl, inr, arith}
 use Rattle.std.specs.Prelude.{IsTrue}
 use Rattle.std.proofs.lemmas.Bool.{cases_order}
-use Rattle.jv_meaning_world.specs.of_text.Descriptor.{MethodDescriptor}
-use Rattle.jv_meaning_world.specs.of_text.Types.{method_type_of}
-use Rattle.jv_meaning_world.specs.of_class_structure.Parts.{CodeSeen}
-use Rattle.jv_meaning_world.specs.of_frames.Frames.{PlacedFrame, OneMaps}
-use Rattle.jv_meaning_world.specs.of_code.Insns.{Instruction, insn_bytes}
-use Rattle.jv_meaning_world.specs.of_code.Places.{IsCode, OneList}
+use Rattle.jv_text.specs.Descriptor.{MethodDescriptor}
+use Rattle.jv_text.specs.Types.{method_type_of}
+use Rattle.jv_class_structure.specs.Parts.{CodeSeen}
+use Rattle.jv_stackmap.specs.Frames.{PlacedFrame, OneMaps}
+use Rattle.jv_code.specs.Insns.{Instruction, insn_bytes}
+use Rattle.jv_code.specs.Places.{IsCode, OneList}
 use Rattle.jv_meaning_world.specs.World.{World}
 use Rattle.jv_meaning_typing.specs.Uses.{Site}
 use Rattle.jv_meaning_typing.specs.declared.verdict.VerifyRule.{VerifyRule}

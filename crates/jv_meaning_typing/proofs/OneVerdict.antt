@@ -5,9 +5,9 @@ use Rattle.std.proofs.lemmas.Bool.{cases_order}
 use Rattle.std.proofs.lemmas.List.{length-take}
 use Rattle.std.proofs.lemmas.List.Elements.{All-get_or}
 use Rattle.std.proofs.lemmas.Option.{slice_get_within, get_or_from_slice_get}
-use Rattle.jv_meaning_world.specs.of_class.Class.{Method}
-use Rattle.jv_meaning_world.specs.of_frames.Frames.{OneMaps}
-use Rattle.jv_meaning_world.specs.of_code.Places.{OneList}
+use Rattle.jv_class.specs.Class.{Method}
+use Rattle.jv_stackmap.specs.Frames.{OneMaps}
+use Rattle.jv_code.specs.Places.{OneList}
 use Rattle.jv_meaning_world.specs.FileContent.{FileContent}
 use Rattle.jv_meaning_world.specs.declared.content.Content.TheVariants.{OtherVersion, NoClassFile, MoreThanProfile, Holds}
 use Rattle.jv_meaning_world.specs.World.{Loaded, World, loaded, world_of}

@@ -8,8 +8,8 @@ use Rattle.std.proofs.lemmas.Bool.Decides.{Decides-eqb}
 use Rattle.std.proofs.lemmas.Nat.{and_le_r}
 use Rattle.std.proofs.lemmas.List.{append_assoc, append-nil}
 use Rattle.std.proofs.lemmas.List.Folds.{list_any-append}
-use Rattle.jv_meaning_world.specs.of_class_structure.Flags.{has, acc_private}
-use Rattle.jv_meaning_world.specs.of_class.Class.{Method}
+use Rattle.jv_class_structure.specs.Flags.{has, acc_private}
+use Rattle.jv_class.specs.Class.{Method}
 use Rattle.jv_meaning_world.specs.World.{Loaded, package_of, same_loader, same_package}
 use Rattle.jv_meaning_world.specs.Overriding.{Declared, is_package_private, overrides_itself, alike_in, with_declared, overriding}
 use Rattle.jv_meaning_typing.specs.Inside.OneWalk.{is_open, joins, walked, OverridingInOneWalk}

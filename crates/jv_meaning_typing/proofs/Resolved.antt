@@ -6,8 +6,8 @@ use Rattle.std.specs.Option.{option_map, ok_or}
 use Rattle.std.specs.Str.{bytes_eq}
 use Rattle.std.specs.Cmp.Lexicographic.{nat_list_eq_equiv}
 use Rattle.std.proofs.lemmas.Bool.{and_parts}
-use Rattle.jv_meaning_world.specs.of_pool.Constants.{MemberReference}
-use Rattle.jv_meaning_world.specs.of_class.Class.{Field, Method, field_named, method_named}
+use Rattle.jv_pool.specs.Constants.{MemberReference}
+use Rattle.jv_class.specs.Class.{Field, Method, field_named, method_named}
 use Rattle.jv_meaning_world.specs.World.{Loaded, World, class_named}
 use Rattle.jv_meaning_world.specs.Above.{above, superclasses}
 use Rattle.jv_meaning_world.specs.Overriding.{Declared}

@@ -6,9 +6,9 @@ use Rattle.std.specs.Result.{result_unwrap_or}
 use Rattle.std.proofs.lemmas.Bool.{and_parts}
 use Rattle.std.proofs.lemmas.Bool.Decides.{Decides-eqb}
 use Rattle.std.proofs.lemmas.Nat.{and_assoc}
-use Rattle.jv_meaning_world.specs.of_text.Name.{is_init}
-use Rattle.jv_meaning_world.specs.of_class_structure.Flags.{has, acc_public, acc_private, acc_static}
-use Rattle.jv_meaning_world.specs.of_class.Class.{Method, method_named}
+use Rattle.jv_text.specs.Name.{is_init}
+use Rattle.jv_class_structure.specs.Flags.{has, acc_public, acc_private, acc_static}
+use Rattle.jv_class.specs.Class.{Method, method_named}
 use Rattle.jv_meaning_world.specs.World.{Loaded, World, class_named}
 use Rattle.jv_meaning_world.specs.Above.{superclasses}
 use Rattle.jv_meaning_world.specs.Overriding.{Declared, declared_if, alike_in, is_instance}

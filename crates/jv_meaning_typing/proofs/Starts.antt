@@ -3,9 +3,9 @@ use Rattle.std.proofs.Common.{◌≡◌, ℕ, ◌+◌, ◌<◌, ◌≤◌, Bool,
 use Rattle.std.specs.Prelude.{◌↔◌, ◌==◌, if◌then◌else◌}
 use Rattle.std.specs.List.{last_or}
 use Rattle.std.proofs.lemmas.Bool.Decides.{Decides-eqb}
-use Rattle.jv_meaning_world.specs.of_code.Insns.{Instruction}
-use Rattle.jv_meaning_world.specs.of_code.Places.{Cut, StandsInList}
-use Rattle.jv_meaning_world.proofs.laws_of_code.Sizes.{size, some_bytes, size-cons, size-append}
+use Rattle.jv_code.specs.Insns.{Instruction}
+use Rattle.jv_code.specs.Places.{Cut, StandsInList}
+use Rattle.jv_code.proofs.Sizes.{size, some_bytes, size-cons, size-append}
 use Rattle.jv_meaning_typing.specs.Environment.{Environment, IsEnvironment, offset_behind, instruction_from, instruction_at}
 use Rattle.jv_meaning_typing.specs.Laws.{InstructionAtIs}
 

@@ -5,8 +5,8 @@ use Rattle.std.specs.List.{list_any}
 use Rattle.std.proofs.lemmas.Bool.{and_parts}
 use Rattle.std.proofs.lemmas.List.{reverse-append}
 use Rattle.std.proofs.lemmas.List.Folds.{list_any-append}
-use Rattle.jv_meaning_world.specs.of_class_structure.Flags.{has}
-use Rattle.jv_meaning_world.specs.of_class.Class.{Method}
+use Rattle.jv_class_structure.specs.Flags.{has}
+use Rattle.jv_class.specs.Class.{Method}
 use Rattle.jv_meaning_world.specs.World.{Loaded, same_package}
 use Rattle.jv_meaning_world.specs.Overriding.{Declared, is_package_private, overrides_itself, alike_in, with_declared, overriding}
 use Rattle.jv_meaning_typing.specs.Inside.OneWalk.{is_open}

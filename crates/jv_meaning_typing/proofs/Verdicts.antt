@@ -3,23 +3,23 @@ use Rattle.std.proofs.Common.{◌≡◌, ℕ, zero, suc, ◌<◌, ◌≤◌, fal
 use Rattle.std.specs.Prelude.{IsTrue}
 use Rattle.std.specs.List.{All, list_all}
 use Rattle.std.proofs.lemmas.List.Elements.{All-cons}
-use Rattle.jv_meaning_world.specs.of_format.declared.handlers.Handler.{Handler}
-use Rattle.jv_meaning_world.specs.of_code.Handlers.{HandlerFits, HandlersFit}
-use Rattle.jv_meaning_world.specs.of_class_structure.Parts.{CodeSeen}
-use Rattle.jv_meaning_world.specs.of_class.Class.{Method}
-use Rattle.jv_meaning_world.specs.of_text.Descriptor.{MethodDescriptor}
-use Rattle.jv_meaning_world.specs.of_text.declared.descriptor.Base.TheVariants as bases
-use Rattle.jv_meaning_world.specs.of_text.declared.descriptor.Element.TheVariants as elements
-use Rattle.jv_meaning_world.specs.of_frames.declared.verification.VerificationTypeOf.TheVariants as types
-use Rattle.jv_meaning_world.specs.of_frames.Bytes.{stack_map_bytes}
-use Rattle.jv_meaning_world.specs.of_frames.Frames.{Frame, PlacedFrame}
-use Rattle.jv_meaning_world.specs.of_code.Successors.{falls_through}
-use Rattle.jv_meaning_world.specs.of_code.declared.insn.Insn.TheVariants as insns
-use Rattle.jv_meaning_world.specs.of_code.declared.kinds.JumpForm.TheVariants as jump
-use Rattle.jv_meaning_world.specs.of_code.declared.kinds.ValueKind.TheVariants as kinds
-use Rattle.jv_meaning_world.specs.of_code.Insns.{Instruction}
-use Rattle.jv_meaning_world.specs.of_code.Places.{IsStart, OneList, StandsInList, StartsApart}
-use Rattle.jv_meaning_world.proofs.laws_of_code.Sizes.{some_bytes}
+use Rattle.jv_format.specs.declared.handlers.Handler.{Handler}
+use Rattle.jv_code.specs.Handlers.{HandlerFits, HandlersFit}
+use Rattle.jv_class_structure.specs.Parts.{CodeSeen}
+use Rattle.jv_class.specs.Class.{Method}
+use Rattle.jv_text.specs.Descriptor.{MethodDescriptor}
+use Rattle.jv_text.specs.declared.descriptor.Base.TheVariants as bases
+use Rattle.jv_text.specs.declared.descriptor.Element.TheVariants as elements
+use Rattle.jv_stackmap.specs.declared.verification.VerificationTypeOf.TheVariants as types
+use Rattle.jv_stackmap.specs.Bytes.{stack_map_bytes}
+use Rattle.jv_stackmap.specs.Frames.{Frame, PlacedFrame}
+use Rattle.jv_code.specs.Successors.{falls_through}
+use Rattle.jv_code.specs.declared.insn.Insn.TheVariants as insns
+use Rattle.jv_code.specs.declared.kinds.JumpForm.TheVariants as jump
+use Rattle.jv_code.specs.declared.kinds.ValueKind.TheVariants as kinds
+use Rattle.jv_code.specs.Insns.{Instruction}
+use Rattle.jv_code.specs.Places.{IsStart, OneList, StandsInList, StartsApart}
+use Rattle.jv_code.proofs.Sizes.{some_bytes}
 use Rattle.jv_meaning_world.specs.World.{World}
 use Rattle.jv_meaning_world.specs.Verdicts.{declared_by}
 use Rattle.jv_meaning_typing.specs.Rows.LinkingSamples.{world_with, guest}

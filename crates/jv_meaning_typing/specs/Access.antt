@@ -1,7 +1,7 @@
 -- Access to fields and methods (JVMS 5.4.4).
 use Rattle.std.specs.Prelude.{ℕ, Bool, true, ◌&&◌, ◌||◌, if◌then◌else◌}
 use Rattle.std.specs.Str.{bytes_eq}
-use Rattle.jv_meaning_world.specs.of_class_structure.Flags.{has, acc_public, acc_private, acc_protected, acc_static}
+use Rattle.jv_class_structure.specs.Flags.{has, acc_public, acc_private, acc_protected, acc_static}
 use Rattle.jv_meaning_world.specs.World.{Loaded, World, same_package}
 use Rattle.jv_meaning_world.specs.LookUps.{is_subclass}
 

@@ -1,12 +1,12 @@
 -- Resolution of classes (JVMS 5.4.3.1), arrays (5.3.3) included.
 use Rattle.std.specs.Prelude.{ℕ, ◌+◌, not, List, Option, Some, None, Ok, Err, codes, if◌then◌else◌}
 use Rattle.std.specs.Option.{ok_or, option_and_then}
-use Rattle.jv_meaning_world.specs.of_text.declared.descriptor.Element.{Element}
-use Rattle.jv_meaning_world.specs.of_text.declared.descriptor.Element.TheVariants as elements
-use Rattle.jv_meaning_world.specs.of_text.declared.descriptor.FieldTypeOf.{FieldTypeOf}
-use Rattle.jv_meaning_world.specs.of_text.Name.{is_array_name}
-use Rattle.jv_meaning_world.specs.of_text.Types.{field_type_of}
-use Rattle.jv_meaning_world.specs.of_class_structure.Flags.{has, acc_interface, acc_abstract}
+use Rattle.jv_text.specs.declared.descriptor.Element.{Element}
+use Rattle.jv_text.specs.declared.descriptor.Element.TheVariants as elements
+use Rattle.jv_text.specs.declared.descriptor.FieldTypeOf.{FieldTypeOf}
+use Rattle.jv_text.specs.Name.{is_array_name}
+use Rattle.jv_text.specs.Types.{field_type_of}
+use Rattle.jv_class_structure.specs.Flags.{has, acc_interface, acc_abstract}
 use Rattle.jv_meaning_world.specs.World.{Loaded, World, class_named, can_name}
 use Rattle.jv_meaning_world.specs.declared.verdict.LoadVerdict.{LoadVerdict}
 use Rattle.jv_meaning_world.specs.Verdicts.{verdict_of_class}

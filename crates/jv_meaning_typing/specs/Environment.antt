@@ -1,12 +1,12 @@
 -- What is known while a method is type checked (JVMS 4.10.1.6): the classes that the guest can name, the method and its
 -- class, what its descriptor says, its code as instructions, and where each of these starts.
 use Rattle.std.specs.Prelude.{◌≡◌, ℕ, ◌+◌, ◌==◌, List, [], ◌∷◌, length, Option, Some, None, if◌then◌else◌}
-use Rattle.jv_meaning_world.specs.of_text.Descriptor.{MethodDescriptor}
-use Rattle.jv_meaning_world.specs.of_text.Types.{method_type_of}
-use Rattle.jv_meaning_world.specs.of_class_structure.Parts.{CodeSeen}
-use Rattle.jv_meaning_world.specs.of_class.Class.{Class}
-use Rattle.jv_meaning_world.specs.of_code.Insns.{Instruction, insn_bytes}
-use Rattle.jv_meaning_world.specs.of_code.Places.{IsCode}
+use Rattle.jv_text.specs.Descriptor.{MethodDescriptor}
+use Rattle.jv_text.specs.Types.{method_type_of}
+use Rattle.jv_class_structure.specs.Parts.{CodeSeen}
+use Rattle.jv_class.specs.Class.{Class}
+use Rattle.jv_code.specs.Insns.{Instruction, insn_bytes}
+use Rattle.jv_code.specs.Places.{IsCode}
 use Rattle.jv_meaning_world.specs.World.{World}
 use Rattle.jv_meaning_typing.specs.Uses.{Site}
 

@@ -1,6 +1,6 @@
 -- Resolution of fields (JVMS 5.4.3.2).
 use Rattle.std.specs.Option.{ok_or}
-use Rattle.jv_meaning_world.specs.of_pool.Constants.{MemberReference}
+use Rattle.jv_pool.specs.Constants.{MemberReference}
 use Rattle.jv_meaning_world.specs.World.{Loaded, World}
 use Rattle.jv_meaning_world.specs.LookUps.{DeclaredField, lookup_field}
 use Rattle.jv_meaning_typing.specs.Uses.{Use, Site}

@@ -3,14 +3,14 @@
 use Rattle.std.specs.Prelude.{ℕ, zero, suc, Bool, true, false, ◌==◌, nat_le, List, [], ◌∷◌, ◌++◌, length, map, reverse, drop, Option, Some, None, if◌then◌else◌}
 use Rattle.std.specs.List.{list_all, list_any}
 use Rattle.std.specs.Option.{option_map}
-use Rattle.jv_meaning_world.specs.of_format.Format.{◌>>=◌}
-use Rattle.jv_meaning_world.specs.of_frames.declared.verification.VerificationTypeOf.TheVariants as types
-use Rattle.jv_meaning_world.specs.of_frames.declared.width.Width.{Width}
-use Rattle.jv_meaning_world.specs.of_frames.declared.width.Width.TheVariants.{One, Two}
-use Rattle.jv_meaning_world.specs.of_frames.Types.{FrameType}
-use Rattle.jv_meaning_world.specs.of_frames.Frames.{Frame}
-use Rattle.jv_meaning_world.specs.of_code.declared.kinds.ValueKind.{ValueKind}
-use Rattle.jv_meaning_world.specs.of_code.declared.kinds.ValueKind.TheVariants as kinds
+use Rattle.jv_format.specs.Format.{◌>>=◌}
+use Rattle.jv_stackmap.specs.declared.verification.VerificationTypeOf.TheVariants as types
+use Rattle.jv_stackmap.specs.declared.width.Width.{Width}
+use Rattle.jv_stackmap.specs.declared.width.Width.TheVariants.{One, Two}
+use Rattle.jv_stackmap.specs.Types.{FrameType}
+use Rattle.jv_stackmap.specs.Frames.{Frame}
+use Rattle.jv_code.specs.declared.kinds.ValueKind.{ValueKind}
+use Rattle.jv_code.specs.declared.kinds.ValueKind.TheVariants as kinds
 use Rattle.jv_meaning_world.specs.World.{World}
 use Rattle.jv_meaning_world.specs.FrameFlow.{item_flows}
 

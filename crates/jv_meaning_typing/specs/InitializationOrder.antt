@@ -1,8 +1,8 @@
 -- Which classes and interfaces are initialized before a class, and in which order (JVMS 5.5, step 7).
 use Rattle.std.specs.Prelude.{ℕ, zero, suc, ◌+◌, Bool, not, List, [], ◌∷◌, ◌++◌, length, filter, if◌then◌else◌}
 use Rattle.std.specs.List.{filter_map, fold, list_any}
-use Rattle.jv_meaning_world.specs.of_class_structure.Flags.{has, acc_static, acc_abstract}
-use Rattle.jv_meaning_world.specs.of_class.Class.{Class, Method}
+use Rattle.jv_class_structure.specs.Flags.{has, acc_static, acc_abstract}
+use Rattle.jv_class.specs.Class.{Class, Method}
 use Rattle.jv_meaning_world.specs.World.{Loaded, World, class_named}
 use Rattle.jv_meaning_world.specs.Above.{superclass_names}
 use Rattle.jv_meaning_world.specs.Verdicts.{is_interface}

@@ -1,8 +1,8 @@
 -- What is found of a method, of a class and of a file (JVMS 4.10): a typing, or the first rule that is broken.
 use Rattle.std.specs.Prelude.{◌≡◌, ℕ, ◌≤◌, false, List, length, slice_get, Option, Some, None, IsSome, IsTrue, not, take}
 use Rattle.std.specs.List.{All}
-use Rattle.jv_meaning_world.specs.of_class.Class.{Class, Method}
-use Rattle.jv_meaning_world.specs.of_code.Insns.{Instruction}
+use Rattle.jv_class.specs.Class.{Class, Method}
+use Rattle.jv_code.specs.Insns.{Instruction}
 use Rattle.jv_meaning_world.specs.FileContent.{FileContent}
 use Rattle.jv_meaning_world.specs.declared.content.Content.TheVariants.{Holds}
 use Rattle.jv_meaning_world.specs.World.{Loaded, World, loaded, world_of}
@@ -16,7 +16,7 @@ use Rattle.jv_meaning_typing.specs.declared.verdict.Verdict.{Verdict}
 use Rattle.jv_meaning_typing.specs.declared.verdict.Verdict.TheVariants as verdicts
 use Rattle.jv_meaning_typing.specs.Environment.{Environment, IsEnvironment, instruction_at, offset_behind}
 use Rattle.jv_meaning_typing.specs.Typing.{argument_words, HandlersKeepRules, AreFrames, frame_at, Assignment, IsAssignedBy, Merges, handlers_hold, instruction_holds, targets_hold, IsTypingBelow, ends_code, HasTyping}
-use Rattle.jv_meaning_world.specs.of_frames.Frames.{PlacedFrame}
+use Rattle.jv_stackmap.specs.Frames.{PlacedFrame}
 
 -- ---- the first rule that a method breaks, and where
 

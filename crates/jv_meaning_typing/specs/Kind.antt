@@ -1,9 +1,9 @@
 -- Which fields and methods an instruction can use (JVMS 6.5): static or instance ones, and final fields.
 use Rattle.std.specs.Prelude.{Bool, true, not, ◌+◌, ◌&&◌, ◌||◌}
-use Rattle.jv_meaning_world.specs.of_text.Name.{is_init}
-use Rattle.jv_meaning_world.specs.of_class_structure.Flags.{has, acc_private, acc_static, acc_final}
-use Rattle.jv_meaning_world.specs.of_class.Class.{Field, Method}
-use Rattle.jv_meaning_world.specs.of_class.Rules.{is_clinit}
+use Rattle.jv_text.specs.Name.{is_init}
+use Rattle.jv_class_structure.specs.Flags.{has, acc_private, acc_static, acc_final}
+use Rattle.jv_class.specs.Class.{Field, Method}
+use Rattle.jv_class.specs.Rules.{is_clinit}
 use Rattle.jv_meaning_world.specs.LookUps.{DeclaredField}
 use Rattle.jv_meaning_typing.specs.Uses.{Use, Site}
 use Rattle.jv_meaning_typing.specs.Uses.Use.{Getstatic, Putstatic, Getfield, Putfield, Invokevirtual, Invokespecial, Invokestatic, Invokeinterface}

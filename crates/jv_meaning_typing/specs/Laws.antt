@@ -1,9 +1,9 @@
 -- Laws of type checking, as a checker and the soundness of what it accepts need them.
 use Rattle.std.specs.Prelude.{◌≡◌, ◌↔◌, ℕ, ◌<◌, List, Some}
-use Rattle.jv_meaning_world.specs.of_frames.Frames.{Frame, PlacedFrame}
-use Rattle.jv_meaning_world.specs.of_code.Insns.{Instruction}
-use Rattle.jv_meaning_world.specs.of_code.Places.{IsAt}
-use Rattle.jv_meaning_world.specs.of_class.Class.{Class}
+use Rattle.jv_stackmap.specs.Frames.{Frame, PlacedFrame}
+use Rattle.jv_code.specs.Insns.{Instruction}
+use Rattle.jv_code.specs.Places.{IsAt}
+use Rattle.jv_class.specs.Class.{Class}
 use Rattle.jv_meaning_world.specs.FileContent.{FileContent}
 use Rattle.jv_meaning_world.specs.World.{Loaded, World}
 use Rattle.jv_meaning_typing.specs.Uses.{Site}

@@ -24,9 +24,3 @@ pub mod Rule
 pub mod StackForms
 pub mod Typing
 pub mod ValueRules
-pub use Rattle.jv_meaning_world.specs.of_class
-pub use Rattle.jv_meaning_world.specs.of_class_structure
-pub use Rattle.jv_meaning_world.specs.of_frames
-pub use Rattle.jv_meaning_world.specs as of_meaning_world
-pub use Rattle.jv_meaning_world.specs.of_pool
-pub use Rattle.jv_meaning_world.specs.of_text

@@ -2,10 +2,10 @@
 use Rattle.std.specs.Prelude.{◌≡◌, ◌↔◌, ◌⊎◌, ◌≢◌, ⊤, ◌∷◌, ◌++◌, ℕ, not, IsTrue, IsFalse, List, [], Option, Some, None, Ok, Err, codes}
 use Rattle.std.specs.List.{Contains}
 use Rattle.std.specs.Option.{ok_or}
-use Rattle.jv_meaning_world.specs.of_text.Name.{is_init}
-use Rattle.jv_meaning_world.specs.of_pool.Constants.{MemberReference}
-use Rattle.jv_meaning_world.specs.of_class_structure.Flags.{has, acc_private, acc_final, visibility_keeps_rules}
-use Rattle.jv_meaning_world.specs.of_class.Class.{Class, field_named, method_named}
+use Rattle.jv_text.specs.Name.{is_init}
+use Rattle.jv_pool.specs.Constants.{MemberReference}
+use Rattle.jv_class_structure.specs.Flags.{has, acc_private, acc_final, visibility_keeps_rules}
+use Rattle.jv_class.specs.Class.{Class, field_named, method_named}
 use Rattle.jv_meaning_world.specs.World.{Loaded, World, class_named}
 use Rattle.jv_meaning_world.specs.Above.{above, is_circular, superclass_in, superclasses}
 use Rattle.jv_meaning_world.specs.Overriding.{Declared, is_instance}

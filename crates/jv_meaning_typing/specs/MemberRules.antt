@@ -3,19 +3,19 @@ use Rattle.std.specs.Prelude.{ℕ, ◌+◌, Bool, true, false, not, ◌&&◌, �
 use Rattle.std.specs.List.{list_all, list_any}
 use Rattle.std.specs.Option.{option_map}
 use Rattle.std.specs.Str.{bytes_eq}
-use Rattle.jv_meaning_world.specs.of_format.Format.{◌>>=◌}
-use Rattle.jv_meaning_world.specs.of_text.Name.{is_init}
-use Rattle.jv_meaning_world.specs.of_class_structure.Version.{is_below_52}
-use Rattle.jv_meaning_world.specs.of_class.Rules.{is_clinit}
-use Rattle.jv_meaning_world.specs.of_frames.declared.verification.VerificationTypeOf.TheVariants as types
-use Rattle.jv_meaning_world.specs.of_frames.Types.{FrameType, words}
-use Rattle.jv_meaning_world.specs.of_frames.Frames.{Frame}
-use Rattle.jv_meaning_world.specs.of_code.Insns.{Instruction}
-use Rattle.jv_meaning_world.specs.of_code.declared.insn.Insn.TheVariants as insns
-use Rattle.jv_meaning_world.specs.of_code.declared.kinds.FieldAccess.{FieldAccess}
-use Rattle.jv_meaning_world.specs.of_code.declared.kinds.FieldAccess.TheVariants as access
-use Rattle.jv_meaning_world.specs.of_code.declared.kinds.Invocation.{Invocation}
-use Rattle.jv_meaning_world.specs.of_code.declared.kinds.Invocation.TheVariants as invocations
+use Rattle.jv_format.specs.Format.{◌>>=◌}
+use Rattle.jv_text.specs.Name.{is_init}
+use Rattle.jv_class_structure.specs.Version.{is_below_52}
+use Rattle.jv_class.specs.Rules.{is_clinit}
+use Rattle.jv_stackmap.specs.declared.verification.VerificationTypeOf.TheVariants as types
+use Rattle.jv_stackmap.specs.Types.{FrameType, words}
+use Rattle.jv_stackmap.specs.Frames.{Frame}
+use Rattle.jv_code.specs.Insns.{Instruction}
+use Rattle.jv_code.specs.declared.insn.Insn.TheVariants as insns
+use Rattle.jv_code.specs.declared.kinds.FieldAccess.{FieldAccess}
+use Rattle.jv_code.specs.declared.kinds.FieldAccess.TheVariants as access
+use Rattle.jv_code.specs.declared.kinds.Invocation.{Invocation}
+use Rattle.jv_code.specs.declared.kinds.Invocation.TheVariants as invocations
 use Rattle.jv_meaning_world.specs.World.{Loaded, class_named}
 use Rattle.jv_meaning_world.specs.Verdicts.{is_interface}
 use Rattle.jv_meaning_world.specs.Flow.{flows}

@@ -1,8 +1,8 @@
 -- Resolution of methods of classes (JVMS 5.4.3.3) and of interfaces (5.4.3.4).
 use Rattle.std.specs.Prelude.{Bool, true, not, ◌||◌}
 use Rattle.std.specs.Option.{ok_or}
-use Rattle.jv_meaning_world.specs.of_text.Name.{is_init}
-use Rattle.jv_meaning_world.specs.of_pool.Constants.{MemberReference}
+use Rattle.jv_text.specs.Name.{is_init}
+use Rattle.jv_pool.specs.Constants.{MemberReference}
 use Rattle.jv_meaning_world.specs.World.{Loaded, World}
 use Rattle.jv_meaning_world.specs.Overriding.{Declared}
 use Rattle.jv_meaning_world.specs.Verdicts.{is_interface}

@@ -1,16 +1,16 @@
 -- What the operands of a method's instructions name (JVMS 4.10.1.3, 4.10.1.9), as types.
 use Rattle.std.specs.Prelude.{ℕ, ◌+◌, ◌-◌, Bool, true, false, not, ◌&&◌, nat_le, List, [], ◌∷◌, map, Option, Some, None, unwrap_or, codes, if◌then◌else◌}
-use Rattle.jv_meaning_world.specs.of_format.Format.{◌>>=◌}
-use Rattle.jv_meaning_world.specs.of_text.declared.descriptor.Element.TheVariants as elements
-use Rattle.jv_meaning_world.specs.of_text.declared.descriptor.FieldTypeOf.{FieldTypeOf}
-use Rattle.jv_meaning_world.specs.of_text.Descriptor.{MethodDescriptor}
-use Rattle.jv_meaning_world.specs.of_text.Name.{is_array_name, is_class_name}
-use Rattle.jv_meaning_world.specs.of_text.Types.{field_type_of, method_type_of}
-use Rattle.jv_meaning_world.specs.of_pool.declared.constant.Constant.TheVariants as constants
-use Rattle.jv_meaning_world.specs.of_pool.Constants.{Entry, at_index, MemberReference}
-use Rattle.jv_meaning_world.specs.of_class_structure.Flags.{has, acc_protected, acc_static}
-use Rattle.jv_meaning_world.specs.of_frames.declared.verification.VerificationTypeOf.TheVariants as types
-use Rattle.jv_meaning_world.specs.of_frames.Types.{FrameType, reference_type, value_type}
+use Rattle.jv_format.specs.Format.{◌>>=◌}
+use Rattle.jv_text.specs.declared.descriptor.Element.TheVariants as elements
+use Rattle.jv_text.specs.declared.descriptor.FieldTypeOf.{FieldTypeOf}
+use Rattle.jv_text.specs.Descriptor.{MethodDescriptor}
+use Rattle.jv_text.specs.Name.{is_array_name, is_class_name}
+use Rattle.jv_text.specs.Types.{field_type_of, method_type_of}
+use Rattle.jv_pool.specs.declared.constant.Constant.TheVariants as constants
+use Rattle.jv_pool.specs.Constants.{Entry, at_index, MemberReference}
+use Rattle.jv_class_structure.specs.Flags.{has, acc_protected, acc_static}
+use Rattle.jv_stackmap.specs.declared.verification.VerificationTypeOf.TheVariants as types
+use Rattle.jv_stackmap.specs.Types.{FrameType, reference_type, value_type}
 use Rattle.jv_meaning_world.specs.World.{Loaded, World, class_named, same_package}
 use Rattle.jv_meaning_world.specs.LookUps.{is_subclass, lookup_field, lookup_method}
 use Rattle.jv_meaning_typing.specs.Operands.{class_operand, field_operand, MethodConstant, MethodReference, method_operand}

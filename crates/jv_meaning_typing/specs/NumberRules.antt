@@ -1,24 +1,24 @@
 -- Instructions that take items of fixed types and give one of a fixed type, or none (JVMS 4.10.1.9): a table.
 use Rattle.std.specs.Prelude.{List, [], ◌∷◌, Option, Some, None}
-use Rattle.jv_meaning_world.specs.of_text.declared.descriptor.Base.{Base}
-use Rattle.jv_meaning_world.specs.of_text.declared.descriptor.Base.TheVariants as bases
-use Rattle.jv_meaning_world.specs.of_text.declared.descriptor.Element.TheVariants as elements
-use Rattle.jv_meaning_world.specs.of_frames.declared.verification.VerificationTypeOf.TheVariants as types
-use Rattle.jv_meaning_world.specs.of_frames.Types.{FrameType}
-use Rattle.jv_meaning_world.specs.of_code.Insns.{Instruction}
-use Rattle.jv_meaning_world.specs.of_code.declared.insn.Insn.TheVariants as insns
-use Rattle.jv_meaning_world.specs.of_code.declared.kinds.Computation.{Computation}
-use Rattle.jv_meaning_world.specs.of_code.declared.kinds.Computation.TheVariants as compute
-use Rattle.jv_meaning_world.specs.of_code.declared.kinds.Conversion.{Conversion}
-use Rattle.jv_meaning_world.specs.of_code.declared.kinds.Conversion.TheVariants as conversions
-use Rattle.jv_meaning_world.specs.of_code.declared.kinds.ElementType.{ElementType}
-use Rattle.jv_meaning_world.specs.of_code.declared.kinds.ElementType.TheVariants as element_types
-use Rattle.jv_meaning_world.specs.of_code.declared.kinds.NumberElement.{NumberElement}
-use Rattle.jv_meaning_world.specs.of_code.declared.kinds.NumberElement.TheVariants as numbers
-use Rattle.jv_meaning_world.specs.of_code.declared.kinds.NumberKind.{NumberKind}
-use Rattle.jv_meaning_world.specs.of_code.declared.kinds.NumberKind.TheVariants as number_kinds
-use Rattle.jv_meaning_world.specs.of_code.declared.kinds.Test.{Test}
-use Rattle.jv_meaning_world.specs.of_code.declared.kinds.Test.TheVariants as tests
+use Rattle.jv_text.specs.declared.descriptor.Base.{Base}
+use Rattle.jv_text.specs.declared.descriptor.Base.TheVariants as bases
+use Rattle.jv_text.specs.declared.descriptor.Element.TheVariants as elements
+use Rattle.jv_stackmap.specs.declared.verification.VerificationTypeOf.TheVariants as types
+use Rattle.jv_stackmap.specs.Types.{FrameType}
+use Rattle.jv_code.specs.Insns.{Instruction}
+use Rattle.jv_code.specs.declared.insn.Insn.TheVariants as insns
+use Rattle.jv_code.specs.declared.kinds.Computation.{Computation}
+use Rattle.jv_code.specs.declared.kinds.Computation.TheVariants as compute
+use Rattle.jv_code.specs.declared.kinds.Conversion.{Conversion}
+use Rattle.jv_code.specs.declared.kinds.Conversion.TheVariants as conversions
+use Rattle.jv_code.specs.declared.kinds.ElementType.{ElementType}
+use Rattle.jv_code.specs.declared.kinds.ElementType.TheVariants as element_types
+use Rattle.jv_code.specs.declared.kinds.NumberElement.{NumberElement}
+use Rattle.jv_code.specs.declared.kinds.NumberElement.TheVariants as numbers
+use Rattle.jv_code.specs.declared.kinds.NumberKind.{NumberKind}
+use Rattle.jv_code.specs.declared.kinds.NumberKind.TheVariants as number_kinds
+use Rattle.jv_code.specs.declared.kinds.Test.{Test}
+use Rattle.jv_code.specs.declared.kinds.Test.TheVariants as tests
 use Rattle.jv_meaning_typing.specs.Named.{array_with, class_components, object_class_type, throwable_type}
 use Rattle.std.specs.Prelude.{codes}
 

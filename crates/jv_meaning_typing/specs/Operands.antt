@@ -2,8 +2,8 @@
 -- of the class have them (4.4.1, 4.4.2). A field is a `MemberReference`, a class the text of its Class constant.
 use Rattle.std.specs.Prelude.{ℕ, List, Option}
 use Rattle.std.specs.Option.{option_map, option_or}
-use Rattle.jv_meaning_world.specs.of_pool.Constants.{MemberReference, class_name_at, field_reference_at, method_reference_at, interface_method_reference_at}
-use Rattle.jv_meaning_world.specs.of_class.Class.{Class}
+use Rattle.jv_pool.specs.Constants.{MemberReference, class_name_at, field_reference_at, method_reference_at, interface_method_reference_at}
+use Rattle.jv_class.specs.Class.{Class}
 
 -- the constant that names a method: of a class, or of an interface
 pub data MethodConstant : Type 0 where

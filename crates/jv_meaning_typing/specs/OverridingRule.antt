@@ -1,7 +1,7 @@
 -- The rule of JVMS 5.4.5 in its own words, for instance methods of one name and descriptor along a chain of classes, and a law
 -- that `overriding` finds those that override by it.
 use Rattle.std.specs.Prelude.{◌≡◌, IsTrue, List, [], ◌∷◌, ◌++◌, Some, None}
-use Rattle.jv_meaning_world.specs.of_class.Class.{Method}
+use Rattle.jv_class.specs.Class.{Method}
 use Rattle.jv_meaning_world.specs.World.{Loaded}
 use Rattle.jv_meaning_world.specs.Overriding.{Declared, overrides_itself, alike_in, overriding}
 

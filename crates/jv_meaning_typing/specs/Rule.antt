@@ -2,17 +2,17 @@
 -- a handler that covers it begins (4.10.1.6).
 use Rattle.std.specs.Prelude.{ℕ, nat_le, List, [], length, Option, Some, None, slice_get}
 use Rattle.std.specs.Option.{option_map}
-use Rattle.jv_meaning_world.specs.of_format.Format.{◌>>=◌}
-use Rattle.jv_meaning_world.specs.of_text.Name.{is_init}
-use Rattle.jv_meaning_world.specs.of_frames.declared.verification.VerificationTypeOf.TheVariants as types
-use Rattle.jv_meaning_world.specs.of_frames.Types.{FrameType, words}
-use Rattle.jv_meaning_world.specs.of_frames.Frames.{Frame}
-use Rattle.jv_meaning_world.specs.of_code.Insns.{Instruction}
-use Rattle.jv_meaning_world.specs.of_code.declared.insn.Insn.TheVariants as insns
-use Rattle.jv_meaning_world.specs.of_code.declared.kinds.Invocation.TheVariants as invocations
-use Rattle.jv_meaning_world.specs.of_code.declared.kinds.ValueKind.TheVariants as kinds
-use Rattle.jv_meaning_world.specs.of_code.declared.kinds.Test.{Test}
-use Rattle.jv_meaning_world.specs.of_code.declared.kinds.Test.TheVariants as tests
+use Rattle.jv_format.specs.Format.{◌>>=◌}
+use Rattle.jv_text.specs.Name.{is_init}
+use Rattle.jv_stackmap.specs.declared.verification.VerificationTypeOf.TheVariants as types
+use Rattle.jv_stackmap.specs.Types.{FrameType, words}
+use Rattle.jv_stackmap.specs.Frames.{Frame}
+use Rattle.jv_code.specs.Insns.{Instruction}
+use Rattle.jv_code.specs.declared.insn.Insn.TheVariants as insns
+use Rattle.jv_code.specs.declared.kinds.Invocation.TheVariants as invocations
+use Rattle.jv_code.specs.declared.kinds.ValueKind.TheVariants as kinds
+use Rattle.jv_code.specs.declared.kinds.Test.{Test}
+use Rattle.jv_code.specs.declared.kinds.Test.TheVariants as tests
 use Rattle.jv_meaning_typing.specs.Environment.{Environment}
 use Rattle.jv_meaning_typing.specs.FrameChanges.{with_stack, exchanged, replaced}
 use Rattle.jv_meaning_typing.specs.Named.{method_named_by, when}

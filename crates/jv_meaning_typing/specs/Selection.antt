@@ -4,9 +4,9 @@ use Rattle.std.specs.Prelude.{Bool, not, ◌&&◌, ◌||◌, List, [], ◌∷◌
 use Rattle.std.specs.List.{list_any}
 use Rattle.std.specs.Option.{ok_or, option_or, unwrap_or}
 use Rattle.std.specs.Str.{bytes_eq}
-use Rattle.jv_meaning_world.specs.of_text.Name.{is_init}
-use Rattle.jv_meaning_world.specs.of_class_structure.Flags.{has, acc_public}
-use Rattle.jv_meaning_world.specs.of_class.Class.{Method}
+use Rattle.jv_text.specs.Name.{is_init}
+use Rattle.jv_class_structure.specs.Flags.{has, acc_public}
+use Rattle.jv_class.specs.Class.{Method}
 use Rattle.jv_meaning_world.specs.World.{Loaded, World, class_named}
 use Rattle.jv_meaning_world.specs.Above.{is_above, superclass_in, superclasses}
 use Rattle.jv_meaning_world.specs.Overriding.{Declared, is_instance, alike_in, overriding}

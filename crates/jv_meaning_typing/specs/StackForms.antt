@@ -1,11 +1,11 @@
 -- What `pop` to `swap` do with the words on top of a stack (JVMS 6.5, dup_x1 and its kin), said of whatever its items are:
 -- types here, and values in a machine. A long is one item of two words, and no form takes a part of it.
 use Rattle.std.specs.Prelude.{ℕ, zero, suc, List, [], ◌∷◌, ◌++◌, Option, Some, None}
-use Rattle.jv_meaning_world.specs.of_format.Format.{◌>>=◌}
-use Rattle.jv_meaning_world.specs.of_frames.declared.width.Width.{Width}
-use Rattle.jv_meaning_world.specs.of_frames.declared.width.Width.TheVariants.{One, Two}
-use Rattle.jv_meaning_world.specs.of_code.declared.kinds.StackForm.{StackForm}
-use Rattle.jv_meaning_world.specs.of_code.declared.kinds.StackForm.TheVariants as forms
+use Rattle.jv_format.specs.Format.{◌>>=◌}
+use Rattle.jv_stackmap.specs.declared.width.Width.{Width}
+use Rattle.jv_stackmap.specs.declared.width.Width.TheVariants.{One, Two}
+use Rattle.jv_code.specs.declared.kinds.StackForm.{StackForm}
+use Rattle.jv_code.specs.declared.kinds.StackForm.TheVariants as forms
 
 -- the words that are left of so many, where an item of a width is the next; an item without a width is taken by no form
 abbrev pub words_behind : ℕ → Option Width → Option ℕ

@@ -3,21 +3,21 @@
 use Rattle.std.specs.Prelude.{◌≡◌, ◌⊎◌, ℕ, ◌+◌, ◌≤◌, ◌<◌, ◌==◌, Bool, true, false, not, ◌&&◌, ◌||◌, List, [], ◌∷◌, length, Option, Some, None, is_some, unwrap_or, IsTrue, IsSome, nat_le, nat_lt, if◌then◌else◌}
 use Rattle.std.specs.List.{All, find, last_or, list_all}
 use Rattle.std.specs.Option.{option_map}
-use Rattle.jv_meaning_world.specs.of_format.Format.{◌>>=◌}
-use Rattle.jv_meaning_world.specs.of_format.declared.handlers.Handler.{Handler}
-use Rattle.jv_meaning_world.specs.of_text.Descriptor.{slots}
-use Rattle.jv_meaning_world.specs.of_text.Name.{is_init}
-use Rattle.jv_meaning_world.specs.of_pool.Constants.{class_name_at}
-use Rattle.jv_meaning_world.specs.of_class_structure.Flags.{has, acc_static}
-use Rattle.jv_meaning_world.specs.of_frames.declared.limits.Limits.{Limits}
-use Rattle.jv_meaning_world.specs.of_frames.declared.verification.VerificationTypeOf.TheVariants as types
-use Rattle.jv_meaning_world.specs.of_frames.Types.{FrameType, reference_type}
-use Rattle.jv_meaning_world.specs.of_frames.Frames.{Frame, PlacedFrame, Maps}
-use Rattle.jv_meaning_world.specs.of_frames.Initial.{initial_entries, initial_frame}
-use Rattle.jv_meaning_world.specs.of_code.declared.insn.Insn.TheVariants as insns
-use Rattle.jv_meaning_world.specs.of_code.Handlers.{HandlersFit}
-use Rattle.jv_meaning_world.specs.of_code.Insns.{Instruction}
-use Rattle.jv_meaning_world.specs.of_code.Successors.{falls_through, jump_targets}
+use Rattle.jv_format.specs.Format.{◌>>=◌}
+use Rattle.jv_format.specs.declared.handlers.Handler.{Handler}
+use Rattle.jv_text.specs.Descriptor.{slots}
+use Rattle.jv_text.specs.Name.{is_init}
+use Rattle.jv_pool.specs.Constants.{class_name_at}
+use Rattle.jv_class_structure.specs.Flags.{has, acc_static}
+use Rattle.jv_stackmap.specs.declared.limits.Limits.{Limits}
+use Rattle.jv_stackmap.specs.declared.verification.VerificationTypeOf.TheVariants as types
+use Rattle.jv_stackmap.specs.Types.{FrameType, reference_type}
+use Rattle.jv_stackmap.specs.Frames.{Frame, PlacedFrame, Maps}
+use Rattle.jv_stackmap.specs.Initial.{initial_entries, initial_frame}
+use Rattle.jv_code.specs.declared.insn.Insn.TheVariants as insns
+use Rattle.jv_code.specs.Handlers.{HandlersFit}
+use Rattle.jv_code.specs.Insns.{Instruction}
+use Rattle.jv_code.specs.Successors.{falls_through, jump_targets}
 use Rattle.jv_meaning_world.specs.Flow.{flows}
 use Rattle.jv_meaning_world.specs.FrameFlow.{frame_flows}
 use Rattle.jv_meaning_world.specs.World.{World}

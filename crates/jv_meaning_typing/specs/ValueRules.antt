@@ -2,17 +2,17 @@
 use Rattle.std.specs.Prelude.{ℕ, ◌+◌, Bool, true, false, not, ◌&&◌, nat_lt, List, [], ◌∷◌, length, replicate, Option, Some, None, slice_get, if◌then◌else◌}
 use Rattle.std.specs.List.{list_any}
 use Rattle.std.specs.Option.{option_map}
-use Rattle.jv_meaning_world.specs.of_format.Format.{◌>>=◌}
-use Rattle.jv_meaning_world.specs.of_text.declared.descriptor.FieldTypeOf.{FieldTypeOf}
-use Rattle.jv_meaning_world.specs.of_frames.declared.verification.VerificationTypeOf.TheVariants as types
-use Rattle.jv_meaning_world.specs.of_frames.Types.{FrameType, value_type}
-use Rattle.jv_meaning_world.specs.of_frames.Frames.{Frame, type_by_words}
-use Rattle.jv_meaning_world.specs.of_code.declared.kinds.NumberElement.{NumberElement}
-use Rattle.jv_meaning_world.specs.of_code.declared.kinds.StackForm.{StackForm}
-use Rattle.jv_meaning_world.specs.of_code.declared.kinds.ValueKind.{ValueKind}
-use Rattle.jv_meaning_world.specs.of_code.declared.kinds.ValueKind.TheVariants as kinds
-use Rattle.jv_meaning_world.specs.of_code.declared.kinds.WordKind.{WordKind}
-use Rattle.jv_meaning_world.specs.of_code.declared.kinds.WordKind.TheVariants as word_kinds
+use Rattle.jv_format.specs.Format.{◌>>=◌}
+use Rattle.jv_text.specs.declared.descriptor.FieldTypeOf.{FieldTypeOf}
+use Rattle.jv_stackmap.specs.declared.verification.VerificationTypeOf.TheVariants as types
+use Rattle.jv_stackmap.specs.Types.{FrameType, value_type}
+use Rattle.jv_stackmap.specs.Frames.{Frame, type_by_words}
+use Rattle.jv_code.specs.declared.kinds.NumberElement.{NumberElement}
+use Rattle.jv_code.specs.declared.kinds.StackForm.{StackForm}
+use Rattle.jv_code.specs.declared.kinds.ValueKind.{ValueKind}
+use Rattle.jv_code.specs.declared.kinds.ValueKind.TheVariants as kinds
+use Rattle.jv_code.specs.declared.kinds.WordKind.{WordKind}
+use Rattle.jv_code.specs.declared.kinds.WordKind.TheVariants as word_kinds
 use Rattle.jv_meaning_world.specs.World.{World}
 use Rattle.jv_meaning_typing.specs.Environment.{Environment}
 use Rattle.jv_meaning_typing.specs.StackForms.{rearranged}

@@ -4,8 +4,8 @@ ghost use Rattle.jv_meaning_typing.specs.Laws.{InstructionAtIs, OneFalls, OneJud
 ghost use Rattle.jv_meaning_typing.specs.Rows.Worked.{WorkedRows};
 ghost use Rattle.jv_meaning_typing.specs.Rows.Verdicts.{VerdictRows};
 
-use jv_meaning_world::of_code::{one_list, stands_in_list, starts_apart};
-use jv_meaning_world::of_frames::one_maps;
+use jv_code::{one_list, stands_in_list, starts_apart};
+use jv_stackmap::one_maps;
 
 /// Worked rows of type checking (JVMS 4.10.1.6, 4.10.1.9), computed.
 pub fn worked_rows()

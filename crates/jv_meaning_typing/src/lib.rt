@@ -6,7 +6,6 @@ mod law;
 mod linking_law;
 mod verdict;
 
-pub use jv_meaning_world as of_meaning_world;
 pub use law::{
     instruction_at_is, one_falls, one_judgement, one_judgement_of_file, typing_grows,
     typing_is_local, typing_or_fault, verdict_rows, worked_rows,

@@ -4,13 +4,13 @@ use Rattle.std.specs.Prelude.{◌↔◌, Bool, false, IsTrue, IsSome, IsSomeAnd,
 use Rattle.std.specs.List.{All}
 use Rattle.std.specs.Option.{option_map}
 use Rattle.std.proofs.lemmas.List.Elements.{All-map, All-head, All-tail, All-nil, All-cons}
-use Rattle.jv_code.specs.of_format.Format.{◌>>=◌}
-use Rattle.jv_frames.specs.of_pool.Constants.{Entry, named_at, class_name_at}
-use Rattle.jv_class.specs.of_class_structure.Parts.{CodeSeen, MethodSeen, method_shown}
-use Rattle.jv_class.specs.of_class_structure.Structure.{MethodInfo, ClassStructure}
+use Rattle.jv_format.specs.Format.{◌>>=◌}
+use Rattle.jv_pool.specs.Constants.{Entry, named_at, class_name_at}
+use Rattle.jv_class_structure.specs.Parts.{CodeSeen, MethodSeen, method_shown}
+use Rattle.jv_class_structure.specs.Structure.{MethodInfo, ClassStructure}
 use Rattle.jv_class.specs.Class.{Class, Method, all_found, field_of, method_of, super_of, class_of}
 use Rattle.jv_class.specs.ClassFile.{OneStructure, IsClassFile, class_name}
-use Rattle.jv_class.specs.of_class_structure.Parts.{methods_of}
+use Rattle.jv_class_structure.specs.Parts.{methods_of}
 use Rattle.jv_class.specs.Supported.{IsSupported}
 use Rattle.jv_meaning_world.specs.FileContent.{HasNoUnsupportedCode, IsProfileClass, IsContent, OneContent}
 use Rattle.jv_meaning_world.specs.declared.content.Content.{Content}

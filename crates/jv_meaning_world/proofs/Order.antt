@@ -2,14 +2,14 @@
 use Rattle.std.proofs.Common.{◌≡◌, ℕ, zero, suc, true, false, List, refl, sym, ◌∙◌, subst}
 use Rattle.std.specs.Prelude.{IsTrue}
 use Rattle.std.proofs.lemmas.Bool.{eqb-true, eq-eqb}
-use Rattle.jv_frames.specs.of_text.declared.descriptor.Base.{Base}
-use Rattle.jv_frames.specs.of_text.declared.descriptor.Base.TheVariants as bases
-use Rattle.jv_frames.specs.of_text.declared.descriptor.Element.{Element}
-use Rattle.jv_frames.specs.of_text.declared.descriptor.Element.TheVariants as elements
-use Rattle.jv_frames.specs.of_text.declared.descriptor.FieldTypeOf.{FieldTypeOf}
-use Rattle.jv_frames.specs.of_text.Descriptor.{base_letter}
-use Rattle.jv_frames.specs.declared.verification.VerificationTypeOf.TheVariants as types
-use Rattle.jv_frames.specs.Types.{FrameType, primitive_type, value_type_by, value_type}
+use Rattle.jv_text.specs.declared.descriptor.Base.{Base}
+use Rattle.jv_text.specs.declared.descriptor.Base.TheVariants as bases
+use Rattle.jv_text.specs.declared.descriptor.Element.{Element}
+use Rattle.jv_text.specs.declared.descriptor.Element.TheVariants as elements
+use Rattle.jv_text.specs.declared.descriptor.FieldTypeOf.{FieldTypeOf}
+use Rattle.jv_text.specs.Descriptor.{base_letter}
+use Rattle.jv_stackmap.specs.declared.verification.VerificationTypeOf.TheVariants as types
+use Rattle.jv_stackmap.specs.Types.{FrameType, primitive_type, value_type_by, value_type}
 use Rattle.jv_meaning_world.specs.World.{World}
 use Rattle.jv_meaning_world.specs.Flow.{same_base, component_flows, flows}
 use Rattle.jv_meaning_world.specs.Laws.Order.{object_name, erased_element, erased, IsBelow, is_usable_reference, has_loadable_element, is_loadable_type, IsRooted}

@@ -6,8 +6,8 @@ use Rattle.std.specs.Str.{bytes_eq}
 use Rattle.std.specs.Cmp.Lexicographic.{nat_list_eq_equiv}
 use Rattle.std.proofs.lemmas.Bool.{and_parts, and_from, or_cases, or_left, or_right}
 use Rattle.std.proofs.lemmas.List.Elements.{Contains-append_cases}
-use Rattle.jv_frames.specs.of_text.declared.descriptor.FieldTypeOf.{FieldTypeOf}
-use Rattle.jv_frames.specs.declared.verification.VerificationTypeOf.TheVariants as types
+use Rattle.jv_text.specs.declared.descriptor.FieldTypeOf.{FieldTypeOf}
+use Rattle.jv_stackmap.specs.declared.verification.VerificationTypeOf.TheVariants as types
 use Rattle.jv_class.specs.Class.{Class}
 use Rattle.jv_meaning_world.specs.World.{Loaded, World, class_named}
 use Rattle.jv_meaning_world.specs.Above.{class_if_named, superclass_names, super_names, superclass_in, superclasses, supers_in, above, is_above, is_circular}

@@ -6,7 +6,7 @@ use Rattle.std.specs.Str.{bytes_eq}
 use Rattle.std.specs.Cmp.Lexicographic.{nat_list_eq_equiv}
 use Rattle.std.proofs.lemmas.Bool.{and_parts, and_from, or_cases, or_left, or_right}
 use Rattle.jv_class.specs.Rules.{is_object}
-use Rattle.jv_class.specs.of_class_structure.Attributes.{some_and}
+use Rattle.jv_class_structure.specs.Attributes.{some_and}
 use Rattle.jv_meaning_world.specs.World.{Loaded, World, class_named}
 use Rattle.jv_meaning_world.specs.Above.{class_if_named, superclass_in, superclasses, superclass_names, is_circular}
 use Rattle.jv_meaning_world.specs.Verdicts.{passes, each_super, is_interface, have_right_kind, can_name_supers, is_loadable_within, is_loadable}

@@ -5,11 +5,11 @@ use Rattle.std.specs.List.{Contains, list_all}
 use Rattle.std.specs.Option.{IsSomeAnd, option_map}
 use Rattle.std.proofs.lemmas.Bool.{and_parts, or_right, eqb-true}
 use Rattle.std.proofs.lemmas.List.Elements.{Contains-append_cases}
-use Rattle.jv_code.specs.of_format.Format.{◌>>=◌}
-use Rattle.jv_frames.specs.of_pool.Constants.{class_name_at}
-use Rattle.jv_class.specs.of_class_structure.Structure.{ClassStructure}
-use Rattle.jv_class.specs.of_class_structure.Attributes.{some_and}
-use Rattle.jv_class.specs.of_class_structure.Flags.{has, acc_interface}
+use Rattle.jv_format.specs.Format.{◌>>=◌}
+use Rattle.jv_pool.specs.Constants.{class_name_at}
+use Rattle.jv_class_structure.specs.Structure.{ClassStructure}
+use Rattle.jv_class_structure.specs.Attributes.{some_and}
+use Rattle.jv_class_structure.specs.Flags.{has, acc_interface}
 use Rattle.jv_class.specs.Class.{Class, all_found, field_of, method_of, super_of, class_of}
 use Rattle.jv_class.specs.ClassFile.{class_name}
 use Rattle.jv_class.specs.Rules.{is_object, is_no_array_name, KeepsRulesAsName, ItselfKeepsRules}

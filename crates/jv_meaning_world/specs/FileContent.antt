@@ -2,8 +2,8 @@
 use Rattle.std.specs.Prelude.{◌≡◌, ⊤, ℕ, List, [], ◌∷◌, Option, Some, IfSome}
 use Rattle.std.specs.List.{All}
 use Rattle.jv_code.specs.Unsupported.{IsUnsupported}
-use Rattle.jv_class.specs.of_class_structure.Parts.{CodeSeen}
-use Rattle.jv_class.specs.of_class_structure.Structure.{ClassStructure}
+use Rattle.jv_class_structure.specs.Parts.{CodeSeen}
+use Rattle.jv_class_structure.specs.Structure.{ClassStructure}
 use Rattle.jv_class.specs.Class.{Class, class_of}
 use Rattle.jv_class.specs.ClassFile.{IsClassFile, IsOtherVersion}
 use Rattle.jv_class.specs.Supported.{IsSupported}

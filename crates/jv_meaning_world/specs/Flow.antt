@@ -2,12 +2,12 @@
 use Rattle.std.specs.Prelude.{ℕ, zero, suc, Bool, true, false, ◌&&◌, ◌||◌, ◌==◌, List, Option, Some, None, codes}
 use Rattle.std.specs.List.{list_any}
 use Rattle.std.specs.Str.{bytes_eq}
-use Rattle.jv_frames.specs.of_text.declared.descriptor.Base.{Base}
-use Rattle.jv_frames.specs.of_text.declared.descriptor.Element.{Element}
-use Rattle.jv_frames.specs.of_text.declared.descriptor.Element.TheVariants as elements
-use Rattle.jv_frames.specs.of_text.Descriptor.{base_letter}
-use Rattle.jv_frames.specs.declared.verification.VerificationTypeOf.TheVariants as types
-use Rattle.jv_frames.specs.Types.{FrameType}
+use Rattle.jv_text.specs.declared.descriptor.Base.{Base}
+use Rattle.jv_text.specs.declared.descriptor.Element.{Element}
+use Rattle.jv_text.specs.declared.descriptor.Element.TheVariants as elements
+use Rattle.jv_text.specs.Descriptor.{base_letter}
+use Rattle.jv_stackmap.specs.declared.verification.VerificationTypeOf.TheVariants as types
+use Rattle.jv_stackmap.specs.Types.{FrameType}
 use Rattle.jv_meaning_world.specs.World.{Loaded, World, class_named}
 use Rattle.jv_meaning_world.specs.Above.{superclasses}
 use Rattle.jv_meaning_world.specs.Verdicts.{is_interface, is_loadable}

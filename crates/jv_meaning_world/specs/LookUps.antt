@@ -3,7 +3,7 @@ use Rattle.std.specs.Prelude.{ℕ, zero, suc, Bool, not, ◌&&◌, ◌+◌, List
 use Rattle.std.specs.List.{filter_map, fold, list_any}
 use Rattle.std.specs.Option.{option_map}
 use Rattle.std.specs.Str.{bytes_eq}
-use Rattle.jv_class.specs.of_class_structure.Flags.{has, acc_public, acc_private, acc_static, acc_abstract}
+use Rattle.jv_class_structure.specs.Flags.{has, acc_public, acc_private, acc_static, acc_abstract}
 use Rattle.jv_class.specs.Class.{Class, Field, field_named, method_named}
 use Rattle.jv_meaning_world.specs.World.{Loaded, World, class_named}
 use Rattle.jv_meaning_world.specs.Above.{superclass_names, superclasses, is_above}

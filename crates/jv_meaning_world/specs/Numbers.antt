@@ -3,7 +3,7 @@
 use Rattle.std.specs.Prelude.{◌≡◌, ℕ, ◌<◌, List, length, map, Option, Some, IsTrue, slice_get}
 use Rattle.std.specs.List.{All, filter_map, position}
 use Rattle.std.specs.Str.{bytes_eq}
-use Rattle.jv_code.specs.of_format.Format.{◌>>=◌}
+use Rattle.jv_format.specs.Format.{◌>>=◌}
 use Rattle.jv_class.specs.Class.{Class}
 use Rattle.jv_class.specs.Rules.{is_no_array_name}
 use Rattle.jv_meaning_world.specs.World.{Loaded, World}

@@ -1,8 +1,8 @@
 -- Which methods override others (JVMS 5.4.5).
 use Rattle.std.specs.Prelude.{◌+◌, Bool, not, ◌&&◌, ◌||◌, List, [], ◌∷◌, ◌++◌, Option, Some, None, if◌then◌else◌}
 use Rattle.std.specs.List.{list_any}
-use Rattle.jv_frames.specs.of_text.Name.{is_init}
-use Rattle.jv_class.specs.of_class_structure.Flags.{has, acc_public, acc_private, acc_protected, acc_static}
+use Rattle.jv_text.specs.Name.{is_init}
+use Rattle.jv_class_structure.specs.Flags.{has, acc_public, acc_private, acc_protected, acc_static}
 use Rattle.jv_class.specs.Class.{Method, method_named}
 use Rattle.jv_meaning_world.specs.World.{Loaded, same_package}
 

@@ -2,7 +2,7 @@
 use Rattle.std.specs.Prelude.{ℕ, Bool, true, false, not, ◌&&◌, ◌||◌, ◌==◌, List, [], ◌∷◌, ◌++◌, map, reverse, Option, codes, if◌then◌else◌, nat_eq}
 use Rattle.std.specs.List.{find, list_any, starts_with}
 use Rattle.std.specs.Str.{bytes_eq}
-use Rattle.jv_class.specs.of_class_structure.Flags.{has, acc_public}
+use Rattle.jv_class_structure.specs.Flags.{has, acc_public}
 use Rattle.jv_class.specs.Class.{Class}
 use Rattle.jv_meaning_world.specs.FileContent.{FileContent}
 use Rattle.jv_meaning_world.specs.declared.content.Content.TheVariants.{Holds}

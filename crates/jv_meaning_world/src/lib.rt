@@ -14,10 +14,6 @@ mod verdict;
 pub use content::{Content, FileClass};
 pub use content_law::one_content;
 pub use flow_law::flow_rows;
-pub use jv_class as of_class;
-pub use jv_code as of_code;
-pub use jv_frames as of_frames;
-pub use jv_frames::of_pool;
 pub use law::{above_by_ways, above_is_transitive, file_rows, loadable_by_all};
 pub use order_law::{
     above_is_below, array_below_class, below_is_above, below_is_kept, below_is_reference,

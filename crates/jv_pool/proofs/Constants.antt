@@ -21,7 +21,7 @@ use Rattle.jv_pool.specs.declared.shape.TwoHalvesKind.TheVariants as two_halves
 use Rattle.jv_pool.specs.declared.shape.ConstantShape.{ConstantShape}
 use Rattle.jv_pool.specs.declared.shape.ConstantShape.TheVariants as shapes
 use Rattle.jv_pool.specs.declared.fault.PoolFault.{PoolFault}
-use Rattle.jv_pool.specs.declared.fault.PoolFault.TheVariants.{BadPool, Memory}
+use Rattle.jv_pool.specs.declared.fault.PoolFault.TheVariants.{BadPool, OutOfMemory}
 use Rattle.jv_pool.specs.Constants.{Entry, constant_bytes, constant_fits, takes_two, table_of, pool_count, pool_bytes, pool_fits}
 use Rattle.jv_pool.specs.Rules.{KeepsRules, IsPool, OnePool}
 use Rattle.jv_pool.specs.Inside.Reading.{shape_of, utf8, of_quad, of_two_quads, of_half, of_two_halves, method_handle, shaped_read, contents_read, constant_read, entries_read, entries, so_many_constants, constants, Fails}
@@ -276,7 +276,7 @@ no_other bytes after q found broken p front rest is h =
 
 pub fails_bad : {A : Type 0} (read : Option A) (e : PoolFault) → e ≡ BadPool → Fails e read → read ≡ None
 fails_bad read BadPool is g = g
-fails_bad read Memory is g = absurd cc
+fails_bad read OutOfMemory is g = absurd cc
 
 pub OnePool-holds : OnePool
 OnePool-holds front other rest after p q e one two =

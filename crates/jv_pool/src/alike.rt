@@ -1,7 +1,7 @@
 //! The least index of each text of a table.
 
 ghost use Rattle.std.specs.Prelude.{◌≡◌, ◌+◌, Some, IfOk, IfErr, OnOk};
-ghost use Rattle.jv_pool.specs.declared.fault.PoolFault.TheVariants.{Memory};
+ghost use Rattle.jv_pool.specs.declared.fault.PoolFault.TheVariants.{OutOfMemory};
 ghost use Rattle.jv_pool.specs.Constants.{utf8_at};
 ghost use Rattle.jv_pool.specs.Inside.Alike.{IsAlike, IsInOrder, AreFirsts};
 
@@ -19,7 +19,7 @@ fn first_of<'a>(
     requires { AreFirsts table.now index firsts.old }
     ensures alike { IfOk result (λ first. IsAlike table.now index (utf8_at table.now index) (Some first)) }
     ensures firsts { OnOk result (AreFirsts table.now (index + 1) firsts.new) }
-    ensures err { IfErr result (λ e. e ≡ Memory) }
+    ensures err { IfErr result (λ e. e ≡ OutOfMemory) }
 {
     let Some(text) = table.utf8(index) else {
         return Ok(index);
@@ -34,7 +34,7 @@ fn first_of<'a>(
 /// The least index of the text at each index, and any number where there is none.
 pub(crate) fn all_alike(alloc: Global, table: &Table<'_>) -> Result<Vec<u16>, PoolFault>
     ensures ok { IfOk result (λ alike. IsInOrder table.now alike.items) }
-    ensures err { IfErr result (λ e. e ≡ Memory) }
+    ensures err { IfErr result (λ e. e ≡ OutOfMemory) }
 {
     let mut firsts = BTreeMap::new(alloc);
     let mut alike = Vec::with_capacity(alloc, usize::from(table.count()))?;

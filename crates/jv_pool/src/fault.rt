@@ -1,7 +1,7 @@
 //! Why there is no pool.
 
 ghost use Rattle.std.specs.Prelude.{◌≡◌};
-ghost use Rattle.jv_pool.specs.declared.fault.PoolFault.TheVariants.{Memory};
+ghost use Rattle.jv_pool.specs.declared.fault.PoolFault.TheVariants.{OutOfMemory};
 
 use std::alloc::{AllocError, AllocFailed};
 use thiserror::Error;
@@ -14,21 +14,21 @@ pub enum PoolFault {
     BadPool,
     /// The host had no memory for the pool.
     #[error("out of memory")]
-    Memory,
+    OutOfMemory,
 }
 
 impl<T: Drop> From<AllocFailed<T>> for PoolFault {
-    ghost from_gives = { λ _ e. e ≡ Memory };
+    ghost from_gives = { λ _ e. e ≡ OutOfMemory };
 
     fn from(_e: AllocFailed<T>) -> PoolFault {
-        PoolFault::Memory
+        PoolFault::OutOfMemory
     }
 }
 
 impl From<AllocError> for PoolFault {
-    ghost from_gives = { λ _ e. e ≡ Memory };
+    ghost from_gives = { λ _ e. e ≡ OutOfMemory };
 
     fn from(_e: AllocError) -> PoolFault {
-        PoolFault::Memory
+        PoolFault::OutOfMemory
     }
 }

@@ -2,7 +2,7 @@
 
 ghost use Rattle.std.specs.Prelude.{◌≡◌, ◌<◌, length, IfOk, IfErr};
 ghost use Rattle.std.specs.Option.{option_map};
-ghost use Rattle.jv_pool.specs.declared.fault.PoolFault.TheVariants.{Memory};
+ghost use Rattle.jv_pool.specs.declared.fault.PoolFault.TheVariants.{OutOfMemory};
 ghost use Rattle.jv_pool.specs.Constants.{utf8_at};
 ghost use Rattle.jv_pool.specs.Seen.{seen_text};
 ghost use Rattle.jv_pool.specs.Inside.Alike.{IsInOrder};
@@ -55,7 +55,7 @@ fn add_facts(
 ) -> Result<u16, PoolFault>
     requires { length facts.now.items < 65535 }
     ensures ok { IfOk result (IsAdded (option_map seen_text text.entry) before facts.old.items facts.new.items) }
-    ensures err { IfErr result (λ e. e ≡ Memory) }
+    ensures err { IfErr result (λ e. e ≡ OutOfMemory) }
 {
     let Some(text) = text else {
         return Ok(0);
@@ -76,7 +76,7 @@ fn all_known(
 ) -> Result<(Vec<TextFacts>, Vec<u16>), PoolFault>
     requires { IsInOrder table.now alike.now }
     ensures ok { IfOk result (λ x. AllKnown table.now x.0.items x.1.items) }
-    ensures err { IfErr result (λ e. e ≡ Memory) }
+    ensures err { IfErr result (λ e. e ≡ OutOfMemory) }
 {
     let mut facts = Vec::new(alloc);
     let mut places = Vec::with_capacity(alloc, usize::from(table.count()))?;
@@ -111,7 +111,7 @@ impl<'a> Known<'a> {
     ) -> Result<Known<'a>, PoolFault>
         requires { IsInOrder table alike.now }
         ensures ok { IfOk result (λ known. known ≡ table.entry) }
-        ensures err { IfErr result (λ e. e ≡ Memory) }
+        ensures err { IfErr result (λ e. e ≡ OutOfMemory) }
     {
         match all_known(alloc, &table, alike) {
             Ok((facts, places)) => Ok(Known {

@@ -27,7 +27,5 @@ pub use index::{
     ClassIndex, FieldrefIndex, IntegerIndex, InterfaceMethodrefIndex, LongIndex, MethodrefIndex,
     NameAndTypeIndex, StringIndex, Utf8Index,
 };
-pub use jv_format as of_format;
-pub use jv_text as of_text;
 pub use law::{holds_at_index, kinds_name, one_pool};
 pub use pool::{Pool, read_pool};

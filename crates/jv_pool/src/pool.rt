@@ -9,7 +9,7 @@ ghost use Rattle.jv_pool.specs.Rules.{KeepsRules, IsPool};
 ghost use Rattle.jv_pool.specs.Facts.{AreFacts};
 ghost use Rattle.jv_pool.specs.Seen.{seen, seen_text, seen_name_and_type, seen_member};
 ghost use Rattle.jv_pool.specs.Inside.Pools.{IsInside};
-ghost use Rattle.jv_pool.specs.declared.fault.PoolFault.TheVariants.{BadPool, Memory};
+ghost use Rattle.jv_pool.specs.declared.fault.PoolFault.TheVariants.{BadPool, OutOfMemory};
 
 use crate::alike::all_alike;
 use crate::constant::{Constant, Kind, MemberName, NameAndTypeTexts};
@@ -52,7 +52,7 @@ impl<'a> Model for Pool<'a> {
 ///
 /// # Errors
 ///
-/// `BadPool` where no front of the bytes is a pool; `Memory` where the host had none for the
+/// `BadPool` where no front of the bytes is a pool; `OutOfMemory` where the host had none for the
 /// table of constants.
 pub fn read_pool<'a>(alloc: Global, bytes: &'a [u8]) -> Result<(Pool<'a>, usize), PoolFault>
     ensures within { IfOk result (λ x. x.1 ≤ length bytes.now) }

@@ -5,7 +5,7 @@ ghost use Rattle.std.specs.Option.{option_map};
 ghost use Rattle.jv_pool.specs.Constants.{pool_count, at_index, kind_of, kind_at, utf8_in, utf8_at, integer_in, integer_at, long_in, long_at, class_name_in, class_name_at, string_at, named_at, name_and_type_at, member_at, field_reference_at, method_reference_at, interface_method_reference_at};
 ghost use Rattle.jv_pool.specs.Seen.{seen, seen_text, seen_name_and_type, seen_member};
 ghost use Rattle.jv_pool.specs.Inside.Reading.{IsTable, constants_in, entries_in, entry_of, entry_at, place_behind};
-ghost use Rattle.jv_pool.specs.declared.fault.PoolFault.TheVariants.{Memory};
+ghost use Rattle.jv_pool.specs.declared.fault.PoolFault.TheVariants.{OutOfMemory};
 
 use crate::constant::{Constant, Kind, MemberName, NameAndTypeTexts};
 use crate::fault::PoolFault;
@@ -37,10 +37,10 @@ impl<'a> Model for Table<'a> {
 ///
 /// # Errors
 ///
-/// `Memory` for a place that has no room in an entry, which none of a pool has: 65,534 constants take less than 2^32 bytes.
+/// `OutOfMemory` for a place that has no room in an entry, which none of a pool has: 65,534 constants take less than 2^32 bytes.
 pub(crate) fn place_behind(is_constant: bool, before: usize) -> Result<u32, PoolFault>
     ensures ok { IfOk result (λ place. place ≡ place_behind is_constant before) }
-    ensures err { IfErr result (λ e. e ≡ Memory) }
+    ensures err { IfErr result (λ e. e ≡ OutOfMemory) }
 {
     if !is_constant {
         return Ok(0);
@@ -48,7 +48,7 @@ pub(crate) fn place_behind(is_constant: bool, before: usize) -> Result<u32, Pool
     if before < 4294967295 {
         Ok(before as u32 + 1)
     } else {
-        Err(PoolFault::Memory)
+        Err(PoolFault::OutOfMemory)
     }
 }
 

@@ -8,8 +8,8 @@ use Rattle.jv_text.specs.declared.descriptor.FieldTypeOf.{FieldTypeOf}
 use Rattle.jv_text.specs.Name.{is_init}
 use Rattle.jv_text.specs.Descriptor.{MethodDescriptor, is_floating, is_floating_method, is_floating_result}
 use Rattle.jv_text.specs.Types.{field_type_of, method_type_of}
-use Rattle.jv_frames.specs.declared.verification.VerificationTypeOf.TheVariants as types
-use Rattle.jv_frames.specs.Types.{FrameType, value_type}
+use Rattle.jv_stackmap.specs.declared.verification.VerificationTypeOf.TheVariants as types
+use Rattle.jv_stackmap.specs.Types.{FrameType, value_type}
 use Rattle.jv_meaning_world.specs.System.Io.{io}
 use Rattle.jv_class_structure.specs.Flags.{has, acc_static, acc_interface, acc_abstract}
 use Rattle.jv_class.specs.Class.{Class, Field, Method, InitialValue, field_named, method_named}

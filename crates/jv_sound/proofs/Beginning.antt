@@ -4,7 +4,7 @@ use Rattle.std.proofs.Common.{◌≡◌, ℕ, ◌-◌, Bool, true, false, ◌||�
 use Rattle.std.specs.Prelude.{IsTrue, slice_get, nat_le, codes, if◌then◌else◌}
 use Rattle.std.specs.List.{AllByRecursion, Contains}
 use Rattle.std.specs.Str.{bytes_eq}
-use Rattle.jv_frames.specs.declared.verification.VerificationTypeOf.TheVariants as types
+use Rattle.jv_stackmap.specs.declared.verification.VerificationTypeOf.TheVariants as types
 use Rattle.jv_code.specs.Places.{StandsInList, NextStarts}
 use Rattle.jv_meaning_world.specs.World.{Loaded, class_named}
 use Rattle.jv_meaning_world.proofs.Up.{same_name}

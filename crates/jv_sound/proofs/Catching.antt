@@ -7,8 +7,8 @@ use Rattle.jv_text.specs.Types.{field_type_of}
 use Rattle.jv_format.specs.Format.{◌>>=◌}
 use Rattle.jv_format.specs.declared.handlers.Handler.{Handler}
 use Rattle.jv_text.specs.Name.{is_array_name, is_class_name}
-use Rattle.jv_frames.specs.declared.verification.VerificationTypeOf.TheVariants as types
-use Rattle.jv_frames.specs.Types.{FrameType, array_of, reference_type, component}
+use Rattle.jv_stackmap.specs.declared.verification.VerificationTypeOf.TheVariants as types
+use Rattle.jv_stackmap.specs.Types.{FrameType, array_of, reference_type, component}
 use Rattle.jv_code.specs.Places.{StandsInList, NextStarts}
 use Rattle.jv_meaning_world.specs.World.{World}
 use Rattle.jv_meaning_world.proofs.Order.{below_is_transitive}

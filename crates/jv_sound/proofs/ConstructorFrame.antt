@@ -7,10 +7,10 @@ use Rattle.std.proofs.lemmas.List.Sums.{sum_by-cons}
 use Rattle.jv_text.specs.Descriptor.{MethodDescriptor, slots}
 use Rattle.jv_text.specs.Name.{is_init}
 use Rattle.jv_text.specs.Types.{method_type_of}
-use Rattle.jv_frames.specs.declared.verification.VerificationTypeOf.TheVariants as types
-use Rattle.jv_frames.specs.Types.{value_type, words, width}
-use Rattle.jv_frames.specs.Frames.{is_uninitialized_this}
-use Rattle.jv_frames.specs.Initial.{initial_entries, receiver_type}
+use Rattle.jv_stackmap.specs.declared.verification.VerificationTypeOf.TheVariants as types
+use Rattle.jv_stackmap.specs.Types.{value_type, words, width}
+use Rattle.jv_stackmap.specs.Frames.{is_uninitialized_this}
+use Rattle.jv_stackmap.specs.Initial.{initial_entries, receiver_type}
 use Rattle.jv_code.specs.Places.{StandsInList, NextStarts, OneList}
 use Rattle.jv_meaning_world.specs.World.{World}
 use Rattle.jv_meaning_world.specs.Overriding.{Declared}

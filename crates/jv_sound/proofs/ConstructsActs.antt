@@ -4,8 +4,8 @@ use Rattle.std.specs.Prelude.{slice_get, slice_set}
 use Rattle.jv_text.specs.Descriptor.{MethodDescriptor, slots}
 use Rattle.jv_text.specs.Types.{method_type_of}
 use Rattle.jv_text.specs.Name.{is_init}
-use Rattle.jv_frames.specs.Types.{FrameType, value_type, words}
-use Rattle.jv_frames.specs.Frames.{Frame as TypesOf}
+use Rattle.jv_stackmap.specs.Types.{FrameType, value_type, words}
+use Rattle.jv_stackmap.specs.Frames.{Frame as TypesOf}
 use Rattle.jv_code.specs.Places.{StandsInList, NextStarts, OneList}
 use Rattle.jv_meaning_world.specs.World.{World}
 use Rattle.jv_meaning_world.specs.Overriding.{Declared}

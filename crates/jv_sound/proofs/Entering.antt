@@ -8,9 +8,9 @@ use Rattle.std.proofs.lemmas.List.Sums.{sum_by-cons}
 use Rattle.std.proofs.Common.{length-append}
 use Rattle.jv_text.specs.Descriptor.{MethodDescriptor}
 use Rattle.jv_text.specs.Types.{method_type_of}
-use Rattle.jv_frames.specs.declared.verification.VerificationTypeOf.TheVariants as types
-use Rattle.jv_frames.specs.Types.{FrameType, width, words}
-use Rattle.jv_frames.specs.Frames.{type_by_words, expanded}
+use Rattle.jv_stackmap.specs.declared.verification.VerificationTypeOf.TheVariants as types
+use Rattle.jv_stackmap.specs.Types.{FrameType, width, words}
+use Rattle.jv_stackmap.specs.Frames.{type_by_words, expanded}
 use Rattle.jv_code.specs.Insns.{Instruction}
 use Rattle.jv_code.specs.Places.{OneList}
 use Rattle.jv_class.specs.Class.{Method}

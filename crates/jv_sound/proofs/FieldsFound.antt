@@ -3,7 +3,7 @@ use Rattle.std.proofs.Common.{◌≡◌, ℕ, Bool, true, false, List, Some, Ok,
 use Rattle.std.specs.Prelude.{IsTrue}
 use Rattle.std.specs.List.{Contains}
 use Rattle.jv_text.specs.Name.{is_array_name}
-use Rattle.jv_frames.specs.declared.verification.VerificationTypeOf.TheVariants as types
+use Rattle.jv_stackmap.specs.declared.verification.VerificationTypeOf.TheVariants as types
 use Rattle.jv_class.specs.Class.{Field, field_named}
 use Rattle.jv_pool.specs.Constants.{MemberReference}
 use Rattle.jv_meaning_world.specs.World.{Loaded, class_named}

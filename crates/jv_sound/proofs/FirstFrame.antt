@@ -7,9 +7,9 @@ use Rattle.jv_text.specs.declared.descriptor.FieldTypeOf.{FieldTypeOf}
 use Rattle.jv_text.specs.Descriptor.{MethodDescriptor, slots}
 use Rattle.jv_text.specs.Name.{is_init}
 use Rattle.jv_text.specs.Types.{method_type_of}
-use Rattle.jv_frames.specs.declared.verification.VerificationTypeOf.TheVariants as types
-use Rattle.jv_frames.specs.Types.{FrameType, value_type, words}
-use Rattle.jv_frames.specs.Initial.{initial_entries}
+use Rattle.jv_stackmap.specs.declared.verification.VerificationTypeOf.TheVariants as types
+use Rattle.jv_stackmap.specs.Types.{FrameType, value_type, words}
+use Rattle.jv_stackmap.specs.Initial.{initial_entries}
 use Rattle.jv_code.specs.Insns.{Instruction}
 use Rattle.jv_code.specs.Places.{IsCode}
 use Rattle.jv_meaning_world.specs.World.{World}
@@ -127,7 +127,7 @@ module _ (program : Program) (sound : IsSound program) (one_list : Rattle.jv_cod
         omega (
           arith,
           count,
-          sum_by-cons Rattle.jv_frames.specs.Types.width (types.Class env.site.by.class.name)
+          sum_by-cons Rattle.jv_stackmap.specs.Types.width (types.Class env.site.by.class.name)
               (map value_type env.descriptor.parameters),
         ),
       )

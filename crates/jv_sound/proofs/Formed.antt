@@ -16,8 +16,8 @@ use Rattle.jv_text.specs.Text.{IsText}
 use Rattle.jv_text.specs.Name.{is_init, is_array_name}
 use Rattle.jv_text.specs.Descriptor.{MethodDescriptor, is_floating_element, is_floating, is_floating_method}
 use Rattle.jv_text.specs.Types.{field_type_of, method_type_of, TypesAgree}
-use Rattle.jv_frames.specs.declared.verification.VerificationTypeOf.TheVariants as types
-use Rattle.jv_frames.specs.Types.{FrameType, value_type}
+use Rattle.jv_stackmap.specs.declared.verification.VerificationTypeOf.TheVariants as types
+use Rattle.jv_stackmap.specs.Types.{FrameType, value_type}
 use Rattle.jv_class_structure.specs.Flags.{has, acc_static, acc_interface, acc_abstract, acc_native, acc_private, acc_final, acc_synchronized, acc_strict, acc_bridge, field_flags_but_synthetic, visibility_keeps_rules, volatile_keeps_rules, abstract_keeps_rules, interface_field_keeps_rules, init_flags_keep_rules}
 use Rattle.jv_class_structure.specs.Structure.{FieldInfo, MethodInfo, ClassStructure}
 use Rattle.jv_class_structure.specs.Parts.{CodeSeen, method_shown, code_shown}

@@ -7,9 +7,9 @@ use Rattle.std.proofs.lemmas.List.Sums.{sum_by-cons}
 use Rattle.jv_meaning_world.proofs.Up.{first, later as one_later_of}
 use Rattle.jv_text.specs.declared.descriptor.FieldTypeOf.{FieldTypeOf}
 use Rattle.jv_format.specs.declared.handlers.Handler.{Handler}
-use Rattle.jv_frames.specs.declared.verification.VerificationTypeOf.TheVariants as types
-use Rattle.jv_frames.specs.Types.{FrameType, width, words}
-use Rattle.jv_frames.specs.Frames.{Frame as TypesOf}
+use Rattle.jv_stackmap.specs.declared.verification.VerificationTypeOf.TheVariants as types
+use Rattle.jv_stackmap.specs.Types.{FrameType, width, words}
+use Rattle.jv_stackmap.specs.Frames.{Frame as TypesOf}
 use Rattle.jv_code.specs.Insns.{Instruction}
 use Rattle.jv_code.specs.Places.{StandsInList, NextStarts}
 use Rattle.jv_code.specs.Successors.{falls_through}

@@ -5,8 +5,8 @@ use Rattle.std.specs.Int.{w32, int_wrapping_add}
 use Rattle.std.specs.Option.{option_map}
 use Rattle.std.proofs.lemmas.Bool.{le-leb}
 use Rattle.jv_format.specs.Format as rules
-use Rattle.jv_frames.specs.declared.verification.VerificationTypeOf.TheVariants as types
-use Rattle.jv_frames.specs.Types.{FrameType}
+use Rattle.jv_stackmap.specs.declared.verification.VerificationTypeOf.TheVariants as types
+use Rattle.jv_stackmap.specs.Types.{FrameType}
 use Rattle.jv_code.specs.declared.insn.Insn.TheVariants as insns
 use Rattle.jv_code.specs.declared.kinds.IncrementForm.{IncrementForm}
 use Rattle.jv_code.specs.declared.kinds.ValueKind.TheVariants as kinds

@@ -4,7 +4,7 @@ use Rattle.std.specs.Prelude.{IsTrue, if◌then◌else◌}
 use Rattle.std.specs.List.{AllByRecursion, Contains}
 use Rattle.std.specs.Str.{bytes_eq}
 use Rattle.jv_text.specs.declared.descriptor.FieldTypeOf.{FieldTypeOf}
-use Rattle.jv_frames.specs.Types.{value_type}
+use Rattle.jv_stackmap.specs.Types.{value_type}
 use Rattle.jv_code.specs.Places.{StandsInList, NextStarts}
 use Rattle.jv_class.specs.Class.{InitialValue}
 use Rattle.jv_meaning_world.specs.World.{Loaded, class_named}

@@ -3,8 +3,8 @@ use Rattle.std.proofs.Common.{◌≡◌, ℕ, pos, List, [], ◌∷◌, length, 
 use Rattle.std.specs.Prelude.{slice_get}
 use Rattle.std.specs.Option.{option_map}
 use Rattle.jv_text.specs.declared.descriptor.FieldTypeOf.{FieldTypeOf}
-use Rattle.jv_frames.specs.declared.verification.VerificationTypeOf.TheVariants as types
-use Rattle.jv_frames.specs.Types.{FrameType}
+use Rattle.jv_stackmap.specs.declared.verification.VerificationTypeOf.TheVariants as types
+use Rattle.jv_stackmap.specs.Types.{FrameType}
 use Rattle.jv_code.specs.declared.insn.Insn.TheVariants as insns
 use Rattle.jv_meaning_world.specs.Laws.Order.{IsBelow}
 use Rattle.jv_meaning_typing.specs.FrameChanges.{with_stack}

@@ -5,11 +5,11 @@ use Rattle.std.specs.List.{Contains}
 use Rattle.std.proofs.lemmas.Bool.{le-leb, eqb-true}
 use Rattle.std.proofs.lemmas.List.Elements.{Contains-append_cases}
 use Rattle.jv_format.specs.Format.{◌>>=◌}
-use Rattle.jv_frames.specs.declared.item.Item.{Item}
-use Rattle.jv_frames.specs.declared.limits.Limits.{Limits}
-use Rattle.jv_frames.specs.Bytes.{MapForm}
-use Rattle.jv_frames.specs.Types.{FrameType, words}
-use Rattle.jv_frames.specs.Frames.{MapFrame, PlacedFrame, Maps, frame_behind, frame_if, frames_behind, is_within, placed_frame, type_of}
+use Rattle.jv_stackmap.specs.declared.item.Item.{Item}
+use Rattle.jv_stackmap.specs.declared.limits.Limits.{Limits}
+use Rattle.jv_stackmap.specs.Bytes.{MapForm}
+use Rattle.jv_stackmap.specs.Types.{FrameType, words}
+use Rattle.jv_stackmap.specs.Frames.{MapFrame, PlacedFrame, Maps, frame_behind, frame_if, frames_behind, is_within, placed_frame, type_of}
 use Rattle.jv_pool.specs.Constants.{Entry}
 use Rattle.jv_meaning_world.proofs.Up.{none, single, first, later}
 use Rattle.jv_code.specs.Insns.{Instruction, insn_bytes, insn_fits}

@@ -1,9 +1,9 @@
 -- Loads, stores and iinc.
 use Rattle.std.proofs.Common.{◌≡◌, inr, ℕ, zero, suc, Bool, true, false, ◌&&◌, List, [], ◌∷◌, Option, Some, None, Ok, Err, refl, sym, subst}
 use Rattle.std.specs.Prelude.{IsTrue, slice_get}
-use Rattle.jv_frames.specs.declared.verification.VerificationTypeOf.TheVariants as types
-use Rattle.jv_frames.specs.Types.{FrameType}
-use Rattle.jv_frames.specs.Frames.{Frame as TypesOf, type_by_words}
+use Rattle.jv_stackmap.specs.declared.verification.VerificationTypeOf.TheVariants as types
+use Rattle.jv_stackmap.specs.Types.{FrameType}
+use Rattle.jv_stackmap.specs.Frames.{Frame as TypesOf, type_by_words}
 use Rattle.jv_code.specs.declared.insn.Insn.TheVariants as insns
 use Rattle.jv_code.specs.declared.kinds.LocalForm.{LocalForm}
 use Rattle.jv_code.specs.declared.kinds.ValueKind.{ValueKind}

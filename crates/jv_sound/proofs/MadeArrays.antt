@@ -5,8 +5,8 @@ use Rattle.std.specs.List.{AllByRecursion, flat_map, range_with_len}
 use Rattle.std.proofs.Math.Nat.{suc-mul}
 use Rattle.std.proofs.lemmas.List.{length-append}
 use Rattle.jv_text.specs.declared.descriptor.FieldTypeOf.{FieldTypeOf}
-use Rattle.jv_frames.specs.declared.verification.VerificationTypeOf.TheVariants as types
-use Rattle.jv_frames.specs.Types.{FrameType, component, value_type}
+use Rattle.jv_stackmap.specs.declared.verification.VerificationTypeOf.TheVariants as types
+use Rattle.jv_stackmap.specs.Types.{FrameType, component, value_type}
 use Rattle.jv_meaning_world.proofs.Order.{below_is_reflexive}
 use Rattle.jv_meaning_world.specs.Laws.Order.{has_loadable_element}
 use Rattle.jv_meaning_machine.specs.Values.{Value, default_of_type}

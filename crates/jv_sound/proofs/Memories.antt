@@ -7,7 +7,7 @@ use Rattle.jv_text.specs.declared.descriptor.Element.{Element}
 use Rattle.jv_text.specs.declared.descriptor.Element.TheVariants as elements
 use Rattle.jv_text.specs.declared.descriptor.FieldTypeOf.{FieldTypeOf}
 use Rattle.jv_text.specs.Types.{field_type_of}
-use Rattle.jv_frames.specs.Types.{value_type, value_type_by}
+use Rattle.jv_stackmap.specs.Types.{value_type, value_type_by}
 use Rattle.jv_meaning_world.specs.World.{Loaded, World, class_named}
 use Rattle.jv_meaning_world.specs.Verdicts.{passes, is_loadable, is_interface}
 use Rattle.jv_meaning_world.specs.LookUps.{DeclaredField}

@@ -3,8 +3,8 @@ use Rattle.std.proofs.Common.{◌≡◌, ◌⊎◌, inl, inr, ℕ, Bool, true, f
 use Rattle.std.specs.List.{list_any}
 use Rattle.jv_format.specs.Format as rules_format
 use Rattle.jv_text.specs.Name.{is_array_name}
-use Rattle.jv_frames.specs.declared.verification.VerificationTypeOf.TheVariants as types
-use Rattle.jv_frames.specs.Frames.{Frame as TypesOf}
+use Rattle.jv_stackmap.specs.declared.verification.VerificationTypeOf.TheVariants as types
+use Rattle.jv_stackmap.specs.Frames.{Frame as TypesOf}
 use Rattle.jv_code.specs.declared.insn.Insn.TheVariants as insns
 use Rattle.jv_class_structure.specs.Flags.{has, acc_interface, acc_abstract}
 use Rattle.jv_meaning_world.proofs.Up.{named_stands}

@@ -6,7 +6,7 @@ use Rattle.jv_text.specs.declared.descriptor.FieldTypeOf.{FieldTypeOf}
 use Rattle.jv_text.specs.Name.{is_array_name}
 use Rattle.jv_text.specs.Descriptor.{MethodDescriptor, is_floating}
 use Rattle.jv_text.specs.Types.{field_type_of, method_type_of}
-use Rattle.jv_frames.specs.Types.{value_type}
+use Rattle.jv_stackmap.specs.Types.{value_type}
 use Rattle.jv_pool.specs.declared.constant.Constant.TheVariants.{Class as ClassConstant, String, Fieldref, Methodref, InterfaceMethodref, NameAndType}
 use Rattle.jv_pool.specs.Constants.{Entry, NameAndDescriptor, MemberReference, at_index, utf8_at, class_name_at, class_name_in, name_and_type_at, name_and_type_in, member_at, member_of, field_reference_in, method_reference_at, method_reference_in, interface_method_reference_at, interface_method_reference_in}
 use Rattle.jv_class.specs.Class.{Class}

@@ -6,8 +6,8 @@ use Rattle.std.proofs.Common.{◌≡◌, ℕ, Bool, true, false, List, Some, Ok,
 use Rattle.std.specs.Prelude.{IsTrue, slice_get, codes}
 use Rattle.std.specs.List.{Contains}
 use Rattle.jv_format.specs.declared.handlers.Handler.{Handler}
-use Rattle.jv_frames.specs.declared.verification.VerificationTypeOf.TheVariants as types
-use Rattle.jv_frames.specs.Types.{FrameType}
+use Rattle.jv_stackmap.specs.declared.verification.VerificationTypeOf.TheVariants as types
+use Rattle.jv_stackmap.specs.Types.{FrameType}
 use Rattle.jv_code.specs.Places.{StandsInList, NextStarts}
 use Rattle.jv_meaning_world.proofs.Order.{below_is_reflexive}
 use Rattle.jv_meaning_world.proofs.OrderAbove.{array_below_class}

@@ -8,8 +8,8 @@ use Rattle.jv_text.specs.declared.descriptor.Element.TheVariants as elements
 use Rattle.jv_text.specs.declared.descriptor.FieldTypeOf.{FieldTypeOf}
 use Rattle.jv_text.specs.Name.{is_array_name, is_class_name}
 use Rattle.jv_text.specs.Types.{brackets, with_dimensions, type_at, type_alone, field_type_of}
-use Rattle.jv_frames.specs.declared.verification.VerificationTypeOf.TheVariants as types
-use Rattle.jv_frames.specs.Types.{FrameType, array_of, component, reference_type, value_type, value_type_by}
+use Rattle.jv_stackmap.specs.declared.verification.VerificationTypeOf.TheVariants as types
+use Rattle.jv_stackmap.specs.Types.{FrameType, array_of, component, reference_type, value_type, value_type_by}
 use Rattle.jv_meaning_world.specs.World.{Loaded, World, class_named}
 use Rattle.jv_meaning_world.specs.Laws.Above.{SystemStandsAlone}
 use Rattle.jv_meaning_world.specs.Verdicts.{passes, is_loadable}

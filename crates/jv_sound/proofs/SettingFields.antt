@@ -3,7 +3,7 @@ use Rattle.std.proofs.Common.{◌≡◌, ℕ, List, length, Option, Some, None, 
 use Rattle.std.specs.Prelude.{codes}
 use Rattle.jv_text.specs.declared.descriptor.FieldTypeOf.{FieldTypeOf}
 use Rattle.jv_text.specs.Types.{field_type_of}
-use Rattle.jv_frames.specs.Types.{value_type}
+use Rattle.jv_stackmap.specs.Types.{value_type}
 use Rattle.jv_code.specs.Places.{StandsInList, NextStarts}
 use Rattle.jv_class.specs.Class.{InitialValue}
 use Rattle.jv_meaning_world.specs.World.{Loaded, class_named}

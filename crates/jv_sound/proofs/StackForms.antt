@@ -3,9 +3,9 @@ use Rattle.std.proofs.Common.{◌≡◌, ◌⊎◌, inl, inr, ℕ, zero, suc, �
 use Rattle.std.specs.Option.{option_map}
 use Rattle.std.proofs.lemmas.Bool.{le-leb}
 use Rattle.jv_format.specs.Format as rules
-use Rattle.jv_frames.specs.declared.verification.VerificationTypeOf.TheVariants as types
-use Rattle.jv_frames.specs.declared.width.Width.{Width}
-use Rattle.jv_frames.specs.Types.{FrameType}
+use Rattle.jv_stackmap.specs.declared.verification.VerificationTypeOf.TheVariants as types
+use Rattle.jv_stackmap.specs.declared.width.Width.{Width}
+use Rattle.jv_stackmap.specs.Types.{FrameType}
 use Rattle.jv_code.specs.declared.insn.Insn.TheVariants as insns
 use Rattle.jv_code.specs.declared.kinds.StackForm.{StackForm}
 use Rattle.jv_code.specs.declared.kinds.StackForm.TheVariants as forms

@@ -6,7 +6,7 @@ use Rattle.std.specs.Option.{option_and_then}
 use Rattle.jv_text.specs.Name.{is_init}
 use Rattle.jv_text.specs.Types.{field_type_of, method_type_of}
 use Rattle.jv_code.specs.Places.{StandsInList, NextStarts}
-use Rattle.jv_frames.specs.declared.verification.VerificationTypeOf.TheVariants as types
+use Rattle.jv_stackmap.specs.declared.verification.VerificationTypeOf.TheVariants as types
 use Rattle.jv_meaning_world.specs.System.Io.{io}
 use Rattle.jv_class.specs.Class.{Field, method_named}
 use Rattle.jv_class.specs.Rules.{is_clinit}

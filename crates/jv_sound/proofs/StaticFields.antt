@@ -5,7 +5,7 @@ use Rattle.std.specs.List.{Contains, list_any, flat_map, filter}
 use Rattle.std.specs.Str.{bytes_eq}
 use Rattle.jv_text.specs.declared.descriptor.FieldTypeOf.{FieldTypeOf}
 use Rattle.jv_text.specs.Types.{field_type_of}
-use Rattle.jv_frames.specs.Types.{value_type}
+use Rattle.jv_stackmap.specs.Types.{value_type}
 use Rattle.jv_code.specs.declared.insn.Insn.TheVariants as insns
 use Rattle.jv_code.specs.declared.kinds.FieldAccess.TheVariants as access
 use Rattle.jv_class.specs.Class.{Field, field_named}

@@ -1,7 +1,7 @@
 -- One step, and all steps.
 use Rattle.std.proofs.Common.{◌≡◌, ℕ, zero, suc, Bool, true, false, List, [], ◌∷◌, length, Option, Some, None, Ok, Err, refl, sym, ap, subst, ◌∙◌}
 use Rattle.std.specs.Prelude.{IsOk, is_some, nat_le}
-use Rattle.jv_frames.specs.Frames.{Frame as TypesOf}
+use Rattle.jv_stackmap.specs.Frames.{Frame as TypesOf}
 use Rattle.jv_code.specs.Insns.{Instruction}
 use Rattle.jv_meaning_typing.specs.Environment.{instruction_at}
 use Rattle.jv_meaning_typing.specs.Named.{when}
@@ -62,7 +62,7 @@ pub effect_of : (program : Program) (heap : Heap) (depth : ℕ) (frame : MethodF
     → effect frame.method frame.offset r.insn (r.checked.frames frame.offset) ≡ Some g
 effect_of program heap depth frame r g e =
     let x = chained (effect frame.method frame.offset r.insn (r.checked.frames frame.offset)) (within_stack frame.method) g e in
-    x.1 ∙ ap (λ (y : TypesOf). Some y) (when_same (nat_le (Rattle.jv_frames.specs.Types.words x.0.stack)
+    x.1 ∙ ap (λ (y : TypesOf). Some y) (when_same (nat_le (Rattle.jv_stackmap.specs.Types.words x.0.stack)
     frame.method.code.max_stack) x.0 g x.2)
 
 main_of_all : (program : Program) (main : List ℕ) (f : Frame) (below : List Frame) → HasMain program main (f ∷ below) → (fs : List Frame)

@@ -10,7 +10,7 @@ use Rattle.jv_text.specs.declared.descriptor.Element.TheVariants as elements
 use Rattle.jv_meaning_machine.specs.Values.Value.{Int}
 use Rattle.jv_text.specs.declared.descriptor.FieldTypeOf.{FieldTypeOf}
 use Rattle.jv_text.specs.Types.{field_type_of}
-use Rattle.jv_frames.specs.Types.{value_type, value_type_by}
+use Rattle.jv_stackmap.specs.Types.{value_type, value_type_by}
 use Rattle.jv_meaning_world.specs.World.{World}
 use Rattle.jv_meaning_world.proofs.Up.{same_name}
 use Rattle.jv_meaning_typing.specs.Named.{array_with, class_components, class_type, string_type}

@@ -9,9 +9,9 @@ use Rattle.jv_text.specs.declared.descriptor.FieldTypeOf.{FieldTypeOf}
 use Rattle.jv_text.specs.Descriptor.{MethodDescriptor}
 use Rattle.jv_text.specs.Name.{is_array_name, is_init}
 use Rattle.jv_text.specs.Types.{field_type_of, method_type_of}
-use Rattle.jv_frames.specs.declared.verification.VerificationTypeOf.TheVariants as types
-use Rattle.jv_frames.specs.Types.{FrameType, reference_type, value_type}
-use Rattle.jv_frames.specs.Frames.{Frame as TypesOf}
+use Rattle.jv_stackmap.specs.declared.verification.VerificationTypeOf.TheVariants as types
+use Rattle.jv_stackmap.specs.Types.{FrameType, reference_type, value_type}
+use Rattle.jv_stackmap.specs.Frames.{Frame as TypesOf}
 use Rattle.jv_code.specs.declared.insn.Insn.TheVariants as insns
 use Rattle.jv_code.specs.declared.kinds.Invocation.TheVariants as invocations
 use Rattle.jv_code.specs.Insns.{Instruction}
@@ -56,14 +56,14 @@ pub class_owner : (world : _) (x text : List ℕ) (owner : FrameType) → refere
     → flows world (types.Class x) owner ≡ true → (is_array_name text ≡ false) × (owner ≡ types.Class text)
 class_owner world x text owner type flow = by_array (is_array_name text) refl
   where
-    array_owner : (o : Option (FieldTypeOf (List ℕ))) → rules_format.◌>>=◌ o Rattle.jv_frames.specs.Types.array_of ≡ Some
+    array_owner : (o : Option (FieldTypeOf (List ℕ))) → rules_format.◌>>=◌ o Rattle.jv_stackmap.specs.Types.array_of ≡ Some
         owner → ⊥
     array_owner None e = absurd cc
     array_owner (Some t) e = clash (ap (flows world (types.Class x))
-        (same_option (types.Array (Rattle.jv_frames.specs.Types.component t)) owner e) ∙ flow)
+        (same_option (types.Array (Rattle.jv_stackmap.specs.Types.component t)) owner e) ∙ flow)
 
     of_array : (b c : Bool) → b ≡ true → (if b then rules_format.◌>>=◌
-        (field_type_of text) Rattle.jv_frames.specs.Types.array_of else if c then Some
+        (field_type_of text) Rattle.jv_stackmap.specs.Types.array_of else if c then Some
         (types.Class text) else None) ≡ Some owner → ⊥
     of_array true c b e = array_owner (field_type_of text) e
     of_array false c b e = clash b

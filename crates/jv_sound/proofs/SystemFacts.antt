@@ -5,7 +5,7 @@ use Rattle.std.specs.List.{Contains, list_all, list_any}
 use Rattle.std.specs.Str.{bytes_eq}
 use Rattle.std.proofs.lemmas.Bool.{and_from, or_left}
 use Rattle.std.proofs.lemmas.List.Elements.{Contains-append_cases}
-use Rattle.jv_frames.specs.declared.verification.VerificationTypeOf.TheVariants as types
+use Rattle.jv_stackmap.specs.declared.verification.VerificationTypeOf.TheVariants as types
 use Rattle.jv_meaning_world.specs.System.Classes.{system_classes}
 use Rattle.jv_class.specs.Class.{Class, Field, field_named}
 use Rattle.jv_meaning_world.specs.World.{Loaded, World, loaded, class_named}

@@ -1,9 +1,9 @@
 -- Values of types: which kinds they have, and of which other types they are.
 use Rattle.std.proofs.lemmas.Bool.{eqb-true}
 use Rattle.std.proofs.Common.{◌≡◌, ℕ, true, ◌==◌, List, Some, Ok, refl, ap, subst, ◌∙◌}
-use Rattle.jv_frames.specs.declared.verification.VerificationTypeOf.TheVariants as types
-use Rattle.jv_frames.specs.declared.width.Width.TheVariants.{One, Two}
-use Rattle.jv_frames.specs.Types.{FrameType}
+use Rattle.jv_stackmap.specs.declared.verification.VerificationTypeOf.TheVariants as types
+use Rattle.jv_stackmap.specs.declared.width.Width.TheVariants.{One, Two}
+use Rattle.jv_stackmap.specs.Types.{FrameType}
 use Rattle.jv_code.specs.declared.kinds.ValueKind.{ValueKind}
 use Rattle.jv_code.specs.declared.kinds.ValueKind.TheVariants as kinds
 use Rattle.jv_meaning_world.specs.World.{World}

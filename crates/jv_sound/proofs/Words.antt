@@ -8,7 +8,7 @@ use Rattle.jv_text.specs.declared.descriptor.Element.{Element}
 use Rattle.jv_text.specs.declared.descriptor.Element.TheVariants as elements
 use Rattle.jv_text.specs.declared.descriptor.FieldTypeOf.{FieldTypeOf}
 use Rattle.jv_text.specs.Descriptor.{MethodDescriptor, slots, field_slots, is_floating_element, is_floating, is_floating_result, is_floating_method}
-use Rattle.jv_frames.specs.Types.{value_type, value_type_by, width, words}
+use Rattle.jv_stackmap.specs.Types.{value_type, value_type_by, width, words}
 use Rattle.jv_sound.specs.Sound.{IsSort, AreSorts, IsResultSort}
 use Rattle.jv_sound.proofs.Logic.{clash}
 

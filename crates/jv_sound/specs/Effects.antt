@@ -4,9 +4,9 @@ use Rattle.std.specs.List.{Contains}
 use Rattle.jv_text.specs.Descriptor.{MethodDescriptor}
 use Rattle.jv_text.specs.Name.{is_init}
 use Rattle.jv_text.specs.Types.{method_type_of}
-use Rattle.jv_frames.specs.declared.verification.VerificationTypeOf.TheVariants as types
-use Rattle.jv_frames.specs.Types.{value_type}
-use Rattle.jv_frames.specs.Frames.{Frame as TypesOf}
+use Rattle.jv_stackmap.specs.declared.verification.VerificationTypeOf.TheVariants as types
+use Rattle.jv_stackmap.specs.Types.{value_type}
+use Rattle.jv_stackmap.specs.Frames.{Frame as TypesOf}
 use Rattle.jv_code.specs.Insns.{Instruction}
 use Rattle.jv_code.specs.Successors.{falls_through}
 use Rattle.jv_sound.specs.Following.{IsSuccessor}

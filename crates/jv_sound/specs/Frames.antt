@@ -9,8 +9,8 @@ use Rattle.jv_text.specs.Descriptor.{MethodDescriptor}
 use Rattle.jv_text.specs.Types.{field_type_of, method_type_of}
 use Rattle.jv_meaning_typing.specs.Kind.{is_static_method}
 use Rattle.jv_meaning_machine.specs.Literals.{string_name}
-use Rattle.jv_frames.specs.Types.{FrameType, value_type}
-use Rattle.jv_frames.specs.Frames.{Frame as TypesOf}
+use Rattle.jv_stackmap.specs.Types.{FrameType, value_type}
+use Rattle.jv_stackmap.specs.Frames.{Frame as TypesOf}
 use Rattle.jv_code.specs.Insns.{Instruction}
 use Rattle.jv_class.specs.Class.{InitialValue}
 use Rattle.jv_class.specs.Class.InitialValue.{IntValue, LongValue, StringValue}
@@ -19,7 +19,7 @@ use Rattle.jv_meaning_world.specs.Overriding.{Declared}
 use Rattle.jv_meaning_typing.specs.Environment.{Environment, instruction_at}
 use Rattle.jv_meaning_typing.specs.Named.{current_type, string_type}
 use Rattle.jv_meaning_typing.specs.Rule.{handler_frame}
-use Rattle.jv_frames.specs.declared.verification.VerificationTypeOf.TheVariants as types
+use Rattle.jv_stackmap.specs.declared.verification.VerificationTypeOf.TheVariants as types
 use Rattle.jv_meaning_machine.specs.Faults.{OrFault}
 use Rattle.jv_meaning_machine.specs.Values.{Value}
 use Rattle.jv_meaning_machine.specs.Objects.{Object}

@@ -3,8 +3,8 @@
 use Rattle.std.specs.Prelude.{◌≡◌, ⊤, ℕ, List, ◌++◌, map, Option, Some, None, IsSome, IsTrue, false, true}
 use Rattle.std.specs.List.{Contains, AllByRecursion}
 use Rattle.jv_text.specs.declared.descriptor.FieldTypeOf.{FieldTypeOf}
-use Rattle.jv_frames.specs.declared.verification.VerificationTypeOf.TheVariants as types
-use Rattle.jv_frames.specs.Types.{FrameType, value_type}
+use Rattle.jv_stackmap.specs.declared.verification.VerificationTypeOf.TheVariants as types
+use Rattle.jv_stackmap.specs.Types.{FrameType, value_type}
 use Rattle.jv_meaning_world.specs.System.Classes.{system_classes}
 use Rattle.jv_class.specs.Class.{Class, method_named}
 use Rattle.jv_meaning_world.specs.World.{Loaded, World, class_named, loaded}
@@ -16,7 +16,7 @@ use Rattle.jv_meaning_typing.specs.Environment.{Environment, IsEnvironment}
 use Rattle.jv_meaning_typing.specs.Judgement.{AreTyped, IsVerdictOfClass}
 use Rattle.jv_meaning_typing.specs.declared.verdict.Verdict.TheVariants.{Accepted}
 use Rattle.jv_meaning_typing.specs.Typing.{Assignment, IsTyping}
-use Rattle.jv_frames.specs.Frames.{PlacedFrame}
+use Rattle.jv_stackmap.specs.Frames.{PlacedFrame}
 use Rattle.jv_meaning_machine.specs.State.{Program, is_class_accepted}
 use Rattle.jv_meaning_machine.specs.Initialization.{is_verified}
 use Rattle.jv_meaning_machine.specs.Alone.{FindsInstructions}

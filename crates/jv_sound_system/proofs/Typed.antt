@@ -12,9 +12,9 @@ use Rattle.jv_text.specs.Descriptor.{MethodDescriptor}
 use Rattle.jv_text.specs.Types.{method_type_of}
 use Rattle.jv_class_structure.specs.Parts.{CodeSeen}
 use Rattle.jv_class.specs.Class.{Method}
-use Rattle.jv_frames.specs.Bytes.{MapForm, form_fits, stack_map_bytes}
-use Rattle.jv_frames.specs.Frames.{PlacedFrame, MapFrame, Maps, type_of, is_within, frames_behind, placed_frame}
-use Rattle.jv_frames.specs.Types.{FrameType}
+use Rattle.jv_stackmap.specs.Bytes.{MapForm, form_fits, stack_map_bytes}
+use Rattle.jv_stackmap.specs.Frames.{PlacedFrame, MapFrame, Maps, type_of, is_within, frames_behind, placed_frame}
+use Rattle.jv_stackmap.specs.Types.{FrameType}
 use Rattle.jv_code.specs.Handlers.{HandlersFit, HandlerFits}
 use Rattle.jv_code.specs.Insns.{Instruction, insn_bytes}
 use Rattle.jv_code.specs.Places.{all_fit, IsCode}

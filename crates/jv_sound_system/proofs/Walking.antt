@@ -2,7 +2,7 @@
 use Rattle.std.proofs.Common.{◌≡◌, ℕ, ◌<◌, ◌≤◌, Bool, true, false, List, [], ◌∷◌, Option, Some, None, refl, sym, ap, subst, ◌∙◌, inl, inr, arith}
 use Rattle.std.specs.Prelude.{◌==◌, ◌&&◌, IsTrue, if◌then◌else◌}
 use Rattle.std.proofs.lemmas.Bool.{and_parts}
-use Rattle.jv_frames.specs.Frames.{Frame, PlacedFrame}
+use Rattle.jv_stackmap.specs.Frames.{Frame, PlacedFrame}
 use Rattle.jv_code.specs.Insns.{Instruction}
 use Rattle.jv_code.proofs.Sizes.{some_bytes}
 use Rattle.jv_meaning_world.specs.FrameFlow.{frame_flows}

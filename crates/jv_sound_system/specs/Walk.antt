@@ -7,8 +7,8 @@ use Rattle.jv_text.specs.Descriptor.{MethodDescriptor}
 use Rattle.jv_text.specs.Types.{method_type_of}
 use Rattle.jv_class_structure.specs.Parts.{CodeSeen}
 use Rattle.jv_class.specs.Class.{Method}
-use Rattle.jv_frames.specs.Bytes.{MapForm, form_fits, stack_map_bytes}
-use Rattle.jv_frames.specs.Frames.{Frame, PlacedFrame, type_of, is_within, frames_behind, placed_frame}
+use Rattle.jv_stackmap.specs.Bytes.{MapForm, form_fits, stack_map_bytes}
+use Rattle.jv_stackmap.specs.Frames.{Frame, PlacedFrame, type_of, is_within, frames_behind, placed_frame}
 use Rattle.std.specs.Prelude.{reverse}
 use Rattle.std.specs.List.{flat_map}
 use Rattle.jv_code.specs.Insns.{Instruction, insn_bytes}

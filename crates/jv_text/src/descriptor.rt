@@ -89,15 +89,15 @@ pub enum DescFault {
     BadDescriptor,
     /// No memory was left for the parameters.
     #[error("out of memory")]
-    Memory,
+    OutOfMemory,
 }
 
 impl<T: Drop> From<AllocFailed<T>> for DescFault {
-    ghost use Rattle.jv_text.specs.declared.descriptor.DescFault.TheVariants.{Memory};
+    ghost use Rattle.jv_text.specs.declared.descriptor.DescFault.TheVariants.{OutOfMemory};
 
-    ghost from_gives = { λ _ e. e ≡ Memory };
+    ghost from_gives = { λ _ e. e ≡ OutOfMemory };
 
     fn from(_e: AllocFailed<T>) -> DescFault {
-        DescFault::Memory
+        DescFault::OutOfMemory
     }
 }

@@ -130,7 +130,7 @@ pub fn method_shape(text: &[u8]) -> Result<MethodShape<'_>, BadDescriptor>
 /// The parameters and the result that a method descriptor describes.
 ///
 /// The parameters fill at most 255 slots; a receiver is not counted here, and who knows of one
-/// counts it. `Memory` comes where a growth was refused, and then at once.
+/// counts it. `OutOfMemory` comes where a growth was refused, and then at once.
 pub fn method_type(alloc: Global, text: &[u8]) -> Result<MethodType<'_>, DescFault>
     ensures ok { IfOk result (λ m. IsMethod text.now (seen_method_type m)) }
     ensures bad { result ≡ Err DescFault.BadDescriptor → (m : MethodDescriptor)

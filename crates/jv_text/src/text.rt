@@ -2,7 +2,7 @@
 
 ghost use Rattle.std.specs.Prelude.{◌≡◌, ◌≢◌, ◌<◌, ◌≤◌, ◌+◌, ◌^◌, ◌++◌, ◌∷◌, [], ◌↔◌, ℕ, List, IfSome, IfNone, IfOk, IsTrue, Err};
 ghost use Rattle.jv_text.specs.Text.{unit_bytes, Spells, IsText};
-ghost use Rattle.jv_text.specs.declared.text.TextFault.TheVariants.{Memory, BadText};
+ghost use Rattle.jv_text.specs.declared.text.TextFault.TheVariants.{OutOfMemory, BadText};
 
 use std::alloc::{AllocFailed, Global};
 use thiserror::Error;
@@ -15,14 +15,14 @@ pub enum TextFault {
     BadText,
     /// No memory was left for the units.
     #[error("out of memory")]
-    Memory,
+    OutOfMemory,
 }
 
 impl<T: Drop> From<AllocFailed<T>> for TextFault {
-    ghost from_gives = { λ _ e. e ≡ Memory };
+    ghost from_gives = { λ _ e. e ≡ OutOfMemory };
 
     fn from(_e: AllocFailed<T>) -> TextFault {
-        TextFault::Memory
+        TextFault::OutOfMemory
     }
 }
 
@@ -104,7 +104,7 @@ fn unit_at(bytes: &[u8]) -> Option<(u16, &[u8])>
 /// The UTF-16 units that the bytes spell.
 ///
 /// `BadText` where they spell none, also where a unit is not in its shortest form; a lone surrogate
-/// is a unit like others. `Memory` comes where a growth was refused, and then at once.
+/// is a unit like others. `OutOfMemory` comes where a growth was refused, and then at once.
 pub fn decode(alloc: Global, bytes: &[u8]) -> Result<Vec<u16>, TextFault>
     ensures ok { IfOk result (λ units. Spells units.items bytes.now) }
     ensures bad { result ≡ Err BadText → IsText bytes.now → ⊥ }

@@ -1,8 +1,9 @@
 //! Checks class files, or runs those of folders as the guests of one host, and reports what was found.
 #![tactic(auto)]
 
-use jv_status::of_run::{Failure, SystemFolders, hashing_state};
-use jv_status::{ProgressLine, Stop, command_watched, not_text, tell};
+use jv_program::{ProgressLine, Stop, command_watched, tell};
+use jv_program_base::{Failure, SystemFolders, hashing_state};
+use jv_program_words::not_text;
 use std::env;
 use std::hash::RandomState;
 use std::io::ErrorKind;
@@ -14,7 +15,9 @@ use std::rt::Env;
 fn words<R: Env + AllocGlobal>(rt: &R) -> Result<Vec<String>, Stop> {
     match env::args(rt) {
         Ok(words) => Ok(words.collect(rt.alloc())?),
-        Err(error) if error.kind() == ErrorKind::OutOfMemory => Err(Stop::Run(Failure::Memory)),
+        Err(error) if error.kind() == ErrorKind::OutOfMemory => Err(Stop::Run(
+            Failure::OutOfMemory,
+        )),
         Err(_) => Err(Stop::CommandLine(not_text(rt.alloc())?)),
     }
 }

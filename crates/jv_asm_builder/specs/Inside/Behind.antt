@@ -1,7 +1,7 @@
 -- Bytes with more behind them: where a loop stands that writes steps or frames.
 use Rattle.std.specs.Prelude.{ℕ, ℤ, List, ◌++◌, Option, length, Ok}
 use Rattle.std.specs.List.{flat_map}
-use Rattle.jv_frames.specs.Bytes.{form_bytes}
+use Rattle.jv_stackmap.specs.Bytes.{form_bytes}
 use Rattle.jv_asm.specs.Items.{code_of_item, code_of_items}
 use Rattle.jv_asm_builder.specs.declared.step.Label.{Label}
 use Rattle.jv_asm_builder.specs.Faults.{Expected, ◌>>=◌}

@@ -6,8 +6,8 @@ use Rattle.jv_asm_builder.specs.declared.step.BuilderStep.TheVariants as built
 use Rattle.jv_asm_builder.specs.declared.frame.BuiltFrame.{BuiltFrame}
 use Rattle.jv_asm_builder.specs.declared.code_builder.BuiltParts.{BuiltParts}
 use Rattle.jv_asm_builder.specs.Assembly.{Step, Unlabelled, Branch, TableSwitch, LookupSwitch, StackFrame, AssembledCode, stack_map_type}
-use Rattle.jv_frames.specs.Bytes.{form_bytes}
-use Rattle.jv_frames.specs.declared.form.Form.TheVariants.{Full}
+use Rattle.jv_stackmap.specs.Bytes.{form_bytes}
+use Rattle.jv_stackmap.specs.declared.form.Form.TheVariants.{Full}
 
 abbrev pub step_kept : BuilderStep → Step
 step_kept (built.Unlabelled i) = Unlabelled i

@@ -1,8 +1,8 @@
 -- What the functions that read and test a class say of its parts.
 use Rattle.std.specs.Prelude.{◌≡◌, ◌≢◌, ℕ, ◌+◌, ◌*◌, ◌<◌, List, Some, Result, Ok, Err, ◌==◌}
-use Rattle.jv_class_structure.specs.of_format.Format.{Format, half, quad}
-use Rattle.jv_class_structure.specs.of_format.Readers.{both, such_that}
-use Rattle.jv_class_structure.specs.of_pool.Constants.{Entry, at_index, utf8_at}
+use Rattle.jv_format.specs.Format.{Format, half, quad}
+use Rattle.jv_format.specs.Readers.{both, such_that}
+use Rattle.jv_pool.specs.Constants.{Entry, at_index, utf8_at}
 use Rattle.jv_class_structure.specs.Structure.{ClassStructure}
 use Rattle.jv_class_structure.specs.Parts.{IsBehindVersion, MethodSeen}
 use Rattle.jv_class_structure.specs.Seen.{seen_field}
@@ -10,7 +10,7 @@ use Rattle.jv_class_structure.specs.declared.member.Field.{Field}
 use Rattle.jv_class.specs.Rules.{KeepsClassRules}
 use Rattle.jv_class.specs.Supported.{IsSupportedConstant}
 use Rattle.jv_class.specs.declared.fault.ClassFault.{ClassFault}
-use Rattle.jv_class.specs.declared.fault.ClassFault.TheVariants.{Memory}
+use Rattle.jv_class.specs.declared.fault.ClassFault.TheVariants.{OutOfMemory}
 
 abbrev pub Three : Type 0
 Three = ℕ × (ℕ × ℕ)
@@ -56,4 +56,4 @@ IsMethodKey pool m key = IsKeyOf pool m.name_index m.descriptor_index key
 -- a refusal is for want of memory
 abbrev pub FailsForMemory : {A : Type 0} → Result A ClassFault → Type 0
 FailsForMemory (Ok x) = Unit {0}
-FailsForMemory (Err e) = e ≡ Memory
+FailsForMemory (Err e) = e ≡ OutOfMemory

@@ -2,7 +2,7 @@
 use Rattle.std.specs.Prelude.{ℕ, List, map, Option, is_some}
 use Rattle.std.specs.List.{All}
 use Rattle.std.specs.Option.{IsSomeAnd}
-use Rattle.jv_class_structure.specs.of_pool.Constants.{Entry, NameAndDescriptor, named_at}
+use Rattle.jv_pool.specs.Constants.{Entry, NameAndDescriptor, named_at}
 use Rattle.jv_class_structure.specs.Structure.{ClassStructure}
 use Rattle.jv_class_structure.specs.Parts.{FieldSeen, MethodSeen, fields_of, methods_of}
 use Rattle.jv_class.specs.Rules.{KeepsRulesAsField, KeepsRulesAsMethod, NoTwoAlike}

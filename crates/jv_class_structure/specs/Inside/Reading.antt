@@ -4,13 +4,13 @@ use Rattle.std.specs.Prelude.{◌≡◌, ℕ, zero, suc, Bool, true, false, ◌&
 use Rattle.std.specs.Option.{option_map}
 use Rattle.std.proofs.Common.{inl, inr}
 use Rattle.std.specs.List.{flat_map}
-use Rattle.jv_pool.specs.of_format.Format.{Format, ◌>>=◌, half}
-use Rattle.jv_pool.specs.of_format.Readers.{both, list_of, found_as, after, such_that, paired, contents, whole, enclosed, case_of}
-use Rattle.jv_pool.specs.of_format.declared.handlers.Handler.{Handler}
-use Rattle.jv_pool.specs.of_format.Handlers.{handler_bytes, handler_fits, handler}
+use Rattle.jv_format.specs.Format.{Format, ◌>>=◌, half}
+use Rattle.jv_format.specs.Readers.{both, list_of, found_as, after, such_that, paired, contents, whole, enclosed, case_of}
+use Rattle.jv_format.specs.declared.handlers.Handler.{Handler}
+use Rattle.jv_format.specs.Handlers.{handler_bytes, handler_fits, handler}
 use Rattle.jv_pool.specs.Constants.{Entry, utf8_at}
 use Rattle.jv_class_structure.specs.declared.fault.PartsFault.{PartsFault}
-use Rattle.jv_class_structure.specs.declared.fault.PartsFault.TheVariants.{Format as BadFormat, Memory}
+use Rattle.jv_class_structure.specs.declared.fault.PartsFault.TheVariants.{Format as BadFormat, OutOfMemory}
 use Rattle.jv_class_structure.specs.Structure.{AttributeInfo, CodeAttribute, MethodAttribute, FieldInfo, MethodInfo, ClassStructure, table_bytes, attribute_bytes, code_bytes, method_attribute_bytes, field_bytes, method_bytes, table_fits, attribute_fits, code_fits, method_attribute_fits, field_fits, method_fits}
 use Rattle.jv_class_structure.specs.Structure.MethodAttribute.{Code, Other}
 use Rattle.jv_class_structure.specs.Flags.{has, acc_static}
@@ -333,7 +333,7 @@ AreBody pool bytes seen = ((class_body pool).read bytes >>= found_as (body_shown
 -- a fault where this is read
 abbrev pub Fails : {A : Type 0} → PartsFault → Option A → Type 0
 Fails BadFormat read = read ≡ None
-Fails Memory read = Unit {0}
+Fails OutOfMemory read = Unit {0}
 
 -- What a function gave, seen by view, is what the format reads, unless memory ran out.
 abbrev pub Gives : {A X : Type 0} → Format A → List ℕ → (X → A × List ℕ) → Result X PartsFault → Type 0
@@ -343,7 +343,7 @@ Gives f bytes view (Err e) = Fails e (f.read bytes)
 -- a fault where this is read by the whole
 abbrev pub FailsWhole : {A : Type 0} → PartsFault → Option (A × List ℕ) → Type 0
 FailsWhole BadFormat read = (read >>= whole []) ≡ None
-FailsWhole Memory read = Unit {0}
+FailsWhole OutOfMemory read = Unit {0}
 
 -- What a function gave, seen by view, is what the format reads where nothing follows it, unless memory ran out.
 abbrev pub GivesWhole : {A X : Type 0} → Format A → List ℕ → (X → A) → Result X PartsFault → Type 0

@@ -1,10 +1,10 @@
 -- What is read of a file, by the texts that its indices name.
 use Rattle.std.specs.Prelude.{◌≡◌, ℕ, List, [], ◌∷◌, ◌++◌, Option, None, Some, get_or, slice_get}
 use Rattle.std.specs.Option.{option_map, IsSomeAnd}
-use Rattle.jv_meaning_world.specs.of_pool.declared.index.ClassIndex.{ClassIndex}
-use Rattle.jv_meaning_world.specs.of_pool.Constants.{Entry, NameAndDescriptor, named_at, class_name_at, utf8_at}
-use Rattle.jv_meaning_world.specs.of_class_structure.declared.member.Field.{Field}
-use Rattle.jv_meaning_world.specs.of_class_structure.Parts.{MethodSeen}
+use Rattle.jv_pool.specs.declared.index.ClassIndex.{ClassIndex}
+use Rattle.jv_pool.specs.Constants.{Entry, NameAndDescriptor, named_at, class_name_at, utf8_at}
+use Rattle.jv_class_structure.specs.declared.member.Field.{Field}
+use Rattle.jv_class_structure.specs.Parts.{MethodSeen}
 use Rattle.jv_classes.specs.Inside.Seen.{MemberSeen, member_made}
 
 abbrev pub member_with : ℕ → NameAndDescriptor → MemberSeen

@@ -1,8 +1,8 @@
 -- What is kept of a class beside its file.
 use Rattle.std.specs.Prelude.{◌≡◌, Bool, true, map, Option, Some, None, unwrap_or}
 use Rattle.std.specs.Option.{option_copied}
-use Rattle.jv_meaning_world.specs.of_class_structure.Structure.{ClassStructure}
-use Rattle.jv_meaning_world.specs.of_class.Class.{Class, class_of}
+use Rattle.jv_class_structure.specs.Structure.{ClassStructure}
+use Rattle.jv_class.specs.Class.{Class, class_of}
 use Rattle.jv_meaning_world.specs.System.Io.{io}
 use Rattle.jv_meaning_world.specs.World.{package_of}
 use Rattle.jv_classes.specs.declared.kept.Kept.{Kept}

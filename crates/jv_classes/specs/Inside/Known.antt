@@ -1,8 +1,8 @@
 -- The numbers of the classes that the texts of a constant pool name, as far as they were looked up.
 use Rattle.std.specs.Prelude.{◌≡◌, ⊤, ℕ, List, get_or, Option, Some, None}
 use Rattle.jv_format.specs.Format.{◌>>=◌}
-use Rattle.jv_meaning_world.specs.of_pool.Constants.{Entry, utf8_at, class_name_at}
-use Rattle.jv_meaning_world.specs.of_pool.declared.index.ClassIndex.{ClassIndex}
+use Rattle.jv_pool.specs.Constants.{Entry, utf8_at, class_name_at}
+use Rattle.jv_pool.specs.declared.index.ClassIndex.{ClassIndex}
 use Rattle.jv_meaning_world.specs.World.{World}
 use Rattle.jv_meaning_world.specs.Numbers.{number_named}
 

@@ -2,7 +2,7 @@
 use Rattle.std.specs.Prelude.{◌≡◌, ◌<◌, ◌++◌, ℕ, Bool, ◌&&◌, List, [], ◌∷◌, get_or, map}
 use Rattle.std.specs.Str.{bytes_eq}
 use Rattle.jv_classes.specs.Texts.{text_hash, Key, key_of}
-use Rattle.jv_meaning_world.specs.of_class.Class.{Field, Method}
+use Rattle.jv_class.specs.Class.{Field, Method}
 use Rattle.jv_classes.specs.declared.member.Member.{Member}
 use Rattle.jv_classes.specs.declared.members.KeptMember.{KeptMember}
 use Rattle.jv_classes.specs.declared.members.KeptText.{KeptText}

@@ -1,8 +1,8 @@
 -- What the code keeps of the guests that were admitted, over one store.
 use Rattle.std.specs.Prelude.{◌≡◌, ℕ, ◌+◌, ◌≤◌, List, [], ◌∷◌, ◌++◌, length, map, Some, slice_get}
 use Rattle.jv_meaning_machine.specs.Alone.{Feed}
-use Rattle.jv_interp_memory.specs.ObjectsInBlocks.{Blocks}
-use Rattle.jv_interp_memory.specs.Growing.{Grows}
+use Rattle.jv_interp_heap.specs.ObjectsInBlocks.{Blocks}
+use Rattle.jv_interp_held.specs.Growing.{Grows}
 use Rattle.jv_interp.specs.Started.{budget_of}
 use Rattle.jv_interp.specs.Standing.{GuestStands, AreApart}
 use Rattle.jv_host.specs.declared.admission.Fed.{Fed}

@@ -1,10 +1,10 @@
 -- The forms of the stack on its words (JVMS 6.5, dup_x1 and its kin): each word is an item of its own.
 use Rattle.std.specs.Prelude.{◌≡◌, ℕ, List, Option, Some}
-use Rattle.jv_meaning_machine.specs.of_frames.declared.width.Width.{Width}
-use Rattle.jv_meaning_machine.specs.of_frames.declared.width.Width.TheVariants.{One}
+use Rattle.jv_stackmap.specs.declared.width.Width.{Width}
+use Rattle.jv_stackmap.specs.declared.width.Width.TheVariants.{One}
 use Rattle.jv_code.specs.declared.kinds.StackForm.{StackForm}
 use Rattle.jv_code.specs.declared.kinds.StackForm.TheVariants as forms
-use Rattle.jv_meaning_machine.specs.of_meaning_typing.StackForms.{rearranged}
+use Rattle.jv_meaning_typing.specs.StackForms.{rearranged}
 
 abbrev pub word_width : ℕ → Option Width
 word_width word = Some One

@@ -3,14 +3,14 @@ use Rattle.std.specs.Prelude.{Option, ◌≡◌, ℕ, Some, Result, slice_get}
 use Rattle.jv_meaning_world.specs.World.{Loaded, World}
 use Rattle.jv_meaning_world.specs.Overriding.{Declared, alike_in}
 use Rattle.jv_meaning_world.specs.LookUps.{method_in, first_found}
-use Rattle.jv_class.specs.of_class_structure.Flags.{has, acc_public}
+use Rattle.jv_class_structure.specs.Flags.{has, acc_public}
 use Rattle.jv_meaning_typing.specs.LinkErrors.{OrError, ◌>>=◌, provided}
 use Rattle.jv_meaning_typing.specs.LinkErrors.LinkError.{IncompatibleClassChangeError, IllegalAccessError}
 use Rattle.jv_meaning_typing.specs.MethodResolution.{MethodTarget}
 use Rattle.jv_meaning_typing.specs.Selection.{not_abstract, object_class, implements, select_virtual, select_interface, selected, select_special, found_or_default, public_or_default, superinterface_default}
 use Rattle.jv_meaning_world.specs.Numbers.{HoldsAtNumber}
-use Rattle.jv_loader.specs.of_lookups.Places.{method_at, HoldsAtCall, IsMethodFound, HoldsAtMethod}
-use Rattle.jv_loader.specs.of_lookups.declared.place.Place.{Place}
+use Rattle.jv_lookups.specs.Places.{method_at, HoldsAtCall, IsMethodFound, HoldsAtMethod}
+use Rattle.jv_lookups.specs.declared.place.Place.{Place}
 use Rattle.jv_meaning_typing.specs.Uses.{Site}
 use Rattle.jv_link.specs.Seen.{seen_use}
 use Rattle.jv_link.specs.Objects.{object_class_at}

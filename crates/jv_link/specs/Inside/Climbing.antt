@@ -6,7 +6,7 @@ use Rattle.jv_meaning_world.specs.World.{Loaded, World}
 use Rattle.jv_meaning_world.specs.Above.{is_above, superclasses}
 use Rattle.jv_meaning_world.specs.Overriding.{Declared, alike_in}
 use Rattle.jv_meaning_world.specs.LookUps.{else_option}
-use Rattle.jv_loader.specs.of_lookups.Places.{method_at, IsMethodPlace, IsMethodFound}
+use Rattle.jv_lookups.specs.Places.{method_at, IsMethodPlace, IsMethodFound}
 use Rattle.jv_loader.specs.Straight.{IsStraight}
 use Rattle.jv_meaning_typing.specs.Access.{same_class}
 use Rattle.jv_meaning_typing.specs.Inside.OneWalk.{is_open}
@@ -14,7 +14,7 @@ use Rattle.jv_meaning_typing.specs.Inside.Upward.{is_private, is_near}
 use Rattle.jv_link.specs.declared.meeting.Met.{Met}
 use Rattle.jv_link.specs.declared.meeting.Met.TheVariants as met
 use Rattle.std.specs.Option.{option_and_then}
-use Rattle.jv_loader.specs.of_lookups.declared.place.Place.{Place}
+use Rattle.jv_lookups.specs.declared.place.Place.{Place}
 
 -- nothing for the call; a method that overrides the called one where another further up opens it; one that overrides it whatever
 -- is further up; and one that does, and opens it

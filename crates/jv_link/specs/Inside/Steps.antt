@@ -15,8 +15,8 @@ use Rattle.jv_meaning_typing.specs.ClassResolution.{ResolvedClass, error_of_clas
 use Rattle.jv_link.specs.declared.error.LinkError.{LinkError}
 use Rattle.jv_link.specs.declared.target.ClassRef.{ClassRef}
 use Rattle.jv_meaning_world.specs.Numbers.{HoldsAtBoth, HoldsAtNumber}
-use Rattle.jv_loader.specs.of_lookups.Places.{field_at, method_at}
-use Rattle.jv_loader.specs.of_lookups.declared.place.Place.{Place}
+use Rattle.jv_lookups.specs.Places.{field_at, method_at}
+use Rattle.jv_lookups.specs.declared.place.Place.{Place}
 use Rattle.jv_link.specs.Seen.{seen_site, seen_use, error_of}
 use Rattle.jv_link.specs.Answers.{AnswersType, AnswersField, AnswersTarget}
 use Rattle.jv_link.specs.declared.site.Site.{Site as SiteByNumber}

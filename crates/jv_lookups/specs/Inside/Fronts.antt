@@ -1,7 +1,7 @@
 -- The part of a chain of superclasses that has to be looked at.
 use Rattle.std.specs.Prelude.{◌≡◌, ℕ, ◌<◌, ◌≤◌, Bool, false, List, [], ◌∷◌, Some, length, take, drop, get_or, slice_get}
 use Rattle.std.specs.List.{All}
-use Rattle.jv_meaning_world.specs.of_class.Class.{EachIsNamed, Method}
+use Rattle.jv_class.specs.Class.{EachIsNamed, Method}
 use Rattle.jv_meaning_world.specs.World.{Loaded}
 use Rattle.jv_meaning_world.specs.Overriding.{alike_in}
 use Rattle.jv_lookups.specs.Inside.Overridden.{overrides_final}

@@ -3,7 +3,7 @@ use Rattle.std.specs.Prelude.{ℕ, Bool, not, ◌&&◌, ◌||◌, ◌<◌, false
 use Rattle.std.specs.List.{list_any, filter_map}
 use Rattle.std.specs.Option.{option_map, IsSomeAnd}
 use Rattle.std.specs.Str.{bytes_eq}
-use Rattle.jv_meaning_world.specs.of_class.Class.{field_named}
+use Rattle.jv_class.specs.Class.{field_named}
 use Rattle.jv_classes.specs.declared.member.Member.{Member}
 use Rattle.jv_classes.specs.Members.{IsMethod}
 use Rattle.jv_meaning_world.specs.World.{Loaded, World, class_named}

@@ -2,8 +2,8 @@
 -- protected, or package-private in the package of a method that it overrides so far.
 use Rattle.std.specs.Prelude.{◌+◌, Bool, false, not, ◌&&◌, ◌||◌, List, [], ◌∷◌, Option, Some, None, if◌then◌else◌}
 use Rattle.std.specs.List.{list_any}
-use Rattle.jv_meaning_world.specs.of_class_structure.Flags.{has, acc_public, acc_private, acc_protected, acc_final}
-use Rattle.jv_meaning_world.specs.of_class.Class.{Method}
+use Rattle.jv_class_structure.specs.Flags.{has, acc_public, acc_private, acc_protected, acc_final}
+use Rattle.jv_class.specs.Class.{Method}
 use Rattle.jv_meaning_world.specs.World.{Loaded, same_package}
 use Rattle.jv_meaning_world.specs.Overriding.{Declared, is_instance, is_package_private, alike_in}
 

@@ -1,8 +1,8 @@
 -- One class further up, by the flags of its method (JVMS 4.6, 5.4.5).
 use Rattle.std.specs.Prelude.{ℕ, ◌+◌, Bool, false, not, ◌&&◌, ◌||◌, List, Option, Some, None, get_or, set, true, if◌then◌else◌}
 use Rattle.std.specs.Option.{option_map}
-use Rattle.jv_meaning_world.specs.of_class_structure.Flags.{has, acc_public, acc_private, acc_protected, acc_final}
-use Rattle.jv_meaning_world.specs.of_class.Class.{Method}
+use Rattle.jv_class_structure.specs.Flags.{has, acc_public, acc_private, acc_protected, acc_final}
+use Rattle.jv_class.specs.Class.{Method}
 use Rattle.jv_classes.specs.declared.member.Member.{Member}
 use Rattle.jv_meaning_world.specs.World.{Loaded}
 use Rattle.jv_meaning_world.specs.Overriding.{Declared, alike_in}

@@ -1,6 +1,6 @@
 -- Laws of a guest alone that goes forward (JVMS 2.9, 5.5): what can't be taken back.
 use Rattle.std.specs.Prelude.{◌≡◌, ℕ, ◌+◌, ◌-◌, ◌^◌, ◌≤◌, List, Ok}
-use Rattle.jv_meaning_typing.specs.of_meaning_world.World.{Loaded}
+use Rattle.jv_meaning_world.specs.World.{Loaded}
 use Rattle.jv_meaning_machine.specs.State.{Program, State, class_state}
 use Rattle.jv_meaning_machine.specs.State.ClassState.{Initialized, Erroneous}
 use Rattle.jv_meaning_machine.specs.Start.{Budget}

@@ -1,7 +1,7 @@
 -- What stays while a guest runs (JVMS 2.5.3, 2.9; own): what was written, the objects and their shapes, and what the budget
 -- comes to.
 use Rattle.std.specs.Prelude.{◌≡◌, ℕ, ◌+◌, true, List, ◌++◌, length, Some, slice_get}
-use Rattle.jv_meaning_typing.specs.of_meaning_world.World.{World}
+use Rattle.jv_meaning_world.specs.World.{World}
 use Rattle.jv_meaning_machine.specs.Objects.{Object, is_constructed}
 use Rattle.jv_meaning_machine.specs.State.{Memory, State}
 use Rattle.jv_meaning_machine.specs.Literals.{literal_in}

@@ -1,9 +1,9 @@
 -- Laws of the main method (JVMS 5.2; own).
 use Rattle.std.specs.Prelude.{◌≡◌, ℕ, false, List, [], None, Some}
-use Rattle.jv_meaning_typing.specs.of_meaning_world.System.Classes.{system_classes}
-use Rattle.jv_meaning_typing.specs.of_meaning_world.FileContent.{FileContent}
-use Rattle.jv_meaning_typing.specs.of_meaning_world.World.{world_of}
-use Rattle.jv_meaning_typing.specs.of_meaning_world.Overriding.{Declared}
+use Rattle.jv_meaning_world.specs.System.Classes.{system_classes}
+use Rattle.jv_meaning_world.specs.FileContent.{FileContent}
+use Rattle.jv_meaning_world.specs.World.{world_of}
+use Rattle.jv_meaning_world.specs.Overriding.{Declared}
 use Rattle.jv_meaning_machine.specs.Initialization.{main_method}
 
 -- A guest without files has no main method, whatever its main class is called.

@@ -2,16 +2,16 @@
 -- that there were, and the first of them, to which a reference is pushed, has their count as its number.
 use Rattle.std.specs.Prelude.{◌≡◌, ℕ, pos, negsuc, ◌+◌, ◌-◌, ◌≤◌, ◌<◌, ◌⊎◌, true, false, List, [], ◌∷◌, ◌++◌, length, map, replicate, Option, Some, None, Ok, Err}
 use Rattle.std.specs.List.{list_any}
-use Rattle.jv_meaning_typing.specs.of_text.declared.descriptor.FieldTypeOf.{FieldTypeOf}
-use Rattle.jv_meaning_typing.specs.of_frames.declared.verification.VerificationTypeOf.TheVariants as types
-use Rattle.jv_meaning_typing.specs.of_frames.Types.{component}
+use Rattle.jv_text.specs.declared.descriptor.FieldTypeOf.{FieldTypeOf}
+use Rattle.jv_stackmap.specs.declared.verification.VerificationTypeOf.TheVariants as types
+use Rattle.jv_stackmap.specs.Types.{component}
 use Rattle.jv_code.specs.declared.insn.Insn.TheVariants as insns
 use Rattle.jv_code.specs.declared.kinds.ElementType.{ElementType}
 use Rattle.jv_code.specs.declared.kinds.IndexForm.{IndexForm}
-use Rattle.jv_meaning_typing.specs.of_pool.Constants.{at_index}
-use Rattle.jv_meaning_typing.specs.of_class.Class.{InitialValue}
-use Rattle.jv_meaning_typing.specs.of_class.Class.InitialValue.{StringValue}
-use Rattle.jv_meaning_typing.specs.of_meaning_world.World.{Loaded, class_named}
+use Rattle.jv_pool.specs.Constants.{at_index}
+use Rattle.jv_class.specs.Class.{InitialValue}
+use Rattle.jv_class.specs.Class.InitialValue.{StringValue}
+use Rattle.jv_meaning_world.specs.World.{Loaded, class_named}
 use Rattle.jv_meaning_typing.specs.Uses.{Use}
 use Rattle.jv_meaning_typing.specs.Uses.Use.{New}
 use Rattle.jv_meaning_typing.specs.LinkErrors.{LinkError, error_class}

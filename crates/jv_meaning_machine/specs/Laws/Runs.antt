@@ -1,10 +1,10 @@
 -- Laws of runs (JVMS 2.5.3, 2.7; own): what stays from a state to each later one, and what a guest alone keeps of its budget.
 use Rattle.std.specs.Prelude.{◌≡◌, ℕ, zero, suc, ◌+◌, ◌≤◌, true, List, map, length, Some, Ok, IsSome, slice_get, codes}
-use Rattle.jv_meaning_typing.specs.of_meaning_world.System.Classes.{system_classes}
-use Rattle.jv_meaning_typing.specs.of_meaning_world.FileContent.{FileContent}
-use Rattle.jv_meaning_typing.specs.of_meaning_world.World.{Loaded, class_named, world_of}
-use Rattle.jv_meaning_typing.specs.of_class.Class.{Field}
-use Rattle.jv_meaning_typing.specs.of_meaning_world.LookUps.{field_by}
+use Rattle.jv_meaning_world.specs.System.Classes.{system_classes}
+use Rattle.jv_meaning_world.specs.FileContent.{FileContent}
+use Rattle.jv_meaning_world.specs.World.{Loaded, class_named, world_of}
+use Rattle.jv_class.specs.Class.{Field}
+use Rattle.jv_meaning_world.specs.LookUps.{field_by}
 use Rattle.jv_meaning_typing.specs.Kind.{is_static_field}
 use Rattle.jv_meaning_typing.specs.Layout.{instance_fields}
 use Rattle.jv_meaning_machine.specs.Faults.{OrFault, ◌>>=◌}

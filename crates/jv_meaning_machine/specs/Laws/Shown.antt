@@ -1,7 +1,7 @@
 -- Laws of what a guest shows (own): it is one thing.
 use Rattle.std.specs.Prelude.{◌≡◌, ℕ, ◌+◌, ◌≤◌, List, [], length, Some, None, slice_get}
-use Rattle.jv_meaning_typing.specs.of_meaning_world.System.Classes.{system_classes}
-use Rattle.jv_meaning_typing.specs.of_meaning_world.FileContent.{FileContent, AreContents}
+use Rattle.jv_meaning_world.specs.System.Classes.{system_classes}
+use Rattle.jv_meaning_world.specs.FileContent.{FileContent, AreContents}
 use Rattle.jv_meaning_typing.specs.declared.verdict.Verdict.{Verdict}
 use Rattle.jv_meaning_typing.specs.Judgement.{IsVerdictOfFile}
 use Rattle.jv_meaning_machine.specs.State.End.{Running, NoMain}

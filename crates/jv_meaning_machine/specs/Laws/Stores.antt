@@ -1,15 +1,15 @@
 -- Laws of stores: an instruction that stores changes one location, the one that it names, and nothing else (JVMS 6.5: putstatic,
 -- putfield, and stores to arrays).
 use Rattle.std.specs.Prelude.{◌≡◌, ℕ, ℤ, pos, Bool, true, false, List, ◌∷◌, ◌⊎◌, Some, None, Ok, Err, IsSome, slice_get}
-use Rattle.jv_meaning_typing.specs.of_text.declared.descriptor.FieldTypeOf.{FieldTypeOf}
-use Rattle.jv_meaning_typing.specs.of_text.Types.{field_type_of}
+use Rattle.jv_text.specs.declared.descriptor.FieldTypeOf.{FieldTypeOf}
+use Rattle.jv_text.specs.Types.{field_type_of}
 use Rattle.jv_code.specs.Insns.{Instruction}
 use Rattle.jv_code.specs.declared.insn.Insn.TheVariants as insns
 use Rattle.jv_code.specs.declared.kinds.FieldAccess.{FieldAccess}
 use Rattle.jv_code.specs.declared.kinds.FieldAccess.TheVariants as access
 use Rattle.jv_code.specs.declared.kinds.NumberElement.{NumberElement}
-use Rattle.jv_meaning_typing.specs.of_pool.Constants.{MemberReference}
-use Rattle.jv_meaning_typing.specs.of_meaning_world.LookUps.{DeclaredField}
+use Rattle.jv_pool.specs.Constants.{MemberReference}
+use Rattle.jv_meaning_world.specs.LookUps.{DeclaredField}
 use Rattle.jv_meaning_typing.specs.LinkErrors.{LinkError, error_class}
 use Rattle.jv_meaning_typing.specs.Operands.{field_operand}
 use Rattle.jv_meaning_typing.specs.FieldResolution.{resolve_field}

@@ -1,6 +1,6 @@
 -- A law of the worlds that guests run in: the types of their values have an order (JVMS 4.10.1.2).
 use Rattle.std.specs.Prelude.{ℕ, List}
-use Rattle.jv_meaning_typing.specs.of_meaning_world.Laws.Order.{IsRooted}
+use Rattle.jv_meaning_world.specs.Laws.Order.{IsRooted}
 use Rattle.jv_meaning_machine.specs.Alone.{Judged, IsJudged}
 
 -- java/lang/Object is at the top of the world of any files, so that the laws of the order of types hold there.

@@ -1,16 +1,16 @@
 -- Worked rows (JVMS 6.5, iaload to multianewarray): each instruction on arrays, with what it throws and in which order, computed.
 use Rattle.std.specs.Prelude.{◌≡◌, ℕ, List, [], ◌∷◌, Ok, Err, codes}
-use Rattle.jv_meaning_typing.specs.of_text.declared.descriptor.Base.{Base}
-use Rattle.jv_meaning_typing.specs.of_text.declared.descriptor.Base.TheVariants as bases
-use Rattle.jv_meaning_typing.specs.of_text.declared.descriptor.Element.TheVariants as elements
+use Rattle.jv_text.specs.declared.descriptor.Base.{Base}
+use Rattle.jv_text.specs.declared.descriptor.Base.TheVariants as bases
+use Rattle.jv_text.specs.declared.descriptor.Element.TheVariants as elements
 use Rattle.jv_code.specs.declared.insn.Insn.TheVariants as insns
 use Rattle.jv_code.specs.declared.kinds.ElementType.TheVariants as element_types
 use Rattle.jv_code.specs.declared.kinds.NumberElement.{NumberElement}
 use Rattle.jv_code.specs.declared.kinds.NumberElement.TheVariants as numbers
 use Rattle.jv_code.specs.Insns.{Instruction}
-use Rattle.jv_meaning_typing.specs.of_pool.declared.constant.Constant.TheVariants as constants
-use Rattle.jv_meaning_typing.specs.of_pool.Constants.{Entry}
-use Rattle.jv_meaning_typing.specs.of_meaning_world.Rows.Files.{object_name}
+use Rattle.jv_pool.specs.declared.constant.Constant.TheVariants as constants
+use Rattle.jv_pool.specs.Constants.{Entry}
+use Rattle.jv_meaning_world.specs.Rows.Files.{object_name}
 use Rattle.jv_meaning_typing.specs.Named.{class_components}
 use Rattle.jv_meaning_machine.specs.Faults.{OrFault}
 use Rattle.jv_meaning_machine.specs.Faults.Fault.{OffsetFault, TagFault, ReferenceFault}

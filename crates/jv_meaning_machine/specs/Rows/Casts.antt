@@ -1,12 +1,12 @@
 -- Worked rows (JVMS 6.5): checkcast and instanceof, over classes, interfaces and arrays, computed.
 use Rattle.std.specs.Prelude.{◌≡◌, ℕ, Bool, true, false, List, [], ◌∷◌, Some, None, Err, codes}
-use Rattle.jv_meaning_typing.specs.of_text.declared.descriptor.Base.{Base}
-use Rattle.jv_meaning_typing.specs.of_text.declared.descriptor.Base.TheVariants as bases
-use Rattle.jv_meaning_typing.specs.of_text.declared.descriptor.Element.TheVariants as elements
+use Rattle.jv_text.specs.declared.descriptor.Base.{Base}
+use Rattle.jv_text.specs.declared.descriptor.Base.TheVariants as bases
+use Rattle.jv_text.specs.declared.descriptor.Element.TheVariants as elements
 use Rattle.jv_code.specs.declared.insn.Insn.TheVariants as insns
-use Rattle.jv_meaning_typing.specs.of_pool.declared.constant.Constant.TheVariants as constants
-use Rattle.jv_meaning_typing.specs.of_class.Class.{Class}
-use Rattle.jv_meaning_typing.specs.of_meaning_world.Rows.Files.{object_name, class_with, interface, package_class, public_class}
+use Rattle.jv_pool.specs.declared.constant.Constant.TheVariants as constants
+use Rattle.jv_class.specs.Class.{Class}
+use Rattle.jv_meaning_world.specs.Rows.Files.{object_name, class_with, interface, package_class, public_class}
 use Rattle.jv_meaning_machine.specs.Faults.{OrFault}
 use Rattle.jv_meaning_machine.specs.Faults.Fault.{OffsetFault, TagFault, ConstructionFault}
 use Rattle.jv_meaning_machine.specs.Values.{Value}

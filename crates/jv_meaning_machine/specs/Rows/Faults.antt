@@ -5,8 +5,8 @@ use Rattle.jv_code.specs.declared.kinds.Computation.TheVariants as compute
 use Rattle.jv_code.specs.declared.kinds.LongValue.TheVariants as longs
 use Rattle.jv_code.specs.declared.kinds.ValueKind.TheVariants as kinds
 use Rattle.jv_code.specs.Insns.{Instruction}
-use Rattle.jv_meaning_typing.specs.of_class.Class.{Method}
-use Rattle.jv_meaning_typing.specs.of_meaning_world.System.Mnemonics.{iconst, iload, aload, invokespecial, return}
+use Rattle.jv_class.specs.Class.{Method}
+use Rattle.jv_meaning_world.specs.System.Mnemonics.{iconst, iload, aload, invokespecial, return}
 use Rattle.jv_meaning_machine.specs.Faults.{OrFault}
 use Rattle.jv_meaning_machine.specs.Faults.Fault.{OffsetFault, StackFault, LocalFault, TagFault, ReferenceFault, ConstructionFault, UnverifiedFault, ReturnFault}
 use Rattle.jv_meaning_machine.specs.State.{Program}

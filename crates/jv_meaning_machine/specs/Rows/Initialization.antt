@@ -1,13 +1,13 @@
 -- Worked rows (JVMS 5.1, 5.5): initialization of classes, and string literals, computed.
 use Rattle.std.specs.Prelude.{◌≡◌, ℕ, List, [], ◌∷◌, replicate, Some, None, pos, codes}
 use Rattle.jv_code.specs.Insns.{Instruction}
-use Rattle.jv_meaning_typing.specs.of_class.Class.{Class, Method}
-use Rattle.jv_meaning_typing.specs.of_class.Class.InitialValue.{IntValue}
-use Rattle.jv_meaning_typing.specs.of_meaning_world.Rows.Files.{object_name}
-use Rattle.jv_meaning_typing.specs.of_meaning_world.System.Mnemonics.{iconst, bipush, iadd, aload, invokespecial, return}
-use Rattle.jv_meaning_typing.specs.of_meaning_world.System.String.{length_body}
-use Rattle.jv_meaning_typing.specs.of_meaning_world.World.{class_named}
-use Rattle.jv_code.specs.of_format.Handlers.{handler}
+use Rattle.jv_class.specs.Class.{Class, Method}
+use Rattle.jv_class.specs.Class.InitialValue.{IntValue}
+use Rattle.jv_meaning_world.specs.Rows.Files.{object_name}
+use Rattle.jv_meaning_world.specs.System.Mnemonics.{iconst, bipush, iadd, aload, invokespecial, return}
+use Rattle.jv_meaning_world.specs.System.String.{length_body}
+use Rattle.jv_meaning_world.specs.World.{class_named}
+use Rattle.jv_format.specs.Handlers.{handler}
 use Rattle.jv_meaning_machine.specs.Faults.{OrFault, found, ◌>>=◌}
 use Rattle.jv_meaning_machine.specs.Faults.Fault.{ReferenceFault}
 use Rattle.jv_meaning_machine.specs.State.{Program, State}

@@ -1,10 +1,10 @@
 -- One instruction alone, for worked rows (JVMS 6.5): what it does in a frame of a class Main, at offset 20 of its method.
 use Rattle.std.specs.Prelude.{ℕ, ◌+◌, ◌-ℤ◌, pos, false, List, [], ◌∷◌, reverse, Some, None, Ok}
 use Rattle.jv_code.specs.Insns.{Instruction}
-use Rattle.jv_meaning_typing.specs.of_pool.Constants.{Entry}
-use Rattle.jv_meaning_typing.specs.of_class.Class.{Class}
-use Rattle.jv_meaning_typing.specs.of_meaning_world.World.{loaded}
-use Rattle.jv_meaning_typing.specs.of_meaning_world.Rows.Files.{object_name}
+use Rattle.jv_pool.specs.Constants.{Entry}
+use Rattle.jv_class.specs.Class.{Class}
+use Rattle.jv_meaning_world.specs.World.{loaded}
+use Rattle.jv_meaning_world.specs.Rows.Files.{object_name}
 use Rattle.jv_meaning_typing.specs.Environment.{Environment, offset_behind}
 use Rattle.jv_meaning_machine.specs.Faults.{OrFault, ◌>>=◌}
 use Rattle.jv_meaning_machine.specs.Values.{Value}

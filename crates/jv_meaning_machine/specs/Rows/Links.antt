@@ -5,13 +5,13 @@ use Rattle.jv_code.specs.declared.kinds.FieldAccess.{FieldAccess}
 use Rattle.jv_code.specs.declared.kinds.FieldAccess.TheVariants as access
 use Rattle.jv_code.specs.declared.kinds.Invocation.TheVariants as invocations
 use Rattle.jv_code.specs.Insns.{Instruction}
-use Rattle.jv_meaning_typing.specs.of_pool.declared.constant.Constant.TheVariants as constants
-use Rattle.jv_meaning_typing.specs.of_pool.Constants.{Entry}
-use Rattle.jv_meaning_typing.specs.of_class_structure.Parts.{CodeSeen}
-use Rattle.jv_meaning_typing.specs.of_class.Class.{Class, Field, Method}
-use Rattle.jv_meaning_typing.specs.of_meaning_world.World.{loaded}
-use Rattle.jv_meaning_typing.specs.of_meaning_world.Rows.Files.{object_name, class_with, public_class, package_class}
-use Rattle.jv_meaning_typing.specs.of_meaning_world.System.Mnemonics.{return}
+use Rattle.jv_pool.specs.declared.constant.Constant.TheVariants as constants
+use Rattle.jv_pool.specs.Constants.{Entry}
+use Rattle.jv_class_structure.specs.Parts.{CodeSeen}
+use Rattle.jv_class.specs.Class.{Class, Field, Method}
+use Rattle.jv_meaning_world.specs.World.{loaded}
+use Rattle.jv_meaning_world.specs.Rows.Files.{object_name, class_with, public_class, package_class}
+use Rattle.jv_meaning_world.specs.System.Mnemonics.{return}
 use Rattle.jv_meaning_machine.specs.Faults.{OrFault}
 use Rattle.jv_meaning_machine.specs.Faults.Fault.{OffsetFault, StackFault, ConstructionFault}
 use Rattle.jv_meaning_machine.specs.Values.{Value}

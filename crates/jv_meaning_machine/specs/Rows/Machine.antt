@@ -4,10 +4,10 @@ use Rattle.jv_code.specs.declared.insn.Insn.TheVariants as insns
 use Rattle.jv_code.specs.declared.kinds.LocalForm.TheVariants as local
 use Rattle.jv_code.specs.declared.kinds.WordKind.TheVariants as word_kinds
 use Rattle.jv_code.specs.Insns.{Instruction}
-use Rattle.jv_meaning_typing.specs.of_class.Class.{Class, Method}
-use Rattle.jv_meaning_typing.specs.of_meaning_world.Rows.Files.{object_name, class_with as bare_class}
-use Rattle.jv_meaning_typing.specs.of_meaning_world.System.Mnemonics.{iconst, iload, bipush, invokespecial, return}
-use Rattle.jv_code.specs.of_format.Handlers.{handler}
+use Rattle.jv_class.specs.Class.{Class, Method}
+use Rattle.jv_meaning_world.specs.Rows.Files.{object_name, class_with as bare_class}
+use Rattle.jv_meaning_world.specs.System.Mnemonics.{iconst, iload, bipush, invokespecial, return}
+use Rattle.jv_format.specs.Handlers.{handler}
 use Rattle.jv_meaning_machine.specs.Faults.{OrFault}
 use Rattle.jv_meaning_machine.specs.State.{Program}
 use Rattle.jv_meaning_machine.specs.State.End.{Running, Returned, Threw, NoMain}

@@ -1,6 +1,6 @@
 -- Worked rows (JVMS 2.6, 6.5): constants that are pushed, what fields hold, and how values are passed and returned, computed.
 use Rattle.std.specs.Prelude.{◌≡◌, ℕ, true, false, List, [], ◌∷◌, None, Ok, Err, pos, codes}
-use Rattle.jv_meaning_typing.specs.of_text.declared.descriptor.Base.TheVariants as bases
+use Rattle.jv_text.specs.declared.descriptor.Base.TheVariants as bases
 use Rattle.jv_code.specs.declared.insn.Insn.TheVariants as insns
 use Rattle.jv_code.specs.declared.kinds.ArithmeticOperator.TheVariants as operators
 use Rattle.jv_code.specs.declared.kinds.Computation.TheVariants as compute
@@ -12,11 +12,11 @@ use Rattle.jv_code.specs.declared.kinds.LongValue.TheVariants as longs
 use Rattle.jv_code.specs.declared.kinds.NumberKind.TheVariants as numbers
 use Rattle.jv_code.specs.declared.kinds.ValueKind.TheVariants as kinds
 use Rattle.jv_code.specs.Insns.{Instruction}
-use Rattle.jv_meaning_typing.specs.of_pool.declared.constant.Constant.TheVariants as constants
-use Rattle.jv_meaning_typing.specs.of_pool.Constants.{Entry, member_of, name_and_descriptor}
-use Rattle.jv_meaning_typing.specs.of_class.Class.{Class, Field}
-use Rattle.jv_meaning_typing.specs.of_meaning_world.Rows.Files.{object_name, public_class}
-use Rattle.jv_meaning_typing.specs.of_meaning_world.System.Mnemonics.{iload, return}
+use Rattle.jv_pool.specs.declared.constant.Constant.TheVariants as constants
+use Rattle.jv_pool.specs.Constants.{Entry, member_of, name_and_descriptor}
+use Rattle.jv_class.specs.Class.{Class, Field}
+use Rattle.jv_meaning_world.specs.Rows.Files.{object_name, public_class}
+use Rattle.jv_meaning_world.specs.System.Mnemonics.{iload, return}
 use Rattle.jv_meaning_machine.specs.Faults.{OrFault}
 use Rattle.jv_meaning_machine.specs.Faults.Fault.{OffsetFault, LocalFault, TagFault, ReferenceFault, ConstructionFault, ReturnFault}
 use Rattle.jv_meaning_machine.specs.Values.{Value}

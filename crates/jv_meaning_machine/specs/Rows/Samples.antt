@@ -2,7 +2,7 @@
 use Rattle.std.specs.Prelude.{ℕ, negsuc, true, false, ◌++◌, List, [], ◌∷◌, map, Option, Some, None, Ok, codes}
 use Rattle.std.specs.List.{find, flat_map}
 use Rattle.std.specs.Str.{bytes_eq}
-use Rattle.jv_code.specs.of_format.declared.handlers.Handler.{Handler}
+use Rattle.jv_format.specs.declared.handlers.Handler.{Handler}
 use Rattle.jv_code.specs.declared.insn.Insn.TheVariants as insns
 use Rattle.jv_code.specs.declared.kinds.Computation.TheVariants as compute
 use Rattle.jv_code.specs.declared.kinds.DivisionOperator.TheVariants as divisions
@@ -15,14 +15,14 @@ use Rattle.jv_code.specs.declared.kinds.NumberKind.TheVariants as numbers
 use Rattle.jv_code.specs.declared.kinds.ShiftOperator.TheVariants as shifts
 use Rattle.jv_code.specs.declared.kinds.StackForm.TheVariants as forms
 use Rattle.jv_code.specs.Insns.{Instruction, insn_bytes}
-use Rattle.jv_meaning_typing.specs.of_pool.declared.constant.Constant.TheVariants as constants
-use Rattle.jv_meaning_typing.specs.of_pool.Constants.{Entry}
-use Rattle.jv_meaning_typing.specs.of_class_structure.Parts.{CodeSeen}
-use Rattle.jv_meaning_typing.specs.of_class.Class.{Class, Field, InitialValue, Method}
-use Rattle.jv_meaning_typing.specs.of_meaning_world.World.{World, loaded}
-use Rattle.jv_meaning_typing.specs.of_meaning_world.Rows.Files.{object_name}
-use Rattle.jv_meaning_typing.specs.of_meaning_world.System.Mnemonics.{return}
-use Rattle.jv_meaning_typing.specs.of_meaning_world.System.Classes.{system_classes}
+use Rattle.jv_pool.specs.declared.constant.Constant.TheVariants as constants
+use Rattle.jv_pool.specs.Constants.{Entry}
+use Rattle.jv_class_structure.specs.Parts.{CodeSeen}
+use Rattle.jv_class.specs.Class.{Class, Field, InitialValue, Method}
+use Rattle.jv_meaning_world.specs.World.{World, loaded}
+use Rattle.jv_meaning_world.specs.Rows.Files.{object_name}
+use Rattle.jv_meaning_world.specs.System.Mnemonics.{return}
+use Rattle.jv_meaning_world.specs.System.Classes.{system_classes}
 use Rattle.jv_meaning_machine.specs.Faults.{OrFault, ◌>>=◌}
 use Rattle.jv_meaning_machine.specs.State.{Program, End}
 use Rattle.jv_meaning_machine.specs.Start.{Budget}

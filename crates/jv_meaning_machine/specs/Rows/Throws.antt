@@ -1,7 +1,7 @@
 -- Worked rows (JVMS 2.9, 2.10, 5.5): handlers, throws that pass calls and initializations, and what is constructed in which
 -- order, computed.
 use Rattle.std.specs.Prelude.{◌≡◌, ℕ, ◌-◌, ◌^◌, List, [], ◌∷◌, replicate, Some, None, Err, pos, codes}
-use Rattle.jv_code.specs.of_format.declared.handlers.Handler.{Handler}
+use Rattle.jv_format.specs.declared.handlers.Handler.{Handler}
 use Rattle.jv_code.specs.declared.insn.Insn.TheVariants as insns
 use Rattle.jv_code.specs.declared.kinds.Computation.TheVariants as compute
 use Rattle.jv_code.specs.declared.kinds.Conversion.TheVariants as conversions
@@ -9,13 +9,13 @@ use Rattle.jv_code.specs.declared.kinds.FieldAccess.TheVariants as access
 use Rattle.jv_code.specs.declared.kinds.NumberKind.TheVariants as numbers
 use Rattle.jv_code.specs.declared.kinds.ShiftOperator.TheVariants as shifts
 use Rattle.jv_code.specs.Insns.{Instruction}
-use Rattle.jv_meaning_typing.specs.of_class.Class.{Class, Field, InitialValue, Method}
-use Rattle.jv_meaning_typing.specs.of_class.Class.InitialValue.{IntValue, LongValue, StringValue}
-use Rattle.jv_meaning_typing.specs.of_meaning_world.Rows.Files.{object_name}
-use Rattle.jv_meaning_typing.specs.of_meaning_world.System.Mnemonics.{iconst, bipush, aload, invokespecial, return}
-use Rattle.jv_meaning_typing.specs.of_meaning_world.System.Throwable.{init_body as throwable_init}
-use Rattle.jv_meaning_typing.specs.of_meaning_world.System.Throwables.{init_body as error_init}
-use Rattle.jv_code.specs.of_format.Handlers.{handler}
+use Rattle.jv_class.specs.Class.{Class, Field, InitialValue, Method}
+use Rattle.jv_class.specs.Class.InitialValue.{IntValue, LongValue, StringValue}
+use Rattle.jv_meaning_world.specs.Rows.Files.{object_name}
+use Rattle.jv_meaning_world.specs.System.Mnemonics.{iconst, bipush, aload, invokespecial, return}
+use Rattle.jv_meaning_world.specs.System.Throwable.{init_body as throwable_init}
+use Rattle.jv_meaning_world.specs.System.Throwables.{init_body as error_init}
+use Rattle.jv_format.specs.Handlers.{handler}
 use Rattle.jv_meaning_machine.specs.Faults.{OrFault}
 use Rattle.jv_meaning_machine.specs.Faults.Fault.{ConstructionFault}
 use Rattle.jv_meaning_machine.specs.State.{Program}

@@ -1,8 +1,8 @@
 -- What overrides a method (JVMS 5.4.5), found in one walk down the classes that keeps one bit: for the code that selects
 -- methods, whose loop is such a walk. The rules speak of `overriding`.
 use Rattle.std.specs.Prelude.{◌≡◌, Bool, not, IsTrue, ◌+◌, ◌&&◌, ◌||◌, List, [], ◌∷◌, map, Option, Some, None, if◌then◌else◌}
-use Rattle.jv_meaning_world.specs.of_class_structure.Flags.{has, acc_public, acc_private, acc_protected}
-use Rattle.jv_meaning_world.specs.of_class.Class.{Method}
+use Rattle.jv_class_structure.specs.Flags.{has, acc_public, acc_private, acc_protected}
+use Rattle.jv_class.specs.Class.{Method}
 use Rattle.jv_meaning_world.specs.World.{Loaded, same_package}
 use Rattle.jv_meaning_world.specs.Overriding.{Declared, alike_in, overriding}
 

@@ -2,8 +2,8 @@
 -- which goes up once. The rules speak of `overriding`.
 use Rattle.std.specs.Prelude.{◌≡◌, Bool, false, not, ◌&&◌, ◌||◌, List, [], ◌∷◌, reverse, Option, Some, None}
 use Rattle.std.specs.List.{list_any}
-use Rattle.jv_meaning_world.specs.of_class_structure.Flags.{has, acc_private}
-use Rattle.jv_meaning_world.specs.of_class.Class.{Method}
+use Rattle.jv_class_structure.specs.Flags.{has, acc_private}
+use Rattle.jv_class.specs.Class.{Method}
 use Rattle.jv_meaning_world.specs.World.{Loaded, same_package}
 use Rattle.jv_meaning_world.specs.Overriding.{Declared, overrides_itself, alike_in, overriding}
 use Rattle.jv_meaning_typing.specs.Inside.OneWalk.{is_open}

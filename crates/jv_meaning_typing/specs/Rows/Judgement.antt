@@ -1,17 +1,17 @@
 -- Worked rows: where instructions start, handlers, branch targets and the code's end (JVMS 4.10.1.6), computed.
 use Rattle.std.specs.Prelude.{◌≡◌, ℕ, Bool, true, false, List, [], ◌∷◌, Some, None, pos, negsuc}
-use Rattle.jv_meaning_world.specs.of_format.declared.handlers.Handler.{Handler}
-use Rattle.jv_meaning_world.specs.of_text.declared.descriptor.Base.TheVariants as bases
-use Rattle.jv_meaning_world.specs.of_text.declared.descriptor.Element.TheVariants as elements
-use Rattle.jv_meaning_world.specs.of_frames.declared.verification.VerificationTypeOf.TheVariants as types
-use Rattle.jv_meaning_world.specs.of_frames.Frames.{Frame, PlacedFrame}
-use Rattle.jv_meaning_world.specs.of_code.declared.insn.Insn.TheVariants as insns
-use Rattle.jv_meaning_world.specs.of_code.declared.kinds.Condition.TheVariants as conditions
-use Rattle.jv_meaning_world.specs.of_code.declared.kinds.Invocation.TheVariants as invocations
-use Rattle.jv_meaning_world.specs.of_code.declared.kinds.JumpForm.TheVariants as jump
-use Rattle.jv_meaning_world.specs.of_code.declared.kinds.Test.TheVariants as tests
-use Rattle.jv_meaning_world.specs.of_code.declared.kinds.ValueKind.TheVariants as kinds
-use Rattle.jv_meaning_world.specs.of_code.Insns.{Instruction}
+use Rattle.jv_format.specs.declared.handlers.Handler.{Handler}
+use Rattle.jv_text.specs.declared.descriptor.Base.TheVariants as bases
+use Rattle.jv_text.specs.declared.descriptor.Element.TheVariants as elements
+use Rattle.jv_stackmap.specs.declared.verification.VerificationTypeOf.TheVariants as types
+use Rattle.jv_stackmap.specs.Frames.{Frame, PlacedFrame}
+use Rattle.jv_code.specs.declared.insn.Insn.TheVariants as insns
+use Rattle.jv_code.specs.declared.kinds.Condition.TheVariants as conditions
+use Rattle.jv_code.specs.declared.kinds.Invocation.TheVariants as invocations
+use Rattle.jv_code.specs.declared.kinds.JumpForm.TheVariants as jump
+use Rattle.jv_code.specs.declared.kinds.Test.TheVariants as tests
+use Rattle.jv_code.specs.declared.kinds.ValueKind.TheVariants as kinds
+use Rattle.jv_code.specs.Insns.{Instruction}
 use Rattle.jv_meaning_typing.specs.Environment.{Environment, instruction_at}
 use Rattle.jv_meaning_typing.specs.Named.{throwable_type}
 use Rattle.jv_meaning_typing.specs.Typing.{argument_words, first_frame, catches_throwable, is_made_by_new, handlers_hold, targets_hold, last_instruction, ends_code}

@@ -2,9 +2,9 @@
 -- interfaces of arrays, p/Hidden, which is not public, and p/Open, with a field x and a method m that are package-private.
 use Rattle.std.specs.Prelude.{ℕ, true, false, List, [], ◌∷◌, map, Option, Some, None, Ok, codes}
 use Rattle.std.specs.Option.{option_map}
-use Rattle.jv_meaning_world.specs.of_text.Descriptor.{field_text}
-use Rattle.jv_meaning_world.specs.of_pool.Constants.{MemberReference, member_of, name_and_descriptor}
-use Rattle.jv_meaning_world.specs.of_class.Class.{Class, Field, Method}
+use Rattle.jv_text.specs.Descriptor.{field_text}
+use Rattle.jv_pool.specs.Constants.{MemberReference, member_of, name_and_descriptor}
+use Rattle.jv_class.specs.Class.{Class, Field, Method}
 use Rattle.jv_meaning_world.specs.declared.content.Content.TheVariants.{Holds}
 use Rattle.jv_meaning_world.specs.World.{Loaded, World, world_of, loaded}
 use Rattle.jv_meaning_world.specs.Rows.Files.{object_name, method_m, class_with, public_class, package_class, interface_with}

@@ -1,17 +1,17 @@
 -- Worked rows: local variables, arrays and returns, computed. The local variables are an int, a long and a C, unless others
 -- are shown.
 use Rattle.std.specs.Prelude.{◌≡◌, pos, List, [], ◌∷◌, Some, None, codes}
-use Rattle.jv_meaning_world.specs.of_text.declared.descriptor.Base.TheVariants as bases
-use Rattle.jv_meaning_world.specs.of_text.declared.descriptor.Element.TheVariants as elements
-use Rattle.jv_meaning_world.specs.of_frames.declared.verification.VerificationTypeOf.TheVariants as types
-use Rattle.jv_meaning_world.specs.of_frames.Types.{FrameType}
-use Rattle.jv_meaning_world.specs.of_code.declared.insn.Insn.TheVariants as insns
-use Rattle.jv_meaning_world.specs.of_code.declared.kinds.ElementType.TheVariants as element_types
-use Rattle.jv_meaning_world.specs.of_code.declared.kinds.IncrementForm.TheVariants as increments
-use Rattle.jv_meaning_world.specs.of_code.declared.kinds.LocalForm.TheVariants as local
-use Rattle.jv_meaning_world.specs.of_code.declared.kinds.NumberElement.TheVariants as number_elements
-use Rattle.jv_meaning_world.specs.of_code.declared.kinds.ValueKind.TheVariants as kinds
-use Rattle.jv_meaning_world.specs.of_code.declared.kinds.WordKind.TheVariants as word_kinds
+use Rattle.jv_text.specs.declared.descriptor.Base.TheVariants as bases
+use Rattle.jv_text.specs.declared.descriptor.Element.TheVariants as elements
+use Rattle.jv_stackmap.specs.declared.verification.VerificationTypeOf.TheVariants as types
+use Rattle.jv_stackmap.specs.Types.{FrameType}
+use Rattle.jv_code.specs.declared.insn.Insn.TheVariants as insns
+use Rattle.jv_code.specs.declared.kinds.ElementType.TheVariants as element_types
+use Rattle.jv_code.specs.declared.kinds.IncrementForm.TheVariants as increments
+use Rattle.jv_code.specs.declared.kinds.LocalForm.TheVariants as local
+use Rattle.jv_code.specs.declared.kinds.NumberElement.TheVariants as number_elements
+use Rattle.jv_code.specs.declared.kinds.ValueKind.TheVariants as kinds
+use Rattle.jv_code.specs.declared.kinds.WordKind.TheVariants as word_kinds
 use Rattle.jv_meaning_world.specs.Rows.Files.{object_name}
 use Rattle.jv_meaning_typing.specs.Rows.Samples.{b, c, object, of_class, of_type, numbers, objects, method_of_c, on_stack, on_stack_in, in_locals, behind, frame, flagged}
 

@@ -1,10 +1,10 @@
 -- Worked rows: objects, fields and methods, computed.
 use Rattle.std.specs.Prelude.{◌≡◌, [], ◌∷◌, Some, None, codes}
-use Rattle.jv_meaning_world.specs.of_text.declared.descriptor.Base.TheVariants as bases
-use Rattle.jv_meaning_world.specs.of_frames.declared.verification.VerificationTypeOf.TheVariants as types
-use Rattle.jv_meaning_world.specs.of_code.declared.insn.Insn.TheVariants as insns
-use Rattle.jv_meaning_world.specs.of_code.declared.kinds.FieldAccess.TheVariants as access
-use Rattle.jv_meaning_world.specs.of_code.declared.kinds.Invocation.TheVariants as invocations
+use Rattle.jv_text.specs.declared.descriptor.Base.TheVariants as bases
+use Rattle.jv_stackmap.specs.declared.verification.VerificationTypeOf.TheVariants as types
+use Rattle.jv_code.specs.declared.insn.Insn.TheVariants as insns
+use Rattle.jv_code.specs.declared.kinds.FieldAccess.TheVariants as access
+use Rattle.jv_code.specs.declared.kinds.Invocation.TheVariants as invocations
 use Rattle.jv_meaning_typing.specs.Rule.{handler_frame}
 use Rattle.jv_meaning_typing.specs.Named.{throwable_type}
 use Rattle.jv_meaning_typing.specs.Rows.Samples.{b, c, object, of_class, numbers, in_m, in_init, below_own_package, in_m_of_version, on_stack, on_stack_in, behind, frame, flagged}

@@ -1,18 +1,18 @@
 -- Worked rows: instructions one behind the other, computed.
 use Rattle.std.specs.Prelude.{◌≡◌, true, false, List, [], ◌∷◌, pos, Some, None, codes, is_some}
-use Rattle.jv_meaning_world.specs.of_text.declared.descriptor.Element.TheVariants as elements
-use Rattle.jv_meaning_world.specs.of_frames.declared.verification.VerificationTypeOf.TheVariants as types
+use Rattle.jv_text.specs.declared.descriptor.Element.TheVariants as elements
+use Rattle.jv_stackmap.specs.declared.verification.VerificationTypeOf.TheVariants as types
 use Rattle.jv_meaning_world.specs.FrameFlow.{frame_flows}
-use Rattle.jv_meaning_world.specs.of_code.declared.insn.Insn.TheVariants as insns
-use Rattle.jv_meaning_world.specs.of_code.declared.kinds.Computation.TheVariants as compute
-use Rattle.jv_meaning_world.specs.of_code.declared.kinds.IntForm.TheVariants as int_forms
-use Rattle.jv_meaning_world.specs.of_code.declared.kinds.Invocation.TheVariants as invocations
-use Rattle.jv_meaning_world.specs.of_code.declared.kinds.LocalForm.TheVariants as local
-use Rattle.jv_meaning_world.specs.of_code.declared.kinds.LongValue.TheVariants as long_values
-use Rattle.jv_meaning_world.specs.of_code.declared.kinds.StackForm.TheVariants as forms
-use Rattle.jv_meaning_world.specs.of_code.declared.kinds.ValueKind.TheVariants as kinds
-use Rattle.jv_meaning_world.specs.of_code.declared.kinds.WordKind.TheVariants as word_kinds
-use Rattle.jv_meaning_world.specs.of_code.Insns.{Instruction}
+use Rattle.jv_code.specs.declared.insn.Insn.TheVariants as insns
+use Rattle.jv_code.specs.declared.kinds.Computation.TheVariants as compute
+use Rattle.jv_code.specs.declared.kinds.IntForm.TheVariants as int_forms
+use Rattle.jv_code.specs.declared.kinds.Invocation.TheVariants as invocations
+use Rattle.jv_code.specs.declared.kinds.LocalForm.TheVariants as local
+use Rattle.jv_code.specs.declared.kinds.LongValue.TheVariants as long_values
+use Rattle.jv_code.specs.declared.kinds.StackForm.TheVariants as forms
+use Rattle.jv_code.specs.declared.kinds.ValueKind.TheVariants as kinds
+use Rattle.jv_code.specs.declared.kinds.WordKind.TheVariants as word_kinds
+use Rattle.jv_code.specs.Insns.{Instruction}
 use Rattle.jv_meaning_world.specs.Rows.Files.{object_name}
 use Rattle.jv_meaning_typing.specs.FrameChanges.{with_stack}
 use Rattle.jv_meaning_typing.specs.Named.{throwable_type}

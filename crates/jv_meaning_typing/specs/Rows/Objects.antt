@@ -1,7 +1,7 @@
 -- Worked rows: what is initialized before a class, where objects keep their fields, and what constants name, computed.
 use Rattle.std.specs.Prelude.{◌≡◌, ℕ, List, [], ◌∷◌, map, Some, None, codes}
-use Rattle.jv_meaning_world.specs.of_pool.declared.constant.Constant.TheVariants as constants
-use Rattle.jv_meaning_world.specs.of_class.Class.{Class, Field}
+use Rattle.jv_pool.specs.declared.constant.Constant.TheVariants as constants
+use Rattle.jv_class.specs.Class.{Class, Field}
 use Rattle.jv_meaning_world.specs.Rows.Files.{object_name}
 use Rattle.jv_meaning_typing.specs.Operands.{class_operand, field_operand, method_operand, through}
 use Rattle.jv_meaning_typing.specs.Operands.MethodConstant.{Methodref, InterfaceMethodref}

@@ -1,6 +1,6 @@
 -- Worked rows: what classes, fields and methods resolve to, and each error, computed.
 use Rattle.std.specs.Prelude.{◌≡◌, ℕ, List, [], ◌∷◌, Some, None, Ok, Err, codes}
-use Rattle.jv_meaning_world.specs.of_class.Class.{Class}
+use Rattle.jv_class.specs.Class.{Class}
 use Rattle.jv_meaning_world.specs.Rows.Files.{object_name, class_with, package_class}
 use Rattle.jv_meaning_typing.specs.Uses.Use.{Getstatic, Putstatic, Getfield, Putfield, Invokevirtual, Invokespecial, Invokestatic, Invokeinterface, New}
 use Rattle.jv_meaning_typing.specs.LinkErrors.LinkError.{NoClassDefFoundError, ClassCircularityError, IncompatibleClassChangeError, IllegalAccessError, NoSuchFieldError, NoSuchMethodError, InstantiationError}

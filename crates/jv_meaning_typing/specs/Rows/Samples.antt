@@ -2,20 +2,20 @@
 use Rattle.std.specs.Prelude.{ℕ, true, false, List, [], ◌∷◌, ◌++◌, replicate, Option, Some, None, codes}
 use Rattle.std.specs.List.{flat_map}
 use Rattle.std.specs.Option.{option_map}
-use Rattle.jv_meaning_world.specs.of_format.Format.{◌>>=◌}
-use Rattle.jv_meaning_world.specs.of_text.declared.descriptor.Base.{Base}
-use Rattle.jv_meaning_world.specs.of_text.declared.descriptor.Element.{Element}
-use Rattle.jv_meaning_world.specs.of_text.declared.descriptor.Element.TheVariants as elements
-use Rattle.jv_meaning_world.specs.of_text.declared.descriptor.FieldTypeOf.{FieldTypeOf}
-use Rattle.jv_meaning_world.specs.of_pool.declared.constant.Constant.TheVariants as constants
-use Rattle.jv_meaning_world.specs.of_pool.Constants.{Entry}
-use Rattle.jv_meaning_world.specs.of_class_structure.Parts.{CodeSeen}
-use Rattle.jv_meaning_world.specs.of_class.Class.{Class, Field, Method}
-use Rattle.jv_meaning_world.specs.of_frames.declared.verification.VerificationTypeOf.TheVariants as types
-use Rattle.jv_meaning_world.specs.of_frames.Types.{FrameType}
-use Rattle.jv_meaning_world.specs.of_frames.Frames.{Frame}
-use Rattle.jv_meaning_world.specs.of_code.Insns.{Instruction, insn_bytes}
-use Rattle.jv_meaning_world.specs.of_code.declared.insn.Insn.TheVariants as insns
+use Rattle.jv_format.specs.Format.{◌>>=◌}
+use Rattle.jv_text.specs.declared.descriptor.Base.{Base}
+use Rattle.jv_text.specs.declared.descriptor.Element.{Element}
+use Rattle.jv_text.specs.declared.descriptor.Element.TheVariants as elements
+use Rattle.jv_text.specs.declared.descriptor.FieldTypeOf.{FieldTypeOf}
+use Rattle.jv_pool.specs.declared.constant.Constant.TheVariants as constants
+use Rattle.jv_pool.specs.Constants.{Entry}
+use Rattle.jv_class_structure.specs.Parts.{CodeSeen}
+use Rattle.jv_class.specs.Class.{Class, Field, Method}
+use Rattle.jv_stackmap.specs.declared.verification.VerificationTypeOf.TheVariants as types
+use Rattle.jv_stackmap.specs.Types.{FrameType}
+use Rattle.jv_stackmap.specs.Frames.{Frame}
+use Rattle.jv_code.specs.Insns.{Instruction, insn_bytes}
+use Rattle.jv_code.specs.declared.insn.Insn.TheVariants as insns
 use Rattle.jv_meaning_world.specs.declared.content.Content.TheVariants.{Holds}
 use Rattle.jv_meaning_world.specs.World.{World, world_of}
 use Rattle.jv_meaning_world.specs.Rows.Files.{object_name, class_with}

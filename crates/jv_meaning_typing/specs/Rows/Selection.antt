@@ -1,7 +1,7 @@
 -- Worked rows: which method a call runs, computed. Each row resolves the call and then selects; what is shown is the class
 -- that declares the method.
 use Rattle.std.specs.Prelude.{◌≡◌, ℕ, Bool, true, false, List, [], ◌∷◌, ◌++◌, Option, Some, None, Ok, Err, codes}
-use Rattle.jv_meaning_world.specs.of_class.Class.{Class, Method}
+use Rattle.jv_class.specs.Class.{Class, Method}
 use Rattle.jv_meaning_world.specs.Rows.Files.{object_name, method_m}
 use Rattle.jv_meaning_typing.specs.Uses.Use.{Invokevirtual, Invokespecial, Invokestatic, Invokeinterface}
 use Rattle.jv_meaning_typing.specs.LinkErrors.{OrError}

@@ -1,23 +1,23 @@
 -- Worked rows: forms of the stack (JVMS 6.5), on items of one word and longs; and numbers, constants and branches, computed.
 use Rattle.std.specs.Prelude.{◌≡◌, List, [], ◌∷◌, Option, Some, None, pos}
-use Rattle.jv_meaning_world.specs.of_frames.declared.verification.VerificationTypeOf.TheVariants as types
-use Rattle.jv_meaning_world.specs.of_frames.Types.{FrameType}
-use Rattle.jv_meaning_world.specs.of_code.declared.insn.Insn.TheVariants as insns
-use Rattle.jv_meaning_world.specs.of_code.declared.kinds.ArithmeticOperator.TheVariants as arithmetic
-use Rattle.jv_meaning_world.specs.of_code.declared.kinds.Computation.TheVariants as compute
-use Rattle.jv_meaning_world.specs.of_code.declared.kinds.Condition.TheVariants as conditions
-use Rattle.jv_meaning_world.specs.of_code.declared.kinds.Conversion.TheVariants as conversions
-use Rattle.jv_meaning_world.specs.of_code.declared.kinds.DivisionOperator.TheVariants as division
-use Rattle.jv_meaning_world.specs.of_code.declared.kinds.Equality.TheVariants as equality
-use Rattle.jv_meaning_world.specs.of_code.declared.kinds.IndexForm.TheVariants as index
-use Rattle.jv_meaning_world.specs.of_code.declared.kinds.IntForm.TheVariants as int_forms
-use Rattle.jv_meaning_world.specs.of_code.declared.kinds.JumpForm.TheVariants as jump
-use Rattle.jv_meaning_world.specs.of_code.declared.kinds.LongValue.TheVariants as long_values
-use Rattle.jv_meaning_world.specs.of_code.declared.kinds.NumberKind.TheVariants as number_kinds
-use Rattle.jv_meaning_world.specs.of_code.declared.kinds.ShiftOperator.TheVariants as shifts
-use Rattle.jv_meaning_world.specs.of_code.declared.kinds.StackForm.{StackForm}
-use Rattle.jv_meaning_world.specs.of_code.declared.kinds.StackForm.TheVariants as forms
-use Rattle.jv_meaning_world.specs.of_code.declared.kinds.Test.TheVariants as tests
+use Rattle.jv_stackmap.specs.declared.verification.VerificationTypeOf.TheVariants as types
+use Rattle.jv_stackmap.specs.Types.{FrameType}
+use Rattle.jv_code.specs.declared.insn.Insn.TheVariants as insns
+use Rattle.jv_code.specs.declared.kinds.ArithmeticOperator.TheVariants as arithmetic
+use Rattle.jv_code.specs.declared.kinds.Computation.TheVariants as compute
+use Rattle.jv_code.specs.declared.kinds.Condition.TheVariants as conditions
+use Rattle.jv_code.specs.declared.kinds.Conversion.TheVariants as conversions
+use Rattle.jv_code.specs.declared.kinds.DivisionOperator.TheVariants as division
+use Rattle.jv_code.specs.declared.kinds.Equality.TheVariants as equality
+use Rattle.jv_code.specs.declared.kinds.IndexForm.TheVariants as index
+use Rattle.jv_code.specs.declared.kinds.IntForm.TheVariants as int_forms
+use Rattle.jv_code.specs.declared.kinds.JumpForm.TheVariants as jump
+use Rattle.jv_code.specs.declared.kinds.LongValue.TheVariants as long_values
+use Rattle.jv_code.specs.declared.kinds.NumberKind.TheVariants as number_kinds
+use Rattle.jv_code.specs.declared.kinds.ShiftOperator.TheVariants as shifts
+use Rattle.jv_code.specs.declared.kinds.StackForm.{StackForm}
+use Rattle.jv_code.specs.declared.kinds.StackForm.TheVariants as forms
+use Rattle.jv_code.specs.declared.kinds.Test.TheVariants as tests
 use Rattle.jv_meaning_typing.specs.FrameChanges.{item_width}
 use Rattle.jv_meaning_typing.specs.StackForms.{rearranged}
 use Rattle.jv_meaning_typing.specs.Named.{string_type}

@@ -1,17 +1,17 @@
 -- Worked rows: verdicts on classes with one method.
 use Rattle.std.specs.Prelude.{ℕ, List, [], ◌∷◌, Option, Some, None, pos, codes}
 use Rattle.std.specs.List.{flat_map}
-use Rattle.jv_meaning_world.specs.of_format.declared.handlers.Handler.{Handler}
-use Rattle.jv_meaning_world.specs.of_pool.declared.constant.Constant.TheVariants as constants
-use Rattle.jv_meaning_world.specs.of_pool.Constants.{Entry}
-use Rattle.jv_meaning_world.specs.of_class_structure.Parts.{CodeSeen}
-use Rattle.jv_meaning_world.specs.of_class.Class.{Class, Method}
-use Rattle.jv_meaning_world.specs.of_code.declared.insn.Insn.TheVariants as insns
-use Rattle.jv_meaning_world.specs.of_code.declared.kinds.Invocation.TheVariants as invocations
-use Rattle.jv_meaning_world.specs.of_code.declared.kinds.JumpForm.TheVariants as jump
-use Rattle.jv_meaning_world.specs.of_code.declared.kinds.LocalForm.TheVariants as local
-use Rattle.jv_meaning_world.specs.of_code.declared.kinds.ValueKind.TheVariants as kinds
-use Rattle.jv_meaning_world.specs.of_code.Insns.{Instruction, insn_bytes}
+use Rattle.jv_format.specs.declared.handlers.Handler.{Handler}
+use Rattle.jv_pool.specs.declared.constant.Constant.TheVariants as constants
+use Rattle.jv_pool.specs.Constants.{Entry}
+use Rattle.jv_class_structure.specs.Parts.{CodeSeen}
+use Rattle.jv_class.specs.Class.{Class, Method}
+use Rattle.jv_code.specs.declared.insn.Insn.TheVariants as insns
+use Rattle.jv_code.specs.declared.kinds.Invocation.TheVariants as invocations
+use Rattle.jv_code.specs.declared.kinds.JumpForm.TheVariants as jump
+use Rattle.jv_code.specs.declared.kinds.LocalForm.TheVariants as local
+use Rattle.jv_code.specs.declared.kinds.ValueKind.TheVariants as kinds
+use Rattle.jv_code.specs.Insns.{Instruction, insn_bytes}
 use Rattle.jv_meaning_world.specs.Rows.Files.{object_name}
 use Rattle.jv_meaning_typing.specs.Rows.LinkingSamples.{world_with, guest, class}
 use Rattle.jv_meaning_typing.specs.declared.verdict.VerifyRule.{VerifyRule}

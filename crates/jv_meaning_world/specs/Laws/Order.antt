@@ -3,15 +3,15 @@
 use Rattle.std.specs.Prelude.{◌≡◌, ℕ, Bool, true, false, not, ◌&&◌, ◌||◌, List, ◌∷◌, Some, codes, is_none, is_some, IsTrue, if◌then◌else◌}
 use Rattle.std.specs.List.{Contains, list_all, list_any}
 use Rattle.std.specs.Str.{bytes_eq}
-use Rattle.jv_frames.specs.of_text.declared.descriptor.Element.{Element}
-use Rattle.jv_frames.specs.of_text.declared.descriptor.Element.TheVariants as elements
-use Rattle.jv_frames.specs.of_text.declared.descriptor.FieldTypeOf.{FieldTypeOf}
-use Rattle.jv_frames.specs.declared.verification.VerificationTypeOf.TheVariants as types
-use Rattle.jv_frames.specs.Types.{FrameType}
+use Rattle.jv_text.specs.declared.descriptor.Element.{Element}
+use Rattle.jv_text.specs.declared.descriptor.Element.TheVariants as elements
+use Rattle.jv_text.specs.declared.descriptor.FieldTypeOf.{FieldTypeOf}
+use Rattle.jv_stackmap.specs.declared.verification.VerificationTypeOf.TheVariants as types
+use Rattle.jv_stackmap.specs.Types.{FrameType}
 use Rattle.jv_class.specs.Class.{Class}
 use Rattle.jv_class.specs.Rules.{is_object}
-use Rattle.jv_class.specs.of_class_structure.Attributes.{some_and}
-use Rattle.jv_class.specs.of_class_structure.Flags.{has, acc_interface}
+use Rattle.jv_class_structure.specs.Attributes.{some_and}
+use Rattle.jv_class_structure.specs.Flags.{has, acc_interface}
 use Rattle.jv_meaning_world.specs.World.{Loaded, World, class_named, loaded}
 use Rattle.jv_meaning_world.specs.Above.{superclasses}
 use Rattle.jv_meaning_world.specs.Verdicts.{passes, each_super, is_interface, have_right_kind, is_loadable}

@@ -1,9 +1,9 @@
 -- Laws of the order of verification types with interfaces erased (JVMS 4.10.1.2), in a world with java/lang/Object at the top.
 use Rattle.std.specs.Prelude.{◌≡◌, List, ℕ, ◌++◌, ◌||◌, map, Some, true, IsTrue}
 use Rattle.std.specs.Str.{bytes_eq}
-use Rattle.jv_frames.specs.of_text.declared.descriptor.FieldTypeOf.{FieldTypeOf}
-use Rattle.jv_frames.specs.declared.verification.VerificationTypeOf.TheVariants as types
-use Rattle.jv_frames.specs.Types.{FrameType, value_type}
+use Rattle.jv_text.specs.declared.descriptor.FieldTypeOf.{FieldTypeOf}
+use Rattle.jv_stackmap.specs.declared.verification.VerificationTypeOf.TheVariants as types
+use Rattle.jv_stackmap.specs.Types.{FrameType, value_type}
 use Rattle.jv_class.specs.Class.{Class}
 use Rattle.jv_meaning_world.specs.FileContent.{FileContent, AreContents}
 use Rattle.jv_meaning_world.specs.World.{Loaded, World, class_named, loaded, world_of}

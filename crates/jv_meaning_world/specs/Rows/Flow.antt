@@ -1,11 +1,11 @@
 -- Worked rows: what flows to what, computed.
 use Rattle.std.specs.Prelude.{◌≡◌, ℕ, Bool, true, false, List, [], ◌∷◌, Some, codes}
-use Rattle.jv_frames.specs.of_text.declared.descriptor.Base.TheVariants as bases
-use Rattle.jv_frames.specs.of_text.declared.descriptor.Element.{Element}
-use Rattle.jv_frames.specs.of_text.declared.descriptor.Element.TheVariants as elements
-use Rattle.jv_frames.specs.declared.verification.VerificationTypeOf.TheVariants as types
-use Rattle.jv_frames.specs.Types.{FrameType}
-use Rattle.jv_frames.specs.Frames.{Frame}
+use Rattle.jv_text.specs.declared.descriptor.Base.TheVariants as bases
+use Rattle.jv_text.specs.declared.descriptor.Element.{Element}
+use Rattle.jv_text.specs.declared.descriptor.Element.TheVariants as elements
+use Rattle.jv_stackmap.specs.declared.verification.VerificationTypeOf.TheVariants as types
+use Rattle.jv_stackmap.specs.Types.{FrameType}
+use Rattle.jv_stackmap.specs.Frames.{Frame}
 use Rattle.jv_meaning_world.specs.World.{World, world_of}
 use Rattle.jv_meaning_world.specs.declared.content.Content.TheVariants.{Holds}
 use Rattle.jv_meaning_world.specs.Rows.Files.{object, object_name, interface, public_class, class_with}

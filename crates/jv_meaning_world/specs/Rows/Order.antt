@@ -1,7 +1,7 @@
 -- Worked rows: interfaces erased, and the order that is left, computed; and what breaks the order in worlds that are no rooted ones.
 use Rattle.std.specs.Prelude.{◌≡◌, Bool, true, false, List, [], ◌∷◌, ◌++◌, map, Some, None, codes}
-use Rattle.jv_frames.specs.declared.verification.VerificationTypeOf.TheVariants as types
-use Rattle.jv_frames.specs.Types.{FrameType}
+use Rattle.jv_stackmap.specs.declared.verification.VerificationTypeOf.TheVariants as types
+use Rattle.jv_stackmap.specs.Types.{FrameType}
 use Rattle.jv_class.specs.Class.{Class}
 use Rattle.jv_meaning_world.specs.World.{World, loaded, world_of}
 use Rattle.jv_meaning_world.specs.declared.content.Content.TheVariants.{Holds}

@@ -4,7 +4,7 @@ use Rattle.std.specs.List.{flat_map, list_all, list_any, starts_with}
 use Rattle.std.specs.Str.{bytes_eq}
 use Rattle.jv_code.specs.Insns.{insn_bytes}
 use Rattle.jv_class.specs.Class.{Class}
-use Rattle.jv_frames.specs.of_pool.Constants.{Entry, MemberReference, utf8_at, class_name_at, field_reference_at, method_reference_at}
+use Rattle.jv_pool.specs.Constants.{Entry, MemberReference, utf8_at, class_name_at, field_reference_at, method_reference_at}
 use Rattle.jv_meaning_world.specs.System.Mnemonics.{offsets, targets}
 use Rattle.jv_meaning_world.specs.System.Members.{Body}
 use Rattle.jv_meaning_world.specs.System.Interfaces as interfaces

@@ -1,6 +1,6 @@
 -- The system's classes, in one order (own selection): the 32 that have files, and host/Io behind them.
 use Rattle.std.specs.Prelude.{ℕ, List, [], ◌∷◌, ◌++◌, map}
-use Rattle.jv_class.specs.of_class_structure.Structure.{ClassStructure, class_bytes}
+use Rattle.jv_class_structure.specs.Structure.{ClassStructure, class_bytes}
 use Rattle.jv_class.specs.Class.{Class}
 use Rattle.jv_meaning_world.specs.FileContent.{FileContent}
 use Rattle.jv_meaning_world.specs.declared.content.Content.TheVariants.{Holds}

@@ -1,9 +1,9 @@
 -- The interfaces without members, java/lang/Cloneable and java/io/Serializable (own selection).
 use Rattle.std.specs.Prelude.{ℕ, ◌+◌, List, [], ◌∷◌, Some, codes}
-use Rattle.jv_frames.specs.of_pool.declared.constant.Constant.TheVariants.{Utf8, Class as ClassConstant}
-use Rattle.jv_frames.specs.of_pool.Constants.{Entry}
-use Rattle.jv_class.specs.of_class_structure.Flags.{acc_public, acc_interface, acc_abstract}
-use Rattle.jv_class.specs.of_class_structure.Structure.{ClassStructure}
+use Rattle.jv_pool.specs.declared.constant.Constant.TheVariants.{Utf8, Class as ClassConstant}
+use Rattle.jv_pool.specs.Constants.{Entry}
+use Rattle.jv_class_structure.specs.Flags.{acc_public, acc_interface, acc_abstract}
+use Rattle.jv_class_structure.specs.Structure.{ClassStructure}
 use Rattle.jv_class.specs.Class.{Class}
 
 -- ---- constants, and their indices

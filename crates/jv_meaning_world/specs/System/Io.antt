@@ -1,6 +1,6 @@
 -- host/Io, which is built in without a file: `read` and `write` have no code (own).
 use Rattle.std.specs.Prelude.{◌+◌, [], ◌∷◌, Some, codes}
-use Rattle.jv_class.specs.of_class_structure.Flags.{acc_public, acc_static, acc_final, acc_super}
+use Rattle.jv_class_structure.specs.Flags.{acc_public, acc_static, acc_final, acc_super}
 use Rattle.jv_class.specs.Class.{Class}
 use Rattle.jv_meaning_world.specs.System.Members.{method_without_code}
 

@@ -2,9 +2,9 @@
 use Rattle.std.specs.Prelude.{ℕ, List, [], ◌∷◌, Option, Some, None}
 use Rattle.std.specs.List.{flat_map}
 use Rattle.jv_code.specs.Insns.{Instruction, insn_bytes}
-use Rattle.jv_class.specs.of_class_structure.Structure.{AttributeInfo, CodeAttribute, FieldInfo, MethodInfo}
-use Rattle.jv_class.specs.of_class_structure.Structure.MethodAttribute.{Code}
-use Rattle.jv_class.specs.of_class_structure.Parts.{CodeSeen}
+use Rattle.jv_class_structure.specs.Structure.{AttributeInfo, CodeAttribute, FieldInfo, MethodInfo}
+use Rattle.jv_class_structure.specs.Structure.MethodAttribute.{Code}
+use Rattle.jv_class_structure.specs.Parts.{CodeSeen}
 use Rattle.jv_class.specs.Class.{Field, Method}
 
 -- what a method does, with the least limits that verify

@@ -1,9 +1,9 @@
 -- java/lang/Object, with `<init>` and `equals` (own selection).
 use Rattle.std.specs.Prelude.{ℕ, ◌+◌, List, [], ◌∷◌, Some, None, codes}
-use Rattle.jv_frames.specs.of_pool.declared.constant.Constant.TheVariants.{Utf8, Class as ClassConstant}
-use Rattle.jv_frames.specs.of_pool.Constants.{Entry}
-use Rattle.jv_class.specs.of_class_structure.Flags.{acc_public, acc_super}
-use Rattle.jv_class.specs.of_class_structure.Structure.{ClassStructure}
+use Rattle.jv_pool.specs.declared.constant.Constant.TheVariants.{Utf8, Class as ClassConstant}
+use Rattle.jv_pool.specs.Constants.{Entry}
+use Rattle.jv_class_structure.specs.Flags.{acc_public, acc_super}
+use Rattle.jv_class_structure.specs.Structure.{ClassStructure}
 use Rattle.jv_class.specs.Class.{Class}
 use Rattle.jv_meaning_world.specs.System.Mnemonics.{iconst, aload, if_acmpne, ireturn, return}
 use Rattle.jv_meaning_world.specs.System.Members.{Body, method, attribute, method_info}

@@ -1,10 +1,10 @@
 -- java/lang/String: its array of chars, `length`, `charAt`, `hashCode` and `equals` (own selection). In comments, v is the
 -- array of `this` (`aload_0, getfield value`), and w that of the string in local 2.
 use Rattle.std.specs.Prelude.{ℕ, ◌+◌, List, [], ◌∷◌, Some, None, codes}
-use Rattle.jv_frames.specs.of_pool.declared.constant.Constant.TheVariants.{Utf8, Class as ClassConstant, NameAndType, Fieldref}
-use Rattle.jv_frames.specs.of_pool.Constants.{Entry}
-use Rattle.jv_class.specs.of_class_structure.Flags.{acc_public, acc_private, acc_final, acc_super}
-use Rattle.jv_class.specs.of_class_structure.Structure.{ClassStructure}
+use Rattle.jv_pool.specs.declared.constant.Constant.TheVariants.{Utf8, Class as ClassConstant, NameAndType, Fieldref}
+use Rattle.jv_pool.specs.Constants.{Entry}
+use Rattle.jv_class_structure.specs.Flags.{acc_public, acc_private, acc_final, acc_super}
+use Rattle.jv_class_structure.specs.Structure.{ClassStructure}
 use Rattle.jv_class.specs.Class.{Class}
 use Rattle.jv_meaning_world.specs.System.Mnemonics.{iconst, bipush, iload, aload, istore, astore, iinc, iadd, imul, caload, arraylength, ifne, if_icmpeq, if_icmpge, goto, getfield, checkcast, instanceof, ireturn}
 use Rattle.jv_meaning_world.specs.System.Members.{Body, field, method, attribute, field_info, method_info}

@@ -18,7 +18,7 @@ use Rattle.jv_pool.specs.declared.shape.TwoHalvesKind.TheVariants as two_halves
 use Rattle.jv_pool.specs.declared.shape.ConstantShape.{ConstantShape}
 use Rattle.jv_pool.specs.declared.shape.ConstantShape.TheVariants as shapes
 use Rattle.jv_pool.specs.declared.fault.PoolFault.{PoolFault}
-use Rattle.jv_pool.specs.declared.fault.PoolFault.TheVariants.{BadPool, Memory}
+use Rattle.jv_pool.specs.declared.fault.PoolFault.TheVariants.{BadPool, OutOfMemory}
 use Rattle.jv_pool.specs.Constants.{Entry, constant_bytes, constant_fits, takes_two, table_of, pool_count, usable}
 use Rattle.jv_pool.specs.Seen.{seen}
 
@@ -170,7 +170,7 @@ entry_at table (suc n) = usable (slice_get table n)
 -- a fault where this is read
 abbrev pub Fails : {A : Type 0} → PoolFault → Option A → Type 0
 Fails BadPool read = read ≡ None
-Fails Memory read = Unit {0}
+Fails OutOfMemory read = Unit {0}
 
 -- What a function gave, seen by view, is what the format reads, unless memory ran out.
 abbrev pub Gives : {A X : Type 0} → Format A → List ℕ → (X → A × List ℕ) → Result X PoolFault → Type 0

@@ -1,7 +1,7 @@
 use Rattle.std.proofs.Common.{◌≡◌, ◌++◌, map, take, length}
 use Rattle.std.specs.List.{flat_map}
 use Rattle.jv_format.specs.Format.{half}
-use Rattle.jv_frames.specs.Bytes.{item_bytes}
+use Rattle.jv_stackmap.specs.Bytes.{item_bytes}
 use Rattle.jv_asm_builder.specs.Assembly.{stack_map_type}
 use Rattle.jv_asm_builder.proofs.frame.put_types.Given as goal
 

@@ -3,7 +3,7 @@ use Rattle.std.proofs.lemmas.Grind.{common_steps}
 use Rattle.jv_class.specs.Inside.Reading.{IsFieldKey}
 use Rattle.std.proofs.lemmas.List.Elements.{All-get_or}
 use Rattle.std.specs.Prelude.{IsSome}
-use Rattle.jv_class_structure.specs.of_pool.Constants.{utf8_at}
+use Rattle.jv_pool.specs.Constants.{utf8_at}
 use Rattle.jv_class.proofs.Keys.{zipped_next, all_named, all_described}
 use Rattle.jv_class.proofs.alike.field_keys.Goals as goal
 

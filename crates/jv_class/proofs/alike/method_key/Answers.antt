@@ -1,7 +1,7 @@
 use Rattle.std.proofs.Common.{◌≡◌, Some, List, sym, subst}
 use Rattle.std.specs.Prelude.{IsSome, slice_get}
 use Rattle.std.specs.Option.{option_map}
-use Rattle.jv_class_structure.specs.of_pool.Constants.{Entry, utf8_at}
+use Rattle.jv_pool.specs.Constants.{Entry, utf8_at}
 use Rattle.jv_class_structure.specs.Parts.{methods_of}
 use Rattle.jv_class_structure.specs.Seen.{seen_method}
 use Rattle.jv_class.proofs.Keys.{method_there}

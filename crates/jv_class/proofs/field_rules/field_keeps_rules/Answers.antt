@@ -1,5 +1,5 @@
 use Rattle.std.proofs.Common.{subst}
-use Rattle.jv_class_structure.specs.of_pool.Facts.{IsFieldKnown}
+use Rattle.jv_pool.specs.Facts.{IsFieldKnown}
 use Rattle.jv_class_structure.specs.Seen.{seen_field}
 use Rattle.jv_class.proofs.Facts.{field_keeps_rules}
 use Rattle.jv_class.proofs.field_rules.field_keeps_rules.Goals as goal

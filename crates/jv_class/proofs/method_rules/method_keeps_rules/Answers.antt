@@ -1,5 +1,5 @@
 use Rattle.std.proofs.Common.{subst}
-use Rattle.jv_class_structure.specs.of_pool.Facts.{IsMethodKnown}
+use Rattle.jv_pool.specs.Facts.{IsMethodKnown}
 use Rattle.jv_class_structure.specs.Seen.{seen_method}
 use Rattle.jv_class.proofs.Facts.{method_keeps_rules}
 use Rattle.jv_class.proofs.method_rules.method_keeps_rules.Goals as goal

@@ -1,5 +1,5 @@
 use Rattle.std.proofs.Common.{subst}
-use Rattle.jv_class_structure.specs.of_pool.Facts.{IsMethodKnown}
+use Rattle.jv_pool.specs.Facts.{IsMethodKnown}
 use Rattle.jv_class.proofs.Facts.{no_floating_method}
 use Rattle.jv_class.proofs.supported.is_no_floating_method.Goals as goal
 

@@ -1,5 +1,5 @@
 use Rattle.std.proofs.Common.{arith}
-use Rattle.jv_pool.specs.of_format.Format.{IsBytes}
+use Rattle.jv_format.specs.Format.{IsBytes}
 use Rattle.jv_class_structure.specs.Inside.Kept.{seen_attribute}
 use Rattle.jv_class_structure.proofs.Packing.{attribute_within, attribute_rest}
 use Rattle.jv_class_structure.proofs.attributes.stack_map_at.Goals as goal

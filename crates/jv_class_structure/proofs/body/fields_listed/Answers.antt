@@ -2,7 +2,7 @@ use Rattle.std.proofs.Common.{◌≡◌, ◌++◌, ◌∷◌, []}
 use Rattle.std.specs.Prelude.{map}
 use Rattle.std.proofs.lemmas.List.{map_push}
 use Rattle.jv_class_structure.specs.Inside.Reading.{field_kept}
-use Rattle.jv_pool.proofs.laws_of_format.Laws.{goes_on, ends}
+use Rattle.jv_format.proofs.Laws.{goes_on, ends}
 use Rattle.jv_class_structure.specs.Seen.{seen_field}
 use Rattle.jv_class_structure.proofs.body.fields_listed.Goals as goal
 

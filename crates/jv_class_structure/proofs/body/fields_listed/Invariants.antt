@@ -1,8 +1,8 @@
 use Rattle.std.proofs.Common.{◌≡◌, ◌-◌}
 use Rattle.std.specs.Prelude.{map}
-use Rattle.jv_pool.specs.of_format.Readers.{list_read}
+use Rattle.jv_format.specs.Readers.{list_read}
 use Rattle.jv_class_structure.specs.Inside.Reading.{field_kept}
-use Rattle.jv_pool.proofs.laws_of_format.Laws.{with_front}
+use Rattle.jv_format.proofs.Laws.{with_front}
 use Rattle.jv_class_structure.specs.Seen.{seen_field}
 use Rattle.jv_class_structure.proofs.body.fields_listed.Given as goal
 

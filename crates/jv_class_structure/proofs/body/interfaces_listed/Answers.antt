@@ -1,8 +1,8 @@
 use Rattle.std.proofs.Common.{◌≡◌, ◌++◌, ◌∷◌, []}
 use Rattle.std.specs.Prelude.{map}
 use Rattle.std.proofs.lemmas.List.{map_push}
-use Rattle.jv_pool.specs.of_format.Format.{half}
-use Rattle.jv_pool.proofs.laws_of_format.Laws.{goes_on, ends}
+use Rattle.jv_format.specs.Format.{half}
+use Rattle.jv_format.proofs.Laws.{goes_on, ends}
 use Rattle.jv_class_structure.specs.Seen.{seen_index}
 use Rattle.jv_class_structure.proofs.body.interfaces_listed.Goals as goal
 

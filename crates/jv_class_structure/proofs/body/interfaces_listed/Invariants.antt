@@ -1,8 +1,8 @@
 use Rattle.std.proofs.Common.{◌≡◌, ◌-◌}
 use Rattle.std.specs.Prelude.{map}
-use Rattle.jv_pool.specs.of_format.Format.{half}
-use Rattle.jv_pool.specs.of_format.Readers.{list_read}
-use Rattle.jv_pool.proofs.laws_of_format.Laws.{with_front}
+use Rattle.jv_format.specs.Format.{half}
+use Rattle.jv_format.specs.Readers.{list_read}
+use Rattle.jv_format.proofs.Laws.{with_front}
 use Rattle.jv_class_structure.specs.Seen.{seen_index}
 use Rattle.jv_class_structure.proofs.body.interfaces_listed.Given as goal
 

@@ -1,6 +1,6 @@
 use Rattle.std.proofs.Common.{arith}
 use Rattle.jv_class_structure.specs.Inside.Reading.{method_kept}
-use Rattle.jv_pool.proofs.laws_of_format.Laws.{goes_on, ends}
+use Rattle.jv_format.proofs.Laws.{goes_on, ends}
 use Rattle.jv_class_structure.specs.Seen.{seen_method}
 use Rattle.jv_class_structure.specs.Inside.Kept.{seen_list}
 use Rattle.jv_class_structure.proofs.body.methods_listed.Goals as goal

@@ -1,7 +1,7 @@
 use Rattle.std.proofs.Common.{◌≡◌, ◌-◌, length}
-use Rattle.jv_pool.specs.of_format.Readers.{list_read}
+use Rattle.jv_format.specs.Readers.{list_read}
 use Rattle.jv_class_structure.specs.Inside.Reading.{method_kept}
-use Rattle.jv_pool.proofs.laws_of_format.Laws.{with_front}
+use Rattle.jv_format.proofs.Laws.{with_front}
 use Rattle.jv_class_structure.specs.Inside.Kept.{seen_list, AreNumbered}
 use Rattle.jv_class_structure.proofs.body.methods_listed.Given as goal
 

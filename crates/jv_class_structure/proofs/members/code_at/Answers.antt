@@ -1,7 +1,7 @@
 use Rattle.std.proofs.Common.{arith}
-use Rattle.jv_pool.specs.of_format.Format.{IsBytes}
-use Rattle.jv_pool.specs.of_format.Handlers.{handlers_of}
-use Rattle.jv_pool.proofs.laws_of_format.Laws.{IsBytes-rest}
+use Rattle.jv_format.specs.Format.{IsBytes}
+use Rattle.jv_format.specs.Handlers.{handlers_of}
+use Rattle.jv_format.proofs.Laws.{IsBytes-rest}
 use Rattle.jv_class_structure.specs.Inside.Kept.{seen_found}
 use Rattle.jv_class_structure.specs.Inside.Within.{IsRest}
 use Rattle.jv_class_structure.proofs.Packing.{rest_more, limits_rest, text_rest, found_before, code_found}

@@ -1,5 +1,5 @@
 use Rattle.std.proofs.Common.{Bool, ℕ, List, Option, Bor, subst}
-use Rattle.jv_pool.specs.of_format.Format.{Finds}
+use Rattle.jv_format.specs.Format.{Finds}
 use Rattle.jv_class_structure.specs.Inside.Reading.{values_kept}
 use Rattle.jv_class_structure.proofs.members.constant_value_at.Goals as goal
 

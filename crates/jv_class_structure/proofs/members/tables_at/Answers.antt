@@ -1,5 +1,5 @@
 use Rattle.std.proofs.Common.{arith}
-use Rattle.jv_pool.specs.of_format.Handlers.{handlers_of}
+use Rattle.jv_format.specs.Handlers.{handlers_of}
 use Rattle.jv_class_structure.proofs.Packing.{handlers_rest, found_before}
 use Rattle.jv_class_structure.proofs.members.tables_at.Goals as goal
 

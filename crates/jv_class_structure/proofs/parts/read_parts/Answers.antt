@@ -1,6 +1,6 @@
 use Rattle.std.proofs.Common.{ℕ, List, refl, sym, subst, arith, rules}
-use Rattle.jv_pool.specs.of_format.Format.{IsBytes}
-use Rattle.jv_pool.proofs.laws_of_format.Laws.{IsBytes-rest}
+use Rattle.jv_format.specs.Format.{IsBytes}
+use Rattle.jv_format.proofs.Laws.{IsBytes-rest}
 use Rattle.jv_pool.specs.Constants.{pool_bytes}
 use Rattle.jv_pool.specs.Rules.{IsPool}
 use Rattle.jv_class_structure.specs.Structure.{body_bytes}
@@ -39,5 +39,5 @@ returns-clause-format c = λ e d b.
     no_body c.one_pool.ensures c.args.major front rest c.in-Ok.found.0 small pool (no_whole _ ((body_kept c.in-Ok.found.0).read rest) c.in-Err.fault e c.in-Err.ensures) d
     (subst (λ (x : List ℕ). IsBehindVersion c.args.major x d) c.split_at.ensures.by_index.0 b)
 
-pub returns-in-Err-Memory-clause-format : goal.returns-in-Err-Memory-clause-format
-returns-in-Err-Memory-clause-format c = search rules
+pub returns-in-Err-OutOfMemory-clause-format : goal.returns-in-Err-OutOfMemory-clause-format
+returns-in-Err-OutOfMemory-clause-format c = search rules

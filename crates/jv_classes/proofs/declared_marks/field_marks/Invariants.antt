@@ -1,4 +1,4 @@
-use Rattle.jv_meaning_world.specs.of_class.Class.{Field}
+use Rattle.jv_class.specs.Class.{Field}
 use Rattle.jv_meaning_world.specs.World.{Loaded}
 use Rattle.jv_classes.proofs.Marking.{TellsBelow}
 use Rattle.jv_classes.proofs.declared_marks.field_marks.Given as goal

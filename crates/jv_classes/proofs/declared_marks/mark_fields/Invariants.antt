@@ -1,4 +1,4 @@
-use Rattle.jv_meaning_world.specs.of_class.Class.{Field}
+use Rattle.jv_class.specs.Class.{Field}
 use Rattle.jv_classes.specs.Marks.{AreKept}
 use Rattle.jv_classes.proofs.Marking.{AreMarkedBelow}
 use Rattle.jv_classes.proofs.declared_marks.mark_fields.Given as goal

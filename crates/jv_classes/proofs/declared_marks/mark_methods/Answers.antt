@@ -1,5 +1,5 @@
 use Rattle.std.proofs.Common.{◌≤◌, ◌∙◌, length, refl, arith}
-use Rattle.jv_meaning_world.specs.of_class.Class.{Method}
+use Rattle.jv_class.specs.Class.{Method}
 use Rattle.jv_classes.proofs.Marking.{none_marked, one_marked, all_marked}
 use Rattle.jv_classes.proofs.declared_marks.mark_methods.Goals as goal
 

@@ -1,4 +1,4 @@
-use Rattle.jv_meaning_world.specs.of_class.Class.{Method}
+use Rattle.jv_class.specs.Class.{Method}
 use Rattle.jv_classes.specs.Marks.{AreKept}
 use Rattle.jv_classes.proofs.Marking.{AreMarkedBelow}
 use Rattle.jv_classes.proofs.declared_marks.mark_methods.Given as goal

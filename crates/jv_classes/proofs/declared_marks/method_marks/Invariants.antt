@@ -1,4 +1,4 @@
-use Rattle.jv_meaning_world.specs.of_class.Class.{Method}
+use Rattle.jv_class.specs.Class.{Method}
 use Rattle.jv_meaning_world.specs.World.{Loaded}
 use Rattle.jv_classes.proofs.Marking.{TellsBelow}
 use Rattle.jv_classes.proofs.declared_marks.method_marks.Given as goal

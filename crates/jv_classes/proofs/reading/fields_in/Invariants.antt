@@ -1,5 +1,5 @@
 use Rattle.std.proofs.Common.{◌≡◌, take, Some}
-use Rattle.jv_meaning_world.specs.of_class.Class.{all_found}
+use Rattle.jv_class.specs.Class.{all_found}
 use Rattle.jv_classes.specs.Inside.Found.{ArePlaces, field_at}
 use Rattle.jv_classes.proofs.reading.fields_in.Given as goal
 

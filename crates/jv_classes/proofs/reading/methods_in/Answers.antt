@@ -1,7 +1,7 @@
 use Rattle.std.proofs.Common.{◌<◌, ◌≤◌, length, arith, rules, ap, sym, ◌∙◌}
 use Rattle.std.proofs.lemmas.List.{take_all}
-use Rattle.jv_meaning_world.specs.of_class.Class.{all_found}
-use Rattle.jv_meaning_world.specs.of_class_structure.Parts.{methods_of}
+use Rattle.jv_class.specs.Class.{all_found}
+use Rattle.jv_class_structure.specs.Parts.{methods_of}
 use Rattle.jv_classes.specs.Inside.Found.{method_at}
 use Rattle.jv_classes.proofs.AllFound.{next_joined}
 use Rattle.jv_classes.proofs.reading.methods_in.Goals as goal

@@ -1,6 +1,6 @@
 use Rattle.std.proofs.Common.{◌≡◌, take, Some}
-use Rattle.jv_meaning_world.specs.of_class.Class.{all_found}
-use Rattle.jv_meaning_world.specs.of_class_structure.Parts.{methods_of}
+use Rattle.jv_class.specs.Class.{all_found}
+use Rattle.jv_class_structure.specs.Parts.{methods_of}
 use Rattle.jv_classes.specs.Inside.Found.{ArePlaces, method_at}
 use Rattle.jv_classes.proofs.reading.methods_in.Given as goal
 

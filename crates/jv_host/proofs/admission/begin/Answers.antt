@@ -1,5 +1,5 @@
 use Rattle.std.proofs.Common.{length, map, refl}
-use Rattle.jv_host.specs.Bytes.{bytes_of}
+use Rattle.jv_limits.specs.Bytes.{bytes_of}
 use Rattle.jv_host.proofs.Beginnings.{few_of_files, begun}
 use Rattle.jv_host.proofs.admission.begin.Goals as goal
 

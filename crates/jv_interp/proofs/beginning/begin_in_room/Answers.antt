@@ -1,8 +1,8 @@
 use Rattle.std.proofs.Common.{refl, subst}
 use Rattle.jv_meaning_world.specs.World.{World}
-use Rattle.jv_interp_creation.specs.of_linked.Linked.{IsLinked}
-use Rattle.jv_interp_creation.specs.of_interp_calls.Methods.{AreMethods}
-use Rattle.jv_interp_creation.specs.of_interp_calls.Texts.{AreTexts}
+use Rattle.jv_link_cache.specs.Linked.{IsLinked}
+use Rattle.jv_interp_members.specs.Methods.{AreMethods}
+use Rattle.jv_interp_objects.specs.Texts.{AreTexts}
 use Rattle.jv_interp.proofs.Begun.{can_start, starts_in, begins}
 use Rattle.jv_interp.proofs.beginning.begin_in_room.Goals as goal
 

@@ -4,9 +4,9 @@ use Rattle.jv_meaning_machine.specs.State.End.{Running}
 use Rattle.jv_meaning_machine.specs.Initialization.{main_method}
 use Rattle.jv_meaning_machine.specs.Start.{start_control}
 use Rattle.jv_lookups.specs.Places.{IsMethodFound}
-use Rattle.jv_interp_frames.specs.of_linked.Linked.{IsLinked}
-use Rattle.jv_interp_memory.specs.SystemNumbers.{IsGuestsWorld}
-use Rattle.jv_interp_frames.specs.ControlStands.{ControlStands}
+use Rattle.jv_link_cache.specs.Linked.{IsLinked}
+use Rattle.jv_interp_heap.specs.SystemNumbers.{IsGuestsWorld}
+use Rattle.jv_interp_control.specs.ControlStands.{ControlStands}
 use Rattle.jv_interp.specs.Started.{budget_of}
 use Rattle.jv_interp.proofs.first.first_kept.Goals as goal
 

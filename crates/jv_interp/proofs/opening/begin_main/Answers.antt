@@ -4,8 +4,8 @@ use Rattle.std.proofs.lemmas.Result.{on_ok_weaker}
 use Rattle.jv_meaning_world.specs.World.{World}
 use Rattle.jv_lookups.specs.declared.place.Place.{Place}
 use Rattle.jv_lookups.specs.Places.{IsMethodPlace}
-use Rattle.jv_interp_frames.specs.Standing.{kept, Moved}
-use Rattle.jv_interp_frames.specs.Moves.{Beginning}
+use Rattle.jv_interp_control.specs.Standing.{kept, Moved}
+use Rattle.jv_interp_control.specs.Moves.{Beginning}
 use Rattle.jv_interp.proofs.Opened.{ended, begun}
 use Rattle.jv_interp.proofs.opening.begin_main.Goals as goal
 

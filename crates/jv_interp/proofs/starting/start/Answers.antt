@@ -1,6 +1,6 @@
 use Rattle.std.proofs.Common.{sym, subst}
-use Rattle.jv_interp_memory.specs.ObjectsInBlocks.{Blocks}
-use Rattle.jv_interp_memory.specs.declared.held.Held.{Held}
+use Rattle.jv_interp_heap.specs.ObjectsInBlocks.{Blocks}
+use Rattle.jv_interp_held.specs.declared.held.Held.{Held}
 use Rattle.jv_interp.specs.Starting.{BothJoin}
 use Rattle.jv_interp.proofs.StartedStands.{opening, has_started}
 use Rattle.jv_interp.proofs.starting.start.Goals as goal

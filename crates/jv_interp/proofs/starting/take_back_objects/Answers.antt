@@ -1,8 +1,8 @@
 use Rattle.std.proofs.Common.{[], ◌∷◌, length, refl, sym, ap, ◌∙◌}
-use Rattle.jv_heap.specs.Content.{words_at, greatest, without}
-use Rattle.jv_interp_memory.specs.ObjectsInBlocks.{Blocks}
-use Rattle.jv_interp_memory.proofs.NewWords.{joined_length}
-use Rattle.jv_interp_creation.proofs.TextJoined.{newest_address, taken_back}
+use Rattle.jv_store.specs.Content.{words_at, greatest, without}
+use Rattle.jv_interp_heap.specs.ObjectsInBlocks.{Blocks}
+use Rattle.jv_interp_heap.proofs.NewWords.{joined_length}
+use Rattle.jv_interp_objects.proofs.TextJoined.{newest_address, taken_back}
 use Rattle.jv_interp.proofs.starting.take_back_objects.Goals as goal
 
 pub take_back-requires-clause-newest : goal.take_back-requires-clause-newest

@@ -1,6 +1,6 @@
 use Rattle.std.proofs.Common.{◌∙◌, true, false, sym}
 use Rattle.jv_class.specs.Class.{method_named}
-use Rattle.jv_loader.proofs.laws_of_lookups.Standing.{method_stands}
+use Rattle.jv_lookups.proofs.Standing.{method_stands}
 use Rattle.jv_link.proofs.Naming.{declared_or_not}
 use Rattle.jv_link.proofs.alike.alike_in.Goals as goal
 

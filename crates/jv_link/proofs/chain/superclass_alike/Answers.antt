@@ -3,8 +3,8 @@ use Rattle.jv_meaning_world.specs.World.{Loaded}
 use Rattle.jv_meaning_world.specs.Overriding.{Declared, alike_in}
 use Rattle.jv_meaning_world.specs.LookUps.{first_found}
 use Rattle.jv_classes.proofs.Followed.{some_class}
-use Rattle.jv_loader.proofs.laws_of_lookups.Found.{found, passed}
-use Rattle.jv_loader.proofs.laws_of_lookups.Standing.{method_stands}
+use Rattle.jv_lookups.proofs.Found.{found, passed}
+use Rattle.jv_lookups.proofs.Standing.{method_stands}
 use Rattle.jv_link.proofs.chain.superclass_alike.Goals as goal
 
 pub returns-in-Some-clause-found : goal.returns-in-Some-clause-found

@@ -1,7 +1,7 @@
 use Rattle.std.proofs.Common.{◌≡◌, Some}
 use Rattle.jv_meaning_world.specs.Overriding.{Declared, alike_in}
-use Rattle.jv_loader.specs.of_lookups.Places.{method_at}
-use Rattle.jv_loader.proofs.laws_of_lookups.Found.{IsLeft}
+use Rattle.jv_lookups.specs.Places.{method_at}
+use Rattle.jv_lookups.proofs.Found.{IsLeft}
 use Rattle.jv_link.proofs.chain.superclass_alike.Given as goal
 
 abbrev pub invariant-loop-superclass : goal.invariant-loop-superclass

@@ -1,7 +1,7 @@
 use Rattle.std.proofs.Common.{◌∙◌, ap, sym, Some, codes}
 use Rattle.std.specs.Option.{ok_or, option_map}
 use Rattle.jv_classes.proofs.Told.{stands_at}
-use Rattle.jv_loader.proofs.laws_of_lookups.Chain.{not_named}
+use Rattle.jv_lookups.proofs.Chain.{not_named}
 use Rattle.jv_link.specs.Seen.{answer, error_of}
 use Rattle.jv_link.proofs.Operands.{array_means}
 use Rattle.jv_link.proofs.class.member_class.Goals as goal

@@ -2,7 +2,7 @@ use Rattle.std.proofs.Common.{◌∙◌, ap, sym, Some}
 use Rattle.jv_meaning_world.specs.World.{can_name}
 use Rattle.std.specs.Option.{ok_or}
 use Rattle.jv_classes.proofs.Told.{stands_at}
-use Rattle.jv_loader.proofs.laws_of_lookups.Chain.{not_named}
+use Rattle.jv_lookups.proofs.Chain.{not_named}
 use Rattle.jv_meaning_typing.specs.LinkErrors.{◌>>=◌, provided, unless_wrong}
 use Rattle.jv_meaning_typing.specs.LinkErrors.LinkError.{NoClassDefFoundError, IllegalAccessError}
 use Rattle.jv_meaning_typing.specs.ClassResolution.{error_of_class}

@@ -1,6 +1,6 @@
 use Rattle.std.proofs.Common.{◌∙◌}
 use Rattle.std.specs.Cmp.Lexicographic.{nat_list_eq_equiv}
-use Rattle.jv_loader.proofs.laws_of_lookups.Among.{same_test}
+use Rattle.jv_lookups.proofs.Among.{same_test}
 use Rattle.jv_link.proofs.class.same_class.Goals as goal
 
 pub returns : goal.returns

@@ -1,8 +1,8 @@
 use Rattle.std.proofs.Common.{◌∙◌, Some, ap, subst, sym}
 use Rattle.std.specs.Prelude.{IfSome}
 use Rattle.std.specs.Option.{option_and_then}
-use Rattle.jv_loader.specs.of_lookups.Places.{method_at, IsMethodPlace}
-use Rattle.jv_loader.proofs.laws_of_lookups.Standing.{method_stands}
+use Rattle.jv_lookups.specs.Places.{method_at, IsMethodPlace}
+use Rattle.jv_lookups.proofs.Standing.{method_stands}
 use Rattle.jv_meaning_typing.specs.Selection.{public_or_default}
 use Rattle.jv_link.proofs.ending.public_or_default.Goals as goal
 

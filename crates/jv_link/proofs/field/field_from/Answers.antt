@@ -2,7 +2,7 @@ use Rattle.std.proofs.Common.{◌≡◌, Some, subst}
 use Rattle.std.specs.Option.{option_map}
 use Rattle.jv_pool.specs.Seen.{seen_member}
 use Rattle.jv_meaning_world.specs.Numbers.{HoldsAtNumber}
-use Rattle.jv_loader.specs.of_lookups.Places.{field_at}
+use Rattle.jv_lookups.specs.Places.{field_at}
 use Rattle.jv_meaning_typing.specs.LinkErrors.{◌>>=◌}
 use Rattle.jv_meaning_typing.specs.FieldResolution.{found_field}
 use Rattle.jv_link.specs.Seen.{answer, answer_at}

@@ -1,8 +1,8 @@
 use Rattle.std.proofs.Common.{◌≡◌, ◌∙◌, ◌-◌, suc, sym, arith, length}
 use Rattle.jv_classes.proofs.Followed.{some_class}
 use Rattle.jv_meaning_world.specs.Numbers.{classes_at}
-use Rattle.jv_loader.proofs.laws_of_lookups.Among.{among}
-use Rattle.jv_loader.proofs.laws_of_lookups.Next.{next_below}
+use Rattle.jv_lookups.proofs.Among.{among}
+use Rattle.jv_lookups.proofs.Next.{next_below}
 use Rattle.jv_link.proofs.GivenSoFar.{gives_with, gives_without, given_before, given_now}
 use Rattle.jv_link.proofs.giving.+give.Goals as goal
 use Rattle.jv_link.proofs.giving.+give.Goals.{in-Some+in_ok-give, in_default}

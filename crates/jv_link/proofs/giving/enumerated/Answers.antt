@@ -3,8 +3,8 @@ use Rattle.std.specs.List.{fold}
 use Rattle.jv_meaning_world.specs.Numbers.{HoldsAtNumber}
 use Rattle.jv_classes.proofs.Followed.{some_class}
 use Rattle.jv_meaning_world.specs.Numbers.{classes_at}
-use Rattle.jv_loader.specs.of_lookups.Inside.Numbers.{NumbersBelow}
-use Rattle.jv_loader.proofs.laws_of_lookups.Next.{next_below}
+use Rattle.jv_lookups.specs.Inside.Numbers.{NumbersBelow}
+use Rattle.jv_lookups.proofs.Next.{next_below}
 use Rattle.jv_meaning_typing.specs.InitializationOrder.{interfaces_in, given_within}
 use Rattle.jv_link.proofs.GivenSoFar.{gives_with, gives_without, all_given}
 use Rattle.jv_link.proofs.giving.enumerated.Goals as goal

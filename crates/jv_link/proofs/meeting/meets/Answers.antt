@@ -1,6 +1,6 @@
 use Rattle.std.proofs.Common.{◌∙◌, ap, subst, sym}
 use Rattle.std.specs.Prelude.{if◌then◌else◌}
-use Rattle.jv_loader.proofs.laws_of_lookups.Standing.{method_stands}
+use Rattle.jv_lookups.proofs.Standing.{method_stands}
 use Rattle.jv_meaning_typing.specs.Access.{same_class}
 use Rattle.jv_link.proofs.Placed.{method_placed}
 use Rattle.jv_link.specs.Inside.Climbing.{met_below, met_in, IsMet}

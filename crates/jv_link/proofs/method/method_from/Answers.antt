@@ -2,7 +2,7 @@ use Rattle.std.proofs.Common.{◌≡◌, ◌∙◌, Some, subst, sym}
 use Rattle.std.specs.Option.{option_map}
 use Rattle.jv_pool.specs.Seen.{seen_member}
 use Rattle.jv_meaning_world.specs.Numbers.{HoldsAtNumber}
-use Rattle.jv_loader.specs.of_lookups.Places.{method_at}
+use Rattle.jv_lookups.specs.Places.{method_at}
 use Rattle.jv_meaning_typing.specs.LinkErrors.{◌>>=◌}
 use Rattle.jv_link.specs.Seen.{answer, answer_at, method_target_at}
 use Rattle.jv_link.specs.Inside.Steps.{looked_up, accessible_method}

@@ -1,7 +1,7 @@
 use Rattle.std.proofs.Common.{◌<◌, ◌∙◌, ap, subst, sym, length}
 use Rattle.jv_meaning_world.specs.World.{Loaded}
-use Rattle.jv_loader.specs.of_lookups.declared.place.Place.{Place}
-use Rattle.jv_loader.proofs.laws_of_lookups.Standing.{method_stands}
+use Rattle.jv_lookups.specs.declared.place.Place.{Place}
+use Rattle.jv_lookups.proofs.Standing.{method_stands}
 use Rattle.jv_link.proofs.Defaulting.{method_there, has_default, no_default}
 use Rattle.jv_link.proofs.order.declares_default.Goals as goal
 

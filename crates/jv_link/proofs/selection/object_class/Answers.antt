@@ -3,7 +3,7 @@ use Rattle.std.specs.Prelude.{slice_get}
 use Rattle.std.specs.Option.{ok_or, option_map}
 use Rattle.jv_meaning_world.proofs.Up.{named_stands}
 use Rattle.jv_classes.proofs.Told.{stands_at, same_some}
-use Rattle.jv_loader.proofs.laws_of_lookups.Chain.{not_named}
+use Rattle.jv_lookups.proofs.Chain.{not_named}
 use Rattle.jv_loader.specs.Straight.{IsStraight}
 use Rattle.jv_meaning_typing.specs.LinkErrors.LinkError.{AbstractMethodError}
 use Rattle.jv_meaning_typing.specs.Selection.{object_class}

@@ -1,4 +1,4 @@
-use Rattle.jv_linked.specs.Linked.{IsLinked}
+use Rattle.jv_link_cache.specs.Linked.{IsLinked}
 use Rattle.jv_link_tests.proofs.guest.wrong_in.Given as goal
 
 abbrev pub invariant-loop-line : goal.invariant-loop-line

@@ -1,6 +1,6 @@
 use Rattle.std.proofs.Common.{◌≡◌, List, false, subst, ap, ◌∙◌}
 use Rattle.std.specs.Prelude.{IfNone}
-use Rattle.jv_class_structure.specs.of_pool.Constants.{Entry, kind_at}
+use Rattle.jv_pool.specs.Constants.{Entry, kind_at}
 use Rattle.jv_class_structure.specs.Structure.{ClassStructure}
 use Rattle.jv_class.specs.Value.{is_value, value_of_field}
 use Rattle.jv_class.proofs.Values.{value_same}

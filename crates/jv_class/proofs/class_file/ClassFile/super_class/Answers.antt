@@ -1,6 +1,6 @@
 use Rattle.std.proofs.Common.{subst, ◌∙◌, sym}
 use Rattle.std.specs.Prelude.{IsSome}
-use Rattle.jv_class_structure.specs.of_pool.Constants.{class_name_at}
+use Rattle.jv_pool.specs.Constants.{class_name_at}
 use Rattle.jv_class_structure.specs.Structure.{ClassStructure}
 use Rattle.jv_class.proofs.Keys.{super_there}
 use Rattle.jv_class.proofs.class_file.ClassFile.super_class.Goals as goal

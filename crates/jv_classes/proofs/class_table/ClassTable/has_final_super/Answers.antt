@@ -1,5 +1,5 @@
 use Rattle.std.proofs.Common.{◌∙◌, ap}
-use Rattle.jv_meaning_world.specs.of_class_structure.Flags.{has, acc_final}
+use Rattle.jv_class_structure.specs.Flags.{has, acc_final}
 use Rattle.jv_meaning_world.specs.World.{Loaded}
 use Rattle.jv_meaning_world.specs.Verdicts.{passes}
 use Rattle.jv_classes.specs.Inside.Tests.{passes_at}

@@ -1,5 +1,5 @@
 use Rattle.std.proofs.Common.{◌∙◌, sym, ap, subst}
-use Rattle.jv_meaning_world.specs.of_class.Class.{Method}
+use Rattle.jv_class.specs.Class.{Method}
 use Rattle.jv_meaning_world.specs.World.{World}
 use Rattle.jv_classes.specs.Marks.{MarksMethod, is_marked}
 use Rattle.jv_classes.proofs.Marking.{none_named}

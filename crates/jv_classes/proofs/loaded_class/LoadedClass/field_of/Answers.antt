@@ -2,7 +2,7 @@ use Rattle.std.proofs.Common.{◌≡◌, ◌<◌, Option, ℕ, length, ◌∙◌
 use Rattle.std.specs.Prelude.{◌&&◌, position, slice_get, IfSome}
 use Rattle.std.specs.Option.{option_and_then}
 use Rattle.std.specs.Str.{bytes_eq}
-use Rattle.jv_meaning_world.specs.of_class.Class.{Field}
+use Rattle.jv_class.specs.Class.{Field}
 use Rattle.jv_classes.specs.Inside.Kept.{class_of_file}
 use Rattle.jv_classes.specs.Inside.Seen.{field_seen, declares}
 use Rattle.jv_classes.proofs.Places.{place_seen, found_there, place_within}

@@ -1,5 +1,5 @@
 use Rattle.std.proofs.Common.{◌≡◌, ◌≢◌, Some, None, Option, List, length, map, set, slice_get, refl, ap, subst, ◌∙◌}
-use Rattle.jv_host.specs.declared.fault.FeedFault.TheVariants.{HostMemory}
+use Rattle.jv_limits.specs.declared.fault.FeedFault.TheVariants.{HostMemory}
 use Rattle.jv_host.specs.Host.{Admission, fed_now, changed_at, after_feed}
 use Rattle.jv_host.specs.Limits.{feed_refusal_of, feed_refusal}
 use Rattle.jv_host.specs.Inside.Holding.{admission_of}

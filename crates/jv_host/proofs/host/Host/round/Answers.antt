@@ -1,6 +1,6 @@
 use Rattle.std.proofs.Common.{◌≡◌, ℕ, Err, IsErr, length, refl, sym, ap, subst, ◌∙◌, arith}
-use Rattle.jv_host.specs.declared.fault.TurnFault.{TurnFault}
-use Rattle.jv_host.specs.declared.fault.TurnFault.TheVariants.{NoGuest, HostMemory}
+use Rattle.jv_limits.specs.declared.fault.TurnFault.{TurnFault}
+use Rattle.jv_limits.specs.declared.fault.TurnFault.TheVariants.{NoGuest, HostMemory}
 use Rattle.jv_host.specs.Calls.{HadTurns}
 use Rattle.jv_host.proofs.Rounding.{no_turns, one_more_turn, is_there}
 use Rattle.jv_host.proofs.host.Host.round.Goals as goal

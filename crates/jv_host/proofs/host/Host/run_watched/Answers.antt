@@ -1,6 +1,6 @@
 use Rattle.std.proofs.Common.{◌≡◌, ℕ, Err, refl, ap, subst, ◌∙◌, arith}
-use Rattle.jv_host.specs.declared.fault.TurnFault.{TurnFault}
-use Rattle.jv_host.specs.declared.fault.TurnFault.TheVariants.{HostMemory}
+use Rattle.jv_limits.specs.declared.fault.TurnFault.{TurnFault}
+use Rattle.jv_limits.specs.declared.fault.TurnFault.TheVariants.{HostMemory}
 use Rattle.jv_host.specs.Calls.{Rounds}
 use Rattle.jv_host.proofs.Rounding.{one_more_round}
 use Rattle.jv_host.proofs.host.Host.run_watched.Goals as goal

@@ -1,6 +1,6 @@
 use Rattle.std.proofs.Common.{◌<◌, ap, sym, ◌∙◌, subst, map, [], ◌∷◌, ◌++◌, replicate, arith}
 use Rattle.std.proofs.lemmas.List.{map-append}
-use Rattle.jv_heap.specs.Content.{greatest}
+use Rattle.jv_store.specs.Content.{greatest}
 use Rattle.jv_host_tests.specs.Plain.{mounting}
 use Rattle.jv_host_tests.proofs.Plain.{mounting-append}
 use Rattle.jv_host_tests.proofs.twin.Twin.alloc.Goals as goal

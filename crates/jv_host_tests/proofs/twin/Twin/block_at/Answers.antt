@@ -1,5 +1,5 @@
 use Rattle.std.proofs.Common.{ap, ◌∙◌, ◌<◌, length, arith}
-use Rattle.jv_heap.specs.Content.{words_at}
+use Rattle.jv_store.specs.Content.{words_at}
 use Rattle.jv_host_tests.proofs.Plain.{read_block}
 use Rattle.jv_host_tests.proofs.twin.Twin.block_at.Goals as goal
 

@@ -1,6 +1,6 @@
 use Rattle.std.proofs.Common.{◌≡◌, ◌<◌, ap, sym, ◌∙◌, length, refl, arith}
 use Rattle.std.proofs.lemmas.List.{get_or_default}
-use Rattle.jv_heap.specs.Content.{written}
+use Rattle.jv_store.specs.Content.{written}
 use Rattle.jv_host_tests.specs.Plain.{mounting}
 use Rattle.jv_host_tests.proofs.Plain.{write_block, mounting-written}
 use Rattle.jv_host_tests.proofs.twin.Twin.set.Goals as goal

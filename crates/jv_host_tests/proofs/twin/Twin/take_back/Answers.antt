@@ -1,5 +1,5 @@
 use Rattle.std.proofs.Common.{◌≡◌, ap, sym, ◌∙◌, length, arith}
-use Rattle.jv_heap.specs.Content.{greatest, words_at, without}
+use Rattle.jv_store.specs.Content.{greatest, words_at, without}
 use Rattle.jv_host_tests.proofs.Plain.{last_block, at_itself}
 use Rattle.jv_host_tests.proofs.twin.Twin.take_back.Goals as goal
 

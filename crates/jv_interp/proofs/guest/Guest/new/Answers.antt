@@ -1,5 +1,5 @@
 use Rattle.std.proofs.Common.{subst}
-use Rattle.jv_interp_memory.specs.ObjectsInBlocks.{Blocks}
+use Rattle.jv_interp_heap.specs.ObjectsInBlocks.{Blocks}
 use Rattle.jv_interp.specs.Beginning.{HasBegun}
 use Rattle.jv_interp.proofs.guest.Guest.new.Goals as goal
 

@@ -1,6 +1,6 @@
 use Rattle.std.proofs.Common.{refl, ◌∙◌, sym, subst}
 use Rattle.jv_meaning_world.specs.World.{World}
-use Rattle.jv_interp_frames.specs.ControlStands.{IsClassOf, EndStands}
+use Rattle.jv_interp_control.specs.ControlStands.{IsClassOf, EndStands}
 use Rattle.jv_interp.proofs.Shown.{shows}
 use Rattle.jv_interp.proofs.guest.Guest.observe.Goals as goal
 

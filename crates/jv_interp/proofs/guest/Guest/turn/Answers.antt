@@ -1,8 +1,8 @@
 use Rattle.std.proofs.Common.{◌-◌, refl, sym, subst}
 use Rattle.jv_meaning_world.specs.World.{World}
-use Rattle.jv_interp_creation.specs.of_linked.Linked.{IsLinked}
-use Rattle.jv_interp_creation.specs.of_interp_calls.Methods.{AreMethods}
-use Rattle.jv_interp_creation.specs.of_interp_calls.Texts.{AreTexts}
+use Rattle.jv_link_cache.specs.Linked.{IsLinked}
+use Rattle.jv_interp_members.specs.Methods.{AreMethods}
+use Rattle.jv_interp_objects.specs.Texts.{AreTexts}
 use Rattle.jv_interp.proofs.Safe.{runs_from, ran_to_last}
 use Rattle.jv_interp.proofs.Later.{went, ended_there}
 use Rattle.jv_interp.proofs.guest.Guest.turn.Goals as goal

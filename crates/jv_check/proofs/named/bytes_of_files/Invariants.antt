@@ -1,6 +1,0 @@
-use Rattle.std.proofs.Common.{◌≡◌, map, take}
-use Rattle.jv_run.specs.of_host.Bytes.{bytes_of}
-use Rattle.jv_check.proofs.named.bytes_of_files.Given as goal
-
-abbrev pub invariant-loop-file : goal.invariant-loop-file
-invariant-loop-file l = map bytes_of l.found.items ≡ map (λ file. file.items) (take l.file-index l.files)

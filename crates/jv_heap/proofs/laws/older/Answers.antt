@@ -1,5 +1,0 @@
-use Rattle.jv_heap.proofs.Contents.{written-append}
-use Rattle.jv_heap.proofs.laws.older.Goals as goal
-
-pub returns : goal.returns
-returns c = λ blocks a b i w ws other. written-append blocks a b i w ws other

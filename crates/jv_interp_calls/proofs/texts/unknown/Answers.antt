@@ -1,5 +1,0 @@
-use Rattle.jv_interp_calls.proofs.InTexts.{one_unknown}
-use Rattle.jv_interp_calls.proofs.texts.unknown.Goals as goal
-
-pub loop-preserved : goal.loop-preserved
-loop-preserved c texts pool = rw c.in_ok-push.ensures.items (one_unknown texts pool c.loop.entries.items (c.loop.invariant texts pool))

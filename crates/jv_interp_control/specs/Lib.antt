@@ -1,0 +1,12 @@
+pub mod FramesStand
+pub mod ControlStands
+pub mod Standing
+pub mod Moves
+pub mod Exceptions
+pub mod Inside
+pub mod Leaving
+pub mod Suspending
+pub mod Running
+pub mod Acting
+pub mod Resuming
+pub mod Initializing

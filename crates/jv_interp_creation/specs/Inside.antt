@@ -1,4 +1,0 @@
-pub mod Elements
-pub mod Refs
-pub mod Standing
-pub mod Slots

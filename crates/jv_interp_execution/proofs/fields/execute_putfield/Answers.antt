@@ -1,6 +1,0 @@
-use Rattle.jv_interp_execution.proofs.FieldsUsed.{put}
-use Rattle.jv_interp_execution.proofs.fields.execute_putfield.Goals as goal
-
-pub returns-clause-done : goal.returns-clause-done
-returns-clause-done g c = λ texts.
-    put c.execution_keeps.ensures _ _ _ texts _ _ _ _ _ _ _ _ c.putfield.ensures.puts

@@ -1,5 +1,0 @@
-use Rattle.jv_interp_frames.proofs.MovedDown.{MovedSoFar}
-use Rattle.jv_interp_frames.proofs.leaving.move_down.Given as goal
-
-abbrev pub invariant-loop-place : goal.invariant-loop-place
-invariant-loop-place l = MovedSoFar l.from l.to l.place l.fn.words l.words

@@ -1,5 +1,0 @@
-use Rattle.jv_interp_frames.specs.Inside.Passing.{PassesUpTo}
-use Rattle.jv_interp_frames.proofs.passing.pass_frames.Given as goal
-
-abbrev pub invariant-loop-step : goal.invariant-loop-step
-invariant-loop-step l = PassesUpTo l.classes.world l.count l.step l.fn.frames l.fn.control l.frames l.control

@@ -1,0 +1,10 @@
+pub mod Grown
+pub mod Joined
+pub mod Fields
+pub mod Components
+pub mod Changed
+pub mod NewWords
+pub mod Widths
+pub mod NewObjects
+pub mod Carried
+pub mod Numbered

@@ -1,0 +1,4 @@
+pub mod ObjectsInBlocks
+pub mod NewBlocks
+pub mod Narrowing
+pub mod SystemNumbers

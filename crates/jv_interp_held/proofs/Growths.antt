@@ -1,0 +1,77 @@
+-- What is left of other guests' blocks where a guest's own join the store or are written: how a guest's blocks grow.
+use Rattle.std.proofs.Common.{◌≡◌, ℕ, zero, suc, ◌+◌, ◌<◌, inl, inr, List, [], ◌∷◌, ◌++◌, Some, Contains, length, slice_get, slice_index_or, sym, ap, subst, ◌∙◌, arith}
+use Rattle.std.proofs.lemmas.List.Elements.{Contains-append_cases}
+use Rattle.jv_store.specs.Content.{words_at, greatest}
+use Rattle.jv_store.proofs.LookUps.{greatest-append_above}
+use Rattle.jv_interp_heap.specs.ObjectsInBlocks.{Blocks}
+use Rattle.jv_interp_heap.specs.NewBlocks.{Joins}
+use Rattle.jv_interp_heap.proofs.Joined.{within, others_stay}
+use Rattle.jv_interp_heap.proofs.Changed.{Changes}
+use Rattle.jv_interp_held.specs.Growing.{Grows}
+
+pub one_in : (a x : ℕ) → Contains (a ∷ []) x → a ≡ x
+one_in a x h = by_place h.0 h.1 h.2
+  where
+    by_place : (k : ℕ) → k < length (a ∷ []) → slice_index_or (a ∷ []) k x ≡ x → a ≡ x
+    by_place zero less e = e
+    by_place (suc k) less e = absurd (omega (arith, less))
+
+none_in : (x : ℕ) → Contains {X = ℕ} [] x → ⊥
+none_in x h = let less = h.1 in omega (arith, less)
+
+pub joined_grows : (addresses words : List ℕ) (before after : Blocks) (address : ℕ) → Joins words before after address → Grows addresses (address ∷ []) before after
+joined_grows addresses words before after address j = record {
+  others =
+      λ other low apart. ap (λ (c : Blocks). words_at c other) j.joins ∙ others_stay before address words other j.above low;
+  above = λ a inside. subst (λ (n : ℕ). greatest before < n) (one_in address a inside) j.above;
+  no_lower = let e = ap greatest j.joins ∙ greatest-append_above before address words j.above in let a = j.above in omega (arith, e, a);
+}
+
+pub same_grows : (addresses : List ℕ) (before after : Blocks) → after ≡ before → Grows addresses [] before after
+same_grows addresses before after e = record {
+  others = λ other low apart. ap (λ (c : Blocks). words_at c other) e;
+  above = λ a inside. absurd (none_in a inside);
+  no_lower = let same = ap greatest e in omega (arith, same);
+}
+
+pub then_grows :
+    (addresses first second : List ℕ) (before between after : Blocks) → Grows addresses first before between
+    → Grows (addresses ++ first) second between after → Grows addresses (first ++ second) before after
+then_grows addresses first second before between after g h = record {
+  others =
+      λ other low apart.
+      h.others other (let n = g.no_lower in omega (arith, low, n))
+      (λ inside.
+      elim (Contains-append_cases addresses first other inside) [
+        | inl p ↦ apart p
+        | inr p ↦ let up = g.above other p in omega (arith, up, low)
+      ])
+      ∙ g.others other low apart;
+  above =
+      λ a inside.
+      elim (Contains-append_cases first second a inside) [
+        | inl p ↦ g.above a p
+        | inr p ↦ let up = h.above a p in let n = g.no_lower in omega (arith, up, n)
+      ];
+  no_lower = let n = g.no_lower in let m = h.no_lower in omega (arith, n, m);
+}
+
+-- one block of the guest's own has other words
+pub there_in : (xs : List ℕ) (k x : ℕ) → slice_get xs k ≡ Some x → Contains xs x
+there_in xs k x e = (k, within xs k x e, is_there xs k x e)
+  where
+    is_there : (xs : List ℕ) (k x : ℕ) → slice_get xs k ≡ Some x → slice_index_or xs k x ≡ x
+    is_there [] k x e = absurd cc
+    is_there (y ∷ ys) zero x e = cc
+    is_there (y ∷ ys) (suc k) x e = is_there ys k x e
+
+pub changed_grows :
+    (addresses words : List ℕ) (id address : ℕ) (before after : Blocks) → slice_get addresses id ≡ Some address
+    → Changes address words before after → Grows addresses [] before after
+changed_grows addresses words id address before after at changes = record {
+  others =
+      λ other low apart.
+      changes.others other (λ same. apart (subst (λ (n : ℕ). Contains addresses n) (sym same) (there_in addresses id address at)));
+  above = λ a inside. absurd (none_in a inside);
+  no_lower = let same = changes.same_greatest in omega (arith, same);
+}

@@ -1,0 +1,98 @@
+-- Calls, as instructions.
+use Rattle.std.proofs.Common.{◌≡◌, ℕ, List, refl, sym, ◌∙◌}
+use Rattle.jv_code.specs.Insns.{Instruction}
+use Rattle.jv_code.specs.declared.insn.Insn.TheVariants as insns
+use Rattle.jv_code.specs.declared.kinds.Invocation.TheVariants as invocations
+use Rattle.jv_link.specs.declared.site.Use.{Use}
+use Rattle.jv_link.specs.declared.site.Use.TheVariants as uses
+use Rattle.jv_link.specs.Seen.{seen_use}
+use Rattle.jv_meaning_machine.specs.Calls.{call}
+use Rattle.jv_meaning_machine.specs.Laws.Steps.{ExecutionKeeps}
+use Rattle.jv_meaning_machine.specs.State.{Memory}
+use Rattle.jv_meaning_machine.specs.Effects.{Effect as EffectOfNames, Context, Outcome}
+use Rattle.jv_meaning_machine.specs.Instructions.{execute}
+use Rattle.jv_interp_words.specs.declared.registers.Registers.{Registers}
+use Rattle.jv_interp_heap.specs.ObjectsInBlocks.{Blocks}
+use Rattle.jv_interp_held.specs.declared.class_state.ClassState.{ClassState}
+use Rattle.jv_interp_held.specs.ClassStates.{AreClassStates}
+use Rattle.jv_interp_held.specs.declared.held.Held.{Held}
+use Rattle.jv_interp_held.specs.declared.effect.Effect.{Effect}
+use Rattle.jv_interp_held.specs.Growing.{DidIn}
+use Rattle.jv_interp_members.specs.Known.{Known}
+use Rattle.jv_interp_members.specs.Calling.{Calling, CanCall, Calls, CanCallStatic, CallsStatic}
+use Rattle.jv_interp_held.specs.Executing.{place}
+use Rattle.jv_interp_instructions.specs.InGuest.{ExecutesIn, CanExecute, Executed, CanExecuteAt, ExecutedAt}
+use Rattle.jv_interp_instructions.proofs.Grown.{did_same}
+
+-- an instruction that calls so
+abbrev pub CallsBy : Instruction → Use → ℕ → Type 0
+CallsBy insn how index = (c : Context) → execute c insn ≡ call c (seen_use how) index
+
+module _ (kept : ExecutionKeeps) (insn : Instruction) (how : Use) (index : ℕ) (by : CallsBy insn how index) (next : ℕ) (k : Known) (texts : List (List ℕ)) (at : Registers)
+    (words : List ℕ) (held : Held) (blocks : Blocks) where
+  calls_here :
+      (c : Context) (addresses : List ℕ) (done : Memory × EffectOfNames) (below : List ℕ)
+      → ExecutesIn insn next k texts (place at words held blocks) c addresses done below
+      → Calling how index next k (place at words held blocks) texts c addresses done below
+  calls_here c addresses done below h = record {
+    executes = record {
+      does = sym (by c) ∙ h.executes.does;
+      frame = h.executes.frame;
+      memory = h.executes.memory;
+      base_is = h.executes.base_is;
+      pc_is = h.executes.pc_is;
+      next_is = h.executes.next_is;
+      top_within = h.executes.top_within;
+    };
+    known = h.known;
+    loadable = h.loadable;
+  }
+
+  pub can_call : CanExecute insn next k texts at words held blocks → CanCall how index k at words held blocks
+  can_call h = record {
+    next = next;
+    texts = texts;
+    c = h.c;
+    addresses = h.addresses;
+    done = h.done;
+    below = h.below;
+    calls = calls_here h.c h.addresses h.done h.below h.executes;
+  }
+
+  pub called :
+      (effect : Effect) → Calls how index k at words held blocks effect
+      → Executed insn next k texts (place at words held blocks) (place at words held blocks) effect
+  called effect m c addresses done below h =
+      did_same kept insn next k texts (place at words held blocks) c addresses done below h at words held effect refl
+      (m next texts c addresses done below (calls_here c addresses done below h))
+
+module _ (kept : ExecutionKeeps) (states : List ClassState) (index next : ℕ) (k : Known) (texts : List (List ℕ)) (at : Registers) (words : List ℕ) (held : Held) (blocks : Blocks) where
+  abbrev static_call : Instruction
+  static_call = insns.Invoke invocations.Static index
+
+  pub can_call_static : CanExecuteAt states static_call next k texts at words held blocks → CanCallStatic index next k states at words held
+  can_call_static h = record {
+    blocks = blocks;
+    texts = texts;
+    c = h.can.c;
+    addresses = h.can.addresses;
+    done = h.can.done;
+    below = h.can.below;
+    calls = record {
+      calls = calls_here kept static_call uses.Invokestatic index (λ c. refl) next k texts at words held blocks h.can.c h.can.addresses h.can.done h.can.below h.can.executes;
+      states_are = h.states_are;
+    };
+    room = h.can.room;
+  }
+
+  pub called_static :
+      (after : Registers) (words_after : List ℕ) (held_after : Held) (effect : Effect) → held_after.cells ≡ held.cells
+      → CallsStatic index next k states at words held after words_after held_after effect
+      → ExecutedAt states static_call next k texts (place at words held blocks) (place after words_after held_after blocks) effect
+  called_static after words_after held_after effect same m c addresses done below h states_are =
+      did_same kept static_call next k texts (place at words held blocks) c addresses done below h after words_after held_after effect same
+      (m blocks texts c addresses done below
+      (record {
+        calls = calls_here kept static_call uses.Invokestatic index (λ c. refl) next k texts at words held blocks c addresses done below h;
+        states_are = states_are;
+      }))

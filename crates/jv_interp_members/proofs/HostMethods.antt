@@ -1,0 +1,97 @@
+-- host/Io among the classes of a guest: it is the one with the number 32, and its methods are `read` and `write`.
+use Rattle.std.proofs.Common.{◌≡◌, ℕ, zero, suc, ◌+◌, ◌≤◌, Bool, true, false, not, ◌&&◌, List, [], ◌∷◌, ◌++◌, length, map, Some, refl, sym, ap, subst, ◌∙◌, arith, codes, slice_get, inl, inr}
+use Rattle.std.specs.Prelude.{◌⊎◌}
+use Rattle.std.specs.List.{list_all}
+use Rattle.std.specs.Str.{bytes_eq}
+use Rattle.std.proofs.lemmas.Bool.{and_parts}
+use Rattle.jv_class.specs.Class.{Class, Method}
+use Rattle.jv_meaning_world.specs.FileContent.{FileContent}
+use Rattle.jv_meaning_world.specs.System.Classes.{classes_with_files, system_classes}
+use Rattle.jv_class_structure.specs.Flags.{acc_public, acc_static}
+use Rattle.jv_meaning_world.specs.System.Io.{io}
+use Rattle.jv_meaning_world.specs.System.Members.{method_without_code}
+use Rattle.jv_meaning_world.specs.World.{Loaded, World, classes_in, loaded, world_of}
+use Rattle.jv_interp_members.proofs.Sites.{some_same}
+
+pub io_at : (contents : List FileContent) → slice_get (world_of system_classes contents) 32 ≡ Some (loaded true io)
+io_at contents = refl
+
+abbrev pub is_host : Loaded → Bool
+is_host l = l.by_system && bytes_eq l.class.name (codes "host/Io")
+
+-- ---- no other class is
+
+abbrev plain : Class → Bool
+plain class = not (bytes_eq class.name (codes "host/Io"))
+
+not_true : (b : Bool) → not b ≡ true → b ≡ false
+not_true true e = absurd cc
+not_true false e = refl
+
+in_front :
+    (front : List Class) (behind : World) (n : ℕ) (l : Loaded) → list_all plain front ≡ true → slice_get (map (loaded true) front ++ behind) n ≡ Some l
+    → (is_host l ≡ false) ⊎ ((m : ℕ) × (n ≡ length front + m) × (slice_get behind m ≡ Some l))
+in_front [] behind n l all e = inr (n, omega arith, e)
+in_front (class ∷ front) behind zero l all e =
+    let parts = and_parts (plain class) (list_all plain front) all in
+    inl (subst (λ (x : Loaded). is_host x ≡ false) (some_same (loaded true class) l e) (not_true (bytes_eq class.name (codes "host/Io")) parts.0))
+in_front (class ∷ front) behind (suc n) l all e =
+    let parts = and_parts (plain class) (list_all plain front) all in
+    by_place (in_front front behind n l parts.1 e)
+  where
+    by_place :
+        (is_host l ≡ false) ⊎ ((m : ℕ) × (n ≡ length front + m) × (slice_get behind m ≡ Some l))
+        → (is_host l ≡ false) ⊎ ((m : ℕ) × (suc n ≡ length (class ∷ front) + m) × (slice_get behind m ≡ Some l))
+    by_place (inl f) = inl f
+    by_place (inr f) = let e = f.1 in inr (f.0, omega (arith, e), f.2)
+
+in_guests : (classes : List Class) (n : ℕ) (l : Loaded) → slice_get (map (loaded false) classes) n ≡ Some l → is_host l ≡ false
+in_guests [] zero l e = absurd cc
+in_guests [] (suc n) l e = absurd cc
+in_guests (class ∷ classes) zero l e = subst (λ (x : Loaded). is_host x ≡ false) (some_same (loaded false class) l e) refl
+in_guests (class ∷ classes) (suc n) l e = in_guests classes n l e
+
+pub other_class :
+    (contents : List FileContent) (number : ℕ) (l : Loaded) → slice_get (world_of system_classes contents) number ≡ Some l → (number ≡ 32 → ⊥)
+    → is_host l ≡ false
+other_class contents number l e other =
+    by_place (in_front classes_with_files (loaded true io ∷ map (loaded false) (classes_in contents)) number l refl e)
+  where
+    behind : (m : ℕ) → number ≡ 32 + m → slice_get (loaded true io ∷ map (loaded false) (classes_in contents)) m ≡ Some l → is_host l ≡ false
+    behind zero is at = absurd (other (omega (arith, is)))
+    behind (suc m) is at = in_guests (classes_in contents) m l at
+
+    by_place :
+        (is_host l ≡ false)
+        ⊎ ((m : ℕ) × (number ≡ length classes_with_files + m) × (slice_get (loaded true io ∷ map (loaded false) (classes_in contents)) m ≡ Some l))
+        → is_host l ≡ false
+    by_place (inl f) = f
+    by_place (inr f) = behind f.0 f.1 f.2
+
+-- ---- its methods
+
+abbrev pub is_write : Method → Bool
+is_write m = bytes_eq m.name (codes "write")
+
+abbrev reading : Method
+reading = method_without_code (acc_public + acc_static) (codes "read") (codes "()I")
+
+abbrev writing : Method
+writing = method_without_code (acc_public + acc_static) (codes "write") (codes "(I)V")
+
+pub write_at : (m : Method) → slice_get io.methods 1 ≡ Some m → is_write m ≡ true
+write_at m e = subst (λ (x : Method). is_write x ≡ true) (some_same writing m e) refl
+
+none_there : (n : ℕ) (l : List Method) (m : Method) → length l ≤ n → slice_get l n ≡ Some m → ⊥
+none_there n [] m h e = by_place n e
+  where
+    by_place : (n : ℕ) → slice_get [] n ≡ Some m → ⊥
+    by_place zero e = absurd cc
+    by_place (suc n) e = absurd cc
+none_there zero (x ∷ l) m h e = absurd (omega (arith, h))
+none_there (suc n) (x ∷ l) m h e = none_there n l m (omega (arith, h)) e
+
+pub read_at : (member : ℕ) (m : Method) → slice_get io.methods member ≡ Some m → (member ≡ 1 → ⊥) → is_write m ≡ false
+read_at zero m e other = subst (λ (x : Method). is_write x ≡ false) (some_same reading m e) refl
+read_at (suc zero) m e other = absurd (other refl)
+read_at (suc (suc n)) m e other = absurd (none_there (suc (suc n)) io.methods m (omega arith) e)

@@ -1,0 +1,106 @@
+use Rattle.std.proofs.Common.{◌≡◌, ℕ, Bool, refl, sym, ap, ◌∙◌, arith, if◌then◌else◌}
+use Rattle.jv_code.specs.declared.kinds.FieldAccess.TheVariants as access
+use Rattle.jv_interp_members.specs.Known.{known}
+use Rattle.jv_interp_held.specs.Executing.{place}
+use Rattle.jv_interp_members.proofs.UsedAtSite.{failed, d, class_at, words_are, begins_get, getting_static}
+use Rattle.jv_interp_members.proofs.fields.getstatic.Goals as goal
+
+pub returns-in-Err-clause-uses : goal.returns-in-Err-clause-uses
+returns-in-Err-clause-uses c = λ blocks texts x addresses done below h.
+    let k = known c.args.classes.now.world c.args.linked.now c.args.site in
+    let here = place c.args.at.now c.args.words.now c.args.held.now blocks in
+    failed access.GetStatic c.args.index c.args.next k here texts x addresses done below h.uses c.in-Err.class c.in-Err.ensures.found
+
+pub returns-then-not-is_ready-clause-uses : goal.returns-then-not-is_ready-clause-uses
+returns-then-not-is_ready-clause-uses c = λ blocks texts x addresses done below h.
+    let k = known c.args.classes.now.world c.args.linked.now c.args.site in
+    let here = place c.args.at.now c.args.words.now c.args.held.now blocks in
+    begins_get access.GetStatic c.args.index c.args.next k here texts x addresses done below h.uses c.field_is_used.ensures c.in-Ok.field c.in-Ok.ensures.found c.in-Ok.ensures.used refl
+    (sym (c.is_ready.ensures k.world x.states (d access.GetStatic c.args.index c.args.next k here texts x addresses done below h.uses
+    c.field_is_used.ensures c.in-Ok.field c.in-Ok.ensures.found c.in-Ok.ensures.used).by h.states_are
+    (class_at access.GetStatic c.args.index c.args.next k here texts x addresses done below h.uses c.field_is_used.ensures c.in-Ok.field
+    c.in-Ok.ensures.found c.in-Ok.ensures.used)) ∙ c.if-not-is_ready.true)
+
+pub get_long_static-requires : goal.get_long_static-requires
+get_long_static-requires c =
+    let k = known c.args.classes.now.world c.args.linked.now c.args.site in
+    let w = c.requires in
+    let here = place c.args.at.now c.args.words.now c.args.held.now w.blocks in
+    record {
+      blocks = w.blocks;
+      texts = w.texts;
+      c = w.c;
+      d = d access.GetStatic c.args.index c.args.next k here w.texts w.c w.addresses w.done
+          w.below w.uses.uses c.field_is_used.ensures c.in-Ok.field c.in-Ok.ensures.found c.in-Ok.ensures.used;
+      addresses = w.addresses;
+      done =
+          w.done;
+      below = w.below;
+      gets = getting_static access.GetStatic c.args.index c.args.next k here w.texts w.c w.addresses w.done w.below
+          w.uses.uses c.field_is_used.ensures c.in-Ok.field c.in-Ok.ensures.found c.in-Ok.ensures.used refl
+          (sym (c.is_ready.ensures k.world w.c.states (d access.GetStatic c.args.index c.args.next k here w.texts w.c w.addresses w.done w.below
+          w.uses.uses c.field_is_used.ensures c.in-Ok.field c.in-Ok.ensures.found c.in-Ok.ensures.used).by w.uses.states_are
+          (class_at access.GetStatic c.args.index c.args.next k here w.texts w.c w.addresses w.done w.below w.uses.uses c.field_is_used.ensures
+          c.in-Ok.field c.in-Ok.ensures.found c.in-Ok.ensures.used)) ∙ c.if-not-is_ready.false) 2
+          (words_are access.GetStatic c.args.index c.args.next k here w.texts w.c w.addresses w.done w.below w.uses.uses c.field_is_used.ensures
+          c.in-Ok.field c.in-Ok.ensures.found c.in-Ok.ensures.used c.is_long.result c.is_long.ensures ∙ ap (λ (b : Bool). if b then 2 else 1)
+          c.if-is_long.true);
+      room = w.room;
+    }
+
+pub returns-then-is_long-clause-uses : goal.returns-then-is_long-clause-uses
+returns-then-is_long-clause-uses c = λ blocks texts x addresses done below h.
+    let k = known c.args.classes.now.world c.args.linked.now c.args.site in
+    let here = place c.args.at.now c.args.words.now c.args.held.now blocks in
+    c.get_long_static.ensures.gets blocks texts x (d access.GetStatic c.args.index c.args.next k here texts x addresses done below h.uses
+    c.field_is_used.ensures c.in-Ok.field c.in-Ok.ensures.found c.in-Ok.ensures.used) addresses done below
+    (getting_static access.GetStatic c.args.index c.args.next k here texts x addresses done below h.uses c.field_is_used.ensures c.in-Ok.field
+    c.in-Ok.ensures.found c.in-Ok.ensures.used refl
+    (sym (c.is_ready.ensures k.world x.states (d access.GetStatic c.args.index c.args.next k here texts x addresses done below h.uses
+    c.field_is_used.ensures c.in-Ok.field c.in-Ok.ensures.found c.in-Ok.ensures.used).by h.states_are
+    (class_at access.GetStatic c.args.index c.args.next k here texts x addresses done below h.uses c.field_is_used.ensures c.in-Ok.field
+    c.in-Ok.ensures.found c.in-Ok.ensures.used)) ∙ c.if-not-is_ready.false) 2
+    (words_are access.GetStatic c.args.index c.args.next k here texts x addresses done below h.uses c.field_is_used.ensures c.in-Ok.field
+    c.in-Ok.ensures.found c.in-Ok.ensures.used c.is_long.result c.is_long.ensures ∙ ap (λ (b : Bool). if b then 2 else 1) c.if-is_long.true))
+
+pub get_static-requires : goal.get_static-requires
+get_static-requires c =
+    let k = known c.args.classes.now.world c.args.linked.now c.args.site in
+    let w = c.requires in
+    let here = place c.args.at.now c.args.words.now c.args.held.now w.blocks in
+    record {
+      blocks = w.blocks;
+      texts = w.texts;
+      c = w.c;
+      d = d access.GetStatic c.args.index c.args.next k here w.texts w.c w.addresses w.done
+          w.below w.uses.uses c.field_is_used.ensures c.in-Ok.field c.in-Ok.ensures.found c.in-Ok.ensures.used;
+      addresses = w.addresses;
+      done =
+          w.done;
+      below = w.below;
+      gets = getting_static access.GetStatic c.args.index c.args.next k here w.texts w.c w.addresses w.done w.below
+          w.uses.uses c.field_is_used.ensures c.in-Ok.field c.in-Ok.ensures.found c.in-Ok.ensures.used refl
+          (sym (c.is_ready.ensures k.world w.c.states (d access.GetStatic c.args.index c.args.next k here w.texts w.c w.addresses w.done w.below
+          w.uses.uses c.field_is_used.ensures c.in-Ok.field c.in-Ok.ensures.found c.in-Ok.ensures.used).by w.uses.states_are
+          (class_at access.GetStatic c.args.index c.args.next k here w.texts w.c w.addresses w.done w.below w.uses.uses c.field_is_used.ensures
+          c.in-Ok.field c.in-Ok.ensures.found c.in-Ok.ensures.used)) ∙ c.if-not-is_ready.false) 1
+          (words_are access.GetStatic c.args.index c.args.next k here w.texts w.c w.addresses w.done w.below w.uses.uses c.field_is_used.ensures
+          c.in-Ok.field c.in-Ok.ensures.found c.in-Ok.ensures.used c.is_long.result c.is_long.ensures ∙ ap (λ (b : Bool). if b then 2 else 1)
+          c.if-is_long.false);
+      room = w.room;
+    }
+
+pub returns-clause-uses : goal.returns-clause-uses
+returns-clause-uses c = λ blocks texts x addresses done below h.
+    let k = known c.args.classes.now.world c.args.linked.now c.args.site in
+    let here = place c.args.at.now c.args.words.now c.args.held.now blocks in
+    c.get_static.ensures.gets blocks texts x (d access.GetStatic c.args.index c.args.next k here texts x addresses done below h.uses
+    c.field_is_used.ensures c.in-Ok.field c.in-Ok.ensures.found c.in-Ok.ensures.used) addresses done below
+    (getting_static access.GetStatic c.args.index c.args.next k here texts x addresses done below h.uses c.field_is_used.ensures c.in-Ok.field
+    c.in-Ok.ensures.found c.in-Ok.ensures.used refl
+    (sym (c.is_ready.ensures k.world x.states (d access.GetStatic c.args.index c.args.next k here texts x addresses done below h.uses
+    c.field_is_used.ensures c.in-Ok.field c.in-Ok.ensures.found c.in-Ok.ensures.used).by h.states_are
+    (class_at access.GetStatic c.args.index c.args.next k here texts x addresses done below h.uses c.field_is_used.ensures c.in-Ok.field
+    c.in-Ok.ensures.found c.in-Ok.ensures.used)) ∙ c.if-not-is_ready.false) 1
+    (words_are access.GetStatic c.args.index c.args.next k here texts x addresses done below h.uses c.field_is_used.ensures c.in-Ok.field
+    c.in-Ok.ensures.found c.in-Ok.ensures.used c.is_long.result c.is_long.ensures ∙ ap (λ (b : Bool). if b then 2 else 1) c.if-is_long.false))

@@ -1,0 +1,27 @@
+-- What is known of a guest's classes where a method runs (JVMS 2.6, 5.4): the classes themselves, what they link to, and the method's
+-- place among them.
+use Rattle.std.specs.Prelude.{◌≡◌, ℕ, ◌≤◌, length, Some}
+use Rattle.jv_meaning_world.specs.World.{World}
+use Rattle.jv_link.specs.declared.site.Site.{Site}
+use Rattle.jv_link.specs.Seen.{seen_site}
+use Rattle.jv_link_cache.specs.declared.linked.Linked.{Linked}
+use Rattle.jv_link_cache.specs.Linked.{IsLinked}
+use Rattle.jv_meaning_machine.specs.Effects.{Context}
+use Rattle.jv_interp_heap.specs.SystemNumbers.{IsGuestsWorld}
+
+pub record Known : Type 0 where
+  pub world : World
+  pub linked : Linked
+  pub site : Site
+
+abbrev pub known : World → Linked → Site → Known
+known world linked site = record { world = world; linked = linked; site = site }
+
+-- It is known of the classes that the machine knows, at the method that it runs. There are at most 1,057 classes (own): the system's 33
+-- and those of 1,024 files.
+pub record IsKnown (k : Known) (c : Context) : Type 0 where
+  pub world : c.program.world ≡ k.world
+  pub guests : IsGuestsWorld k.world
+  pub few : length k.world ≤ 1057
+  pub linked : IsLinked k.world k.linked
+  pub site : seen_site k.world k.site ≡ Some c.frame.method.site

@@ -1,0 +1,169 @@
+//! Calls.
+
+ghost use Rattle.std.specs.Prelude.{◌≡◌};
+ghost use Rattle.jv_link.specs.declared.site.Use.TheVariants.{Invokespecial};
+ghost use Rattle.jv_link_cache.specs.Linked.{IsLinked};
+ghost use Rattle.jv_interp_words.specs.Going.{StaysIn};
+ghost use Rattle.jv_interp_heap.specs.ObjectsInBlocks.{Blocks};
+ghost use Rattle.jv_interp_held.specs.Executing.{IsUnmoved, place};
+ghost use Rattle.jv_interp_members.specs.Methods.{AreMethods};
+ghost use Rattle.jv_interp_members.specs.Known.{known};
+ghost use Rattle.jv_interp_members.specs.Calling.{IsVirtual, CanCall, Calls, CanCallStatic, CallsStatic};
+
+use crate::linking::{is_ready, resolved, run};
+use crate::methods::Methods;
+use jv_interp_heap::NULL_POINTER;
+use jv_interp_held::{ClassState, Effect, HOST_IO, Held, WRITE, read, write};
+use jv_interp_words::Registers;
+use jv_link::{Site, Use};
+use jv_link_cache::Linked;
+use jv_loader::Classes;
+use jv_meaning_typing::method_is_called;
+use jv_store::Store;
+
+/// invokestatic: the method that the constant at an index names is entered, once its class is initialized or being initialized; what
+/// host/Io does is done at once.
+#[inline(always)]
+pub fn call_static<'a, 'l>(
+    classes: &Classes<'a>,
+    linked: &mut Linked<'a>,
+    methods: &Methods<'a>,
+    site: Site,
+    states: &[ClassState],
+    held: &mut Held,
+    words: &mut [u32],
+    at: &mut Registers<'l>,
+    next: u32,
+    index: u16,
+) -> Effect
+    requires methods { AreMethods classes.now.world methods.now }
+    requires can { CanCallStatic index next (known classes.now.world linked.old site) states.now at.old words.old held.old }
+    ensures calls { CallsStatic index next (known classes.now.world linked.old site) states.now at.old words.old held.old
+        at.new words.new held.new result }
+    ensures stays { StaysIn at.old at.new words.new }
+    ensures unmoved { (blocks : Blocks) → IsUnmoved result (place at.old words.old held.old blocks)
+        (place at.new words.new held.new blocks) }
+    ensures same { held.new ≡ record held.old { output = held.new.output; output_left = held.new.output_left; read = held.new.read } }
+    ensures linked { IsLinked classes.now.world linked.new }
+{
+    method_is_called();
+    let called = match resolved(classes, linked, site, Use::Invokestatic, index) {
+        Ok(called) => called,
+        Err(class) => return Effect::Raises { class },
+    };
+    let place = called.target.declared;
+    if !is_ready(states, place.class) {
+        return Effect::Begins {
+            class: place.class as u32,
+        };
+    }
+    if place.class == HOST_IO {
+        if place.member == WRITE {
+            return write(held, words, at, next);
+        }
+        return read(held, words, at, next);
+    }
+    Effect::Enters {
+        method: methods.number_of(place),
+        words: called.argument_words as u32,
+    }
+}
+
+/// invokevirtual and invokeinterface: the method that the object's class has for the one that the constant at an index names is
+/// entered on the object below the arguments.
+#[inline(always)]
+pub fn call_virtual<'a, 'l, S: Store>(
+    classes: &Classes<'a>,
+    linked: &mut Linked<'a>,
+    methods: &Methods<'a>,
+    site: Site,
+    store: &S,
+    held: &Held,
+    words: &[u32],
+    at: &Registers<'l>,
+    how: Use,
+    index: u16,
+) -> Effect
+    requires kind { IsVirtual how }
+    requires methods { AreMethods classes.now.world methods.now }
+    requires can { CanCall how index (known classes.now.world linked.old site) at.now words.now held.now (S.content store.now) }
+    ensures calls { Calls how index (known classes.now.world linked.old site) at.now words.now held.now (S.content store.now) result }
+    ensures linked { IsLinked classes.now.world linked.new }
+{
+    let _held = held;
+    method_is_called();
+    let called = match resolved(classes, linked, site, how, index) {
+        Ok(called) => called,
+        Err(class) => return Effect::Raises { class },
+    };
+    let object = words[at.top - called.argument_words];
+    if object == 0 {
+        return Effect::Raises {
+            class: NULL_POINTER,
+        };
+    }
+    let word = store.get(object, 0);
+    match run(classes, linked, methods, site, how, &called.target, word) {
+        Ok(method) => Effect::Enters {
+            method,
+            words: called.argument_words as u32,
+        },
+        Err(class) => Effect::Raises { class },
+    }
+}
+
+/// invokespecial: the `<init>` that the constant at an index names is entered on the object below the arguments, or another method, as
+/// the current class has it above itself.
+#[inline(always)]
+pub fn call_special<'a, 'l, S: Store>(
+    classes: &Classes<'a>,
+    linked: &mut Linked<'a>,
+    methods: &Methods<'a>,
+    site: Site,
+    store: &S,
+    held: &Held,
+    words: &[u32],
+    at: &Registers<'l>,
+    index: u16,
+) -> Effect
+    requires methods { AreMethods classes.now.world methods.now }
+    requires can { CanCall Invokespecial index (known classes.now.world linked.old site) at.now words.now held.now (S.content store.now) }
+    ensures calls { Calls Invokespecial index (known classes.now.world linked.old site) at.now words.now held.now
+        (S.content store.now) result }
+    ensures linked { IsLinked classes.now.world linked.new }
+{
+    let _held = held;
+    method_is_called();
+    let called = match resolved(classes, linked, site, Use::Invokespecial, index) {
+        Ok(called) => called,
+        Err(class) => return Effect::Raises { class },
+    };
+    let object = words[at.top - called.argument_words];
+    if object == 0 {
+        return Effect::Raises {
+            class: NULL_POINTER,
+        };
+    }
+    if called.is_init {
+        return Effect::Enters {
+            method: methods.number_of(called.target.declared),
+            words: called.argument_words as u32,
+        };
+    }
+    let word = store.get(object, 0);
+    match run(
+        classes,
+        linked,
+        methods,
+        site,
+        Use::Invokespecial,
+        &called.target,
+        word,
+    ) {
+        Ok(method) => Effect::Enters {
+            method,
+            words: called.argument_words as u32,
+        },
+        Err(class) => Effect::Raises { class },
+    }
+}

@@ -1,5 +1,0 @@
-use Rattle.std.proofs.Common.{rules}
-use Rattle.jv_interp_memory.proofs.class_state.mark_begun.Goals as goal
-
-pub returns-then-not-by_system-clause-guests : goal.returns-then-not-by_system-clause-guests
-returns-then-not-by_system-clause-guests c = search rules

@@ -1,5 +1,0 @@
-use Rattle.jv_interp_memory.proofs.Numbered.{system_numbers}
-use Rattle.jv_interp_memory.proofs.numbers.system_has_numbers.Goals as goal
-
-pub returns : goal.returns
-returns c = system_numbers

@@ -1,0 +1,5 @@
+pub mod Elements
+pub mod Refs
+pub mod Standing
+pub mod Slots
+pub mod Numbering

@@ -1,0 +1,657 @@
+//! Steps of the method that runs, by the opcode at hand.
+
+ghost use Rattle.std.specs.Prelude.{◌≡◌, ◌+◌, ◌<◌, ◌≤◌, IfOk, IsOk, IsTrue, OnOk, OnErr, get_or};
+ghost use Rattle.jv_link_cache.specs.Linked.{IsLinked};
+ghost use Rattle.jv_interp_members.specs.Methods.{AreMethods};
+ghost use Rattle.jv_interp_objects.specs.Texts.{AreTexts};
+ghost use Rattle.jv_interp_control.specs.Standing.{kept};
+ghost use Rattle.jv_interp_control.specs.Acting.{AreAsBefore};
+ghost use Rattle.jv_interp_steps.specs.Stepping.{CanStepIn, SteppedIn};
+
+use crate::decoding::{count_behind, decode, index_behind, index_in_byte, opcode_at};
+use crate::instructions::{step_by, step_known};
+use crate::opcodes::{element_loaded, element_stored, value_returned};
+use jv_code::{DivisionOperator, FieldAccess, IndexForm, Insn, Invocation, NumberKind};
+use jv_interp_control::{Control, Frames};
+use jv_interp_held::Held;
+use jv_interp_instructions::{
+    AnyInstruction, Arrays, ConstantLoads, Divisions, FieldGets, FieldPuts, InterfaceCalls,
+    Objects, Returns, SpecialCalls, StaticCalls, VirtualCalls,
+};
+use jv_interp_members::Methods;
+use jv_interp_objects::Texts;
+use jv_interp_words::Registers;
+use jv_link_cache::Linked;
+use jv_loader::Classes;
+use jv_store::{OutOfMemory, Store};
+
+/// A step at any instruction.
+#[inline(never)]
+fn step_decoded<'a, 'l, S: Store>(
+    classes: &Classes<'a>,
+    linked: &mut Linked<'a>,
+    methods: &Methods<'a>,
+    texts: &Texts<'a>,
+    verified: &[bool],
+    frames: &mut Frames,
+    control: &mut Control,
+    held: &mut Held,
+    store: &mut S,
+    at: &mut Registers<'l>,
+    goes_on: &mut bool,
+) -> Result<(), OutOfMemory>
+    requires can { CanStepIn classes.now.world verified.now texts.now.names at.old
+        (kept frames.old control.old held.old (S.content store.old)) }
+    requires linked { IsLinked classes.now.world linked.old }
+    requires methods { AreMethods classes.now.world methods.now }
+    requires texts { AreTexts classes.now.world texts.now }
+    requires cells { held.old.cells ≤ S.room_left store.old }
+    requires few { held.old.cells < 2147483648 }
+    ensures stepped { OnOk result (SteppedIn classes.now.world verified.now texts.now.names at.old
+        (kept frames.old control.old held.old (S.content store.old)) at.new
+        (kept frames.new control.new held.new (S.content store.new)) goes_on.new) }
+    ensures same { at.new ≡ record at.old { pc = at.new.pc; top = at.new.top } }
+    ensures fewer { held.new.cells ≤ held.old.cells }
+    ensures room { OnOk result (S.room_left store.old + held.new.cells ≡ S.room_left store.new + held.old.cells) }
+    ensures linked { IsLinked classes.now.world linked.new }
+    ensures refused_at { OnErr result (at.new ≡ at.old) }
+    ensures refused_frames { OnErr result (AreAsBefore frames.old frames.new) }
+    ensures refused_control { OnErr result (control.new ≡ control.old) }
+    ensures refused { OnErr result (held.new ≡ held.old) }
+    ensures refused_content { OnErr result (S.content store.new ≡ S.content store.old) }
+    ensures refused_room { OnErr result (S.room_left store.new ≡ S.room_left store.old) }
+    ensures sure { IsTrue S.SURE → IsOk result }
+{
+    let (site, insn, next) = decode(methods, at.method, at.pc);
+    match step_by::<AnyInstruction, S>(
+        classes, linked, methods, texts, verified, frames, control, held, store, at, site, insn,
+        next,
+    ) {
+        Ok(goes) => {
+            *goes_on = goes;
+            Ok(())
+        }
+        Err(refused) => Err(refused),
+    }
+}
+
+/// The same, with registers of its own, so that those of the loop need no place in memory.
+#[inline(always)]
+fn step_apart<'a, 'l, S: Store>(
+    classes: &Classes<'a>,
+    linked: &mut Linked<'a>,
+    methods: &Methods<'a>,
+    texts: &Texts<'a>,
+    verified: &[bool],
+    frames: &mut Frames,
+    control: &mut Control,
+    held: &mut Held,
+    store: &mut S,
+    at: &mut Registers<'l>,
+    goes_on: &mut bool,
+) -> Result<(), OutOfMemory>
+    requires can { CanStepIn classes.now.world verified.now texts.now.names at.old
+        (kept frames.old control.old held.old (S.content store.old)) }
+    requires linked { IsLinked classes.now.world linked.old }
+    requires methods { AreMethods classes.now.world methods.now }
+    requires texts { AreTexts classes.now.world texts.now }
+    requires cells { held.old.cells ≤ S.room_left store.old }
+    requires few { held.old.cells < 2147483648 }
+    ensures stepped { OnOk result (SteppedIn classes.now.world verified.now texts.now.names at.old
+        (kept frames.old control.old held.old (S.content store.old)) at.new
+        (kept frames.new control.new held.new (S.content store.new)) goes_on.new) }
+    ensures fewer { held.new.cells ≤ held.old.cells }
+    ensures room { OnOk result (S.room_left store.old + held.new.cells ≡ S.room_left store.new + held.old.cells) }
+    ensures linked { IsLinked classes.now.world linked.new }
+    ensures refused_at { OnErr result (at.new ≡ at.old) }
+    ensures refused_frames { OnErr result (AreAsBefore frames.old frames.new) }
+    ensures refused_control { OnErr result (control.new ≡ control.old) }
+    ensures refused { OnErr result (held.new ≡ held.old) }
+    ensures refused_content { OnErr result (S.content store.new ≡ S.content store.old) }
+    ensures refused_room { OnErr result (S.room_left store.new ≡ S.room_left store.old) }
+    ensures sure { IsTrue S.SURE → IsOk result }
+{
+    let mut own = *at;
+    let mut goes = true;
+    let result = step_decoded(
+        classes, linked, methods, texts, verified, frames, control, held, store, &mut own,
+        &mut goes,
+    );
+    at.pc = own.pc;
+    at.top = own.top;
+    *goes_on = goes;
+    result
+}
+
+/// The same, where the opcode says which instruction it is, but for what is read behind it; one more than the opcode was read.
+#[inline(always)]
+fn step_at_hand<'a, 'l, S: Store>(
+    classes: &Classes<'a>,
+    linked: &mut Linked<'a>,
+    methods: &Methods<'a>,
+    texts: &Texts<'a>,
+    verified: &[bool],
+    frames: &mut Frames,
+    control: &mut Control,
+    held: &mut Held,
+    store: &mut S,
+    at: &mut Registers<'l>,
+    read: u16,
+    goes_on: &mut bool,
+) -> Result<(), OutOfMemory>
+    requires read { read ≡ get_or at.old.code.now at.old.pc 0 + 1 }
+    requires can { CanStepIn classes.now.world verified.now texts.now.names at.old
+        (kept frames.old control.old held.old (S.content store.old)) }
+    requires linked { IsLinked classes.now.world linked.old }
+    requires methods { AreMethods classes.now.world methods.now }
+    requires texts { AreTexts classes.now.world texts.now }
+    requires cells { held.old.cells ≤ S.room_left store.old }
+    requires few { held.old.cells < 2147483648 }
+    ensures stepped { OnOk result (SteppedIn classes.now.world verified.now texts.now.names at.old
+        (kept frames.old control.old held.old (S.content store.old)) at.new
+        (kept frames.new control.new held.new (S.content store.new)) goes_on.new) }
+    ensures fewer { held.new.cells ≤ held.old.cells }
+    ensures room { OnOk result (S.room_left store.old + held.new.cells ≡ S.room_left store.new + held.old.cells) }
+    ensures linked { IsLinked classes.now.world linked.new }
+    ensures refused_at { OnErr result (at.new ≡ at.old) }
+    ensures refused_frames { OnErr result (AreAsBefore frames.old frames.new) }
+    ensures refused_control { OnErr result (control.new ≡ control.old) }
+    ensures refused { OnErr result (held.new ≡ held.old) }
+    ensures refused_content { OnErr result (S.content store.new ≡ S.content store.old) }
+    ensures refused_room { OnErr result (S.room_left store.new ≡ S.room_left store.old) }
+    ensures sure { IsTrue S.SURE → IsOk result }
+{
+    let opcode = opcode_at(at.code, at.pc as usize, read);
+    if let Some(kind) = element_loaded(opcode) {
+        return step_known::<Arrays, S>(
+            classes,
+            linked,
+            methods,
+            texts,
+            verified,
+            frames,
+            control,
+            held,
+            store,
+            at,
+            Insn::ArrayLoad(kind),
+            1,
+            goes_on,
+        );
+    }
+    if let Some(kind) = element_stored(opcode) {
+        return step_known::<Arrays, S>(
+            classes,
+            linked,
+            methods,
+            texts,
+            verified,
+            frames,
+            control,
+            held,
+            store,
+            at,
+            Insn::ArrayStore(kind),
+            1,
+            goes_on,
+        );
+    }
+    if let Some(kind) = value_returned(opcode) {
+        return step_known::<Returns, S>(
+            classes,
+            linked,
+            methods,
+            texts,
+            verified,
+            frames,
+            control,
+            held,
+            store,
+            at,
+            Insn::ReturnValue(kind),
+            1,
+            goes_on,
+        );
+    }
+    match opcode {
+        50 => step_known::<Arrays, S>(
+            classes,
+            linked,
+            methods,
+            texts,
+            verified,
+            frames,
+            control,
+            held,
+            store,
+            at,
+            Insn::ReferenceArrayLoad,
+            1,
+            goes_on,
+        ),
+        83 => step_known::<Objects, S>(
+            classes,
+            linked,
+            methods,
+            texts,
+            verified,
+            frames,
+            control,
+            held,
+            store,
+            at,
+            Insn::ReferenceArrayStore,
+            1,
+            goes_on,
+        ),
+        108 => step_known::<Divisions, S>(
+            classes,
+            linked,
+            methods,
+            texts,
+            verified,
+            frames,
+            control,
+            held,
+            store,
+            at,
+            Insn::Division(NumberKind::Int, DivisionOperator::Divide),
+            1,
+            goes_on,
+        ),
+        109 => step_known::<Divisions, S>(
+            classes,
+            linked,
+            methods,
+            texts,
+            verified,
+            frames,
+            control,
+            held,
+            store,
+            at,
+            Insn::Division(NumberKind::Long, DivisionOperator::Divide),
+            1,
+            goes_on,
+        ),
+        112 => step_known::<Divisions, S>(
+            classes,
+            linked,
+            methods,
+            texts,
+            verified,
+            frames,
+            control,
+            held,
+            store,
+            at,
+            Insn::Division(NumberKind::Int, DivisionOperator::Remainder),
+            1,
+            goes_on,
+        ),
+        113 => step_known::<Divisions, S>(
+            classes,
+            linked,
+            methods,
+            texts,
+            verified,
+            frames,
+            control,
+            held,
+            store,
+            at,
+            Insn::Division(NumberKind::Long, DivisionOperator::Remainder),
+            1,
+            goes_on,
+        ),
+        177 => step_known::<Returns, S>(
+            classes,
+            linked,
+            methods,
+            texts,
+            verified,
+            frames,
+            control,
+            held,
+            store,
+            at,
+            Insn::Return,
+            1,
+            goes_on,
+        ),
+        190 => step_known::<Arrays, S>(
+            classes,
+            linked,
+            methods,
+            texts,
+            verified,
+            frames,
+            control,
+            held,
+            store,
+            at,
+            Insn::ArrayLength,
+            1,
+            goes_on,
+        ),
+        18 => {
+            let index = index_in_byte(at.code, at.pc as usize);
+            step_known::<ConstantLoads, S>(
+                classes,
+                linked,
+                methods,
+                texts,
+                verified,
+                frames,
+                control,
+                held,
+                store,
+                at,
+                Insn::PoolConstant(index, IndexForm::Byte),
+                2,
+                goes_on,
+            )
+        }
+        19 => {
+            let index = index_behind(at.code, at.pc as usize);
+            step_known::<ConstantLoads, S>(
+                classes,
+                linked,
+                methods,
+                texts,
+                verified,
+                frames,
+                control,
+                held,
+                store,
+                at,
+                Insn::PoolConstant(index, IndexForm::Half),
+                3,
+                goes_on,
+            )
+        }
+        20 => {
+            let index = index_behind(at.code, at.pc as usize);
+            step_known::<ConstantLoads, S>(
+                classes,
+                linked,
+                methods,
+                texts,
+                verified,
+                frames,
+                control,
+                held,
+                store,
+                at,
+                Insn::PoolLongConstant(index),
+                3,
+                goes_on,
+            )
+        }
+        178 => {
+            let index = index_behind(at.code, at.pc as usize);
+            step_known::<FieldGets, S>(
+                classes,
+                linked,
+                methods,
+                texts,
+                verified,
+                frames,
+                control,
+                held,
+                store,
+                at,
+                Insn::Field(FieldAccess::GetStatic, index),
+                3,
+                goes_on,
+            )
+        }
+        179 => {
+            let index = index_behind(at.code, at.pc as usize);
+            step_known::<FieldPuts, S>(
+                classes,
+                linked,
+                methods,
+                texts,
+                verified,
+                frames,
+                control,
+                held,
+                store,
+                at,
+                Insn::Field(FieldAccess::PutStatic, index),
+                3,
+                goes_on,
+            )
+        }
+        180 => {
+            let index = index_behind(at.code, at.pc as usize);
+            step_known::<FieldGets, S>(
+                classes,
+                linked,
+                methods,
+                texts,
+                verified,
+                frames,
+                control,
+                held,
+                store,
+                at,
+                Insn::Field(FieldAccess::GetField, index),
+                3,
+                goes_on,
+            )
+        }
+        181 => {
+            let index = index_behind(at.code, at.pc as usize);
+            step_known::<FieldPuts, S>(
+                classes,
+                linked,
+                methods,
+                texts,
+                verified,
+                frames,
+                control,
+                held,
+                store,
+                at,
+                Insn::Field(FieldAccess::PutField, index),
+                3,
+                goes_on,
+            )
+        }
+        182 => {
+            let index = index_behind(at.code, at.pc as usize);
+            step_known::<VirtualCalls, S>(
+                classes,
+                linked,
+                methods,
+                texts,
+                verified,
+                frames,
+                control,
+                held,
+                store,
+                at,
+                Insn::Invoke(Invocation::Virtual, index),
+                3,
+                goes_on,
+            )
+        }
+        183 => {
+            let index = index_behind(at.code, at.pc as usize);
+            step_known::<SpecialCalls, S>(
+                classes,
+                linked,
+                methods,
+                texts,
+                verified,
+                frames,
+                control,
+                held,
+                store,
+                at,
+                Insn::Invoke(Invocation::Special, index),
+                3,
+                goes_on,
+            )
+        }
+        184 => {
+            let index = index_behind(at.code, at.pc as usize);
+            step_known::<StaticCalls, S>(
+                classes,
+                linked,
+                methods,
+                texts,
+                verified,
+                frames,
+                control,
+                held,
+                store,
+                at,
+                Insn::Invoke(Invocation::Static, index),
+                3,
+                goes_on,
+            )
+        }
+        185 => {
+            let index = index_behind(at.code, at.pc as usize);
+            let count = count_behind(at.code, at.pc as usize);
+            step_known::<InterfaceCalls, S>(
+                classes,
+                linked,
+                methods,
+                texts,
+                verified,
+                frames,
+                control,
+                held,
+                store,
+                at,
+                Insn::InvokeInterface(index, count),
+                5,
+                goes_on,
+            )
+        }
+        187 => {
+            let index = index_behind(at.code, at.pc as usize);
+            step_known::<Objects, S>(
+                classes,
+                linked,
+                methods,
+                texts,
+                verified,
+                frames,
+                control,
+                held,
+                store,
+                at,
+                Insn::New(index),
+                3,
+                goes_on,
+            )
+        }
+        192 => {
+            let index = index_behind(at.code, at.pc as usize);
+            step_known::<Objects, S>(
+                classes,
+                linked,
+                methods,
+                texts,
+                verified,
+                frames,
+                control,
+                held,
+                store,
+                at,
+                Insn::CheckCast(index),
+                3,
+                goes_on,
+            )
+        }
+        193 => {
+            let index = index_behind(at.code, at.pc as usize);
+            step_known::<Objects, S>(
+                classes,
+                linked,
+                methods,
+                texts,
+                verified,
+                frames,
+                control,
+                held,
+                store,
+                at,
+                Insn::InstanceOf(index),
+                3,
+                goes_on,
+            )
+        }
+        _ => step_apart(
+            classes, linked, methods, texts, verified, frames, control, held, store, at, goes_on,
+        ),
+    }
+}
+
+/// Executes the instruction at which the method in the registers stands (JVMS 2.11), whose opcode was read, one more than it, and does what
+/// its effect asks for. Answers whether the method goes on in the registers; where it doesn't, all frames stand in their records, from
+/// which the newest goes on.
+///
+/// # Errors
+///
+/// Where the host had no memory for what is made; all is then as it was, but for what linking has found.
+#[inline(always)]
+pub(crate) fn step_in_method<'a, 'l, S: Store>(
+    classes: &Classes<'a>,
+    linked: &mut Linked<'a>,
+    methods: &Methods<'a>,
+    texts: &Texts<'a>,
+    verified: &[bool],
+    frames: &mut Frames,
+    control: &mut Control,
+    held: &mut Held,
+    store: &mut S,
+    at: &mut Registers<'l>,
+    read: u16,
+) -> Result<bool, OutOfMemory>
+    requires read { read ≡ get_or at.old.code.now at.old.pc 0 + 1 }
+    requires can { CanStepIn classes.now.world verified.now texts.now.names at.old
+        (kept frames.old control.old held.old (S.content store.old)) }
+    requires linked { IsLinked classes.now.world linked.old }
+    requires methods { AreMethods classes.now.world methods.now }
+    requires texts { AreTexts classes.now.world texts.now }
+    requires cells { held.old.cells ≤ S.room_left store.old }
+    requires few { held.old.cells < 2147483648 }
+    ensures stepped { IfOk result (SteppedIn classes.now.world verified.now texts.now.names at.old
+        (kept frames.old control.old held.old (S.content store.old)) at.new
+        (kept frames.new control.new held.new (S.content store.new))) }
+    ensures fewer { held.new.cells ≤ held.old.cells }
+    ensures room { OnOk result (S.room_left store.old + held.new.cells ≡ S.room_left store.new + held.old.cells) }
+    ensures linked { IsLinked classes.now.world linked.new }
+    ensures refused_at { OnErr result (at.new ≡ at.old) }
+    ensures refused_frames { OnErr result (AreAsBefore frames.old frames.new) }
+    ensures refused_control { OnErr result (control.new ≡ control.old) }
+    ensures refused { OnErr result (held.new ≡ held.old) }
+    ensures refused_content { OnErr result (S.content store.new ≡ S.content store.old) }
+    ensures refused_room { OnErr result (S.room_left store.new ≡ S.room_left store.old) }
+    ensures sure { IsTrue S.SURE → IsOk result }
+{
+    let mut goes_on = true;
+    match step_at_hand(
+        classes,
+        linked,
+        methods,
+        texts,
+        verified,
+        frames,
+        control,
+        held,
+        store,
+        at,
+        read,
+        &mut goes_on,
+    ) {
+        Ok(()) => Ok(goes_on),
+        Err(refused) => Err(refused),
+    }
+}

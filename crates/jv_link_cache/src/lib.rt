@@ -1,0 +1,24 @@
+//! What a guest's classes link to (JVMS 5.4), made once: [`link`] takes memory for what the steps of a machine ask again and
+//! again, and [`Linked`] answers as the calls of `jv_link` do, and takes none.
+#![tactic(auto)]
+
+mod bodies;
+mod classes;
+mod field_use;
+mod fields;
+mod law;
+mod linked;
+mod method_use;
+mod methods;
+mod orders;
+mod places;
+mod selections;
+mod tasks;
+mod words;
+
+pub use bodies::Body;
+pub use field_use::{FieldKind, FieldUse};
+pub use law::words_are_inherited;
+pub use linked::{Linked, link};
+pub use method_use::MethodUse;
+pub use tasks::{InitialValue, initial_value};

@@ -1,0 +1,423 @@
+//! What a guest's classes link to.
+
+ghost use Rattle.std.specs.Prelude.{◌≡◌, ◌<◌, Some, Ok, IsSome, IfOk, IfSome, IsTrue, length};
+ghost use Rattle.jv_meaning_world.specs.World.{World};
+ghost use Rattle.jv_meaning_world.specs.LookUps.{DeclaredField};
+ghost use Rattle.jv_meaning_world.specs.Verdicts.{is_loadable};
+ghost use Rattle.jv_meaning_typing.specs.Layout.{object_words};
+ghost use Rattle.jv_link.specs.Orders.{IsOrder};
+ghost use Rattle.jv_meaning_world.specs.Overriding.{Declared};
+ghost use Rattle.jv_link_cache.specs.Bodies.{IsBody};
+ghost use Rattle.jv_link_cache.specs.Places.{IsWordOf, static_words};
+ghost use Rattle.jv_meaning_world.specs.Numbers.{HoldsAtNumber};
+ghost use Rattle.jv_meaning_typing.specs.Operands.{class_operand, field_operand, method_operand};
+ghost use Rattle.jv_lookups.specs.Places.{field_at, method_at, IsFieldPlace};
+ghost use Rattle.jv_link.specs.Seen.{IsSite, IsMethodTarget};
+ghost use Rattle.jv_link.specs.Objects.{IsObject};
+ghost use Rattle.jv_link.specs.Answers.{IsClassUsed, IsFieldResolved, IsMethodResolved, IsSelected};
+ghost use Rattle.jv_link_cache.specs.FieldUses.{IsFieldUse, used_place};
+ghost use Rattle.jv_link_cache.specs.MethodUses.{IsMethodUse, used_target};
+ghost use Rattle.jv_link_cache.specs.Linked.{IsLinked};
+ghost use Rattle.jv_link_cache.specs.Tasks.{settings_of, IsInitializer, IsOrderOf};
+
+use crate::bodies::{Body, ClassBodies, all_bodies, body_in};
+use crate::classes::{ClassEntry, class_by, empty_classes, used_class};
+use crate::field_use::FieldUse;
+use crate::fields::{FieldEntry, empty_fields, field_by, usable_at_once, used_field};
+use crate::method_use::MethodUse;
+use crate::methods::{MethodEntry, called_method, empty_methods, method_by};
+use crate::orders::{ClassOrder, all_orders, order_in};
+use crate::places::{all_constants, entry_place, first_constants, selection_count};
+use crate::selections::{Selection, empty_selections, selection_by};
+use crate::tasks::{ClassTasks, all_tasks, initializer_at, settings_at};
+use crate::words::{ClassWords, all_words, object_words_in, word_in_all};
+use jv_link::{ClassRef, LinkError, MethodTarget, Site, Use, select};
+use jv_loader::{ClassTable, Classes, OutOfMemory, Place};
+use std::alloc::Global;
+
+/// What a guest's classes link to (JVMS 5.4), with memory for what steps ask again: what a constant of a class resolves to, and
+/// which method a call runs. It is asked with the classes that [`link`] took.
+pub struct Linked<'a> {
+    firsts: Vec<usize>,
+    classes: Vec<Option<ClassEntry<'a>>>,
+    fields: Vec<FieldEntry>,
+    methods: Vec<Option<MethodEntry>>,
+    virtuals: Vec<Option<Selection>>,
+    interfaces: Vec<Option<Selection>>,
+    specials: Vec<Option<Selection>>,
+    words: Vec<ClassWords>,
+    statics: usize,
+    orders: Vec<ClassOrder>,
+    bodies: Vec<ClassBodies<'a>>,
+    tasks: Vec<ClassTasks>,
+}
+
+impl Drop for Linked<'_> {
+    fn drop(self) {
+        let Linked {
+            firsts: _,
+            classes: _,
+            fields: _,
+            methods: _,
+            virtuals: _,
+            interfaces: _,
+            specials: _,
+            words: _,
+            statics: _,
+            orders: _,
+            bodies: _,
+            tasks: _,
+        } = self;
+    }
+}
+
+/// The same, by the table.
+fn link_in<'a>(
+    alloc: Global,
+    table: &ClassTable<'a>,
+    classes: &Classes<'a>,
+) -> Result<Linked<'a>, OutOfMemory>
+    requires { classes.now.world ≡ table.now }
+    ensures { IfOk result (IsLinked table.now) }
+{
+    let firsts = first_constants(alloc, table)?;
+    let constants = all_constants(table);
+    let selections = selection_count(table);
+    let class_entries = empty_classes(alloc, constants)?;
+    let fields = empty_fields(alloc, constants)?;
+    let methods = empty_methods(alloc, constants)?;
+    let virtuals = empty_selections(alloc, selections)?;
+    let interfaces = empty_selections(alloc, selections)?;
+    let specials = empty_selections(alloc, selections)?;
+    let words = all_words(alloc, table)?;
+    let orders = all_orders(alloc, table, classes)?;
+    let bodies = all_bodies(alloc, table)?;
+    let tasks = all_tasks(alloc, table)?;
+    Ok(Linked {
+        firsts,
+        classes: class_entries,
+        fields,
+        methods,
+        virtuals,
+        interfaces,
+        specials,
+        words: words.0,
+        statics: words.1,
+        orders,
+        bodies,
+        tasks,
+    })
+}
+
+/// Makes room for what a guest's classes link to.
+///
+/// # Errors
+///
+/// Where the host had no memory for it; nothing is then kept.
+pub fn link<'a>(alloc: Global, classes: &Classes<'a>) -> Result<Linked<'a>, OutOfMemory>
+    ensures { IfOk result (IsLinked classes.now.world) }
+{
+    link_in(alloc, classes.table(), classes)
+}
+
+impl<'a> Linked<'a> {
+    /// The class or the array that the Class constant at an index resolves to at a site, for an instruction that has rules of its
+    /// own or for another one, as `jv_link`'s `resolve_class` answers it (JVMS 5.4.3.1; 6.5 for `new`). Asked again, it is one
+    /// entry that is read; it takes no memory.
+    ///
+    /// # Errors
+    ///
+    /// As JVMS 5.4.3.1 has them; for `new` also `InstantiationError`.
+    #[inline(always)]
+    pub fn class_at(
+        &mut self,
+        classes: &Classes<'a>,
+        site: Site,
+        how: Option<Use>,
+        index: u16,
+    ) -> Result<ClassRef<'a>, LinkError>
+        requires linked { IsLinked classes.now.world self.old }
+        requires site { IsSite classes.now.world site }
+        requires index { HoldsAtNumber classes.now.world site.class (λ l. IsSome (class_operand l.class index)) }
+        ensures found { IsClassUsed classes.now.world site how index result }
+        ensures linked { IsLinked classes.now.world self.new }
+    {
+        let at = entry_place(&self.firsts, site.class, index);
+        let found = class_by(&mut self.classes, at, classes, site.class, index);
+        used_class(classes.table(), site, how, index, found)
+    }
+
+    /// What [`Linked::field_use`] answers, where an entry has it and the instruction can use the field in every method of the
+    /// class: then it is one entry that is read, and else none.
+    #[inline(always)]
+    pub fn field_at_once(&self, site: Site, how: Use, index: u16) -> Option<FieldUse>
+        ensures found { (world : World) → IsLinked world self.now
+            → IfSome result (λ used. IsFieldResolved world site how index (Ok used.place)) }
+        ensures used { (world : World) → IsLinked world self.now → IfSome result (IsFieldUse world) }
+    {
+        if site.class < self.firsts.len() {
+            let at = self.firsts[site.class].wrapping_add(usize::from(index));
+            usable_at_once(&self.fields, at, site.class, index, how)
+        } else {
+            None
+        }
+    }
+
+    /// What [`Linked::field_use`] answers, by the entry of the constant, which then keeps what it resolves to.
+    #[cold]
+    #[inline(never)]
+    fn field_anew(
+        &mut self,
+        classes: &Classes<'_>,
+        site: Site,
+        how: Use,
+        index: u16,
+    ) -> Result<FieldUse, LinkError>
+        requires linked { IsLinked classes.now.world self.old }
+        requires site { IsSite classes.now.world site }
+        requires index { HoldsAtNumber classes.now.world site.class (λ l. IsSome (field_operand l.class index)) }
+        ensures found { IsFieldResolved classes.now.world site how index (used_place result) }
+        ensures used { IfOk result (IsFieldUse classes.now.world) }
+        ensures linked { IsLinked classes.now.world self.new }
+    {
+        let at = entry_place(&self.firsts, site.class, index);
+        let table = classes.table();
+        let found = field_by(
+            &mut self.fields,
+            at,
+            table,
+            classes,
+            &self.words,
+            site.class,
+            index,
+        );
+        used_field(table, site, how, index, found)
+    }
+
+    /// The same, with room of its own for the answer, which is then not made where the field is known at once.
+    #[inline(always)]
+    fn field_apart(
+        &mut self,
+        classes: &Classes<'_>,
+        site: Site,
+        how: Use,
+        index: u16,
+    ) -> Result<FieldUse, LinkError>
+        requires linked { IsLinked classes.now.world self.old }
+        requires site { IsSite classes.now.world site }
+        requires index { HoldsAtNumber classes.now.world site.class (λ l. IsSome (field_operand l.class index)) }
+        ensures found { IsFieldResolved classes.now.world site how index (used_place result) }
+        ensures used { IfOk result (IsFieldUse classes.now.world) }
+        ensures linked { IsLinked classes.now.world self.new }
+    {
+        self.field_anew(classes, site, how, index)
+    }
+
+    /// The field that the Fieldref constant at an index resolves to at a site, for an instruction, as
+    /// `jv_link`'s `resolve_field` answers it (JVMS 5.4.3.2, 5.4.4, 6.5), with what a step asks of it. Asked again, it is one
+    /// entry that is read; it takes no memory.
+    ///
+    /// # Errors
+    ///
+    /// As JVMS 5.4.3.2 and 6.5 have them.
+    #[inline(always)]
+    pub fn field_use(
+        &mut self,
+        classes: &Classes<'_>,
+        site: Site,
+        how: Use,
+        index: u16,
+    ) -> Result<FieldUse, LinkError>
+        requires linked { IsLinked classes.now.world self.old }
+        requires site { IsSite classes.now.world site }
+        requires index { HoldsAtNumber classes.now.world site.class (λ l. IsSome (field_operand l.class index)) }
+        ensures found { IsFieldResolved classes.now.world site how index (used_place result) }
+        ensures used { IfOk result (IsFieldUse classes.now.world) }
+        ensures linked { IsLinked classes.now.world self.new }
+    {
+        if let Some(used) = self.field_at_once(site, how, index) {
+            return Ok(used);
+        }
+        self.field_apart(classes, site, how, index)
+    }
+
+    /// The field that the Fieldref constant at an index resolves to at a site, for an instruction, as `jv_link`'s
+    /// `resolve_field` answers it.
+    ///
+    /// # Errors
+    ///
+    /// As JVMS 5.4.3.2 and 6.5 have them.
+    pub fn field_at(
+        &mut self,
+        classes: &Classes<'_>,
+        site: Site,
+        how: Use,
+        index: u16,
+    ) -> Result<Place, LinkError>
+        requires linked { IsLinked classes.now.world self.old }
+        requires site { IsSite classes.now.world site }
+        requires index { HoldsAtNumber classes.now.world site.class (λ l. IsSome (field_operand l.class index)) }
+        ensures found { IsFieldResolved classes.now.world site how index result }
+        ensures place { IfOk result (IsFieldPlace classes.now.world) }
+        ensures linked { IsLinked classes.now.world self.new }
+    {
+        match self.field_use(classes, site, how, index) {
+            Ok(used) => Ok(used.place),
+            Err(error) => Err(error),
+        }
+    }
+
+    /// The method that the Methodref or InterfaceMethodref constant at an index resolves to at a site, for an instruction, as
+    /// `jv_link`'s `resolve_method` answers it (JVMS 5.4.3.3, 5.4.3.4, 5.4.4, 6.5), with what a step asks of it. Asked again,
+    /// it is one entry that is read; it takes no memory.
+    ///
+    /// # Errors
+    ///
+    /// As JVMS 5.4.3.3, 5.4.3.4 and 6.5 have them.
+    #[inline(always)]
+    pub fn method_use(
+        &mut self,
+        classes: &Classes<'_>,
+        site: Site,
+        how: Use,
+        index: u16,
+    ) -> Result<MethodUse, LinkError>
+        requires linked { IsLinked classes.now.world self.old }
+        requires site { IsSite classes.now.world site }
+        requires index { HoldsAtNumber classes.now.world site.class (λ l. IsSome (method_operand l.class index)) }
+        ensures found { IsMethodResolved classes.now.world site how index (used_target result) }
+        ensures called { IfOk result (IsMethodUse classes.now.world) }
+        ensures linked { IsLinked classes.now.world self.new }
+    {
+        let at = entry_place(&self.firsts, site.class, index);
+        let table = classes.table();
+        let found = method_by(&mut self.methods, at, table, classes, site.class, index);
+        called_method(table, site, how, index, found)
+    }
+
+    /// The method that the Methodref or InterfaceMethodref constant at an index resolves to at a site, for an instruction, as
+    /// `jv_link`'s `resolve_method` answers it.
+    ///
+    /// # Errors
+    ///
+    /// As JVMS 5.4.3.3, 5.4.3.4 and 6.5 have them.
+    pub fn method_at(
+        &mut self,
+        classes: &Classes<'_>,
+        site: Site,
+        how: Use,
+        index: u16,
+    ) -> Result<MethodTarget, LinkError>
+        requires linked { IsLinked classes.now.world self.old }
+        requires site { IsSite classes.now.world site }
+        requires index { HoldsAtNumber classes.now.world site.class (λ l. IsSome (method_operand l.class index)) }
+        ensures found { IsMethodResolved classes.now.world site how index result }
+        ensures target { IfOk result (IsMethodTarget classes.now.world) }
+        ensures linked { IsLinked classes.now.world self.new }
+    {
+        match self.method_use(classes, site, how, index) {
+            Ok(called) => Ok(called.target),
+            Err(error) => Err(error),
+        }
+    }
+
+    /// The method that a call at a site runs, as `jv_link`'s `select` answers it (JVMS 6.5), of the target that was resolved for
+    /// the same instruction, and the number of the class of the object, which is loadable, `None` for an array's; the object is
+    /// known not to be null. Asked again, it is one entry that is read, unless another call has taken its place; it takes
+    /// no memory.
+    ///
+    /// # Errors
+    ///
+    /// As JVMS 6.5 has them.
+    #[inline(always)]
+    pub fn select_at(
+        &mut self,
+        classes: &Classes<'_>,
+        site: Site,
+        how: Use,
+        target: &MethodTarget,
+        object: Option<usize>,
+    ) -> Result<MethodTarget, LinkError>
+        requires linked { IsLinked classes.now.world self.old }
+        requires site { IsSite classes.now.world site }
+        requires target { IsMethodTarget classes.now.world target.now }
+        requires object { IsObject classes.now.world object }
+        ensures found { IsSelected classes.now.world site how target.now object result }
+        ensures target { IfOk result (IsMethodTarget classes.now.world) }
+        ensures linked { IsLinked classes.now.world self.new }
+    {
+        match how {
+            Use::Invokevirtual => {
+                selection_by(&mut self.virtuals, classes, 0, site, how, target, object)
+            }
+            Use::Invokeinterface => {
+                selection_by(&mut self.interfaces, classes, 0, site, how, target, object)
+            }
+            Use::Invokespecial => {
+                selection_by(
+                    &mut self.specials,
+                    classes,
+                    site.class,
+                    site,
+                    how,
+                    target,
+                    object,
+                )
+            }
+            _ => select(classes, site, how, target, object),
+        }
+    }
+
+    /// How many words an object of a class has, those of inherited fields among them (JVMS 2.7, own).
+    #[inline(always)]
+    pub fn object_words(&self, class: usize) -> usize
+        ensures { (world : World) → IsLinked world self.now → HoldsAtNumber world class (λ l. result ≡ object_words world l) }
+    {
+        object_words_in(&self.words, class)
+    }
+
+    /// The first word of the field at a place: in the objects that have it, or of a static field among the words of all static
+    /// fields (JVMS 2.7, own).
+    pub fn word_of(&self, place: Place) -> usize
+        ensures { (world : World) (d : DeclaredField) → IsLinked world self.now → field_at world place ≡ Some d → IsWordOf world d result }
+    {
+        word_in_all(&self.words, place)
+    }
+
+    /// How many words the static fields of all classes have (own).
+    pub fn static_words(&self) -> usize
+        ensures { (world : World) → IsLinked world self.now → result ≡ static_words world }
+    {
+        self.statics
+    }
+
+    /// The numbers of the classes and interfaces that are initialized before a class that can be loaded, in their order (JVMS
+    /// 5.5).
+    pub fn init_order(&self, class: usize) -> &[usize]
+        ensures { (world : World) → IsLinked world self.now → IsOrderOf world class result.now }
+    {
+        order_in(&self.orders, class)
+    }
+
+    /// The method at a place with its code (JVMS 4.6, 4.7.3), where it has code.
+    #[inline(always)]
+    pub fn body_at(&self, place: Place) -> Option<Body<'a>>
+        ensures { (world : World) (d : Declared) → IsLinked world self.now → method_at world place ≡ Some d → IsBody d.method result }
+    {
+        body_in(&self.bodies, place)
+    }
+
+    /// The places of the static fields of a class that its initialization sets to constants, in their order (JVMS 4.7.2, 5.5).
+    pub fn settings(&self, class: usize) -> &[usize]
+        ensures { (world : World) → IsLinked world self.now → HoldsAtNumber world class (λ l. result.now ≡ settings_of l) }
+    {
+        settings_at(&self.tasks, class)
+    }
+
+    /// The place of the `<clinit>` of a class, where it has one (JVMS 2.9, 5.5).
+    pub fn initializer(&self, class: usize) -> Option<usize>
+        ensures { (world : World) → IsLinked world self.now → HoldsAtNumber world class (λ l. IsInitializer l result) }
+    {
+        initializer_at(&self.tasks, class)
+    }
+}

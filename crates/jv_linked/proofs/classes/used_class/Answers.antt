@@ -1,5 +1,0 @@
-use Rattle.std.proofs.Common.{rules}
-use Rattle.jv_linked.proofs.classes.used_class.Goals as goal
-
-pub returns-in-Some-New : goal.returns-in-Some-New
-returns-in-Some-New c = search rules

@@ -1,5 +1,0 @@
-use Rattle.jv_linked.specs.Inside.Tasks.{AreTasks}
-use Rattle.jv_linked.proofs.tasks.all_tasks.Given as goal
-
-abbrev pub invariant-loop-number : goal.invariant-loop-number
-invariant-loop-number l = AreTasks l.table l.number l.rows.items

@@ -1,6 +1,0 @@
-use Rattle.std.proofs.Common.{◌≡◌, map, take}
-use Rattle.jv_linked.specs.Inside.Words.{own_words}
-use Rattle.jv_linked.proofs.words.all_own_words.Given as goal
-
-abbrev pub invariant-loop-number : goal.invariant-loop-number
-invariant-loop-number l = l.own.items ≡ map own_words (take l.number l.table)

@@ -1,5 +1,0 @@
-use Rattle.jv_linked.proofs.Going.{GoesOn}
-use Rattle.jv_linked.proofs.words.all_words.Given as goal
-
-abbrev pub invariant-loop-number : goal.invariant-loop-number
-invariant-loop-number l = GoesOn l.table l.number l.all.items l.statics

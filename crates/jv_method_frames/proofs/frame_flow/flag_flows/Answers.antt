@@ -1,5 +1,0 @@
-use Rattle.std.proofs.Common.{rules}
-use Rattle.jv_method_frames.proofs.frame_flow.flag_flows.Goals as goal
-
-pub returns-else-not-flag_this_uninit : goal.returns-else-not-flag_this_uninit
-returns-else-not-flag_this_uninit c = search rules

@@ -1,0 +1,4 @@
+pub mod Command
+pub mod Inside
+pub mod Status
+pub mod Written

@@ -1,0 +1,44 @@
+//! The report, as it is written on standard output.
+ghost use Rattle.std.specs.Prelude.{◌≡◌, IfErr, IfOk, OnErr, OnOk, string_bytes};
+ghost use Rattle.std.specs.Io.KnownBytes.{Appends};
+ghost use Rattle.jv_program.specs.Written.{WritesCut};
+ghost use Rattle.jv_program.specs.declared.stop.Stop.TheVariants.{Output};
+
+use crate::stop::Stop;
+use jv_program_base::Outcome;
+use std::io;
+use std::io::{Error, ErrorKind, Write};
+
+/// Writes a text, or fails where a write fails or takes none of it; what was written is then a front of the
+/// text, and not all of it.
+fn write_text<W: Write>(to: &mut W, text: &[u8]) -> io::Result<()>
+    ensures whole { OnOk result (Appends (W.contents to.old) (W.contents to.new) text.now) }
+    ensures cut { OnErr result (WritesCut (W.contents to.old) (W.contents to.new) text.now) }
+{
+    let mut rest = text;
+    while !rest.is_empty() {
+        let count = to.write(rest)?;
+        if count == 0 {
+            return Err(Error::from(ErrorKind::WriteZero));
+        }
+        rest = &rest[count..];
+    }
+    Ok(())
+}
+
+/// Writes the report, and gives the outcome back.
+///
+/// # Errors
+///
+/// `Output` where a write fails; what was written is then a front of the report, and not all of it.
+pub fn write_report<W: Write>(to: &mut W, outcome: Outcome) -> Result<Outcome, Stop>
+    ensures whole { OnOk result (Appends (W.contents to.old) (W.contents to.new) (string_bytes outcome.report)) }
+    ensures same { IfOk result (λ written. written ≡ outcome) }
+    ensures cut { OnErr result (WritesCut (W.contents to.old) (W.contents to.new) (string_bytes outcome.report)) }
+    ensures lost { IfErr result (λ stop. stop ≡ Output) }
+{
+    match write_text(to, outcome.report.as_bytes()) {
+        Ok(()) => Ok(outcome),
+        Err(_) => Err(Stop::Output),
+    }
+}

@@ -1,0 +1,3 @@
+pub mod ClassFileNames
+pub mod NotRead
+pub mod Places

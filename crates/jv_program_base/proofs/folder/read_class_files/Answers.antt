@@ -1,0 +1,31 @@
+use Rattle.std.proofs.lemmas.Grind.{common_steps}
+use Rattle.std.proofs.Common.{arith, map}
+use Rattle.jv_program_base.specs.declared.failure.Failure.TheVariants.{OutOfMemory}
+use Rattle.jv_limits.specs.Bytes.{bytes_of}
+use Rattle.jv_program_base.specs.Inside.Reading.{IsOneUnreadIn}
+use Rattle.jv_program_base.proofs.NotRead.{one_unread, short_for_file}
+use Rattle.jv_program_base.proofs.Places.{in_place, passed_on}
+use Rattle.jv_program_base.proofs.folder.read_class_files.Goals as goal
+
+pub loop-name-preserved : goal.loop-name-preserved
+loop-name-preserved g c = grind (arith, common_steps)
+
+pub returns-clause-named : goal.returns-clause-named
+returns-clause-named g c = grind (arith, common_steps)
+
+pub returns-in_err-class_file-clause-err : goal.returns-in_err-class_file-clause-err
+returns-in_err-class_file-clause-err g c =
+    let word = c.args.folder.now in
+    let names = c.args.names.now in
+    let k = c.loop-name.name-index in
+    let failure = c.in_err-class_file.field-0.0 in
+    passed_on c.from_residual.result failure (IsOneUnreadIn word (map bytes_of names)) c.from_residual.ensures.1
+    (one_unread word names k _ failure (in_place names k _ c.loop-name-test.true) (c.in_err-class_file.ensures {u = tt}).err)
+
+pub returns-in_err-map_err-clause-err : goal.returns-in_err-map_err-clause-err
+returns-in_err-map_err-clause-err g c =
+    let word = c.args.folder.now in
+    let names = c.args.names.now in
+    let k = c.loop-name.name-index in
+    passed_on c.from_residual-in_err-map_err.result OutOfMemory (IsOneUnreadIn word (map bytes_of names)) c.from_residual-in_err-map_err.ensures.1
+    (short_for_file word names k c.loop-name-test.true)

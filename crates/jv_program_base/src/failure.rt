@@ -1,0 +1,97 @@
+//! Why there is no report: the status that the program ends with, and its line.
+ghost use Rattle.std.specs.Prelude.{◌≡◌, Some};
+ghost use Rattle.jv_program_base.specs.Failure.{failure_line, failure_of, failure_of_feed, failure_status};
+ghost use Rattle.jv_program_base.specs.declared.failure.Failure.TheVariants.{OutOfMemory};
+
+use crate::escape::Escaped;
+use jv_limits::{AdmitFault, FeedFault};
+use std::alloc::AllocError;
+use std::fmt;
+
+/// Why there is no report.
+#[derive(Drop)]
+pub enum Failure {
+    /// The file or folder of this name can't be read.
+    Unreadable(Vec<u8>),
+    /// The standard input can't be read.
+    StandardInput,
+    /// The host did not admit the guest.
+    Refused(AdmitFault),
+    /// More was read for a guest than its input may have.
+    FeedTooLong,
+    /// There are more folders than the host takes guests.
+    TooManyFolders,
+    /// There is no guest with the number of the one that is to be fed.
+    NoGuest,
+    /// The host's memory was refused.
+    HostMemory,
+    /// The program's own memory was refused.
+    OutOfMemory,
+}
+
+impl Failure {
+    /// The status that the program ends with.
+    pub fn status(&self) -> u8
+        ensures { result ≡ failure_status self.now }
+    {
+        match self {
+            Failure::TooManyFolders | Failure::NoGuest => 2,
+            Failure::Unreadable(_)
+            | Failure::StandardInput
+            | Failure::Refused(_)
+            | Failure::FeedTooLong => 3,
+            Failure::HostMemory | Failure::OutOfMemory => 4,
+        }
+    }
+}
+
+impl fmt::Display for Failure {
+    ghost output = { λ failure. Some (failure_line failure) };
+
+    fn fmt<W: fmt::Write>(&self, f: &mut fmt::Formatter<W>) -> fmt::Result {
+        match self {
+            Failure::Unreadable(name) => {
+                let name = Escaped(name.as_slice());
+                write!(f, "jvhost: {name}: cannot be read\n")
+            }
+            Failure::StandardInput => f.write_str("jvhost: standard input: cannot be read\n"),
+            Failure::Refused(fault) => write!(f, "jvhost: {fault}\n"),
+            Failure::FeedTooLong => f.write_str("jvhost: InputTooLong\n"),
+            Failure::TooManyFolders => f.write_str("jvhost: TooManyGuests\n"),
+            Failure::NoGuest => f.write_str("jvhost: NoGuest\n"),
+            Failure::HostMemory => f.write_str("jvhost: HostMemory\n"),
+            Failure::OutOfMemory => f.write_str("jvhost: Memory\n"),
+        }
+    }
+}
+
+impl From<AllocError> for Failure {
+    ghost from_gives = { λ _ failure. failure ≡ OutOfMemory };
+
+    fn from(_error: AllocError) -> Failure {
+        Failure::OutOfMemory
+    }
+}
+
+impl From<AdmitFault> for Failure {
+    ghost from_gives = { λ fault failure. failure ≡ failure_of fault };
+
+    fn from(fault: AdmitFault) -> Failure {
+        match fault {
+            AdmitFault::HostMemory => Failure::HostMemory,
+            _ => Failure::Refused(fault),
+        }
+    }
+}
+
+impl From<FeedFault> for Failure {
+    ghost from_gives = { λ fault failure. failure ≡ failure_of_feed fault };
+
+    fn from(fault: FeedFault) -> Failure {
+        match fault {
+            FeedFault::NoGuest => Failure::NoGuest,
+            FeedFault::InputTooLong => Failure::FeedTooLong,
+            FeedFault::HostMemory => Failure::HostMemory,
+        }
+    }
+}

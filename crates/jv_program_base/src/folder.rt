@@ -1,0 +1,272 @@
+//! What a folder holds of a guest.
+ghost use Rattle.std.specs.Prelude.{◌≡◌, ◌≢◌, ◌≤◌, ◌+◌, ◌<◌, ◌^◌, [], ◌∷◌, ◌++◌, ℕ, All, IfErr, IfOk, List, codes, false, map, vec_len};
+ghost use Rattle.std.specs.IoError.{error_kind};
+ghost use Rattle.jv_limits.specs.Bytes.{bytes_of};
+ghost use Rattle.jv_program_base.specs.Failure.{IsNotRead, IsUnread};
+ghost use Rattle.jv_program_base.specs.Inside.Reading.{IsOneUnreadIn};
+ghost use Rattle.jv_program_base.specs.Folder.{AreClassFilesOf, IsFolderOf, IsFolderRead, IsReadUpToLimit, file_name};
+ghost use Rattle.jv_program_base.specs.Names.{is_listed_name};
+
+use crate::failure::Failure;
+use crate::file::read_past_limit;
+use crate::folders::Folders;
+use crate::names::{class_file_names, is_listed_name, names_in};
+use std::alloc::{AllocError, Global};
+use std::io;
+use std::io::{Error, ErrorKind};
+
+/// The most bytes of a class file, and of the file `main`.
+const CLASS_FILE_LIMIT: usize = 4_194_304;
+
+/// The most bytes of the file `input`.
+const INPUT_LIMIT: usize = 16_777_216;
+
+/// More bytes than any listing of a folder has.
+const LISTING_LIMIT: usize = 0x1_0000_0000;
+
+/// A class file.
+#[derive(Drop)]
+pub struct NamedFile {
+    /// Its name in the folder.
+    pub name: Vec<u8>,
+    /// Its bytes, or one more than the limit where there are more than that.
+    pub bytes: Vec<u8>,
+}
+
+/// What a folder holds of a guest.
+#[derive(Drop)]
+pub struct Folder<'a> {
+    /// The word for it, as it was given.
+    pub word: &'a str,
+    /// Its class files, in byte order of their names.
+    pub class_files: Vec<NamedFile>,
+    /// The bytes of its file `main`.
+    pub main: Vec<u8>,
+    /// The bytes of its file `input`, or none where there is no such file.
+    pub input: Vec<u8>,
+}
+
+/// The path of a file in a folder.
+fn path_in(alloc: Global, folder: &str, name: &[u8]) -> Result<Vec<u8>, AllocError>
+    ensures { IfOk result (λ path. path.items ≡ folder.now ++ 47 ∷ name.now) }
+{
+    let mut path = Vec::from_slice(alloc, folder.as_bytes())?;
+    path.push(b'/')?;
+    path.extend_from_slice(name)?;
+    Ok(path)
+}
+
+/// What an error of the system means for the file or folder of this name.
+fn failure_at(name: Vec<u8>, error: &Error) -> Failure
+    ensures memory { error_kind error.now ≡ ErrorKind.OutOfMemory → result ≡ Failure.OutOfMemory }
+    ensures other { error_kind error.now ≢ ErrorKind.OutOfMemory
+        → result ≡ Failure.Unreadable name }
+{
+    if error.kind() == ErrorKind::OutOfMemory {
+        Failure::OutOfMemory
+    } else {
+        Failure::Unreadable(name)
+    }
+}
+
+/// The bytes of the file at a path, or one more than the limit where there are more than that.
+fn bytes_at<F: Folders>(
+    alloc: Global,
+    folders: &mut F,
+    path: &[u8],
+    limit: usize,
+) -> io::Result<Vec<u8>>
+    requires { limit + 2 < 2 ^ 64 }
+    ensures { IfOk result (λ bytes. vec_len bytes ≤ limit + 1) }
+{
+    let Ok(path) = std::str::from_utf8(path) else {
+        return Err(Error::from(ErrorKind::InvalidFilename));
+    };
+    let mut file = folders.open_file(path)?;
+    read_past_limit(alloc, &mut file, limit)
+}
+
+/// The bytes of a file in a folder.
+fn read_file<F: Folders>(
+    alloc: Global,
+    folders: &mut F,
+    folder: &str,
+    name: &[u8],
+    limit: usize,
+) -> Result<Vec<u8>, Failure>
+    requires { limit + 2 < 2 ^ 64 }
+    ensures most { IfOk result (λ bytes. vec_len bytes ≤ limit + 1) }
+    ensures err { IfErr result (IsUnread (folder.now ++ 47 ∷ name.now)) }
+{
+    let path = path_in(alloc, folder, name)?;
+    match bytes_at(alloc, folders, path.as_slice(), limit) {
+        Ok(bytes) => Ok(bytes),
+        Err(error) => Err(failure_at(path, &error)),
+    }
+}
+
+/// The listing of a folder: its names, each ended by a NUL.
+fn listing_at<F: Folders>(alloc: Global, folders: &mut F, folder: &str) -> io::Result<Vec<u8>> {
+    let mut path = String::from_str(alloc, folder)?;
+    if !folder.is_empty() {
+        path.push('/')?;
+    }
+    let mut listing = folders.open_folder(path.as_str())?;
+    read_past_limit(alloc, &mut listing, LISTING_LIMIT)
+}
+
+/// The listing of a folder, or the failure that names the folder.
+fn read_listing<F: Folders>(
+    alloc: Global,
+    folders: &mut F,
+    folder: &str,
+) -> Result<Vec<u8>, Failure>
+    ensures err { IfErr result (IsUnread folder.now) }
+{
+    match listing_at(alloc, folders, folder) {
+        Ok(listing) => Ok(listing),
+        Err(error) => {
+            let name = Vec::from_slice(alloc, folder.as_bytes())?;
+            Err(failure_at(name, &error))
+        }
+    }
+}
+
+/// A class file of a folder.
+fn read_class_file<F: Folders>(
+    alloc: Global,
+    folders: &mut F,
+    folder: &str,
+    name: &[u8],
+) -> Result<NamedFile, Failure>
+    ensures named { IfOk result (λ file. file_name file ≡ name.now) }
+    ensures most { IfOk result IsReadUpToLimit }
+    ensures err { IfErr result (IsUnread (folder.now ++ 47 ∷ name.now)) }
+{
+    let bytes = read_file(alloc, folders, folder, name, CLASS_FILE_LIMIT)?;
+    let name = Vec::from_slice(alloc, name)?;
+    Ok(NamedFile { name, bytes })
+}
+
+/// The class file at a path; one byte more than the limit where there are more than that.
+///
+/// # Errors
+///
+/// `Unreadable` with the path, or `OutOfMemory` where the program had none.
+pub fn read_class<F: Folders>(
+    alloc: Global,
+    folders: &mut F,
+    path: &str,
+) -> Result<Vec<u8>, Failure>
+    ensures most { IfOk result (λ bytes. vec_len bytes ≤ 4194305) }
+    ensures err { IfErr result (IsUnread path.now) }
+{
+    match bytes_at(alloc, folders, path.as_bytes(), CLASS_FILE_LIMIT) {
+        Ok(bytes) => Ok(bytes),
+        Err(error) => {
+            let name = Vec::from_slice(alloc, path.as_bytes())?;
+            Err(failure_at(name, &error))
+        }
+    }
+}
+
+/// The class files of these names.
+fn read_class_files<F: Folders>(
+    alloc: Global,
+    folders: &mut F,
+    folder: &str,
+    names: &[&[u8]],
+) -> Result<Vec<NamedFile>, Failure>
+    ensures named { IfOk result (λ files. map file_name files.items ≡ map bytes_of names.now) }
+    ensures most { IfOk result (λ files. All IsReadUpToLimit files.items) }
+    ensures err { IfErr result (IsOneUnreadIn folder.now (map bytes_of names.now)) }
+{
+    let mut class_files = Vec::new(alloc);
+    for name in names {
+        let class_file = read_class_file(alloc, folders, folder, name)?;
+        class_files.push(class_file).map_err(AllocError::from)?;
+    }
+    Ok(class_files)
+}
+
+/// The class files among these names, in byte order of their names.
+fn read_class_files_among<F: Folders>(
+    alloc: Global,
+    folders: &mut F,
+    folder: &str,
+    names: &[&[u8]],
+) -> Result<Vec<NamedFile>, Failure>
+    ensures ok { IfOk result (λ files. AreClassFilesOf (map bytes_of names.now) files.items) }
+    ensures err { IfErr result (IsNotRead folder.now) }
+{
+    let class_names = class_file_names(alloc, names)?;
+    read_class_files(alloc, folders, folder, class_names.as_slice())
+}
+
+/// The bytes of the file `main`; one that is longer than the limit can't be read.
+fn read_main<F: Folders>(alloc: Global, folders: &mut F, folder: &str) -> Result<Vec<u8>, Failure>
+    ensures most { IfOk result (λ main. vec_len main ≤ 4194304) }
+    ensures err { IfErr result (IsNotRead folder.now) }
+{
+    let main = read_file(alloc, folders, folder, b"main", CLASS_FILE_LIMIT)?;
+    if main.len() > CLASS_FILE_LIMIT {
+        return Err(Failure::Unreadable(path_in(alloc, folder, b"main")?));
+    }
+    Ok(main)
+}
+
+/// The bytes of the file `input` where it is among the names, and else none.
+fn read_input<F: Folders>(
+    alloc: Global,
+    folders: &mut F,
+    folder: &str,
+    names: &[&[u8]],
+) -> Result<Vec<u8>, Failure>
+    ensures most { IfOk result (λ input. vec_len input ≤ 16777217) }
+    ensures absent { is_listed_name (codes "input") (map bytes_of names.now) ≡ false
+        → IfOk result (λ input. input.items ≡ []) }
+    ensures err { IfErr result (IsNotRead folder.now) }
+{
+    if is_listed_name(names, b"input") {
+        read_file(alloc, folders, folder, b"input", INPUT_LIMIT)
+    } else {
+        Ok(Vec::new(alloc))
+    }
+}
+
+/// Reads what a folder whose listing has these names holds of a guest.
+fn read_files<'a, F: Folders>(
+    alloc: Global,
+    folders: &mut F,
+    word: &'a str,
+    names: &[&[u8]],
+) -> Result<Folder<'a>, Failure>
+    ensures word { IfOk result (λ found. found.word.now ≡ word.now) }
+    ensures files { IfOk result (λ found. IsFolderOf (map bytes_of names.now) found) }
+    ensures err { IfErr result (IsNotRead word.now) }
+{
+    let class_files = read_class_files_among(alloc, folders, word, names)?;
+    let main = read_main(alloc, folders, word)?;
+    let input = read_input(alloc, folders, word, names)?;
+    Ok(Folder {
+        word,
+        class_files,
+        main,
+        input,
+    })
+}
+
+/// Reads the folder of a word: its listing, its class files in byte order of their names, its file `main`, and its file
+/// `input` where there is one. What fails first is the failure.
+pub fn read_folder<'a, F: Folders>(
+    alloc: Global,
+    folders: &mut F,
+    word: &'a str,
+) -> Result<Folder<'a>, Failure>
+    ensures ok { IfOk result (IsFolderRead word.now) }
+    ensures err { IfErr result (IsNotRead word.now) }
+{
+    let listing = read_listing(alloc, folders, word)?;
+    let names = names_in(alloc, listing.as_slice())?;
+    read_files(alloc, folders, word, names.as_slice())
+}

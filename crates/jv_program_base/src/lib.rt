@@ -1,0 +1,23 @@
+//! What both commands need: folders and class files that are read, verdicts and failures as text. A private part of the program.
+#![tactic(auto)]
+
+mod escape;
+mod failure;
+mod file;
+mod folder;
+mod folders;
+mod hashing;
+mod main_name;
+mod names;
+mod outcome;
+mod verdict;
+
+pub use escape::Escaped;
+pub use failure::Failure;
+pub use folder::{Folder, NamedFile, read_class, read_folder};
+pub use folders::{Folders, SystemFolders};
+pub use hashing::hashing_state;
+pub use main_name::main_name_of;
+pub use names::{class_file_names, names_in};
+pub use outcome::Outcome;
+pub use verdict::ShownVerdict;

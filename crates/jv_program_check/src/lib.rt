@@ -1,0 +1,9 @@
+//! What `check` does: the verdicts on the files of a guest, and on those of some names, without a host. A private part of the program.
+#![tactic(auto)]
+
+mod checking;
+mod named;
+mod report;
+
+pub use checking::check_files;
+pub use named::check_named;

@@ -1,0 +1,12 @@
+pub mod Admitted
+pub mod AllTurns
+pub mod Alone
+pub mod FedRounds
+pub mod Lines
+pub mod Needed
+pub mod NotRun
+pub mod Played
+pub mod Read
+pub mod Reports
+pub mod Turns
+pub mod WhatWasRead

@@ -1,0 +1,34 @@
+-- Reports, one behind the other.
+use Rattle.std.proofs.Common.{◌≡◌, ℕ, ◌+◌, Bool, List, [], ◌∷◌, ◌++◌, refl, sym, ap, subst, ◌∙◌, inl, inr}
+use Rattle.std.specs.Prelude.{map, ◌||◌}
+use Rattle.std.specs.List.{list_any}
+use Rattle.jv_host.specs.Showing.{seen_end}
+use Rattle.jv_program_run.specs.declared.report.Report.{Report}
+use Rattle.jv_host.specs.Host.{Admission}
+use Rattle.jv_program_run.specs.Guests.{NamedGuest}
+use Rattle.jv_program_run.specs.Report.{Told, is_running}
+use Rattle.jv_program_run.specs.Inside.Play.{AreReportsOn, IsReportOn, told_of}
+use Rattle.jv_program_base.proofs.Places.{length-more, map-more, pushed}
+
+-- a guest runs in what is told exactly where one does in the reports
+pub any_told_runs : (reports : List Report) → list_any (λ t. is_running t.seen.end) (map told_of reports) ≡ list_any (λ report. is_running (seen_end report.seen.end)) reports
+any_told_runs [] = refl
+any_told_runs (r ∷ reports) = ap (λ (b : Bool). is_running (seen_end r.seen.end) || b) (any_told_runs reports)
+
+-- one report more
+pub reports-more : (guests : List NamedGuest) (host : List Admission) (k : ℕ) (told : List Told) (t : Told) → AreReportsOn guests host k told → IsReportOn guests host k t
+    → AreReportsOn guests host (k + 1) (told ++ t ∷ [])
+reports-more guests host k told t before last =
+    record {
+      many = length-more told t ∙ ap (λ (n : ℕ). n + 1) before.many;
+      each = λ place other found. elim (pushed told t place other found) [
+        | inl h ↦ before.each place other h.1
+        | inr h ↦
+            let here : k ≡ place = sym (h.0 ∙ before.many) in
+            subst (λ (n : ℕ). IsReportOn guests host n other) here (subst (λ (x : Told). IsReportOn guests host k x) (sym h.1) last)
+      ];
+    }
+
+-- the reports so far, and one more
+pub pushed_report : (reports : List Report) (r : Report) (new : List Report) → new ≡ reports ++ r ∷ [] → map told_of new ≡ map told_of reports ++ told_of r ∷ []
+pushed_report reports r new e = ap (map told_of) e ∙ map-more told_of reports r

@@ -1,0 +1,6 @@
+pub mod Feeding
+pub mod Guests
+pub mod Inside
+pub mod Named
+pub mod Outcome
+pub mod Report

@@ -1,0 +1,104 @@
+-- What the program says of the guests of folders (own).
+use Rattle.std.specs.Prelude.{◌≡◌, ◌≢◌, ⊤, Option, Some, None, ℕ, zero, suc, ◌+◌, ◌-◌, ◌*◌, ◌<◌, ◌≤◌, List, [], length, slice_get, string_bytes}
+use Rattle.jv_meaning_machine.specs.State.End.{Running}
+use Rattle.jv_meaning_machine.specs.Start.{Budget}
+use Rattle.jv_meaning_machine.specs.Alone.{GuestFiles, Feed}
+use Rattle.jv_meaning_machine.specs.Observation.{Observed, Shows}
+use Rattle.jv_host.specs.Started.{budget_of}
+use Rattle.jv_limits.specs.declared.fault.AdmitFault.{AdmitFault}
+use Rattle.jv_host.specs.Limits.{first_refusal}
+use Rattle.jv_program_base.specs.declared.failure.Failure.{Failure}
+use Rattle.jv_program_base.specs.declared.failure.Failure.TheVariants.{Unreadable, StandardInput, Refused, FeedTooLong, TooManyFolders, NoGuest, HostMemory, OutOfMemory}
+use Rattle.jv_program_base.specs.declared.outcome.Outcome.{Outcome}
+use Rattle.jv_program_run.specs.declared.settings.RunSettings.{RunSettings}
+use Rattle.jv_program_run.specs.Feeding.{AreFeedsFrom, CameInTime, IsRunningAlone, IsTooLong, bytes_of_feeds, feeds_to}
+use Rattle.jv_program_run.specs.Guests.{NamedGuest}
+use Rattle.jv_program_run.specs.Report.{Told, report_text, run_status}
+
+-- each of the first guests is within the limits of a host that holds those before it
+abbrev pub AreAllowed : Budget → List NamedGuest → ℕ → Type 0
+AreAllowed b guests count =
+    (place : ℕ) (named : NamedGuest) → place < count → slice_get guests place ≡ Some named → first_refusal named.guest b place ≡ None
+
+-- What a guest that is fed so shows alone after some number of its own steps, each of which it took while it ran: as many as so many turns
+-- of at most n steps could have, or as there were to its end.
+pub record IsRunAlone (g : GuestFiles) (b : Budget) (feeds : List Feed) (n turns : ℕ) (o : Observed) : Type 0 where
+  pub steps : ℕ
+  pub alone : Shows g b feeds steps o
+  pub running : (k : ℕ) → k < steps → IsRunningAlone g b feeds k
+  pub few : steps ≤ n * turns
+  pub over : steps < n * turns → o.end ≢ Running
+  pub fed : CameInTime g b n feeds
+
+-- There were no more rounds than it took: in the last of so many, of turns of at most n steps, some guest took a step.
+abbrev pub WereNeeded : (n rounds : ℕ) → List Told → Type 0
+WereNeeded n zero told = ⊤
+WereNeeded n (suc before) told = (place : ℕ) × (t : Told) × (slice_get told place ≡ Some t) × (n * before < t.seen.steps)
+
+-- what was fed keeps, with the input that the guest brought, the limit of 16,777,216 bytes
+abbrev pub FitsInput : GuestFiles → List Feed → Type 0
+FitsInput g feeds = feeds ≢ [] → length g.input + length (bytes_of_feeds feeds) ≤ 16777216
+
+-- What is told of the guest at a place: its number, its folder's word, its files' names, and what that guest shows alone.
+pub record IsToldOf (s : RunSettings) (feeds : List Feed) (rounds place : ℕ) (named : NamedGuest) (told : Told) : Type 0 where
+  pub number : told.number ≡ place + 1
+  pub word : told.word ≡ named.word
+  pub names : told.names ≡ named.names
+  pub fits : FitsInput named.guest (feeds_to s.stdin feeds place)
+  pub seen : IsRunAlone named.guest (budget_of s.budget) (feeds_to s.stdin feeds place) s.quantum rounds told.seen
+
+-- Guests within the limits had rounds of turns: all of them, or as many as there were until none ran, and no more. Of input with these
+-- bytes before and after, what was read was fed to the one guest that is fed. The report tells so of each guest, and the status goes with
+-- what is told.
+pub record IsRunOutcome (s : RunSettings) (guests : List NamedGuest) (before after : Option (List ℕ)) (outcome : Outcome) : Type 0 where
+  pub allowed : AreAllowed (budget_of s.budget) guests (length guests)
+  pub rounds : ℕ
+  pub most : rounds ≤ s.rounds
+  pub feeds : List Feed
+  pub input : AreFeedsFrom s.stdin rounds feeds before after
+  pub told : List Told
+  pub count : length told ≡ length guests
+  pub each :
+      (place : ℕ) (named : NamedGuest) (t : Told) → slice_get guests place ≡ Some named → slice_get told place ≡ Some t
+      → IsToldOf s feeds rounds place named t
+  pub full : rounds < s.rounds → run_status told ≡ 0
+  pub needed : 1 ≤ s.quantum → WereNeeded s.quantum rounds told
+  pub report : string_bytes outcome.report ≡ report_text told
+  pub status : outcome.status ≡ run_status told
+
+-- ---- guests of which there is no report
+
+-- a guest is refused, for the first reason that applies, and none before it is
+pub record IsRefusedAmong (b : Budget) (guests : List NamedGuest) (fault : AdmitFault) : Type 0 where
+  pub place : ℕ
+  pub named : NamedGuest
+  pub found : slice_get guests place ≡ Some named
+  pub before : AreAllowed b guests place
+  pub first : first_refusal named.guest b place ≡ Some fault
+
+-- more came for the guest that is fed than it may have
+abbrev pub IsOverfed : Option ℕ → List NamedGuest → (before after : Option (List ℕ)) → Type 0
+IsOverfed None guests before after = ⊥
+IsOverfed (Some number) guests before after =
+    (named : NamedGuest) × (slice_get guests (number - 1) ≡ Some named) × IsTooLong named.guest before after
+
+-- Why the guests' turns ended early: nothing could be read for the one that is fed, or what was read is more than it may have, or the host
+-- had no memory for it.
+abbrev pub IsFeedingFailure : Option ℕ → List NamedGuest → (before after : Option (List ℕ)) → Failure → Type 0
+IsFeedingFailure stdin guests before after StandardInput = stdin ≢ None
+IsFeedingFailure stdin guests before after FeedTooLong = IsOverfed stdin guests before after
+IsFeedingFailure stdin guests before after HostMemory = stdin ≢ None
+IsFeedingFailure stdin guests before after failure = ⊥
+
+-- Why there is no report on guests: the host refused one, before anything was read; or, with all of them admitted, what was read for one
+-- was too long, or nothing could be read; or the host had no memory, and would have the first of them at least; or the program had none.
+abbrev pub IsGuestsFailure : RunSettings → List NamedGuest → (before after : Option (List ℕ)) → Failure → Type 0
+IsGuestsFailure s guests before after (Unreadable name) = ⊥
+IsGuestsFailure s guests before after StandardInput = AreAllowed (budget_of s.budget) guests (length guests) × (s.stdin ≢ None)
+IsGuestsFailure s guests before after (Refused fault) = IsRefusedAmong (budget_of s.budget) guests fault × (after ≡ before)
+IsGuestsFailure s guests before after FeedTooLong =
+    AreAllowed (budget_of s.budget) guests (length guests) × IsOverfed s.stdin guests before after
+IsGuestsFailure s guests before after TooManyFolders = ⊥
+IsGuestsFailure s guests before after NoGuest = ⊥
+IsGuestsFailure s guests before after HostMemory = AreAllowed (budget_of s.budget) guests 1
+IsGuestsFailure s guests before after OutOfMemory = ⊤

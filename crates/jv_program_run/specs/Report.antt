@@ -1,0 +1,74 @@
+-- The report on guests, as text.
+use Rattle.std.specs.Prelude.{ℕ, Bool, true, false, List, [], ◌∷◌, ◌++◌, length, codes, ◌==◌, Option, Some, None, if◌then◌else◌}
+use Rattle.std.specs.List.{flat_map, list_any}
+use Rattle.std.specs.Fmt.{decimal}
+use Rattle.jv_meaning_typing.specs.declared.verdict.Verdict.{Verdict}
+use Rattle.jv_meaning_machine.specs.State.{End}
+use Rattle.jv_meaning_machine.specs.State.End.{Running, Returned, Threw, NoMain}
+use Rattle.jv_meaning_machine.specs.Observation.{Observed}
+use Rattle.jv_program_base.specs.Escape.{escaped_text}
+use Rattle.jv_program_base.specs.Verdict.{verdict_text}
+
+-- What is told of a guest: its number, the word for its folder, the names of its class files, and what it showed.
+pub record Told : Type 0 where
+  pub number : ℕ
+  pub word : List ℕ
+  pub names : List (List ℕ)
+  pub seen : Observed
+
+-- the line of a class file
+abbrev pub verdict_line : List ℕ → Verdict → List ℕ
+verdict_line name verdict = codes "  " ++ escaped_text name ++ codes ": " ++ verdict_text verdict ++ 10 ∷ []
+
+-- the lines of the class files, each with its verdict
+unfoldable pub verdict_lines : List (List ℕ) → List Verdict → List ℕ
+verdict_lines (name ∷ names) (verdict ∷ verdicts) = verdict_line name verdict ++ verdict_lines names verdicts
+verdict_lines _ _ = []
+
+-- the number of a guest, and the word for its folder
+abbrev pub heading_text : ℕ → List ℕ → List ℕ
+heading_text number word = decimal number ++ codes " " ++ escaped_text word
+
+-- how often something was thrown, and the class of what was thrown last
+abbrev pub throws_text : ℕ → Option (List ℕ) → List ℕ
+throws_text count None = decimal count
+throws_text count (Some name) = decimal count ++ codes " last " ++ escaped_text name
+
+-- what a guest wrote; with nothing, no space follows the colon
+unfoldable pub output_text : List ℕ → List ℕ
+output_text bytes =
+    if length bytes == 0 then codes "0:" else decimal (length bytes) ++ codes ": " ++ escaped_text bytes
+
+abbrev pub ending_text : End → List ℕ
+ending_text Running = codes "Running"
+ending_text Returned = codes "Returned"
+ending_text (Threw name) = codes "Threw " ++ escaped_text name
+ending_text NoMain = codes "NoMain"
+
+-- a line: its label and a text
+abbrev pub labelled_line : List ℕ → List ℕ → List ℕ
+labelled_line label text = label ++ text ++ 10 ∷ []
+
+-- the lines on a guest
+unfoldable pub told_text : Told → List ℕ
+told_text told =
+    labelled_line (codes "guest ") (heading_text told.number told.word)
+    ++ verdict_lines told.names told.seen.verdicts
+    ++ labelled_line (codes "  steps ") (decimal told.seen.steps)
+    ++ labelled_line (codes "  throws ") (throws_text told.seen.throws told.seen.last)
+    ++ labelled_line (codes "  output ") (output_text told.seen.output)
+    ++ labelled_line (codes "  end ") (ending_text told.seen.end)
+
+-- the report: the lines on each guest
+abbrev pub report_text : List Told → List ℕ
+report_text told = flat_map told_text told
+
+-- ---- the status after the report
+
+abbrev pub is_running : End → Bool
+is_running Running = true
+is_running _ = false
+
+-- 5 where a guest still runs
+abbrev pub run_status : List Told → ℕ
+run_status told = if list_any (λ t. is_running t.seen.end) told then 5 else 0

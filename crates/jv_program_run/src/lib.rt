@@ -1,0 +1,17 @@
+//! What `run` does: folders are read, their guests run in one host, and what they show is the report. A private part of the program.
+#![tactic(auto)]
+
+mod brought;
+mod feeding;
+mod named;
+mod play;
+mod report;
+mod rounds;
+mod running;
+mod settings;
+
+pub use jv_host::{Budget, Progress, Unwatched, Watch};
+pub use named::run_named;
+pub use report::Report;
+pub use running::run_folders;
+pub use settings::RunSettings;

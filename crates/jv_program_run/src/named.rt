@@ -1,0 +1,102 @@
+//! Folders that are named, read and run.
+ghost use Rattle.std.specs.Prelude.{◌≡◌, ◌≤◌, false, IfErr, IfOk, length, map};
+ghost use Rattle.jv_limits.specs.Bytes.{bytes_of};
+ghost use Rattle.jv_program_base.specs.Failure.{IsOneNotRead};
+ghost use Rattle.jv_program_run.specs.Feeding.{is_no_guest};
+ghost use Rattle.jv_program_run.specs.Guests.{named_guest};
+ghost use Rattle.jv_program_run.specs.Named.{AreFoldersOf, AreTaken, IsRunAs, IsRunFailure};
+ghost use Rattle.jv_program_run.specs.Outcome.{IsGuestsFailure, IsRunOutcome};
+
+use crate::running::run_folders;
+use crate::settings::RunSettings;
+use jv_host::Watch;
+use jv_loader::system_files;
+use jv_program_base::{Failure, Folder, Folders, Outcome, read_folder};
+use std::alloc::{AllocError, Global};
+use std::hash::RandomState;
+use std::io::Read;
+
+/// The most folders.
+const FOLDERS: usize = 64;
+
+/// Reads the folders of words, in their order.
+fn read_folders<'a, F: Folders>(
+    alloc: Global,
+    folders: &mut F,
+    words: &[&'a str],
+) -> Result<Vec<Folder<'a>>, Failure>
+    ensures ok { IfOk result (λ folders. AreFoldersOf (map bytes_of words.now) folders.items) }
+    ensures count { IfOk result (λ folders. length folders.items ≡ length words.now) }
+    ensures err { IfErr result (IsOneNotRead (map bytes_of words.now)) }
+{
+    let mut read = Vec::new(alloc);
+    for word in words {
+        let folder = read_folder(alloc, folders, word)?;
+        read.push(folder).map_err(AllocError::from)?;
+    }
+    Ok(read)
+}
+
+/// Whether there is no guest with the number of the one that is to be fed, where one is.
+fn is_no_guest(number: Option<u32>, guests: usize) -> bool
+    ensures { result ≡ is_no_guest number guests }
+{
+    match number {
+        Some(number) => number == 0 || guests < number as usize,
+        None => false,
+    }
+}
+
+/// Runs the guests of folders that have been read.
+fn run_read<I: Read, W: Watch>(
+    alloc: Global,
+    state: RandomState,
+    settings: RunSettings,
+    folders: &[Folder<'_>],
+    input: &mut I,
+    watch: &mut W,
+) -> Result<Outcome, Failure>
+    requires few { length folders.now ≤ 64 }
+    requires fed { is_no_guest settings.stdin (length folders.now) ≡ false }
+    ensures ok { IfOk result
+        (IsRunOutcome settings (map named_guest folders.now) (I.remaining input.old) (I.remaining input.new)) }
+    ensures err { IfErr result
+        (IsGuestsFailure settings (map named_guest folders.now) (I.remaining input.old) (I.remaining input.new)) }
+{
+    let Ok(system) = system_files(alloc) else {
+        return Err(Failure::OutOfMemory);
+    };
+    run_folders(alloc, state, &system, settings, folders, input, watch)
+}
+
+/// Reads the folders of words, in their order, and runs their guests in one host. A watch sees the rounds of their turns.
+///
+/// # Errors
+///
+/// `TooManyFolders` where there are more than 64 words, and `NoGuest` where none is that of the guest that is to be fed; no folder
+/// is then read. `Unreadable` with the name of the first file or folder that can't be read; and else what `run_folders` says of the
+/// folders.
+pub fn run_named<F: Folders, I: Read, W: Watch>(
+    alloc: Global,
+    state: RandomState,
+    settings: RunSettings,
+    words: &[&str],
+    folders: &mut F,
+    input: &mut I,
+    watch: &mut W,
+) -> Result<Outcome, Failure>
+    ensures ok { IfOk result
+        (IsRunAs settings (map bytes_of words.now) (I.remaining input.old) (I.remaining input.new)) }
+    ensures err { IfErr result
+        (IsRunFailure settings (map bytes_of words.now) (I.remaining input.old) (I.remaining input.new)) }
+    ensures unread { (AreTaken settings (map bytes_of words.now) → ⊥) → folders.new ≡ folders.old }
+{
+    if words.len() > FOLDERS {
+        return Err(Failure::TooManyFolders);
+    }
+    if is_no_guest(settings.stdin, words.len()) {
+        return Err(Failure::NoGuest);
+    }
+    let folders = read_folders(alloc, folders, words)?;
+    run_read(alloc, state, settings, folders.as_slice(), input, watch)
+}

@@ -1,0 +1,16 @@
+//! What each guest may use, and how many steps it gets.
+
+use jv_host::Budget;
+
+/// What each guest may use, how many steps it gets, and which one is fed.
+#[derive(Clone, Copy)]
+pub struct RunSettings {
+    /// Its cells, words and bytes of output.
+    pub budget: Budget,
+    /// The most steps of a turn.
+    pub quantum: u32,
+    /// The most rounds, in each of which a guest gets one turn.
+    pub rounds: u32,
+    /// The number of the guest that is fed what is read, the first's being 1.
+    pub stdin: Option<u32>,
+}

@@ -1,0 +1,35 @@
+-- Worked rows of the command line: what words ask for, and in which kind others are refused.
+use Rattle.std.specs.Prelude.{◌≡◌, ℕ, true, List, [], ◌∷◌, Some, None, codes}
+use Rattle.clap.specs.Words.{fault_of}
+use Rattle.clap.specs.declared.error.kind.ErrorKind.TheVariants as kinds
+use Rattle.jv_program_words.specs.CommandLine.{command_line}
+use Rattle.jv_program_words.specs.Settings.{asked_in, check, run, usual_options}
+
+-- the words behind the program's own
+abbrev words : List (List ℕ) → List (List ℕ)
+words more = codes "jvhost" ∷ more
+
+pub record WordRows : Type 0 where
+  pub folders : asked_in (words (codes "run" ∷ codes "a" ∷ codes "b" ∷ []))
+      ≡ Some (run usual_options (codes "a" ∷ codes "b" ∷ []))
+  pub cells : asked_in (words (codes "run" ∷ codes "--cells" ∷ codes "64" ∷ codes "a" ∷ []))
+      ≡ Some (run (record usual_options { cells = 64 }) (codes "a" ∷ []))
+  pub behind : asked_in (words (codes "run" ∷ codes "a" ∷ codes "--quantum=3" ∷ codes "--rounds" ∷ codes "1" ∷ []))
+      ≡ Some (run (record usual_options { quantum = 3; rounds = 1 }) (codes "a" ∷ []))
+  pub fed : asked_in (words (codes "run" ∷ codes "--stdin" ∷ codes "2" ∷ codes "a" ∷ codes "b" ∷ []))
+      ≡ Some (run (record usual_options { stdin = Some 2 }) (codes "a" ∷ codes "b" ∷ []))
+  pub told : asked_in (words (codes "run" ∷ codes "--progress" ∷ codes "a" ∷ []))
+      ≡ Some (run (record usual_options { progress = true }) (codes "a" ∷ []))
+  pub files : asked_in (words (codes "check" ∷ codes "A.class" ∷ codes "B.class" ∷ []))
+      ≡ Some (check (codes "A.class" ∷ codes "B.class" ∷ []))
+  pub nothing : asked_in (words []) ≡ None
+  pub no_command : fault_of command_line (words []) ≡ kinds.MissingSubcommand ∷ []
+  pub no_folder : fault_of command_line (words (codes "run" ∷ [])) ≡ kinds.MissingRequiredArgument ∷ []
+  pub no_steps : fault_of command_line (words (codes "run" ∷ codes "--quantum" ∷ codes "0" ∷ codes "a" ∷ []))
+      ≡ kinds.ValueValidation ∷ []
+  pub guest_65 : fault_of command_line (words (codes "run" ∷ codes "--stdin" ∷ codes "65" ∷ codes "a" ∷ []))
+      ≡ kinds.ValueValidation ∷ []
+  pub twice : fault_of command_line (words (codes "run" ∷ codes "--cells" ∷ codes "64" ∷ codes "--cells" ∷ codes "65" ∷ codes "a" ∷ []))
+      ≡ kinds.ArgumentConflict ∷ []
+  pub unknown : fault_of command_line (words (codes "run" ∷ codes "--fast" ∷ codes "a" ∷ [])) ≡ kinds.UnknownArgument ∷ []
+  pub version : fault_of command_line (words (codes "--version" ∷ [])) ≡ kinds.DisplayVersion ∷ []

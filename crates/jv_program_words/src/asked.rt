@@ -1,0 +1,46 @@
+//! What may be asked for.
+ghost use Rattle.std.specs.Prelude.{◌≡◌};
+ghost use Rattle.jv_program_words.specs.Settings.{usual_options};
+
+/// What each guest may use, how many steps it gets, which guest is fed, and whether it is told how far the run is.
+#[derive(Clone, Copy)]
+pub struct RunOptions {
+    /// The cells of each guest's objects.
+    pub cells: u32,
+    /// The words of each guest's frames.
+    pub words: u32,
+    /// The bytes that each guest may write.
+    pub output: u32,
+    /// The most steps of a turn, at least 1.
+    pub quantum: u32,
+    /// The most rounds of turns, at least 1.
+    pub rounds: u32,
+    /// The number of the guest that is fed what comes on standard input, from 1 to 64, where one is.
+    pub stdin: Option<u32>,
+    /// Whether it is told how far the run is.
+    pub progress: bool,
+}
+
+/// What the words of the command line ask for.
+#[derive(Drop)]
+pub enum Settings<'a> {
+    /// To run the guests in folders, with these options.
+    Run(RunOptions, Vec<&'a str>),
+    /// To check files.
+    Check(Vec<&'a str>),
+}
+
+/// What holds where no option is used: 65,536 cells, words and bytes of output, and 10,000 rounds of turns of 1,000 steps.
+pub fn usual_options() -> RunOptions
+    ensures { result ≡ usual_options }
+{
+    RunOptions {
+        cells: 65_536,
+        words: 65_536,
+        output: 65_536,
+        quantum: 1_000,
+        rounds: 10_000,
+        stdin: None,
+        progress: false,
+    }
+}

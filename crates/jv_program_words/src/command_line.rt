@@ -1,0 +1,147 @@
+//! The command line, as the library that reads it takes it.
+ghost use Rattle.std.specs.Prelude.{◌≡◌, IfOk, false};
+ghost use Rattle.clap.specs.Words.{app_of, rule_of};
+ghost use Rattle.jv_program_words.specs.CommandLine.{check_line, command_line, flag, number_option, one_or_more, run_line};
+
+use clap::{Arg, ArgAction, Command, value_parser};
+use std::alloc::{AllocError, Global};
+
+/// An option that takes a number from `least` to `most`.
+fn number<'a>(
+    alloc: Global,
+    name: &'a str,
+    shown: &'a str,
+    least: u32,
+    most: u32,
+    help: &'a str,
+) -> Arg<'a>
+    ensures rule { rule_of result ≡ number_option name.entry.now least most }
+    ensures local { result.global ≡ false }
+{
+    Arg::new(alloc, name)
+        .long(name)
+        .value_name(shown)
+        .help(help)
+        .value_parser(value_parser!(u32).range(i64::from(least)..=i64::from(most)))
+}
+
+/// An option that takes nothing: it is there, or it isn't.
+fn flag<'a>(alloc: Global, name: &'a str, help: &'a str) -> Arg<'a>
+    ensures rule { rule_of result ≡ flag name.entry.now }
+    ensures local { result.global ≡ false }
+{
+    Arg::new(alloc, name)
+        .long(name)
+        .help(help)
+        .action(ArgAction::SetTrue)
+}
+
+/// An argument that takes one word or more.
+fn words<'a>(alloc: Global, name: &'a str, shown: &'a str, help: &'a str) -> Arg<'a>
+    ensures rule { rule_of result ≡ one_or_more name.entry.now }
+    ensures local { result.global ≡ false }
+{
+    Arg::new(alloc, name)
+        .value_name(shown)
+        .help(help)
+        .required(true)
+        .num_args(1..)
+}
+
+/// The command `run FOLDER...`, with its options.
+fn run_line<'a>(alloc: Global) -> Result<Command<'a>, AllocError>
+    ensures { IfOk result (λ line. app_of line ≡ run_line) }
+{
+    let about =
+        "Runs the class files of each folder as a guest of one host, and reports what they showed";
+    let most = u32::MAX;
+    let args = [
+        words(
+            alloc,
+            "folder",
+            "FOLDER",
+            "A folder with a guest's class files and the file `main`",
+        ),
+        number(
+            alloc,
+            "cells",
+            "N",
+            0,
+            most,
+            "The cells of each guest's objects, else 65536",
+        ),
+        number(
+            alloc,
+            "words",
+            "N",
+            0,
+            most,
+            "The words of each guest's frames, else 65536",
+        ),
+        number(
+            alloc,
+            "output",
+            "N",
+            0,
+            most,
+            "The bytes that each guest may write, else 65536",
+        ),
+        number(
+            alloc,
+            "quantum",
+            "N",
+            1,
+            most,
+            "The most steps of a turn, else 1000",
+        ),
+        number(
+            alloc,
+            "rounds",
+            "N",
+            1,
+            most,
+            "The most rounds of turns, else 10000",
+        ),
+        number(
+            alloc,
+            "stdin",
+            "K",
+            1,
+            64,
+            "The guest that is fed what comes on standard input",
+        ),
+        flag(
+            alloc,
+            "progress",
+            "Tells once a second how far the run is, where standard error is a terminal",
+        ),
+    ];
+    Command::new(alloc, "run")
+        .about(about)
+        .args(Vec::from_array(alloc, args)?)
+}
+
+/// The command `check FILE...`.
+fn check_line<'a>(alloc: Global) -> Result<Command<'a>, AllocError>
+    ensures { IfOk result (λ line. app_of line ≡ check_line) }
+{
+    let about = "Checks class files as those of one guest, and runs nothing";
+    let files = words(alloc, "file", "FILE", "A class file of the guest");
+    Command::new(alloc, "check").about(about).arg(files)
+}
+
+/// The program's command line.
+///
+/// # Errors
+///
+/// Where memory is short.
+pub(crate) fn command_line<'a>(alloc: Global) -> Result<Command<'a>, AllocError>
+    ensures { IfOk result (λ line. app_of line ≡ command_line) }
+{
+    Command::new(alloc, "jvhost")
+        .about("Checks and runs class files")
+        .version("0.1.0")
+        .subcommand_required(true)
+        .subcommand(run_line(alloc)?)?
+        .subcommand(check_line(alloc)?)
+}

@@ -1,5 +1,0 @@
-use Rattle.jv_rules.proofs.Below.{leaves_below}
-use Rattle.jv_rules.proofs.law.leaves_below.Goals as goal
-
-pub returns : goal.returns
-returns c = leaves_below

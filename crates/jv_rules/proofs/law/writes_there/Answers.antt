@@ -1,5 +1,0 @@
-use Rattle.jv_rules.proofs.Written.{writes_there}
-use Rattle.jv_rules.proofs.law.writes_there.Goals as goal
-
-pub returns : goal.returns
-returns c = writes_there

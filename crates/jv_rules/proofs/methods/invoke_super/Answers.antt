@@ -1,5 +1,0 @@
-use Rattle.std.proofs.Common.{rules}
-use Rattle.jv_rules.proofs.methods.invoke_super.Goals as goal
-
-pub returns-then-near : goal.returns-then-near
-returns-then-near c = search rules

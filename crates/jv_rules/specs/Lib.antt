@@ -1,6 +1,0 @@
-pub mod Inside
-pub mod Laws
-pub mod Method
-pub mod Objects
-pub mod Operands
-pub use Rattle.jv_types.specs.of_loader

@@ -1,7 +1,0 @@
-use Rattle.std.proofs.Common.{◌≡◌, map, take}
-use Rattle.jv_host.specs.Bytes.{bytes_of}
-use Rattle.jv_run.specs.Folder.{file_name}
-use Rattle.jv_run.proofs.brought.names_of_files.Given as goal
-
-abbrev pub invariant-loop-file : goal.invariant-loop-file
-invariant-loop-file l = map bytes_of l.found.items ≡ map file_name (take l.file-index l.files)

@@ -1,5 +1,0 @@
-use Rattle.std.proofs.Common.{rules}
-use Rattle.jv_run.proofs.folder.read_input.Goals as goal
-
-pub returns-then-is_listed_name-clause-absent : goal.returns-then-is_listed_name-clause-absent
-returns-then-is_listed_name-clause-absent c = search rules

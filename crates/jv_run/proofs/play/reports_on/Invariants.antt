@@ -1,7 +1,0 @@
-use Rattle.std.proofs.Common.{map}
-use Rattle.jv_run.specs.Inside.Brought.{named_guest_of}
-use Rattle.jv_run.specs.Inside.Play.{AreReportsOn, told_of}
-use Rattle.jv_run.proofs.play.reports_on.Given as goal
-
-abbrev pub invariant-loop-place : goal.invariant-loop-place
-invariant-loop-place l = AreReportsOn (map named_guest_of l.guests) l.host l.place (map told_of l.reports.items)

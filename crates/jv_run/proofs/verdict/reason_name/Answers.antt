@@ -1,5 +1,0 @@
-use Rattle.std.proofs.Common.{rules}
-use Rattle.jv_run.proofs.verdict.reason_name.Goals as goal
-
-pub returns-in-Version : goal.returns-in-Version
-returns-in-Version c = search rules

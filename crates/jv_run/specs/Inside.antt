@@ -1,4 +1,0 @@
-pub mod Brought
-pub mod Play
-pub mod Reading
-pub mod Turns

@@ -1,9 +1,0 @@
--- Files of a folder that were not read.
-use Rattle.std.specs.Prelude.{◌≡◌, ℕ, ⊤, List, ◌∷◌, ◌++◌, Some, slice_get}
-use Rattle.jv_run.specs.declared.failure.Failure.{Failure}
-use Rattle.jv_run.specs.Failure.{IsUnread}
-
--- why the files of these names in the folder of a word were not all read
-abbrev pub IsOneUnreadIn : (word : List ℕ) → (names : List (List ℕ)) → Failure → Type 0
-IsOneUnreadIn word names failure =
-    (place : ℕ) × (name : List ℕ) × (slice_get names place ≡ Some name) × IsUnread (word ++ 47 ∷ name) failure

@@ -1,0 +1,7 @@
+pub mod Bytes
+pub mod Types
+pub mod Frames
+pub mod Initial
+pub mod Entries
+pub mod Rows
+pub mod Inside

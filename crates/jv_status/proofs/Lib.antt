@@ -1,3 +1,0 @@
-mod Lines
-mod Texts
-pub mod Ends

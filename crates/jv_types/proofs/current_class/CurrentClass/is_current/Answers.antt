@@ -1,5 +1,0 @@
-use Rattle.std.proofs.Common.{rules}
-use Rattle.jv_types.proofs.current_class.CurrentClass.is_current.Goals as goal
-
-pub returns : goal.returns
-returns c = search rules

@@ -1,5 +1,0 @@
-use Rattle.std.proofs.Common.{rules}
-use Rattle.jv_types.proofs.marks.mark.Goals as goal
-
-pub returns-then-place-marks : goal.returns-then-place-marks
-returns-then-place-marks c = search rules

@@ -1,7 +1,0 @@
-use Rattle.std.proofs.Common.{sym, subst, length}
-use Rattle.jv_types_frames.specs.Inside.Tops.{AreTops}
-use Rattle.jv_types_frames.proofs.KeptTops.{tops_at_first}
-use Rattle.jv_types_frames.proofs.variables.Variables.make_tops.Goals as goal
-
-pub invariant_of-self : goal.invariant_of-self
-invariant_of-self c = subst (AreTops 0) (sym c.make_tops_below.ensures) (tops_at_first (length c.self.inside.items))

@@ -1,8 +1,0 @@
-use Rattle.std.proofs.Common.{sym, subst}
-use Rattle.jv_types_frames.specs.Inside.Tops.{AreTops}
-use Rattle.jv_types_frames.proofs.KeptTops.{still_tops}
-use Rattle.jv_types_frames.proofs.variables.Variables.replace.Goals as goal
-
-pub invariant_of-self : goal.invariant_of-self
-invariant_of-self c =
-    subst (AreTops c.self.inside.used) (sym c.replace.ensures) (still_tops c.args.object c.args.by c.self.inside.used c.self.inside.items c.self.invariant)

@@ -1,7 +1,0 @@
-use Rattle.std.proofs.Common.{sym, subst}
-use Rattle.jv_types_frames.specs.Inside.Tops.{AreTops}
-use Rattle.jv_types_frames.proofs.KeptTops.{tops_at_first}
-use Rattle.jv_types_frames.proofs.variables.Variables.tops.Goals as goal
-
-pub invariant_of-result : goal.invariant_of-result
-invariant_of-result c = subst (AreTops 0) (sym c.in_ok-items.ensures) (tops_at_first c.args.count)

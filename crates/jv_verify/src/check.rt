@@ -1,0 +1,66 @@
+//! The code of a method against all rules, in their order.
+
+ghost use Rattle.std.specs.Prelude.{◌≡◌};
+ghost use Rattle.jv_class_structure.specs.Seen.{seen_code, seen_method};
+ghost use Rattle.jv_meaning_typing.specs.Uses.{Site};
+ghost use Rattle.jv_verify.specs.Judged.{IsMethodOf};
+ghost use Rattle.jv_verify.specs.Inside.Known.{HasEnvironment, IsVerdictWith, IsVerdictOn};
+
+use crate::entries::{initial_items, words_within};
+use crate::known::{is_named_init, is_static, known_types};
+use crate::read::ReadMethod;
+use crate::tables::{broken, check_tables};
+use jv_class_structure::{Method, MethodCode};
+use jv_code::Code;
+use jv_meaning_typing::VerifyRule;
+use jv_verify_pass::{CodeFault, FrameRoom};
+use jv_verify_types::{CurrentClass, MethodTypes};
+use std::alloc::{AllocError, Global};
+
+/// Checks a method whose body has this code, and whose descriptor says these types.
+fn check_typed<'a>(
+    alloc: Global,
+    room: &mut FrameRoom,
+    class: &CurrentClass<'_, '_, 'a>,
+    method: &Method<'a>,
+    body: &MethodCode<'a>,
+    code: &Code<'a>,
+    types: MethodTypes<'_>,
+) -> Result<Option<CodeFault>, AllocError>
+    requires code { code.now.bytes.now ≡ body.now.code.now }
+    requires some { HasEnvironment class.now (seen_method method.now) (seen_code body.now) types }
+    ensures { IsVerdictWith class.now (seen_method method.now) (seen_code body.now) types.entry result }
+{
+    let is_init = is_named_init(class, method);
+    let items = initial_items(alloc, class, is_static(method), is_init, types.arguments)?;
+    let Some(count) = words_within(&items, body.max_locals) else {
+        unreachable!();
+    };
+    let read = ReadMethod::new(class, body, code, &items, count, is_init, types.result);
+    check_tables(alloc, room, &read)
+}
+
+/// Checks the code of a method of the current class: the first rule that it breaks (JVMS 4.10.1), and where; `None` where it
+/// has a typing.
+///
+/// # Errors
+///
+/// Where the host had no memory for its frames.
+pub fn check_method<'a>(
+    alloc: Global,
+    room: &mut FrameRoom,
+    class: &CurrentClass<'_, '_, 'a>,
+    method: &Method<'a>,
+    code: &MethodCode<'a>,
+) -> Result<Option<CodeFault>, AllocError>
+    requires { (site : Site) × IsMethodOf class.now (seen_method method.now) (seen_code code.now) site }
+    ensures { IsVerdictOn class.now (seen_method method.now) (seen_code code.now) result }
+{
+    let Some(types) = known_types(class, method, code) else {
+        return Ok(Some(broken(VerifyRule::Code)));
+    };
+    match Code::read(code.code) {
+        Ok(read) => check_typed(alloc, room, class, method, code, &read, types),
+        Err(_) => Ok(Some(broken(VerifyRule::Code))),
+    }
+}

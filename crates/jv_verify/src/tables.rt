@@ -1,0 +1,55 @@
+//! A method whose code was read, by its tables and then by its instructions.
+
+ghost use Rattle.std.specs.Prelude.{◌≡◌, IfOk};
+ghost use Rattle.jv_meaning_typing.specs.Environment.{Environment};
+ghost use Rattle.jv_meaning_typing.specs.Typing.{HandlersKeepRules};
+ghost use Rattle.jv_verify.specs.Judged.{IsVerdictOnMethod};
+ghost use Rattle.jv_verify.specs.Inside.Read.{IsOfRead, IsVerdictBehindHandlers};
+
+use crate::read::ReadMethod;
+use jv_code::Starts;
+use jv_meaning_typing::VerifyRule;
+use jv_verify_pass::{CodeFault, FrameRoom};
+use std::alloc::{AllocError, Global};
+
+/// A rule on the whole code is broken, which is at offset 0.
+pub(crate) fn broken(rule: VerifyRule) -> CodeFault
+    ensures offset { result.offset ≡ 0 }
+    ensures rule { result.rule ≡ rule }
+{
+    CodeFault { offset: 0, rule }
+}
+
+/// Checks a method whose handlers are right, with these starts of its instructions.
+fn check_frames<'a>(
+    alloc: Global,
+    room: &mut FrameRoom,
+    method: &ReadMethod<'_, '_, '_, 'a>,
+    starts: &Starts<'a>,
+) -> Result<Option<CodeFault>, AllocError>
+    requires starts { starts.now ≡ method.now.body.code }
+    requires some { (env : Environment) × (IsOfRead method.now env × HandlersKeepRules env) }
+    ensures { IsVerdictBehindHandlers method.now result }
+{
+    let Some(frames) = method.map_frames(alloc, starts)? else {
+        return Ok(Some(broken(VerifyRule::MapFrames)));
+    };
+    method.check_instructions(alloc, room, starts, &frames)
+}
+
+/// Checks a method whose code was read.
+pub(crate) fn check_tables(
+    alloc: Global,
+    room: &mut FrameRoom,
+    method: &ReadMethod<'_, '_, '_, '_>,
+) -> Result<Option<CodeFault>, AllocError>
+    requires { (env : Environment) × IsOfRead method.now env }
+    ensures { (env : Environment) → IsOfRead method.now env → IfOk result (IsVerdictOnMethod method.now.class.types.world env.site) }
+{
+    let starts = method.starts(alloc)?;
+    if method.handlers_keep_rules(&starts) {
+        check_frames(alloc, room, method, &starts)
+    } else {
+        Ok(Some(broken(VerifyRule::HandlerTable)))
+    }
+}

@@ -1,0 +1,14 @@
+use Rattle.std.proofs.Common.{ap, ◌∙◌, w32}
+use Rattle.std.proofs.lemmas.Int.{to_z-of_z}
+use Rattle.jv_verify_types.specs.Numbered.{frame_of}
+use Rattle.jv_code.specs.Switches.{pairs_in}
+use Rattle.jv_verify_pass.specs.Pass.{maps_of, names_in}
+use Rattle.jv_verify_pass.specs.Inside.Walk.{distance_holds}
+use Rattle.jv_verify_pass.proofs.Switching.{pairs}
+use Rattle.jv_verify_pass.proofs.targets.lookup_holds.Goals as goal
+
+pub returns-then-distance_holds-clause-flows : goal.returns-then-distance_holds-clause-flows
+returns-then-distance_holds-clause-flows c = λ env is.
+    pairs env (maps_of c.args.pass.now) (frame_of (names_in c.args.pass.now) c.args.frame.now) c.args.offset c.args.default (pairs_in c.args.pairs.now) c.distance_holds.result c.pairs_hold.result
+    (c.distance_holds.ensures.flows env is ∙ ap (distance_holds env (maps_of c.args.pass.now) (frame_of (names_in c.args.pass.now) c.args.frame.now)
+    c.args.offset) (to_z-of_z w32 c.args.default c.ranges.default)) c.if-distance_holds.true (c.pairs_hold.ensures.flows env is)

@@ -1,0 +1,4 @@
+pub mod Found
+pub mod Inside
+pub mod Pass
+pub mod Tables

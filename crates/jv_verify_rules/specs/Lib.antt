@@ -1,0 +1,5 @@
+pub mod Inside
+pub mod Laws
+pub mod Method
+pub mod Objects
+pub mod Operands
