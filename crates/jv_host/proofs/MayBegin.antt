@@ -6,7 +6,8 @@ use Rattle.std.proofs.lemmas.Bool.{leb-false}
 use Rattle.jv_meaning_machine.specs.Start.{Budget}
 use Rattle.jv_meaning_machine.specs.Alone.{GuestFiles}
 use Rattle.jv_limits.specs.declared.fault.AdmitFault.{AdmitFault}
-use Rattle.jv_host.specs.Limits.{first_file_refusal, first_other_refusal, first_refusal, is_in_range}
+use Rattle.jv_limits.specs.FileLimits.{first_file_refusal}
+use Rattle.jv_host.specs.Limits.{first_other_refusal, first_refusal, is_in_range}
 
 passed : (test : Bool) (fault : AdmitFault) (rest : Option AdmitFault) → cond test (Some fault) rest ≡ None → (test ≡ false) × (rest ≡ None)
 passed true fault rest e = absurd cc

@@ -16,8 +16,10 @@ run_fed-requires-clause-there g c =
     fed_there (budget_of c.args.settings.budget) (map named_guest_of brought) c.args.host.now c.requires.start c.args.settings.stdin c.in-Some.number (length brought)
     (length-map brought named_guest_of) c.in-Some.is c.requires.fed
 
-pub run_unfed-rounds-requires-clause-start : goal.run_unfed-rounds-requires-clause-start
-run_unfed-rounds-requires-clause-start g c = all_at_start (budget_of c.args.settings.budget) (map named_guest_of c.args.guests.now) c.args.host.now c.requires.start
+pub run_unfed-rounds-requires : goal.run_unfed-rounds-requires
+run_unfed-rounds-requires g c = record {
+  start = all_at_start (budget_of c.args.settings.budget) (map named_guest_of c.args.guests.now) c.args.host.now c.requires.start;
+}
 
 pub returns-in_err-_rounds-clause-err : goal.returns-in_err-_rounds-clause-err
 returns-in_err-_rounds-clause-err g c =
