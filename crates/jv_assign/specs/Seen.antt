@@ -1,12 +1,10 @@
--- What types and frames of the code stand for: the same, with lists of bytes in place of slices.
-use Rattle.std.specs.Prelude.{ℕ, List, map}
+-- What types of the code stand for: the same, with lists of bytes in place of slices.
+use Rattle.std.specs.Prelude.{ℕ, List}
 use Rattle.std.specs.Borrow.{Bor}
 use Rattle.jv_text.specs.Seen.{seen_field_type}
 use Rattle.jv_stackmap.specs.declared.verification.VerificationTypeOf.{VerificationTypeOf}
 use Rattle.jv_stackmap.specs.declared.verification.VerificationTypeOf.TheVariants as types
 use Rattle.jv_stackmap.specs.Types.{FrameType}
-use Rattle.jv_stackmap.specs.Frames.{Frame as FrameByWords}
-use Rattle.jv_assign.specs.declared.frame.Frame.{Frame}
 
 abbrev pub seen_type : VerificationTypeOf (Bor (List ℕ)) → FrameType
 seen_type types.Top = types.Top
@@ -17,6 +15,3 @@ seen_type types.UninitializedThis = types.UninitializedThis
 seen_type (types.Class name) = types.Class name.now
 seen_type (types.Array components) = types.Array (seen_field_type components)
 seen_type (types.Uninitialized offset) = types.Uninitialized offset
-
-abbrev pub seen_frame : Frame → FrameByWords
-seen_frame f = record { locals = map seen_type f.locals.now; stack = map seen_type f.stack.now; flag_this_uninit = f.flag_this_uninit }

@@ -1,14 +1,10 @@
-//! Assignability (JVMS 4.10.1.2): which verification type, and which frame, can stand where another is
-//! expected. A question on two types costs at most two hashes, one of a name each, and no memory.
+//! Assignability (JVMS 4.10.1.2): which verification type can stand where another is expected. A question on two types costs at most two
+//! hashes, one of a name each, and no memory.
 #![tactic(auto)]
 
 mod arrays;
 mod classes;
-mod frame;
-mod frames;
 mod types;
 
 pub use classes::other_class_flows;
-pub use frame::Frame;
-pub use frames::frame_flows;
 pub use types::flows;

@@ -1,6 +1,6 @@
 -- What is found of each item of a list.
 use Rattle.std.proofs.Common.{◌≡◌, ℕ, List, [], ◌∷◌, ◌++◌, ◌+◌, ◌<◌, ◌≤◌, ⊎_elim, length, take, get_or, map, Option, Some, None, refl, sym, ap, subst, ◌∙◌, arith}
-use Rattle.std.specs.Prelude.{◌⊎◌, IfSome, slice_get}
+use Rattle.std.specs.Prelude.{IfSome, slice_get}
 use Rattle.std.proofs.lemmas.Option.{slice_get_cases}
 use Rattle.std.specs.Option.{option_map, IsSomeAnd}
 use Rattle.std.proofs.lemmas.List.{take_more}

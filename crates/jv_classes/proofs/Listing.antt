@@ -7,7 +7,9 @@ use Rattle.std.specs.Str.{bytes_eq}
 use Rattle.std.specs.Cmp.Lexicographic.{nat_list_eq_equiv}
 use Rattle.std.proofs.lemmas.List.{length-map, map-append}
 use Rattle.std.proofs.lemmas.List.Recursion.{is_position_or_len}
-use Rattle.jv_classes.specs.Names.{with_name}
+use Rattle.indexmap.specs.IndexSet.{insert_key}
+use Rattle.std.specs.Borrow.{Bor}
+use Rattle.jv_classes.specs.Inside.KeptNames.{text_of, texts_of}
 use Rattle.jv_classes.proofs.Pushed.{in_two_parts}
 use Rattle.jv_class.specs.Rules.{is_no_array_name}
 use Rattle.jv_meaning_world.specs.World.{Loaded}
@@ -79,12 +81,40 @@ number_of_name ls name =
     same : position_or_len (bytes_eq name) (names_of ls) ≡ position_or_len (λ l. bytes_eq l.class.name name) ls
     same = is_position_or_len (λ rest. position_or_len (bytes_eq name) (names_of rest)) (λ l. bytes_eq l.class.name name) refl move ls
 
--- ---- a class more
+-- ---- keys of a set, each of which lends a name
 
-pub new_name : (ls : List Loaded) (c : Loaded) → number_named ls c.class.name ≡ None → with_name (names_of ls) c.class.name ≡ names_of (ls ++ c ∷ [])
-new_name ls c none =
-    ap (λ b. cond b (names_of ls) (names_of ls ++ c.class.name ∷ [])) (none_passes (bytes_eq c.class.name) (names_of ls) (number_of_name ls c.class.name ∙ none))
-    ∙ sym (map-append name_of ls (c ∷ []))
+key_place : (keys : List (Bor (List ℕ))) (name : List ℕ) → position (λ k. bytes_eq name k.now) keys ≡ position (bytes_eq name) (texts_of keys)
+key_place keys name =
+    ap (λ n. cond (nat_lt n (length keys)) (Some n) None) (sym same)
+    ∙ ap (λ m. cond (nat_lt (position_or_len (bytes_eq name) (texts_of keys)) m) (Some (position_or_len (bytes_eq name) (texts_of keys))) None) (sym (length-map keys text_of))
+  where
+    move : (k : Bor (List ℕ)) (rest : List (Bor (List ℕ))) → position_or_len (bytes_eq name) (texts_of (k ∷ rest)) ≡ cond (bytes_eq name k.now) 0 (1 + position_or_len (bytes_eq name) (texts_of rest))
+    move k rest = by_test (bytes_eq name k.now) refl
+      where
+        by_test : (b : Bool) → bytes_eq name k.now ≡ b → position_or_len (bytes_eq name) (texts_of (k ∷ rest)) ≡ cond b 0 (1 + position_or_len (bytes_eq name) (texts_of rest))
+        by_test true e = rw e refl
+        by_test false e = rw e refl
+
+    same : position_or_len (bytes_eq name) (texts_of keys) ≡ position_or_len (λ k. bytes_eq name k.now) keys
+    same = is_position_or_len (λ rest. position_or_len (bytes_eq name) (texts_of rest)) (λ k. bytes_eq name k.now) refl move keys
+
+module _ (keys : List (Bor (List ℕ))) (ls : List Loaded) (kept : texts_of keys ≡ names_of ls) where
+  pub number_of_key : (name : List ℕ) → position (λ k. bytes_eq name k.now) keys ≡ number_named ls name
+  number_of_key name = key_place keys name ∙ (ap (position (bytes_eq name)) kept ∙ number_of_name ls name)
+
+  -- a key more, of a class that is not there yet
+  pub key_more :
+      (k : Bor (List ℕ)) (c : Loaded) → k.now ≡ c.class.name → number_named ls c.class.name ≡ None
+      → texts_of (insert_key (λ x y. bytes_eq x.now y.now) keys k) ≡ names_of (ls ++ c ∷ [])
+  key_more k c named none =
+      ap (λ b. texts_of (cond b keys (keys ++ k ∷ []))) absent
+      ∙ (map-append text_of keys (k ∷ [])
+      ∙ (ap (λ ns. ns ++ k.now ∷ []) kept ∙ (ap (λ n. names_of ls ++ n ∷ []) named ∙ sym (map-append name_of ls (c ∷ [])))))
+    where
+      absent : list_any (λ y. bytes_eq k.now y.now) keys ≡ false
+      absent = none_passes (λ y. bytes_eq k.now y.now) keys (number_of_key k.now ∙ (ap (number_named ls) named ∙ none))
+
+-- ---- a class more
 
 pub numbered_more : (ls : List Loaded) (c : Loaded) → number_named ls c.class.name ≡ None → IsNumbered ls → IsNumbered (ls ++ c ∷ [])
 numbered_more ls c none numbers place l e = by_part (in_two_parts ls c l place e)

@@ -4,8 +4,8 @@ ghost use Rattle.std.specs.Prelude.{◌≡◌, ◌<◌, ◌++◌, [], ◌∷◌,
 ghost use Rattle.jv_meaning_world.specs.Numbers.{number_named, IsNumbered, AreNoArrays};
 
 use crate::loaded_class::LoadedClass;
-use crate::names::Names;
 use crate::text::seed_of;
+use indexmap::IndexSet;
 use std::alloc::{AllocError, Global};
 use std::hash::RandomState;
 use std::marker::Model;
@@ -14,7 +14,7 @@ use std::marker::Model;
 /// the world of these classes (JVMS 5.3).
 pub struct ClassList<'a> {
     seed: u64,
-    names: Names<'a>,
+    names: IndexSet<&'a [u8], RandomState>,
     classes: Vec<LoadedClass<'a>>,
 }
 
@@ -22,13 +22,15 @@ impl<'a> Model for ClassList<'a> {
     ghost use Rattle.std.specs.Prelude.{◌≡◌};
     ghost use Rattle.jv_meaning_world.specs.World.{World};
     ghost use Rattle.jv_meaning_world.specs.Numbers.{IsNumbered, AreNoArrays};
+    ghost use Rattle.jv_classes.specs.Inside.KeptNames.{texts_of};
     ghost use Rattle.jv_classes.specs.Inside.Listed.{names_of};
 
     ghost Value = { World };
 
     ghost view = { λ l. l.classes.items };
 
-    ghost invariant = { λ l. (l.names ≡ names_of l.classes.items) × IsNumbered l.classes.items × AreNoArrays l.classes.items };
+    ghost invariant = { λ l.
+        (texts_of l.names.keys ≡ names_of l.classes.items) × IsNumbered l.classes.items × AreNoArrays l.classes.items };
 }
 
 impl Drop for ClassList<'_> {
@@ -48,7 +50,7 @@ impl<'a> ClassList<'a> {
     {
         ClassList {
             seed: seed_of(state),
-            names: Names::new(alloc, state),
+            names: IndexSet::with_hasher(alloc, state),
             classes: Vec::new(alloc),
         }
     }
@@ -57,6 +59,7 @@ impl<'a> ClassList<'a> {
     pub fn is_numbered(&self)
         ensures { IsNumbered self.now }
     {
+        // Reads a field, so that the invariant is known.
         let _names = &self.names;
     }
 
@@ -64,6 +67,7 @@ impl<'a> ClassList<'a> {
     pub fn are_no_arrays(&self)
         ensures { AreNoArrays self.now }
     {
+        // Reads a field, so that the invariant is known.
         let _names = &self.names;
     }
 
@@ -83,7 +87,7 @@ impl<'a> ClassList<'a> {
     pub fn find(&self, name: &[u8]) -> Option<usize>
         ensures { result ≡ number_named self.now name.now }
     {
-        self.names.place_of(name)
+        self.names.get_index_of(name)
     }
 
     /// The classes, each at its number.
@@ -105,7 +109,7 @@ impl<'a> ClassList<'a> {
     {
         class.is_no_array();
         self.classes.reserve(1)?;
-        self.names.add(class.name())?;
+        self.names.insert(class.name())?;
         self.classes.push_reserved(class);
         Ok(())
     }

@@ -131,6 +131,7 @@ impl Relation {
     pub fn is_square(&self)
         ensures { IsSquare self.now }
     {
+        // Reads a field, so that the invariant is known.
         let _rows = &self.rows;
     }
 

@@ -1,7 +1,7 @@
-//! Tests of which types and frames flow to which, in the world of the guest of `load.rt`.
+//! Tests of which types flow to which, in the world of the guest of `load.rt`.
 
 use crate::load::FILES;
-use jv_assign::{Frame, flows, frame_flows};
+use jv_assign::flows;
 use jv_classes::ClassTable;
 use jv_loader::{Classes, system_files};
 use jv_stackmap::VerificationTypeOf;
@@ -28,10 +28,6 @@ static INTS: VerificationTypeOf<&[u8]> = VerificationTypeOf::Array(FieldTypeOf {
     dimensions: 0,
     element: Element::Base(Base::Int),
 });
-
-static LONG: [VerificationTypeOf<&[u8]>; 2] = [VerificationTypeOf::Long, VerificationTypeOf::Top];
-
-static TOPS: [VerificationTypeOf<&[u8]>; 2] = [VerificationTypeOf::Top, VerificationTypeOf::Top];
 
 /// The array of a class.
 fn array_of(name: &[u8]) -> VerificationTypeOf<&[u8]> {
@@ -66,39 +62,12 @@ fn arrays_flow(table: &ClassTable<'_>) -> bool {
         && !flows(table, &INTS, &VerificationTypeOf::Null)
 }
 
-/// Whether a long flows to top in a local variable, and not on the stack.
-fn longs_flow(table: &ClassTable<'_>) -> bool {
-    let long = Frame {
-        locals: &LONG,
-        stack: &[],
-        flag_this_uninit: false,
-    };
-    let top = Frame {
-        locals: &TOPS,
-        stack: &[],
-        flag_this_uninit: false,
-    };
-    let long_stack = Frame {
-        locals: &[],
-        stack: &LONG,
-        flag_this_uninit: false,
-    };
-    let top_stack = Frame {
-        locals: &[],
-        stack: &TOPS,
-        flag_this_uninit: false,
-    };
-    frame_flows(table, &long, &top)
-        && !frame_flows(table, &top, &long)
-        && !frame_flows(table, &long_stack, &top_stack)
-}
-
 fn flow(alloc: Global, state: RandomState, short: bool) -> bool {
     match system_files(alloc) {
         Ok(system) => match Classes::load(alloc, state, &system, &FILES) {
             Ok(classes) => {
                 let table = classes.table();
-                classes_flow(table) && arrays_flow(table) && longs_flow(table)
+                classes_flow(table) && arrays_flow(table)
             }
             Err(_) => short,
         },
@@ -107,7 +76,7 @@ fn flow(alloc: Global, state: RandomState, short: bool) -> bool {
 }
 
 #[test]
-fn types_and_frames_flow(rt: HostRuntime) {
+fn types_flow(rt: HostRuntime) {
     match RandomState::new(&rt) {
         Ok(state) => assert!(rt; flow(rt.alloc(), state, false)),
         Err(_) => assert!(rt; false),

@@ -1,4 +1,4 @@
-use Rattle.std.proofs.Common.{◌<◌, ◌≤◌, length, arith, rules, ap, sym, ◌∙◌}
+use Rattle.std.proofs.Common.{◌<◌, ◌≤◌, length, rules, ap, sym, ◌∙◌}
 use Rattle.std.proofs.lemmas.List.{take_all}
 use Rattle.jv_class.specs.Class.{all_found}
 use Rattle.jv_class_structure.specs.Parts.{methods_of}
