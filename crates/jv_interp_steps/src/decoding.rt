@@ -37,6 +37,7 @@ pub(crate) fn site_of(methods: &Methods<'_>, method: u32, pc: u32) -> Site
     requires { CanDecode methods.now method pc }
     ensures { IsSiteOf methods.now method pc result }
 {
+    // Only the clauses speak of it.
     let _pc = pc;
     let row = methods.method(method);
     Site {
@@ -53,6 +54,7 @@ pub(crate) fn opcode_at(code: &[u8], pc: usize, read: u16) -> u8
     ensures stands { HasBytes code.now pc (result ∷ []) }
     ensures room { (pc + 1) + least_operands result ≤ length code.now }
 {
+    // Only the clauses speak of these.
     let _code = code;
     let _pc = pc;
     (read - 1) as u8

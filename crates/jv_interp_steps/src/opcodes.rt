@@ -4,6 +4,7 @@ ghost use Rattle.std.specs.Prelude.{◌≡◌, IfSome};
 ghost use Rattle.jv_code.specs.Opcodes.{array_load_opcode, array_store_opcode, return_opcode};
 
 use jv_code::{NumberElement, ValueKind};
+use jv_interp_words::opcodes;
 
 /// What numbers `iaload` and its kin load.
 #[inline(always)]
@@ -11,11 +12,11 @@ pub(crate) fn element_loaded(opcode: u8) -> Option<NumberElement>
     ensures { IfSome result (λ x. array_load_opcode x ≡ opcode) }
 {
     match opcode {
-        46 => Some(NumberElement::Int),
-        47 => Some(NumberElement::Long),
-        51 => Some(NumberElement::ByteOrBoolean),
-        52 => Some(NumberElement::Char),
-        53 => Some(NumberElement::Short),
+        opcodes::IALOAD => Some(NumberElement::Int),
+        opcodes::LALOAD => Some(NumberElement::Long),
+        opcodes::BALOAD => Some(NumberElement::ByteOrBoolean),
+        opcodes::CALOAD => Some(NumberElement::Char),
+        opcodes::SALOAD => Some(NumberElement::Short),
         _ => None,
     }
 }
@@ -26,11 +27,11 @@ pub(crate) fn element_stored(opcode: u8) -> Option<NumberElement>
     ensures { IfSome result (λ x. array_store_opcode x ≡ opcode) }
 {
     match opcode {
-        79 => Some(NumberElement::Int),
-        80 => Some(NumberElement::Long),
-        84 => Some(NumberElement::ByteOrBoolean),
-        85 => Some(NumberElement::Char),
-        86 => Some(NumberElement::Short),
+        opcodes::IASTORE => Some(NumberElement::Int),
+        opcodes::LASTORE => Some(NumberElement::Long),
+        opcodes::BASTORE => Some(NumberElement::ByteOrBoolean),
+        opcodes::CASTORE => Some(NumberElement::Char),
+        opcodes::SASTORE => Some(NumberElement::Short),
         _ => None,
     }
 }
@@ -41,9 +42,9 @@ pub(crate) fn value_returned(opcode: u8) -> Option<ValueKind>
     ensures { IfSome result (λ x. return_opcode x ≡ opcode) }
 {
     match opcode {
-        172 => Some(ValueKind::Int),
-        173 => Some(ValueKind::Long),
-        176 => Some(ValueKind::Reference),
+        opcodes::IRETURN => Some(ValueKind::Int),
+        opcodes::LRETURN => Some(ValueKind::Long),
+        opcodes::ARETURN => Some(ValueKind::Reference),
         _ => None,
     }
 }

@@ -20,7 +20,7 @@ use jv_interp_instructions::{
 };
 use jv_interp_members::Methods;
 use jv_interp_objects::Texts;
-use jv_interp_words::Registers;
+use jv_interp_words::{Registers, opcodes};
 use jv_link_cache::Linked;
 use jv_loader::Classes;
 use jv_store::{OutOfMemory, Store};
@@ -214,7 +214,7 @@ fn step_at_hand<'a, 'l, S: Store>(
         );
     }
     match opcode {
-        50 => step_known::<Arrays, S>(
+        opcodes::AALOAD => step_known::<Arrays, S>(
             classes,
             linked,
             methods,
@@ -229,7 +229,7 @@ fn step_at_hand<'a, 'l, S: Store>(
             1,
             goes_on,
         ),
-        83 => step_known::<Objects, S>(
+        opcodes::AASTORE => step_known::<Objects, S>(
             classes,
             linked,
             methods,
@@ -244,7 +244,7 @@ fn step_at_hand<'a, 'l, S: Store>(
             1,
             goes_on,
         ),
-        108 => step_known::<Divisions, S>(
+        opcodes::IDIV => step_known::<Divisions, S>(
             classes,
             linked,
             methods,
@@ -259,7 +259,7 @@ fn step_at_hand<'a, 'l, S: Store>(
             1,
             goes_on,
         ),
-        109 => step_known::<Divisions, S>(
+        opcodes::LDIV => step_known::<Divisions, S>(
             classes,
             linked,
             methods,
@@ -274,7 +274,7 @@ fn step_at_hand<'a, 'l, S: Store>(
             1,
             goes_on,
         ),
-        112 => step_known::<Divisions, S>(
+        opcodes::IREM => step_known::<Divisions, S>(
             classes,
             linked,
             methods,
@@ -289,7 +289,7 @@ fn step_at_hand<'a, 'l, S: Store>(
             1,
             goes_on,
         ),
-        113 => step_known::<Divisions, S>(
+        opcodes::LREM => step_known::<Divisions, S>(
             classes,
             linked,
             methods,
@@ -304,7 +304,7 @@ fn step_at_hand<'a, 'l, S: Store>(
             1,
             goes_on,
         ),
-        177 => step_known::<Returns, S>(
+        opcodes::RETURN => step_known::<Returns, S>(
             classes,
             linked,
             methods,
@@ -319,7 +319,7 @@ fn step_at_hand<'a, 'l, S: Store>(
             1,
             goes_on,
         ),
-        190 => step_known::<Arrays, S>(
+        opcodes::ARRAYLENGTH => step_known::<Arrays, S>(
             classes,
             linked,
             methods,
@@ -334,7 +334,7 @@ fn step_at_hand<'a, 'l, S: Store>(
             1,
             goes_on,
         ),
-        18 => {
+        opcodes::LDC => {
             let index = index_in_byte(at.code, at.pc as usize);
             step_known::<ConstantLoads, S>(
                 classes,
@@ -352,7 +352,7 @@ fn step_at_hand<'a, 'l, S: Store>(
                 goes_on,
             )
         }
-        19 => {
+        opcodes::LDC_W => {
             let index = index_behind(at.code, at.pc as usize);
             step_known::<ConstantLoads, S>(
                 classes,
@@ -370,7 +370,7 @@ fn step_at_hand<'a, 'l, S: Store>(
                 goes_on,
             )
         }
-        20 => {
+        opcodes::LDC2_W => {
             let index = index_behind(at.code, at.pc as usize);
             step_known::<ConstantLoads, S>(
                 classes,
@@ -388,7 +388,7 @@ fn step_at_hand<'a, 'l, S: Store>(
                 goes_on,
             )
         }
-        178 => {
+        opcodes::GETSTATIC => {
             let index = index_behind(at.code, at.pc as usize);
             step_known::<FieldGets, S>(
                 classes,
@@ -406,7 +406,7 @@ fn step_at_hand<'a, 'l, S: Store>(
                 goes_on,
             )
         }
-        179 => {
+        opcodes::PUTSTATIC => {
             let index = index_behind(at.code, at.pc as usize);
             step_known::<FieldPuts, S>(
                 classes,
@@ -424,7 +424,7 @@ fn step_at_hand<'a, 'l, S: Store>(
                 goes_on,
             )
         }
-        180 => {
+        opcodes::GETFIELD => {
             let index = index_behind(at.code, at.pc as usize);
             step_known::<FieldGets, S>(
                 classes,
@@ -442,7 +442,7 @@ fn step_at_hand<'a, 'l, S: Store>(
                 goes_on,
             )
         }
-        181 => {
+        opcodes::PUTFIELD => {
             let index = index_behind(at.code, at.pc as usize);
             step_known::<FieldPuts, S>(
                 classes,
@@ -460,7 +460,7 @@ fn step_at_hand<'a, 'l, S: Store>(
                 goes_on,
             )
         }
-        182 => {
+        opcodes::INVOKEVIRTUAL => {
             let index = index_behind(at.code, at.pc as usize);
             step_known::<VirtualCalls, S>(
                 classes,
@@ -478,7 +478,7 @@ fn step_at_hand<'a, 'l, S: Store>(
                 goes_on,
             )
         }
-        183 => {
+        opcodes::INVOKESPECIAL => {
             let index = index_behind(at.code, at.pc as usize);
             step_known::<SpecialCalls, S>(
                 classes,
@@ -496,7 +496,7 @@ fn step_at_hand<'a, 'l, S: Store>(
                 goes_on,
             )
         }
-        184 => {
+        opcodes::INVOKESTATIC => {
             let index = index_behind(at.code, at.pc as usize);
             step_known::<StaticCalls, S>(
                 classes,
@@ -514,7 +514,7 @@ fn step_at_hand<'a, 'l, S: Store>(
                 goes_on,
             )
         }
-        185 => {
+        opcodes::INVOKEINTERFACE => {
             let index = index_behind(at.code, at.pc as usize);
             let count = count_behind(at.code, at.pc as usize);
             step_known::<InterfaceCalls, S>(
@@ -533,7 +533,7 @@ fn step_at_hand<'a, 'l, S: Store>(
                 goes_on,
             )
         }
-        187 => {
+        opcodes::NEW => {
             let index = index_behind(at.code, at.pc as usize);
             step_known::<Objects, S>(
                 classes,
@@ -551,7 +551,7 @@ fn step_at_hand<'a, 'l, S: Store>(
                 goes_on,
             )
         }
-        192 => {
+        opcodes::CHECKCAST => {
             let index = index_behind(at.code, at.pc as usize);
             step_known::<Objects, S>(
                 classes,
@@ -569,7 +569,7 @@ fn step_at_hand<'a, 'l, S: Store>(
                 goes_on,
             )
         }
-        193 => {
+        opcodes::INSTANCEOF => {
             let index = index_behind(at.code, at.pc as usize);
             step_known::<Objects, S>(
                 classes,

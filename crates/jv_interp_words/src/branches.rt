@@ -76,6 +76,7 @@ pub fn jump<'l>(words: &[u32], at: &mut Registers<'l>, next: u32, distance: i32,
     ensures went { GoesOn (GotoInsn distance form) next at.old words.now at.new words.now }
     ensures stays { StaysIn at.old at.new words.now }
 {
+    // Only the clauses speak of these.
     let _words = words;
     let _next = next;
     let _form = form;

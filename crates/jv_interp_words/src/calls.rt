@@ -20,6 +20,7 @@ pub fn entered_base(words: &[u32], top: usize, max_locals: usize, count: usize) 
         → FrameStands addresses locals [] (in_use words.now (result + max_locals)) under × (result ≡ length under) }
     ensures within { result + max_locals ≤ length words.now }
 {
+    // Only the clauses speak of it.
     let _words = words;
     top - count
 }
@@ -31,6 +32,7 @@ pub fn leave(words: &[u32], top: usize, base: usize) -> usize
     ensures { (above under : List ℕ) → in_use words.now top ≡ above ++ under → base ≡ length under
         → (in_use words.now result ≡ under) × (result ≤ top) }
 {
+    // Only the clauses speak of these.
     let _words = words;
     let _top = top;
     base

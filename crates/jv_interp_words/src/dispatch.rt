@@ -14,6 +14,7 @@ use crate::local_steps::{
     step_increment, step_load, step_load_of, step_store, step_store_long, step_store_long_of,
     step_store_of,
 };
+use crate::opcodes;
 use crate::registers::Registers;
 use jv_code::{
     ArithmeticOperator, Computation, Condition, Conversion, Equality, IntForm, LongValue,
@@ -32,259 +33,259 @@ pub fn step_in_words<'l>(words: &mut [u32], at: &mut Registers<'l>) -> u16
 {
     let opcode = opcode_at(at.code, at.pc as usize);
     match opcode {
-        0 => {
+        opcodes::NOP => {
             step_nop(words, at);
             0
         }
-        1 => {
+        opcodes::ACONST_NULL => {
             step_null(words, at);
             0
         }
-        2 => {
+        opcodes::ICONST_M1 => {
             step_compute(words, at, Computation::IntConstant(-1, IntForm::Opcode));
             0
         }
-        3 => {
+        opcodes::ICONST_0 => {
             step_compute(words, at, Computation::IntConstant(0, IntForm::Opcode));
             0
         }
-        4 => {
+        opcodes::ICONST_1 => {
             step_compute(words, at, Computation::IntConstant(1, IntForm::Opcode));
             0
         }
-        5 => {
+        opcodes::ICONST_2 => {
             step_compute(words, at, Computation::IntConstant(2, IntForm::Opcode));
             0
         }
-        6 => {
+        opcodes::ICONST_3 => {
             step_compute(words, at, Computation::IntConstant(3, IntForm::Opcode));
             0
         }
-        7 => {
+        opcodes::ICONST_4 => {
             step_compute(words, at, Computation::IntConstant(4, IntForm::Opcode));
             0
         }
-        8 => {
+        opcodes::ICONST_5 => {
             step_compute(words, at, Computation::IntConstant(5, IntForm::Opcode));
             0
         }
-        9 => {
+        opcodes::LCONST_0 => {
             step_compute(words, at, Computation::LongConstant(LongValue::Zero));
             0
         }
-        10 => {
+        opcodes::LCONST_1 => {
             step_compute(words, at, Computation::LongConstant(LongValue::One));
             0
         }
-        11 => 12,
-        12 => 13,
-        13 => 14,
-        14 => 15,
-        15 => 16,
-        16 => {
+        opcodes::FCONST_0 => opcodes::FCONST_0 as u16 + 1,
+        opcodes::FCONST_1 => opcodes::FCONST_1 as u16 + 1,
+        opcodes::FCONST_2 => opcodes::FCONST_2 as u16 + 1,
+        opcodes::DCONST_0 => opcodes::DCONST_0 as u16 + 1,
+        opcodes::DCONST_1 => opcodes::DCONST_1 as u16 + 1,
+        opcodes::BIPUSH => {
             step_byte_constant(words, at);
             0
         }
-        17 => {
+        opcodes::SIPUSH => {
             step_half_constant(words, at);
             0
         }
-        18 => 19,
-        19 => 20,
-        20 => 21,
-        21 => {
+        opcodes::LDC => opcodes::LDC as u16 + 1,
+        opcodes::LDC_W => opcodes::LDC_W as u16 + 1,
+        opcodes::LDC2_W => opcodes::LDC2_W as u16 + 1,
+        opcodes::ILOAD => {
             step_load(words, at, ValueKind::Int);
             0
         }
-        22 => {
+        opcodes::LLOAD => {
             step_load(words, at, ValueKind::Long);
             0
         }
-        23 => 24,
-        24 => 25,
-        25 => {
+        opcodes::FLOAD => opcodes::FLOAD as u16 + 1,
+        opcodes::DLOAD => opcodes::DLOAD as u16 + 1,
+        opcodes::ALOAD => {
             step_load(words, at, ValueKind::Reference);
             0
         }
-        26 => {
+        opcodes::ILOAD_0 => {
             step_load_of(words, at, ValueKind::Int, 0);
             0
         }
-        27 => {
+        opcodes::ILOAD_1 => {
             step_load_of(words, at, ValueKind::Int, 1);
             0
         }
-        28 => {
+        opcodes::ILOAD_2 => {
             step_load_of(words, at, ValueKind::Int, 2);
             0
         }
-        29 => {
+        opcodes::ILOAD_3 => {
             step_load_of(words, at, ValueKind::Int, 3);
             0
         }
-        30 => {
+        opcodes::LLOAD_0 => {
             step_load_of(words, at, ValueKind::Long, 0);
             0
         }
-        31 => {
+        opcodes::LLOAD_1 => {
             step_load_of(words, at, ValueKind::Long, 1);
             0
         }
-        32 => {
+        opcodes::LLOAD_2 => {
             step_load_of(words, at, ValueKind::Long, 2);
             0
         }
-        33 => {
+        opcodes::LLOAD_3 => {
             step_load_of(words, at, ValueKind::Long, 3);
             0
         }
-        34 => 35,
-        35 => 36,
-        36 => 37,
-        37 => 38,
-        38 => 39,
-        39 => 40,
-        40 => 41,
-        41 => 42,
-        42 => {
+        opcodes::FLOAD_0 => opcodes::FLOAD_0 as u16 + 1,
+        opcodes::FLOAD_1 => opcodes::FLOAD_1 as u16 + 1,
+        opcodes::FLOAD_2 => opcodes::FLOAD_2 as u16 + 1,
+        opcodes::FLOAD_3 => opcodes::FLOAD_3 as u16 + 1,
+        opcodes::DLOAD_0 => opcodes::DLOAD_0 as u16 + 1,
+        opcodes::DLOAD_1 => opcodes::DLOAD_1 as u16 + 1,
+        opcodes::DLOAD_2 => opcodes::DLOAD_2 as u16 + 1,
+        opcodes::DLOAD_3 => opcodes::DLOAD_3 as u16 + 1,
+        opcodes::ALOAD_0 => {
             step_load_of(words, at, ValueKind::Reference, 0);
             0
         }
-        43 => {
+        opcodes::ALOAD_1 => {
             step_load_of(words, at, ValueKind::Reference, 1);
             0
         }
-        44 => {
+        opcodes::ALOAD_2 => {
             step_load_of(words, at, ValueKind::Reference, 2);
             0
         }
-        45 => {
+        opcodes::ALOAD_3 => {
             step_load_of(words, at, ValueKind::Reference, 3);
             0
         }
-        46 => 47,
-        47 => 48,
-        48 => 49,
-        49 => 50,
-        50 => 51,
-        51 => 52,
-        52 => 53,
-        53 => 54,
-        54 => {
+        opcodes::IALOAD => opcodes::IALOAD as u16 + 1,
+        opcodes::LALOAD => opcodes::LALOAD as u16 + 1,
+        opcodes::FALOAD => opcodes::FALOAD as u16 + 1,
+        opcodes::DALOAD => opcodes::DALOAD as u16 + 1,
+        opcodes::AALOAD => opcodes::AALOAD as u16 + 1,
+        opcodes::BALOAD => opcodes::BALOAD as u16 + 1,
+        opcodes::CALOAD => opcodes::CALOAD as u16 + 1,
+        opcodes::SALOAD => opcodes::SALOAD as u16 + 1,
+        opcodes::ISTORE => {
             step_store(words, at, WordKind::Int);
             0
         }
-        55 => {
+        opcodes::LSTORE => {
             step_store_long(words, at);
             0
         }
-        56 => 57,
-        57 => 58,
-        58 => {
+        opcodes::FSTORE => opcodes::FSTORE as u16 + 1,
+        opcodes::DSTORE => opcodes::DSTORE as u16 + 1,
+        opcodes::ASTORE => {
             step_store(words, at, WordKind::Reference);
             0
         }
-        59 => {
+        opcodes::ISTORE_0 => {
             step_store_of(words, at, WordKind::Int, 0);
             0
         }
-        60 => {
+        opcodes::ISTORE_1 => {
             step_store_of(words, at, WordKind::Int, 1);
             0
         }
-        61 => {
+        opcodes::ISTORE_2 => {
             step_store_of(words, at, WordKind::Int, 2);
             0
         }
-        62 => {
+        opcodes::ISTORE_3 => {
             step_store_of(words, at, WordKind::Int, 3);
             0
         }
-        63 => {
+        opcodes::LSTORE_0 => {
             step_store_long_of(words, at, 0);
             0
         }
-        64 => {
+        opcodes::LSTORE_1 => {
             step_store_long_of(words, at, 1);
             0
         }
-        65 => {
+        opcodes::LSTORE_2 => {
             step_store_long_of(words, at, 2);
             0
         }
-        66 => {
+        opcodes::LSTORE_3 => {
             step_store_long_of(words, at, 3);
             0
         }
-        67 => 68,
-        68 => 69,
-        69 => 70,
-        70 => 71,
-        71 => 72,
-        72 => 73,
-        73 => 74,
-        74 => 75,
-        75 => {
+        opcodes::FSTORE_0 => opcodes::FSTORE_0 as u16 + 1,
+        opcodes::FSTORE_1 => opcodes::FSTORE_1 as u16 + 1,
+        opcodes::FSTORE_2 => opcodes::FSTORE_2 as u16 + 1,
+        opcodes::FSTORE_3 => opcodes::FSTORE_3 as u16 + 1,
+        opcodes::DSTORE_0 => opcodes::DSTORE_0 as u16 + 1,
+        opcodes::DSTORE_1 => opcodes::DSTORE_1 as u16 + 1,
+        opcodes::DSTORE_2 => opcodes::DSTORE_2 as u16 + 1,
+        opcodes::DSTORE_3 => opcodes::DSTORE_3 as u16 + 1,
+        opcodes::ASTORE_0 => {
             step_store_of(words, at, WordKind::Reference, 0);
             0
         }
-        76 => {
+        opcodes::ASTORE_1 => {
             step_store_of(words, at, WordKind::Reference, 1);
             0
         }
-        77 => {
+        opcodes::ASTORE_2 => {
             step_store_of(words, at, WordKind::Reference, 2);
             0
         }
-        78 => {
+        opcodes::ASTORE_3 => {
             step_store_of(words, at, WordKind::Reference, 3);
             0
         }
-        79 => 80,
-        80 => 81,
-        81 => 82,
-        82 => 83,
-        83 => 84,
-        84 => 85,
-        85 => 86,
-        86 => 87,
-        87 => {
+        opcodes::IASTORE => opcodes::IASTORE as u16 + 1,
+        opcodes::LASTORE => opcodes::LASTORE as u16 + 1,
+        opcodes::FASTORE => opcodes::FASTORE as u16 + 1,
+        opcodes::DASTORE => opcodes::DASTORE as u16 + 1,
+        opcodes::AASTORE => opcodes::AASTORE as u16 + 1,
+        opcodes::BASTORE => opcodes::BASTORE as u16 + 1,
+        opcodes::CASTORE => opcodes::CASTORE as u16 + 1,
+        opcodes::SASTORE => opcodes::SASTORE as u16 + 1,
+        opcodes::POP => {
             step_form(words, at, StackForm::Pop);
             0
         }
-        88 => {
+        opcodes::POP2 => {
             step_form(words, at, StackForm::Pop2);
             0
         }
-        89 => {
+        opcodes::DUP => {
             step_form(words, at, StackForm::Dup);
             0
         }
-        90 => {
+        opcodes::DUP_X1 => {
             step_form(words, at, StackForm::DupX1);
             0
         }
-        91 => {
+        opcodes::DUP_X2 => {
             step_form(words, at, StackForm::DupX2);
             0
         }
-        92 => {
+        opcodes::DUP2 => {
             step_form(words, at, StackForm::Dup2);
             0
         }
-        93 => {
+        opcodes::DUP2_X1 => {
             step_form(words, at, StackForm::Dup2X1);
             0
         }
-        94 => {
+        opcodes::DUP2_X2 => {
             step_form(words, at, StackForm::Dup2X2);
             0
         }
-        95 => {
+        opcodes::SWAP => {
             step_form(words, at, StackForm::Swap);
             0
         }
-        96 => {
+        opcodes::IADD => {
             step_compute(
                 words,
                 at,
@@ -292,7 +293,7 @@ pub fn step_in_words<'l>(words: &mut [u32], at: &mut Registers<'l>) -> u16
             );
             0
         }
-        97 => {
+        opcodes::LADD => {
             step_compute(
                 words,
                 at,
@@ -300,9 +301,9 @@ pub fn step_in_words<'l>(words: &mut [u32], at: &mut Registers<'l>) -> u16
             );
             0
         }
-        98 => 99,
-        99 => 100,
-        100 => {
+        opcodes::FADD => opcodes::FADD as u16 + 1,
+        opcodes::DADD => opcodes::DADD as u16 + 1,
+        opcodes::ISUB => {
             step_compute(
                 words,
                 at,
@@ -310,7 +311,7 @@ pub fn step_in_words<'l>(words: &mut [u32], at: &mut Registers<'l>) -> u16
             );
             0
         }
-        101 => {
+        opcodes::LSUB => {
             step_compute(
                 words,
                 at,
@@ -318,9 +319,9 @@ pub fn step_in_words<'l>(words: &mut [u32], at: &mut Registers<'l>) -> u16
             );
             0
         }
-        102 => 103,
-        103 => 104,
-        104 => {
+        opcodes::FSUB => opcodes::FSUB as u16 + 1,
+        opcodes::DSUB => opcodes::DSUB as u16 + 1,
+        opcodes::IMUL => {
             step_compute(
                 words,
                 at,
@@ -328,7 +329,7 @@ pub fn step_in_words<'l>(words: &mut [u32], at: &mut Registers<'l>) -> u16
             );
             0
         }
-        105 => {
+        opcodes::LMUL => {
             step_compute(
                 words,
                 at,
@@ -336,27 +337,27 @@ pub fn step_in_words<'l>(words: &mut [u32], at: &mut Registers<'l>) -> u16
             );
             0
         }
-        106 => 107,
-        107 => 108,
-        108 => 109,
-        109 => 110,
-        110 => 111,
-        111 => 112,
-        112 => 113,
-        113 => 114,
-        114 => 115,
-        115 => 116,
-        116 => {
+        opcodes::FMUL => opcodes::FMUL as u16 + 1,
+        opcodes::DMUL => opcodes::DMUL as u16 + 1,
+        opcodes::IDIV => opcodes::IDIV as u16 + 1,
+        opcodes::LDIV => opcodes::LDIV as u16 + 1,
+        opcodes::FDIV => opcodes::FDIV as u16 + 1,
+        opcodes::DDIV => opcodes::DDIV as u16 + 1,
+        opcodes::IREM => opcodes::IREM as u16 + 1,
+        opcodes::LREM => opcodes::LREM as u16 + 1,
+        opcodes::FREM => opcodes::FREM as u16 + 1,
+        opcodes::DREM => opcodes::DREM as u16 + 1,
+        opcodes::INEG => {
             step_compute(words, at, Computation::Negate(NumberKind::Int));
             0
         }
-        117 => {
+        opcodes::LNEG => {
             step_compute(words, at, Computation::Negate(NumberKind::Long));
             0
         }
-        118 => 119,
-        119 => 120,
-        120 => {
+        opcodes::FNEG => opcodes::FNEG as u16 + 1,
+        opcodes::DNEG => opcodes::DNEG as u16 + 1,
+        opcodes::ISHL => {
             step_compute(
                 words,
                 at,
@@ -364,7 +365,7 @@ pub fn step_in_words<'l>(words: &mut [u32], at: &mut Registers<'l>) -> u16
             );
             0
         }
-        121 => {
+        opcodes::LSHL => {
             step_compute(
                 words,
                 at,
@@ -372,7 +373,7 @@ pub fn step_in_words<'l>(words: &mut [u32], at: &mut Registers<'l>) -> u16
             );
             0
         }
-        122 => {
+        opcodes::ISHR => {
             step_compute(
                 words,
                 at,
@@ -380,7 +381,7 @@ pub fn step_in_words<'l>(words: &mut [u32], at: &mut Registers<'l>) -> u16
             );
             0
         }
-        123 => {
+        opcodes::LSHR => {
             step_compute(
                 words,
                 at,
@@ -388,7 +389,7 @@ pub fn step_in_words<'l>(words: &mut [u32], at: &mut Registers<'l>) -> u16
             );
             0
         }
-        124 => {
+        opcodes::IUSHR => {
             step_compute(
                 words,
                 at,
@@ -396,7 +397,7 @@ pub fn step_in_words<'l>(words: &mut [u32], at: &mut Registers<'l>) -> u16
             );
             0
         }
-        125 => {
+        opcodes::LUSHR => {
             step_compute(
                 words,
                 at,
@@ -404,7 +405,7 @@ pub fn step_in_words<'l>(words: &mut [u32], at: &mut Registers<'l>) -> u16
             );
             0
         }
-        126 => {
+        opcodes::IAND => {
             step_compute(
                 words,
                 at,
@@ -412,7 +413,7 @@ pub fn step_in_words<'l>(words: &mut [u32], at: &mut Registers<'l>) -> u16
             );
             0
         }
-        127 => {
+        opcodes::LAND => {
             step_compute(
                 words,
                 at,
@@ -420,7 +421,7 @@ pub fn step_in_words<'l>(words: &mut [u32], at: &mut Registers<'l>) -> u16
             );
             0
         }
-        128 => {
+        opcodes::IOR => {
             step_compute(
                 words,
                 at,
@@ -428,7 +429,7 @@ pub fn step_in_words<'l>(words: &mut [u32], at: &mut Registers<'l>) -> u16
             );
             0
         }
-        129 => {
+        opcodes::LOR => {
             step_compute(
                 words,
                 at,
@@ -436,7 +437,7 @@ pub fn step_in_words<'l>(words: &mut [u32], at: &mut Registers<'l>) -> u16
             );
             0
         }
-        130 => {
+        opcodes::IXOR => {
             step_compute(
                 words,
                 at,
@@ -444,7 +445,7 @@ pub fn step_in_words<'l>(words: &mut [u32], at: &mut Registers<'l>) -> u16
             );
             0
         }
-        131 => {
+        opcodes::LXOR => {
             step_compute(
                 words,
                 at,
@@ -452,149 +453,149 @@ pub fn step_in_words<'l>(words: &mut [u32], at: &mut Registers<'l>) -> u16
             );
             0
         }
-        132 => {
+        opcodes::IINC => {
             step_increment(words, at);
             0
         }
-        133 => {
+        opcodes::I2L => {
             step_compute(words, at, Computation::Convert(Conversion::IntToLong));
             0
         }
-        134 => 135,
-        135 => 136,
-        136 => {
+        opcodes::I2F => opcodes::I2F as u16 + 1,
+        opcodes::I2D => opcodes::I2D as u16 + 1,
+        opcodes::L2I => {
             step_compute(words, at, Computation::Convert(Conversion::LongToInt));
             0
         }
-        137 => 138,
-        138 => 139,
-        139 => 140,
-        140 => 141,
-        141 => 142,
-        142 => 143,
-        143 => 144,
-        144 => 145,
-        145 => {
+        opcodes::L2F => opcodes::L2F as u16 + 1,
+        opcodes::L2D => opcodes::L2D as u16 + 1,
+        opcodes::F2I => opcodes::F2I as u16 + 1,
+        opcodes::F2L => opcodes::F2L as u16 + 1,
+        opcodes::F2D => opcodes::F2D as u16 + 1,
+        opcodes::D2I => opcodes::D2I as u16 + 1,
+        opcodes::D2L => opcodes::D2L as u16 + 1,
+        opcodes::D2F => opcodes::D2F as u16 + 1,
+        opcodes::I2B => {
             step_compute(words, at, Computation::Convert(Conversion::IntToByte));
             0
         }
-        146 => {
+        opcodes::I2C => {
             step_compute(words, at, Computation::Convert(Conversion::IntToChar));
             0
         }
-        147 => {
+        opcodes::I2S => {
             step_compute(words, at, Computation::Convert(Conversion::IntToShort));
             0
         }
-        148 => {
+        opcodes::LCMP => {
             step_compute(words, at, Computation::CompareLongs);
             0
         }
-        149 => 150,
-        150 => 151,
-        151 => 152,
-        152 => 153,
-        153 => {
+        opcodes::FCMPL => opcodes::FCMPL as u16 + 1,
+        opcodes::FCMPG => opcodes::FCMPG as u16 + 1,
+        opcodes::DCMPL => opcodes::DCMPL as u16 + 1,
+        opcodes::DCMPG => opcodes::DCMPG as u16 + 1,
+        opcodes::IFEQ => {
             step_if_int(words, at, Condition::Equal);
             0
         }
-        154 => {
+        opcodes::IFNE => {
             step_if_int(words, at, Condition::NotEqual);
             0
         }
-        155 => {
+        opcodes::IFLT => {
             step_if_int(words, at, Condition::Less);
             0
         }
-        156 => {
+        opcodes::IFGE => {
             step_if_int(words, at, Condition::GreaterOrEqual);
             0
         }
-        157 => {
+        opcodes::IFGT => {
             step_if_int(words, at, Condition::Greater);
             0
         }
-        158 => {
+        opcodes::IFLE => {
             step_if_int(words, at, Condition::LessOrEqual);
             0
         }
-        159 => {
+        opcodes::IF_ICMPEQ => {
             step_if_ints(words, at, Condition::Equal);
             0
         }
-        160 => {
+        opcodes::IF_ICMPNE => {
             step_if_ints(words, at, Condition::NotEqual);
             0
         }
-        161 => {
+        opcodes::IF_ICMPLT => {
             step_if_ints(words, at, Condition::Less);
             0
         }
-        162 => {
+        opcodes::IF_ICMPGE => {
             step_if_ints(words, at, Condition::GreaterOrEqual);
             0
         }
-        163 => {
+        opcodes::IF_ICMPGT => {
             step_if_ints(words, at, Condition::Greater);
             0
         }
-        164 => {
+        opcodes::IF_ICMPLE => {
             step_if_ints(words, at, Condition::LessOrEqual);
             0
         }
-        165 => {
+        opcodes::IF_ACMPEQ => {
             step_if_same(words, at, Equality::Same);
             0
         }
-        166 => {
+        opcodes::IF_ACMPNE => {
             step_if_same(words, at, Equality::Different);
             0
         }
-        167 => {
+        opcodes::GOTO => {
             step_goto(words, at);
             0
         }
-        168 => 169,
-        169 => 170,
-        170 => 171,
-        171 => 172,
-        172 => 173,
-        173 => 174,
-        174 => 175,
-        175 => 176,
-        176 => 177,
-        177 => 178,
-        178 => 179,
-        179 => 180,
-        180 => 181,
-        181 => 182,
-        182 => 183,
-        183 => 184,
-        184 => 185,
-        185 => 186,
-        186 => 187,
-        187 => 188,
-        188 => 189,
-        189 => 190,
-        190 => 191,
-        191 => 192,
-        192 => 193,
-        193 => 194,
-        194 => 195,
-        195 => 196,
-        196 => 197,
-        197 => 198,
-        198 => {
+        opcodes::JSR => opcodes::JSR as u16 + 1,
+        opcodes::RET => opcodes::RET as u16 + 1,
+        opcodes::TABLESWITCH => opcodes::TABLESWITCH as u16 + 1,
+        opcodes::LOOKUPSWITCH => opcodes::LOOKUPSWITCH as u16 + 1,
+        opcodes::IRETURN => opcodes::IRETURN as u16 + 1,
+        opcodes::LRETURN => opcodes::LRETURN as u16 + 1,
+        opcodes::FRETURN => opcodes::FRETURN as u16 + 1,
+        opcodes::DRETURN => opcodes::DRETURN as u16 + 1,
+        opcodes::ARETURN => opcodes::ARETURN as u16 + 1,
+        opcodes::RETURN => opcodes::RETURN as u16 + 1,
+        opcodes::GETSTATIC => opcodes::GETSTATIC as u16 + 1,
+        opcodes::PUTSTATIC => opcodes::PUTSTATIC as u16 + 1,
+        opcodes::GETFIELD => opcodes::GETFIELD as u16 + 1,
+        opcodes::PUTFIELD => opcodes::PUTFIELD as u16 + 1,
+        opcodes::INVOKEVIRTUAL => opcodes::INVOKEVIRTUAL as u16 + 1,
+        opcodes::INVOKESPECIAL => opcodes::INVOKESPECIAL as u16 + 1,
+        opcodes::INVOKESTATIC => opcodes::INVOKESTATIC as u16 + 1,
+        opcodes::INVOKEINTERFACE => opcodes::INVOKEINTERFACE as u16 + 1,
+        opcodes::INVOKEDYNAMIC => opcodes::INVOKEDYNAMIC as u16 + 1,
+        opcodes::NEW => opcodes::NEW as u16 + 1,
+        opcodes::NEWARRAY => opcodes::NEWARRAY as u16 + 1,
+        opcodes::ANEWARRAY => opcodes::ANEWARRAY as u16 + 1,
+        opcodes::ARRAYLENGTH => opcodes::ARRAYLENGTH as u16 + 1,
+        opcodes::ATHROW => opcodes::ATHROW as u16 + 1,
+        opcodes::CHECKCAST => opcodes::CHECKCAST as u16 + 1,
+        opcodes::INSTANCEOF => opcodes::INSTANCEOF as u16 + 1,
+        opcodes::MONITORENTER => opcodes::MONITORENTER as u16 + 1,
+        opcodes::MONITOREXIT => opcodes::MONITOREXIT as u16 + 1,
+        opcodes::WIDE => opcodes::WIDE as u16 + 1,
+        opcodes::MULTIANEWARRAY => opcodes::MULTIANEWARRAY as u16 + 1,
+        opcodes::IFNULL => {
             step_if_null(words, at, Equality::Same);
             0
         }
-        199 => {
+        opcodes::IFNONNULL => {
             step_if_null(words, at, Equality::Different);
             0
         }
-        200 => 201,
-        201 => 202,
-        202 => 203,
+        opcodes::GOTO_W => opcodes::GOTO_W as u16 + 1,
+        opcodes::JSR_W => opcodes::JSR_W as u16 + 1,
+        opcodes::BREAKPOINT => opcodes::BREAKPOINT as u16 + 1,
         203 => 204,
         204 => 205,
         205 => 206,
@@ -646,7 +647,7 @@ pub fn step_in_words<'l>(words: &mut [u32], at: &mut Registers<'l>) -> u16
         251 => 252,
         252 => 253,
         253 => 254,
-        254 => 255,
+        opcodes::IMPDEP1 => opcodes::IMPDEP1 as u16 + 1,
         _ => u16::from(opcode) + 1,
     }
 }

@@ -19,6 +19,7 @@ mod local_instructions;
 mod local_steps;
 mod locals;
 mod numbers;
+pub mod opcodes;
 mod operands;
 mod pushes;
 mod records;

@@ -33,6 +33,7 @@ pub fn load<'l>(
     ensures went { GoesOn (LoadInsn kind index form) next at.old words.old at.new words.new }
     ensures stays { StaysIn at.old at.new words.new }
 {
+    // Only the clauses speak of it.
     let _form = form;
     at.top = crate::locals::load(words, at.top, kind, at.base, index);
     at.pc = next;
@@ -52,6 +53,7 @@ pub fn store<'l>(
     ensures went { GoesOn (StoreInsn kind index form) next at.old words.old at.new words.new }
     ensures stays { StaysIn at.old at.new words.new }
 {
+    // Only the clauses speak of it.
     let _form = form;
     let kind_of_value = value_kind(kind);
     at.top = crate::locals::store(words, at.top, kind_of_value, at.base, index);
@@ -71,6 +73,7 @@ pub fn store_long<'l>(
     ensures went { GoesOn (StoreLongInsn index form) next at.old words.old at.new words.new }
     ensures stays { StaysIn at.old at.new words.new }
 {
+    // Only the clauses speak of it.
     let _form = form;
     at.top = crate::locals::store(words, at.top, ValueKind::Long, at.base, index);
     at.pc = next;
@@ -90,6 +93,7 @@ pub fn increment<'l>(
     ensures went { GoesOn (IncrementInsn index by form) next at.old words.old at.new words.new }
     ensures stays { StaysIn at.old at.new words.new }
 {
+    // Only the clauses speak of it.
     let _form = form;
     crate::locals::increment(words, at.top, by, at.base, index);
     at.pc = next;

@@ -14,6 +14,7 @@ pub fn nop<'l>(words: &[u32], at: &mut Registers<'l>, next: u32)
     ensures went { GoesOn NopInsn next at.old words.now at.new words.now }
     ensures stays { StaysIn at.old at.new words.now }
 {
+    // Only the clauses speak of it.
     let _words = words;
     at.pc = next;
 }

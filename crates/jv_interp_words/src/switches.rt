@@ -59,6 +59,7 @@ pub fn table_switch<'l>(
     ensures went { GoesOn (TableSwitchInsn padding.now default low high distances.now) next at.old words.now at.new words.now }
     ensures stays { StaysIn at.old at.new words.now }
 {
+    // Only the clauses speak of these.
     let _next = next;
     let _padding = padding;
     let number = top_int(words, at.top);
@@ -81,6 +82,7 @@ pub fn lookup_switch<'l>(
     ensures went { GoesOn (LookupSwitchInsn padding.now default pairs.now) next at.old words.now at.new words.now }
     ensures stays { StaysIn at.old at.new words.now }
 {
+    // Only the clauses speak of these.
     let _next = next;
     let _padding = padding;
     let number = top_int(words, at.top);
