@@ -1,0 +1,3 @@
+pub mod InPieces
+pub mod Merging
+pub mod Least

@@ -1,0 +1,4 @@
+pub mod Choices
+pub mod Finding
+pub mod Pieces
+pub mod Trees
