@@ -17,9 +17,6 @@ use Rattle.jv_interp_control.proofs.StatesSet.{other_name}
 same_some : {A : Type 0} (x y : A) → Some x ≡ Some y → x ≡ y
 same_some x y e = cc
 
-pub itself : (a b : Bool) → true ≡ a → true ≡ (a || b)
-itself a b e = ap (λ (x : Bool). x || b) e
-
 pub either : (a b : Bool) → a ≡ false → (a || b) ≡ b
 either a b e = ap (λ (x : Bool). x || b) e
 
@@ -30,7 +27,7 @@ unlike x y apart = by_test (nat_eq x y) refl
     by_test true e = absurd (apart (eqb-true x y e))
     by_test false e = refl
 
--- ---- a name that no class has is above none
+-- ---- by name
 
 pub found_is_named : (world : World) (name : List ℕ) (s : Loaded) → class_named world name ≡ Some s → s.class.name ≡ name
 found_is_named [] name s e = absurd cc
@@ -41,46 +38,6 @@ found_is_named (l ∷ world) name s e = by_test (bytes_eq l.class.name name) ref
         → (class_named world name ≡ Some s → s.class.name ≡ name) → s.class.name ≡ name
     by_test true t e again = ap (λ (m : Loaded). m.class.name) (sym (same_some l s e)) ∙ same_name l.class.name name t
     by_test false t e again = again e
-
-module _ (world : World) (name : List ℕ) (absent : class_named world name ≡ None) where
-  abbrev test : Loaded → Bool
-  test s = bytes_eq s.class.name name
-
-  misses : (n : List ℕ) (s : Loaded) → class_named world n ≡ Some s → test s ≡ false
-  misses n s e = by_test (test s) refl
-    where
-      clash : None ≡ Some s → ⊥
-      clash e = cc
-
-      by_test : (b : Bool) → test s ≡ b → b ≡ false
-      by_test true t =
-          absurd (clash (sym absent ∙ ap (class_named world) (sym (same_name s.class.name name t) ∙ found_is_named world n s e) ∙ e))
-      by_test false t = refl
-
-  supers_miss : (names : List (List ℕ)) → list_any test (filter_map (class_named world) names) ≡ false
-  supers_miss [] = refl
-  supers_miss (n ∷ names) = by_found (class_named world n) refl (supers_miss names)
-    where
-      by_found :
-          (o : Option Loaded) → class_named world n ≡ o → list_any test (filter_map (class_named world) names) ≡ false
-          → list_any test (cons_option o (filter_map (class_named world) names)) ≡ false
-      by_found None e rest = rest
-      by_found (Some s) e rest = either (test s) (list_any test (filter_map (class_named world) names)) (misses n s e) ∙ rest
-
-  each_misses : (k : ℕ) (classes : List Loaded) → ((class : Class) → list_any test (above_within world k class) ≡ false)
-      → list_any test (flat_map (λ s. above_within world k s.class) classes) ≡ false
-  each_misses k [] all = refl
-  each_misses k (s ∷ classes) all =
-      list_any-append test (above_within world k s.class) (flat_map (λ s. above_within world k s.class) classes)
-      ∙ either (list_any test (above_within world k s.class)) (list_any test (flat_map (λ s. above_within world k s.class) classes)) (all s.class)
-      ∙ each_misses k classes all
-
-  above_miss : (k : ℕ) (class : Class) → list_any test (above_within world k class) ≡ false
-  above_miss zero class = supers_miss (super_names class)
-  above_miss (suc k) class =
-      list_any-append test (supers_in world class) (flat_map (λ s. above_within world k s.class) (supers_in world class))
-      ∙ either (list_any test (supers_in world class)) (list_any test (flat_map (λ s. above_within world k s.class) (supers_in world class))) (supers_miss (super_names class))
-      ∙ each_misses k (supers_in world class) (above_miss k)
 
 -- ---- by number
 
@@ -108,25 +65,3 @@ module _ (world : World) (numbers : IsNumbered world) (class : ℕ) (l : Loaded)
           ∙ ap (λ (b : Bool). b || is_above world to.class.name l.class) (nat_list_eq_equiv.refl l.class.name)
       by_test false e =
           ap (λ (b : Bool). b || is_above world to.class.name l.class) (other_name world class other l to numbers at there (differ class other e))
-
-  pub by_way :
-      (name : List ℕ) (found : Bool) → bytes_eq l.class.name name ≡ false → found ≡ is_above world name l.class
-      → found ≡ is_at_or_below world l.class.name name
-  by_way name found other is =
-      is ∙ sym (below_by name ∙ either (bytes_eq l.class.name name) (is_above world name l.class) other)
-
-  pub by_no_number : (name : List ℕ) → number_named world name ≡ None → is_at_or_below world l.class.name name ≡ false
-  by_no_number name none =
-      below_by name ∙ either (bytes_eq l.class.name name) (is_above world name l.class) (by_name (bytes_eq l.class.name name) refl)
-      ∙ above_miss world name (by_class (class_named world name) refl) (length world) l.class
-    where
-      clash : {k : ℕ} → None ≡ Some k → ⊥
-      clash e = cc
-
-      by_name : (b : Bool) → bytes_eq l.class.name name ≡ b → b ≡ false
-      by_name true t = absurd (clash (sym none ∙ ap (number_named world) (sym (same_name l.class.name name t)) ∙ numbers class l at))
-      by_name false t = refl
-
-      by_class : (o : Option Loaded) → class_named world name ≡ o → o ≡ None
-      by_class None e = refl
-      by_class (Some s) e = let place = numbered world name s e in absurd (clash (sym none ∙ place.1))

@@ -7,8 +7,6 @@ pub mod BodyStands
 pub mod CodeThere
 pub mod FramesPassed
 pub mod ClassesAbove
-pub mod WaysUp
-pub mod Searching
 pub mod HandlerFound
 pub mod ThrownAgain
 pub mod Replacements

@@ -169,7 +169,8 @@ pub(crate) fn set_constant<'a, S: Store>(
             Ok(())
         }
         Some(Constant::Text(number, text)) => {
-            match literal(store, held, number as usize, text)? {
+            let count = texts.count(number);
+            match literal(store, held, number as usize, text, count)? {
                 Some(address) => {
                     put_reference(held, word, address);
                     Ok(())

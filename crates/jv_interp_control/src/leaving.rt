@@ -9,7 +9,7 @@ ghost use Rattle.jv_interp_control.specs.Inside.Nexts.{HasNext, HasSize, IsNext}
 use crate::control::{Control, End};
 use crate::frames::{Frames, push_record};
 use jv_interp_members::Methods;
-use jv_interp_words::{FrameRecord, MethodRecord};
+use jv_interp_words::{FrameRecord, MethodRecord, opcodes};
 
 /// So many words come down to stand on others below them.
 fn move_down(words: &mut [u32], from: usize, to: usize, count: usize)
@@ -28,10 +28,10 @@ fn size_of_call(opcode: u8) -> Option<u32>
     ensures { IfSome result (HasSize opcode) }
 {
     match opcode {
-        182 => Some(3),
-        183 => Some(3),
-        184 => Some(3),
-        185 => Some(5),
+        opcodes::INVOKEVIRTUAL => Some(3),
+        opcodes::INVOKESPECIAL => Some(3),
+        opcodes::INVOKESTATIC => Some(3),
+        opcodes::INVOKEINTERFACE => Some(5),
         _ => None,
     }
 }

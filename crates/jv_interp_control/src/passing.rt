@@ -58,6 +58,7 @@ pub(crate) fn pass_frames(
     ensures { PassesAll classes.now.world count frames.old control.old frames.new control.new }
 {
     for step in 0..count {
+        // Only the clauses speak of it.
         let _step = step;
         pass_frame(classes, methods, frames, control);
     }

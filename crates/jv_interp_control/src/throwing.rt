@@ -133,7 +133,7 @@ pub(crate) fn walk<S: Store>(
     for passed in 0..records.len() {
         match records[records.len() - 1 - passed] {
             FrameRecord::Runs(own) => {
-                if let Some(pc) = handler_of(classes, methods, own, now.class) {
+                if let Some(pc) = handler_of(classes, linked, methods, own, now.class) {
                     return Ok(Landing {
                         passed,
                         handler: Some(pc),

@@ -28,6 +28,7 @@ use Rattle.jv_link.specs.Seen.{place_of}
 use Rattle.jv_interp_objects.specs.Constants.{constant_at, CanPushInt, PushesInt, CanPushString, PushesString}
 use Rattle.jv_interp_objects.specs.declared.texts.Texts.{Texts}
 use Rattle.jv_interp_objects.specs.Texts.{HasText, AreTexts}
+use Rattle.jv_interp_objects.specs.Units.{HasUnits}
 use Rattle.jv_interp_members.specs.Known.{Known}
 use Rattle.jv_interp_members.proofs.Sites.{AtPlace, at_place}
 use Rattle.jv_interp_instructions.specs.declared.pool_constants.PoolConstant.{PoolConstant}
@@ -181,6 +182,11 @@ module _ (kept : ExecutionKeeps) (index : ℕ) (form : IndexForm) (next : ℕ) (
 
     pub short_text : CanExecute (insns.PoolConstant index form) next k texts.names at words held blocks → length bytes.now < 2147483648
     short_text h = are.short number bytes.now (number_is h.c h.addresses h.done h.below h.executes)
+
+    pub text_counted :
+        (count : ℕ) → ((w : World) (text : List ℕ) → AreTexts w texts → HasText texts.names text number → HasUnits text count)
+        → CanExecute (insns.PoolConstant index form) next k texts.names at words held blocks → HasUnits bytes.now count
+    text_counted count counts h = counts k.world bytes.now are (number_is h.c h.addresses h.done h.below h.executes)
 
     pub can_push_string :
         CanExecute (insns.PoolConstant index form) next k texts.names at words held blocks → CanPushString number bytes.now next at words held blocks

@@ -63,6 +63,7 @@ pub(crate) fn execute_pool_long_constant<'a, 'l, S: Store>(
         (place at.new words.new held.now (S.content store.now)) }
 {
     execution_keeps();
+    // Only the clauses speak of these.
     let _store = store;
     let _held = held;
     let Some((low, high)) = long_constant(classes, site.class, index) else {

@@ -60,6 +60,7 @@ pub(crate) fn execute_division<'l>(
 pub(crate) fn execute_return<'l>(words: &[u32], at: &Registers<'l>, kind: ValueKind) -> Effect
     ensures { (next : ℕ) → DoneOnWords (ReturnValueInsn kind) next at.now words.now at.now words.now result }
 {
+    // Only the clauses speak of these.
     let _words = words;
     let _at = at;
     match kind {

@@ -83,8 +83,9 @@ fn execute_other_constant<'a, 'l, S: Store>(
     match constant_of(classes, site.class, index) {
         Some(PoolConstant::Int(bits)) => Ok(push_int(words, at, next, bits)),
         Some(PoolConstant::String(text)) => {
-            let number = texts.number(site.class, index) as usize;
-            push_string(store, held, words, at, next, number, text)
+            let number = texts.number(site.class, index);
+            let count = texts.count(number);
+            push_string(store, held, words, at, next, number as usize, text, count)
         }
         None => unreachable!(),
     }

@@ -90,6 +90,7 @@ pub fn call_virtual<'a, 'l, S: Store>(
     ensures calls { Calls how index (known classes.now.world linked.old site) at.now words.now held.now (S.content store.now) result }
     ensures linked { IsLinked classes.now.world linked.new }
 {
+    // Only the clauses speak of it.
     let _held = held;
     method_is_called();
     let called = match resolved(classes, linked, site, how, index) {
@@ -132,6 +133,7 @@ pub fn call_special<'a, 'l, S: Store>(
         (S.content store.now) result }
     ensures linked { IsLinked classes.now.world linked.new }
 {
+    // Only the clauses speak of it.
     let _held = held;
     method_is_called();
     let called = match resolved(classes, linked, site, Use::Invokespecial, index) {

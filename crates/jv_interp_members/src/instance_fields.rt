@@ -29,6 +29,7 @@ pub fn get_field<'l, S: Store>(
     ensures unmoved { IsUnmoved result (place at.old words.old held.now (S.content store.now))
         (place at.new words.new held.now (S.content store.now)) }
 {
+    // Only the clauses speak of it.
     let _held = held;
     let reference = words[at.top - 1];
     if reference == 0 {
@@ -58,6 +59,7 @@ pub fn get_long_field<'l, S: Store>(
     ensures unmoved { IsUnmoved result (place at.old words.old held.now (S.content store.now))
         (place at.new words.new held.now (S.content store.now)) }
 {
+    // Only the clauses speak of it.
     let _held = held;
     let reference = words[at.top - 1];
     if reference == 0 {
@@ -92,6 +94,7 @@ pub fn put_field<'l, S: Store>(
     ensures unmoved { IsUnmoved result (place at.old words.now held.now (S.content store.old))
         (place at.new words.now held.now (S.content store.new)) }
 {
+    // Only the clauses speak of it.
     let _held = held;
     let reference = words[at.top - 2];
     if reference == 0 {
@@ -124,6 +127,7 @@ pub fn put_long_field<'l, S: Store>(
     ensures unmoved { IsUnmoved result (place at.old words.now held.now (S.content store.old))
         (place at.new words.now held.now (S.content store.new)) }
 {
+    // Only the clauses speak of it.
     let _held = held;
     let reference = words[at.top - 3];
     if reference == 0 {

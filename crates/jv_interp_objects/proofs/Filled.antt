@@ -6,12 +6,12 @@ use Rattle.std.proofs.lemmas.List.{append-nil}
 use Rattle.std.proofs.lemmas.List.Sums.{count_by-le-length}
 use Rattle.std.proofs.Math.Seq.{set-append_seam}
 use Rattle.jv_store.specs.Content.{words_at, written}
-use Rattle.jv_text.specs.Text.{text_bytes, is_unit, Spells}
+use Rattle.jv_text.specs.Text.{text_bytes, is_unit, Spells, IsText}
 use Rattle.jv_text.proofs.Texts.{one_unit, length-unit_bytes}
 use Rattle.jv_interp_heap.specs.ObjectsInBlocks.{Blocks}
 use Rattle.jv_interp_heap.specs.NewBlocks.{Joins}
 use Rattle.jv_interp_heap.proofs.NewWords.{joined_length, then_written}
-use Rattle.jv_interp_objects.specs.Units.{begins_unit, IsSomeText, BeginsWithUnit}
+use Rattle.jv_interp_objects.specs.Units.{begins_unit, HasUnits, IsSomeText, BeginsWithUnit}
 use Rattle.jv_interp_objects.specs.TextBlocks.{Fills}
 use Rattle.jv_interp_objects.proofs.Spelled.{unit_fits, counted}
 
@@ -54,6 +54,9 @@ few_units units text s =
     let same = counted text (count_by begins_unit text) refl units s in
     let fewer = count_by-le-length begins_unit text in
     omega (arith, same, fewer)
+
+pub few_counted : (text : List ℕ) (count : ℕ) → IsText text → HasUnits text count → count ≤ length text
+few_counted text count is has = let same = has is.0 is.1 in let fewer = few_units is.0 text is.1 in omega (arith, same, fewer)
 
 module _ (units : List ℕ) (first second : ℕ) (earlier : Blocks) (rest : List ℕ) (place address : ℕ) (now : Blocks) (p : Partly units first second earlier rest place address now)
     (some : 0 < length rest) where

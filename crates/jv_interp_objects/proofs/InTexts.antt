@@ -19,6 +19,7 @@ use Rattle.jv_meaning_world.proofs.Up.{same_name}
 use Rattle.jv_meaning_world.specs.World.{Loaded, World}
 use Rattle.jv_interp_objects.specs.declared.texts.ClassTexts.{ClassTexts}
 use Rattle.jv_interp_objects.specs.declared.texts.Texts.{Texts}
+use Rattle.jv_interp_objects.specs.Units.{HasUnits}
 use Rattle.jv_interp_objects.specs.Texts.{HasText, AreDifferent, AreShort, AreNumbers, AreTextsOf, AreTexts}
 use Rattle.jv_interp_objects.specs.Inside.Numbering.{Extends, Numbers, IsKnown, IsNumberAt, AreBefore}
 
@@ -220,6 +221,23 @@ one_class_more old new world classes row count extends many h own class m less a
     by_order (inl is) =
         found_number (slice_get (classes ++ row ∷ []) class) row (AreTextsOf new m)
         (ap (slice_get (classes ++ row ∷ [])) (is ∙ sym many) ∙ last classes) (own m (ap (slice_get world) (sym is) ∙ at))
+
+-- ---- how many units each has
+
+abbrev pub AreCountsBefore : List (List ℕ) → List ℕ → Type 0
+AreCountsBefore names counts = (number count : ℕ) (text : List ℕ) → slice_get counts number ≡ Some count → HasText names text number → HasUnits text count
+
+pub no_counts : (names : List (List ℕ)) (counts : List ℕ) → counts ≡ [] → AreCountsBefore names counts
+no_counts names counts none number count text at has = absurd (none_in_none number count (ap (λ (l : List ℕ). slice_get l number) (sym none) ∙ at))
+
+pub one_count :
+    (names : List (List ℕ)) (counts : List ℕ) (count : ℕ) → AreCountsBefore names counts
+    → ((text : List ℕ) → HasText names text (length counts) → HasUnits text count) → AreCountsBefore names (counts ++ count ∷ [])
+one_count names counts count h own number other text at has = by_cases (at_end counts count other number at)
+  where
+    by_cases : (slice_get counts number ≡ Some other) ⊎ ((number ≡ length counts) × (count ≡ other)) → HasUnits text other
+    by_cases (inl a) = h number other text a has
+    by_cases (inr b) = subst (λ (n : ℕ). HasUnits text n) b.1 (own text (subst (λ (n : ℕ). HasText names text n) b.0 has))
 
 -- ---- a class by its file
 

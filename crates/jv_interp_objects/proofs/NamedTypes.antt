@@ -20,9 +20,9 @@ use Rattle.jv_meaning_machine.specs.Effects.{resolved_type}
 use Rattle.jv_link.specs.declared.target.ClassRef.{ClassRef}
 use Rattle.jv_link.specs.declared.target.ClassRef.TheVariants as refs
 use Rattle.jv_link.specs.Seen.{answer, class_ref_at}
-use Rattle.jv_link.specs.UseRules.{IsRefWithin}
 use Rattle.std.proofs.lemmas.Option.{slice_get_within}
-use Rattle.jv_classes.proofs.Numbers.{number_at, numbered}
+use Rattle.jv_classes.proofs.Numbers.{number_at, numbered, position_within}
+use Rattle.jv_link_cache.specs.ClassUses.{class_of_element}
 use Rattle.jv_interp_heap.specs.ObjectsInBlocks.{HasNumber, IsElement}
 use Rattle.std.proofs.lemmas.Option.{same_Some}
 use Rattle.jv_interp_objects.specs.declared.types.NumberedType.{NumberedType}
@@ -117,14 +117,6 @@ has_element world current text r e = by_kind (is_array_name text) e
 
 -- ---- what linking answers
 
-pub ref_within : (world : World) (found : ClassRef) (expected : OrError ResolvedClass) → option_map answer (class_ref_at world found) ≡ Some expected → IsRefWithin world found
-ref_within world (refs.Class number) expected e = by_class (slice_get world number) refl e
-  where
-    by_class : (o : Option Loaded) → slice_get world number ≡ o → option_map answer (option_map ClassOf o) ≡ Some expected → number < length world
-    by_class None at e = absurd cc
-    by_class (Some l) at e = slice_get_within world number l at
-ref_within world (refs.Array type) expected e = tt
-
 pub type_answered :
     (world : World) (current : Loaded) (text : List ℕ) (found : ClassRef) (numbers : NumberedType)
     → option_map answer (class_ref_at world found) ≡ Some (resolve_text world current text)
@@ -142,16 +134,25 @@ type_answered world current text found numbers e tells = by_ref (class_ref_at wo
 
 -- ---- an element, as code has it
 
+-- one of a class whose number is known, or that has none
 pub element_found :
     (world : World) (element : Element (Bor (List ℕ))) (name : Bor (List ℕ)) (number : ℕ) → element ≡ elements.Class name
-    → number_named world name.now ≡ Some number → IsThere world (seen_element element) → IsElement world (seen_element element) (number + 8)
+    → Some number ≡ class_of_element world (seen_element element) → IsThere world (seen_element element)
+    → IsElement world (seen_element element) (number + 8)
 element_found world element name number is e =
-    subst (λ (x : Element (Bor (List ℕ))). IsThere world (seen_element x) → IsElement world (seen_element x) (number + 8)) (sym is)
-    (λ there. (number, is_named world name.now number e there, omega arith))
+    subst (λ (x : Element (Bor (List ℕ))). Some number ≡ class_of_element world (seen_element x) → IsThere world (seen_element x)
+    → IsElement world (seen_element x) (number + 8)) (sym is)
+    (λ e there. (number, is_named world name.now number (sym e) there, omega arith)) e
 
 pub element_missing :
     (world : World) (element : Element (Bor (List ℕ))) (name : Bor (List ℕ)) → element ≡ elements.Class name
-    → number_named world name.now ≡ None → IsThere world (seen_element element) → IsElement world (seen_element element) 0
+    → None ≡ class_of_element world (seen_element element) → IsThere world (seen_element element)
+    → IsElement world (seen_element element) 0
 element_missing world element name is e =
-    subst (λ (x : Element (Bor (List ℕ))). IsThere world (seen_element x) → IsElement world (seen_element x) 0) (sym is)
-    (λ there. absurd (no_number world name.now e there))
+    subst (λ (x : Element (Bor (List ℕ))). None ≡ class_of_element world (seen_element x) → IsThere world (seen_element x)
+    → IsElement world (seen_element x) 0) (sym is)
+    (λ e there. absurd (no_number world name.now (sym e) there)) e
+
+pub element_within : (world : World) (element : Element (List ℕ)) (number : ℕ) → Some number ≡ class_of_element world element → number < length world
+element_within world (elements.Base base) number e = absurd cc
+element_within world (elements.Class name) number e = position_within _ world number (sym e)

@@ -47,6 +47,7 @@ pub fn instanceof<'a, 'l, S: Store>(
         (place at.new words.new held.now (S.content store.now)) }
     ensures linked { IsLinked classes.now.world linked.new }
 {
+    // Only the clauses speak of it.
     let _held = held;
     let object = words[at.top - 1];
     if object == 0 {
@@ -84,6 +85,7 @@ pub fn checkcast<'a, 'l, S: Store>(
         (place at.new words.now held.now (S.content store.now)) }
     ensures linked { IsLinked classes.now.world linked.new }
 {
+    // Only the clauses speak of it.
     let _held = held;
     let object = words[at.top - 1];
     if object == 0 {

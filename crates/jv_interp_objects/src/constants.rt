@@ -5,6 +5,7 @@ ghost use Rattle.jv_interp_words.specs.Going.{StaysIn};
 ghost use Rattle.jv_interp_heap.specs.ObjectsInBlocks.{Blocks};
 ghost use Rattle.jv_interp_held.specs.Executing.{IsUnmoved, place};
 ghost use Rattle.jv_interp_held.specs.declared.held.Held.{Held};
+ghost use Rattle.jv_interp_objects.specs.Units.{HasUnits};
 ghost use Rattle.jv_interp_objects.specs.Constants.{CanPushInt, PushesInt, CanPushLong, PushesLong, CanPushString, PushesString};
 
 use crate::literals::literal;
@@ -62,8 +63,10 @@ pub fn push_string<'l, S: Store>(
     next: u32,
     number: usize,
     text: &[u8],
+    count: u32,
 ) -> Result<Effect, OutOfMemory>
     requires few { length text.now < 2147483648 }
+    requires count { HasUnits text.now count }
     requires can { CanPushString number text.now next at.old words.old held.old (S.content store.old) }
     requires cells { held.old.cells ≤ S.room_left store.old }
     ensures pushes { IfOk result (PushesString number text.now next at.old words.old held.old (S.content store.old) at.new
@@ -79,7 +82,7 @@ pub fn push_string<'l, S: Store>(
     ensures refused_room { OnErr result (S.room_left store.new ≡ S.room_left store.old) }
     ensures sure { IsTrue S.SURE → IsOk result }
 {
-    let found = literal(store, held, number, text)?;
+    let found = literal(store, held, number, text, count)?;
     match found {
         Some(address) => {
             words[at.top] = address;

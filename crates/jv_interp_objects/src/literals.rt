@@ -2,13 +2,14 @@
 
 ghost use Rattle.std.specs.Prelude.{◌≡◌, ◌+◌, ◌<◌, ◌≤◌, length, IfOk, IsOk, IsTrue, OnOk, OnErr};
 ghost use Rattle.jv_interp_objects.specs.Literals.{CanFindLiteral, FindsLiteral};
+ghost use Rattle.jv_interp_objects.specs.Units.{HasUnits};
 
 use crate::text_blocks::pay_text;
 use jv_interp_held::{Held, keep_literal};
 use jv_store::{OutOfMemory, Store};
 
-/// The address of the String of the text with a number: of the one that it has, or of one that is made now. None where its cells are
-/// not left.
+/// The address of the String of the text with a number, which has so many units: of the one that it has, or of one that is made now.
+/// None where its cells are not left.
 ///
 /// # Errors
 ///
@@ -18,8 +19,10 @@ pub fn literal<S: Store>(
     held: &mut Held,
     number: usize,
     text: &[u8],
+    count: u32,
 ) -> Result<Option<u32>, OutOfMemory>
     requires few { length text.now < 2147483648 }
+    requires count { HasUnits text.now count }
     requires can { CanFindLiteral number text.now held.old (S.content store.old) }
     requires cells { held.old.cells ≤ S.room_left store.old }
     ensures finds { IfOk result (FindsLiteral number text.now held.old (S.content store.old) held.new (S.content store.new)) }
@@ -34,7 +37,7 @@ pub fn literal<S: Store>(
         return Ok(Some(known));
     }
     let mut cells = held.cells;
-    let made = pay_text(store, &mut cells, text)?;
+    let made = pay_text(store, &mut cells, text, count)?;
     match made {
         Some(string) => {
             keep_literal(held, number, string, cells);

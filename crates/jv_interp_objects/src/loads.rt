@@ -24,6 +24,7 @@ pub fn array_length<'l, S: Store>(
     ensures unmoved { IsUnmoved result (place at.old words.old held.now (S.content store.now))
         (place at.new words.new held.now (S.content store.now)) }
 {
+    // Only the clauses speak of it.
     let _held = held;
     let array = words[at.top - 1];
     if array == 0 {
@@ -51,6 +52,7 @@ pub fn load<'l, S: Store>(
     ensures unmoved { IsUnmoved result (place at.old words.old held.now (S.content store.now))
         (place at.new words.new held.now (S.content store.now)) }
 {
+    // Only the clauses speak of it.
     let _held = held;
     let array = words[at.top - 2];
     let index = words[at.top - 1];
@@ -83,6 +85,7 @@ pub fn load_long<'l, S: Store>(
     ensures unmoved { IsUnmoved result (place at.old words.old held.now (S.content store.now))
         (place at.new words.new held.now (S.content store.now)) }
 {
+    // Only the clauses speak of it.
     let _held = held;
     let array = words[at.top - 2];
     let index = words[at.top - 1];

@@ -5,7 +5,7 @@ ghost use Rattle.jv_text.specs.Seen.{seen_element};
 ghost use Rattle.jv_meaning_typing.specs.ClassResolution.{ResolvedClass};
 ghost use Rattle.jv_meaning_machine.specs.Effects.{resolved_type};
 ghost use Rattle.jv_link.specs.Seen.{class_ref_at};
-ghost use Rattle.jv_link.specs.UseRules.{IsRefWithin};
+ghost use Rattle.jv_link_cache.specs.ClassUses.{class_of_element, IsClassUse};
 ghost use Rattle.jv_link_cache.specs.Linked.{IsLinked};
 ghost use Rattle.jv_interp_heap.specs.ObjectsInBlocks.{base_number, IsElement};
 ghost use Rattle.jv_interp_heap.specs.SystemNumbers.{IsGuestsWorld};
@@ -16,7 +16,7 @@ ghost use Rattle.jv_interp_objects.specs.Inside.Refs.{IsThere, HasElement, AreFe
 use crate::types::NumberedType;
 use jv_interp_members::number_of_error;
 use jv_link::{ClassRef, Site, Use};
-use jv_link_cache::Linked;
+use jv_link_cache::{ClassUse, Linked};
 use jv_loader::{ClassTable, Classes};
 use jv_text::{Base, Element};
 
@@ -36,15 +36,17 @@ fn base_number(base: Base) -> u32
     }
 }
 
-/// That of an element: a class is found by its name.
-fn element_number(table: &ClassTable<'_>, element: Element<&[u8]>) -> u32
-    requires { length table.now < 2147483648 }
+/// That of an element, whose class has this number.
+fn element_number(table: &ClassTable<'_>, element: Element<&[u8]>, class: Option<usize>) -> u32
+    requires few { length table.now < 2147483648 }
+    requires class { class ≡ class_of_element table.now (seen_element element) }
     ensures number { IsThere table.now (seen_element element.entry) → IsElement table.now (seen_element element.entry) result }
     ensures few { result < 8 + length table.now }
 {
+    let _few = table;
     match element {
         Element::Base(base) => base_number(base),
-        Element::Class(name) => match table.find(name) {
+        Element::Class(_) => match class {
             Some(number) => number as u32 + 8,
             None => 0,
         },
@@ -52,22 +54,22 @@ fn element_number(table: &ClassTable<'_>, element: Element<&[u8]>) -> u32
 }
 
 /// The type that a constant was resolved to.
-fn numbers_of(table: &ClassTable<'_>, found: ClassRef<'_>) -> NumberedType
+fn numbers_of(table: &ClassTable<'_>, used: ClassUse<'_>) -> NumberedType
     requires few { length table.now < 2147483648 }
-    requires within { IsRefWithin table.now found }
-    ensures of_type { (r : ResolvedClass) → class_ref_at table.now found.entry ≡ Some r → HasElement table.now r
+    requires used { IsClassUse table.now used }
+    ensures of_type { (r : ResolvedClass) → class_ref_at table.now used.entry.found ≡ Some r → HasElement table.now r
         → IsOfType table.now (resolved_type r) result }
     ensures few { AreFew table.now result }
 {
     table.is_numbered();
-    match found {
+    match used.found {
         ClassRef::Class(number) => NumberedType {
             dimensions: 0,
             element: number as u32 + 8,
         },
         ClassRef::Array(array) => NumberedType {
             dimensions: u32::from(array.dimensions),
-            element: element_number(table, array.element),
+            element: element_number(table, array.element, used.element),
         },
     }
 }
@@ -88,8 +90,8 @@ pub(crate) fn named<'a>(
     ensures few { IfOk result (AreFew classes.now.world) }
     ensures linked { IsLinked classes.now.world linked.new }
 {
-    match linked.class_at(classes, site, None, index) {
-        Ok(found) => Ok(numbers_of(classes.table(), found)),
+    match linked.class_use(classes, site, index) {
+        Ok(used) => Ok(numbers_of(classes.table(), used)),
         Err(error) => Err(number_of_error(error)),
     }
 }

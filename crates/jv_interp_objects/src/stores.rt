@@ -31,6 +31,7 @@ pub fn store_int<'l, S: Store>(
         (place at.new words.now held.now (S.content store.new)) }
     ensures room { S.room_left store.new ≡ S.room_left store.old }
 {
+    // Only the clauses speak of it.
     let _held = held;
     let array = words[at.top - 3];
     let index = words[at.top - 2];
@@ -65,6 +66,7 @@ pub fn store_long<'l, S: Store>(
         (place at.new words.now held.now (S.content store.new)) }
     ensures room { S.room_left store.new ≡ S.room_left store.old }
 {
+    // Only the clauses speak of it.
     let _held = held;
     let array = words[at.top - 4];
     let index = words[at.top - 3];

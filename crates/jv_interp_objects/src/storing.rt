@@ -51,6 +51,7 @@ pub fn aastore<'l, S: Store>(
         (place at.new words.now held.now (S.content store.new)) }
     ensures room { S.room_left store.new ≡ S.room_left store.old }
 {
+    // Only the clauses speak of it.
     let _held = held;
     let array = words[at.top - 3];
     let index = words[at.top - 2];

@@ -6,7 +6,7 @@ ghost use Rattle.jv_interp_objects.specs.Units.{HasUnits};
 ghost use Rattle.jv_interp_objects.specs.TextBlocks.{JoinsText, PaysText};
 
 use crate::blocks::array_block;
-use crate::units::{CHARS, count_units, fill};
+use crate::units::{CHARS, fill};
 use jv_interp_heap::{STRING, make_object};
 use jv_store::{OutOfMemory, Store};
 
@@ -50,9 +50,11 @@ pub fn pay_text<S: Store>(
     store: &mut S,
     cells: &mut u32,
     text: &[u8],
+    count: u32,
 ) -> Result<Option<u32>, OutOfMemory>
     requires few { length text.now < 2147483648 }
     requires text { IsText text.now }
+    requires count { HasUnits text.now count }
     requires cells { cells.old ≤ S.room_left store.old }
     ensures paid { IfOk result (PaysText text.now cells.old cells.new (S.content store.old) (S.content store.new)) }
     ensures room { OnOk result (S.room_left store.old + cells.new ≡ S.room_left store.new + cells.old) }
@@ -61,7 +63,6 @@ pub fn pay_text<S: Store>(
     ensures refused_room { OnErr result (S.room_left store.new ≡ S.room_left store.old) }
     ensures sure { IsTrue S.SURE → IsOk result }
 {
-    let count = count_units(text) as u32;
     if *cells < count + 4 {
         return Ok(None);
     }

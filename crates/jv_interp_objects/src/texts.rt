@@ -1,12 +1,14 @@
 //! The texts of String constants, by number.
 
-ghost use Rattle.std.specs.Prelude.{◌≡◌, ◌≤◌, List, ℕ, IsSome, Some, OnOk, IfOk, IfSome, length, slice_get};
+ghost use Rattle.std.specs.Prelude.{◌≡◌, ◌<◌, ◌≤◌, List, ℕ, IsSome, Some, OnOk, IfOk, IfSome, length, slice_get};
 ghost use Rattle.std.specs.List.{All};
 ghost use Rattle.jv_pool.specs.Constants.{Entry, pool_count, utf8_at, string_at};
 ghost use Rattle.jv_meaning_world.specs.World.{World, Loaded};
 ghost use Rattle.jv_interp_objects.specs.Inside.Numbering.{Numbers, IsKnown, IsNumberAt, AreBefore};
-ghost use Rattle.jv_interp_objects.specs.Texts.{HasText, AreDifferent, AreTextsOf, AreTexts};
+ghost use Rattle.jv_interp_objects.specs.Texts.{HasText, AreShort, AreDifferent, AreCounts, AreTextsOf, AreTexts};
+ghost use Rattle.jv_interp_objects.specs.Units.{HasUnits};
 
+use crate::units::count_units;
 use jv_classes::Names;
 use jv_link::class_at;
 use jv_loader::{ClassTable, Classes, LoadedClass};
@@ -20,10 +22,11 @@ pub struct ClassTexts {
     pub numbers: Vec<u32>,
 }
 
-/// The texts that a guest's String constants name, each once, and those of each class by number.
+/// The texts that a guest's String constants name, each once, with how many units each has, and those of each class by number.
 #[derive(Drop)]
 pub struct Texts<'a> {
     pub names: Names<'a>,
+    pub counts: Vec<u32>,
     pub classes: Vec<ClassTexts>,
 }
 
@@ -162,6 +165,27 @@ fn texts_of<'a>(
     }
 }
 
+/// How many units the text with a number has.
+fn count_of(names: &Names<'_>, number: usize) -> u32
+    requires there { number < length names.now }
+    requires short { AreShort names.now }
+    ensures { (text : List ℕ) → HasText names.now text number → HasUnits text result }
+{
+    count_units(names.name(number)) as u32
+}
+
+/// How many units each text has.
+fn counts_of(alloc: Global, names: &Names<'_>) -> Result<Vec<u32>, AllocError>
+    requires { AreShort names.now }
+    ensures { IfOk result (λ counts. AreCounts names.now counts.items) }
+{
+    let mut counts = Vec::with_capacity(alloc, names.count())?;
+    for number in 0..names.count() {
+        counts.push(count_of(names, number))?;
+    }
+    Ok(counts)
+}
+
 /// The texts of all classes.
 fn all_texts<'a>(
     alloc: Global,
@@ -175,7 +199,12 @@ fn all_texts<'a>(
     for class in 0..table.count() {
         classes.push(texts_of(alloc, &mut names, class_at(table, class))?)?;
     }
-    Ok(Texts { names, classes })
+    let counts = counts_of(alloc, &names)?;
+    Ok(Texts {
+        names,
+        counts,
+        classes,
+    })
 }
 
 impl<'a> Texts<'a> {
@@ -207,5 +236,17 @@ impl<'a> Texts<'a> {
             }
         }
         0
+    }
+
+    /// How many units the text with a number has.
+    pub fn count(&self, number: u32) -> u32
+        ensures { (world : World) (text : List ℕ) → AreTexts world self.now → HasText self.now.names text number → HasUnits text result }
+    {
+        let place = number as usize;
+        if place < self.counts.len() {
+            self.counts[place]
+        } else {
+            0
+        }
     }
 }

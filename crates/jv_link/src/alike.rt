@@ -8,9 +8,10 @@ ghost use Rattle.jv_meaning_world.specs.LookUps.{is_concrete};
 ghost use Rattle.jv_lookups.specs.Places.{method_at, IsMethodPlace, HoldsAtCall};
 ghost use Rattle.jv_meaning_typing.specs.Inside.OneWalk.{is_open};
 ghost use Rattle.jv_meaning_typing.specs.Inside.Upward.{is_private};
-ghost use Rattle.jv_link.specs.Inside.Called.{method_named_as};
+ghost use Rattle.jv_link.specs.Inside.Called.{method_named_as, AreMarksAs};
 
-use crate::member::{class_at, method_at};
+use crate::member::{class_at, descriptor_of_method, method_at, name_of_method};
+use jv_classes::KeyRow;
 use jv_loader::{ClassTable, Place};
 use jv_text::is_init;
 
@@ -66,15 +67,16 @@ pub(crate) fn is_concrete(table: &ClassTable<'_>, place: Place) -> bool
     method_at(table, place).access_flags & ABSTRACT == 0
 }
 
-/// The method of a class with the name and the descriptor of another.
+/// The method of a class with the name and the descriptor of another. No text is hashed.
 fn named_as(table: &ClassTable<'_>, class: usize, called: Place) -> Option<Place>
     requires class { class < length table.now }
     requires called { IsMethodPlace table.now called }
     ensures found { HoldsAtCall table.now called class (λ l e. option_and_then (method_at table.now) result ≡ method_named_as e l) }
     ensures place { IfSome result (IsMethodPlace table.now) }
 {
-    let called = method_at(table, called);
-    let member = class_at(table, class).method_named(called.name, called.descriptor)?;
+    let name = name_of_method(table, called);
+    let descriptor = descriptor_of_method(table, called);
+    let member = class_at(table, class).method_of(&name, &descriptor)?;
     Some(Place { class, member })
 }
 
@@ -92,4 +94,34 @@ pub(crate) fn alike_in(table: &ClassTable<'_>, class: usize, called: Place) -> O
         return None;
     }
     Some(place)
+}
+
+/// Marks of the classes that may declare a method with the name and the descriptor of another.
+pub(crate) fn marks_as<'t>(table: &'t ClassTable<'_>, called: Place) -> KeyRow<'t>
+    requires { IsMethodPlace table.now called }
+    ensures { AreMarksAs table.now called result }
+{
+    let name = name_of_method(table, called);
+    let descriptor = descriptor_of_method(table, called);
+    table.marks_of_method(&name, &descriptor)
+}
+
+/// What [`alike_in`] answers; a class that is not marked is not looked at.
+pub(crate) fn marked_alike(
+    table: &ClassTable<'_>,
+    marks: &KeyRow<'_>,
+    class: usize,
+    called: Place,
+) -> Option<Place>
+    requires class { class < length table.now }
+    requires called { IsMethodPlace table.now called }
+    requires marks { AreMarksAs table.now called marks.now }
+    ensures found { HoldsAtCall table.now called class (λ l e. option_and_then (method_at table.now) result ≡ alike_in l e.method) }
+    ensures place { IfSome result (IsMethodPlace table.now) }
+{
+    if marks.is_marked(class) {
+        alike_in(table, class, called)
+    } else {
+        None
+    }
 }

@@ -6,7 +6,7 @@ ghost use Rattle.jv_lookups.specs.Places.{IsMethodPlace, HoldsAtCall, IsMethodFo
 ghost use Rattle.jv_meaning_typing.specs.Selection.{first_alike};
 ghost use Rattle.jv_link.specs.Inside.Called.{IsAlikeAbove};
 
-use crate::alike::alike_in;
+use crate::alike::{alike_in, marked_alike, marks_as};
 use jv_loader::{ClassTable, Place};
 
 /// The first such method that a superclass of a class declares.
@@ -16,8 +16,9 @@ fn superclass_alike(table: &ClassTable<'_>, from: usize, called: Place) -> Optio
     ensures found { IsAlikeAbove table.now called from result }
     ensures place { IfSome result (IsMethodPlace table.now) }
 {
+    let marks = marks_as(table, called);
     for superclass in table.superclasses(from) {
-        if let Some(place) = alike_in(table, *superclass as usize, called) {
+        if let Some(place) = marked_alike(table, &marks, *superclass as usize, called) {
             return Some(place);
         }
     }

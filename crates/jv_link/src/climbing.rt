@@ -7,10 +7,12 @@ ghost use Rattle.jv_meaning_world.specs.Numbers.{HoldsAtNumber};
 ghost use Rattle.jv_lookups.specs.Places.{IsMethodPlace, HoldsAtCall, IsMethodFound};
 ghost use Rattle.jv_loader.specs.Straight.{IsStraight};
 ghost use Rattle.jv_meaning_typing.specs.Selection.{first_overriding};
+ghost use Rattle.jv_link.specs.Inside.Called.{AreMarksAs};
 ghost use Rattle.jv_link.specs.Inside.Climbing.{met_upward, run_of, is_opening, sure_behind, IsMet, IsMetPlace, Meeting, IsStraightAt, IsSureBehind, IsRunBehind};
 
-use crate::alike::is_instance;
+use crate::alike::{is_instance, marks_as};
 use crate::meeting::{Met, meets};
+use jv_classes::KeyRow;
 use jv_loader::{ClassTable, Place};
 use jv_meaning_typing::overriding_upward;
 use jv_meaning_world::{above_by_ways, above_is_transitive};
@@ -29,6 +31,7 @@ fn sure_behind(table: &ClassTable<'_>, sure: Option<Place>, met: Met) -> Option<
     ensures found { IsSureBehind table.now met sure result }
     ensures place { IfSome result (IsMethodPlace table.now) }
 {
+    // Only the clauses speak of it.
     let _table = table;
     match (sure, met) {
         (None, Met::Sure(place)) => Some(place),
@@ -39,6 +42,7 @@ fn sure_behind(table: &ClassTable<'_>, sure: Option<Place>, met: Met) -> Option<
 /// What is run where a method waits for another further up that opens it.
 fn settle(
     table: &ClassTable<'_>,
+    marks: &KeyRow<'_>,
     first: Option<usize>,
     called: Place,
     waits: Place,
@@ -47,6 +51,7 @@ fn settle(
     requires straight { IsStraightAt table.now first }
     requires called { IsMethodPlace table.now called }
     requires waits { IsMethodPlace table.now waits }
+    requires marks { AreMarksAs table.now called marks.now }
     ensures found { IsRunBehind table.now called waits first result }
     ensures place { IfSome result (IsMethodPlace table.now) }
 {
@@ -55,7 +60,7 @@ fn settle(
     let mut sure = None;
     let mut next = first;
     while let Some(class) = next {
-        let met = meets(table, class, called);
+        let met = meets(table, marks, class, called);
         if is_opening(met) {
             return Some(waits);
         }
@@ -75,11 +80,14 @@ fn climb(table: &ClassTable<'_>, from: usize, called: Place) -> Option<Place>
 {
     above_by_ways();
     above_is_transitive();
+    let marks = marks_as(table, called);
     let mut next = Some(from);
     while let Some(class) = next {
-        match meets(table, class, called) {
+        match meets(table, &marks, class, called) {
             Met::Nothing => {}
-            Met::Far(place) => return settle(table, table.super_of(class), called, place),
+            Met::Far(place) => {
+                return settle(table, &marks, table.super_of(class), called, place);
+            }
             Met::Sure(place) => return Some(place),
             Met::Opens(place) => return Some(place),
         }
@@ -89,7 +97,7 @@ fn climb(table: &ClassTable<'_>, from: usize, called: Place) -> Option<Place>
 }
 
 /// The first method upward from a class that overrides another, or that method itself (JVMS 5.4.5). It
-/// costs one hash for each class on the way at most.
+/// costs a mark for each class on the way, and a look at those that may declare such a method.
 pub(crate) fn first_overriding(table: &ClassTable<'_>, from: usize, called: Place) -> Option<Place>
     requires from { from < length table.now }
     requires straight { HoldsAtNumber table.now from (IsStraight table.now) }

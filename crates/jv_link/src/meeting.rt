@@ -4,11 +4,13 @@ ghost use Rattle.std.specs.Prelude.{◌≡◌, ◌<◌, Some, length};
 ghost use Rattle.jv_meaning_world.specs.Overriding.{Declared};
 ghost use Rattle.jv_lookups.specs.Places.{method_at, IsMethodPlace, HoldsAtCall};
 ghost use Rattle.jv_meaning_typing.specs.Inside.Upward.{is_near};
+ghost use Rattle.jv_link.specs.Inside.Called.{AreMarksAs};
 ghost use Rattle.jv_link.specs.Inside.Climbing.{met_below, meets, IsMet, IsMetPlace, IsMetBelow};
 
 use crate::access::same_package;
 use crate::alike::{alike_in, is_open, is_private};
 use crate::class::same_class;
+use jv_classes::KeyRow;
 use jv_loader::{ClassTable, Place};
 
 /// What a class on the way up has of the name and the descriptor of the method that is called (JVMS 5.4.5):
@@ -52,8 +54,8 @@ fn met_below(table: &ClassTable<'_>, called: Place, place: Place) -> Met
     Met::Far(place)
 }
 
-/// What a class has for a call.
-pub(crate) fn meets(table: &ClassTable<'_>, class: usize, called: Place) -> Met
+/// What a class has for a call, by the name and the descriptor.
+fn meets_by_name(table: &ClassTable<'_>, class: usize, called: Place) -> Met
     requires class { class < length table.now }
     requires called { IsMethodPlace table.now called }
     ensures met { HoldsAtCall table.now called class (λ l e. IsMet table.now result (meets table.now e l)) }
@@ -69,4 +71,19 @@ pub(crate) fn meets(table: &ClassTable<'_>, class: usize, called: Place) -> Met
         return Met::Sure(place);
     }
     Met::Nothing
+}
+
+/// What a class has for a call; one that is not marked is not looked at.
+#[inline(always)]
+pub(crate) fn meets(table: &ClassTable<'_>, marks: &KeyRow<'_>, class: usize, called: Place) -> Met
+    requires class { class < length table.now }
+    requires called { IsMethodPlace table.now called }
+    requires marks { AreMarksAs table.now called marks.now }
+    ensures met { HoldsAtCall table.now called class (λ l e. IsMet table.now result (meets table.now e l)) }
+    ensures place { IsMetPlace table.now result }
+{
+    if !marks.is_marked(class) {
+        return Met::Nothing;
+    }
+    meets_by_name(table, class, called)
 }

@@ -7,6 +7,7 @@ ghost use Rattle.jv_classes.specs.Members.{IsField, IsMethod};
 ghost use Rattle.jv_meaning_world.specs.Numbers.{HoldsAtNumber};
 ghost use Rattle.jv_lookups.specs.Places.{field_at, method_at, IsFieldPlace, IsMethodPlace};
 
+use jv_classes::Text;
 use jv_loader::{ClassTable, LoadedClass, Member, Place};
 
 /// The class with a number.
@@ -31,4 +32,20 @@ pub fn method_at<'a>(table: &ClassTable<'a>, place: Place) -> Member<'a>
     ensures { (d : Declared) → method_at table.now place ≡ Some d → IsMethod result d.method }
 {
     table.classes()[place.class].method(place.member)
+}
+
+/// The name of the method at a place, which knows its hash.
+pub(crate) fn name_of_method<'a>(table: &ClassTable<'a>, place: Place) -> Text<'a>
+    requires { IsMethodPlace table.now place }
+    ensures { (d : Declared) → method_at table.now place ≡ Some d → result ≡ d.method.name }
+{
+    table.classes()[place.class].method_name(place.member)
+}
+
+/// Its descriptor, which knows its hash.
+pub(crate) fn descriptor_of_method<'a>(table: &ClassTable<'a>, place: Place) -> Text<'a>
+    requires { IsMethodPlace table.now place }
+    ensures { (d : Declared) → method_at table.now place ≡ Some d → result ≡ d.method.descriptor }
+{
+    table.classes()[place.class].method_descriptor(place.member)
 }

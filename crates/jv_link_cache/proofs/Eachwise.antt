@@ -49,3 +49,10 @@ pub some_item : {X : Type 0} → (xs : List X) (k : ℕ) → k < length xs → (
 some_item [] k h = absurd (omega (arith, h))
 some_item (x ∷ xs) zero h = (x, refl)
 some_item (x ∷ xs) (suc k) h = let less : k < length xs = omega (arith, h) in some_item xs k less
+
+none_there : {X : Type 0} (k : ℕ) (x : X) → slice_get [] k ≡ Some x → ⊥
+none_there zero x e = absurd cc
+none_there (suc k) x e = absurd cc
+
+pub each_none : {X : Type 0} (P : ℕ → X → Type 0) → Each P 0 []
+each_none P = record { count_of = refl; each = λ k x at. absurd (none_there k x at) }

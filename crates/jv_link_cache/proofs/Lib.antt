@@ -6,3 +6,7 @@ pub mod Inherited
 pub mod Eachwise
 pub mod Placing
 pub mod Selecting
+pub mod CatchTypes
+pub mod Ranked
+pub mod Reaching
+pub mod Taking

@@ -1,9 +1,13 @@
 pub mod Bodies
+pub mod Caught
 pub mod Classes
 pub mod Each
 pub mod Fields
+pub mod Handlers
 pub mod Methods
 pub mod Orders
+pub mod Ranks
+pub mod Reaches
 pub mod Selections
 pub mod Tasks
 pub mod Words

@@ -1,5 +1,7 @@
 pub mod Bodies
+pub mod ClassUses
 pub mod FieldUses
+pub mod Handlers
 pub mod Inside
 pub mod Laws
 pub mod Linked

@@ -6,6 +6,7 @@ use Rattle.jv_link.specs.declared.site.Use.TheVariants.{Invokevirtual, Invokeint
 use Rattle.jv_link_cache.specs.declared.linked.Linked.{Linked}
 use Rattle.jv_link_cache.specs.Inside.Classes.{IsEntry as IsClassEntry}
 use Rattle.jv_link_cache.specs.Inside.Fields.{IsEntry as IsFieldEntry}
+use Rattle.jv_link_cache.specs.Inside.Handlers.{AreHandlers}
 use Rattle.jv_link_cache.specs.Inside.Methods.{IsEntry as IsMethodEntry}
 use Rattle.jv_link_cache.specs.Inside.Bodies.{AreBodies}
 use Rattle.jv_link_cache.specs.Inside.Orders.{AreOrders}
@@ -14,7 +15,7 @@ use Rattle.jv_link_cache.specs.Inside.Words.{static_end, AreWords}
 use Rattle.jv_link_cache.specs.Inside.Selections.{IsEntry as IsSelectionEntry}
 
 -- it is of the classes of this world: what it knows of classes, of fields, of methods and of the methods that calls run is right there, and
--- so are the words of the fields, the orders and the tasks of initialization, and the methods with code
+-- so are the words of the fields, the orders and the tasks of initialization, the methods with code, and what handlers catch
 pub record IsLinked (world : World) (linked : Linked) : Type 0 where
   pub classes : All (IsClassEntry world) linked.classes.items
   pub fields : All (IsFieldEntry world) linked.fields.items
@@ -27,3 +28,4 @@ pub record IsLinked (world : World) (linked : Linked) : Type 0 where
   pub orders : AreOrders world (length world) linked.orders.items
   pub bodies : AreBodies world (length world) linked.bodies.items
   pub tasks : AreTasks world (length world) linked.tasks.items
+  pub handlers : AreHandlers world linked.handlers.ranks.items (length world) linked.handlers.rows.items

@@ -38,7 +38,7 @@ pub(crate) struct ClassBodies<'a> {
 }
 
 /// The code of the method at a place.
-fn code_of<'a>(class: &LoadedClass<'a>, member: usize) -> Option<MethodCode<'a>>
+pub(crate) fn code_of<'a>(class: &LoadedClass<'a>, member: usize) -> Option<MethodCode<'a>>
     ensures { (m : Method) → slice_get class.now.class.methods member ≡ Some m → option_map seen_code result ≡ m.code }
 {
     let Some(file) = class.file() else {

@@ -6,10 +6,10 @@ ghost use Rattle.jv_meaning_world.specs.World.{World};
 ghost use Rattle.jv_meaning_world.specs.Numbers.{HoldsAtNumber};
 ghost use Rattle.jv_meaning_typing.specs.Operands.{class_operand};
 ghost use Rattle.jv_link.specs.Seen.{IsSite};
-ghost use Rattle.jv_link.specs.Answers.{IsConstantsClass, IsClassUsed};
-ghost use Rattle.jv_link.specs.UseRules.{IsRefWithin};
+ghost use Rattle.jv_link.specs.Answers.{IsClassUsed};
 ghost use Rattle.jv_link_cache.specs.Inside.Classes.{IsFound, IsEntry};
 
+use crate::class_use::{ClassUse, class_used};
 use jv_link::{ClassRef, LinkError, Site, Use, constants_class, created};
 use jv_loader::{ClassTable, Classes};
 use std::alloc::{AllocError, Global};
@@ -19,7 +19,7 @@ use std::alloc::{AllocError, Global};
 pub(crate) struct ClassEntry<'a> {
     pub(crate) class: usize,
     pub(crate) index: u16,
-    pub(crate) found: Result<ClassRef<'a>, LinkError>,
+    pub(crate) found: Result<ClassUse<'a>, LinkError>,
 }
 
 /// What a constant resolves to, where that is known.
@@ -29,7 +29,7 @@ fn known<'a>(
     at: usize,
     class: usize,
     index: u16,
-) -> Option<Result<ClassRef<'a>, LinkError>>
+) -> Option<Result<ClassUse<'a>, LinkError>>
     ensures { (world : World) → All (IsEntry world) entries.now → IfSome result (IsFound world class index) }
 {
     if at < entries.len()
@@ -51,25 +51,43 @@ fn keep<'a>(entries: &mut [Option<ClassEntry<'a>>], at: usize, entry: ClassEntry
     }
 }
 
-/// What a constant resolves to, by the entry at a place, where it is there.
-#[inline(always)]
-pub(crate) fn class_by<'a>(
-    entries: &mut [Option<ClassEntry<'a>>],
-    at: usize,
+/// What a constant resolves to, by its name.
+fn found_anew<'a>(
+    table: &ClassTable<'a>,
     classes: &Classes<'a>,
     class: usize,
     index: u16,
-) -> Result<ClassRef<'a>, LinkError>
-    requires entries { All (IsEntry classes.now.world) entries.old }
-    requires class { class < length classes.now.world }
-    requires index { HoldsAtNumber classes.now.world class (λ l. IsSome (class_operand l.class index)) }
-    ensures found { IsFound classes.now.world class index result }
-    ensures entries { All (IsEntry classes.now.world) entries.new }
+) -> Result<ClassUse<'a>, LinkError>
+    requires same { classes.now.world ≡ table.now }
+    requires class { class < length table.now }
+    requires index { HoldsAtNumber table.now class (λ l. IsSome (class_operand l.class index)) }
+    ensures { IsFound table.now class index result }
 {
-    if let Some(found) = known(entries, at, class, index) {
-        return found;
+    match constants_class(classes, class, index) {
+        Ok(found) => Ok(class_used(table, found)),
+        Err(error) => Err(error),
     }
-    let found = constants_class(classes, class, index);
+}
+
+/// The same; the entry at a place keeps it.
+#[cold]
+#[inline(never)]
+fn found_and_kept<'a>(
+    entries: &mut [Option<ClassEntry<'a>>],
+    at: usize,
+    table: &ClassTable<'a>,
+    classes: &Classes<'a>,
+    class: usize,
+    index: u16,
+) -> Result<ClassUse<'a>, LinkError>
+    requires same { classes.now.world ≡ table.now }
+    requires entries { All (IsEntry table.now) entries.old }
+    requires class { class < length table.now }
+    requires index { HoldsAtNumber table.now class (λ l. IsSome (class_operand l.class index)) }
+    ensures found { IsFound table.now class index result }
+    ensures entries { All (IsEntry table.now) entries.new }
+{
+    let found = found_anew(table, classes, class, index);
     keep(
         entries,
         at,
@@ -82,6 +100,29 @@ pub(crate) fn class_by<'a>(
     found
 }
 
+/// What a constant resolves to, by the entry at a place, where it is there.
+#[inline(always)]
+pub(crate) fn class_by<'a>(
+    entries: &mut [Option<ClassEntry<'a>>],
+    at: usize,
+    table: &ClassTable<'a>,
+    classes: &Classes<'a>,
+    class: usize,
+    index: u16,
+) -> Result<ClassUse<'a>, LinkError>
+    requires same { classes.now.world ≡ table.now }
+    requires entries { All (IsEntry table.now) entries.old }
+    requires class { class < length table.now }
+    requires index { HoldsAtNumber table.now class (λ l. IsSome (class_operand l.class index)) }
+    ensures found { IsFound table.now class index result }
+    ensures entries { All (IsEntry table.now) entries.new }
+{
+    if let Some(found) = known(entries, at, class, index) {
+        return found;
+    }
+    found_and_kept(entries, at, table, classes, class, index)
+}
+
 /// What was found, as an instruction at a site uses it.
 #[inline(always)]
 pub(crate) fn used_class<'a>(
@@ -89,13 +130,17 @@ pub(crate) fn used_class<'a>(
     site: Site,
     how: Option<Use>,
     index: u16,
-    found: Result<ClassRef<'a>, LinkError>,
+    found: Result<ClassUse<'a>, LinkError>,
 ) -> Result<ClassRef<'a>, LinkError>
     requires site { IsSite table.now site }
     requires found { IsFound table.now site.class index found }
     ensures { IsClassUsed table.now site how index result }
 {
     let _at = (site, index);
+    let found = match found {
+        Ok(used) => Ok(used.found),
+        Err(error) => Err(error),
+    };
     match how {
         Some(Use::New) => created(table, found),
         _ => found,

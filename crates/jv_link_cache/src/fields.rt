@@ -232,6 +232,7 @@ pub(crate) fn used_field(
     ensures found { IsFieldResolved table.now site how index (used_place result) }
     ensures used { IfOk result (IsFieldUse table.now) }
 {
+    // Only the clauses speak of it.
     let _index = index;
     match found {
         Ok(used) => used_at(table, site, how, used),

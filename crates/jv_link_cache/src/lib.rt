@@ -3,20 +3,26 @@
 #![tactic(auto)]
 
 mod bodies;
+mod caught;
+mod class_use;
 mod classes;
 mod field_use;
 mod fields;
+mod handlers;
 mod law;
 mod linked;
 mod method_use;
 mod methods;
 mod orders;
 mod places;
+mod ranks;
+mod reaches;
 mod selections;
 mod tasks;
 mod words;
 
 pub use bodies::Body;
+pub use class_use::ClassUse;
 pub use field_use::{FieldKind, FieldUse};
 pub use law::words_are_inherited;
 pub use linked::{Linked, link};

@@ -1,6 +1,6 @@
 //! What a guest's classes link to.
 
-ghost use Rattle.std.specs.Prelude.{◌≡◌, ◌<◌, Some, Ok, IsSome, IfOk, IfSome, IsTrue, length};
+ghost use Rattle.std.specs.Prelude.{◌≡◌, ◌<◌, Some, None, Ok, IsSome, IfOk, IfSome, IsTrue, length};
 ghost use Rattle.jv_meaning_world.specs.World.{World};
 ghost use Rattle.jv_meaning_world.specs.LookUps.{DeclaredField};
 ghost use Rattle.jv_meaning_world.specs.Verdicts.{is_loadable};
@@ -15,15 +15,19 @@ ghost use Rattle.jv_lookups.specs.Places.{field_at, method_at, IsFieldPlace};
 ghost use Rattle.jv_link.specs.Seen.{IsSite, IsMethodTarget};
 ghost use Rattle.jv_link.specs.Objects.{IsObject};
 ghost use Rattle.jv_link.specs.Answers.{IsClassUsed, IsFieldResolved, IsMethodResolved, IsSelected};
+ghost use Rattle.jv_link_cache.specs.ClassUses.{IsClassUse, used_ref};
 ghost use Rattle.jv_link_cache.specs.FieldUses.{IsFieldUse, used_place};
 ghost use Rattle.jv_link_cache.specs.MethodUses.{IsMethodUse, used_target};
+ghost use Rattle.jv_link_cache.specs.Handlers.{IsTaken};
 ghost use Rattle.jv_link_cache.specs.Linked.{IsLinked};
 ghost use Rattle.jv_link_cache.specs.Tasks.{settings_of, IsInitializer, IsOrderOf};
 
 use crate::bodies::{Body, ClassBodies, all_bodies, body_in};
+use crate::class_use::ClassUse;
 use crate::classes::{ClassEntry, class_by, empty_classes, used_class};
 use crate::field_use::FieldUse;
 use crate::fields::{FieldEntry, empty_fields, field_by, usable_at_once, used_field};
+use crate::handlers::{Handlers, all_known, handler_in};
 use crate::method_use::MethodUse;
 use crate::methods::{MethodEntry, called_method, empty_methods, method_by};
 use crate::orders::{ClassOrder, all_orders, order_in};
@@ -50,6 +54,7 @@ pub struct Linked<'a> {
     orders: Vec<ClassOrder>,
     bodies: Vec<ClassBodies<'a>>,
     tasks: Vec<ClassTasks>,
+    handlers: Handlers,
 }
 
 impl Drop for Linked<'_> {
@@ -67,6 +72,7 @@ impl Drop for Linked<'_> {
             orders: _,
             bodies: _,
             tasks: _,
+            handlers: _,
         } = self;
     }
 }
@@ -93,6 +99,7 @@ fn link_in<'a>(
     let orders = all_orders(alloc, table, classes)?;
     let bodies = all_bodies(alloc, table)?;
     let tasks = all_tasks(alloc, table)?;
+    let handlers = all_known(alloc, table)?;
     Ok(Linked {
         firsts,
         classes: class_entries,
@@ -106,6 +113,7 @@ fn link_in<'a>(
         orders,
         bodies,
         tasks,
+        handlers,
     })
 }
 
@@ -143,8 +151,40 @@ impl<'a> Linked<'a> {
         ensures linked { IsLinked classes.now.world self.new }
     {
         let at = entry_place(&self.firsts, site.class, index);
-        let found = class_by(&mut self.classes, at, classes, site.class, index);
-        used_class(classes.table(), site, how, index, found)
+        let table = classes.table();
+        let found = class_by(&mut self.classes, at, table, classes, site.class, index);
+        used_class(table, site, how, index, found)
+    }
+
+    /// What [`Linked::class_at`] answers for an instruction without rules of its own, with what a step asks of it: no name is
+    /// looked at where it is asked again.
+    ///
+    /// # Errors
+    ///
+    /// As JVMS 5.4.3.1 has them.
+    #[inline(always)]
+    pub fn class_use(
+        &mut self,
+        classes: &Classes<'a>,
+        site: Site,
+        index: u16,
+    ) -> Result<ClassUse<'a>, LinkError>
+        requires linked { IsLinked classes.now.world self.old }
+        requires site { IsSite classes.now.world site }
+        requires index { HoldsAtNumber classes.now.world site.class (λ l. IsSome (class_operand l.class index)) }
+        ensures found { IsClassUsed classes.now.world site None index (used_ref result) }
+        ensures used { IfOk result (IsClassUse classes.now.world) }
+        ensures linked { IsLinked classes.now.world self.new }
+    {
+        let at = entry_place(&self.firsts, site.class, index);
+        class_by(
+            &mut self.classes,
+            at,
+            classes.table(),
+            classes,
+            site.class,
+            index,
+        )
     }
 
     /// What [`Linked::field_use`] answers, where an entry has it and the instruction can use the field in every method of the
@@ -405,6 +445,31 @@ impl<'a> Linked<'a> {
         ensures { (world : World) (d : Declared) → IsLinked world self.now → method_at world place ≡ Some d → IsBody d.method result }
     {
         body_in(&self.bodies, place)
+    }
+
+    /// Where the first handler of the method at a place begins that takes an object of a class, thrown at an offset (JVMS 2.10, 4.7.3).
+    /// It takes no memory, and the same time whatever the handlers are, but for some steps for each doubling of their number.
+    pub fn handler_at(
+        &self,
+        table: &ClassTable<'_>,
+        place: Place,
+        offset: u32,
+        class: usize,
+    ) -> Option<u16>
+        requires { class < length table.now }
+        ensures { (d : Declared)
+            → IsLinked table.now self.now → method_at table.now place ≡ Some d → IsTaken table.now d class offset result }
+    {
+        let body = self.body_at(place)?;
+        handler_in(
+            table,
+            &self.handlers.ranks,
+            &self.handlers.rows,
+            place,
+            body.code.exception_table,
+            offset,
+            class,
+        )
     }
 
     /// The places of the static fields of a class that its initialization sets to constants, in their order (JVMS 4.7.2, 5.5).

@@ -192,6 +192,7 @@ pub(crate) fn called_method(
     ensures found { IsMethodResolved table.now site how index (used_target result) }
     ensures called { IfOk result (IsMethodUse table.now) }
 {
+    // Only the clauses speak of it.
     let _index = index;
     match found {
         Ok(called) => called_by(table, how, called),

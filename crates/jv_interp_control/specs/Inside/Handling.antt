@@ -1,19 +1,14 @@
 -- The handler that takes what is thrown (JVMS 2.10).
-use Rattle.std.specs.Prelude.{◌≡◌, ℕ, List, Option, Bool, ◌&&◌}
+use Rattle.std.specs.Prelude.{◌≡◌, ℕ, List, Option}
 use Rattle.std.specs.Option.{option_map}
 use Rattle.jv_format.specs.declared.handlers.Handler.{Handler}
-use Rattle.jv_meaning_world.specs.World.{Loaded, World}
-use Rattle.jv_meaning_typing.specs.Typing.{covers}
+use Rattle.jv_meaning_world.specs.World.{World}
 use Rattle.jv_meaning_machine.specs.Frames.{MethodFrame}
 use Rattle.jv_meaning_machine.specs.State.{Program}
-use Rattle.jv_meaning_machine.specs.Throws.{catches, handler_for}
+use Rattle.jv_meaning_machine.specs.Throws.{handler_for}
 use Rattle.jv_interp_words.specs.declared.records.MethodRecord.{MethodRecord}
 use Rattle.jv_interp_words.specs.FramesInWords.{MethodStands}
 use Rattle.jv_interp_heap.specs.ObjectsInBlocks.{HasNumber}
-
--- a handler of a method of one class takes an object of another, thrown at an offset
-abbrev pub takes : World → Loaded → Loaded → ℕ → Handler → Bool
-takes world l thrown pc handler = covers handler pc && catches world l.class.constant_pool thrown.class.name handler
 
 abbrev pub pc_of : Handler → ℕ
 pc_of handler = handler.handler_pc

@@ -1,7 +1,8 @@
 -- Methods with the name and the descriptor of the one that is called.
-use Rattle.std.specs.Prelude.{Option, ◌≡◌, ℕ, Some, Result, slice_get}
+use Rattle.std.specs.Prelude.{Option, ◌≡◌, ℕ, Bool, false, List, length, get_or, Some, None, Result, slice_get}
 use Rattle.jv_meaning_world.specs.World.{Loaded, World}
 use Rattle.jv_meaning_world.specs.Overriding.{Declared, alike_in}
+use Rattle.jv_class.specs.Class.{method_named}
 use Rattle.jv_meaning_world.specs.LookUps.{method_in, first_found}
 use Rattle.jv_class_structure.specs.Flags.{has, acc_public}
 use Rattle.jv_meaning_typing.specs.LinkErrors.{OrError, ◌>>=◌, provided}
@@ -23,6 +24,12 @@ use Rattle.jv_meaning_world.specs.Above.{superclasses}
 
 abbrev pub method_named_as : Declared → Loaded → Option Declared
 method_named_as e l = method_in e.method.name e.method.descriptor l
+
+-- one of its name and descriptor may be declared by the classes that are marked: by one that is not there is none
+pub record AreMarksAs (world : World) (called : Place) (marks : List Bool) : Type 0 where
+  pub size : length marks ≡ length world
+  pub none : (number : ℕ) → get_or marks number false ≡ false
+      → HoldsAtCall world called number (λ l e. method_named l.class e.method.name e.method.descriptor ≡ None)
 
 -- it has to be public, which is asked before whether it is abstract (JVMS 6.5)
 abbrev pub public_one : Declared → OrError Declared

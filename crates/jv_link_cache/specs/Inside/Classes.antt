@@ -2,15 +2,15 @@
 use Rattle.std.specs.Prelude.{ℕ, ⊤, Option, Some, None, Result, IfOk}
 use Rattle.jv_meaning_world.specs.World.{World}
 use Rattle.jv_link.specs.declared.error.LinkError.{LinkError}
-use Rattle.jv_link.specs.declared.target.ClassRef.{ClassRef}
 use Rattle.jv_link.specs.Answers.{IsConstantsClass}
-use Rattle.jv_link.specs.UseRules.{IsRefWithin}
+use Rattle.jv_link_cache.specs.declared.class_use.ClassUse.{ClassUse}
+use Rattle.jv_link_cache.specs.ClassUses.{IsClassUse, used_ref}
 use Rattle.jv_link_cache.specs.declared.classes.ClassEntry.{ClassEntry}
 
 -- it is what the constant of a class at an index resolves to
-pub record IsFound (world : World) (class : ℕ) (index : ℕ) (answer : Result ClassRef LinkError) : Type 0 where
-  pub found : IsConstantsClass world class index answer
-  pub within : IfOk answer (IsRefWithin world)
+pub record IsFound (world : World) (class : ℕ) (index : ℕ) (answer : Result ClassUse LinkError) : Type 0 where
+  pub found : IsConstantsClass world class index (used_ref answer)
+  pub used : IfOk answer (IsClassUse world)
 
 -- an entry is empty or right
 abbrev pub IsEntry : World → Option ClassEntry → Type 0

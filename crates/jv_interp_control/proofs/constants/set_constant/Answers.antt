@@ -98,6 +98,12 @@ put_long-requires g c =
       width_is = refl;
     }
 
+pub literal-requires-clause-count : goal.literal-requires-clause-count
+literal-requires-clause-count g c =
+    let known = subst (λ (o : Option Constant). IfSome o (HasItsText c.args.texts.now.names)) (c.in-Some-Text.is ∙ ap Some c.in-Some-Text.field-0-is) c.constant_of.ensures.text in
+    let number_is : HasText c.args.texts.now.names c.in-Some-Text.text.now c.in-Some-Text.number = some_holds (constants.Text c.in-Some-Text.number c.in-Some-Text.text) c.args.texts.now.names known in
+    c.count-count.ensures c.args.classes.now.world c.in-Some-Text.text.now c.requires.texts number_is
+
 pub literal-requires-clause-can : goal.literal-requires-clause-can
 literal-requires-clause-can g c =
     let w = c.requires.can in

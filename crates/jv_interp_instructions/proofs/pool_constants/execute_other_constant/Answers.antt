@@ -2,7 +2,7 @@ use Rattle.std.proofs.Common.{◌≡◌, ◌∙◌, ℕ, Option, Some, sym, ap, 
 use Rattle.std.proofs.lemmas.Result.{IfOk-weaker}
 use Rattle.jv_interp_instructions.specs.declared.pool_constants.PoolConstant.{PoolConstant}
 use Rattle.jv_interp_instructions.specs.PoolConstants.{IsConstantOf}
-use Rattle.jv_interp_instructions.proofs.Constants.{can_push_int, int_done, short_text, can_push_string, string_done, no_constant}
+use Rattle.jv_interp_instructions.proofs.Constants.{can_push_int, int_done, short_text, text_counted, can_push_string, string_done, no_constant}
 use Rattle.jv_interp_instructions.proofs.pool_constants.execute_other_constant.Goals as goal
 
 pub push_int-requires : goal.push_int-requires
@@ -26,6 +26,14 @@ push_string-requires-clause-few g c =
     (c.in-Some-String.is ∙ ap Some c.in-Some-String.field-0-is) c.constant_of.ensures in
     short_text c.execution_keeps.ensures c.args.index r.0 _ r.1 _ c.args.site c.args.texts.now _ _ _ _ r.2 r.3 c.in-Some-String.text clause
     c.number-number.result c.number-number.ensures r.4
+
+pub push_string-requires-clause-count : goal.push_string-requires-clause-count
+push_string-requires-clause-count g c =
+    let r = c.requires.can in
+    let clause = subst (λ (o : Option PoolConstant). IsConstantOf c.args.classes.now.world c.args.site.class c.args.index o)
+    (c.in-Some-String.is ∙ ap Some c.in-Some-String.field-0-is) c.constant_of.ensures in
+    text_counted c.execution_keeps.ensures c.args.index r.0 _ r.1 _ c.args.site c.args.texts.now _ _ _ _ r.2 r.3 c.in-Some-String.text clause
+    c.number-number.result c.number-number.ensures c.count-count.result c.count-count.ensures r.4
 
 pub push_string-requires-clause-can : goal.push_string-requires-clause-can
 push_string-requires-clause-can g c =

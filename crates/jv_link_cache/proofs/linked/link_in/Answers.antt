@@ -16,4 +16,5 @@ returns c =
       orders = c.in_ok-orders.ensures;
       bodies = c.in_ok-bodies.ensures;
       tasks = c.in_ok-tasks.ensures;
+      handlers = c.in_ok-handlers.ensures;
     }
