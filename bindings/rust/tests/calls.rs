@@ -1,0 +1,71 @@
+//! Each call of the crate, without `unsafe`.
+#![forbid(unsafe_code)]
+
+use jvhost::{check, judge, version, End, Error, Guest, Host};
+use std::fs;
+use std::thread;
+
+fn hi() -> Vec<u8> {
+    fs::read("../../examples/hi/Hi.class").expect("examples/hi/Hi.class")
+}
+
+#[test]
+fn judges_one_guest() {
+    let class = hi();
+    let files = [class.as_slice()];
+    let seen = judge(&Guest::new(&files, b"Hi", b""), 1_000).unwrap();
+    assert_eq!((seen.steps, seen.throws, seen.output.as_slice(), seen.end), (6, 0, b"Hi".as_slice(), End::Returned));
+    assert_eq!(judge(&Guest::new(&files, b"Hi", b""), 3).unwrap().end, End::Running);
+    assert_eq!(judge(&Guest::new(&[], b"Hi", b""), 3), Err(Error::NoFiles));
+    assert_eq!(version(), "0.1.0");
+}
+
+#[test]
+fn checks_files() {
+    let class = hi();
+    let verdicts = check(&[&class, b"", &class]).unwrap();
+    let texts: Vec<String> = verdicts.iter().map(ToString::to_string).collect();
+    assert_eq!(texts, ["Accepted", "Format", "Duplicate"]);
+    assert!(verdicts[0].is_accepted() && !verdicts[1].is_accepted());
+    assert_eq!(check(&[]), Err(Error::NoFiles));
+}
+
+#[test]
+fn hosts_guests() {
+    let mut host = Host::new().unwrap();
+    assert_eq!(host.turn(0, 1), Err(Error::NoGuest));
+    let id = {
+        let class = hi();
+        host.admit(&Guest::new(&[&class], b"Hi", b"unread")).unwrap()
+    };
+    host.feed(id, b"more").unwrap();
+    assert_eq!(host.turn(id, 2), Ok(2));
+    assert_eq!(host.run(1, 100), Ok(4));
+    let seen = host.observe(id).unwrap();
+    assert_eq!((seen.steps, seen.output.as_slice(), seen.end), (6, b"Hi".as_slice(), End::Returned));
+    assert!(seen.last.is_none() && seen.verdicts[0].is_accepted());
+    assert_eq!(host.output(id, 1).unwrap(), b"i");
+    assert!(host.output(id, 9).unwrap().is_empty());
+    let class = hi();
+    let mut guest = Guest::new(&[], b"Hi", b"");
+    assert_eq!(host.admit(&guest), Err(Error::NoFiles));
+    let files = [class.as_slice()];
+    guest.files = &files;
+    guest.cells = 63;
+    assert_eq!(host.admit(&guest), Err(Error::BudgetOutOfRange));
+    assert_eq!(Error::BudgetOutOfRange.to_string(), "a number of the budget is out of its range");
+}
+
+#[test]
+fn goes_to_another_thread() {
+    let mut host = Host::new().unwrap();
+    let class = hi();
+    host.admit(&Guest::new(&[&class], b"Hi", b"")).unwrap();
+    let mut host = thread::spawn(move || {
+        host.run(1_000, 10).unwrap();
+        host
+    })
+    .join()
+    .unwrap();
+    assert_eq!(host.observe(0).unwrap().end, End::Returned);
+}

@@ -1,0 +1,223 @@
+//! What is asked of the host behind a handle, and what comes of it.
+
+ghost use Rattle.std.specs.Prelude.{◌≡◌, ◌≢◌, take, drop};
+ghost use Rattle.jv_host.specs.Started.{budget_of};
+ghost use Rattle.jv_host.specs.Showing.{observed_of};
+ghost use Rattle.jv_host.specs.Files.{guest_of};
+ghost use Rattle.libjvhost.specs.Told.{AreNumbers};
+ghost use Rattle.libjvhost.specs.Calls.{Admits, Turns, Runs, Feeds, Observes, Copies, TellsVerdict, end_class, last_class};
+ghost use Rattle.libjvhost.specs.Inside.Jobs.{Does};
+
+use crate::codes::{HOST_MEMORY, NO_FILE, NO_GUEST, OK, admit_code, feed_code};
+use crate::room::{front_of, rest_of};
+use crate::told::{ACCEPTED, Seen, ToldVerdict, UNSEEN, seen_of, told_verdict};
+use jv_host::{Budget, GuestEnd, GuestFiles, GuestId, Host, Observation};
+use jv_store::Cells;
+use std::alloc::Global;
+
+/// What is asked of a host.
+#[derive(Drop)]
+pub enum Job {
+    /// To admit a guest.
+    Admit(GuestFiles<'static>, Budget),
+    /// To give a guest a turn.
+    Turn(GuestId, u32),
+    /// To give turns in rounds.
+    Run(u32, u32),
+    /// To feed a guest.
+    Feed(GuestId, Vec<u8>),
+    /// To say in numbers what a guest shows.
+    Observe(GuestId),
+    /// To copy what a guest wrote, from a place on and up to a limit.
+    Output(GuestId, usize, usize),
+    /// To copy the name of the class of the last object that was thrown.
+    Last(GuestId),
+    /// To copy the name of the class of the object by which a guest ended.
+    EndClass(GuestId),
+    /// To tell a verdict.
+    Verdict(GuestId, usize),
+}
+
+/// What came of it: a code, and what else it is to say.
+#[derive(Drop)]
+pub struct Done {
+    pub(crate) code: u32,
+    pub(crate) number: u64,
+    pub(crate) seen: Seen,
+    pub(crate) verdict: ToldVerdict,
+    pub(crate) bytes: Vec<u8>,
+}
+
+/// A code, with nothing else to say.
+pub(crate) fn coded(alloc: Global, code: u32) -> Done
+    ensures { result.code ≡ code }
+{
+    Done {
+        code,
+        number: 0,
+        seen: UNSEEN,
+        verdict: ACCEPTED,
+        bytes: Vec::new(alloc),
+    }
+}
+
+/// It is done, with a number.
+fn numbered(alloc: Global, number: u64) -> Done
+    ensures code { result.code ≡ 0 }
+    ensures number { result.number ≡ number }
+{
+    let mut done = coded(alloc, OK);
+    done.number = number;
+    done
+}
+
+/// A copy of bytes, or want of memory.
+fn copied(alloc: Global, bytes: &[u8]) -> Done
+    ensures ok { result.code ≡ 0 → result.bytes.items ≡ bytes.now }
+    ensures memory { result.code ≢ 0 → result.code ≡ 11 }
+{
+    match Vec::from_slice(alloc, bytes) {
+        Ok(bytes) => Done {
+            code: OK,
+            number: 0,
+            seen: UNSEEN,
+            verdict: ACCEPTED,
+            bytes,
+        },
+        Err(_) => coded(alloc, HOST_MEMORY),
+    }
+}
+
+fn admit<'a>(
+    alloc: Global,
+    host: &mut Host<'a, Cells>,
+    files: GuestFiles<'a>,
+    budget: Budget,
+) -> Done
+    ensures { Admits (guest_of files.entry) (budget_of budget) host.old host.new result.code result.number }
+{
+    match host.admit(files, budget) {
+        Ok(id) => numbered(alloc, u64::from(id.0)),
+        Err(fault) => coded(alloc, admit_code(fault)),
+    }
+}
+
+fn turn(alloc: Global, host: &mut Host<'_, Cells>, id: GuestId, n: u32) -> Done
+    ensures { Turns id.0 n host.old host.new result.code result.number }
+{
+    match host.turn(id, n) {
+        Ok(taken) => numbered(alloc, taken),
+        Err(_) => coded(alloc, NO_GUEST),
+    }
+}
+
+fn run(alloc: Global, host: &mut Host<'_, Cells>, n: u32, rounds: u32) -> Done
+    ensures { Runs n rounds host.old host.new result.code result.number }
+{
+    match host.run(n, rounds) {
+        Ok(taken) => numbered(alloc, u64::from(taken)),
+        Err(_) => coded(alloc, HOST_MEMORY),
+    }
+}
+
+fn feed(alloc: Global, host: &mut Host<'_, Cells>, id: GuestId, bytes: &[u8]) -> Done
+    ensures { Feeds id.0 bytes.now host.old host.new result.code }
+{
+    match host.feed(id, bytes) {
+        Ok(()) => coded(alloc, OK),
+        Err(fault) => coded(alloc, feed_code(fault)),
+    }
+}
+
+fn observe(alloc: Global, host: &Host<'_, Cells>, id: GuestId) -> Done
+    ensures { Observes id.0 host.now host.now result.code (AreNumbers result.seen) }
+{
+    match host.observe(id) {
+        Ok(shown) => {
+            let mut done = coded(alloc, OK);
+            done.seen = seen_of(&shown);
+            done
+        }
+        Err(_) => coded(alloc, NO_GUEST),
+    }
+}
+
+fn output(alloc: Global, host: &Host<'_, Cells>, id: GuestId, from: usize, most: usize) -> Done
+    ensures { Copies id.0 host.now host.now result.code (λ o. result.bytes.items ≡ take most (drop from o.output)) }
+{
+    match host.observe(id) {
+        Ok(shown) => copied(alloc, front_of(rest_of(shown.output, from), most)),
+        Err(_) => coded(alloc, NO_GUEST),
+    }
+}
+
+/// The name of the class of the last object that was thrown, if one was.
+fn last_class<'g>(shown: &Observation<'g>) -> &'g [u8]
+    ensures { result.now ≡ last_class (observed_of shown.now).last }
+{
+    match shown.last {
+        Some(name) => name,
+        None => &[],
+    }
+}
+
+fn last(alloc: Global, host: &Host<'_, Cells>, id: GuestId) -> Done
+    ensures { Copies id.0 host.now host.now result.code (λ o. result.bytes.items ≡ last_class o.last) }
+{
+    match host.observe(id) {
+        Ok(shown) => copied(alloc, last_class(&shown)),
+        Err(_) => coded(alloc, NO_GUEST),
+    }
+}
+
+/// The name of the class of the object by which the guest ended, if it did by one.
+fn end_class<'g>(shown: &Observation<'g>) -> &'g [u8]
+    ensures { result.now ≡ end_class (observed_of shown.now).end }
+{
+    match shown.end {
+        GuestEnd::Threw(name) => name,
+        _ => &[],
+    }
+}
+
+fn end(alloc: Global, host: &Host<'_, Cells>, id: GuestId) -> Done
+    ensures { Copies id.0 host.now host.now result.code (λ o. result.bytes.items ≡ end_class o.end) }
+{
+    match host.observe(id) {
+        Ok(shown) => copied(alloc, end_class(&shown)),
+        Err(_) => coded(alloc, NO_GUEST),
+    }
+}
+
+fn verdict(alloc: Global, host: &Host<'_, Cells>, id: GuestId, file: usize) -> Done
+    ensures { TellsVerdict id.0 file host.now host.now result.code result.verdict }
+{
+    match host.observe(id) {
+        Ok(shown) => match shown.verdicts.get(file) {
+            Some(found) => {
+                let mut done = coded(alloc, OK);
+                done.verdict = told_verdict(*found);
+                done
+            }
+            None => coded(alloc, NO_FILE),
+        },
+        Err(_) => coded(alloc, NO_GUEST),
+    }
+}
+
+/// Does a job.
+pub(crate) fn do_job<'a>(alloc: Global, host: &mut Host<'a, Cells>, job: Job) -> Done
+    ensures { Does job host.old host.new result }
+{
+    match job {
+        Job::Admit(files, budget) => admit(alloc, host, files, budget),
+        Job::Turn(id, n) => turn(alloc, host, id, n),
+        Job::Run(n, rounds) => run(alloc, host, n, rounds),
+        Job::Feed(id, bytes) => feed(alloc, host, id, &bytes),
+        Job::Observe(id) => observe(alloc, host, id),
+        Job::Output(id, from, most) => output(alloc, host, id, from, most),
+        Job::Last(id) => last(alloc, host, id),
+        Job::EndClass(id) => end(alloc, host, id),
+        Job::Verdict(id, file) => verdict(alloc, host, id, file),
+    }
+}

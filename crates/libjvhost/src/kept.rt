@@ -1,0 +1,71 @@
+//! What stands behind a handle: a host, and what it borrows.
+
+ghost use Rattle.std.specs.Prelude.{◌≡◌, [], Some};
+ghost use Rattle.libjvhost.specs.Inside.Held.{held_in, DoesOver};
+
+use crate::codes::NO_HOST;
+use crate::jobs::{Done, Job, coded, do_job};
+use crate::loose::Loose;
+use crate::seed::state_of;
+use jv_host::Host;
+use jv_loader::{SystemFiles, system_files};
+use jv_store::Cells;
+use std::alloc::Global;
+use std::hash::RandomState;
+
+/// What a host borrows, and what it begins with.
+#[derive(Drop)]
+pub struct Owned {
+    pub(crate) alloc: Global,
+    pub(crate) state: RandomState,
+    pub(crate) system: SystemFiles,
+}
+
+/// A host, once it has begun.
+#[derive(Drop)]
+pub struct Kept<'a> {
+    pub(crate) alloc: Global,
+    pub(crate) host: Option<Host<'a, Cells>>,
+}
+
+/// What a new host borrows, and room for it.
+pub(crate) fn make(
+    alloc: Global,
+    seed: u64,
+    more_seed: u64,
+) -> Option<(Loose<Owned, Global>, Loose<Kept<'static>, Global>)> {
+    let state = state_of(seed, more_seed)?;
+    let system = system_files(alloc).ok()?;
+    let owned = Box::new(
+        alloc,
+        Owned {
+            alloc,
+            state,
+            system,
+        },
+    )
+    .ok()?;
+    let room = Box::new(alloc, Kept { alloc, host: None }).ok()?;
+    Some((Loose::of(owned), Loose::of(room)))
+}
+
+/// A host without a guest.
+pub(crate) fn begin<'a>(owned: &'a mut Owned) -> Kept<'a>
+    ensures { held_in result ≡ Some [] }
+{
+    let owned: &'a Owned = owned;
+    Kept {
+        alloc: owned.alloc,
+        host: Some(Host::new(owned.alloc, owned.state, &owned.system)),
+    }
+}
+
+/// Does what is asked for.
+pub(crate) fn work<'a>(kept: &mut Kept<'a>, job: Job) -> Done
+    ensures { DoesOver job (held_in kept.old) (held_in kept.new) result }
+{
+    match &mut kept.host {
+        Some(host) => do_job(kept.alloc, host, job),
+        None => coded(kept.alloc, NO_HOST),
+    }
+}
