@@ -64,6 +64,7 @@ fn are_straight(table: &ClassTable<'_>)
 {
     above_by_ways();
     loadable_by_all();
+    // Only the clauses speak of it.
     let _table = table;
 }
 
@@ -131,6 +132,7 @@ impl<'a> Classes<'a> {
     pub fn are_straight(&self)
         ensures { AreStraight self.now.world }
     {
+        // Reads a field, so that the invariant is known.
         let _table = &self.table;
     }
 

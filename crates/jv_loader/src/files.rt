@@ -58,6 +58,7 @@ impl SystemFiles {
         ensures spelled { self.now ≡ system_bytes }
         ensures held { AreContents self.now system_contents }
     {
+        // Reads a field, so that the invariant is known.
         let _files = &self.files;
         system_holds();
     }

@@ -107,6 +107,7 @@ impl<'a> Verified<'a> {
         ensures is_true { result ≡ true }
         ensures accepted { IsSystemAccepted self.now.world }
     {
+        // Reads a field, so that the invariant is known.
         let _verdicts = &self.verdicts;
         system_is_accepted();
         true
@@ -119,6 +120,7 @@ impl<'a> Verified<'a> {
         ensures accepted { (contents : List FileContent) → AreVerified contents self.now → AcceptedAreTyped contents self.now }
         ensures system { IsSystemTyped self.now.world }
     {
+        // Reads a field, so that the invariant is known.
         let _verdicts = &self.verdicts;
         system_is_typed();
     }

@@ -480,6 +480,7 @@ impl FlowedLocals {
         ensures flows { result ≡ flows_but_stack pass.now.types frame.now map.now }
         ensures flowed { HaveFlowed pass.now self.new.writes.items self.new.frames.items frame.now.locals }
     {
+        // Only the clauses speak of these.
         let _map = map;
         let _place = place;
         let mut flowed = self.frames.remove(k);

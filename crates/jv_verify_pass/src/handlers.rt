@@ -39,6 +39,7 @@ fn handles(
         → result ≡ handles env (maps_of pass.now) (handler_frame env insn (frame_of (names_in pass.now) frame.now)) handler }
     ensures flowed { HaveFlowed pass.now flowed.new.writes.items flowed.new.frames.items frame.now.locals }
 {
+    // Reads a field, so that the invariant is known.
     let _types = &pass.types;
     let Some(thrown) = pass.catch_type(handler.catch_type) else {
         return false;

@@ -155,6 +155,7 @@ pub(crate) fn thrown_flows_to_map(
     ensures flows { result ≡ thrown_flows_to_map pass.now.types frame.now object thrown map.now }
     ensures flowed { HaveFlowed pass.now flowed.new.writes.items flowed.new.frames.items frame.now.locals }
 {
+    // Reads a field, so that the invariant is known.
     let _types = &pass.types;
     match object {
         Some(_) => thrown_flows(pass.types, frame, object, thrown, map),

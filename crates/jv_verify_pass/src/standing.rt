@@ -39,6 +39,7 @@ fn has_instruction(starts: &Starts<'_>, code: &Code<'_>, offset: u32) -> bool
     ensures { (env : Environment) → HasCode code.now.bytes.now env → result ≡ is_some (instruction_at env offset) }
 {
     instruction_at_is();
+    // Reads a field, so that the invariant is known.
     let _bytes = code.bytes;
     starts.is_start(offset)
 }

@@ -59,6 +59,7 @@ fn merge(
     ensures flowed { OnOk result (HaveFlowed pass.now flowed.new.writes.items flowed.new.frames.items frame.new.locals) }
     ensures stacks { OnOk result (AreFlowed pass.now stacks.new.stacks.items frame.new) }
 {
+    // Reads a field, so that the invariant is known.
     let _types = &pass.types;
     let Some((place, map)) = pass.map_at(offset) else {
         return Ok(falls);
@@ -169,6 +170,7 @@ fn note(
         Lists (may_change env offset (instruction_of insn.now) (frame_of (names_in pass.now) frame.now))
         flowed.old.writes.items flowed.old.frames.items flowed.new.writes.items flowed.new.frames.items)) }
 {
+    // Reads a field, so that the invariant is known.
     let _types = &pass.types;
     if keeps_locals(insn) {
         return Ok(());

@@ -37,6 +37,7 @@ pub(crate) fn flows_into(
     ensures flowed { HaveFlowed pass.now flowed.new.writes.items flowed.new.frames.items frame.now.locals }
     ensures stacks { AreFlowed pass.now stacks.new.stacks.items frame.now }
 {
+    // Reads a field, so that the invariant is known.
     let _types = &pass.types;
     match pass.map_at(offset) {
         Some((place, map)) => {

@@ -103,6 +103,7 @@ impl<'e, 't, 'a> CurrentClass<'e, 't, 'a> {
         ensures types { result.now.types ≡ self.now.types }
         ensures pool { result.now.pool ≡ self.now.by.class.constant_pool }
     {
+        // Reads a field, so that the invariant is known.
         let _class = &self.class;
         self.constants
     }
@@ -144,6 +145,7 @@ impl<'e, 't, 'a> CurrentClass<'e, 't, 'a> {
         ensures itself { (text : List ℕ) → is_array_name text ≡ true → bytes_eq text self.now.by.class.name ≡ false }
         ensures superclass { (text : List ℕ) → is_array_name text ≡ true → is_that_name text self.now.by.class.super_class ≡ false }
     {
+        // Reads a field, so that the invariant is known.
         let _class = &self.class;
     }
 

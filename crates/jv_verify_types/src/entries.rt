@@ -59,6 +59,7 @@ impl<'e, 't, 'a> EntryTypes<'e, 't, 'a> {
     pub fn names(&self) -> &'e TypeNames<'t, 'a>
         ensures { result.now ≡ self.now.constants.types }
     {
+        // Reads a field, so that the invariant is known.
         let _initial = &self.initial;
         self.constants.names()
     }

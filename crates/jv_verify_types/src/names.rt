@@ -98,6 +98,7 @@ impl<'t, 'a> TypeNames<'t, 'a> {
     pub fn are_distinct(&self)
         ensures { AreDistinct self.now.names }
     {
+        // Reads a field, so that the invariant is known.
         let _classes = &self.classes;
     }
 
@@ -123,6 +124,7 @@ impl<'t, 'a> TypeNames<'t, 'a> {
     pub fn same_name(&self, one: u32, other: u32) -> bool
         ensures { result ≡ bytes_eq (name_at self.now.names one) (name_at self.now.names other) }
     {
+        // Reads a field, so that the invariant is known.
         let _classes = &self.classes;
         self.place(one) == self.place(other)
     }
@@ -131,6 +133,7 @@ impl<'t, 'a> TypeNames<'t, 'a> {
     pub fn object(&self) -> u32
         ensures { name_at self.now.names result ≡ codes "java/lang/Object" }
     {
+        // Reads a field, so that the invariant is known.
         let _names = &self.names;
         0
     }
