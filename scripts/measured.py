@@ -108,6 +108,8 @@ def how_built(program):
         return "proved, and built by ./jvhost"
     if program == os.path.realpath(UNPROVED):
         return "built without its proofs, by scripts/unproved"
+    if os.path.isfile(os.path.join(os.path.dirname(program), "built")):
+        return text_of(os.path.join(os.path.dirname(program), "built"))
     return "another build, %s" % os.path.basename(program)
 
 
